@@ -1,0 +1,12 @@
+pub mod Values
+pub mod Repository
+pub mod Mappings
+pub mod Matching
+pub mod Specific
+pub mod Unifier
+pub mod Violations
+pub mod Queries
+pub mod Mentions
+pub mod Cursors
+pub mod Shifts
+pub mod Laws

@@ -1,0 +1,2 @@
+//! The definitions of the chase over pure data, and their laws.
+#![tactic(auto)]
