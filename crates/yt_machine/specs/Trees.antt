@@ -1,0 +1,45 @@
+-- A program that may ask a database questions, as the tree of what it asks and does: its branches are the answers.
+use Rattle.std.specs.Prelude.{ℕ, zero, suc, List, [], ◌∷◌, ◌≡◌}
+use Rattle.std.specs.List.{AllByRecursion}
+
+-- Either the program is at its end, with a result, or it asks one question and goes on by the answer.
+pub data Tree (Q R A : Type 0) : Type 0 where
+  Leaf : A → Tree Q R A
+  Node : Q → (R → Tree Q R A) → Tree Q R A
+
+-- The result where each question q is answered by `val q`.
+abbrev pub result_of : {Q R A : Type 0} → (Q → R) → Tree Q R A → A
+result_of val (Leaf a) = a
+result_of val (Node q k) = result_of val (k (val q))
+
+-- The questions that are asked then, each with its answer, in order.
+abbrev pub log_of : {Q R A : Type 0} → (Q → R) → Tree Q R A → List (Q × R)
+log_of val (Leaf a) = []
+log_of val (Node q k) = (q, val q) ∷ log_of val (k (val q))
+
+-- One program, then another one that starts from its result.
+abbrev pub then_tree : {Q R A B : Type 0} → Tree Q R A → (A → Tree Q R B) → Tree Q R B
+then_tree (Leaf a) f = f a
+then_tree (Node q k) f = Node q (λ r. then_tree (k r) f)
+
+-- The program with each question p put as `f p`.
+abbrev pub asking : {P Q R A : Type 0} → (P → Q) → Tree P R A → Tree Q R A
+asking f (Leaf a) = Leaf a
+asking f (Node p k) = Node (f p) (λ r. asking f (k r))
+
+-- n steps one after the other, each from the result of the one before.
+abbrev pub steps : {Q R A : Type 0} → (A → Tree Q R A) → ℕ → A → Tree Q R A
+steps step zero a = Leaf a
+steps step (suc n) a = then_tree (step a) (steps step n)
+
+-- `val` gives each logged question its logged answer.
+abbrev pub AreAnswers : {Q R : Type 0} → (Q → R) → List (Q × R) → Type 0
+AreAnswers val rs = AllByRecursion (λ r. val r.0 ≡ r.1) rs
+
+-- The log has the program's questions in turn, each with the answer by which it goes on, up to the result b.
+-- It doesn't say who answered, or when: the answers may be from different states of the database.
+abbrev pub Leads : {Q R A : Type 0} → List (Q × R) → Tree Q R A → A → Type 0
+Leads [] (Leaf a) b = a ≡ b
+Leads [] (Node q k) b = ⊥
+Leads (e ∷ es) (Leaf a) b = ⊥
+Leads (e ∷ es) (Node q k) b = (e.0 ≡ q) × Leads es (k e.1) b
