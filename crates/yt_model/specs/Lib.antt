@@ -7,6 +7,7 @@ pub mod Unifier
 pub mod Violations
 pub mod Queries
 pub mod Mentions
+pub mod Updates
 pub mod Cursors
 pub mod Shifts
 pub mod Laws
