@@ -1,0 +1,20 @@
+//! Small tables that are written out in the code: numbers in rows and columns, and sorted words.
+#![tactic(auto)]
+
+mod numbers;
+mod ordered;
+
+pub use numbers::Grid;
+pub use ordered::{Words, WordsOf};
+
+/// A [`Grid`] written out as a table: each row has a heading in quotes and a colon before its cells,
+/// and a semicolon behind them. The headings are for the reader alone.
+#[macro_export]
+macro_rules! grid {
+    ($($heading:literal: $($cell:literal)*;)*) => {
+        $crate::Grid::new([$([$($cell),*]),*])
+    };
+}
+
+#[cfg(test)]
+mod tests;
