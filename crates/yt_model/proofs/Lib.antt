@@ -1,0 +1,17 @@
+pub mod Bools
+pub mod Order
+pub mod Sets
+pub mod Searches
+pub mod Members
+pub mod Lists
+pub mod Among
+pub mod Learning
+pub mod Matches
+pub mod Violations
+pub mod Substitutions
+pub mod SpecificLaws
+pub mod Walks
+pub mod Unified
+pub mod Cursors
+pub mod Ranges
+pub mod Scans

@@ -10,3 +10,4 @@ pub mod Mentions
 pub mod Cursors
 pub mod Shifts
 pub mod Laws
+pub mod Caused

@@ -1,2 +1,9 @@
 //! The definitions of the chase over pure data, and their laws.
 #![tactic(auto)]
+
+mod laws;
+
+pub use crate::laws::{
+    first_violation_is_least, members_determine, more_specific_is_decided, orders_are_total,
+    unifier_unites, violation_is_decided, writes_apply,
+};
