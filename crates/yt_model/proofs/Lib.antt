@@ -15,3 +15,13 @@ pub mod Unified
 pub mod Cursors
 pub mod Ranges
 pub mod Scans
+pub mod Maps
+pub mod Atoms
+pub mod Shifted
+pub mod ShiftedMatches
+pub mod ShiftedSpecific
+pub mod ShiftedQueries
+pub mod Forward
+pub mod Backward
+pub mod Images
+pub mod Coarse

@@ -1,6 +1,6 @@
 //! The laws of the definitions. Each is the contract of a function that does nothing, so that it is proved and can be cited.
 
-ghost use Rattle.yt_model.specs.Laws.{FirstViolation, MembersDetermine, MoreSpecificLaws, OrdersAreTotal, UnifierUnites, ViolationDecides, WritesApply};
+ghost use Rattle.yt_model.specs.Laws.{CoarseLaw, FirstViolation, ImageDetermines, MembersDetermine, MoreSpecificLaws, OrdersAreTotal, ShiftsCommute, UnifierUnites, ViolationDecides, WritesApply};
 
 /// The orders of nulls, values and tuples are total, and only equals tie. So sorted lists stand for sets, and "the least" is one.
 pub fn orders_are_total()
@@ -15,6 +15,11 @@ pub fn writes_apply()
 /// A repository is determined by its members.
 pub fn members_determine()
     ensures { MembersDetermine }
+{}
+
+/// The image of atoms determines the binding on their variables, so a violation may be named by its image.
+pub fn image_determines()
+    ensures { ImageDetermines }
 {}
 
 /// The computed test says exactly which lists of tuples are images of violations.
@@ -35,4 +40,14 @@ pub fn more_specific_is_decided()
 /// The unifier of a tuple and a more specific one makes both one tuple, and moves nothing but nulls of the first.
 pub fn unifier_unites()
     ensures { UnifierUnites }
+{}
+
+/// The coarse law: only tuples of the relations that a query mentions decide its value, whatever the own writes and the scope.
+pub fn mentions_decide()
+    ensures { CoarseLaw }
+{}
+
+/// A shift of attempt numbers commutes with every query where no constant of a mapping is a null, and outer forms do not show it.
+pub fn shifts_commute()
+    ensures { ShiftsCommute }
 {}
