@@ -11,3 +11,4 @@ pub mod Updates
 pub mod Cursors
 pub mod Shifts
 pub mod Laws
+pub mod Caused

@@ -1,2 +1,10 @@
 //! The definitions of the chase over pure data, and their laws.
 #![tactic(auto)]
+
+mod laws;
+
+pub use crate::laws::{
+    first_violation_is_least, image_determines, members_determine, mentions_decide,
+    more_specific_is_decided, orders_are_total, shifts_commute, unifier_unites,
+    violation_is_decided, writes_apply,
+};
