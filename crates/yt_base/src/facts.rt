@@ -1,0 +1,44 @@
+//! Sets of tuples that can be gone over in order.
+ghost use Rattle.std.specs.Prelude.{◌≡◌, List};
+ghost use Rattle.std.specs.Option.{option_map, option_copied};
+ghost use Rattle.yt_model.specs.Cursors.{first_of, next_of, scan_of};
+ghost use Rattle.yt_model.specs.Repository.{has, IsRepository};
+ghost use Rattle.yt_model.specs.Values.{Fact};
+ghost use Rattle.yt_base.specs.Meanings.{fact_of, datum_of};
+
+use crate::tuples::Tuple;
+use crate::values::Value;
+
+/// A finite set of tuples. Its meaning, `tuples`, is the list of what they mean, in order. Each call also tells
+/// that this list is in order. No call takes memory.
+pub trait Facts {
+    ghost tuples: { Self → List Fact };
+
+    /// Whether the tuple is in the set.
+    fn contains(&self, tuple: &Tuple) -> bool
+        ensures answer { result ≡ has (tuples self.now) (fact_of tuple.now) }
+        ensures in_order { IsRepository (tuples self.now) };
+
+    /// The least tuple of the relation; None exactly where it has none.
+    fn first(&self, relation: u16) -> Option<&Tuple>
+        ensures found { option_map fact_of (option_copied result) ≡ first_of (tuples self.now) relation }
+        ensures in_order { IsRepository (tuples self.now) };
+
+    /// The least tuple of the same relation above the given one, which need not be in the set; None exactly where
+    /// there is none.
+    fn after(&self, tuple: &Tuple) -> Option<&Tuple>
+        ensures found { option_map fact_of (option_copied result) ≡ next_of (tuples self.now) (fact_of tuple.now) }
+        ensures in_order { IsRepository (tuples self.now) };
+
+    /// The least tuple of the relation that has the value in the column, counted from 0, and is above `past` where
+    /// that is given; None exactly where there is none.
+    fn scan(
+        &self,
+        relation: u16,
+        column: u16,
+        value: &Value,
+        past: Option<&Tuple>,
+    ) -> Option<&Tuple>
+        ensures found { option_map fact_of (option_copied result) ≡ scan_of (tuples self.now) relation column (datum_of value.now) (option_map fact_of (option_copied past.entry)) }
+        ensures in_order { IsRepository (tuples self.now) };
+}

@@ -1,0 +1,19 @@
+//! The types of the program: values, tuples, mappings, updates, and the lists of them.
+#![tactic(auto)]
+
+pub mod copying;
+pub mod facts;
+pub mod lists;
+pub mod mappings;
+pub mod nulls;
+pub mod tuples;
+pub mod values;
+
+pub use crate::copying::TryCopy;
+pub use crate::facts::Facts;
+pub use crate::lists::{List, Name, NameList, NumberList, Word};
+pub use crate::mappings::{Atom, AtomList, Mapping, MappingList, Term, TermRow};
+pub use crate::nulls::Null;
+pub use crate::tuples::{Row, Tuple, TupleList};
+pub use crate::values::Value;
+pub use yt_memory::Memory;

@@ -1,0 +1,44 @@
+//! Terms, atoms and mappings.
+ghost use Rattle.std.specs.Prelude.{◌≡◌, IfOk};
+ghost use Rattle.yt_model.specs.Mappings.{Slot, Pattern, Rule};
+ghost use Rattle.yt_base.specs.Meanings.{slot_of, pattern_of, rule_of};
+
+use crate::lists::{List, Name, NameList};
+use crate::values::Value;
+
+/// A term of an atom: a variable by its number, or a constant.
+#[derive(Debug, Drop)]
+pub enum Term {
+    Var(u16),
+    Const(Value),
+}
+
+/// The terms of an atom by column.
+pub type TermRow = List<Term>;
+
+/// An atom: the number of its relation and its terms by column.
+#[derive(Debug, Drop)]
+pub struct Atom {
+    pub relation: u16,
+    pub terms: TermRow,
+}
+
+/// Atoms that hold together.
+pub type AtomList = List<Atom>;
+
+/// A mapping, or tuple-generating dependency: where the atoms on the left hold, those on the right do, for some
+/// values of the variables that stand on the right alone. Variables are numbered from 0 by first occurrence, the
+/// left side first: `universal` of them stand on the left, and `names` has the spelling of each. The mapping is
+/// in force from the start where `since` is 0, else once the update of that number has put it in force.
+#[derive(Debug, Drop)]
+pub struct Mapping {
+    pub name: Name,
+    pub names: NameList,
+    pub universal: u16,
+    pub since: u32,
+    pub left: AtomList,
+    pub right: AtomList,
+}
+
+/// The mappings of a session by number.
+pub type MappingList = List<Mapping>;

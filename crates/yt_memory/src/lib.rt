@@ -1,0 +1,32 @@
+//! Want of memory: the refusal that every call which takes memory shares.
+#![tactic(auto)]
+
+use std::alloc::{AllocError, AllocFailed};
+use thiserror::Error;
+
+/// Want of memory: the allocator had no room for what the call needed.
+///
+/// Any call that takes memory may answer it, and no contract says when. The call's contract says what
+/// stands after it; in general the object is as it was before the call.
+#[derive(Clone, Copy, Debug, PartialEq, Eq, Error)]
+#[error("out of memory")]
+pub struct Memory;
+
+impl From<AllocError> for Memory {
+    fn from(_error: AllocError) -> Memory {
+        Memory
+    }
+}
+
+impl<T: Drop> From<AllocFailed<T>> for Memory {
+    fn from(_error: AllocFailed<T>) -> Memory {
+        Memory
+    }
+}
+
+/// A call that hands its argument back beside `Memory`, where the caller has no more use for it.
+impl<T: Drop> From<(T, Memory)> for Memory {
+    fn from(_refused: (T, Memory)) -> Memory {
+        Memory
+    }
+}
