@@ -1,0 +1,94 @@
+// The loop of a worker.
+ghost use Rattle.std.specs.Prelude.{◌≡◌, ◌+◌, IfErr, OnOk};
+ghost use mathlib.Core.List.{IsPrefix};
+ghost use Rattle.yt_gate.specs.Offers.{tickets_spent};
+
+use crate::bench::{Bench, Offer};
+use crate::gates::Gate;
+use crossbeam_utils::Backoff;
+use std::alloc::AllocError as Memory;
+use std::sync::Wait;
+
+/// Works at the bench until nothing is left to do, and then answers Ok, with its seat at rest. On `Memory` a ticket that it holds is given back first. Whatever the answer, each ticket that it was given is spent, and the seat is the bench's own, as it was but for what it has seen since.
+pub fn work<B: Bench, G: Gate, R: Wait>(
+    rt: &R,
+    bench: &B,
+    seat: &mut B::Seat,
+    gate: &G,
+) -> Result<(), Memory>
+    requires own { B.owns bench.now seat.old }
+    ensures own { B.owns bench.now seat.new }
+    ensures lock { B.lock seat.new ≡ B.lock seat.old }
+    ensures number { B.seat_number seat.new ≡ B.seat_number seat.old }
+    ensures seen { IsPrefix (B.seen seat.old) (B.seen seat.new) }
+    ensures all_spent { B.spent seat.new + B.given seat.old ≡ B.given seat.new + B.spent seat.old }
+    ensures rests { OnOk result (B.rests seat.new) }
+{
+    let backoff = Backoff::new();
+    for _ in rt.forever() {
+        match bench.offer(rt, seat)? {
+            Offer::Ticket(ticket) => {
+                serve(rt, bench, seat, gate, ticket)?;
+                backoff.reset();
+            }
+            Offer::Moved => backoff.reset(),
+            Offer::Idle => backoff.snooze(),
+            Offer::Quiet => return Ok(()),
+        }
+    }
+    unreachable!()
+}
+
+// One ticket's work, within the gate. The ticket is spent, whatever the answer.
+fn serve<B: Bench, G: Gate, R: Wait>(
+    rt: &R,
+    bench: &B,
+    seat: &mut B::Seat,
+    gate: &G,
+    ticket: B::Ticket,
+) -> Result<(), Memory>
+    requires own { B.owns bench.now seat.old }
+    requires out { B.is_out bench.now seat.old ticket }
+    ensures own { B.owns bench.now seat.new }
+    ensures lock { B.lock seat.new ≡ B.lock seat.old }
+    ensures number { B.seat_number seat.new ≡ B.seat_number seat.old }
+    ensures seen { IsPrefix (B.seen seat.old) (B.seen seat.new) }
+    ensures given { B.given seat.new ≡ B.given seat.old }
+    ensures spent { B.spent seat.new ≡ B.spent seat.old + 1 }
+{
+    let call = bench.number(&ticket);
+    gate.enter(call);
+    match complete(rt, bench, seat, ticket) {
+        Ok(()) => {
+            gate.leave(call);
+            Ok(())
+        }
+        Err((ticket, memory)) => {
+            bench.give_back(rt, seat, ticket);
+            Err(memory)
+        }
+    }
+}
+
+// Works out the ticket's plan and hands it in. On `Memory` the ticket is out still.
+fn complete<B: Bench, R: Wait>(
+    rt: &R,
+    bench: &B,
+    seat: &mut B::Seat,
+    ticket: B::Ticket,
+) -> Result<(), (B::Ticket, Memory)>
+    requires own { B.owns bench.now seat.old }
+    requires out { B.is_out bench.now seat.old ticket }
+    ensures own { B.owns bench.now seat.new }
+    ensures lock { B.lock seat.new ≡ B.lock seat.old }
+    ensures number { B.seat_number seat.new ≡ B.seat_number seat.old }
+    ensures seen { IsPrefix (B.seen seat.old) (B.seen seat.new) }
+    ensures given { B.given seat.new ≡ B.given seat.old }
+    ensures spent { B.spent seat.new ≡ B.spent seat.old + tickets_spent result }
+    ensures out { IfErr result (λ e. B.is_out bench.now seat.new e.0) }
+{
+    match bench.evaluate(&ticket) {
+        Ok(plan) => bench.finish(rt, seat, ticket, plan),
+        Err(memory) => Err((ticket, memory)),
+    }
+}
