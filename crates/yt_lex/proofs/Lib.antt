@@ -1,0 +1,4 @@
+pub mod Carried
+pub mod Digits
+pub mod Lined
+pub mod Given

@@ -1,0 +1,69 @@
+//! Lines and their tokens.
+
+ghost use Rattle.std.specs.Prelude.{◌≡◌, ◌+◌, ◌^◌, ◌<◌, ◌≤◌, drop, length};
+ghost use Rattle.yt_lex.specs.Answers.{Gives};
+ghost use Rattle.yt_lex.specs.Lines.{line_at, line_of, next_line, tokens_at};
+
+use crate::bytes::{is_blank, line_run};
+use crate::tokens::token_at;
+use crate::{LexRefusal, Line, Token};
+use std::alloc::Global;
+
+fn behind(bytes: &[u8], place: usize) -> &[u8]
+    requires { place ≤ length bytes.now }
+    ensures { result.now ≡ drop place bytes.now }
+{
+    &bytes[place..]
+}
+
+// The line at the front.
+fn line_of(bytes: &[u8]) -> &[u8]
+    ensures { result.now ≡ line_of bytes.now }
+{
+    &bytes[..line_run(bytes)]
+}
+
+// The tokens of a line that begins at the place.
+fn tokens_at(alloc: Global, start: usize, line: &[u8]) -> Result<Vec<Token>, LexRefusal>
+    requires { start + length line.now < 2 ^ 63 }
+    ensures { Gives (λ tokens. tokens.items) result (tokens_at start 0 line.now) }
+{
+    let mut tokens = Vec::new(alloc);
+    let mut place = 0;
+    while place < line.len() {
+        let byte = line[place];
+        if is_blank(byte) {
+            place += 1;
+        } else if byte == b'#' {
+            return Ok(tokens);
+        } else {
+            let from = start + place;
+            let (kind, width) = token_at(from, behind(line, place))?;
+            let to = from + width;
+            tokens.push(Token { kind, from, to })?;
+            place += width;
+        }
+    }
+    Ok(tokens)
+}
+
+/// The tokens of the line that begins at the place `from` of a text, up to a line feed or to the
+/// end, and the place of the next line.
+///
+/// Blanks (spaces, tabs and carriage returns) and comments (from a `#` outside a text to the end of
+/// the line) are no tokens. At each place the longest token is taken. A fault is the leftmost one of
+/// the line. It takes memory for the list of tokens alone, and copies no byte.
+pub fn lex_line(alloc: Global, bytes: &[u8], from: usize) -> Result<Line, LexRefusal>
+    requires { from ≤ length bytes.now }
+    ensures exact { Gives (λ line. (line.tokens.items, line.next)) result (line_at from bytes.now) }
+{
+    let line = line_of(behind(bytes, from));
+    let tokens = tokens_at(alloc, from, line)?;
+    let end = from + line.len();
+    let next = if end < bytes.len() {
+        Some(end + 1)
+    } else {
+        None
+    };
+    Ok(Line { tokens, next })
+}
