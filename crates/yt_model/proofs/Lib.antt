@@ -25,3 +25,6 @@ pub mod Forward
 pub mod Backward
 pub mod Images
 pub mod Coarse
+pub mod Force
+pub mod Rewritings
+pub mod Scopes

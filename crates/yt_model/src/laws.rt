@@ -1,5 +1,6 @@
 //! The laws of the definitions. Each is the contract of a function that does nothing, so that it is proved and can be cited.
 
+ghost use Rattle.yt_model.specs.Caused.{CausedIsAll, CausedValues};
 ghost use Rattle.yt_model.specs.Laws.{CoarseLaw, FirstViolation, ImageDetermines, MembersDetermine, MoreSpecificLaws, OrdersAreTotal, ShiftsCommute, UnifierUnites, ViolationDecides, WritesApply};
 
 /// The orders of nulls, values and tuples are total, and only equals tie. So sorted lists stand for sets, and "the least" is one.
@@ -50,4 +51,14 @@ pub fn mentions_decide()
 /// A shift of attempt numbers commutes with every query where no constant of a mapping is a null, and outer forms do not show it.
 pub fn shifts_commute()
     ensures { ShiftsCommute }
+{}
+
+/// Where a mapping held before and the own writes keep what was there (forward: a substitution carries it through them; backward: they only delete), the first violation that they caused is the first of all.
+pub fn caused_is_all()
+    ensures { CausedIsAll }
+{}
+
+/// So each query that looks only at mappings in force has one value in the full and the caused scope.
+pub fn caused_values_are_all()
+    ensures { CausedValues }
 {}
