@@ -1,6 +1,7 @@
 //! The laws of the definitions. Each is the contract of a function that does nothing, so that it is proved and can be cited.
 
 ghost use Rattle.yt_model.specs.Caused.{CausedIsAll, CausedValues};
+ghost use Rattle.yt_model.specs.Examples.{WorkedValues};
 ghost use Rattle.yt_model.specs.Laws.{CoarseLaw, FirstViolation, ImageDetermines, MembersDetermine, MoreSpecificLaws, OrdersAreTotal, ShiftsCommute, UnifierUnites, ViolationDecides, WritesApply};
 
 /// The orders of nulls, values and tuples are total, and only equals tie. So sorted lists stand for sets, and "the least" is one.
@@ -61,4 +62,9 @@ pub fn caused_is_all()
 /// So each query that looks only at mappings in force has one value in the full and the caused scope.
 pub fn caused_values_are_all()
     ensures { CausedValues }
+{}
+
+/// Small values of the definitions, computed: the orders, writes, first violations, the unifier's walks and cycles, queries and cursors.
+pub fn worked_values()
+    ensures { WorkedValues }
 {}
