@@ -28,3 +28,5 @@ pub mod Coarse
 pub mod Force
 pub mod Rewritings
 pub mod Scopes
+pub mod WalkEnds
+pub mod OuterForms

@@ -2,7 +2,7 @@
 
 ghost use Rattle.yt_model.specs.Caused.{CausedIsAll, CausedValues};
 ghost use Rattle.yt_model.specs.Examples.{WorkedValues};
-ghost use Rattle.yt_model.specs.Laws.{CoarseLaw, FirstViolation, ImageDetermines, MembersDetermine, MoreSpecificLaws, OrdersAreTotal, ShiftsCommute, UnifierUnites, ViolationDecides, WritesApply};
+ghost use Rattle.yt_model.specs.Laws.{CoarseLaw, FirstViolation, ImageDetermines, MembersDetermine, MoreSpecificLaws, OrdersAreTotal, OuterForms, ShiftsCommute, UnifierEnds, UnifierUnites, ViolationDecides, WritesApply};
 
 /// The orders of nulls, values and tuples are total, and only equals tie. So sorted lists stand for sets, and "the least" is one.
 pub fn orders_are_total()
@@ -44,6 +44,11 @@ pub fn unifier_unites()
     ensures { UnifierUnites }
 {}
 
+/// The unifier gives each value the one end of its walk: the walk comes to it, comes round to it again, and nothing that follows it is less.
+pub fn unifier_ends_walks()
+    ensures { UnifierEnds }
+{}
+
 /// The coarse law: only tuples of the relations that a query mentions decide its value, whatever the own writes and the scope.
 pub fn mentions_decide()
     ensures { CoarseLaw }
@@ -52,6 +57,11 @@ pub fn mentions_decide()
 /// A shift of attempt numbers commutes with every query where no constant of a mapping is a null, and outer forms do not show it.
 pub fn shifts_commute()
     ensures { ShiftsCommute }
+{}
+
+/// Where each update has only one attempt among the nulls, outer forms keep the order of tuples and tell them apart.
+pub fn outer_forms_keep_order()
+    ensures { OuterForms }
 {}
 
 /// Where a mapping held before and the own writes keep what was there (forward: a substitution carries it through them; backward: they only delete), the first violation that they caused is the first of all.
