@@ -25,3 +25,8 @@ pub mod Forward
 pub mod Backward
 pub mod Images
 pub mod Coarse
+pub mod Force
+pub mod Rewritings
+pub mod Scopes
+pub mod WalkEnds
+pub mod OuterForms

@@ -29,7 +29,7 @@ lookup g x = unwrap_or (option_map (λ p. p.1) (find (λ p. same_datum p.0 x) g)
 pub swapped : (x y : Datum) → same_datum x y ≡ same_datum y x
 swapped x y = (eq_by_cmp_equiv datum_total).symm x y
 
-not_found : (x : Datum) (ts ss : List Datum) → among ts x ≡ false → lookup (zip ts ss) x ≡ x
+pub not_found : (x : Datum) (ts ss : List Datum) → among ts x ≡ false → lookup (zip ts ss) x ≡ x
 not_found x [] ss e = refl
 not_found x (t ∷ ts) [] e = refl
 not_found x (t ∷ ts) (s ∷ ss) e =

@@ -89,11 +89,11 @@ module _ (g : Datum → Datum) where
   walk zero x = []
   walk (suc n) x = x ∷ walk n (g x)
 
-  after_next : (n : ℕ) (x : Datum) → after n g (g x) ≡ g (after n g x)
+  pub after_next : (n : ℕ) (x : Datum) → after n g (g x) ≡ g (after n g x)
   after_next zero x = refl
   after_next (suc n) x = after_next n (g x)
 
-  after_split : (i n : ℕ) (x : Datum) → i ≤ n → after n g x ≡ after (n - i) g (after i g x)
+  pub after_split : (i n : ℕ) (x : Datum) → i ≤ n → after n g x ≡ after (n - i) g (after i g x)
   after_split zero n x h = let e : n ≡ n - zero = omega arith in ap (λ k. after k g x) e
   after_split (suc i) zero x h = absurd (omega arith)
   after_split (suc i) (suc n) x h = let e : n - i ≡ suc n - suc i = omega arith in after_split i n (g x) (omega arith) ∙ ap (λ k. after k g (after i g (g x))) e
@@ -156,7 +156,7 @@ module _ (g : Datum → Datum) where
 
   -- ---- the least of what follows
 
-  abbrev NotAbove : Datum → Datum → Type 0
+  abbrev pub NotAbove : Datum → Datum → Type 0
   NotAbove x y = is_gt (datum_cmp x y) ≡ false
 
   lesser_cases : (x y : Datum) → ((lesser x y ≡ x) × NotAbove x y) ⊎ ((lesser x y ≡ y) × NotAbove y x)
@@ -170,7 +170,7 @@ module _ (g : Datum → Datum) where
   itself : (x : Datum) → NotAbove x x
   itself x = ap is_gt (tied_itself datum_total x)
 
-  is_one : (n : ℕ) (y : Datum) → (i : ℕ) × (i ≤ n) × (least_after n g y ≡ after i g y)
+  pub is_one : (n : ℕ) (y : Datum) → (i : ℕ) × (i ≤ n) × (least_after n g y ≡ after i g y)
   is_one zero y = (zero, omega arith, refl)
   is_one (suc n) y =
       elim (lesser_cases y (least_after n g (g y))) [
@@ -178,7 +178,7 @@ module _ (g : Datum → Datum) where
         | inr h ↦ let r = is_one n (g y) in let l : r.0 ≤ n = r.1 in (suc r.0, omega (arith, l), h.0 ∙ r.2)
       ]
 
-  below_each : (n i : ℕ) (y : Datum) → i ≤ n → NotAbove (least_after n g y) (after i g y)
+  pub below_each : (n i : ℕ) (y : Datum) → i ≤ n → NotAbove (least_after n g y) (after i g y)
   below_each zero zero y h = itself y
   below_each zero (suc i) y h = absurd (omega arith)
   below_each (suc n) zero y h =
@@ -192,7 +192,7 @@ module _ (g : Datum → Datum) where
         | inr c ↦ ap (λ z. is_gt (datum_cmp z (after i g (g y)))) c.0 ∙ below_each n i (g y) (omega arith)
       ]
 
-  both_not_above : (x y : Datum) → NotAbove x y → NotAbove y x → x ≡ y
+  pub both_not_above : (x y : Datum) → NotAbove x y → NotAbove y x → x ≡ y
   both_not_above x y a b = by (datum_cmp x y) refl
     where
       by : (o : Ordering) → datum_cmp x y ≡ o → x ≡ y

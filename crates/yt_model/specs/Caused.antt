@@ -1,11 +1,12 @@
 -- What an update's own writes keep, so that over a repository where a mapping holds every violation of it is one that they caused.
-use Rattle.std.specs.Prelude.{◌≡◌, ℕ, ℤ, Bool, true, false, List, map, ◌++◌}
-use Rattle.std.specs.List.{list_all}
+use Rattle.std.specs.Prelude.{◌≡◌, ℕ, ℤ, Bool, true, false, List, map, ◌++◌, Some}
+use Rattle.std.specs.List.{list_all, slice_get}
 use Rattle.yt_model.specs.Values.{Datum, Number, Text, Fact, under}
 use Rattle.yt_model.specs.Repository.{Change, Insert, Delete, has, apply, inserted_after}
-use Rattle.yt_model.specs.Mappings.{Rule, Holds}
+use Rattle.yt_model.specs.Mappings.{Rule, Holds, in_force, AllHold}
 use Rattle.yt_model.specs.Violations.{Direction, Forward, Backward, Every, Caused, first_violation}
-use Rattle.yt_model.specs.Laws.{HasNoNull}
+use Rattle.yt_model.specs.Queries.{Query, Violation, value}
+use Rattle.yt_model.specs.Laws.{HasNoNull, HaveNoNulls}
 
 -- A substitution of values: it moves nulls alone.
 abbrev pub KeepsConstants : (Datum → Datum) → Type 0
@@ -48,3 +49,13 @@ abbrev pub CausedIsAll : Type 0
 CausedIsAll =
     (d : Direction) (m : Rule) (D : List Fact) (own : List Change) → HasNoNull m → Holds m D → Kept d D own
     → first_violation Every own m (apply D own) ≡ first_violation (Caused d) own m (apply D own)
+
+-- The query looks only at a mapping in force in E.
+abbrev pub Looked : List Rule → Query → List Fact → Type 0
+Looked ms q E = (i : ℕ) (m : Rule) → q ≡ Violation i → slice_get ms i ≡ Some m → in_force i m E ≡ true
+
+-- So over a repository where the mappings in force hold, each query that looks only at mappings in force has one value in both scopes; a mapping that the own writes put in force is looked at whole in either.
+abbrev pub CausedValues : Type 0
+CausedValues =
+    (d : Direction) (ms : List Rule) (q : Query) (D : List Fact) (own : List Change) → HaveNoNulls ms → AllHold ms D → Kept d D own → Looked ms q (apply D own)
+    → value ms q D own Every ≡ value ms q D own (Caused d)

@@ -1,14 +1,15 @@
 -- The laws of the definitions, each stated once; public functions of this crate prove them.
-use Rattle.std.specs.Prelude.{filter, ◌≡◌, ◌==◌, ℕ, Bool, true, false, ◌&&◌, List, map, Some, None}
+use Rattle.std.specs.Prelude.{filter, ◌≡◌, ◌==◌, ◌≤◌, ℕ, Bool, true, false, ◌&&◌, List, map, Some, None}
 use Rattle.std.specs.Bool.{Decides}
 use Rattle.std.specs.List.{list_any, list_all, AllByRecursion}
 use Rattle.std.specs.declared.cmp.Ordering.TheVariants.{Equal}
+use Rattle.std.specs.Ordering.{is_gt}
 use Rattle.std.specs.Cmp.{IsTotalOrder}
-use Rattle.yt_model.specs.Values.{Datum, Fact, null_cmp, datum_cmp, fact_cmp, same_datum, under, outer}
+use Rattle.yt_model.specs.Values.{Datum, Number, Text, Unknown, Fact, null_cmp, datum_cmp, fact_cmp, same_datum, under, outer}
 use Rattle.yt_model.specs.Repository.{Change, IsRepository, has, apply, inserted_after}
 use Rattle.yt_model.specs.Mappings.{Slot, Var, Const, Pattern, Rule, Binding, image_under, all_in, IsViolation, Holds}
-use Rattle.yt_model.specs.Specific.{IsMoreSpecific, is_constant, more_specific}
-use Rattle.yt_model.specs.Unifier.{unifier}
+use Rattle.yt_model.specs.Specific.{IsMoreSpecific, is_constant, more_specific, image_of}
+use Rattle.yt_model.specs.Unifier.{after, unifier}
 use Rattle.yt_model.specs.Violations.{Scope, Every, violates, first_violation, IsFirstViolation}
 use Rattle.yt_model.specs.Queries.{Query, value}
 use Rattle.yt_model.specs.Mentions.{is_mentioned}
@@ -109,3 +110,36 @@ pub record ShiftsCommute : Type 0 where
   pub values : (n : ℕ → ℕ) (ms : List Rule) (q : Query) (D : List Fact) (own : List Change) (scope : Scope) → HaveNoNulls ms
       → value ms (shift_query n q) (map (shift_fact n) D) (map (shift_change n) own) scope ≡ shift_reply n (value ms q D own scope)
   pub outer_forms : (n : ℕ → ℕ) (t : Fact) → outer (shift_fact n t) ≡ outer t
+
+-- ---- outer forms
+
+-- The attempt of a null is the one that is given for its update.
+abbrev pub is_by : (ℕ → ℕ) → Datum → Bool
+is_by attempts (Number i) = true
+is_by attempts (Text w) = true
+is_by attempts (Unknown m) = m.attempt == attempts m.update
+
+-- All nulls of the tuple are of the attempts given.
+abbrev pub are_by : (ℕ → ℕ) → Fact → Bool
+are_by attempts t = list_all (is_by attempts) t.values
+
+-- Where each update has only one attempt among the nulls, outer forms keep the order of tuples, and tell them apart.
+pub record OuterForms : Type 0 where
+  pub in_order : (attempts : ℕ → ℕ) (s t : Fact) → are_by attempts s ≡ true → are_by attempts t ≡ true → fact_cmp (outer s) (outer t) ≡ fact_cmp s t
+  pub one : (attempts : ℕ → ℕ) (s t : Fact) → are_by attempts s ≡ true → are_by attempts t ≡ true → outer s ≡ outer t → s ≡ t
+
+-- ---- the end of a walk
+
+-- y is the end of the walk from x along the images of t in s: the walk comes to it, comes round to it again (in one step where it stands still), and nothing that follows it is less.
+pub record IsWalkEnd (t s : Fact) (x y : Datum) : Type 0 where
+  pub from_start : ℕ
+  pub reached : y ≡ after from_start (image_of t s) x
+  pub round : ℕ
+  pub some : 1 ≤ round
+  pub again : after round (image_of t s) y ≡ y
+  pub least : (k : ℕ) → is_gt (datum_cmp y (after k (image_of t s) y)) ≡ false
+
+-- The unifier gives each value the end of its walk, and each walk has one end.
+pub record UnifierEnds : Type 0 where
+  pub is_end : (t s : Fact) (x : Datum) → IsWalkEnd t s x (unifier t s x)
+  pub one : (t s : Fact) (x y z : Datum) → IsWalkEnd t s x y → IsWalkEnd t s x z → y ≡ z

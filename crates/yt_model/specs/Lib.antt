@@ -12,3 +12,4 @@ pub mod Cursors
 pub mod Shifts
 pub mod Laws
 pub mod Caused
+pub mod Examples

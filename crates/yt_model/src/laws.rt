@@ -1,6 +1,8 @@
 //! The laws of the definitions. Each is the contract of a function that does nothing, so that it is proved and can be cited.
 
-ghost use Rattle.yt_model.specs.Laws.{CoarseLaw, FirstViolation, ImageDetermines, MembersDetermine, MoreSpecificLaws, OrdersAreTotal, ShiftsCommute, UnifierUnites, ViolationDecides, WritesApply};
+ghost use Rattle.yt_model.specs.Caused.{CausedIsAll, CausedValues};
+ghost use Rattle.yt_model.specs.Examples.{WorkedValues};
+ghost use Rattle.yt_model.specs.Laws.{CoarseLaw, FirstViolation, ImageDetermines, MembersDetermine, MoreSpecificLaws, OrdersAreTotal, OuterForms, ShiftsCommute, UnifierEnds, UnifierUnites, ViolationDecides, WritesApply};
 
 /// The orders of nulls, values and tuples are total, and only equals tie. So sorted lists stand for sets, and "the least" is one.
 pub fn orders_are_total()
@@ -42,6 +44,11 @@ pub fn unifier_unites()
     ensures { UnifierUnites }
 {}
 
+/// The unifier gives each value the one end of its walk: the walk comes to it, comes round to it again, and nothing that follows it is less.
+pub fn unifier_ends_walks()
+    ensures { UnifierEnds }
+{}
+
 /// The coarse law: only tuples of the relations that a query mentions decide its value, whatever the own writes and the scope.
 pub fn mentions_decide()
     ensures { CoarseLaw }
@@ -50,4 +57,24 @@ pub fn mentions_decide()
 /// A shift of attempt numbers commutes with every query where no constant of a mapping is a null, and outer forms do not show it.
 pub fn shifts_commute()
     ensures { ShiftsCommute }
+{}
+
+/// Where each update has only one attempt among the nulls, outer forms keep the order of tuples and tell them apart.
+pub fn outer_forms_keep_order()
+    ensures { OuterForms }
+{}
+
+/// Where a mapping held before and the own writes keep what was there (forward: a substitution carries it through them; backward: they only delete), the first violation that they caused is the first of all.
+pub fn caused_is_all()
+    ensures { CausedIsAll }
+{}
+
+/// So each query that looks only at mappings in force has one value in the full and the caused scope.
+pub fn caused_values_are_all()
+    ensures { CausedValues }
+{}
+
+/// Small values of the definitions, computed: the orders, writes, first violations, the unifier's walks and cycles, queries and cursors.
+pub fn worked_values()
+    ensures { WorkedValues }
 {}
