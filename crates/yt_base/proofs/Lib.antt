@@ -1,1 +1,4 @@
 pub mod Along
+pub mod Iterated
+pub mod Exact
+pub mod OuterForms

@@ -6,7 +6,9 @@ pub mod facts;
 pub mod lists;
 pub mod mappings;
 pub mod nulls;
+pub mod outer;
 pub mod tuples;
+pub mod updates;
 pub mod values;
 
 pub use crate::copying::TryCopy;
@@ -15,5 +17,8 @@ pub use crate::lists::{List, Name, NameList, NumberList, Word};
 pub use crate::mappings::{Atom, AtomList, Mapping, MappingList, Term, TermRow};
 pub use crate::nulls::Null;
 pub use crate::tuples::{Row, Tuple, TupleList};
+pub use crate::updates::{
+    Choice, ChoiceList, Direction, Operation, Update, UpdateList, Write, WriteList,
+};
 pub use crate::values::Value;
 pub use yt_memory::Memory;

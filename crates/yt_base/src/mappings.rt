@@ -1,10 +1,13 @@
 //! Terms, atoms and mappings.
 ghost use Rattle.std.specs.Prelude.{◌≡◌, IfOk};
-ghost use Rattle.yt_model.specs.Mappings.{Slot, Pattern, Rule};
-ghost use Rattle.yt_base.specs.Meanings.{slot_of, pattern_of, rule_of};
+ghost use Rattle.yt_model.specs.Mappings.{Slot, Pattern};
+ghost use Rattle.yt_base.specs.Meanings.{slot_of, pattern_of, Named, named_of};
 
+use crate::copying::TryCopy;
 use crate::lists::{List, Name, NameList};
 use crate::values::Value;
+use std::alloc::Global;
+use yt_memory::Memory;
 
 /// A term of an atom: a variable by its number, or a constant.
 #[derive(Debug, Drop)]
@@ -42,3 +45,52 @@ pub struct Mapping {
 
 /// The mappings of a session by number.
 pub type MappingList = List<Mapping>;
+
+impl TryCopy for Term {
+    ghost Meaning = { Slot };
+
+    ghost meaning = { slot_of };
+
+    fn copy(&self, alloc: Global) -> Result<Term, Memory>
+        ensures same { IfOk result (λ copy. slot_of copy ≡ slot_of self.now) }
+    {
+        match self {
+            Term::Var(variable) => Ok(Term::Var(*variable)),
+            Term::Const(value) => Ok(Term::Const(value.copy(alloc)?)),
+        }
+    }
+}
+
+impl TryCopy for Atom {
+    ghost Meaning = { Pattern };
+
+    ghost meaning = { pattern_of };
+
+    fn copy(&self, alloc: Global) -> Result<Atom, Memory>
+        ensures same { IfOk result (λ copy. pattern_of copy ≡ pattern_of self.now) }
+    {
+        Ok(Atom {
+            relation: self.relation,
+            terms: self.terms.copy(alloc)?,
+        })
+    }
+}
+
+impl TryCopy for Mapping {
+    ghost Meaning = { Named };
+
+    ghost meaning = { named_of };
+
+    fn copy(&self, alloc: Global) -> Result<Mapping, Memory>
+        ensures same { IfOk result (λ copy. named_of copy ≡ named_of self.now) }
+    {
+        Ok(Mapping {
+            name: self.name.copy(alloc)?,
+            names: self.names.copy(alloc)?,
+            universal: self.universal,
+            since: self.since,
+            left: self.left.copy(alloc)?,
+            right: self.right.copy(alloc)?,
+        })
+    }
+}

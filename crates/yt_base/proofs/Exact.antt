@@ -1,0 +1,20 @@
+-- The tests that compare by an order say whether the two are one.
+use Rattle.std.proofs.Common.{◌≡◌, ◌∙◌, ap, sym}
+use Rattle.std.specs.Bool.{Decides}
+use Rattle.std.specs.Cmp.{IsTotalOrder, Equal-is, tied_itself}
+use Rattle.std.specs.declared.cmp.Ordering.{Ordering}
+use Rattle.std.specs.declared.cmp.Ordering.TheVariants.{Equal}
+use Rattle.std.specs.Ordering.{is_eq}
+use Rattle.yt_model.specs.Values.{Datum, Fact, same_datum, same_fact}
+use Rattle.yt_base.specs.Order.{datum_total, datum_exact, fact_total, fact_exact}
+
+exact : {K : Type 0} {R : K → K → Ordering} → IsTotalOrder R → ((x y : K) → R x y ≡ Equal → x ≡ y) → (x y : K) → Decides (is_eq (R x y)) (x ≡ y)
+exact {R = R} total ties x y = (λ e. ties x y ((Equal-is (R x y)).0 e), λ e. ap is_eq (ap (R x) (sym e) ∙ tied_itself total x))
+
+-- Whether two values are the same is whether they are one.
+pub same_datum_decides : (x y : Datum) → Decides (same_datum x y) (x ≡ y)
+same_datum_decides = exact datum_total datum_exact
+
+-- Whether two tuples are the same is whether they are one.
+pub same_fact_decides : (s t : Fact) → Decides (same_fact s t) (s ≡ t)
+same_fact_decides = exact fact_total fact_exact
