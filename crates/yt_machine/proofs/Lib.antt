@@ -1,2 +1,15 @@
 pub mod TreeLaws
 pub mod Leading
+pub mod Basics
+pub mod Replay
+pub mod Settling
+pub mod Walks
+pub mod Places
+pub mod Standing
+pub mod Events
+pub mod Serials
+pub mod Quiet
+pub mod Bounds
+pub mod Legal
+pub mod Theorem
+pub mod SmallLaws

@@ -1,2 +1,16 @@
 pub mod Trees
 pub mod TreeLaw
+pub mod Machine
+pub mod Updates
+pub mod Reads
+pub mod Standings
+pub mod Cascade
+pub mod Settle
+pub mod Steps
+pub mod Effects
+pub mod Histories
+pub mod Runs
+pub mod Serial
+pub mod Bounds
+pub mod History
+pub mod Small
