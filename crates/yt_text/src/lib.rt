@@ -1,0 +1,21 @@
+//! Sources and sinks of bytes that count their faults, reading to the end and writing whole.
+//!
+//! A device that fails answers [`Failed`] and counts it. So a caller that answers a fault can show,
+//! by the count, that the device failed.
+#![tactic(auto)]
+
+mod adapters;
+mod devices;
+mod mem_sink;
+mod mem_source;
+mod whole;
+
+pub use adapters::{StdSink, StdSource};
+pub use devices::{Failed, Sink, Source};
+pub use mem_sink::MemSink;
+pub use mem_source::MemSource;
+pub use whole::{ReadRefusal, WriteFault, read_all, write_all};
+pub use yt_memory::Memory;
+
+#[cfg(test)]
+mod tests;
