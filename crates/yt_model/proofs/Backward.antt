@@ -26,7 +26,7 @@ present_before D own (t ∷ ts) d e =
     let parts = and_parts (has (apply D own) t) (all_in (apply D own) ts) e in
     both (has D t) (all_in D ts) (kept (has D t) own t d (sym (has-apply D own t) ∙ parts.0)) (present_before D own ts d parts.1)
 
--- a right atom whose tuple is gone is equal to a tuple that a write deletes
+-- A right atom whose tuple is gone is equal to a tuple that a write deletes.
 gone : (k : Known) (a : Pattern) (t : Fact) (own : List Change) (b : Bool) → is_some (learn_atom a t k) ≡ true → b ≡ true → inserted_after b own t ≡ false → list_any (deletes_match k a) own ≡ true
 gone k a t [] b s e f = absurd (both_ways b f e)
 gone k a t (Insert u ∷ ws) b s e f = gone k a t ws (same_fact t u || b) s (or_right (same_fact t u) b e) f

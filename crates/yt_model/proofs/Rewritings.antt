@@ -83,7 +83,7 @@ carried_first D =
       leaves = λ t h n. under_same t;
     }
 
--- an insertion, or no write
+-- Insertions alone rewrite nothing.
 pub inserting : (E ts : List Fact) → Rewriting E (map Insert ts)
 inserting E ts =
     record {

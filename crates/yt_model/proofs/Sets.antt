@@ -71,7 +71,7 @@ pub has-change : (D : List Fact) (w : Change) (ws : List Change) (s : Fact) → 
 has-change D (Insert t) ws s = ap (λ b. inserted_after b ws s) (has-insert D t s)
 has-change D (Delete t) ws s = ap (λ b. inserted_after b ws s) (has-delete D t s)
 
--- a tuple is there after the writes where its last write is an insertion, or where it was there and none wrote it
+-- A tuple is there after the writes where its last write is an insertion, or where it was there and none wrote it.
 pub has-apply : (D : List Fact) (ws : List Change) (s : Fact) → has (apply D ws) s ≡ inserted_after (has D s) ws s
 has-apply D [] s = refl
 has-apply D (w ∷ ws) s = has-apply (change D w) ws s ∙ has-change D w ws s

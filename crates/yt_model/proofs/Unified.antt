@@ -105,7 +105,7 @@ self_found h [] into = refl
 self_found h (q ∷ g) into =
     both _ _ (into q.0 (or_left (same_datum q.0 q.0) _ (same_datum_itself q.0))) (self_found h g (λ x e. into x (or_right (same_datum q.0 x) _ e)))
 
--- the graph takes the first tuple to the second
+-- The images take the first tuple to the second.
 pub image_is : (s t : Fact) → more_specific s t ≡ true → map (image_of t s) t.values ≡ s.values
 image_is s t e = let p = parts_of s t e in found_each (graph t s) t.values s.values p.length p.agrees (self_found (graph t s) (graph t s) (λ x h. h))
 
@@ -168,14 +168,14 @@ least_fixed g x e (suc n) = ap (λ y. lesser x (least_after n g y)) e ∙ ap (le
 fixed : (t s : Fact) (x : Datum) → image_of t s x ≡ x → unifier t s x ≡ x
 fixed t s x e = ap (least_after (length t.values) (image_of t s)) (after_fixed (image_of t s) x e (length t.values)) ∙ least_fixed (image_of t s) x e (length t.values)
 
--- what stands nowhere in t stays
+-- What stands nowhere in t stays.
 pub unifier_others : (t s : Fact) (x : Datum) → among t.values x ≡ false → unifier t s x ≡ x
 unifier_others t s x e = fixed t s x (not_found x t.values s.values e)
 
 pub unifier_constants : (t s : Fact) → more_specific s t ≡ true → KeepsConstants (unifier t s)
 unifier_constants t s e = (λ i. fixed t s (Number i) (image_constants s t e (Number i) refl), λ w. fixed t s (Text w) (image_constants s t e (Text w) refl))
 
--- the unifier makes the two tuples one
+-- The unifier makes the two tuples one.
 pub unified : (s t : Fact) → more_specific s t ≡ true → under (unifier t s) s ≡ under (unifier t s) t
 unified s t e =
     let values : map (unifier t s) s.values ≡ map (unifier t s) t.values =

@@ -62,7 +62,7 @@ violates_decides m own D image a = (
 
 -- ---- the least
 
--- none that passes is below the one that is found
+-- None that passes is below the one that is found.
 least_found : {K : Type 0} (R : K → K → Ordering) (o : IsTotalOrder R) (p : K → Bool) (xs : List K) (x : K) → IsStrictlySortedBy R xs → find p xs ≡ Some x → AllByRecursion (λ y. p y ≡ true → is_gt (R x y) ≡ false) xs
 unfolding IsStrictlySortedBy
 least_found R o p [] x s e = tt
