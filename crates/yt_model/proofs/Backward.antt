@@ -1,19 +1,19 @@
 -- Where only deletions were made and no mapping was violated before, every violation is caused backward.
 use Rattle.std.proofs.Common.{◌≡◌, ap, refl, sym, ◌∙◌, List, [], ◌∷◌, Bool, true, false, not, ◌||◌, ◌&&◌, Some, inl, inr}
-use Rattle.std.specs.Prelude.{is_some}
 use Rattle.std.specs.List.{list_any, list_all}
+use Rattle.std.specs.Prelude.{is_some}
 use Rattle.std.proofs.lemmas.Bool.{false≢true, and_parts, both_ways, cases_Bool}
 use Rattle.yt_model.specs.Values.{Fact, same_fact}
 use Rattle.yt_model.specs.Repository.{Change, Insert, Delete, has, apply, inserted_after}
 use Rattle.yt_model.specs.Mappings.{Rule, Pattern, Binding, fact_under, image_under, all_in, Holds}
 use Rattle.yt_model.specs.Matching.{Known, nothing_known, learn_all, learn_atom, extends}
 use Rattle.yt_model.specs.Violations.{Every, Caused, Backward, deletes_match, in_scope, violated_at}
-use Rattle.yt_model.proofs.Sets.{has-apply, same_exact}
-use Rattle.yt_model.proofs.Learning.{Agrees, all_means, atom_means}
 use Rattle.yt_model.specs.Caused.{is_delete}
 use Rattle.yt_model.proofs.Bools.{both, not_both, or_left, or_right}
-use Rattle.yt_model.proofs.Violations.{violation_of}
+use Rattle.yt_model.proofs.Sets.{has-apply, same_exact}
+use Rattle.yt_model.proofs.Learning.{Agrees, all_means, atom_means}
 use Rattle.yt_model.proofs.Matches.{extends_decides, learned_from}
+use Rattle.yt_model.proofs.Violations.{violation_of}
 
 kept : (b : Bool) (own : List Change) (t : Fact) → list_all is_delete own ≡ true → inserted_after b own t ≡ true → b ≡ true
 kept b [] t d e = e

@@ -1,8 +1,8 @@
 -- The coarse law: the value of a query is that over the tuples of the relations that it mentions.
-use Rattle.std.specs.Prelude.{◌==◌, find, is_some, filter}
 use Rattle.std.proofs.Common.{◌≡◌, ℕ, zero, suc, ap, refl, sym, ◌∙◌, List, [], ◌∷◌, ◌++◌, map, Bool, true, false, not, ◌||◌, ◌&&◌, cond, length, Option, Some, None}
-use Rattle.std.specs.Option.{option_map, option_and_then}
 use Rattle.std.specs.List.{list_any, list_all, flat_map, slice_get}
+use Rattle.std.specs.Option.{option_map, option_and_then}
+use Rattle.std.specs.Prelude.{◌==◌, find, is_some, filter}
 use Rattle.std.proofs.lemmas.Bool.{false≢true, and_parts, eqb-true, eq-eqb}
 use Rattle.yt_model.specs.Values.{Fact}
 use Rattle.yt_model.specs.Repository.{Change, IsRepository, has, apply, inserted_after}
@@ -13,11 +13,11 @@ use Rattle.yt_model.specs.Violations.{Scope, in_scope, violated_at, violates, fi
 use Rattle.yt_model.specs.Queries.{Present, Violation, Specific, Occurs, Yes, No, Tuples, image_reply, violation_reply, scope_at, value}
 use Rattle.yt_model.specs.Mentions.{rule_mentions, is_mentioned}
 use Rattle.yt_model.specs.Laws.{CoarseLaw}
-use Rattle.yt_model.proofs.Sets.{has-apply, same_repository, apply_in_order, filter_in_order}
 use Rattle.yt_model.proofs.Bools.{both, or_left, or_right, differ}
+use Rattle.yt_model.proofs.Sets.{has-apply, same_repository, apply_in_order, filter_in_order}
+use Rattle.yt_model.proofs.Searches.{find_join, find_none, find_same, first_some, filter_within, filter_all}
 use Rattle.yt_model.proofs.Members.{has-filter}
 use Rattle.yt_model.proofs.Among.{find_under}
-use Rattle.yt_model.proofs.Searches.{find_join, find_none, find_same, first_some, filter_within, filter_all}
 
 -- ---- sets
 

@@ -1,14 +1,14 @@
 -- What a range from a bound on begins with, as the first tuple of a relation that passes.
 use Rattle.std.proofs.Common.{◌≡◌, ℕ, ◌<◌, ◌≤◌, ap, refl, sym, ◌∙◌, List, [], ◌∷◌, Bool, true, false, ◌&&◌, cond, Some, None, Option, arith, inl, inr}
-use Rattle.std.specs.Prelude.{find}
-use Rattle.std.specs.declared.cmp.Ordering.{Ordering}
-use Rattle.std.specs.declared.cmp.Ordering.TheVariants.{Less, Equal, Greater}
-use Rattle.std.specs.Ordering.{is_lt, is_le, nat_cmp, ordering_then, MatchOrdering}
 use Rattle.std.specs.Cmp.Lexicographic.{slice_cmp}
 use Rattle.std.specs.List.{AllByRecursion}
 use Rattle.std.specs.List.Sorted.{IsStrictlySortedBy}
-use Rattle.std.proofs.lemmas.Cmp.{ranked}
+use Rattle.std.specs.Ordering.{is_lt, is_le, nat_cmp, ordering_then, MatchOrdering}
+use Rattle.std.specs.Prelude.{find}
+use Rattle.std.specs.declared.cmp.Ordering.{Ordering}
+use Rattle.std.specs.declared.cmp.Ordering.TheVariants.{Less, Equal, Greater}
 use Rattle.std.proofs.lemmas.Bool.{eq-eqb, ne_eqb, cases_eq}
+use Rattle.std.proofs.lemmas.Cmp.{ranked}
 use Rattle.yt_model.specs.Values.{Datum, Fact, datum_cmp, fact_cmp}
 use Rattle.yt_model.specs.Repository.{IsRepository}
 use Rattle.yt_model.specs.Cursors.{is_scanned, is_beyond, has_at, is_of, is_past, kept_if, first_of, next_of}

@@ -1,7 +1,7 @@
 -- A scan of a set that may hold more than the repository finds what a scan of the repository finds.
 use Rattle.std.proofs.Common.{◌≡◌, ℕ, ap, refl, sym, ◌∙◌, List, Bool, true, false, ◌&&◌, cond, Option, Some, None}
-use Rattle.std.specs.Prelude.{find, filter, ◌==◌}
 use Rattle.std.specs.Ordering.{is_lt}
+use Rattle.std.specs.Prelude.{find, filter, ◌==◌}
 use Rattle.yt_model.specs.Values.{Datum, Fact, fact_cmp}
 use Rattle.yt_model.specs.Repository.{IsRepository, has}
 use Rattle.yt_model.specs.Cursors.{is_of, has_at, is_beyond, is_scanned, scan_of, first_of, next_of}

@@ -1,24 +1,24 @@
 -- The test decides what is more specific, and the unifier makes the two tuples one and leaves what is no null of the first.
-use Rattle.yt_model.proofs.Bools.{both, or_left, or_right, first_off}
-use Rattle.std.specs.Prelude.{ℤ, ◌==◌, find, unwrap_or}
+use Rattle.std.proofs.Common.{◌≡◌, ℕ, zero, suc, ap, refl, sym, ◌∙◌, List, [], ◌∷◌, map, Bool, true, false, not, ◌||◌, ◌&&◌, cond, length, Option, Some, None, inl, inr, arith}
 use Rattle.std.specs.Bool.{Decides}
+use Rattle.std.specs.Cmp.{eq_by_cmp_equiv}
+use Rattle.std.specs.List.{list_any, list_all, zip}
 use Rattle.std.specs.Option.{option_map}
 use Rattle.std.specs.Ordering.{is_lt}
-use Rattle.std.proofs.Common.{◌≡◌, ℕ, zero, suc, ap, refl, sym, ◌∙◌, List, [], ◌∷◌, map, Bool, true, false, not, ◌||◌, ◌&&◌, cond, length, Option, Some, None, inl, inr, arith}
-use Rattle.std.specs.List.{list_any, list_all, zip}
-use Rattle.std.specs.Cmp.{eq_by_cmp_equiv}
+use Rattle.std.specs.Prelude.{ℤ, ◌==◌, find, unwrap_or}
 use Rattle.std.proofs.lemmas.Bool.{false≢true, and_parts, eqb-true, eq-eqb}
 use Rattle.std.proofs.lemmas.List.{length-map}
 use Rattle.yt_model.specs.Values.{Datum, Number, Text, Unknown, Fact, datum_cmp, same_datum, under}
 use Rattle.yt_model.specs.Specific.{IsMoreSpecific, is_constant, graph, agree, more_specific, image_of}
 use Rattle.yt_model.specs.Unifier.{after, lesser, least_after, unifier}
+use Rattle.yt_model.specs.Laws.{UnifierUnites}
+use Rattle.yt_model.specs.Caused.{KeepsConstants}
+use Rattle.yt_model.proofs.Bools.{both, or_left, or_right, first_off}
 use Rattle.yt_model.proofs.Order.{datum_total}
+use Rattle.yt_model.proofs.Searches.{all_first, all_second}
 use Rattle.yt_model.proofs.Learning.{same_datum_exact, same_datum_itself}
 use Rattle.yt_model.proofs.Substitutions.{map_twice, map_each, constant_left}
-use Rattle.yt_model.specs.Laws.{UnifierUnites}
 use Rattle.yt_model.proofs.Walks.{among, same_end}
-use Rattle.yt_model.proofs.Searches.{all_first, all_second}
-use Rattle.yt_model.specs.Caused.{KeepsConstants}
 
 abbrev pub Graph : Type 0
 Graph = List (Datum × Datum)

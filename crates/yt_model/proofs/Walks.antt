@@ -1,16 +1,16 @@
 -- The end of a walk along a function that moves only values of a list is the end of the walk from the next value.
-use Rattle.yt_model.proofs.Bools.{both}
 use Rattle.std.proofs.Common.{◌≡◌, ℕ, zero, suc, ◌-◌, ◌<◌, ◌≤◌, ap, refl, sym, ◌∙◌, subst, List, [], ◌∷◌, Bool, true, false, not, ◌||◌, ◌&&◌, cond, length, inl, inr, ◌⊎◌, arith}
+use Rattle.std.specs.Cmp.{tied_itself, eq_by_cmp_equiv}
+use Rattle.std.specs.List.{list_any, list_all}
+use Rattle.std.specs.Ordering.{is_lt, is_gt, ordering_reverse}
 use Rattle.std.specs.Prelude.{filter}
 use Rattle.std.specs.declared.cmp.Ordering.{Ordering}
 use Rattle.std.specs.declared.cmp.Ordering.TheVariants.{Less, Equal, Greater}
-use Rattle.std.specs.Ordering.{is_lt, is_gt, ordering_reverse}
-use Rattle.std.specs.List.{list_any, list_all}
-use Rattle.std.specs.Cmp.{tied_itself, eq_by_cmp_equiv}
 use Rattle.std.proofs.lemmas.Bool.{false≢true, or_cases, and_parts, both_ways, cases_lt}
 use Rattle.std.proofs.lemmas.Cmp.{upto}
 use Rattle.yt_model.specs.Values.{Datum, datum_cmp, same_datum}
 use Rattle.yt_model.specs.Unifier.{after, least_after, lesser}
+use Rattle.yt_model.proofs.Bools.{both}
 use Rattle.yt_model.proofs.Order.{datum_total, datum_exact}
 use Rattle.yt_model.proofs.Learning.{same_datum_exact, same_datum_itself}
 
