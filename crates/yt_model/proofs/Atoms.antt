@@ -9,7 +9,7 @@ use Rattle.yt_model.specs.Laws.{is_no_null, has_no_null, HasNoNull}
 use Rattle.yt_model.specs.Caused.{KeepsConstants}
 use Rattle.yt_model.proofs.Substitutions.{constant_left}
 
--- f leaves the constants of the atoms
+-- The substitution leaves the constants among the terms.
 abbrev pub LeavesTerms : (Datum → Datum) → List Slot → Type 0
 LeavesTerms f [] = Unit {0}
 LeavesTerms f (Var v ∷ ps) = LeavesTerms f ps

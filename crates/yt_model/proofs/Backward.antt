@@ -1,19 +1,19 @@
 -- Where only deletions were made and no mapping was violated before, every violation is caused backward.
 use Rattle.std.proofs.Common.{◌≡◌, ap, refl, sym, ◌∙◌, List, [], ◌∷◌, Bool, true, false, not, ◌||◌, ◌&&◌, Some, inl, inr}
-use Rattle.std.specs.Prelude.{is_some}
 use Rattle.std.specs.List.{list_any, list_all}
+use Rattle.std.specs.Prelude.{is_some}
 use Rattle.std.proofs.lemmas.Bool.{false≢true, and_parts, both_ways, cases_Bool}
 use Rattle.yt_model.specs.Values.{Fact, same_fact}
 use Rattle.yt_model.specs.Repository.{Change, Insert, Delete, has, apply, inserted_after}
 use Rattle.yt_model.specs.Mappings.{Rule, Pattern, Binding, fact_under, image_under, all_in, Holds}
 use Rattle.yt_model.specs.Matching.{Known, nothing_known, learn_all, learn_atom, extends}
 use Rattle.yt_model.specs.Violations.{Every, Caused, Backward, deletes_match, in_scope, violated_at}
-use Rattle.yt_model.proofs.Sets.{has-apply, same_exact}
-use Rattle.yt_model.proofs.Learning.{Agrees, all_means, atom_means}
 use Rattle.yt_model.specs.Caused.{is_delete}
 use Rattle.yt_model.proofs.Bools.{both, not_both, or_left, or_right}
-use Rattle.yt_model.proofs.Violations.{violation_of}
+use Rattle.yt_model.proofs.Sets.{has-apply, same_exact}
+use Rattle.yt_model.proofs.Learning.{Agrees, all_means, atom_means}
 use Rattle.yt_model.proofs.Matches.{extends_decides, learned_from}
+use Rattle.yt_model.proofs.Violations.{violation_of}
 
 kept : (b : Bool) (own : List Change) (t : Fact) → list_all is_delete own ≡ true → inserted_after b own t ≡ true → b ≡ true
 kept b [] t d e = e
@@ -26,7 +26,7 @@ present_before D own (t ∷ ts) d e =
     let parts = and_parts (has (apply D own) t) (all_in (apply D own) ts) e in
     both (has D t) (all_in D ts) (kept (has D t) own t d (sym (has-apply D own t) ∙ parts.0)) (present_before D own ts d parts.1)
 
--- a right atom whose tuple is gone is equal to a tuple that a write deletes
+-- A right atom whose tuple is gone is equal to a tuple that a write deletes.
 gone : (k : Known) (a : Pattern) (t : Fact) (own : List Change) (b : Bool) → is_some (learn_atom a t k) ≡ true → b ≡ true → inserted_after b own t ≡ false → list_any (deletes_match k a) own ≡ true
 gone k a t [] b s e f = absurd (both_ways b f e)
 gone k a t (Insert u ∷ ws) b s e f = gone k a t ws (same_fact t u || b) s (or_right (same_fact t u) b e) f

@@ -1,8 +1,8 @@
 -- The coarse law: the value of a query is that over the tuples of the relations that it mentions.
-use Rattle.std.specs.Prelude.{◌==◌, find, is_some, filter}
 use Rattle.std.proofs.Common.{◌≡◌, ℕ, zero, suc, ap, refl, sym, ◌∙◌, List, [], ◌∷◌, ◌++◌, map, Bool, true, false, not, ◌||◌, ◌&&◌, cond, length, Option, Some, None}
-use Rattle.std.specs.Option.{option_map, option_and_then}
 use Rattle.std.specs.List.{list_any, list_all, flat_map, slice_get}
+use Rattle.std.specs.Option.{option_map, option_and_then}
+use Rattle.std.specs.Prelude.{◌==◌, find, is_some, filter}
 use Rattle.std.proofs.lemmas.Bool.{false≢true, and_parts, eqb-true, eq-eqb}
 use Rattle.yt_model.specs.Values.{Fact}
 use Rattle.yt_model.specs.Repository.{Change, IsRepository, has, apply, inserted_after}
@@ -13,15 +13,15 @@ use Rattle.yt_model.specs.Violations.{Scope, in_scope, violated_at, violates, fi
 use Rattle.yt_model.specs.Queries.{Present, Violation, Specific, Occurs, Yes, No, Tuples, image_reply, violation_reply, scope_at, value}
 use Rattle.yt_model.specs.Mentions.{rule_mentions, is_mentioned}
 use Rattle.yt_model.specs.Laws.{CoarseLaw}
-use Rattle.yt_model.proofs.Sets.{has-apply, same_repository, apply_in_order, filter_in_order}
 use Rattle.yt_model.proofs.Bools.{both, or_left, or_right, differ}
+use Rattle.yt_model.proofs.Sets.{has-apply, same_repository, apply_in_order, filter_in_order}
+use Rattle.yt_model.proofs.Searches.{find_join, find_none, find_same, first_some, filter_within, filter_all}
 use Rattle.yt_model.proofs.Members.{has-filter}
 use Rattle.yt_model.proofs.Among.{find_under}
-use Rattle.yt_model.proofs.Searches.{find_join, find_none, find_same, first_some, filter_within, filter_all}
 
 -- ---- sets
 
--- two sets that agree where q holds still do after the same writes
+-- Two repositories that agree where q holds still do after the same writes.
 pub after_agree : (q : Fact → Bool) (D E : List Fact) (own : List Change) → IsRepository D → IsRepository E → filter q D ≡ filter q E → filter q (apply D own) ≡ filter q (apply E own)
 after_agree q D E own d e h =
     same_repository (filter q (apply D own)) (filter q (apply E own)) (filter_in_order q (apply D own) (apply_in_order D own d)) (filter_in_order q (apply E own) (apply_in_order E own e))
@@ -125,7 +125,7 @@ any_right : (p : Pattern → Bool) (xs ys : List Pattern) → list_any p ys ≡ 
 any_right p [] ys h = h
 any_right p (x ∷ xs) ys h = or_right (p x) (list_any p (xs ++ ys)) (any_right p xs ys h)
 
--- the atoms of a part of a list are mentioned by the list
+-- Where q holds of the tuples of every relation that the atoms have, it holds of each atom.
 has_relation : (q : Fact → Bool) (as' : List Pattern) → ((t : Fact) → list_any (λ a. a.relation == t.relation) as' ≡ true → q t ≡ true) → HasRelation q as'
 has_relation q [] h = tt
 has_relation q (a ∷ as') h = (λ t e. h t (or_left (a.relation == t.relation) (list_any (λ a. a.relation == t.relation) as') e), has_relation q as' (λ t e. h t (or_right (a.relation == t.relation) _ e)))

@@ -1,7 +1,7 @@
 -- Which mappings are in force: the tuples that say so, and what writes, substitutions and shifts do to them.
 use Rattle.std.proofs.Common.{◌≡◌, ℕ, zero, suc, ◌+◌, ap, refl, sym, ◌∙◌, subst, List, [], ◌∷◌, map, Bool, true, false, not, ◌||◌, ◌&&◌, Some, inl, inr, arith, pos}
-use Rattle.std.specs.Prelude.{◌==◌, pos}
 use Rattle.std.specs.List.{list_any, list_all, slice_get}
+use Rattle.std.specs.Prelude.{◌==◌, pos}
 use Rattle.std.proofs.lemmas.Bool.{or_cases}
 use Rattle.yt_model.specs.Values.{Datum, Number, Fact, same_fact, under}
 use Rattle.yt_model.specs.Repository.{Change, Insert, Delete, has, apply, inserted_after, inserts}

@@ -8,12 +8,12 @@ use Rattle.yt_model.specs.Mappings.{Rule, Binding, image_under, all_in, Holds}
 use Rattle.yt_model.specs.Matching.{Known, nothing_known, learn_all, extends}
 use Rattle.yt_model.specs.Violations.{Caused, Forward, in_scope}
 use Rattle.yt_model.specs.Caused.{Carried}
-use Rattle.yt_model.proofs.Atoms.{Leaves, image_moved}
 use Rattle.yt_model.proofs.Bools.{both, first_off, none_some}
 use Rattle.yt_model.proofs.Sets.{has-apply}
 use Rattle.yt_model.proofs.Learning.{Agrees, Means, all_means}
-use Rattle.yt_model.proofs.Violations.{violation_of}
 use Rattle.yt_model.proofs.Matches.{extends_decides}
+use Rattle.yt_model.proofs.Violations.{violation_of}
+use Rattle.yt_model.proofs.Atoms.{Leaves, image_moved}
 
 all_carried : (D E : List Fact) (f : Datum → Datum) → ((t : Fact) → has D t ≡ true → has E (under f t) ≡ true) → (ts : List Fact) → all_in D ts ≡ true → all_in E (map (under f) ts) ≡ true
 all_carried D E f c [] e = refl

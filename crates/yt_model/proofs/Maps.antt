@@ -1,8 +1,8 @@
 -- Maps of lists and options go through the words of lists.
-use Rattle.std.specs.Prelude.{find, is_some, filter}
 use Rattle.std.proofs.Common.{◌≡◌, ℕ, zero, suc, ap, refl, ◌∙◌, List, [], ◌∷◌, ◌++◌, map, Bool, true, false, ◌||◌, ◌&&◌, cond, length, Option, Some, None}
-use Rattle.std.specs.Option.{option_map}
 use Rattle.std.specs.List.{list_any, list_all, slice_get}
+use Rattle.std.specs.Option.{option_map}
+use Rattle.std.specs.Prelude.{find, is_some, filter}
 
 pub find_map : {A B : Type 0} (g : A → B) (p : B → Bool) (q : A → Bool) → ((x : A) → p (g x) ≡ q x) → (xs : List A) → find p (map g xs) ≡ option_map g (find q xs)
 find_map g p q h [] = refl

@@ -1,15 +1,15 @@
 -- Members of repositories: which there are, which pass a test, and which of them is the first.
 use Rattle.std.proofs.Common.{◌≡◌, ap, refl, sym, ◌∙◌, List, [], ◌∷◌, Bool, true, false, ◌||◌, ◌&&◌, cond, Some, None, inl, inr}
-use Rattle.std.specs.Prelude.{find, filter}
-use Rattle.std.specs.declared.cmp.Ordering.TheVariants.{Less}
 use Rattle.std.specs.List.{list_any, AllByRecursion}
 use Rattle.std.specs.List.Sorted.{IsStrictlySortedBy}
+use Rattle.std.specs.Prelude.{find, filter}
+use Rattle.std.specs.declared.cmp.Ordering.TheVariants.{Less}
 use Rattle.std.proofs.lemmas.Bool.{or_cases}
 use Rattle.yt_model.specs.Values.{Fact, fact_cmp, same_fact}
 use Rattle.yt_model.specs.Repository.{IsRepository, has}
 use Rattle.yt_model.proofs.Bools.{differ, or_left, or_right}
-use Rattle.yt_model.proofs.Searches.{all_weaker, head, find_head}
 use Rattle.yt_model.proofs.Sets.{same_exact, same_itself, same_repository, filter_in_order}
+use Rattle.yt_model.proofs.Searches.{all_weaker, head, find_head}
 
 pub one_in : (q : Fact → Bool) (D : List Fact) → list_any q D ≡ true → (t : Fact) × (has D t ≡ true) × (q t ≡ true)
 one_in q [] e = differ e

@@ -1,21 +1,21 @@
 -- What a range from a bound on begins with, as the first tuple of a relation that passes.
 use Rattle.std.proofs.Common.{◌≡◌, ℕ, ◌<◌, ◌≤◌, ap, refl, sym, ◌∙◌, List, [], ◌∷◌, Bool, true, false, ◌&&◌, cond, Some, None, Option, arith, inl, inr}
-use Rattle.std.specs.Prelude.{find}
-use Rattle.std.specs.declared.cmp.Ordering.{Ordering}
-use Rattle.std.specs.declared.cmp.Ordering.TheVariants.{Less, Equal, Greater}
-use Rattle.std.specs.Ordering.{is_lt, is_le, nat_cmp, ordering_then, MatchOrdering}
 use Rattle.std.specs.Cmp.Lexicographic.{slice_cmp}
 use Rattle.std.specs.List.{AllByRecursion}
 use Rattle.std.specs.List.Sorted.{IsStrictlySortedBy}
-use Rattle.std.proofs.lemmas.Cmp.{ranked}
+use Rattle.std.specs.Ordering.{is_lt, is_le, nat_cmp, ordering_then, MatchOrdering}
+use Rattle.std.specs.Prelude.{find}
+use Rattle.std.specs.declared.cmp.Ordering.{Ordering}
+use Rattle.std.specs.declared.cmp.Ordering.TheVariants.{Less, Equal, Greater}
 use Rattle.std.proofs.lemmas.Bool.{eq-eqb, ne_eqb, cases_eq}
+use Rattle.std.proofs.lemmas.Cmp.{ranked}
 use Rattle.yt_model.specs.Values.{Datum, Fact, datum_cmp, fact_cmp}
 use Rattle.yt_model.specs.Repository.{IsRepository}
 use Rattle.yt_model.specs.Cursors.{is_scanned, is_beyond, has_at, is_of, is_past, kept_if, first_of, next_of}
 use Rattle.yt_model.proofs.Bools.{differ, and-true}
 use Rattle.yt_model.proofs.Searches.{find_same}
 
--- where what passes q and fails p is followed by what fails p, the first that passes both is the first that passes q, if it passes p
+-- Where what passes q and fails p is followed by what fails p, the first that passes both is the first that passes q, if it passes p.
 module _ (p q : Fact → Bool) (late : (u v : Fact) → q u ≡ true → p u ≡ false → fact_cmp u v ≡ Less → p v ≡ false) where
   none_later : (u : Fact) → q u ≡ true → p u ≡ false → (D : List Fact) → AllByRecursion (λ v. fact_cmp u v ≡ Less) D → find (λ v. p v && q v) D ≡ None
   none_later u a b [] h = refl
@@ -35,7 +35,7 @@ module _ (p q : Fact → Bool) (late : (u v : Fact) → q u ≡ true → p u ≡
       by true e false f h = ap (λ a. cond a (Some u) None) f ∙ sym (none_later u e f D s.0)
       by false e c f h = h ∙ ap (λ a. cond a (Some u) (find (λ v. p v && q v) D)) (sym (and-false c))
 
--- what is not above has no greater relation
+-- What is not above has no greater relation.
 pub relation_le : (s t : Fact) → is_le (fact_cmp s t) ≡ true → s.relation ≤ t.relation
 relation_le s t = by (nat_cmp s.relation t.relation) (ranked s.relation t.relation _ refl)
   where
@@ -53,14 +53,14 @@ is_of-false r u h = ne_eqb u.relation r (λ e. omega (arith, e))
 is_of-above : (r : ℕ) (u : Fact) → r ≤ u.relation → is_of r u ≡ false → r < u.relation
 is_of-above r u h e = elim (cases_eq u.relation r) [ inl f ↦ differ (sym e ∙ eq-eqb u.relation r f) | inr n ↦ omega (arith, n) ]
 
--- the relation's place in the order: what passes q is of no lesser relation
+-- Where what passes q is of no lesser relation, what follows what is past the relation is past it too.
 late_of : (r : ℕ) (q : Fact → Bool) → ((u : Fact) → q u ≡ true → r ≤ u.relation) → (u v : Fact) → q u ≡ true → is_of r u ≡ false → fact_cmp u v ≡ Less → is_of r v ≡ false
 late_of r q up u v a b h =
     let x : r < u.relation = is_of-above r u (up u a) b in
     let y : u.relation ≤ v.relation = below_le u v h in
     is_of-false r v (omega arith)
 
--- above a tuple
+-- The tuple comes after t, as a range says it.
 abbrev pub above : Fact → Fact → Bool
 above t u = is_lt (fact_cmp t u) && true
 
@@ -74,7 +74,7 @@ first_above t D s =
     by u Equal f e = differ (sym (ap is_lt f) ∙ e)
     by u Greater f e = differ (sym (ap is_lt f) ∙ e)
 
--- from the least fact of a relation on
+-- The least tuple that a relation could have.
 abbrev pub least : ℕ → Fact
 least r = record { relation = r; values = [] }
 
@@ -90,7 +90,7 @@ at_relation r u Less m e = refl
 at_relation r u Equal m e = short u.values
 at_relation r u Greater m e = absurd (omega arith)
 
--- the tuples of the relation are from the least one on
+-- The tuples of the relation are from the least one on.
 pub from_least_of : (r : ℕ) (u : Fact) → (is_of r u && from_least r u) ≡ is_of r u
 from_least_of r u = elim (cases_eq u.relation r) [
   | inl e ↦ ap (λ b. is_of r u && (b && true)) (at_relation r u (nat_cmp r u.relation) (ranked r u.relation _ refl) e) ∙ and-true (is_of r u)
@@ -102,7 +102,7 @@ first_from r D s =
     find_first (is_of r) (from_least r) (late_of r (from_least r) (λ u e. relation_le (least r) u (sym (and-true (is_le (fact_cmp (least r) u))) ∙ e))) D s
     ∙ find_same (λ u. is_of r u && from_least r u) (is_of r) (from_least_of r) D
 
--- a scanned tuple is from the least one of the relation on
+-- A scanned tuple is from the least one of the relation on.
 pub scanned_from : (r c : ℕ) (d : Datum) (past : Option Fact) (u : Fact) → is_scanned r c d past u ≡ true → from_least r u ≡ true
 scanned_from r c d past u e = by (is_of r u) (from_least r u) (is_beyond past u && has_at c d u) (from_least_of r u) e
   where

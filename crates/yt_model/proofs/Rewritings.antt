@@ -5,8 +5,8 @@ use Rattle.std.proofs.lemmas.Bool.{false≢true}
 use Rattle.yt_model.specs.Values.{Fact, same_fact, under}
 use Rattle.yt_model.specs.Repository.{Change, Insert, Delete, has, apply, inserted_after}
 use Rattle.yt_model.specs.Violations.{Direction, Forward, Backward}
-use Rattle.yt_model.proofs.Sets.{has-apply}
 use Rattle.yt_model.specs.Caused.{is_delete, Carried, Rewriting, Kept, Keeping}
+use Rattle.yt_model.proofs.Sets.{has-apply}
 use Rattle.yt_model.proofs.Substitutions.{under_same, under_twice, keeps_none, keeps_twice}
 
 or_around : (s h b : Bool) → (h || (s || b)) ≡ ((s || h) || b)
@@ -83,7 +83,7 @@ carried_first D =
       leaves = λ t h n. under_same t;
     }
 
--- an insertion, or no write
+-- Insertions alone rewrite nothing.
 pub inserting : (E ts : List Fact) → Rewriting E (map Insert ts)
 inserting E ts =
     record {

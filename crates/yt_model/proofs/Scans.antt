@@ -1,14 +1,36 @@
 -- A scan of a set that may hold more than the repository finds what a scan of the repository finds.
 use Rattle.std.proofs.Common.{◌≡◌, ℕ, ap, refl, sym, ◌∙◌, List, Bool, true, false, ◌&&◌, cond, Option, Some, None}
-use Rattle.std.specs.Prelude.{find, filter, ◌==◌}
 use Rattle.std.specs.Ordering.{is_lt}
+use Rattle.std.specs.Prelude.{find, filter, ◌==◌}
 use Rattle.yt_model.specs.Values.{Datum, Fact, fact_cmp}
 use Rattle.yt_model.specs.Repository.{IsRepository, has}
 use Rattle.yt_model.specs.Cursors.{is_of, has_at, is_beyond, is_scanned, scan_of, first_of, next_of}
 use Rattle.yt_model.proofs.Bools.{differ}
-use Rattle.yt_model.proofs.Searches.{find_filter}
+use Rattle.yt_model.proofs.Searches.{find_filter, find_same}
 use Rattle.yt_model.proofs.Members.{find_in}
 use Rattle.yt_model.proofs.Cursors.{rest_of, begins, moves, next_past, first_is_of, next_is_of, advance}
+
+-- ---- a scan as a cursor
+
+-- The tuple is of relation r and has d in column c.
+abbrev pub is_at : ℕ → ℕ → Datum → Fact → Bool
+is_at r c d u = is_of r u && has_at c d u
+
+-- A scan from nowhere finds the first such tuple, and a scan past a tuple the next. So what holds of cursors holds of scans.
+pub scan_begins : (D : List Fact) (r c : ℕ) (d : Datum) → scan_of D r c d None ≡ find (is_at r c d) D
+scan_begins D r c d = refl
+
+pub scan_moves : (D : List Fact) (r c : ℕ) (d : Datum) (t : Fact) → scan_of D r c d (Some t) ≡ find (λ u. is_at r c d u && is_lt (fact_cmp t u)) D
+scan_moves D r c d t = find_same (is_scanned r c d (Some t)) (λ u. is_at r c d u && is_lt (fact_cmp t u)) (λ u. by (is_of r u) (is_lt (fact_cmp t u)) (has_at c d u)) D
+  where
+    by : (a b x : Bool) → (a && (b && x)) ≡ ((a && x) && b)
+    by true true true = refl
+    by true true false = refl
+    by true false true = refl
+    by true false false = refl
+    by false b x = refl
+
+-- ---- a scan of a larger set
 
 -- Where a scan begins: past the given tuple if it is of the relation, else at the relation's first.
 abbrev pub start_of : List Fact → ℕ → Option Fact → Option Fact
@@ -28,7 +50,7 @@ pub scanned_in : (r c : ℕ) (d : Datum) (past : Option Fact) (D G : List Fact) 
     → find (λ u. is_scanned r c d past u && has D u) G ≡ scan_of D r c d past
 scanned_in r c d past D G s t h = find_in (is_scanned r c d past) D G s t (λ u f a. h u (scanned_has r c d past u f) a)
 
--- from where the scan begins on
+-- A scan may begin where `start_of` says.
 pub from_start : (r c : ℕ) (d : Datum) (past : Option Fact) (D G : List Fact) (o : Option Fact) → IsRepository G → o ≡ start_of G r past
     → find (λ u. is_scanned r c d past u && has D u) (rest_of (is_of r) G o) ≡ find (λ u. is_scanned r c d past u && has D u) G
 from_start r c d past D G o s e = ap (λ o. find (λ u. is_scanned r c d past u && has D u) (rest_of (is_of r) G o)) e ∙ at past

@@ -1,4 +1,6 @@
 -- Over a repository where the mappings in force hold, queries have one value in the full and the caused scope.
+use Rattle.std.proofs.Common.{◌||◌, ◌⊎◌, inl, inr, ◌≡◌, ℕ, ap, refl, sym, ◌∙◌, List, Bool, true, false, not, ◌&&◌, cond, length, Option, Some, None}
+use Rattle.std.specs.List.{list_any, slice_get}
 use Rattle.yt_model.specs.Values.{Fact}
 use Rattle.yt_model.specs.Repository.{Change, apply, inserts}
 use Rattle.yt_model.specs.Mappings.{Rule, all_in, Holds, force, in_force}
@@ -11,11 +13,9 @@ use Rattle.yt_model.proofs.Bools.{differ}
 use Rattle.yt_model.proofs.Searches.{all_weaker, all_at, find_alike}
 use Rattle.yt_model.proofs.Among.{lists_in}
 use Rattle.yt_model.proofs.Atoms.{leaves_left, leaves_right}
-use Rattle.yt_model.proofs.Backward.{caused_backward}
 use Rattle.yt_model.proofs.Forward.{caused_forward}
+use Rattle.yt_model.proofs.Backward.{caused_backward}
 use Rattle.yt_model.proofs.Force.{holds_at, force_from, deletes_insert_none}
-use Rattle.std.proofs.Common.{◌||◌, ◌⊎◌, inl, inr, ◌≡◌, ℕ, ap, refl, sym, ◌∙◌, List, Bool, true, false, not, ◌&&◌, cond, length, Option, Some, None}
-use Rattle.std.specs.List.{list_any, slice_get}
 
 caused : (d : Direction) (m : Rule) (D : List Fact) (own : List Change) → Kept d D own → HasNoNull m → Holds m D
     → (image : List Fact) (k : Known) → learn_all m.left image nothing_known ≡ Some k → all_in (apply D own) image ≡ true → extends k m.right (apply D own) ≡ false

@@ -1,7 +1,7 @@
 -- Lists of anything: what holds of each item, of some item, of the first that passes, and of those that pass.
 use Rattle.std.proofs.Common.{◌≡◌, ℕ, zero, suc, ap, refl, sym, ◌∙◌, subst, List, [], ◌∷◌, ◌++◌, Bool, true, false, ◌||◌, ◌&&◌, cond, Option, Some, None}
-use Rattle.std.specs.Prelude.{find, filter, is_some}
 use Rattle.std.specs.List.{list_any, list_all, slice_get, AllByRecursion}
+use Rattle.std.specs.Prelude.{find, filter, is_some}
 use Rattle.std.proofs.lemmas.Bool.{and_parts}
 use Rattle.yt_model.proofs.Bools.{differ, none_some, some_same, both}
 

@@ -1,13 +1,13 @@
 -- What is in a repository after writes, and that its tuples stay in order.
 use Rattle.std.proofs.Common.{◌≡◌, ap, refl, sym, ◌∙◌, List, [], ◌∷◌, Bool, true, false, not, ◌||◌, ◌&&◌, cond}
-use Rattle.std.specs.declared.cmp.Ordering.{Ordering}
-use Rattle.std.specs.declared.cmp.Ordering.TheVariants.{Less, Equal, Greater}
-use Rattle.std.specs.Ordering.{is_eq, match_ordering, ordering_reverse}
-use Rattle.std.specs.Prelude.{filter}
-use Rattle.std.specs.List.{AllByRecursion}
-use Rattle.std.specs.List.Sorted.{IsStrictlySortedBy}
 use Rattle.std.specs.BTreeSet.{insert_key}
 use Rattle.std.specs.Cmp.{tied_itself, Equal-is, eq_by_cmp_equiv}
+use Rattle.std.specs.List.{AllByRecursion}
+use Rattle.std.specs.List.Sorted.{IsStrictlySortedBy}
+use Rattle.std.specs.Ordering.{is_eq, match_ordering, ordering_reverse}
+use Rattle.std.specs.Prelude.{filter}
+use Rattle.std.specs.declared.cmp.Ordering.{Ordering}
+use Rattle.std.specs.declared.cmp.Ordering.TheVariants.{Less, Equal, Greater}
 use Rattle.std.proofs.lemmas.Map.Lookups.{btree_set_from_contains}
 use Rattle.yt_model.specs.Values.{Fact, fact_cmp, same_fact}
 use Rattle.yt_model.specs.Repository.{Change, Insert, Delete, IsRepository, has, change, apply, inserted_after}
@@ -71,7 +71,7 @@ pub has-change : (D : List Fact) (w : Change) (ws : List Change) (s : Fact) → 
 has-change D (Insert t) ws s = ap (λ b. inserted_after b ws s) (has-insert D t s)
 has-change D (Delete t) ws s = ap (λ b. inserted_after b ws s) (has-delete D t s)
 
--- a tuple is there after the writes where its last write is an insertion, or where it was there and none wrote it
+-- A tuple is there after the writes where its last write is an insertion, or where it was there and none wrote it.
 pub has-apply : (D : List Fact) (ws : List Change) (s : Fact) → has (apply D ws) s ≡ inserted_after (has D s) ws s
 has-apply D [] s = refl
 has-apply D (w ∷ ws) s = has-apply (change D w) ws s ∙ has-change D w ws s

@@ -1,20 +1,19 @@
 -- A shift of attempt numbers keeps the order of values and tuples, so it goes through repositories.
 use Rattle.std.proofs.Common.{◌≡◌, ℕ, ◌+◌, ap, refl, sym, ◌∙◌, List, [], ◌∷◌, map, not, ◌||◌, arith}
+use Rattle.std.specs.BTreeSet.{insert_key}
+use Rattle.std.specs.Cmp.Lexicographic.{slice_cmp}
+use Rattle.std.specs.Ordering.{nat_cmp, ordering_then, is_eq, match_ordering}
 use Rattle.std.specs.Prelude.{filter}
 use Rattle.std.specs.declared.cmp.Ordering.{Ordering}
 use Rattle.std.specs.declared.cmp.Ordering.TheVariants.{Less, Equal, Greater}
-use Rattle.std.specs.Ordering.{nat_cmp, ordering_then, is_eq, match_ordering}
-use Rattle.std.specs.Cmp.Lexicographic.{slice_cmp}
-use Rattle.std.specs.BTreeSet.{insert_key}
 use Rattle.std.proofs.lemmas.Bool.Decides.{nat_tests}
 use Rattle.std.proofs.lemmas.Map.Lookups.{exact_unsigned}
-use Rattle.yt_model.specs.Values.{NullName, Datum, Number, Text, Unknown, Fact, null_cmp, datum_cmp, fact_cmp, same_fact, outer_datum}
-use Rattle.yt_model.specs.Queries.{is_named, holds_null}
-use Rattle.yt_model.specs.Specific.{is_constant}
-use Rattle.yt_model.proofs.Maps.{any_map, filter_map}
-use Rattle.yt_model.specs.Values.{same_datum, outer}
+use Rattle.yt_model.specs.Values.{NullName, Datum, Number, Text, Unknown, Fact, null_cmp, datum_cmp, fact_cmp, same_fact, outer_datum, same_datum, outer}
 use Rattle.yt_model.specs.Repository.{Change, Insert, Delete, has, apply}
+use Rattle.yt_model.specs.Specific.{is_constant}
+use Rattle.yt_model.specs.Queries.{is_named, holds_null}
 use Rattle.yt_model.specs.Shifts.{shift, shift_fact, shift_change}
+use Rattle.yt_model.proofs.Maps.{any_map, filter_map}
 
 shifted_cmp : (a b k : ℕ) → nat_cmp (a + k) (b + k) ≡ nat_cmp a b
 shifted_cmp a b k = grind (arith, nat_tests)

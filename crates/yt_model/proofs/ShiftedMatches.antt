@@ -1,8 +1,8 @@
 -- A shift of attempt numbers goes through matching.
-use Rattle.std.specs.Prelude.{◌==◌, find, is_some}
 use Rattle.std.proofs.Common.{◌≡◌, ℕ, zero, suc, ap, refl, sym, ◌∙◌, List, [], ◌∷◌, ◌++◌, map, Bool, true, false, cond, length, Option, Some, None}
-use Rattle.std.specs.Option.{option_and_then, option_map}
 use Rattle.std.specs.List.{flat_map}
+use Rattle.std.specs.Option.{option_and_then, option_map}
+use Rattle.std.specs.Prelude.{◌==◌, find, is_some}
 use Rattle.yt_model.specs.Values.{Datum, Fact, same_datum}
 use Rattle.yt_model.specs.Mappings.{Slot, Var, Const, Pattern}
 use Rattle.yt_model.specs.Matching.{Known, learn, learn_at, learn_terms, learn_atom, learn_all, lists_of, extends}

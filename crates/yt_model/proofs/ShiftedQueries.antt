@@ -1,22 +1,21 @@
 -- A shift of attempt numbers goes through violations and every query.
-use Rattle.std.specs.Prelude.{is_some, filter}
 use Rattle.std.proofs.Common.{◌≡◌, ℕ, ap, refl, ◌∙◌, List, [], ◌∷◌, map, Bool, true, false, not, ◌||◌, ◌&&◌, cond, length, Option, Some, None}
-use Rattle.std.specs.Option.{option_map}
 use Rattle.std.specs.List.{list_any, slice_get}
+use Rattle.std.specs.Option.{option_map}
+use Rattle.std.specs.Prelude.{is_some, filter}
 use Rattle.yt_model.specs.Values.{Fact, same_fact}
-use Rattle.yt_model.specs.Mappings.{Pattern, Rule}
-use Rattle.yt_model.specs.Matching.{Known, nothing_known, learn_atom, learn_all}
-use Rattle.yt_model.specs.Shifts.{shift, shift_fact, shift_change, shift_query, shift_reply}
-use Rattle.yt_model.proofs.Maps.{any_map, some_map, filter_map}
-use Rattle.yt_model.proofs.Atoms.{LeavesTerms, Leaves, leaves_left, leaves_right}
 use Rattle.yt_model.specs.Repository.{Change, Insert, Delete, has, apply, inserted_after, inserts}
-use Rattle.yt_model.specs.Mappings.{force}
+use Rattle.yt_model.specs.Mappings.{Pattern, Rule, force}
+use Rattle.yt_model.specs.Matching.{Known, nothing_known, learn_atom, learn_all}
 use Rattle.yt_model.specs.Specific.{more_specific}
 use Rattle.yt_model.specs.Violations.{Forward, Backward, Scope, Every, Caused, deletes_match, in_scope, violated_at, violates, first_violation}
 use Rattle.yt_model.specs.Queries.{holds_null, image_reply, violation_reply, scope_at, Query, Present, Violation, Specific, Occurs, Yes, No, Tuples, value}
-use Rattle.yt_model.specs.Caused.{KeepsConstants}
+use Rattle.yt_model.specs.Shifts.{shift, shift_fact, shift_change, shift_query, shift_reply}
 use Rattle.yt_model.specs.Laws.{HasNoNull, HaveNoNulls}
+use Rattle.yt_model.specs.Caused.{KeepsConstants}
 use Rattle.yt_model.proofs.Searches.{all_at}
+use Rattle.yt_model.proofs.Maps.{any_map, some_map, filter_map}
+use Rattle.yt_model.proofs.Atoms.{LeavesTerms, Leaves, leaves_left, leaves_right}
 use Rattle.yt_model.proofs.Shifted.{same_fact_shifts, has_shifts, apply_shifts, holds_null_shifts}
 use Rattle.yt_model.proofs.ShiftedMatches.{shift_known, learn_atom_shifts, learn_all_shifts, found_shifts, extends_shifts}
 use Rattle.yt_model.proofs.ShiftedSpecific.{specific_shifts}

@@ -1,16 +1,14 @@
 -- A shift of attempt numbers goes through more specific and the unifier.
-use Rattle.std.specs.Prelude.{◌==◌, find}
 use Rattle.std.proofs.Common.{◌≡◌, ℕ, zero, suc, ap, refl, ◌∙◌, List, [], ◌∷◌, map, not, ◌||◌, ◌&&◌, cond, length, Option, Some, None}
-use Rattle.std.specs.Option.{option_map}
 use Rattle.std.specs.List.{list_all, zip}
-use Rattle.yt_model.specs.Values.{Datum, Fact, same_datum}
-use Rattle.yt_model.specs.Shifts.{shift, shift_fact}
-use Rattle.yt_model.proofs.Maps.{find_map, all_map, length_map, cond_map}
-use Rattle.std.specs.Prelude.{unwrap_or}
+use Rattle.std.specs.Option.{option_map}
 use Rattle.std.specs.Ordering.{is_lt}
-use Rattle.yt_model.specs.Values.{datum_cmp}
+use Rattle.std.specs.Prelude.{◌==◌, find, unwrap_or}
+use Rattle.yt_model.specs.Values.{Datum, Fact, same_datum, datum_cmp}
 use Rattle.yt_model.specs.Specific.{is_constant, graph, agree, more_specific, image_of}
 use Rattle.yt_model.specs.Unifier.{after, lesser, least_after, unifier}
+use Rattle.yt_model.specs.Shifts.{shift, shift_fact}
+use Rattle.yt_model.proofs.Maps.{find_map, all_map, length_map, cond_map}
 use Rattle.yt_model.proofs.Shifted.{shift_keeps, same_datum_shifts, is_constant_shifts}
 
 module _ (n : ℕ → ℕ) where

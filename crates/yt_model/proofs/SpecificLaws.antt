@@ -1,8 +1,8 @@
 -- More specific is reflexive and transitive.
 use Rattle.std.proofs.Common.{ap, refl, ◌∙◌, map}
-use Rattle.yt_model.proofs.Substitutions.{map_same, map_twice}
 use Rattle.yt_model.specs.Values.{Fact}
 use Rattle.yt_model.specs.Specific.{IsMoreSpecific}
+use Rattle.yt_model.proofs.Substitutions.{map_same, map_twice}
 
 pub specific_itself : (t : Fact) → IsMoreSpecific t t
 specific_itself t = record { one_relation = refl; to = λ d. d; numbers = λ _. refl; words = λ _. refl; moves = map_same t.values }

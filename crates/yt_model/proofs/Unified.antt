@@ -1,24 +1,24 @@
 -- The test decides what is more specific, and the unifier makes the two tuples one and leaves what is no null of the first.
-use Rattle.yt_model.proofs.Bools.{both, or_left, or_right, first_off}
-use Rattle.std.specs.Prelude.{ℤ, ◌==◌, find, unwrap_or}
+use Rattle.std.proofs.Common.{◌≡◌, ℕ, zero, suc, ap, refl, sym, ◌∙◌, List, [], ◌∷◌, map, Bool, true, false, not, ◌||◌, ◌&&◌, cond, length, Option, Some, None, inl, inr, arith}
 use Rattle.std.specs.Bool.{Decides}
+use Rattle.std.specs.Cmp.{eq_by_cmp_equiv}
+use Rattle.std.specs.List.{list_any, list_all, zip}
 use Rattle.std.specs.Option.{option_map}
 use Rattle.std.specs.Ordering.{is_lt}
-use Rattle.std.proofs.Common.{◌≡◌, ℕ, zero, suc, ap, refl, sym, ◌∙◌, List, [], ◌∷◌, map, Bool, true, false, not, ◌||◌, ◌&&◌, cond, length, Option, Some, None, inl, inr, arith}
-use Rattle.std.specs.List.{list_any, list_all, zip}
-use Rattle.std.specs.Cmp.{eq_by_cmp_equiv}
+use Rattle.std.specs.Prelude.{ℤ, ◌==◌, find, unwrap_or}
 use Rattle.std.proofs.lemmas.Bool.{false≢true, and_parts, eqb-true, eq-eqb}
 use Rattle.std.proofs.lemmas.List.{length-map}
 use Rattle.yt_model.specs.Values.{Datum, Number, Text, Unknown, Fact, datum_cmp, same_datum, under}
 use Rattle.yt_model.specs.Specific.{IsMoreSpecific, is_constant, graph, agree, more_specific, image_of}
 use Rattle.yt_model.specs.Unifier.{after, lesser, least_after, unifier}
+use Rattle.yt_model.specs.Laws.{UnifierUnites}
+use Rattle.yt_model.specs.Caused.{KeepsConstants}
+use Rattle.yt_model.proofs.Bools.{both, or_left, or_right, first_off}
 use Rattle.yt_model.proofs.Order.{datum_total}
+use Rattle.yt_model.proofs.Searches.{all_first, all_second}
 use Rattle.yt_model.proofs.Learning.{same_datum_exact, same_datum_itself}
 use Rattle.yt_model.proofs.Substitutions.{map_twice, map_each, constant_left}
-use Rattle.yt_model.specs.Laws.{UnifierUnites}
 use Rattle.yt_model.proofs.Walks.{among, same_end}
-use Rattle.yt_model.proofs.Searches.{all_first, all_second}
-use Rattle.yt_model.specs.Caused.{KeepsConstants}
 
 abbrev pub Graph : Type 0
 Graph = List (Datum × Datum)
@@ -105,7 +105,7 @@ self_found h [] into = refl
 self_found h (q ∷ g) into =
     both _ _ (into q.0 (or_left (same_datum q.0 q.0) _ (same_datum_itself q.0))) (self_found h g (λ x e. into x (or_right (same_datum q.0 x) _ e)))
 
--- the graph takes the first tuple to the second
+-- The images take the first tuple to the second.
 pub image_is : (s t : Fact) → more_specific s t ≡ true → map (image_of t s) t.values ≡ s.values
 image_is s t e = let p = parts_of s t e in found_each (graph t s) t.values s.values p.length p.agrees (self_found (graph t s) (graph t s) (λ x h. h))
 
@@ -168,14 +168,14 @@ least_fixed g x e (suc n) = ap (λ y. lesser x (least_after n g y)) e ∙ ap (le
 fixed : (t s : Fact) (x : Datum) → image_of t s x ≡ x → unifier t s x ≡ x
 fixed t s x e = ap (least_after (length t.values) (image_of t s)) (after_fixed (image_of t s) x e (length t.values)) ∙ least_fixed (image_of t s) x e (length t.values)
 
--- what stands nowhere in t stays
+-- What stands nowhere in t stays.
 pub unifier_others : (t s : Fact) (x : Datum) → among t.values x ≡ false → unifier t s x ≡ x
 unifier_others t s x e = fixed t s x (not_found x t.values s.values e)
 
 pub unifier_constants : (t s : Fact) → more_specific s t ≡ true → KeepsConstants (unifier t s)
 unifier_constants t s e = (λ i. fixed t s (Number i) (image_constants s t e (Number i) refl), λ w. fixed t s (Text w) (image_constants s t e (Text w) refl))
 
--- the unifier makes the two tuples one
+-- The unifier makes the two tuples one.
 pub unified : (s t : Fact) → more_specific s t ≡ true → under (unifier t s) s ≡ under (unifier t s) t
 unified s t e =
     let values : map (unifier t s) s.values ≡ map (unifier t s) t.values =

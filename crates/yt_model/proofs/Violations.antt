@@ -1,26 +1,25 @@
 -- `violates` decides `IsViolation`, and the first violation is the least one.
-use Rattle.yt_model.proofs.Bools.{none_some, some_same, and-true}
-use Rattle.std.proofs.Common.{◌≡◌, ℕ, ap, refl, sym, ◌∙◌, subst, List, [], ◌∷◌, Bool, true, false, not, cond, length, Option, Some, None}
-use Rattle.std.specs.Prelude.{find, is_some}
+use Rattle.std.proofs.Common.{◌≡◌, ℕ, ap, refl, sym, ◌∙◌, subst, List, [], ◌∷◌, Bool, true, false, not, cond, length, Option, Some, None, inl, inr}
 use Rattle.std.specs.Bool.{Decides}
+use Rattle.std.specs.Cmp.{IsTotalOrder, tied_itself}
 use Rattle.std.specs.List.{list_any, AllByRecursion}
 use Rattle.std.specs.List.Sorted.{IsStrictlySortedBy}
+use Rattle.std.specs.Ordering.{is_eq, is_gt}
+use Rattle.std.specs.Prelude.{find, is_some}
 use Rattle.std.specs.declared.cmp.Ordering.{Ordering}
 use Rattle.std.specs.declared.cmp.Ordering.TheVariants.{Less}
-use Rattle.std.specs.Ordering.{is_eq, is_gt}
-use Rattle.std.specs.Cmp.{IsTotalOrder, tied_itself}
 use Rattle.std.proofs.lemmas.Bool.{false≢true, and_parts, or_cases, both_ways, not-true}
-use Rattle.std.proofs.Common.{inl, inr}
 use Rattle.yt_model.specs.Values.{Fact}
 use Rattle.yt_model.specs.Repository.{IsRepository, Change}
 use Rattle.yt_model.specs.Mappings.{Rule, Binding, image_under, all_in, IsViolation, Holds}
 use Rattle.yt_model.specs.Matching.{Known, nothing_known, learn_all, lists_of, extends}
 use Rattle.yt_model.specs.Violations.{Every, violates, violated_at, first_violation, IsFirstViolation}
-use Rattle.yt_model.proofs.Lists.{images_cmp, lists_in_order}
+use Rattle.yt_model.proofs.Bools.{none_some, some_same, and-true}
 use Rattle.yt_model.proofs.Searches.{found_any, found_passes}
+use Rattle.yt_model.proofs.Lists.{images_cmp, lists_in_order}
 use Rattle.yt_model.proofs.Among.{any_from_passing, all_present, same_image, same_image_exact, images_total}
-use Rattle.yt_model.proofs.Matches.{extends_decides, known_or_zero, agrees_itself, length-image}
 use Rattle.yt_model.proofs.Learning.{Agrees, Means, all_means}
+use Rattle.yt_model.proofs.Matches.{extends_decides, known_or_zero, agrees_itself, length-image}
 
 -- ---- violations
 
@@ -62,7 +61,7 @@ violates_decides m own D image a = (
 
 -- ---- the least
 
--- none that passes is below the one that is found
+-- None that passes is below the one that is found.
 least_found : {K : Type 0} (R : K → K → Ordering) (o : IsTotalOrder R) (p : K → Bool) (xs : List K) (x : K) → IsStrictlySortedBy R xs → find p xs ≡ Some x → AllByRecursion (λ y. p y ≡ true → is_gt (R x y) ≡ false) xs
 unfolding IsStrictlySortedBy
 least_found R o p [] x s e = tt

@@ -1,23 +1,23 @@
 -- The end of a walk along a function that moves only values of a list is the end of the walk from the next value.
-use Rattle.yt_model.proofs.Bools.{both}
 use Rattle.std.proofs.Common.{◌≡◌, ℕ, zero, suc, ◌-◌, ◌<◌, ◌≤◌, ap, refl, sym, ◌∙◌, subst, List, [], ◌∷◌, Bool, true, false, not, ◌||◌, ◌&&◌, cond, length, inl, inr, ◌⊎◌, arith}
+use Rattle.std.specs.Cmp.{tied_itself, eq_by_cmp_equiv}
+use Rattle.std.specs.List.{list_any, list_all}
+use Rattle.std.specs.Ordering.{is_lt, is_gt, ordering_reverse}
 use Rattle.std.specs.Prelude.{filter}
 use Rattle.std.specs.declared.cmp.Ordering.{Ordering}
 use Rattle.std.specs.declared.cmp.Ordering.TheVariants.{Less, Equal, Greater}
-use Rattle.std.specs.Ordering.{is_lt, is_gt, ordering_reverse}
-use Rattle.std.specs.List.{list_any, list_all}
-use Rattle.std.specs.Cmp.{tied_itself, eq_by_cmp_equiv}
 use Rattle.std.proofs.lemmas.Bool.{false≢true, or_cases, and_parts, both_ways, cases_lt}
 use Rattle.std.proofs.lemmas.Cmp.{upto}
 use Rattle.yt_model.specs.Values.{Datum, datum_cmp, same_datum}
 use Rattle.yt_model.specs.Unifier.{after, least_after, lesser}
+use Rattle.yt_model.proofs.Bools.{both}
 use Rattle.yt_model.proofs.Order.{datum_total, datum_exact}
 use Rattle.yt_model.proofs.Learning.{same_datum_exact, same_datum_itself}
 
 abbrev pub among : List Datum → Datum → Bool
 among S x = list_any (same_datum x) S
 
--- some value stands twice
+-- Some value stands twice.
 abbrev pub Repeats : List Datum → Type 0
 Repeats [] = ⊥
 Repeats (w ∷ ws) = (among ws w ≡ true) ⊎ Repeats ws
@@ -98,7 +98,7 @@ module _ (g : Datum → Datum) where
   after_split (suc i) zero x h = absurd (omega arith)
   after_split (suc i) (suc n) x h = let e : n - i ≡ suc n - suc i = omega arith in after_split i n (g x) (omega arith) ∙ ap (λ k. after k g (after i g (g x))) e
 
-  -- y comes again after p steps, and p is no more than n
+  -- The value comes again after some steps, no more than n.
   pub record Periodic (n : ℕ) (y : Datum) : Type 0 where
     pub period : ℕ
     pub some : 1 ≤ period
@@ -225,7 +225,7 @@ module _ (g : Datum → Datum) where
                     subst (λ (z : Datum). NotAbove (least_after n g y) z) (sym back ∙ ap (λ k. after k g (g y)) (sym same)) (below_each n (suc n - p.period) y (omega arith))
               ]
 
--- the end of the walk from x is that of the walk from the value after x
+-- The end of the walk from x is that of the walk from the value after x.
 pub same_end : (g : Datum → Datum) (S : List Datum) → ((x : Datum) → among S x ≡ false → g x ≡ x) → (x : Datum)
     → least_after (length S) g (after (length S) g (g x)) ≡ least_after (length S) g (after (length S) g x)
 same_end g S stays x = ap (least_after (length S) g) (after_next g (length S) x) ∙ same_least g (length S) (after (length S) g x) (comes_round g S stays x)

@@ -113,6 +113,8 @@ pub record UnifierWorked : Type 0 where
   pub chain : under (unifier (T (null 0 1) (null 0 2) (null 0 3)) (T (null 0 2) (null 0 3) (num 5))) (T (null 0 1) (null 0 2) (null 0 3)) ≡ T (num 5) (num 5) (num 5)
   -- A walk into a cycle ends at the least null of the cycle, not of the walk.
   pub into_cycle : under (unifier (T (null 0 1) (null 0 2) (null 0 3)) (T (null 0 3) (null 0 3) (null 0 2))) (T (null 0 1) (null 0 2) (null 0 3)) ≡ T (null 0 2) (null 0 2) (null 0 2)
+  -- Also where the walk goes a long way to the cycle.
+  pub long_way : unifier (fact 4 (null 0 1 ∷ null 0 2 ∷ null 0 3 ∷ null 0 4 ∷ [])) (fact 4 (null 0 2 ∷ null 0 3 ∷ null 0 4 ∷ null 0 3 ∷ [])) (null 0 1) ≡ null 0 3
   pub others_stay : unifier (R (null 0 1) (num 2)) (R (num 1) (num 2)) (null 0 7) ≡ null 0 7
 
 -- ---- queries
@@ -122,7 +124,7 @@ pub record QueriesWorked : Type 0 where
   pub absent : value [] (Present (A (num 1))) (A (null_by 1 0 1) ∷ []) [] Every ≡ No
   pub specifics : value [] (Specific (R (num 1) (null 1 1))) (A (num 1) ∷ R (num 1) (num 2) ∷ R (num 1) (null 0 1) ∷ R (num 2) (num 2) ∷ []) [] Every ≡ Tuples (R (num 1) (num 2) ∷ R (num 1) (null 0 1) ∷ [])
   -- The attempt of a null does not count.
-  pub occurrences : value [] (Occurs 1 2) (A (null_by 3 1 2) ∷ R (num 1) (null 1 1) ∷ R (null 1 2) (num 1) ∷ []) [] Every ≡ Tuples (A (null_by 3 1 2) ∷ R (null 1 2) (num 1) ∷ [])
+  pub occurrences : value [] (Occurs 1 2) (A (null_by 3 1 2) ∷ R (num 1) (null 1 1) ∷ R (null 0 2) (num 1) ∷ R (null 1 2) (num 1) ∷ []) [] Every ≡ Tuples (A (null_by 3 1 2) ∷ R (null 1 2) (num 1) ∷ [])
   pub violation : value (one ∷ []) (Violation 0) (A (num 1) ∷ []) [] Every ≡ Image (A (num 1) ∷ [])
   pub none_caused : value (one ∷ []) (Violation 0) (A (num 1) ∷ []) [] (Caused Forward) ≡ Nothing
   -- A mapping that the own writes put in force is looked at whole.
