@@ -5,11 +5,16 @@ use Rattle.std.specs.Cmp.{IsTotalOrder, Equal-is, tied_itself}
 use Rattle.std.specs.declared.cmp.Ordering.{Ordering}
 use Rattle.std.specs.declared.cmp.Ordering.TheVariants.{Equal}
 use Rattle.std.specs.Ordering.{is_eq}
-use Rattle.yt_model.specs.Values.{Datum, Fact, same_datum, same_fact}
-use Rattle.yt_base.specs.Order.{datum_total, datum_exact, fact_total, fact_exact}
+use Rattle.yt_model.specs.Values.{NullName, Datum, Fact, same_datum, same_fact}
+use Rattle.yt_model.proofs.Order.{null_total, null_exact, datum_total, datum_exact, fact_total, fact_exact}
+use Rattle.yt_base.specs.Maps.{same_null}
 
 exact : {K : Type 0} {R : K → K → Ordering} → IsTotalOrder R → ((x y : K) → R x y ≡ Equal → x ≡ y) → (x y : K) → Decides (is_eq (R x y)) (x ≡ y)
 exact {R = R} total ties x y = (λ e. ties x y ((Equal-is (R x y)).0 e), λ e. ap is_eq (ap (R x) (sym e) ∙ tied_itself total x))
+
+-- Whether two nulls are the same is whether they are one.
+pub same_null_decides : (m n : NullName) → Decides (same_null m n) (m ≡ n)
+same_null_decides = exact null_total null_exact
 
 -- Whether two values are the same is whether they are one.
 pub same_datum_decides : (x y : Datum) → Decides (same_datum x y) (x ≡ y)

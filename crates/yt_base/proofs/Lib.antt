@@ -2,3 +2,5 @@ pub mod Along
 pub mod Iterated
 pub mod Exact
 pub mod OuterForms
+pub mod Known
+pub mod Images

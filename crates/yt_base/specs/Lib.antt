@@ -1,3 +1,3 @@
 pub mod Listed
 pub mod Meanings
-pub mod Order
+pub mod Maps

@@ -1,5 +1,6 @@
 //! Copies, which take memory.
-ghost use Rattle.std.specs.Prelude.{◌≡◌, ℕ, List, map, IfOk};
+ghost use Rattle.std.specs.Prelude.{◌≡◌, ℕ, List, Option, map, IfOk};
+ghost use Rattle.std.specs.Option.{option_map};
 
 use crate::lists::List;
 use std::alloc::Global;
@@ -23,6 +24,29 @@ impl TryCopy for u8 {
 
     fn copy(&self, _alloc: Global) -> Result<u8, Memory> {
         Ok(*self)
+    }
+}
+
+impl TryCopy for u32 {
+    ghost Meaning = { ℕ };
+
+    ghost meaning = { λ n. n };
+
+    fn copy(&self, _alloc: Global) -> Result<u32, Memory> {
+        Ok(*self)
+    }
+}
+
+impl<T: TryCopy> TryCopy for Option<T> {
+    ghost Meaning = { Option T.Meaning };
+
+    ghost meaning = { option_map T.meaning };
+
+    fn copy(&self, alloc: Global) -> Result<Option<T>, Memory> {
+        match self {
+            Some(item) => Ok(Some(item.copy(alloc)?)),
+            None => Ok(None),
+        }
     }
 }
 

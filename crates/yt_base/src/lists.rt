@@ -1,5 +1,5 @@
 //! A list of items, seen as its items and the room that is left for more.
-ghost use Rattle.std.specs.Prelude.{◌≡◌, ℕ, ◌+◌, ◌≤◌, ◌↔◌, [], ◌∷◌, ◌++◌, length, slice_get, IsTrue, IsNone, IfSome, IfNone, OnOk, OnErr, IfErr, IsOk};
+ghost use Rattle.std.specs.Prelude.{◌≡◌, ℕ, ◌+◌, ◌<◌, ◌≤◌, ◌↔◌, [], ◌∷◌, ◌++◌, length, slice_get, slice_set, IsTrue, IsNone, IfSome, IfNone, OnOk, OnErr, IfErr, IsOk};
 ghost use Rattle.std.specs.Option.{option_copied};
 ghost use Rattle.std.specs.Cmp.{on_equiv, on_total, on_po, on_per};
 ghost use Rattle.std.specs.Cmp.Lexicographic.{slice_cmp, slice_partial_cmp, pointwise, lists_per, lists_equiv, lists_po, lists_total, lists_agrees, lists_ties};
@@ -130,6 +130,14 @@ impl<T> List<T> {
 }
 
 impl<T: Drop> List<T> {
+    /// Puts an item in place of the one that stands there. It takes no memory.
+    pub fn put(&mut self, index: usize, item: T)
+        requires { index < length self.old.items }
+        ensures items { self.new.items ≡ slice_set self.old.items index item }
+    {
+        self.items[index] = item;
+    }
+
     /// Takes all items away. It takes no memory.
     pub fn clear(&mut self)
         ensures empty { self.new.items ≡ [] }

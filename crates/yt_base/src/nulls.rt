@@ -4,7 +4,7 @@ ghost use Rattle.std.specs.Ordering.{on, as_partial_cmp, eq_by_cmp};
 ghost use Rattle.std.specs.Cmp.{on_total, eq_by_cmp_equiv, partial_equiv_from_equiv, po};
 ghost use Rattle.yt_model.specs.Values.{null_cmp};
 ghost use Rattle.yt_base.specs.Meanings.{null_of};
-ghost use Rattle.yt_base.specs.Order.{null_total};
+ghost use Rattle.yt_model.proofs.Order.{null_total};
 
 use std::cmp::Ordering;
 

@@ -4,7 +4,7 @@ ghost use Rattle.std.specs.Ordering.{on, as_partial_cmp, eq_by_cmp};
 ghost use Rattle.std.specs.Cmp.{on_total, eq_by_cmp_equiv, partial_equiv_from_equiv, po};
 ghost use Rattle.yt_model.specs.Values.{Fact, fact_cmp};
 ghost use Rattle.yt_base.specs.Meanings.{fact_of};
-ghost use Rattle.yt_base.specs.Order.{fact_total};
+ghost use Rattle.yt_model.proofs.Order.{fact_total};
 
 use crate::copying::TryCopy;
 use crate::lists::List;

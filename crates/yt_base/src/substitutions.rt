@@ -1,0 +1,127 @@
+//! Functions on nulls: by which value each is replaced.
+ghost use Rattle.std.specs.Prelude.{◌≡◌, ◌<◌, map, find, length, OnOk, OnErr, IfOk, IfSome};
+ghost use Rattle.std.specs.List.{position_from};
+ghost use Rattle.std.specs.Option.{option_map, option_copied};
+ghost use Rattle.yt_base.specs.Meanings.{null_of, datum_of, image_of};
+ghost use Rattle.yt_base.specs.Maps.{images_of, is_pair_of, no_image, give_image};
+
+use crate::copying::TryCopy;
+use crate::lists::List;
+use crate::nulls::Null;
+use crate::values::Value;
+use std::alloc::Global;
+use std::marker::Model;
+use yt_memory::Memory;
+
+/// A null and its image.
+#[derive(Debug, Drop)]
+pub struct Image {
+    pub null: Null,
+    pub value: Value,
+}
+
+/// A finite map from nulls to values. Contracts see its pairs, and `images_of` is the function that it means.
+#[derive(Debug, Drop)]
+pub struct Sub {
+    images: List<Image>,
+}
+
+impl Model for Sub {
+    ghost use Rattle.std.specs.Prelude.{List, map};
+    ghost use Rattle.yt_model.specs.Values.{NullName, Datum};
+
+    ghost Value = { List (NullName × Datum) };
+
+    ghost use Rattle.yt_base.specs.Meanings.{image_of};
+
+    ghost view = { λ s. map image_of s.images.items };
+}
+
+impl Sub {
+    /// The map that moves no null. It takes no memory.
+    pub fn new(alloc: Global) -> Sub
+        ensures empty { images_of result ≡ no_image }
+    {
+        Sub {
+            images: List::new(alloc),
+        }
+    }
+
+    /// The image of a null; None exactly where it has none.
+    pub fn get(&self, null: Null) -> Option<&Value>
+        ensures image { option_map datum_of (option_copied result) ≡ images_of self.now (null_of null) }
+    {
+        match pair_of(self.images.as_slice(), null) {
+            Some(image) => Some(&image.value),
+            None => None,
+        }
+    }
+
+    /// Gives the null this image, in place of the one that it had. It is refused only for want of memory; the map
+    /// is then unchanged.
+    pub fn set(&mut self, null: Null, value: Value) -> Result<(), Memory>
+        ensures ok { OnOk result (images_of self.new ≡ give_image (images_of self.old) (null_of null) (datum_of value)) }
+        ensures err { OnErr result (self.new ≡ self.old) }
+    {
+        match place_of(self.images.as_slice(), null) {
+            Some(at) => {
+                self.images.put(at, Image { null, value });
+                Ok(())
+            }
+            None => {
+                self.images.push(Image { null, value })?;
+                Ok(())
+            }
+        }
+    }
+}
+
+// The first pair of the null, if it has one.
+fn pair_of(images: &[Image], null: Null) -> Option<&Image>
+    ensures pair { option_map image_of (option_copied result) ≡ find (is_pair_of (null_of null)) (map image_of images.now) }
+{
+    images.iter().find(|image| null == image.null)
+}
+
+// The place of the null's first pair, if it has one.
+fn place_of(images: &[Image], null: Null) -> Option<usize>
+    ensures place { result ≡ position_from (is_pair_of (null_of null)) 0 (map image_of images.now) }
+    ensures within { IfSome result (λ at. at < length images.now) }
+{
+    images.iter().position(|image| null == image.null)
+}
+
+impl TryCopy for Image {
+    ghost use Rattle.yt_model.specs.Values.{NullName, Datum};
+    ghost use Rattle.yt_base.specs.Meanings.{image_of};
+
+    ghost Meaning = { NullName × Datum };
+
+    ghost meaning = { image_of };
+
+    fn copy(&self, alloc: Global) -> Result<Image, Memory>
+        ensures same { IfOk result (λ copy. image_of copy ≡ image_of self.now) }
+    {
+        Ok(Image {
+            null: self.null,
+            value: self.value.copy(alloc)?,
+        })
+    }
+}
+
+impl TryCopy for Sub {
+    ghost use Rattle.std.specs.Prelude.{List};
+    ghost use Rattle.yt_model.specs.Values.{NullName, Datum};
+
+    ghost Meaning = { List (NullName × Datum) };
+
+    ghost meaning = { λ s. s };
+
+    fn copy(&self, alloc: Global) -> Result<Sub, Memory>
+        ensures same { IfOk result (λ copy. copy ≡ self.now) }
+    {
+        Ok(Sub {
+            images: self.images.copy(alloc)?,
+        })
+    }
+}
