@@ -1,5 +1,5 @@
 -- A text, byte by byte: what its bytes so far and the rest say together.
-use Rattle.std.proofs.Common.{◌≡◌, ◌∙◌, ℕ, ◌+◌, ◌≤◌, true, false, List, [], ◌∷◌, drop, length, get_or, refl, sym, ap, ap₂, arith}
+use Rattle.std.proofs.Common.{◌≡◌, ◌∙◌, ℕ, ◌+◌, ◌≤◌, true, false, List, [], ◌∷◌, ◌++◌, append_assoc, drop, length, get_or, refl, sym, ap, ap₂, arith}
 use Rattle.std.specs.Prelude.{Result, Ok, Err, Some, ◌==◌}
 use Rattle.std.proofs.lemmas.List.{drop-drop}
 use Rattle.yt_lex.specs.declared.LexRefusal.{LexRefusal}
@@ -44,6 +44,27 @@ goes_on opened count width b more rest total so_far next =
 
 ok_is : (p q : ℕ × ℕ) → (let r : Result (ℕ × ℕ) LexRefusal = Ok p in r) ≡ Ok q → p ≡ q
 ok_is p q e = cc
+
+-- what is said and how many bytes spell it, behind what was said and so many
+abbrev pub carried : List ℕ → ℕ → Result (List ℕ × ℕ) LexRefusal → Result (List ℕ × ℕ) LexRefusal
+carried said width read = read >>= (λ x. Ok (said ++ x.0, width + x.1))
+
+carried_says : (said : List ℕ) (width b more : ℕ) (read : Result (List ℕ × ℕ) LexRefusal) → carried said width (says b more read) ≡ carried (said ++ b ∷ []) (width + more) read
+carried_says said width b more (Ok x) =
+    let q : width + (more + x.1) ≡ width + more + x.1 = omega arith in
+    ap₂ (λ (t : List ℕ) (n : ℕ). let r : Result (List ℕ × ℕ) LexRefusal = Ok (t, n) in r) (sym (append_assoc said (b ∷ []) x.0)) q
+carried_says said width b more (Err refusal) = refl
+
+-- one byte more
+pub says_on : (said : List ℕ) (width b more : ℕ) (rest : List ℕ) (total : Result (List ℕ × ℕ) LexRefusal)
+    → carried said width (text_from 0 (1 + width) (drop width rest)) ≡ total
+    → text_from 0 (1 + width) (drop width rest) ≡ says b more (text_from 0 (1 + width + more) (drop more (drop width rest)))
+    → carried (said ++ b ∷ []) (width + more) (text_from 0 (1 + (width + more)) (drop (width + more) rest)) ≡ total
+says_on said width b more rest total so_far next =
+    let p : 1 + (width + more) ≡ 1 + width + more = omega arith in
+    let same : text_from 0 (1 + (width + more)) (drop (width + more) rest) ≡ text_from 0 (1 + width + more) (drop more (drop width rest)) =
+    ap₂ (text_from 0) p (sym (drop-drop more width rest)) in
+    ap (carried (said ++ b ∷ []) (width + more)) same ∙ sym (carried_says said width b more (text_from 0 (1 + width + more) (drop more (drop width rest)))) ∙ sym (ap (carried said width) next) ∙ so_far
 
 shut : (opened count width : ℕ) (read : Result (List ℕ × ℕ) LexRefusal) → added 0 0 read ≡ Ok (count, width) → (read >>= (λ x. closed opened (length x.0) x.1)) ≡ closed opened count width
 shut opened count width (Ok x) e =

@@ -2,3 +2,5 @@ pub mod Carried
 pub mod Digits
 pub mod Lined
 pub mod Given
+pub mod Placed
+pub mod Spelled

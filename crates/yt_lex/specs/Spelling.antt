@@ -1,5 +1,5 @@
 -- What spells a token of each kind, and what it says.
-use Rattle.std.specs.Prelude.{ℕ, ℤ, pos, neg_ℤ, ◌+◌, ◌-◌, Bool, true, false, ◌&&◌, not, nat_le, ◌==◌, List, [], ◌∷◌, take, drop, length, Result, Ok, Err, if◌then◌else◌}
+use Rattle.std.specs.Prelude.{◌≡◌, ◌<◌, ◌≤◌, ℕ, ℤ, pos, neg_ℤ, ◌+◌, ◌-◌, Bool, true, false, ◌&&◌, not, nat_le, ◌==◌, List, [], ◌∷◌, take, drop, length, Result, Ok, Err, if◌then◌else◌}
 use Rattle.std.specs.List.{list_all}
 use Rattle.yt_lex.specs.declared.TokenKind.{TokenKind}
 use Rattle.yt_lex.specs.declared.TokenKind.TheVariants.{Name, Number, Null, Text, Open, Close, Comma, Colon, Arrow}
@@ -53,9 +53,16 @@ spells Colon (b ∷ rest) = (b == 58) && (length rest == 0)
 spells Arrow (b ∷ []) = false
 spells Arrow (b ∷ c ∷ rest) = (b == 45) && (c == 62) && (length rest == 0)
 
--- the bytes of a token
-abbrev pub spelling_of : List ℕ → Token → List ℕ
-spelling_of bytes token = take (token.to - token.from) (drop token.from bytes)
+-- the bytes of a token, where the first byte stands at the place `start`
+abbrev pub spelling_at : ℕ → List ℕ → Token → List ℕ
+spelling_at start bytes token = take (token.to - token.from) (drop (token.from - start) bytes)
+
+-- the token lies within the bytes, of which the first stands at the place `start`, and they spell it
+pub record IsTokenAt (start : ℕ) (bytes : List ℕ) (token : Token) : Type 0 where
+  pub begins : start ≤ token.from
+  pub some : token.from < token.to
+  pub within : token.to ≤ start + length bytes
+  pub spelled : spells token.kind (spelling_at start bytes token) ≡ true
 
 -- the number that bytes spell
 abbrev pub number_of : List ℕ → ℤ

@@ -1,6 +1,6 @@
 //! The kinds of bytes, and how many of a kind stand at the front.
 
-ghost use Rattle.std.specs.Prelude.{◌≡◌, ◌≤◌, length, not};
+ghost use Rattle.std.specs.Prelude.{◌≡◌, ◌≤◌, drop, length, not};
 ghost use Rattle.yt_lex.specs.Bytes.{begins_name, continues_name, is_blank, is_digit, is_line_feed, run};
 
 /// Whether the byte may begin a name.
@@ -56,4 +56,12 @@ pub(crate) fn line_run(bytes: &[u8]) -> usize
     ensures within { result ≤ length bytes.now }
 {
     bytes.iter().take_while(|byte| **byte != b'\n').count()
+}
+
+/// The bytes from a place on.
+pub(crate) fn behind(bytes: &[u8], place: usize) -> &[u8]
+    requires { place ≤ length bytes.now }
+    ensures { result.now ≡ drop place bytes.now }
+{
+    &bytes[place..]
 }

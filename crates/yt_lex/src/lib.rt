@@ -7,12 +7,15 @@ mod lines;
 mod numbers;
 mod texts;
 mod tokens;
+mod values;
 
 ghost use Rattle.std.specs.Prelude.{◌≡◌};
 ghost use Rattle.yt_lex.specs.declared.LexRefusal.TheVariants.{Memory};
 
 pub use lines::lex_line;
 use std::alloc::{AllocError, AllocFailed};
+pub use values::{null_of, number_of, text_of};
+use yt_base::List;
 
 /// The kinds of tokens.
 #[derive(Clone, Copy, Debug, PartialEq, Eq)]
@@ -49,11 +52,14 @@ pub struct Token {
     pub to: usize,
 }
 
+/// Tokens in the order of their places.
+pub type TokenList = List<Token>;
+
 /// A line: its tokens in order, and the place of the next line, if a line feed ends this one.
 #[derive(Debug, Drop)]
 pub struct Line {
     /// The tokens, from left to right.
-    pub tokens: Vec<Token>,
+    pub tokens: TokenList,
     /// The place behind the line feed that ends the line.
     pub next: Option<usize>,
 }
@@ -71,6 +77,14 @@ pub enum LexRefusal {
     LongText(usize),
     /// There was not enough memory.
     Memory,
+}
+
+impl From<yt_memory::Memory> for LexRefusal {
+    ghost from_gives = { λ _ refusal. refusal ≡ Memory };
+
+    fn from(_: yt_memory::Memory) -> Self {
+        LexRefusal::Memory
+    }
 }
 
 impl From<AllocError> for LexRefusal {

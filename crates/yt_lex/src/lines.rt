@@ -1,20 +1,15 @@
 //! Lines and their tokens.
 
-ghost use Rattle.std.specs.Prelude.{◌≡◌, ◌+◌, ◌^◌, ◌<◌, ◌≤◌, drop, length};
+ghost use Rattle.std.specs.Prelude.{◌≡◌, ◌+◌, ◌^◌, ◌<◌, ◌≤◌, All, IfOk, drop, length};
 ghost use Rattle.yt_lex.specs.Answers.{Gives};
+ghost use Rattle.yt_lex.specs.Spelling.{IsTokenAt};
 ghost use Rattle.yt_lex.specs.Lines.{line_at, line_of, next_line, tokens_at};
 
-use crate::bytes::{is_blank, line_run};
+use crate::bytes::{behind, is_blank, line_run};
 use crate::tokens::token_at;
 use crate::{LexRefusal, Line, Token};
 use std::alloc::Global;
-
-fn behind(bytes: &[u8], place: usize) -> &[u8]
-    requires { place ≤ length bytes.now }
-    ensures { result.now ≡ drop place bytes.now }
-{
-    &bytes[place..]
-}
+use yt_base::List;
 
 // The line at the front.
 fn line_of(bytes: &[u8]) -> &[u8]
@@ -26,7 +21,8 @@ fn line_of(bytes: &[u8]) -> &[u8]
 // The tokens of a line that begins at the place.
 fn tokens_at(alloc: Global, start: usize, line: &[u8]) -> Result<Vec<Token>, LexRefusal>
     requires { start + length line.now < 2 ^ 63 }
-    ensures { Gives (λ tokens. tokens.items) result (tokens_at start 0 line.now) }
+    ensures gives { Gives (λ tokens. tokens.items) result (tokens_at start 0 line.now) }
+    ensures spelled { IfOk result (λ tokens. All (IsTokenAt start line.now) tokens.items) }
 {
     let mut tokens = Vec::new(alloc);
     let mut place = 0;
@@ -56,6 +52,7 @@ fn tokens_at(alloc: Global, start: usize, line: &[u8]) -> Result<Vec<Token>, Lex
 pub fn lex_line(alloc: Global, bytes: &[u8], from: usize) -> Result<Line, LexRefusal>
     requires { from ≤ length bytes.now }
     ensures exact { Gives (λ line. (line.tokens.items, line.next)) result (line_at from bytes.now) }
+    ensures spelled { IfOk result (λ line. All (IsTokenAt 0 bytes.now) line.tokens.items) }
 {
     let line = line_of(behind(bytes, from));
     let tokens = tokens_at(alloc, from, line)?;
@@ -65,5 +62,8 @@ pub fn lex_line(alloc: Global, bytes: &[u8], from: usize) -> Result<Line, LexRef
     } else {
         None
     };
-    Ok(Line { tokens, next })
+    Ok(Line {
+        tokens: List::from_vec(tokens),
+        next,
+    })
 }

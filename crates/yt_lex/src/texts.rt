@@ -4,6 +4,7 @@ ghost use Rattle.std.specs.Prelude.{◌≡◌, ◌+◌, ◌^◌, ◌<◌, ◌≤
 ghost use Rattle.yt_lex.specs.Answers.{Gives, itself};
 ghost use Rattle.yt_lex.specs.Texts.{closed, escaped, says, text_at, text_from};
 
+use crate::bytes::behind;
 use crate::{LexRefusal, TokenKind};
 
 /// What a byte stands for directly after a backslash, if it may stand there.
@@ -20,7 +21,11 @@ pub(crate) fn escaped(byte: u8) -> Option<u8>
 
 // The byte that a text says next, and how many bytes spell it; nothing at the closing quote.
 #[tactic(auto, unfolding(crate::specs::Texts::text_from))]
-fn next_byte(opened: usize, place: usize, rest: &[u8]) -> Result<Option<(u8, usize)>, LexRefusal>
+pub(crate) fn next_byte(
+    opened: usize,
+    place: usize,
+    rest: &[u8],
+) -> Result<Option<(u8, usize)>, LexRefusal>
     requires { place < 2 ^ 63 }
     ensures says { IfOk result (λ next. MatchOption next
         (text_from opened place rest.now ≡ Ok ([], 1))
@@ -62,13 +67,6 @@ fn closed(opened: usize, count: usize, width: usize) -> Result<(TokenKind, usize
     } else {
         Ok((TokenKind::Text, 1 + width))
     }
-}
-
-fn behind(bytes: &[u8], place: usize) -> &[u8]
-    requires { place ≤ length bytes.now }
-    ensures { result.now ≡ drop place bytes.now }
-{
-    &bytes[place..]
 }
 
 /// A text behind its opening quote, which stands at `opened`.

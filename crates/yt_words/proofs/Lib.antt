@@ -1,0 +1,2 @@
+pub mod DefaultTexts
+pub mod Matched

@@ -1,0 +1,41 @@
+//! The texts that tell how the program is called.
+
+/// The version that `--version` tells.
+pub const VERSION: &str = "0.1.0";
+
+/// The text that `--help` tells: at most 80 columns wide.
+pub const HELP: &str = "\
+Youtopia keeps a repository of tuples with labelled nulls, and repairs it by
+mappings while several curators update it.
+
+Usage: youtopia COMMAND [OPTIONS] < SESSION
+
+Commands:
+  run       run the session's updates with several workers
+  serial    run the session's updates one after the other
+  format    print the session in its own format
+  check     check the session and its base, and count its parts
+  save      run the updates serially, and print what is left as a session
+  upgrade   print the session in the newest format
+
+Options:
+  --workers N   how many workers run updates, 1 to 16 [4]
+  --deps KIND   which writes a read depends on, coarse or precise [precise]
+  --steps N     how many steps an update may take, 1 to 300 [100]
+  --retries N   how often an update is tried again, 0 to 4 [3]
+  --tuple FACT  the tuple to explain
+  --query TEXT  the query to answer
+  --count N     how many updates are generated, 1 to 1000 [60]
+  --seed N      the seed of the generator, 0 to 4294967295 [1]
+  --trace       print the trace after the result
+  -h, --help    print this text
+  -V, --version print the version
+
+Statuses:
+  0 done   1 stuck at a question   2 words refused   3 session refused
+  4 base violates a mapping   5 read fault   6 write fault
+  7 out of memory   8 input too long   9 result too large
+
+Example:
+  youtopia serial --steps 50 < travel.session
+";

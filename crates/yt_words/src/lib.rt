@@ -1,0 +1,11 @@
+//! The words of the command line: which are refused, and what the others ask for.
+#![tactic(auto)]
+
+mod arguments;
+mod help;
+mod names;
+mod reading;
+
+pub use help::{HELP, VERSION};
+pub use names::{CommandName, Deps};
+pub use reading::{Options, Request, WordsRefusal, read_words};

@@ -1,0 +1,71 @@
+//! The commands and the kinds of dependencies, by name.
+
+ghost use Rattle.std.specs.Prelude.{◌≡◌, None, Some, false};
+ghost use Rattle.yt_words.specs.Names.{command_text, deps_text, is_command, is_deps};
+
+/// The commands that there are. Each stands in the tables `command_text` and `commands` of specs/
+/// and in `command_named`.
+#[derive(Clone, Copy, Debug, PartialEq, Eq)]
+pub enum CommandName {
+    /// Runs a session with several workers.
+    Run,
+    /// Runs a session update by update.
+    Serial,
+    /// Prints a session.
+    Format,
+    /// Checks a session and its base.
+    Check,
+    /// Runs a session update by update, and prints what is left as a session.
+    Save,
+    /// Prints a session in the newest format.
+    Upgrade,
+}
+
+/// Which of the values that a read depends on count.
+#[derive(Clone, Copy, Debug, PartialEq, Eq)]
+pub enum Deps {
+    /// All writes to the relations that it reads.
+    Coarse,
+    /// The writes that change its answer.
+    Precise,
+}
+
+/// The command of a name.
+pub(crate) fn command_named(text: &str) -> Option<CommandName>
+    ensures some { (command : CommandName) → result ≡ Some command → text.now ≡ command_text command }
+    ensures none { result ≡ None → is_command text.now ≡ false }
+{
+    if text == "run" {
+        return Some(CommandName::Run);
+    }
+    if text == "serial" {
+        return Some(CommandName::Serial);
+    }
+    if text == "format" {
+        return Some(CommandName::Format);
+    }
+    if text == "check" {
+        return Some(CommandName::Check);
+    }
+    if text == "save" {
+        return Some(CommandName::Save);
+    }
+    if text == "upgrade" {
+        return Some(CommandName::Upgrade);
+    }
+    None
+}
+
+/// The kind of dependencies of a name.
+pub(crate) fn deps_named(text: &str) -> Option<Deps>
+    ensures some { (deps : Deps) → result ≡ Some deps → text.now ≡ deps_text deps }
+    ensures none { result ≡ None → is_deps text.now ≡ false }
+{
+    if text == "coarse" {
+        return Some(Deps::Coarse);
+    }
+    if text == "precise" {
+        return Some(Deps::Precise);
+    }
+    None
+}
