@@ -3,7 +3,7 @@ use Rattle.std.specs.Prelude.{ℕ, ◌-◌, List, map, length}
 use Rattle.yt_base.specs.declared.nulls.Null.{Null as NullOfProgram}
 use Rattle.yt_base.specs.declared.values.Value.{Value}
 use Rattle.yt_base.specs.declared.values.Value.TheVariants.{Int, Word, Null}
-use Rattle.yt_base.specs.declared.substitutions.Image.{Image}
+use Rattle.yt_base.specs.declared.substitutions.Assignment.{Assignment}
 use Rattle.yt_base.specs.declared.tuples.Tuple.{Tuple}
 use Rattle.yt_base.specs.declared.mappings.Term.{Term}
 use Rattle.yt_base.specs.declared.mappings.Term.TheVariants.{Var as VarTerm, Const as ConstTerm}
@@ -34,9 +34,9 @@ datum_of (Int i) = Number i
 datum_of (Word w) = Text w.items
 datum_of (Null n) = Unknown (null_of n)
 
--- The null and the value that an `Image` pairs.
-abbrev pub image_of : Image → NullName × Datum
-image_of p = (null_of p.null, datum_of p.value)
+-- The null and the value that an `Assignment` pairs.
+abbrev pub assignment_of : Assignment → NullName × Datum
+assignment_of p = (null_of p.null, datum_of p.value)
 
 -- The tuple that a `Tuple` stands for.
 abbrev pub fact_of : Tuple → Fact

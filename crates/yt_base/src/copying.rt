@@ -27,6 +27,16 @@ impl TryCopy for u8 {
     }
 }
 
+impl TryCopy for u16 {
+    ghost Meaning = { ℕ };
+
+    ghost meaning = { λ n. n };
+
+    fn copy(&self, _alloc: Global) -> Result<u16, Memory> {
+        Ok(*self)
+    }
+}
+
 impl TryCopy for u32 {
     ghost Meaning = { ℕ };
 

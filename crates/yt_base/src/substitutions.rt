@@ -2,7 +2,7 @@
 ghost use Rattle.std.specs.Prelude.{◌≡◌, ◌<◌, map, find, length, OnOk, OnErr, IfOk, IfSome};
 ghost use Rattle.std.specs.List.{position_from};
 ghost use Rattle.std.specs.Option.{option_map, option_copied};
-ghost use Rattle.yt_base.specs.Meanings.{null_of, datum_of, image_of};
+ghost use Rattle.yt_base.specs.Meanings.{null_of, datum_of, assignment_of};
 ghost use Rattle.yt_base.specs.Maps.{images_of, is_pair_of, no_image, give_image};
 
 use crate::copying::TryCopy;
@@ -13,17 +13,17 @@ use std::alloc::Global;
 use std::marker::Model;
 use yt_memory::Memory;
 
-/// A null and its image.
+// A null and the value that it is moved to.
 #[derive(Debug, Drop)]
-pub struct Image {
-    pub null: Null,
-    pub value: Value,
+struct Assignment {
+    null: Null,
+    value: Value,
 }
 
 /// A finite map from nulls to values. Contracts see its pairs, and `images_of` is the function that it means.
 #[derive(Debug, Drop)]
 pub struct Sub {
-    images: List<Image>,
+    assignments: List<Assignment>,
 }
 
 impl Model for Sub {
@@ -32,9 +32,9 @@ impl Model for Sub {
 
     ghost Value = { List (NullName × Datum) };
 
-    ghost use Rattle.yt_base.specs.Meanings.{image_of};
+    ghost use Rattle.yt_base.specs.Meanings.{assignment_of};
 
-    ghost view = { λ s. map image_of s.images.items };
+    ghost view = { λ s. map assignment_of s.assignments.items };
 }
 
 impl Sub {
@@ -43,7 +43,7 @@ impl Sub {
         ensures empty { images_of result ≡ no_image }
     {
         Sub {
-            images: List::new(alloc),
+            assignments: List::new(alloc),
         }
     }
 
@@ -51,8 +51,8 @@ impl Sub {
     pub fn get(&self, null: Null) -> Option<&Value>
         ensures image { option_map datum_of (option_copied result) ≡ images_of self.now (null_of null) }
     {
-        match pair_of(self.images.as_slice(), null) {
-            Some(image) => Some(&image.value),
+        match pair_of(self.assignments.as_slice(), null) {
+            Some(pair) => Some(&pair.value),
             None => None,
         }
     }
@@ -63,13 +63,13 @@ impl Sub {
         ensures ok { OnOk result (images_of self.new ≡ give_image (images_of self.old) (null_of null) (datum_of value)) }
         ensures err { OnErr result (self.new ≡ self.old) }
     {
-        match place_of(self.images.as_slice(), null) {
+        match place_of(self.assignments.as_slice(), null) {
             Some(at) => {
-                self.images.put(at, Image { null, value });
+                self.assignments.put(at, Assignment { null, value });
                 Ok(())
             }
             None => {
-                self.images.push(Image { null, value })?;
+                self.assignments.push(Assignment { null, value })?;
                 Ok(())
             }
         }
@@ -77,32 +77,32 @@ impl Sub {
 }
 
 // The first pair of the null, if it has one.
-fn pair_of(images: &[Image], null: Null) -> Option<&Image>
-    ensures pair { option_map image_of (option_copied result) ≡ find (is_pair_of (null_of null)) (map image_of images.now) }
+fn pair_of(assignments: &[Assignment], null: Null) -> Option<&Assignment>
+    ensures pair { option_map assignment_of (option_copied result) ≡ find (is_pair_of (null_of null)) (map assignment_of assignments.now) }
 {
-    images.iter().find(|image| null == image.null)
+    assignments.iter().find(|pair| null == pair.null)
 }
 
 // The place of the null's first pair, if it has one.
-fn place_of(images: &[Image], null: Null) -> Option<usize>
-    ensures place { result ≡ position_from (is_pair_of (null_of null)) 0 (map image_of images.now) }
-    ensures within { IfSome result (λ at. at < length images.now) }
+fn place_of(assignments: &[Assignment], null: Null) -> Option<usize>
+    ensures place { result ≡ position_from (is_pair_of (null_of null)) 0 (map assignment_of assignments.now) }
+    ensures within { IfSome result (λ at. at < length assignments.now) }
 {
-    images.iter().position(|image| null == image.null)
+    assignments.iter().position(|pair| null == pair.null)
 }
 
-impl TryCopy for Image {
+impl TryCopy for Assignment {
     ghost use Rattle.yt_model.specs.Values.{NullName, Datum};
-    ghost use Rattle.yt_base.specs.Meanings.{image_of};
+    ghost use Rattle.yt_base.specs.Meanings.{assignment_of};
 
     ghost Meaning = { NullName × Datum };
 
-    ghost meaning = { image_of };
+    ghost meaning = { assignment_of };
 
-    fn copy(&self, alloc: Global) -> Result<Image, Memory>
-        ensures same { IfOk result (λ copy. image_of copy ≡ image_of self.now) }
+    fn copy(&self, alloc: Global) -> Result<Assignment, Memory>
+        ensures same { IfOk result (λ copy. assignment_of copy ≡ assignment_of self.now) }
     {
-        Ok(Image {
+        Ok(Assignment {
             null: self.null,
             value: self.value.copy(alloc)?,
         })
@@ -121,7 +121,7 @@ impl TryCopy for Sub {
         ensures same { IfOk result (λ copy. copy ≡ self.now) }
     {
         Ok(Sub {
-            images: self.images.copy(alloc)?,
+            assignments: self.assignments.copy(alloc)?,
         })
     }
 }
