@@ -13,3 +13,12 @@ pub mod Bounds
 pub mod Legal
 pub mod Theorem
 pub mod SmallLaws
+pub mod Local
+pub mod Carried
+pub mod Simulations
+pub mod Fewer
+pub mod Causes
+pub mod CausesHold
+pub mod Distinct
+pub mod Caused
+pub mod SmallRows

@@ -1,5 +1,5 @@
 -- An attempt whose reads are valid over a repository is the machine's run there, and the reads of a run are valid.
-use Rattle.std.proofs.Common.{◌≡◌, ℕ, ap, sym, refl, subst, ◌∙◌, List, ◌++◌, true, map, take, length, append_assoc}
+use Rattle.std.proofs.Common.{◌≡◌, ℕ, ap, sym, refl, subst, ◌∙◌, List, ◌++◌, true, map, take, length, append_assoc, append-nil, []}
 use Rattle.std.specs.List.{list_all}
 use Rattle.std.proofs.lemmas.List.Folds.{list_all-append}
 use Rattle.std.proofs.lemmas.Bool.{and_parts, and_from}
@@ -10,6 +10,7 @@ use Rattle.yt_machine.specs.Updates.{Read}
 use Rattle.yt_machine.specs.Reads.{is_valid}
 use Rattle.yt_machine.specs.Steps.{val, next_step, next_move, next_state, step_log}
 use Rattle.yt_machine.specs.Runs.{Reached, start, more}
+use Rattle.yt_machine.specs.Replay.{ReplayLaw}
 use Rattle.yt_machine.proofs.TreeLaws.{replayed, replayed_log}
 
 -- the reads that a step's queries log
@@ -57,3 +58,9 @@ module _ (M : Machine) (L : Laws M) where
       subst (λ (l : List (M.Query × M.Reply)). Reached M E answers n a op (next_state M op D answers P) (log ++ map (λ r. record { query = r.0; answer = r.1; own = length (M.own P) }) l))
       (replayed_log (val M op D P) (val M op E P) (next_step M answers P) same)
       (subst (λ x. Reached M E answers n a op (M.moved P x) (log ++ step_log M op E answers P)) (replayed (val M op D P) (val M op E P) (next_step M answers P) same) again)
+
+  pub replay_law : ReplayLaw M
+  replay_law D answers n a op P log r = record {
+    valid = reads_valid [] (M.own P) (sym (append-nil (M.own P))) r;
+    elsewhere = λ E v. replay E [] (M.own P) (sym (append-nil (M.own P))) r v;
+  }

@@ -14,3 +14,11 @@ pub mod Serial
 pub mod Bounds
 pub mod History
 pub mod Small
+pub mod Local
+pub mod Replay
+pub mod DepsLaw
+pub mod Simulation
+pub mod Rests
+pub mod CauseLaw
+pub mod WalkLaw
+pub mod SmallHistories

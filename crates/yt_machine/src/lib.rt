@@ -6,10 +6,17 @@
 #![tactic(auto)]
 
 ghost use Rattle.std.specs.Prelude.{ℕ, ◌≤◌};
+ghost use Rattle.yt_machine.specs.CauseLaw.{CauseLaw};
+ghost use Rattle.yt_machine.specs.DepsLaw.{DepsLaw};
 ghost use Rattle.yt_machine.specs.History.{HistoryLaw};
+ghost use Rattle.yt_machine.specs.Local.{LocalLaw};
+ghost use Rattle.yt_machine.specs.Replay.{ReplayLaw};
+ghost use Rattle.yt_machine.specs.Rests.{RestLaw};
 ghost use Rattle.yt_machine.specs.Small.{small};
+ghost use Rattle.yt_machine.specs.SmallHistories.{SmallRows};
 ghost use Rattle.yt_machine.specs.Trees.{Tree};
 ghost use Rattle.yt_machine.specs.TreeLaw.{IsReplay};
+ghost use Rattle.yt_machine.specs.WalkLaw.{WalkLaw};
 
 /// A program that asks questions is fixed by the answers in its log: whoever gives them, whenever, comes to the same
 /// result by the same log. It is stated at questions, answers and results that are numbers, and proved for all types.
@@ -22,4 +29,42 @@ pub fn replays_by_its_log()
 /// leaves, and a quiet history is the serial machine's whole result, within bounds on attempts and steps.
 pub fn histories_are_serial()
     ensures { (budget : ℕ) → 1 ≤ budget → HistoryLaw (small budget) }
+{}
+
+/// An attempt whose logged reads are all valid over a repository is the machine's run there, wherever its reads were
+/// answered; and the reads of a run are valid.
+pub fn valid_reads_make_a_run()
+    ensures { (budget : ℕ) → 1 ≤ budget → ReplayLaw (small budget) }
+{}
+
+/// An event at an update changes neither the updates below it nor what lies below any of them or below it.
+pub fn events_leave_what_is_below()
+    ensures { (budget : ℕ) → 1 ≤ budget → LocalLaw (small budget) }
+{}
+
+/// Each abort has a cause that holds, named once in the event's entry: the reader's first read that lost its value to the
+/// writes, or its first read that depends on the aborted updates below it, with the least of them that wrote what it reads.
+pub fn aborts_have_causes()
+    ensures { (budget : ℕ) → 1 ≤ budget → CauseLaw (small budget) }
+{}
+
+/// At one state and event each update that restarts with precise dependences restarts with coarse ones.
+pub fn precise_restarts_are_coarse()
+    ensures { (budget : ℕ) → 1 ≤ budget → DepsLaw (small budget) }
+{}
+
+/// One walk upwards finds the conflict set and the cascade, and restarts just the updates that they name.
+pub fn one_walk_settles()
+    ensures { (budget : ℕ) → WalkLaw (small budget) }
+{}
+
+/// An update taken whole ends within its budget of steps, or stops at a question for want of an answer.
+pub fn turns_come_to_rest()
+    ensures { (budget : ℕ) → 1 ≤ budget → RestLaw (small budget) }
+{}
+
+/// Histories with a conflict, a held update, a cascade of two levels under both kinds of dependence, a withdrawal and a
+/// spent attempt, entry by entry.
+pub fn small_histories_compute()
+    ensures { SmallRows }
 {}

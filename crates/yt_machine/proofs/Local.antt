@@ -1,0 +1,49 @@
+-- The updates below the one that an event acts on are untouched.
+use Rattle.std.proofs.Common.{◌≡◌, ℕ, zero, suc, ◌<◌, ◌≤◌, ap, refl, subst, List, [], ◌∷◌, ◌++◌, take, length, arith, Some}
+use Rattle.std.specs.Prelude.{slice_get}
+use Rattle.std.specs.List.{flat_map}
+use Rattle.yt_machine.specs.Machine.{Machine, Laws}
+use Rattle.yt_machine.specs.Updates.{Update, trail}
+use Rattle.yt_machine.specs.Effects.{Admits, Steps, Delivers, Answers, Withdraws, Effect, step_effect, withdraw_effect, deliver_effect, answer_effect, admitted, admit_effect, may_step, may_deliver, may_answer, may_withdraw}
+use Rattle.yt_machine.specs.Local.{IsLocal, LocalLaw}
+use Rattle.yt_machine.proofs.Basics.{length_from}
+use Rattle.yt_machine.proofs.Places.{allowed_is, taken_same, take_put}
+use Rattle.yt_machine.proofs.Events.{mapped_some}
+
+pub pushed_same : {A : Type 0} (us vs : List A) (k : ℕ) → k < length us → slice_get (us ++ vs) k ≡ slice_get us k
+pushed_same [] vs k h = absurd (omega arith)
+pushed_same (u ∷ us) vs zero h = refl
+pushed_same (u ∷ us) vs (suc k) h = pushed_same us vs k (omega arith)
+
+take_more : {A : Type 0} (us vs : List A) (k : ℕ) → k ≤ length us → take k (us ++ vs) ≡ take k us
+take_more us vs zero h = refl
+take_more [] vs (suc k) h = absurd (omega arith)
+take_more (u ∷ us) vs (suc k) h = ap (λ ws. u ∷ ws) (take_more us vs k (omega arith))
+
+module _ (M : Machine) (L : Laws M) where
+  local_put : (D : M.Repository) (i k : ℕ) (us vs : List (Update M)) (u : Update M) → i ≡ suc k → slice_get us k ≡ Some u → IsLocal M D i us (take k us ++ vs)
+  local_put D i k us vs u e h = record {
+    lower = λ j l. taken_same us vs k j (omega (arith, e)) (length_from us k u h);
+    below = λ j l. ap (λ ws. M.apply D (flat_map (trail M) ws)) (take_put us vs k j (omega (arith, e)) (length_from us k u h));
+  }
+
+  pub local_law : LocalLaw M
+  local_law s S us Admits x h =
+      let p = mapped_some M L (admit_effect M us) (slice_get S.submissions (length us)) x h in
+      subst (λ (y : Effect M). IsLocal M S.base (suc (length us)) us y.updates) p.2
+      record {
+        lower = λ j l. pushed_same us (admitted M (suc (length us)) p.0 ∷ []) j (omega (arith, l));
+        below = λ j l. ap (λ ws. M.apply S.base (flat_map (trail M) ws)) (take_more us (admitted M (suc (length us)) p.0 ∷ []) j (omega (arith, l)));
+      }
+  local_law s S us (Steps i) x h =
+      let a = allowed_is us i (may_step M s us) (step_effect M s S us) x h in
+      subst (λ (y : Effect M). IsLocal M S.base i us y.updates) a.made (local_put S.base i a.place us _ a.item a.number a.found)
+  local_law s S us (Delivers i) x h =
+      let a = allowed_is us i (may_deliver M s us) (deliver_effect M s us) x h in
+      subst (λ (y : Effect M). IsLocal M S.base i us y.updates) a.made (local_put S.base i a.place us _ a.item a.number a.found)
+  local_law s S us (Answers i c) x h =
+      let a = allowed_is us i (may_answer M s us c) (answer_effect M s us c) x h in
+      subst (λ (y : Effect M). IsLocal M S.base i us y.updates) a.made (local_put S.base i a.place us _ a.item a.number a.found)
+  local_law s S us (Withdraws i) x h =
+      let a = allowed_is us i (may_withdraw M us) (withdraw_effect M s S us) x h in
+      subst (λ (y : Effect M). IsLocal M S.base i us y.updates) a.made (local_put S.base i a.place us _ a.item a.number a.found)
