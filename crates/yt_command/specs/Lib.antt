@@ -1,0 +1,4 @@
+pub mod Devices
+pub mod Outputs
+pub mod Rows
+pub mod Statuses
