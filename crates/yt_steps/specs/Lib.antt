@@ -4,6 +4,8 @@ pub mod Questions
 pub mod Steps
 pub mod Chase
 pub mod Serial
+pub mod Looking
+pub mod Soundness
 pub mod RowWords
 pub mod Rows
 pub mod SessionRows
