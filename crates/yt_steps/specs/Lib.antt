@@ -1,0 +1,14 @@
+pub mod Attempts
+pub mod Rewriting
+pub mod Questions
+pub mod Steps
+pub mod Chase
+pub mod Serial
+pub mod Looking
+pub mod Soundness
+pub mod RowWords
+pub mod Rows
+pub mod SessionRows
+pub mod Travel
+pub mod Sampled
+pub mod SampledAdded
