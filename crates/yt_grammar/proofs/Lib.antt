@@ -1,1 +1,4 @@
 mod Ascii
+mod Sorts
+mod Front
+mod Pages

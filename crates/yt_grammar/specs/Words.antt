@@ -6,7 +6,7 @@ use Rattle.yt_lex.specs.declared.Token.{Token}
 use Rattle.yt_lex.specs.declared.LexRefusal.{LexRefusal}
 use Rattle.yt_lex.specs.Answers.{◌>>=◌}
 use Rattle.yt_lex.specs.Lines.{tokens_at}
-use Rattle.yt_lex.specs.Spelling.{spelling_of, number_of, null_of, text_of}
+use Rattle.yt_lex.specs.Spelling.{spelling_at, number_of, null_of, text_of}
 
 -- A word of a line: what a token says, however it is spelled. A number and the two parts of a null (update and
 -- place) count by their values, a text by the bytes that it stands for.
@@ -35,7 +35,7 @@ said Arrow spelling = arrow
 
 -- what a token of a line says
 abbrev pub word_of : List ℕ → Token → Word
-word_of line token = said token.kind (spelling_of line token)
+word_of line token = said token.kind (spelling_at 0 line token)
 
 -- the words of a line from left to right, or its leftmost lexical fault, placed within the line
 abbrev pub words_at : List ℕ → Result (List Word) LexRefusal

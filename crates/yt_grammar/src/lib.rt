@@ -3,8 +3,10 @@
 //! the programs that read and print cite them in their contracts.
 #![tactic(auto)]
 
+mod laws;
 mod rows;
 
+pub use laws::{words_are_read_again};
 pub use rows::{check_faults, form_faults, lexical_faults, printed_sessions};
 
 /// What is missing at the first token of a line that does not fit its form.
