@@ -19,29 +19,23 @@ abbrev pub term_word : WrittenTerm → Word
 term_word (Variable n) = name n
 term_word (Constant d) = value_word d
 
--- WORD {, WORD}
-abbrev pub listed : List Word → List Word
-listed [] = []
-listed (w ∷ []) = w ∷ []
-listed (w ∷ v ∷ words) = w ∷ comma ∷ listed (v ∷ words)
-
--- NAME ( WORD {, WORD} )
-abbrev pub applied : List ℕ → List Word → List Word
-applied n words = name n ∷ opens ∷ (listed words ++ closes ∷ [])
-
--- FACT = NAME ( VALUE {, VALUE} )
-abbrev pub fact_words : WrittenFact → List Word
-fact_words fact = applied fact.relation (map value_word fact.values)
-
--- ATOM = NAME ( TERM {, TERM} )
-abbrev pub atom_words : WrittenAtom → List Word
-atom_words atom = applied atom.relation (map term_word atom.terms)
-
--- [ITEM {, ITEM}], of items that have several words
+-- [ITEM {, ITEM}]: the words of items, with commas between
 abbrev pub separated : {A : Type 0} → (A → List Word) → List A → List Word
 separated words [] = []
 separated words (x ∷ []) = words x
 separated words (x ∷ y ∷ xs) = words x ++ comma ∷ separated words (y ∷ xs)
+
+-- an item that is one word
+abbrev pub one_word : {A : Type 0} → (A → Word) → A → List Word
+one_word word x = word x ∷ []
+
+-- FACT = NAME ( VALUE {, VALUE} )
+abbrev pub fact_words : WrittenFact → List Word
+fact_words fact = name fact.relation ∷ opens ∷ (separated (one_word value_word) fact.values ++ closes ∷ [])
+
+-- ATOM = NAME ( TERM {, TERM} )
+abbrev pub atom_words : WrittenAtom → List Word
+atom_words atom = name atom.relation ∷ opens ∷ (separated (one_word term_word) atom.terms ++ closes ∷ [])
 
 -- NAME : [ATOM {, ATOM}] -> [ATOM {, ATOM}]
 abbrev pub mapping_words : WrittenMapping → List Word

@@ -6,6 +6,7 @@ pub mod Statements
 pub mod Grammar
 pub mod Parts
 pub mod Forms
+pub mod Sayable
 pub mod Sessions
 pub mod Cycles
 pub mod Meaning

@@ -6,7 +6,7 @@
 mod laws;
 mod rows;
 
-pub use laws::{words_are_read_again};
+pub use laws::{closure_decides, statements_are_read_again, words_are_read_again};
 pub use rows::{check_faults, form_faults, lexical_faults, printed_sessions};
 
 /// What is missing at the first token of a line that does not fit its form.
