@@ -1,0 +1,7 @@
+mod Ascii
+mod Sorts
+mod Front
+mod Pages
+mod Closure
+mod Many
+mod Again

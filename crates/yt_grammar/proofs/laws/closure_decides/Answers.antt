@@ -1,0 +1,9 @@
+use Rattle.yt_grammar.proofs.Closure.{paths_decided, cycle_decided}
+use Rattle.yt_grammar.proofs.Many.{all_again, many_only}
+use Rattle.yt_grammar.proofs.laws.closure_decides.Goals as goal
+
+pub returns-clause-paths : goal.returns-clause-paths
+returns-clause-paths c = paths_decided
+
+pub returns-clause-cycles : goal.returns-clause-cycles
+returns-clause-cycles c = cycle_decided

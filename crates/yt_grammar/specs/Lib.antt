@@ -1,0 +1,17 @@
+pub mod Words
+pub mod Faults
+pub mod Reading
+pub mod Names
+pub mod Statements
+pub mod Grammar
+pub mod Parts
+pub mod Forms
+pub mod Sayable
+pub mod Sessions
+pub mod Cycles
+pub mod Meaning
+pub mod Checks
+pub mod Lines
+pub mod Layout
+pub mod Printing
+pub mod Validity
