@@ -1,5 +1,5 @@
 -- Laws of histories: prefixes, who made the entries after them, and sums over what one seat made.
-use Rattle.std.proofs.Common.{◌≡◌, ◌≢◌, inl, inr, ⊎_elim, ℕ, ◌+◌, ◌<◌, List, [], ◌∷◌, ◌++◌, sym, refl, ap, ◌∙◌, arith, append_assoc, Option, Some, None, Bool, ne_eqb, if◌then◌else◌}
+use Rattle.std.proofs.Common.{◌≡◌, ◌≢◌, inl, inr, ⊎_elim, ℕ, ◌+◌, ◌<◌, List, [], ◌∷◌, ◌++◌, sym, refl, ap, ◌∙◌, arith, append_assoc, Option, Some, None, Bool, ne_eqb, if◌then◌else◌, eq-eqb, eqb, true, false, subst}
 use Rattle.std.proofs.lemmas.List.{append-nil}
 use mathlib.Core.List.{IsPrefix}
 use Rattle.yt_stamp.specs.declared.history.Made.{Made}
@@ -13,6 +13,19 @@ some_number i j e = cc e
 weight_unmade : (j : ℕ) (maker : Option ℕ) (n : ℕ) → maker ≢ Some j → weight_for j maker n ≡ 0
 weight_unmade j None n other = refl
 weight_unmade j (Some i) n other = ap (λ (b : Bool). if b then n else 0) (ne_eqb i j (λ e. other (ap Some e)))
+
+either_zero : (b : Bool) → ◌≡◌ {A = ℕ} (if b then 0 else 0) 0
+either_zero true = refl
+either_zero false = refl
+
+-- a seat's own entry weighs what it weighs
+pub weight_for-own : (j n : ℕ) → weight_for j (Some j) n ≡ n
+weight_for-own j n = ap (λ (b : Bool). if b then n else 0) (eq-eqb j j refl)
+
+-- what weighs nothing weighs nothing for any seat
+pub weight_for-zero : (j : ℕ) (maker : Option ℕ) → weight_for j maker 0 ≡ 0
+weight_for-zero j None = refl
+weight_for-zero j (Some i) = either_zero (eqb i j)
 
 module _ {E : Type 0} where
   pub prefix_self : (xs : List (Made E)) → IsPrefix xs xs
@@ -40,6 +53,14 @@ module _ {E : Type 0} where
       let parts = sum_made_by-append weight j xs f.0 in
       let none = sum_unmade weight j f.0 f.2 in
       omega arith
+
+  -- What a seat's own entries weigh over one turn: the others' change nothing, and its own change it by f, from `open` (ys) to `close_turn` (zs).
+  pub sum_made_by-turn : (weight : E → ℕ) (f : ℕ → ℕ) (j now later : ℕ) (xs ys zs after : List (Made E)) → now ≡ j → later ≡ j → Follows j xs ys
+      → sum_made_by weight now zs ≡ f (sum_made_by weight now ys) → after ≡ zs → sum_made_by weight later after ≡ f (sum_made_by weight j xs)
+  sum_made_by-turn weight f j now later xs ys zs after a b follows change seen =
+      let here : sum_made_by weight j zs ≡ f (sum_made_by weight j ys) = subst (λ (i : ℕ). sum_made_by weight i zs ≡ f (sum_made_by weight i ys)) a change in
+      subst (λ (i : ℕ). sum_made_by weight i after ≡ f (sum_made_by weight j xs)) (sym b)
+      (ap (sum_made_by weight j) seen ∙ (here ∙ ap f (sum_made_by-follows weight j xs ys follows)))
 
   pub follows_is_prefix : (j : ℕ) (xs ys : List (Made E)) → Follows j xs ys → IsPrefix xs ys
   follows_is_prefix j xs ys f = (f.0, f.1)

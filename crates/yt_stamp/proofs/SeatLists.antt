@@ -16,6 +16,16 @@ use Rattle.yt_stamp.specs.Seats.{Place, place_at, place_of, lock_of, number_of, 
 use Rattle.yt_stamp.specs.Within.{gathered, IsDealer, AreOthers}
 use Rattle.yt_stamp.proofs.Lists.{at_end, there_is, within}
 
+-- each place of a lock has its identity
+pub place_at-lock : (lock : TableId) (n k : ℕ) → (place_at lock n k).lock ≡ lock
+place_at-lock lock n zero = refl
+place_at-lock lock n (suc k) = refl
+
+-- each place has its own number
+pub place_at-number : (lock : TableId) (n k : ℕ) → (place_at lock n k).number ≡ k
+place_at-number lock n zero = refl
+place_at-number lock n (suc k) = refl
+
 -- a seat after the first keeps its place where there are more
 later : (lock : TableId) (n m k : ℕ) → k ≢ 0 → place_at lock n k ≡ place_at lock m k
 later lock n m zero other = absurd (other refl)

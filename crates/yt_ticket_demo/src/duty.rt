@@ -1,0 +1,42 @@
+// What a worker does at its desk.
+use crate::desk::Desk;
+use crate::worker::Worker;
+use std::sync::Wait;
+use yt_gate::{Gate, work};
+
+/// A worker's duty. Whatever it is, the seat stays the desk's own, in its place, and has seen no less.
+pub trait Duty {
+    ghost use Rattle.yt_ticket_demo.specs.Own.{Owns};
+    ghost use Rattle.yt_ticket_demo.specs.Workers.{HasAttended};
+
+    fn attend<R: Wait>(&self, rt: &R, desk: &Desk, worker: &mut Worker)
+        requires own { Owns desk.now worker.old.seat }
+        ensures attended { HasAttended desk.now worker.old worker.new };
+}
+
+/// To work within a gate until nothing is left to do.
+#[derive(Drop)]
+pub struct Work<G: Gate> {
+    pub gate: G,
+}
+
+impl<G: Gate> Duty for Work<G> {
+    fn attend<R: Wait>(&self, rt: &R, desk: &Desk, worker: &mut Worker) {
+        worker.result = work(rt, desk, &mut worker.seat, &self.gate);
+    }
+}
+
+/// To open and close this many turns, with nothing done in them. It measures the lock.
+#[derive(Drop)]
+pub struct Turns {
+    pub count: u64,
+}
+
+impl Duty for Turns {
+    fn attend<R: Wait>(&self, rt: &R, desk: &Desk, worker: &mut Worker) {
+        for _ in 0..self.count {
+            let (turn, board) = desk.lock.open(rt, &mut worker.seat);
+            desk.lock.close_turn(&mut worker.seat, turn, board);
+        }
+    }
+}
