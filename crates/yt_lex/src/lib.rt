@@ -3,6 +3,7 @@
 #![tactic(auto)]
 
 mod bytes;
+mod encoding;
 mod lines;
 mod numbers;
 mod texts;
@@ -12,6 +13,7 @@ mod values;
 ghost use Rattle.std.specs.Prelude.{◌≡◌};
 ghost use Rattle.yt_lex.specs.declared.LexRefusal.TheVariants.{Memory};
 
+pub use encoding::utf8_end;
 pub use lines::lex_line;
 use std::alloc::{AllocError, AllocFailed};
 pub use values::{null_of, number_of, text_of};
@@ -102,3 +104,6 @@ impl<T: Drop> From<AllocFailed<T>> for LexRefusal {
         LexRefusal::Memory
     }
 }
+
+#[cfg(test)]
+mod tests;

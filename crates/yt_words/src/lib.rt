@@ -9,3 +9,6 @@ mod reading;
 pub use help::{HELP, VERSION};
 pub use names::{CommandName, Deps};
 pub use reading::{Options, Request, WordsRefusal, read_words};
+
+#[cfg(test)]
+mod tests;
