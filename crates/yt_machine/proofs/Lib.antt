@@ -22,3 +22,7 @@ pub mod CausesHold
 pub mod Distinct
 pub mod Caused
 pub mod SmallRows
+pub mod Recorded
+pub mod Allowed
+pub mod Working
+pub mod Stamped

@@ -22,3 +22,7 @@ pub mod Rests
 pub mod CauseLaw
 pub mod WalkLaw
 pub mod SmallHistories
+pub mod Recorded
+pub mod Allowed
+pub mod Work
+pub mod Stamps

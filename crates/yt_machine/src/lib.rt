@@ -6,17 +6,21 @@
 #![tactic(auto)]
 
 ghost use Rattle.std.specs.Prelude.{ℕ, ◌≤◌};
+ghost use Rattle.yt_machine.specs.Allowed.{AllowedLaw};
 ghost use Rattle.yt_machine.specs.CauseLaw.{CauseLaw};
 ghost use Rattle.yt_machine.specs.DepsLaw.{DepsLaw};
 ghost use Rattle.yt_machine.specs.History.{HistoryLaw};
 ghost use Rattle.yt_machine.specs.Local.{LocalLaw};
+ghost use Rattle.yt_machine.specs.Recorded.{LongerLaw, RecordedLaw};
 ghost use Rattle.yt_machine.specs.Replay.{ReplayLaw};
 ghost use Rattle.yt_machine.specs.Rests.{RestLaw};
 ghost use Rattle.yt_machine.specs.Small.{small};
 ghost use Rattle.yt_machine.specs.SmallHistories.{SmallRows};
+ghost use Rattle.yt_machine.specs.Stamps.{StampLaw};
 ghost use Rattle.yt_machine.specs.Trees.{Tree};
 ghost use Rattle.yt_machine.specs.TreeLaw.{IsReplay};
 ghost use Rattle.yt_machine.specs.WalkLaw.{WalkLaw};
+ghost use Rattle.yt_machine.specs.Work.{WorkLaw};
 
 /// A program that asks questions is fixed by the answers in its log: whoever gives them, whenever, comes to the same
 /// result by the same log. It is stated at questions, answers and results that are numbers, and proved for all types.
@@ -37,9 +41,15 @@ pub fn valid_reads_make_a_run()
     ensures { (budget : ℕ) → 1 ≤ budget → ReplayLaw (small budget) }
 {}
 
-/// An event at an update changes neither the updates below it nor what lies below any of them or below it.
+/// An event at an update changes neither the updates below it nor what lies below any of them or below it; it is at no
+/// committed update, and what was committed stays so.
 pub fn events_leave_what_is_below()
     ensures { (budget : ℕ) → 1 ≤ budget → LocalLaw (small budget) }
+{}
+
+/// Each event is allowed just where the standing of its update says so, and a question is there just where it is paused.
+pub fn standings_allow_events()
+    ensures { (budget : ℕ) → AllowedLaw (small budget) }
 {}
 
 /// Each abort has a cause that holds, named once in the event's entry: the reader's first read that lost its value to the
@@ -56,6 +66,27 @@ pub fn precise_restarts_are_coarse()
 /// One walk upwards finds the conflict set and the cascade, and restarts just the updates that they name.
 pub fn one_walk_settles()
     ensures { (budget : ℕ) → WalkLaw (small budget) }
+{}
+
+/// A query that mentions no relation which an event touches below an update, by adding writes or taking them away, has the
+/// same value there before and after it.
+pub fn untouched_values_stay()
+    ensures { (budget : ℕ) → 1 ≤ budget → StampLaw (small budget) }
+{}
+
+/// Each step and each delivery lowers the work that is left, so making them while one is allowed comes to an end.
+pub fn steps_and_deliveries_end()
+    ensures { (budget : ℕ) → 1 ≤ budget → WorkLaw (small budget) }
+{}
+
+/// Each update does what it was handed in to do; without live answers and withdrawals it has the answers recorded for it.
+pub fn histories_keep_the_session()
+    ensures { (budget : ℕ) → RecordedLaw (small budget) }
+{}
+
+/// A history stays one when further updates are handed in.
+pub fn histories_stay_with_more_updates()
+    ensures { (budget : ℕ) → LongerLaw (small budget) }
 {}
 
 /// An update taken whole ends within its budget of steps, or stops at a question for want of an answer.
