@@ -1,5 +1,5 @@
 -- What a call did to a device: the bytes that it gave or took, and whether it failed.
-use Rattle.std.specs.Prelude.{ℕ, ◌≤◌, List, Option, length}
+use Rattle.std.specs.Prelude.{ℕ, ◌≤◌, List, [], Option, Some, length}
 use Rattle.std.specs.Io.KnownBytes.{Appends, Consumes, IsAtEnd, Keeps}
 use Rattle.yt_text.specs.Faults.{Rose}
 use Rattle.yt_text.specs.Writing.{TakesAllOrPrefix, TakesPrefix}
@@ -20,6 +20,10 @@ change told fault_count before after =
       faults = fault_count before;
       faults_after = fault_count after;
     }
+
+-- a source without bytes, which did not fail
+abbrev pub no_input : Change
+no_input = record { bytes = Some []; bytes_after = Some []; faults = 0; faults_after = 0 }
 
 -- the device failed: its count of faults rose, or stands at its last value
 abbrev pub Fails : Change → Type 0

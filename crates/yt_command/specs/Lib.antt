@@ -1,3 +1,4 @@
+pub mod Completeness
 pub mod Devices
 pub mod Outputs
 pub mod Rows

@@ -66,7 +66,8 @@ Row Refuted gives source out err = Ends endings.Refuted gives source out err
 Row QueryRefused gives source out err = Refuses refusals.QueryRefused gives source out err
 Row Damaged gives source out err = Refuses refusals.Damaged gives source out err
 
--- the command made an output of the whole input, or it has none for a reason that shows in the source
+-- the command made an output of the whole input, or it has none for a reason that shows in the
+-- source
 abbrev pub Makes : Result Output Failure → Meaning → Change → Type 0
 Makes (Ok output) gives source =
     GivesAll INPUT_LIMIT source (λ input. gives input (view_of output))

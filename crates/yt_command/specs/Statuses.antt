@@ -3,6 +3,7 @@
 use Rattle.std.specs.Prelude.{ℕ, List, codes}
 use Rattle.yt_text.specs.declared.whole.ReadRefusal.{ReadRefusal}
 use Rattle.yt_text.specs.declared.whole.ReadRefusal.TheVariants as reading
+use Rattle.yt_command.specs.Outputs.{OutputView, Text, Refused}
 use Rattle.yt_command.specs.declared.outputs.Ending.{Ending}
 use Rattle.yt_command.specs.declared.outputs.Ending.TheVariants as endings
 use Rattle.yt_command.specs.declared.outputs.Refusal.{Refusal}
@@ -41,6 +42,11 @@ status_of_refusal refusals.BaseViolates = BaseViolates
 status_of_refusal refusals.TooLarge = TooLarge
 status_of_refusal refusals.QueryRefused = QueryRefused
 status_of_refusal refusals.Damaged = Damaged
+
+-- the status of a command with this output
+abbrev pub status_of : OutputView → Status
+status_of (Text ending text) = status_of_ending ending
+status_of (Refused refusal line) = status_of_refusal refusal
 
 -- the status of a run that failed
 abbrev pub status_of_failure : Failure → Status

@@ -10,7 +10,7 @@ mod statuses;
 
 pub use failures::Failure;
 pub use outputs::{Command, Ending, Output, Refusal};
-pub use performing::{INPUT_LIMIT, deliver, fail, perform};
+pub use performing::{INPUT_LIMIT, deliver, fail, perform, perform_alone};
 pub use statuses::Status;
 pub use yt_memory::Memory;
 

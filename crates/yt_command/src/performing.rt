@@ -1,11 +1,12 @@
 // A command between its devices.
 ghost use Rattle.std.specs.Prelude.{◌≡◌};
-ghost use Rattle.yt_command.specs.Devices.{Tells, change};
+ghost use Rattle.yt_command.specs.Completeness.{IsComplete};
+ghost use Rattle.yt_command.specs.Devices.{Tells, change, no_input};
 ghost use Rattle.yt_command.specs.Outputs.{view_of};
 ghost use Rattle.yt_command.specs.Rows.{Delivers, Makes, Row};
 ghost use Rattle.yt_command.specs.Statuses.{line_of, status_of_failure};
 
-use crate::{Command, Failure, Output, Status};
+use crate::{Command, Failure, Memory, Output, Status};
 use std::alloc::Global;
 use yt_text::{Sink, Source, read_all, write_all};
 
@@ -22,14 +23,37 @@ pub fn perform<C: Command, S: Source, O: Sink, E: Sink>(
     out: &mut O,
     err: &mut E,
 ) -> Status
-    ensures { Row result (C.gives command.now)
+    ensures row { Row result (C.gives command.now)
         (change S.left S.fault_count source.old source.new)
         (change O.taken O.fault_count out.old out.new)
         (change E.taken E.fault_count err.old err.new) }
+    ensures complete { IsComplete result (C.gives command.now)
+        (change S.left S.fault_count source.old source.new)
+        (change O.taken O.fault_count out.old out.new) }
 {
     match read_and_run(alloc, command, source) {
         Ok(output) => deliver(output, out, err),
         Err(failure) => fail(failure, err),
+    }
+}
+
+/// Runs a command that reads no input, and writes its text to `out` or its refusal to `err`. The
+/// rows are those of `perform` with an empty input, so no fault of reading is among them.
+pub fn perform_alone<C: Command, O: Sink, E: Sink>(
+    alloc: Global,
+    command: &C,
+    out: &mut O,
+    err: &mut E,
+) -> Status
+    ensures row { Row result (C.gives command.now) no_input
+        (change O.taken O.fault_count out.old out.new)
+        (change E.taken E.fault_count err.old err.new) }
+    ensures complete { IsComplete result (C.gives command.now) no_input
+        (change O.taken O.fault_count out.old out.new) }
+{
+    match command.run(alloc, &[]) {
+        Ok(output) => deliver(output, out, err),
+        Err(Memory) => fail(Failure::OutOfMemory, err),
     }
 }
 

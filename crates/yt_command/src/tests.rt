@@ -150,3 +150,35 @@ fn a_failure_is_told(rt: HostRuntime) -> Result<(), Fail> {
     }
     Ok(())
 }
+
+// A command that reads no input.
+struct Greeting;
+
+impl Command for Greeting {
+    ghost use Rattle.std.specs.Prelude.{⊤};
+
+    ghost gives = { λ _ _ _. ⊤ };
+
+    fn run(&self, alloc: Global, _input: &[u8]) -> Result<Output, Memory> {
+        Ok(Output::Text(Ending::Ended, b"hello\n".to_vec(alloc)?))
+    }
+}
+
+#[test]
+fn a_command_may_read_no_input(rt: HostRuntime) -> Result<(), Fail> {
+    let alloc = rt.alloc();
+    for (writing, number, text, line) in [
+        (0, 0, b"hello\n".as_slice(), b"".as_slice()),
+        (1, 6, b"", b"youtopia: write fault\n"),
+    ] {
+        let mut out = sink(alloc, writing)?;
+        let mut err = sink(alloc, 0)?;
+        assert_eq!(rt;
+            perform_alone(alloc, &Greeting, &mut out, &mut err).number(),
+            number
+        );
+        assert_eq!(rt; out.bytes(), text);
+        assert_eq!(rt; err.bytes(), line);
+    }
+    Ok(())
+}
