@@ -65,9 +65,13 @@ told scope ms B r =
       repository = answered r.repository;
     }
 
--- The turns of a session's updates at the machine that looks at every violation.
+-- The turns of a session's updates, each by attempt 0; the first is update n.
+abbrev pub turns_in : (scope : Operation → Scope) (ms : List Rule) (B : ℕ) → ℕ → List Request → List (Turn (chase scope ms B))
+turns_in scope ms B n rs = session_turns (chase scope ms B) n (map (λ (r : Request). record { operation = r.operation; answers = r.answers }) rs)
+
+-- Those of a whole session at the machine that looks at every violation.
 abbrev pub turns_of : (ms : List Rule) (B : ℕ) → List Request → List (Turn (whole_chase ms B))
-turns_of ms B rs = session_turns (whole_chase ms B) 1 (map (λ r. record { operation = r.operation; answers = r.answers }) rs)
+turns_of ms B rs = turns_in every ms B 1 rs
 
 -- The serial machine on a session: its mappings, the budget of steps, its base and its updates.
 abbrev pub serial_result : List Rule → ℕ → List Fact → List Request → SerialResult
