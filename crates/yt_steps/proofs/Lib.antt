@@ -13,3 +13,6 @@ pub mod Refusing
 pub mod Timely
 pub mod Holding
 pub mod Lacks
+pub mod ShiftedWords
+pub mod ShiftedSteps
+pub mod ShiftedRuns

@@ -10,6 +10,7 @@ pub mod Origins
 pub mod Timely
 pub mod Holding
 pub mod StepLaws
+pub mod Shifting
 pub mod RowWords
 pub mod Rows
 pub mod SessionRows

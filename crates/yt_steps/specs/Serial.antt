@@ -44,13 +44,14 @@ abbrev pub at_rest : (scope : Operation → Scope) (ms : List Rule) (B : ℕ) �
 at_rest scope ms B (Ends P) = (P, None)
 at_rest scope ms B (Stops P l) = (P, Some l)
 
+-- The finish of update n with that outcome in that state.
+abbrev pub finished_so : ℕ → Attempt → Option Outcome → List Finished
+finished_so n P None = []
+finished_so n P (Some o) = record { number = n; outcome = o; steps = P.steps; nulls = P.nulls } ∷ []
+
 -- The finish of update n in that state.
 abbrev pub finished : ℕ → Attempt → List Finished
-finished n P = finish (outcome_in P.phase)
-  where
-    finish : Option Outcome → List Finished
-    finish None = []
-    finish (Some o) = record { number = n; outcome = o; steps = P.steps; nulls = P.nulls } ∷ []
+finished n P = finished_so n P (outcome_in P.phase)
 
 -- The stop of update n in that state.
 abbrev pub stopped : ℕ → Attempt → Lack → Option Stopped

@@ -3,6 +3,7 @@ ghost use Rattle.yt_steps.specs.Soundness.{CausedIsEvery, LooksAreFirst};
 ghost use Rattle.yt_steps.specs.Holding.{WholeRests, HoldAfter, HoldThroughout, SerialScopesAgree};
 ghost use Rattle.yt_steps.specs.Origins.{NullsComeFrom, RefusedWritesNothing};
 ghost use Rattle.yt_steps.specs.StepLaws.{StepsReplay, FitsDecideLacks, ChaseIsMachine};
+ghost use Rattle.yt_steps.specs.Shifting.{StepsShift, WholeShifts, SerialShifts, AttemptsAreOuter};
 
 /// Over a repository where the mappings in force hold an attempt goes the same way in the scope of all violations and in
 /// that of those which it caused: at every state that it reaches each query of the next step has one value in both, so
@@ -63,4 +64,24 @@ pub fn nulls_come_from_below()
 /// An update that is refused has written nothing.
 pub fn refused_writes_nothing()
     ensures { RefusedWritesNothing }
+{}
+
+/// A shift of attempt numbers commutes with every step: its reads and its move are the shifted ones.
+pub fn steps_shift()
+    ensures { StepsShift }
+{}
+
+/// So an update taken whole with other attempt numbers comes to the shifted rest.
+pub fn whole_shifts()
+    ensures { WholeShifts }
+{}
+
+/// So does the serial machine.
+pub fn serial_shifts()
+    ensures { SerialShifts }
+{}
+
+/// Whatever the numbers of the attempts, the serial machine leaves and tells the same by outer forms as with attempt 0.
+pub fn attempts_are_outer()
+    ensures { AttemptsAreOuter }
 {}
