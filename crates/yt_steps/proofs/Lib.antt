@@ -6,3 +6,13 @@ pub mod Scopes
 pub mod Looks
 pub mod Passing
 pub mod Made
+pub mod ChaseLaws
+pub mod MadeRuns
+pub mod Origins
+pub mod Refusing
+pub mod Timely
+pub mod Holding
+pub mod Lacks
+pub mod ShiftedWords
+pub mod ShiftedSteps
+pub mod ShiftedRuns

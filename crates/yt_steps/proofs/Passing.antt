@@ -1,9 +1,9 @@
 -- What passes a test throughout lists, repositories and matches passes it after searches, writes and rewritings.
-use Rattle.std.specs.Prelude.{find, filter, unwrap_or, ◌==◌, slice_get}
+use Rattle.std.specs.Prelude.{find, filter, unwrap_or, ◌==◌}
 use Rattle.std.proofs.Common.{◌≡◌, ℕ, zero, suc, refl, subst, List, [], ◌∷◌, ◌++◌, map, length, Bool, true, false, not, cond, Option, Some, None}
 use Rattle.std.specs.Option.{option_map, option_and_then}
 use Rattle.std.specs.Ordering.{is_lt}
-use Rattle.std.specs.List.{list_all, flat_map, zip, AllByRecursion}
+use Rattle.std.specs.List.{list_all, slice_index_or, flat_map, zip, AllByRecursion}
 use Rattle.std.specs.BTreeSet.{insert_key}
 use Rattle.std.proofs.lemmas.Bool.{and_parts}
 use Rattle.yt_model.specs.Values.{Datum, Fact, datum_cmp, fact_cmp, same_fact, same_datum}
@@ -55,10 +55,10 @@ found_passes_too q p d (x ∷ xs) a e = let h = and_parts (q x) (list_all q xs) 
     by true h rest = h
     by false h rest = rest
 
-pub get_passes : {A : Type 0} (q : A → Bool) (d : A) (xs : List A) (i : ℕ) → list_all q xs ≡ true → q d ≡ true → q (unwrap_or (slice_get xs i) d) ≡ true
-get_passes q d [] i a e = e
-get_passes q d (x ∷ xs) zero a e = (and_parts (q x) (list_all q xs) a).0
-get_passes q d (x ∷ xs) (suc i) a e = get_passes q d xs i (and_parts (q x) (list_all q xs) a).1 e
+pub index_passes : {A : Type 0} (q : A → Bool) (d : A) (xs : List A) (i : ℕ) → list_all q xs ≡ true → q d ≡ true → q (slice_index_or xs i d) ≡ true
+index_passes q d [] i a e = e
+index_passes q d (x ∷ xs) zero a e = (and_parts (q x) (list_all q xs) a).0
+index_passes q d (x ∷ xs) (suc i) a e = index_passes q d xs i (and_parts (q x) (list_all q xs) a).1 e
 
 -- ---- lists of tuples
 

@@ -6,6 +6,11 @@ pub mod Chase
 pub mod Serial
 pub mod Looking
 pub mod Soundness
+pub mod Origins
+pub mod Timely
+pub mod Holding
+pub mod StepLaws
+pub mod Shifting
 pub mod RowWords
 pub mod Rows
 pub mod SessionRows

@@ -44,13 +44,14 @@ abbrev pub at_rest : (scope : Operation → Scope) (ms : List Rule) (B : ℕ) �
 at_rest scope ms B (Ends P) = (P, None)
 at_rest scope ms B (Stops P l) = (P, Some l)
 
+-- The finish of update n with that outcome in that state.
+abbrev pub finished_so : ℕ → Attempt → Option Outcome → List Finished
+finished_so n P None = []
+finished_so n P (Some o) = record { number = n; outcome = o; steps = P.steps; nulls = P.nulls } ∷ []
+
 -- The finish of update n in that state.
 abbrev pub finished : ℕ → Attempt → List Finished
-finished n P = finish (outcome_in P.phase)
-  where
-    finish : Option Outcome → List Finished
-    finish None = []
-    finish (Some o) = record { number = n; outcome = o; steps = P.steps; nulls = P.nulls } ∷ []
+finished n P = finished_so n P (outcome_in P.phase)
 
 -- The stop of update n in that state.
 abbrev pub stopped : ℕ → Attempt → Lack → Option Stopped
@@ -65,9 +66,13 @@ told scope ms B r =
       repository = answered r.repository;
     }
 
--- The turns of a session's updates at the machine that looks at every violation.
+-- The turns of a session's updates, each by attempt 0; the first is update n.
+abbrev pub turns_in : (scope : Operation → Scope) (ms : List Rule) (B : ℕ) → ℕ → List Request → List (Turn (chase scope ms B))
+turns_in scope ms B n rs = session_turns (chase scope ms B) n (map (λ (r : Request). record { operation = r.operation; answers = r.answers }) rs)
+
+-- Those of a whole session at the machine that looks at every violation.
 abbrev pub turns_of : (ms : List Rule) (B : ℕ) → List Request → List (Turn (whole_chase ms B))
-turns_of ms B rs = session_turns (whole_chase ms B) 1 (map (λ r. record { operation = r.operation; answers = r.answers }) rs)
+turns_of ms B rs = turns_in every ms B 1 rs
 
 -- The serial machine on a session: its mappings, the budget of steps, its base and its updates.
 abbrev pub serial_result : List Rule → ℕ → List Fact → List Request → SerialResult

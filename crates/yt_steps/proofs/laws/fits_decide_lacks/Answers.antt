@@ -1,0 +1,5 @@
+use Rattle.yt_steps.proofs.Lacks.{fits_decide}
+use Rattle.yt_steps.proofs.laws.fits_decide_lacks.Goals as goal
+
+pub returns : goal.returns
+returns c = fits_decide

@@ -1,0 +1,5 @@
+use Rattle.yt_steps.proofs.Holding.{hold_after}
+use Rattle.yt_steps.proofs.laws.mappings_hold_after.Goals as goal
+
+pub returns : goal.returns
+returns c = hold_after

@@ -1,0 +1,5 @@
+use Rattle.yt_steps.proofs.Holding.{whole_rests}
+use Rattle.yt_steps.proofs.laws.whole_rests.Goals as goal
+
+pub returns : goal.returns
+returns c = whole_rests
