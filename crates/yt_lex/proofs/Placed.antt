@@ -1,13 +1,15 @@
 -- Tokens where they stand.
 use Rattle.std.proofs.Common.{◌≡◌, ◌∙◌, ℕ, ◌+◌, ◌-◌, ◌<◌, ◌≤◌, true, List, [], ◌∷◌, ◌++◌, take, drop, length, sym, ap, ap₂, subst, arith}
-use Rattle.std.specs.Prelude.{Ok, All}
+use Rattle.std.specs.Prelude.{IfOk, Ok, All, Result}
 use Rattle.std.proofs.lemmas.List.{drop-drop, drop-take, length-drop, length-take-le, take-take}
 use Rattle.std.proofs.lemmas.List.Elements.{All-append, All-cons, All-nil, All-weaker}
 use Rattle.yt_lex.specs.declared.TokenKind.{TokenKind}
 use Rattle.yt_lex.specs.declared.Token.{Token}
-use Rattle.yt_lex.specs.Spelling.{IsTokenAt, spells, spelling_at}
+use Rattle.yt_lex.specs.declared.LexRefusal.{LexRefusal}
+use Rattle.yt_lex.specs.Spelling.{IsLongest, IsLongestIn, IsTokenAt, spells, spelling_at}
 use Rattle.yt_lex.specs.Tokens.{token_at}
 use Rattle.yt_lex.proofs.Lined.{token_of}
+use Rattle.yt_lex.proofs.Longest.{token_longest}
 use Rattle.yt_lex.proofs.Spelled.{Spelled, token_spelled}
 
 -- a token more
@@ -25,6 +27,18 @@ one_more start place line tokens kind width inside found least most before =
       spelled = ap₂ (λ j k. spells kind (take j (drop k line))) n m ∙ spelled;
     } in
     All-append (IsTokenAt start line) tokens (token_of kind (start + place) width ∷ []) before (All-cons (IsTokenAt start line) (token_of kind (start + place) width) [] there (All-nil (IsTokenAt start line)))
+
+-- a token more, the longest at its place
+pub longest_more : (start place : ℕ) (line : List ℕ) (tokens : List Token) (kind : TokenKind) (width : ℕ)
+    → token_at (start + place) (drop place line) ≡ Ok (kind, width)
+    → All (IsLongestIn start line) tokens → All (IsLongestIn start line) (tokens ++ token_of kind (start + place) width ∷ [])
+longest_more start place line tokens kind width found before =
+    let longest : IsLongest (drop place line) width = subst (λ (read : Result (TokenKind × ℕ) LexRefusal). IfOk read (λ x. IsLongest (drop place line) x.1)) found (token_longest (start + place) (drop place line)) in
+    let n : width ≡ start + place + width - (start + place) = omega arith in
+    let m : place ≡ start + place - start = omega arith in
+    let there : IsLongestIn start line (token_of kind (start + place) width) =
+    subst (λ (k : ℕ). IsLongest (drop k line) (start + place + width - (start + place))) m (subst (λ (k : ℕ). IsLongest (drop place line) k) n longest) in
+    All-append (IsLongestIn start line) tokens (token_of kind (start + place) width ∷ []) before (All-cons (IsLongestIn start line) (token_of kind (start + place) width) [] there (All-nil (IsLongestIn start line)))
 
 -- a token of the line is one of the whole
 pub whole : (from : ℕ) (bytes : List ℕ) (size : ℕ) (tokens : List Token) → from ≤ length bytes → size ≤ length (drop from bytes)

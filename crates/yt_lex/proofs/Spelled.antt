@@ -1,5 +1,5 @@
 -- What is read as a token is spelled as its kind says.
-use Rattle.std.proofs.Common.{◌≡◌, ◌∙◌, ℕ, suc, ◌+◌, ◌≤◌, Bool, true, false, List, [], ◌∷◌, ◌++◌, take, drop, length, refl, sym, ap, subst, arith}
+use Rattle.std.proofs.Common.{◌≡◌, ◌∙◌, ℕ, suc, ◌+◌, ◌-◌, ◌≤◌, Bool, true, false, List, [], ◌∷◌, ◌++◌, take, drop, length, refl, sym, ap, subst, arith}
 use Rattle.std.specs.Prelude.{Option, Some, None, Result, Ok, Err, IfOk, ◌==◌, nat_lt, nat_le}
 use Rattle.std.specs.List.{list_all, prefix_len}
 use Rattle.std.proofs.lemmas.Bool.{eqb-true}
@@ -34,7 +34,7 @@ run_all p (x ∷ xs) = by (run_all p xs) (p x) refl where
       ap (λ n. list_all p (take n (x ∷ xs))) none
 
 -- as many as pass, where the next one does not
-run_whole : (p : ℕ → Bool) (xs : List ℕ) (y : ℕ) (ys : List ℕ) → list_all p xs ≡ true → p y ≡ false → prefix_len p (xs ++ y ∷ ys) ≡ length xs
+pub run_whole : (p : ℕ → Bool) (xs : List ℕ) (y : ℕ) (ys : List ℕ) → list_all p xs ≡ true → p y ≡ false → prefix_len p (xs ++ y ∷ ys) ≡ length xs
 run_whole p [] y ys all stops = rw stops refl
 run_whole p (x ∷ xs) y ys all stops = by (λ rest. run_whole p xs y ys rest stops) (p x) refl where
   by : (list_all p xs ≡ true → prefix_len p (xs ++ y ∷ ys) ≡ length xs) → (passes : Bool) → p x ≡ passes → prefix_len p ((x ∷ xs) ++ y ∷ ys) ≡ length (x ∷ xs)
@@ -43,7 +43,7 @@ run_whole p (x ∷ xs) y ys all stops = by (λ rest. run_whole p xs y ys rest st
       one_more p x (xs ++ y ∷ ys) e ∙ (let whole : prefix_len p (xs ++ y ∷ ys) ≡ length xs = others rest in omega arith)
   by others false e = let bad : false ≡ true = rw e at all in absurd (let f : ⊥ = cc in f)
 
-take_more : (n b : ℕ) (xs : List ℕ) → take (1 + n) (b ∷ xs) ≡ b ∷ take n xs
+pub take_more : (n b : ℕ) (xs : List ℕ) → take (1 + n) (b ∷ xs) ≡ b ∷ take n xs
 take_more n b xs = let e : 1 + n ≡ suc n = omega arith in ap (λ k. take k (b ∷ xs)) e
 
 take_none : (n : ℕ) (xs : List ℕ) → take (0 + n) xs ≡ take n xs
@@ -71,7 +71,7 @@ plain_spelled place b rest digit = by (run is_digit (b ∷ rest) == 0) (is_wide 
       let narrow : is_wide false (b ∷ digits_of rest) ≡ false = sym (ap (is_wide false) whole) ∙ f in
       rw (e, f) (ap (spells Number) (take_none (run is_digit (b ∷ rest)) (b ∷ rest) ∙ whole) ∙ digits_spell b (digits_of rest) digit (run_all is_digit rest) narrow)
 
-digits_are : (digits : List ℕ) → (run is_digit digits == 0) ≡ false → are_digits (digits_of digits) ≡ true
+pub digits_are : (digits : List ℕ) → (run is_digit digits == 0) ≡ false → are_digits (digits_of digits) ≡ true
 digits_are digits some =
     let size : (length (digits_of digits) == 0) ≡ false = ap (λ (n : ℕ). n == 0) (length-prefix_len is_digit digits) ∙ some in
     rw (size, run_all is_digit digits) refl
@@ -130,9 +130,9 @@ null_spelled place rest = by (run is_digit rest == 0) refl where
       rw e (subst (λ (l : List ℕ). Spelled (63 ∷ l) (point_at place (digits_of rest) (drop (run is_digit rest) rest))) whole
       (point_spelled place (digits_of rest) (drop (run is_digit rest) rest) (digits_are rest e) (run_all is_digit rest)))
 
--- a text is read from the bytes that it takes alone
-abbrev Kept : ℕ → ℕ → List ℕ → Result (List ℕ × ℕ) LexRefusal → Type 0
-Kept opened place bytes read = IfOk read (λ x. (text_from opened place (take x.1 bytes) ≡ Ok x) × (x.1 ≤ length bytes))
+-- a text is read in the same way from any bytes that begin with those that it takes
+abbrev pub Kept : ℕ → ℕ → List ℕ → Result (List ℕ × ℕ) LexRefusal → Type 0
+Kept opened place bytes read = IfOk read (λ x. ((m : ℕ) → x.1 ≤ m → text_from opened place (take m bytes) ≡ Ok x) × (x.1 ≤ length bytes))
 
 closing : (opened place b : ℕ) (rest : List ℕ) → (b == 34) ≡ true → text_from opened place (b ∷ rest) ≡ Ok ([], 1)
 unfolding text_from
@@ -144,33 +144,43 @@ unfolding text_from
 plain opened place b [] e f = rw e refl
 plain opened place b (c ∷ rest) e f = rw (e, f) refl
 
+take_first : (m b : ℕ) (xs : List ℕ) → 1 ≤ m → take m (b ∷ xs) ≡ b ∷ take (m - 1) xs
+take_first m b xs some = let e : m ≡ suc (m - 1) = omega arith in ap (λ k. take k (b ∷ xs)) e
+
+take_second : (m b c : ℕ) (xs : List ℕ) → 2 ≤ m → take m (b ∷ c ∷ xs) ≡ b ∷ c ∷ take (m - 2) xs
+take_second m b c xs some = let e : m ≡ suc (suc (m - 2)) = omega arith in ap (λ k. take k (b ∷ c ∷ xs)) e
+
+kept_quote : (o p b : ℕ) (rest : List ℕ) → (b == 34) ≡ true → Kept o p (b ∷ rest) (Ok ([], 1))
+kept_quote o p b rest e = (λ m some. ap (text_from o p) (take_first m b rest some) ∙ closing o p b (take (m - 1) rest) e, omega arith)
+
 kept_plain : (o p b : ℕ) (rest : List ℕ) (read : Result (List ℕ × ℕ) LexRefusal) → (b == 34) ≡ false → (b == 92) ≡ false → Kept o (p + 1) rest read → Kept o p (b ∷ rest) (says b 1 read)
 kept_plain o p b rest (Err refusal) e f alone = tt
 kept_plain o p b rest (Ok x) e f alone =
-    (ap (text_from o p) (take_more x.1 b rest) ∙ plain o p b (take x.1 rest) e f ∙ ap (says b 1) alone.0, omega (arith, alone.1))
+    (λ m some. ap (text_from o p) (take_first m b rest (omega arith)) ∙ plain o p b (take (m - 1) rest) e f ∙ ap (says b 1) (alone.0 (m - 1) (omega arith)), omega (arith, alone.1))
 
 kept_escaped : (o p b c : ℕ) (rest : List ℕ) (said : Option ℕ) (place : ℕ) (read : Result (List ℕ × ℕ) LexRefusal) → (b == 34) ≡ false → (b == 92) ≡ true → escaped c ≡ said
     → Kept o (p + 2) rest read → Kept o p (b ∷ c ∷ rest) (says_escaped place said read)
 unfolding text_from
 kept_escaped o p b c rest None place read e f g alone = tt
 kept_escaped o p b c rest (Some d) place (Err refusal) e f g alone = tt
-kept_escaped o p b c rest (Some d) place (Ok x) e f g alone =
-    let n : 2 + x.1 ≡ suc (suc x.1) = omega arith in
-    let shorter : take (2 + x.1) (b ∷ c ∷ rest) ≡ b ∷ c ∷ take x.1 rest = ap (λ k. take k (b ∷ c ∷ rest)) n in
-    let reads : text_from o p (b ∷ c ∷ take x.1 rest) ≡ says d 2 (text_from o (p + 2) (take x.1 rest)) = rw (e, f, g) refl in
-    (ap (text_from o p) shorter ∙ reads ∙ ap (says d 2) alone.0, omega (arith, alone.1))
+kept_escaped o p b c rest (Some d) place (Ok x) e f g alone = (λ m some. long m some, omega (arith, alone.1)) where
+  reads : (xs : List ℕ) → text_from o p (b ∷ c ∷ xs) ≡ says d 2 (text_from o (p + 2) xs)
+  reads xs = rw (e, f, g) refl
 
-kept : (o p o' p' : ℕ) (bytes : List ℕ) → Kept o' p' bytes (text_from o p bytes)
+  long : (m : ℕ) → 2 + x.1 ≤ m → text_from o p (take m (b ∷ c ∷ rest)) ≡ says d 2 (Ok x)
+  long m some = ap (text_from o p) (take_second m b c rest (omega arith)) ∙ reads (take (m - 2) rest) ∙ ap (says d 2) (alone.0 (m - 2) (omega arith))
+
+pub kept : (o p o' p' : ℕ) (bytes : List ℕ) → Kept o' p' bytes (text_from o p bytes)
 unfolding text_from
 kept o p o' p' [] = tt
 kept o p o' p' (b ∷ []) = by (b == 34) refl where
   by : (quote : Bool) → (b == 34) ≡ quote → Kept o' p' (b ∷ []) (text_from o p (b ∷ []))
-  by true e = rw e (closing o' p' b [] e, omega arith)
+  by true e = rw e (kept_quote o' p' b [] e)
   by false e = rw e tt
 kept o p o' p' (b ∷ c ∷ rest) = by (kept o (p + 2) o' (p' + 2) rest) (kept o (p + 1) o' (p' + 1) (c ∷ rest)) (b == 34) (b == 92) refl refl where
   by : Kept o' (p' + 2) rest (text_from o (p + 2) rest) → Kept o' (p' + 1) (c ∷ rest) (text_from o (p + 1) (c ∷ rest))
       → (quote backslash : Bool) → (b == 34) ≡ quote → (b == 92) ≡ backslash → Kept o' p' (b ∷ c ∷ rest) (text_from o p (b ∷ c ∷ rest))
-  by two one true backslash e f = rw e (closing o' p' b [] e, omega arith)
+  by two one true backslash e f = rw e (kept_quote o' p' b (c ∷ rest) e)
   by two one false true e f = rw (e, f) (kept_escaped o' p' b c rest (escaped c) p (text_from o (p + 2) rest) e f refl two)
   by two one false false e f = rw (e, f) (kept_plain o' p' b (c ∷ rest) (text_from o (p + 1) (c ∷ rest)) e f one)
 
@@ -186,7 +196,7 @@ closed_spelled opened rest (Ok x) alone = by (nat_lt 256 (length x.0)) refl wher
       let short : nat_le (length x.0) 256 ≡ true = grind (arith, nat_tests) in
       let size : length (take x.1 rest) ≡ x.1 = length-take-le x.1 rest alone.1 in
       let whole : (x.1 == length (take x.1 rest)) ≡ true = ap (λ (n : ℕ). x.1 == n) size ∙ equals_itself x.1 in
-      rw e (ap (spells Text) (take_more x.1 34 rest) ∙ rw (alone.0, short, whole) refl)
+      rw e (ap (spells Text) (take_more x.1 34 rest) ∙ rw (alone.0 x.1 (omega arith), short, whole) refl)
 
 sign_spelled : (place b : ℕ) (rest : List ℕ) → Spelled (b ∷ rest) (sign_at place (sign b))
 sign_spelled place b rest = by (b == 40) (b == 41) (b == 44) (b == 58) refl refl refl refl where

@@ -53,6 +53,10 @@ spells Colon (b ∷ rest) = (b == 58) && (length rest == 0)
 spells Arrow (b ∷ []) = false
 spells Arrow (b ∷ c ∷ rest) = (b == 45) && (c == 62) && (length rest == 0)
 
+-- no more than so many of the bytes, from the first on, spell a token
+abbrev pub IsLongest : List ℕ → ℕ → Type 0
+IsLongest bytes width = (kind : TokenKind) (n : ℕ) → width < n → n ≤ length bytes → spells kind (take n bytes) ≡ false
+
 -- the bytes of a token, where the first byte stands at the place `start`
 abbrev pub spelling_at : ℕ → List ℕ → Token → List ℕ
 spelling_at start bytes token = take (token.to - token.from) (drop (token.from - start) bytes)
@@ -63,6 +67,10 @@ pub record IsTokenAt (start : ℕ) (bytes : List ℕ) (token : Token) : Type 0 w
   pub some : token.from < token.to
   pub within : token.to ≤ start + length bytes
   pub spelled : spells token.kind (spelling_at start bytes token) ≡ true
+
+-- the token is the longest at its place in the line, which begins at the place `start`
+abbrev pub IsLongestIn : ℕ → List ℕ → Token → Type 0
+IsLongestIn start line token = IsLongest (drop (token.from - start) line) (token.to - token.from)
 
 -- the number that bytes spell
 abbrev pub number_of : List ℕ → ℤ

@@ -2,7 +2,7 @@
 
 ghost use Rattle.std.specs.Prelude.{◌≡◌, ◌+◌, ◌^◌, ◌<◌, ◌≤◌, All, IfOk, drop, length};
 ghost use Rattle.yt_lex.specs.Answers.{Gives};
-ghost use Rattle.yt_lex.specs.Spelling.{IsTokenAt};
+ghost use Rattle.yt_lex.specs.Spelling.{IsLongestIn, IsTokenAt};
 ghost use Rattle.yt_lex.specs.Lines.{line_at, line_of, next_line, tokens_at};
 
 use crate::bytes::{behind, is_blank, line_run};
@@ -23,6 +23,7 @@ fn tokens_at(alloc: Global, start: usize, line: &[u8]) -> Result<Vec<Token>, Lex
     requires { start + length line.now < 2 ^ 63 }
     ensures gives { Gives (λ tokens. tokens.items) result (tokens_at start 0 line.now) }
     ensures spelled { IfOk result (λ tokens. All (IsTokenAt start line.now) tokens.items) }
+    ensures longest { IfOk result (λ tokens. All (IsLongestIn start line.now) tokens.items) }
 {
     let mut tokens = Vec::new(alloc);
     let mut place = 0;
@@ -53,6 +54,7 @@ pub fn lex_line(alloc: Global, bytes: &[u8], from: usize) -> Result<Line, LexRef
     requires { from ≤ length bytes.now }
     ensures exact { Gives (λ line. (line.tokens.items, line.next)) result (line_at from bytes.now) }
     ensures spelled { IfOk result (λ line. All (IsTokenAt 0 bytes.now) line.tokens.items) }
+    ensures longest { IfOk result (λ line. All (IsLongestIn from (line_of (drop from bytes.now))) line.tokens.items) }
 {
     let line = line_of(behind(bytes, from));
     let tokens = tokens_at(alloc, from, line)?;

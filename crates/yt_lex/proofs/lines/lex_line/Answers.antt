@@ -11,3 +11,6 @@ returns-clause-spelled c =
     let size = run (λ b. not (is_line_feed b)) rest in
     let spelled = rw (c.line_of-line.ensures, c.behind.ensures) at c.in_ok-tokens.ensures.spelled in
     rw c.from_vec.ensures.same (whole c.args.from c.args.bytes.now size _ c.requires (prefix_len-le-length (λ b. not (is_line_feed b)) rest) spelled)
+
+pub returns-clause-longest : goal.returns-clause-longest
+returns-clause-longest c = rw c.from_vec.ensures.same (rw (c.line_of-line.ensures, c.behind.ensures) at c.in_ok-tokens.ensures.longest)

@@ -1,13 +1,14 @@
 use Rattle.std.proofs.Common.{length, ◌-◌, ◌≡◌, ◌+◌, ◌≤◌, drop}
 use Rattle.yt_lex.specs.Lines.{tokens_at, with_front}
 use Rattle.std.specs.Prelude.{All}
-use Rattle.yt_lex.specs.Spelling.{IsTokenAt}
+use Rattle.yt_lex.specs.Spelling.{IsLongestIn, IsTokenAt}
 use Rattle.yt_lex.proofs.lines.tokens_at.Given as goal
 
 abbrev pub invariant-loop-place : goal.invariant-loop-place
 invariant-loop-place l = record {
   together : with_front l.tokens.items (tokens_at (l.start + l.place) 0 (drop l.place l.line)) ≡ tokens_at l.start 0 l.line;
   spelled : All (IsTokenAt l.start l.line) l.tokens.items;
+  longest : All (IsLongestIn l.start l.line) l.tokens.items;
   within : l.place ≤ length l.line;
 }
 
