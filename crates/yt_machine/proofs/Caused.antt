@@ -137,10 +137,18 @@ module _ (M : Machine) (L : Laws M) (s : Settings) (S : Session M) (us : List (U
           let not_k : m ≡ k → ⊥ = λ x. n (ap suc x) in
           taken_same us (v ∷ restarted M (readers causes) (suc (suc k)) (drop (suc k) us)) k m (omega (arith, low, e)) long ∙ f
 
+  stands_above : (j : ℕ) (ns : List ℕ) → AreAbove M L j ns → (i : ℕ) → has_number ns i ≡ true → j < i
+  stands_above j ns a i h = by (nat_lt j i) refl
+    where
+      by : (b : Bool) → nat_lt j i ≡ b → j < i
+      by true e = ltb-true _ _ e
+      by false e = let low : i ≤ j = ltb-false _ _ e in absurd (both_ways _ (a i (omega (arith, low))) h)
+
   step_is : (k : ℕ) (u : Update M) → slice_get us k ≡ Some u → may_step M s us k u ≡ true → AreCauses M s S us (Steps (suc k)) (step_effect M s S us k u)
   step_is k u h m = record {
     hold = subst (λ (o : Option (Update M)). AllByRecursion (Holds M s.deps S.base (suc k) (lost_by M S.base us k o ++ readers causes) (stepped_at M S.base us k o)) causes) (sym h) (hold_by (is_spent (M.outcome v.state)));
     once = once_by (is_spent (M.outcome v.state));
+    above = stands_above (suc k) (readers causes) (above_by (is_spent (M.outcome v.state)));
     restarts = placed.0;
     others = placed.1;
     own = placed.2;
@@ -187,6 +195,7 @@ module _ (M : Machine) (L : Laws M) (s : Settings) (S : Session M) (us : List (U
       record {
         hold = loss_hold k u h;
         once = cascade_distinct M s.deps c (suc k) [] (D k) (record { number = suc k; trail = trail M u } ∷ []) (suc (suc k)) upper;
+        above = stands_above (suc k) (readers causes) (loss_above M L s.deps c (suc k) (D k) u upper);
         restarts = placed.0;
         others = placed.1;
         own = placed.2;
@@ -219,6 +228,7 @@ module _ (M : Machine) (L : Laws M) (s : Settings) (S : Session M) (us : List (U
       record {
         hold = tt;
         once = tt;
+        above = λ i g. absurd (both_ways false refl g);
         restarts = λ k u f g. absurd (both_ways false refl g);
         others = λ k u f g n. pushed_same us (admitted M (suc (length us)) p.0 ∷ []) k (within us k u f) ∙ f;
         own = λ k u f n. let l : k < length us = within us k u f in absurd (omega (arith, l, n));
@@ -234,6 +244,7 @@ module _ (M : Machine) (L : Laws M) (s : Settings) (S : Session M) (us : List (U
       record {
         hold = tt;
         once = tt;
+        above = λ i g. absurd (both_ways false refl g);
         restarts = λ k u f g. absurd (both_ways false refl g);
         others = λ k u f g n. p.0 k u f (λ e. n (e ∙ sym a.number));
         own = λ k u f n. p.1 k u f (n ∙ a.number);
@@ -245,6 +256,7 @@ module _ (M : Machine) (L : Laws M) (s : Settings) (S : Session M) (us : List (U
       record {
         hold = tt;
         once = tt;
+        above = λ i g. absurd (both_ways false refl g);
         restarts = λ k u f g. absurd (both_ways false refl g);
         others = λ k u f g n. p.0 k u f (λ e. n (e ∙ sym a.number));
         own = λ k u f n. p.1 k u f (n ∙ a.number);

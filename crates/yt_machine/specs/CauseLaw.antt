@@ -112,6 +112,8 @@ pub record AreCauses (M : Machine) (s : Settings) (S : Session M) (us : List (Up
   pub hold : AllByRecursion (Holds M s.deps S.base (acts_on us e) (first_lost M S.base us e ++ readers (causes_in x.entry)) (before_loss M S.base us e)) (causes_in x.entry)
   -- no update is named twice
   pub once : IsDistinct (readers (causes_in x.entry))
+  -- an update that is named stands above the one that the event acts on
+  pub above : (i : ℕ) → has_number (readers (causes_in x.entry)) i ≡ true → acts_on us e < i
   -- an update that is named is restarted; any other, but the one that the event acts on, is as it was
   pub restarts : (k : ℕ) (u : Update M) → slice_get us k ≡ Some u → has_number (readers (causes_in x.entry)) (suc k) ≡ true → slice_get x.updates k ≡ Some (anew M (suc k) u)
   pub others : (k : ℕ) (u : Update M) → slice_get us k ≡ Some u → has_number (readers (causes_in x.entry)) (suc k) ≡ false → (suc k ≡ acts_on us e → ⊥) → slice_get x.updates k ≡ Some u
