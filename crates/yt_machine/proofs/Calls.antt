@@ -1,7 +1,7 @@
 -- The cascade from the base on is that from just above the event's update.
 use Rattle.std.proofs.Common.{◌≡◌, ℕ, zero, suc, ◌<◌, ◌≤◌, ◌+◌, ap, sym, refl, ◌∙◌, List, [], ◌∷◌, ◌++◌, drop, Bool, true, false, not, ◌&&◌, ◌||◌, arith, Some, None}
 use Rattle.std.specs.Prelude.{if◌then◌else◌, is_some, slice_get, option_map, option_to_list}
-use Rattle.std.proofs.lemmas.Bool.{and_right, or_from, ne_eqb, eq-eqb, or_left}
+use Rattle.std.proofs.lemmas.Bool.{and_right, or_from, ne_eqb, eq-eqb, or_left, both_ways}
 use Rattle.std.proofs.lemmas.Option.{same_Some, none-some}
 use Rattle.yt_machine.specs.Machine.{Machine, Laws}
 use Rattle.yt_machine.specs.Updates.{Update, Deps, trail, below}
@@ -66,4 +66,4 @@ call_law M L deps c D us k u h = record {
         ++ cascade M deps c (suc k ∷ []) (without_member M (b || is_some (if b then None else dependence_of M deps c (below M D us k) [] (suc k) u)) (below M D us k) u) (with_member M (b || is_some (if b then None else dependence_of M deps c (below M D us k) [] (suc k) u)) [] (suc k) u) (suc (suc k)) (drop (suc k) us)
         ≡ cascade M deps c (suc k ∷ []) (below M D us k) (record { number = suc k; trail = trail M u } ∷ []) (suc (suc k)) (drop (suc k) us)
     member true e = refl
-    member false e = absurd (Rattle.std.proofs.lemmas.Bool.both_ways false refl e)
+    member false e = absurd (both_ways false refl e)

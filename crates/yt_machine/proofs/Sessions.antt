@@ -2,7 +2,7 @@
 use Rattle.std.proofs.Common.{◌≡◌, ℕ, suc, ◌≤◌, ◌+◌, ap, refl, ◌∙◌, List, [], ◌∷◌, ◌++◌, take, map, length, arith, Some}
 use Rattle.std.specs.Prelude.{if◌then◌else◌, slice_get}
 use Rattle.yt_machine.specs.Machine.{Machine, Laws}
-use Rattle.yt_machine.specs.Updates.{Update}
+use Rattle.yt_machine.specs.Updates.{Update, is_over}
 use Rattle.yt_machine.specs.Serial.{Turn, committed_turns, all_turns, session_turns}
 use Rattle.yt_machine.specs.Simulation.{Simulation, AreTurns}
 use Rattle.yt_machine.specs.Quiet.{QuietLaw}
@@ -49,7 +49,7 @@ module _ (M K : Machine) (R : Simulation M K) (f : Turn M → Turn K) where
   committed_beside n [] h = tt
   committed_beside n (u ∷ us) h =
       let rest : AreTurns R (suc n) (committed_turns M (suc n) us) (map f (committed_turns M (suc n) us)) = committed_beside (suc n) us (λ k m v e g. h (suc k) m v (omega (arith, e)) g) in
-      if_both (λ (ts : List (Turn M)). AreTurns R n ts (map f ts)) (Rattle.yt_machine.specs.Updates.is_over M u) (if u.withdrawn then committed_turns M (suc n) us else turn_of M n u u.answers ∷ committed_turns M (suc n) us) []
+      if_both (λ (ts : List (Turn M)). AreTurns R n ts (map f ts)) (is_over M u) (if u.withdrawn then committed_turns M (suc n) us else turn_of M n u u.answers ∷ committed_turns M (suc n) us) []
       (λ o. if_both (λ (ts : List (Turn M)). AreTurns R n ts (map f ts)) u.withdrawn (committed_turns M (suc n) us) (turn_of M n u u.answers ∷ committed_turns M (suc n) us)
       (λ w. earlier n (suc n) (committed_turns M (suc n) us) (map f (committed_turns M (suc n) us)) (omega arith) rest)
       (λ w. (omega arith, h 0 n u (omega arith) refl, rest)))

@@ -1,10 +1,10 @@
 -- The history tells the trails.
-use Rattle.std.proofs.Common.{◌≡◌, ℕ, zero, suc, ◌<◌, ◌≤◌, ◌==◌, ap, sym, refl, subst, ◌∙◌, List, [], ◌∷◌, ◌++◌, append_assoc, append-nil, take, drop, length, Bool, true, false, ◌&&◌, arith, Some}
+use Rattle.std.proofs.Common.{◌≡◌, ℕ, suc, ◌<◌, ◌≤◌, ◌==◌, ap, sym, refl, subst, ◌∙◌, List, [], ◌∷◌, ◌++◌, append_assoc, append-nil, take, drop, length, Bool, true, false, ◌&&◌, arith, Some}
 use Rattle.std.specs.Prelude.{if◌then◌else◌, slice_get, nat_lt}
-use Rattle.std.proofs.lemmas.Bool.{and_parts, and_from, eq-eqb, ne_eqb, both_ways, ltb-true, ltb-false}
-use Rattle.std.proofs.lemmas.Option.{same_Some, none-some, option_and_then_some}
+use Rattle.std.proofs.lemmas.Bool.{and_from, eq-eqb, ne_eqb, both_ways, ltb-true, ltb-false, and_right, eqb-true}
+use Rattle.std.proofs.lemmas.Option.{same_Some, none-some, option_and_then_some, slice_get_within}
 use Rattle.yt_machine.specs.Machine.{Machine, Laws}
-use Rattle.yt_machine.specs.Updates.{Update, Session, Settings, hides, shown, trail, below, committed}
+use Rattle.yt_machine.specs.Updates.{Update, Session, Settings, hides, shown, below, committed, Submission}
 use Rattle.yt_machine.specs.Cascade.{readers, has_number, restarted, anew}
 use Rattle.yt_machine.specs.Steps.{next_move, stepped, step_writes}
 use Rattle.yt_machine.specs.Effects.{Event, Admits, Steps, Delivers, Answers, Withdraws, Entry, Effect, causes_of_loss, causes_of_step, withdrawn_now, delivered, answered, step_effect, withdraw_effect, deliver_effect, answer_effect, admitted, admit_effect, may_step, may_deliver, may_answer, may_withdraw, effect}
@@ -14,10 +14,10 @@ use Rattle.yt_machine.specs.Local.{acts_on}
 use Rattle.yt_machine.specs.Bounds.{admissions_of}
 use Rattle.yt_machine.specs.CauseLaw.{AreCauses}
 use Rattle.yt_machine.specs.Trails.{writes_by, written, IsTold, TrailLaw}
-use Rattle.yt_machine.proofs.Basics.{if_true, if_false, length_from}
+use Rattle.yt_machine.proofs.Basics.{if_true, if_false, length_from, some_of, there, last_is, length_more}
 use Rattle.yt_machine.proofs.Standing.{ready_parts}
 use Rattle.yt_machine.proofs.Places.{allowed_is, put_here}
-use Rattle.yt_machine.proofs.Events.{mapped_some, effect_runs}
+use Rattle.yt_machine.proofs.Events.{effect_runs}
 use Rattle.yt_machine.proofs.Legal.{effect_records}
 use Rattle.yt_machine.proofs.Local.{pushed_same}
 use Rattle.yt_machine.proofs.Caused.{causes_are}
@@ -25,24 +25,6 @@ use Rattle.yt_machine.proofs.Caused.{causes_are}
 written_join : (M : Machine) (i a : ℕ) (es : List (Entry M)) (e : Entry M) → written i a (es ++ e ∷ []) ≡ written i a es ++ writes_by i a e
 written_join M i a [] e = append-nil (writes_by i a e)
 written_join M i a (d ∷ es) e = ap (λ ws. writes_by i a d ++ ws) (written_join M i a es e) ∙ sym (append_assoc (writes_by i a d) (written i a es) (writes_by i a e))
-
-there : {A : Type 0} (us : List A) (k : ℕ) → k < length us → (u : A) × (slice_get us k ≡ Some u)
-there [] k h = absurd (omega arith)
-there (u ∷ us) zero h = (u, refl)
-there (u ∷ us) (suc k) h = there us k (omega arith)
-
-within : {A : Type 0} (xs : List A) (k : ℕ) (x : A) → slice_get xs k ≡ Some x → k < length xs
-within [] k x h = absurd (none-some x h)
-within (y ∷ xs) zero x h = omega arith
-within (y ∷ xs) (suc k) x h = omega (arith, within xs k x h)
-
-last_is : {A : Type 0} (us : List A) (v : A) → slice_get (us ++ v ∷ []) (length us) ≡ Some v
-last_is [] v = refl
-last_is (u ∷ us) v = last_is us v
-
-length_more : {A : Type 0} (us : List A) (v : A) → length (us ++ v ∷ []) ≡ suc (length us)
-length_more [] v = refl
-length_more (u ∷ us) v = ap suc (length_more us v)
 
 module _ (M : Machine) (L : Laws M) (s : Settings) (S : Session M) where
   record IsWritten (us : List (Update M)) (entries : List (Entry M)) : Type 0 where
@@ -66,8 +48,8 @@ module _ (M : Machine) (L : Laws M) (s : Settings) (S : Session M) where
       → ((k : ℕ) (u v : Update M) → suc k ≡ j → slice_get us k ≡ Some u → slice_get x.updates k ≡ Some v → IsOwn (λ a. writes_by (suc k) a x.entry) u v)
       → IsWritten us entries → IsWritten x.updates (entries ++ x.entry ∷ [])
   kept us entries e x j is low c long alone own w = record {
-    now = λ k v f g. here k v (there us k (omega (arith, within x.updates k v f, long))) f g;
-    later = λ k a v f l. after_it k a v (there us k (omega (arith, within x.updates k v f, long))) f l;
+    now = λ k v f g. here k v (there us k (omega (arith, slice_get_within x.updates k v f, long))) f g;
+    later = λ k a v f l. after_it k a v (there us k (omega (arith, slice_get_within x.updates k v f, long))) f l;
     none = λ i a l. written_join M i a entries x.entry ∙ (λ t. w.none i a (omega (arith, l, long)) t ++ writes_by i a x.entry) ∙ outside i a (omega (arith, l, long));
   }
     where
@@ -82,7 +64,7 @@ module _ (M : Machine) (L : Laws M) (s : Settings) (S : Session M) where
         where
           by : (b : Bool) → names (suc k) ≡ b → (q : Bool) → (suc k == j) ≡ q → P
           by true m q n = f m
-          by false m true n = h (Rattle.std.proofs.lemmas.Bool.eqb-true (suc k) j n)
+          by false m true n = h (eqb-true (suc k) j n)
           by false m false n = g m (λ t. both_ways _ n (eq-eqb (suc k) j t))
 
       outside : (i a : ℕ) → length us < i → writes_by i a x.entry ≡ []
@@ -129,7 +111,7 @@ module _ (M : Machine) (L : Laws M) (s : Settings) (S : Session M) where
   by_other i j a b ws h = if_false ((j == i) && (b == a)) ws [] (ap (λ q. q && (b == a)) (ne_eqb j i (λ e. h (sym e))))
 
   by_later : (i a b : ℕ) (ws : List M.Write) → b < a → (if (i == i) && (b == a) then ws else []) ≡ []
-  by_later i a b ws h = if_false ((i == i) && (b == a)) ws [] (Rattle.std.proofs.lemmas.Bool.and_right (i == i) (b == a) (ne_eqb b a (λ e. absurd (omega (arith, h, e)))))
+  by_later i a b ws h = if_false ((i == i) && (b == a)) ws [] (and_right (i == i) (b == a) (ne_eqb b a (λ e. absurd (omega (arith, h, e)))))
 
   -- the update at the event's place
   placed : (us : List (Update M)) (k : ℕ) (u v : Update M) (vs : List (Update M)) (m : ℕ) (y z : Update M) → slice_get us k ≡ Some u → suc m ≡ suc k → slice_get us m ≡ Some y → slice_get (take k us ++ v ∷ vs) m ≡ Some z → (u ≡ y) × (v ≡ z)
@@ -161,7 +143,7 @@ module _ (M : Machine) (L : Laws M) (s : Settings) (S : Session M) where
   }
 
   module _ (z : M.Sound S.base) (us : List (Update M)) (r : AreRuns M S.base 1 us) (entries : List (Entry M)) (w : IsWritten us entries) where
-    admit_told : (x : Rattle.yt_machine.specs.Updates.Submission M) → IsWritten (us ++ admitted M (suc (length us)) x ∷ []) (entries ++ (admit_effect M us x).entry ∷ [])
+    admit_told : (x : Submission M) → IsWritten (us ++ admitted M (suc (length us)) x ∷ []) (entries ++ (admit_effect M us x).entry ∷ [])
     admit_told x = record {
       now = λ k u f g. now_by (nat_lt k (length us)) refl k u refl f g;
       later = λ k a u f l. later_by (nat_lt k (length us)) refl k a u refl f l;
@@ -182,7 +164,7 @@ module _ (M : Machine) (L : Laws M) (s : Settings) (S : Session M) where
 
         fresh : (k : ℕ) (u : Update M) → length us ≤ k → slice_get (us ++ new ∷ []) k ≡ Some u → (k ≡ length us) × (new ≡ u)
         fresh k u l f =
-            let e : k ≡ length us = omega (arith, l, within (us ++ new ∷ []) k u f, length_more us new) in
+            let e : k ≡ length us = omega (arith, l, slice_get_within (us ++ new ∷ []) k u f, length_more us new) in
             (e, same_Some new u (sym (last_is us new) ∙ ap (λ n. slice_get (us ++ new ∷ []) n) (sym e) ∙ f))
 
         now_by : {n : ℕ} (b : Bool) → nat_lt n (length us) ≡ b → (k : ℕ) (u : Update M) → n ≡ k → slice_get (us ++ new ∷ []) k ≡ Some u → hides (M.outcome u.state) ≡ false → M.own u.state ≡ written (suc k) u.attempt (entries ++ d ∷ [])
@@ -201,13 +183,13 @@ module _ (M : Machine) (L : Laws M) (s : Settings) (S : Session M) where
     event_told : (k : ℕ) (u v : Update M) (vs : List (Update M)) (e : Event M) (x : Effect M) → slice_get us k ≡ Some u → x.updates ≡ take k us ++ v ∷ vs → acts_on us e ≡ suc k → admissions_of x.entry ≡ 0 → effect M s S us e ≡ Some x
         → ShowsAlone (suc k) x.entry → ((m : ℕ) → suc m ≡ suc k → IsOwn (λ a. writes_by (suc m) a x.entry) u v) → IsWritten x.updates (entries ++ x.entry ∷ [])
     event_told k u v vs e x h p is n f alone own =
-        kept us entries e x (suc k) is (within us k u h) (causes_are M L s S us z r e x f) (let long = (effect_records M L s S us e x f).1 in omega (arith, long, n)) alone
+        kept us entries e x (suc k) is (slice_get_within us k u h) (causes_are M L s S us z r e x f) (let long = (effect_records M L s S us e x f).1 in omega (arith, long, n)) alone
         (λ m y t q g i. let both = placed us k u v vs m y t h q g (ap (λ xs. slice_get xs m) (sym p) ∙ i) in
         subst (λ (o : Update M × Update M). IsOwn (λ a. writes_by (suc m) a x.entry) o.0 o.1) (λ j. (both.0 j, both.1 j)) (own m q)) w
 
     effect_told : (e : Event M) (x : Effect M) → effect M s S us e ≡ Some x → IsWritten x.updates (entries ++ x.entry ∷ [])
     effect_told Admits x h =
-        let p = mapped_some M L (admit_effect M us) (slice_get S.submissions (length us)) x h in
+        let p = some_of (admit_effect M us) (slice_get S.submissions (length us)) x h in
         subst (λ (y : Effect M). IsWritten y.updates (entries ++ y.entry ∷ [])) p.2 (admit_told p.0)
     effect_told (Steps i) x h =
         let a = allowed_is us i (may_step M s us) (step_effect M s S us) x h in

@@ -15,5 +15,8 @@ pub record IsCascadeAt (M : Machine) (deps : Deps) (c : ℕ) (D : M.Repository) 
   pub writes : causes_of_writes M deps c (suc k) (below M D us (suc k)) (drop (suc k) us)
       ≡ conflicts M c (suc k) (below M D us (suc k)) (suc (suc k)) (drop (suc k) us) ++ cascade_from_base M deps c D (readers (conflicts M c (suc k) (below M D us (suc k)) (suc (suc k)) (drop (suc k) us))) us
 
+-- At every update of a list.
 abbrev pub CallLaw : Machine → Type 0
-CallLaw M = (deps : Deps) (c : ℕ) (D : M.Repository) (us : List (Update M)) (k : ℕ) (u : Update M) → slice_get us k ≡ Some u → IsCascadeAt M deps c D us k u
+CallLaw M =
+    (deps : Deps) (c : ℕ) (D : M.Repository) (us : List (Update M)) (k : ℕ) (u : Update M) → slice_get us k ≡ Some u
+    → IsCascadeAt M deps c D us k u

@@ -18,5 +18,7 @@ pub record IsWholeSession (M : Machine) (S : Session M) (l : Log M) (turns : Lis
 -- The events are recorded ones, all updates handed in are admitted, and it is quiet.
 abbrev pub QuietLaw : Machine → Type 0
 QuietLaw M =
-    (s : Settings) (S : Session M) (es : List (Event M)) (l : Log M) → M.Sound S.base → after M s S (empty_log M) es ≡ Some l
-    → list_all is_recorded es ≡ true → length l.updates ≡ length S.submissions → is_quiet M s l.updates ≡ true → (turns : List (Turn M)) × IsWholeSession M S l turns
+    (s : Settings) (S : Session M) (es : List (Event M)) (l : Log M) → M.Sound S.base
+    → after M s S (empty_log M) es ≡ Some l
+    → list_all is_recorded es ≡ true → length l.updates ≡ length S.submissions → is_quiet M s l.updates ≡ true
+    → (turns : List (Turn M)) × IsWholeSession M S l turns

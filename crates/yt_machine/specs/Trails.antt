@@ -18,11 +18,17 @@ abbrev pub written : {M : Machine} → ℕ → ℕ → List (Entry M) → List M
 written i a [] = []
 written i a (e ∷ es) = writes_by i a e ++ written i a es
 
+-- What the entries tell of the updates that they led to.
 pub record IsTold (M : Machine) (l : Log M) : Type 0 where
   -- an attempt that didn't end spent or refused wrote what its entries show
-  pub own : (k : ℕ) (u : Update M) → slice_get l.updates k ≡ Some u → hides (M.outcome u.state) ≡ false → M.own u.state ≡ written (suc k) u.attempt l.entries
+  pub own : (k : ℕ) (u : Update M) → slice_get l.updates k ≡ Some u → hides (M.outcome u.state) ≡ false
+      → M.own u.state ≡ written (suc k) u.attempt l.entries
   -- so that is the trail of an update that isn't withdrawn
-  pub trail : (k : ℕ) (u : Update M) → slice_get l.updates k ≡ Some u → hides (M.outcome u.state) ≡ false → u.withdrawn ≡ false → trail M u ≡ written (suc k) u.attempt l.entries
+  pub trail : (k : ℕ) (u : Update M) → slice_get l.updates k ≡ Some u → hides (M.outcome u.state) ≡ false
+      → u.withdrawn ≡ false → trail M u ≡ written (suc k) u.attempt l.entries
 
+-- After every history.
 abbrev pub TrailLaw : Machine → Type 0
-TrailLaw M = (s : Settings) (S : Session M) (es : List (Event M)) (l : Log M) → M.Sound S.base → after M s S (empty_log M) es ≡ Some l → IsTold M l
+TrailLaw M =
+    (s : Settings) (S : Session M) (es : List (Event M)) (l : Log M) → M.Sound S.base
+    → after M s S (empty_log M) es ≡ Some l → IsTold M l
