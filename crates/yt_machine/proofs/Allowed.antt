@@ -4,7 +4,7 @@ use Rattle.std.specs.Prelude.{if◌then◌else◌, Option, is_some, slice_get, o
 use Rattle.std.proofs.lemmas.Option.{same_Some, none-some}
 use Rattle.yt_machine.specs.Machine.{Machine}
 use Rattle.yt_machine.specs.Updates.{Update, Settings, committed}
-use Rattle.yt_machine.specs.Standings.{Lack, lack, lack_for, unless_fits, unless_ended, unless_paused, Held, Withdrawn, is_held, standing, is_paused, question_of}
+use Rattle.yt_machine.specs.Standings.{Lack, lack, lack_for, unless_fits, standing, is_paused, question_of, Misfit}
 use Rattle.yt_machine.specs.Effects.{step_effect, deliver_effect, answer_effect, withdraw_effect, may_step, may_deliver, may_answer, may_withdraw, where_allowed}
 use Rattle.yt_machine.specs.Allowed.{AllowedLaw}
 use Rattle.yt_machine.proofs.Standing.{paused_parts}
@@ -44,7 +44,7 @@ module _ (M : Machine) where
         where
           no : (b : Bool) → M.fits r d ≡ b → unless_fits M r (Some d) ≡ Some x → M.fits q d ≡ false
           no false k m = ap (λ z. M.fits z d) (sym (same_Some r q e)) ∙ k
-          no true k m = absurd (none-some x (ap (λ b. if b then None else Some Rattle.yt_machine.specs.Standings.Misfit) (sym k) ∙ m))
+          no true k m = absurd (none-some x (ap (λ b. if b then None else Some Misfit) (sym k) ∙ m))
 
       by : (b : Bool) → is_paused (standing M s c n u) ≡ b → (if b then M.question u.state else None) ≡ Some q → M.fits q d ≡ false
       by false e g = absurd (none-some q g)

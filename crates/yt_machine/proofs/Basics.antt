@@ -1,9 +1,9 @@
 -- Small facts on tests, options and lists.
-use Rattle.std.proofs.Common.{◌≡◌, ℕ, zero, suc, ◌<◌, ◌≤◌, refl, ◌∙◌, List, [], ◌∷◌, ◌++◌, take, length, Bool, true, false, not, ◌&&◌, ◌||◌, arith, Some, None}
+use Rattle.std.proofs.Common.{ap, ◌≡◌, ℕ, zero, suc, ◌<◌, ◌≤◌, refl, ◌∙◌, List, [], ◌∷◌, ◌++◌, take, length, Bool, true, false, not, ◌&&◌, ◌||◌, arith, Some, None}
 use Rattle.std.specs.Prelude.{if◌then◌else◌, Option, slice_get, option_map, is_some}
 use Rattle.std.specs.List.{list_any, list_all}
 use Rattle.std.proofs.lemmas.Bool.{or_parts, and_from, not-false, both_ways}
-use Rattle.std.proofs.lemmas.Option.{none-some}
+use Rattle.std.proofs.lemmas.Option.{none-some, same_Some}
 use Rattle.yt_machine.specs.Reads.{first_that}
 use Rattle.yt_machine.specs.Settle.{or_else}
 
@@ -48,9 +48,13 @@ some_first {A} p (x ∷ xs) = by (p x) (some_map {A = ℕ × A} {B = ℕ × A} (
     by true r = refl
     by false r = r
 
-pub none_is : {A : Type 0} (o : Option A) → is_some o ≡ false → o ≡ None
-none_is None h = refl
-none_is (Some x) h = absurd (both_ways true h refl)
+pub none_from : {A : Type 0} (o : Option A) → is_some o ≡ false → o ≡ None
+none_from None h = refl
+none_from (Some x) h = absurd (both_ways true h refl)
+
+pub some_of : {A B : Type 0} (f : A → B) (o : Option A) (y : B) → option_map f o ≡ Some y → (x : A) × (o ≡ Some x) × (f x ≡ y)
+some_of f None y h = absurd (none-some y h)
+some_of f (Some x) y h = (x, refl, same_Some _ _ h)
 
 -- ---- lists
 
@@ -73,3 +77,16 @@ pub length_from : {A : Type 0} (xs : List A) (k : ℕ) (x : A) → slice_get xs 
 length_from [] k x h = absurd (none-some x h)
 length_from (y ∷ xs) zero x h = omega arith
 length_from (y ∷ xs) (suc k) x h = omega (arith, length_from xs k x h)
+
+pub there : {A : Type 0} (xs : List A) (k : ℕ) → k < length xs → (x : A) × (slice_get xs k ≡ Some x)
+there [] k h = absurd (omega arith)
+there (x ∷ xs) zero h = (x, refl)
+there (x ∷ xs) (suc k) h = there xs k (omega arith)
+
+pub last_is : {A : Type 0} (xs : List A) (x : A) → slice_get (xs ++ x ∷ []) (length xs) ≡ Some x
+last_is [] x = refl
+last_is (y ∷ xs) x = last_is xs x
+
+pub length_more : {A : Type 0} (xs : List A) (x : A) → length (xs ++ x ∷ []) ≡ suc (length xs)
+length_more [] x = refl
+length_more (y ∷ xs) x = ap suc (length_more xs x)

@@ -2,33 +2,34 @@
 use Rattle.std.proofs.Common.{◌≡◌, ℕ, zero, suc, ◌≤◌, ◌<◌, ◌+◌, ◌-◌, ◌*◌, ap, sym, refl, subst, ◌∙◌, suc-le-suc, List, [], ◌∷◌, ◌++◌, take, drop, length, Bool, true, false, not, arith, Some, None}
 use Rattle.std.specs.Prelude.{if◌then◌else◌, Option, is_some, slice_get}
 use Rattle.std.specs.List.{list_any}
-use Rattle.std.proofs.lemmas.Bool.{and_parts, and_right, or_from, lt-ltb, ltb-true, both_ways}
+use Rattle.std.proofs.lemmas.Bool.{and_parts, and_right, or_from, lt-ltb, ltb-true, both_ways, and_from}
 use Rattle.std.proofs.lemmas.Option.{same_Some, none-some, option_and_then_some}
 use Rattle.yt_machine.specs.Machine.{Machine, Laws}
 use Rattle.yt_machine.specs.Updates.{Update, Submission, Session, Settings, Deps, trail, below, committed}
 use Rattle.yt_machine.specs.Standings.{standing, is_pending}
-use Rattle.yt_machine.specs.Cascade.{Cause, Member, readers, conflict_of, dependence_of, restarted, anew}
+use Rattle.yt_machine.specs.Cascade.{Cause, Member, readers, conflict_of, dependence_of, restarted, read_depends}
 use Rattle.yt_machine.specs.Settle.{cause_of, settle, restart}
 use Rattle.yt_machine.specs.Steps.{next_move, stepped}
 use Rattle.yt_machine.specs.Effects.{Event, Admits, Steps, Delivers, Answers, Withdraws, Entry, Effect, is_spent, causes_of_loss, causes_of_writes, causes_of_step, withdrawn_now, with_answers, step_effect, withdraw_effect, deliver_effect, answer_effect, admitted, admit_effect, may_step, may_deliver, may_answer, may_withdraw, effect}
 use Rattle.yt_machine.specs.Histories.{Log, with_entry, after}
 use Rattle.yt_machine.specs.Runs.{AreRuns}
 use Rattle.yt_machine.specs.Bounds.{AreTried, left, steps_of, admissions_of, steps_in, admissions_in}
-use Rattle.yt_machine.proofs.Basics.{if_both, some_or, length_from}
+use Rattle.yt_machine.proofs.Basics.{if_both, some_or, length_from, some_of}
 use Rattle.yt_machine.proofs.Settling.{settle_both, conflict_some, dependence_some}
 use Rattle.yt_machine.proofs.Walks.{restarts_of_writes, restarts_of_loss}
 use Rattle.yt_machine.proofs.Standing.{IsOpen, ready_parts, paused_parts, pending_parts, not_over}
 use Rattle.yt_machine.proofs.Places.{allowed_is, committed_below, committed_kept, committed_more, runs_at}
-use Rattle.yt_machine.proofs.Events.{mapped_some, effect_runs}
+use Rattle.yt_machine.proofs.Events.{effect_runs}
 use Rattle.yt_machine.proofs.Serials.{counted}
+use Rattle.yt_machine.specs.Reads.{is_valid}
 
 -- an update without reads has no cause
 empty_stays : (M : Machine) (deps : Deps) (conflicting : Bool) (c j : ℕ) (E N : M.Repository) (ms : List (Member M)) (n : ℕ) (u : Update M) → u.log ≡ [] → is_some (cause_of M deps conflicting c j E N ms n u) ≡ false
 empty_stays M deps conflicting c j E N ms n u e =
     some_or (if conflicting then conflict_of M c j E n u else None) (dependence_of M deps c N ms n u)
     ∙ or_from _ _
-    (if_both (λ (o : Option (Cause M)). is_some o ≡ false) conflicting _ None (λ h. conflict_some M c j E n u ∙ and_right _ _ (ap (λ l. list_any (λ r. not (Rattle.yt_machine.specs.Reads.is_valid M u.operation E (M.own u.state) r)) l) e)) (λ h. refl))
-    (dependence_some M deps c N ms n u ∙ and_right _ _ (ap (λ l. list_any (Rattle.yt_machine.specs.Cascade.read_depends M deps u.operation N (M.own u.state) ms) l) e))
+    (if_both (λ (o : Option (Cause M)). is_some o ≡ false) conflicting _ None (λ h. conflict_some M c j E n u ∙ and_right _ _ (ap (λ l. list_any (λ r. not (is_valid M u.operation E (M.own u.state) r)) l) e)) (λ h. refl))
+    (dependence_some M deps c N ms n u ∙ and_right _ _ (ap (λ l. list_any (read_depends M deps u.operation N (M.own u.state) ms) l) e))
 
 weakened : (M : Machine) (K c d n : ℕ) (us : List (Update M)) → c ≤ d → AreTried M K c n us → AreTried M K d n us
 weakened M K c d n [] l t = tt
@@ -126,7 +127,7 @@ module _ (M : Machine) (L : Laws M) (s : Settings) where
     top_low : (k : ℕ) (u : Update M) → IsOpen M s (committed M us) (suc k) u → u.attempt ≡ suc s.retries → suc (committed M us) < suc k → ⊥
     top_low k u o e l =
         both_ways _ o.free
-        (Rattle.std.proofs.lemmas.Bool.and_from _ _ (lt-ltb s.retries u.attempt (omega (arith, e))) (lt-ltb (suc (committed M us)) (suc k) l))
+        (and_from _ _ (lt-ltb s.retries u.attempt (omega (arith, e))) (lt-ltb (suc (committed M us)) (suc k) l))
 
     step_kept : (S : Session M) (r : AreRuns M S.base 1 us) (k : ℕ) (u : Update M) → slice_get us k ≡ Some u → may_step M s us k u ≡ true
         → let x = step_effect M s S us k u in Kept (committed M x.updates) 1 us 1 x.updates
@@ -169,7 +170,7 @@ module _ (M : Machine) (L : Laws M) (s : Settings) where
 
   pub effect_kept : (S : Session M) (us : List (Update M)) (e : Event M) (x : Effect M) → AreRuns M S.base 1 us → AreTried M s.retries (committed M us) 1 us → effect M s S us e ≡ Some x → Bounded us x
   effect_kept S us Admits x r t h =
-      let p = mapped_some M L (admit_effect M us) (slice_get S.submissions (length us)) x h in
+      let p = some_of (admit_effect M us) (slice_get S.submissions (length us)) x h in
       subst (λ (y : Effect M). Bounded us y) p.2
       (weakened M s.retries (committed M us) _ 1 _ (committed_more M us (admitted M (suc (length us)) p.0 ∷ [])) (admitted_tried (committed M us) 1 (suc (length us)) p.0 us t), omega (arith, admitted_left (suc (length us)) p.0 us))
   effect_kept S us (Steps i) x r t h =

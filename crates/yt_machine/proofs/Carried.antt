@@ -1,21 +1,17 @@
 -- What each update's turn keeps holds of what lies below every one.
-use Rattle.std.proofs.Common.{◌≡◌, ℕ, zero, suc, ◌<◌, ◌≤◌, ap, sym, refl, subst, ◌∙◌, List, [], ◌∷◌, ◌++◌, take, length, arith, Some, None}
+use Rattle.std.proofs.Common.{◌≡◌, ℕ, zero, suc, ◌<◌, ◌≤◌, ap, sym, subst, ◌∙◌, List, [], ◌∷◌, ◌++◌, take, length, arith, Some, append_assoc}
 use Rattle.std.specs.Prelude.{slice_get}
 use Rattle.std.specs.List.{flat_map}
 use Rattle.std.proofs.lemmas.Option.{same_Some, none-some}
 use Rattle.std.proofs.lemmas.List.{append-nil}
+use Rattle.yt_machine.proofs.Basics.{there}
 use Rattle.yt_machine.specs.Machine.{Machine, Laws}
 use Rattle.yt_machine.specs.Updates.{Update, trail, below}
-
-there : {A : Type 0} (us : List A) (k : ℕ) → k < length us → (u : A) × (slice_get us k ≡ Some u)
-there [] k h = absurd (omega arith)
-there (u ∷ us) zero h = (u, refl)
-there (u ∷ us) (suc k) h = there us k (omega arith)
 
 pub flat_more : (M : Machine) (us : List (Update M)) (k : ℕ) (u : Update M) → slice_get us k ≡ Some u → flat_map (trail M) (take (suc k) us) ≡ flat_map (trail M) (take k us) ++ trail M u
 flat_more M [] k u h = absurd (none-some u h)
 flat_more M (v ∷ us) zero u h = append-nil (trail M v) ∙ ap (λ x. trail M x) (same_Some _ _ h)
-flat_more M (v ∷ us) (suc k) u h = ap (λ ws. trail M v ++ ws) (flat_more M us k u h) ∙ sym (Rattle.std.proofs.Common.append_assoc (trail M v) (flat_map (trail M) (take k us)) (trail M u))
+flat_more M (v ∷ us) (suc k) u h = ap (λ ws. trail M v ++ ws) (flat_more M us k u h) ∙ sym (append_assoc (trail M v) (flat_map (trail M) (take k us)) (trail M u))
 
 module _ (M : Machine) (L : Laws M) where
   -- what lies below the next update

@@ -3,7 +3,7 @@ use Rattle.std.proofs.Common.{◌≡◌, ℕ, zero, suc, ◌<◌, ◌≤◌, ◌
 use Rattle.std.specs.Prelude.{if◌then◌else◌, Option, slice_get, nat_lt}
 use Rattle.std.specs.List.{AllByRecursion, list_any, flat_map}
 use Rattle.std.proofs.lemmas.Bool.{or_from, ltb-true, ltb-false, ne_eqb, both_ways}
-use Rattle.std.proofs.lemmas.Option.{same_Some, none-some}
+use Rattle.std.proofs.lemmas.Option.{same_Some, none-some, slice_get_within}
 use Rattle.yt_machine.specs.Machine.{Machine, Laws}
 use Rattle.yt_machine.specs.Updates.{Update, Session, Settings, trail, below, committed}
 use Rattle.yt_machine.specs.Reads.{is_valid}
@@ -13,12 +13,12 @@ use Rattle.yt_machine.specs.Effects.{Event, Admits, Steps, Delivers, Answers, Wi
 use Rattle.yt_machine.specs.Histories.{empty_log}
 use Rattle.yt_machine.specs.Runs.{AreRuns}
 use Rattle.yt_machine.specs.CauseLaw.{trails_without, below_without, members_of, Holds, IsDistinct, stepped_at, lost_by, AreCauses, CauseLaw}
-use Rattle.yt_machine.proofs.Basics.{length_from, all_from}
+use Rattle.yt_machine.proofs.Basics.{length_from, all_from, some_of}
 use Rattle.yt_machine.proofs.Settling.{run_valid, live_is, conflict_some}
-use Rattle.yt_machine.proofs.Walks.{AreFirst, conflicts_first, readers_join, here}
+use Rattle.yt_machine.proofs.Walks.{AreFirst, conflicts_first, readers_join, here, restarted_none}
 use Rattle.yt_machine.proofs.Standing.{ready_parts, not_over}
 use Rattle.yt_machine.proofs.Places.{allowed_is, committed_below, sound_below, runs_above, taken_same, put_here, put_above, dropped_same, take_put}
-use Rattle.yt_machine.proofs.Events.{mapped_some, after_runs}
+use Rattle.yt_machine.proofs.Events.{after_runs}
 use Rattle.yt_machine.proofs.Local.{pushed_same}
 use Rattle.yt_machine.proofs.Carried.{below_more}
 use Rattle.yt_machine.proofs.Fewer.{AreAbove, writes_above, loss_above}
@@ -137,10 +137,18 @@ module _ (M : Machine) (L : Laws M) (s : Settings) (S : Session M) (us : List (U
           let not_k : m ≡ k → ⊥ = λ x. n (ap suc x) in
           taken_same us (v ∷ restarted M (readers causes) (suc (suc k)) (drop (suc k) us)) k m (omega (arith, low, e)) long ∙ f
 
+  stands_above : (j : ℕ) (ns : List ℕ) → AreAbove M L j ns → (i : ℕ) → has_number ns i ≡ true → j < i
+  stands_above j ns a i h = by (nat_lt j i) refl
+    where
+      by : (b : Bool) → nat_lt j i ≡ b → j < i
+      by true e = ltb-true _ _ e
+      by false e = let low : i ≤ j = ltb-false _ _ e in absurd (both_ways _ (a i (omega (arith, low))) h)
+
   step_is : (k : ℕ) (u : Update M) → slice_get us k ≡ Some u → may_step M s us k u ≡ true → AreCauses M s S us (Steps (suc k)) (step_effect M s S us k u)
   step_is k u h m = record {
     hold = subst (λ (o : Option (Update M)). AllByRecursion (Holds M s.deps S.base (suc k) (lost_by M S.base us k o ++ readers causes) (stepped_at M S.base us k o)) causes) (sym h) (hold_by (is_spent (M.outcome v.state)));
     once = once_by (is_spent (M.outcome v.state));
+    above = stands_above (suc k) (readers causes) (above_by (is_spent (M.outcome v.state)));
     restarts = placed.0;
     others = placed.1;
     own = placed.2;
@@ -187,14 +195,11 @@ module _ (M : Machine) (L : Laws M) (s : Settings) (S : Session M) (us : List (U
       record {
         hold = loss_hold k u h;
         once = cascade_distinct M s.deps c (suc k) [] (D k) (record { number = suc k; trail = trail M u } ∷ []) (suc (suc k)) upper;
+        above = stands_above (suc k) (readers causes) (loss_above M L s.deps c (suc k) (D k) u upper);
         restarts = placed.0;
         others = placed.1;
         own = placed.2;
       }
-
-  restarted_none : (n : ℕ) (vs : List (Update M)) → restarted M [] n vs ≡ vs
-  restarted_none n [] = refl
-  restarted_none n (v ∷ vs) = ap (λ ws. v ∷ ws) (restarted_none (suc n) vs)
 
   -- no update but the one acted on changes
   alone : (k : ℕ) (u v : Update M) → slice_get us k ≡ Some u → v.attempt ≡ u.attempt
@@ -202,26 +207,22 @@ module _ (M : Machine) (L : Laws M) (s : Settings) (S : Session M) (us : List (U
       × ((i : ℕ) (w : Update M) → slice_get us i ≡ Some w → suc i ≡ suc k → (x : Update M) × (slice_get (take k us ++ v ∷ drop (suc k) us) i ≡ Some x) × (x.attempt ≡ w.attempt))
   alone k u v h e =
       let placed : IsPut k u v [] = put_is k u v [] h e (λ m l. refl) in
-      let same : put M us k v [] ≡ take k us ++ v ∷ drop (suc k) us = ap (λ vs. take k us ++ v ∷ vs) (restarted_none (suc (suc k)) (drop (suc k) us)) in (
+      let same : put M us k v [] ≡ take k us ++ v ∷ drop (suc k) us = ap (λ vs. take k us ++ v ∷ vs) (restarted_none M (suc (suc k)) (drop (suc k) us)) in (
         λ i w f n. ap (λ vs. slice_get vs i) (sym same) ∙ placed.1 i w f refl n,
         λ i w f n. let p = placed.2 i w f n in (p.0, ap (λ vs. slice_get vs i) (sym same) ∙ p.1, p.2),
       )
 
-  within : {A : Type 0} (xs : List A) (k : ℕ) (x : A) → slice_get xs k ≡ Some x → k < length xs
-  within [] k x h = absurd (none-some x h)
-  within (y ∷ xs) zero x h = omega arith
-  within (y ∷ xs) (suc k) x h = omega (arith, within xs k x h)
-
   pub causes_are : (e : Event M) (x : Effect M) → effect M s S us e ≡ Some x → AreCauses M s S us e x
   causes_are Admits x h =
-      let p = mapped_some M L (admit_effect M us) (slice_get S.submissions (length us)) x h in
+      let p = some_of (admit_effect M us) (slice_get S.submissions (length us)) x h in
       subst (λ (y : Effect M). AreCauses M s S us Admits y) p.2
       record {
         hold = tt;
         once = tt;
+        above = λ i g. absurd (both_ways false refl g);
         restarts = λ k u f g. absurd (both_ways false refl g);
-        others = λ k u f g n. pushed_same us (admitted M (suc (length us)) p.0 ∷ []) k (within us k u f) ∙ f;
-        own = λ k u f n. let l : k < length us = within us k u f in absurd (omega (arith, l, n));
+        others = λ k u f g n. pushed_same us (admitted M (suc (length us)) p.0 ∷ []) k (slice_get_within us k u f) ∙ f;
+        own = λ k u f n. let l : k < length us = slice_get_within us k u f in absurd (omega (arith, l, n));
       }
   causes_are (Steps i) x h =
       let a = allowed_is us i (may_step M s us) (step_effect M s S us) x h in
@@ -234,6 +235,7 @@ module _ (M : Machine) (L : Laws M) (s : Settings) (S : Session M) (us : List (U
       record {
         hold = tt;
         once = tt;
+        above = λ i g. absurd (both_ways false refl g);
         restarts = λ k u f g. absurd (both_ways false refl g);
         others = λ k u f g n. p.0 k u f (λ e. n (e ∙ sym a.number));
         own = λ k u f n. p.1 k u f (n ∙ a.number);
@@ -245,6 +247,7 @@ module _ (M : Machine) (L : Laws M) (s : Settings) (S : Session M) (us : List (U
       record {
         hold = tt;
         once = tt;
+        above = λ i g. absurd (both_ways false refl g);
         restarts = λ k u f g. absurd (both_ways false refl g);
         others = λ k u f g n. p.0 k u f (λ e. n (e ∙ sym a.number));
         own = λ k u f n. p.1 k u f (n ∙ a.number);

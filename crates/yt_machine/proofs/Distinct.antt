@@ -1,8 +1,9 @@
 -- No update is named by two causes of an entry.
-use Rattle.std.proofs.Common.{◌≡◌, ℕ, suc, ◌<◌, ◌≤◌, ◌==◌, ap, sym, refl, ◌∙◌, List, [], ◌∷◌, ◌++◌, map, Bool, true, false, not, ◌&&◌, ◌||◌, arith, Some, None}
+use Rattle.std.proofs.Common.{◌≡◌, ℕ, suc, ◌==◌, ap, sym, refl, ◌∙◌, List, [], ◌∷◌, ◌++◌, Bool, true, false, not, ◌&&◌, ◌||◌, arith, Some, None, subst}
 use Rattle.std.specs.Prelude.{if◌then◌else◌, Option, is_some, option_map, option_to_list}
 use Rattle.std.specs.List.{list_any}
-use Rattle.std.proofs.lemmas.Bool.{or_from, or_parts, eqb-true, ne_eqb, both_ways}
+use Rattle.std.proofs.lemmas.Bool.{or_from, eqb-true, both_ways, and_right, eq-eqb, or_right}
+use Rattle.std.proofs.lemmas.List.Folds.{list_any-append}
 use Rattle.yt_machine.specs.Machine.{Machine}
 use Rattle.yt_machine.specs.Updates.{Update, Deps, trail}
 use Rattle.yt_machine.specs.Reads.{Changed, changed_read, first_that}
@@ -13,13 +14,13 @@ use Rattle.yt_machine.specs.CauseLaw.{IsDistinct}
 use Rattle.yt_machine.proofs.Walks.{joining, further, conflicts_above, cascade_above, cascade_at}
 
 any_join : {A : Type 0} (p : A → Bool) (xs ys : List A) → list_any p (xs ++ ys) ≡ (list_any p xs || list_any p ys)
-any_join p xs ys = Rattle.std.proofs.lemmas.List.Folds.list_any-append p xs ys
+any_join p xs ys = list_any-append p xs ys
 
 pub distinct_join : (xs ys : List ℕ) → IsDistinct xs → IsDistinct ys → ((k : ℕ) → has_number xs k ≡ true → has_number ys k ≡ false) → IsDistinct (xs ++ ys)
 distinct_join [] ys a b h = b
 distinct_join (x ∷ xs) ys a b h = (
-  any_join (λ k. k == x) xs ys ∙ or_from _ _ a.0 (h x (ap (λ b. b || has_number xs x) (Rattle.std.proofs.lemmas.Bool.eq-eqb x x refl))),
-  distinct_join xs ys a.1 b (λ k g. h k (Rattle.std.proofs.lemmas.Bool.or_right _ _ g)),
+  any_join (λ k. k == x) xs ys ∙ or_from _ _ a.0 (h x (ap (λ b. b || has_number xs x) (eq-eqb x x refl))),
+  distinct_join xs ys a.1 b (λ k g. h k (or_right _ _ g)),
 )
 
 readers_map : (M : Machine) (cs ds : List (Cause M)) → readers (cs ++ ds) ≡ readers cs ++ readers ds
@@ -62,12 +63,12 @@ module _ (M : Machine) (deps : Deps) (c j : ℕ) where
       none false e = absurd (both_ways false refl e)
 
       by : (b : Bool) → (n == k) ≡ b → (is_some (joining M deps c j fs N ms n u) && b) ≡ false
-      by false e = Rattle.std.proofs.lemmas.Bool.and_right _ false refl
+      by false e = and_right _ false refl
       by true e = ap (λ b. b && true) (none (has_number fs n) (ap (λ m. has_number fs m) (eqb-true n k e) ∙ h))
 
   pub writes_distinct : (E : M.Repository) (us : List (Update M)) → IsDistinct (readers (causes_of_writes M deps c j E us))
   writes_distinct E us =
       let first : List (Cause M) = conflicts M c j E (suc j) us in
       let joined : List (Cause M) = cascade M deps c (readers first) E [] (suc j) us in
-      Rattle.std.proofs.Common.subst IsDistinct (sym (readers_map M first joined))
+      subst IsDistinct (sym (readers_map M first joined))
       (distinct_join (readers first) (readers joined) (conflicts_distinct E (suc j) us) (cascade_distinct (readers first) E [] (suc j) us) (λ k h. cascade_others (readers first) E [] (suc j) k us h))

@@ -1,10 +1,10 @@
 -- Every event keeps the invariant: each update is its run over what lies below it.
 use Rattle.std.proofs.Common.{◌≡◌, ℕ, suc, ◌<◌, ◌≤◌, ◌+◌, ap, sym, refl, subst, ◌∙◌, List, [], ◌∷◌, ◌++◌, map, take, drop, length, Bool, true, false, arith, Some, None}
-use Rattle.std.specs.Prelude.{if◌then◌else◌, Option, slice_get, is_some, option_map}
+use Rattle.std.specs.Prelude.{if◌then◌else◌, Option, slice_get, is_some}
 use Rattle.std.proofs.lemmas.Bool.{and_parts, both_ways, ltb-true}
 use Rattle.std.proofs.lemmas.Option.{same_Some, none-some, option_and_then_some}
 use Rattle.yt_machine.specs.Trees.{result_of, log_of}
-use Rattle.yt_machine.specs.Machine.{Machine, Laws}
+use Rattle.yt_machine.specs.Machine.{Machine, Laws, Done, Outcome, Refused, Spent}
 use Rattle.yt_machine.specs.Updates.{Read, Update, Submission, Session, Settings, hides, trail, below, committed}
 use Rattle.yt_machine.specs.Standings.{Lack, Missing, lack, unless_fits, lack_for, next_answer}
 use Rattle.yt_machine.specs.Cascade.{Cause, readers, restarted}
@@ -12,7 +12,7 @@ use Rattle.yt_machine.specs.Steps.{val, next_step, stepped}
 use Rattle.yt_machine.specs.Effects.{Event, Admits, Steps, Delivers, Answers, Withdraws, Effect, is_spent, causes_of_loss, causes_of_writes, causes_of_step, withdrawn_now, with_answers, step_effect, withdraw_effect, deliver_effect, answer_effect, admitted, admit_effect, may_step, may_deliver, may_answer, may_withdraw, effect}
 use Rattle.yt_machine.specs.Histories.{Log, with_entry, after}
 use Rattle.yt_machine.specs.Runs.{Reached, start, more, IsRun, AreRuns}
-use Rattle.yt_machine.proofs.Basics.{if_both, longer_keeps, replaced_keeps, length_from}
+use Rattle.yt_machine.proofs.Basics.{if_both, longer_keeps, replaced_keeps, length_from, some_of}
 use Rattle.yt_machine.proofs.Settling.{settled_runs}
 use Rattle.yt_machine.proofs.Walks.{restarts_of_writes, restarts_of_loss}
 use Rattle.yt_machine.proofs.Standing.{ready_parts, not_over}
@@ -60,11 +60,11 @@ module _ (M : Machine) (L : Laws M) where
       subst (λ (o : Option M.Choice). Reached M D bs n a op (M.moved P (result_of (val M op D P) (M.step P o))) (log ++ map (λ q. record { query = q.0; answer = q.1; own = length (M.own P) }) (log_of (val M op D P) (M.step P o))))
       (sym same.0) (more before going (sym same.1 ∙ able))
 
-  spent_hides : (o : Option Rattle.yt_machine.specs.Machine.Outcome) → is_spent o ≡ true → hides o ≡ true
+  spent_hides : (o : Option Outcome) → is_spent o ≡ true → hides o ≡ true
   spent_hides None h = absurd (both_ways false refl h)
-  spent_hides (Some Rattle.yt_machine.specs.Machine.Done) h = absurd (both_ways false refl h)
-  spent_hides (Some Rattle.yt_machine.specs.Machine.Spent) h = refl
-  spent_hides (Some Rattle.yt_machine.specs.Machine.Refused) h = absurd (both_ways false refl h)
+  spent_hides (Some Done) h = absurd (both_ways false refl h)
+  spent_hides (Some Spent) h = refl
+  spent_hides (Some Refused) h = absurd (both_ways false refl h)
 
   spent_trail : (v : Update M) → is_spent (M.outcome v.state) ≡ true → trail M v ≡ []
   spent_trail v h =
@@ -143,13 +143,9 @@ module _ (M : Machine) (L : Laws M) where
       (record { present = λ w. subst (λ k. Reached M D [] k 0 x.operation (M.begin number 0 x.operation) []) same start; gone = λ w. refl }, tt)
   admitted_runs D n number x (u ∷ us) e r = (r.0, admitted_runs (M.apply D (trail M u)) (suc n) number x us (omega arith) r.1)
 
-  pub mapped_some : {A B : Type 0} (f : A → B) (o : Option A) (y : B) → option_map f o ≡ Some y → (x : A) × (o ≡ Some x) × (f x ≡ y)
-  mapped_some f None y h = absurd (none-some y h)
-  mapped_some f (Some x) y h = (x, refl, same_Some _ _ h)
-
   pub effect_runs : (s : Settings) (S : Session M) (us : List (Update M)) (e : Event M) (x : Effect M) → M.Sound S.base → AreRuns M S.base 1 us → effect M s S us e ≡ Some x → AreRuns M S.base 1 x.updates
   effect_runs s S us Admits x z r h =
-      let p = mapped_some (admit_effect M us) (slice_get S.submissions (length us)) x h in
+      let p = some_of (admit_effect M us) (slice_get S.submissions (length us)) x h in
       subst (λ (y : Effect M). AreRuns M S.base 1 y.updates) p.2 (admitted_runs S.base 1 (suc (length us)) p.0 us (omega arith) r)
   effect_runs s S us (Steps i) x z r h =
       let a = allowed_is us i (may_step M s us) (step_effect M s S us) x h in

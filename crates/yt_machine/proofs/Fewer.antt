@@ -2,25 +2,25 @@
 use Rattle.std.proofs.Common.{◌≡◌, ℕ, zero, suc, ◌<◌, ◌≤◌, ◌+◌, ◌-◌, ap, sym, refl, subst, ◌∙◌, List, [], ◌∷◌, ◌++◌, drop, Bool, true, false, not, ◌&&◌, arith, Some, None}
 use Rattle.std.specs.Prelude.{if◌then◌else◌, Option, is_some, slice_get, nat_lt}
 use Rattle.std.specs.List.{list_any, list_all}
-use Rattle.std.proofs.lemmas.Bool.{and_parts, and_right, or_parts, or_from, ltb-true, both_ways}
+use Rattle.std.proofs.lemmas.Bool.{and_parts, and_right, or_parts, or_from, ltb-true, both_ways, ltb-false}
 use Rattle.std.proofs.lemmas.Option.{same_Some, none-some}
 use Rattle.yt_machine.specs.Machine.{Machine, Laws}
 use Rattle.yt_machine.specs.Updates.{Update, Session, Deps, Precise, Coarse, trail, below, committed}
 use Rattle.yt_machine.specs.Reads.{is_valid}
 use Rattle.yt_machine.specs.Standings.{is_nil}
-use Rattle.yt_machine.specs.Cascade.{Cause, Member, readers, has_number, is_live, conflict_of, dependence_of, read_depends, with_member, without_member}
+use Rattle.yt_machine.specs.Cascade.{Cause, Member, readers, has_number, is_live, conflict_of, dependence_of, read_depends, with_member, without_member, cascade, conflicts}
 use Rattle.yt_machine.specs.Settle.{cause_of, settle}
 use Rattle.yt_machine.specs.Steps.{stepped}
-use Rattle.yt_machine.specs.Effects.{Event, Admits, Steps, Delivers, Answers, Withdraws, Effect, is_spent, causes_of_loss, causes_of_writes, causes_of_step, step_effect, withdraw_effect, deliver_effect, answer_effect, admit_effect, may_step, may_deliver, may_answer, may_withdraw, effect}
+use Rattle.yt_machine.specs.Effects.{Event, Admits, Steps, Delivers, Answers, Withdraws, Effect, is_spent, causes_of_loss, causes_of_writes, causes_of_step, step_effect, withdraw_effect, deliver_effect, answer_effect, admit_effect, may_step, may_deliver, may_answer, may_withdraw, effect, Entry}
 use Rattle.yt_machine.specs.Histories.{empty_log, causes_in}
 use Rattle.yt_machine.specs.Runs.{IsRun, AreRuns}
 use Rattle.yt_machine.specs.DepsLaw.{with_deps, DepsLaw}
-use Rattle.yt_machine.proofs.Basics.{some_or}
+use Rattle.yt_machine.proofs.Basics.{some_or, some_of}
 use Rattle.yt_machine.proofs.Settling.{Apart, apart_kept, apart_more, avoids_split, more_members, conflict_some, dependence_some, stays}
 use Rattle.yt_machine.proofs.Walks.{AreNumbers, numbers_of_writes, numbers_of_loss, conflicts_above, cascade_above, readers_join}
 use Rattle.yt_machine.proofs.Standing.{ready_parts, not_over}
 use Rattle.yt_machine.proofs.Places.{allowed_is, committed_below, sound_below, runs_above, dropped_same}
-use Rattle.yt_machine.proofs.Events.{mapped_some, after_runs}
+use Rattle.yt_machine.proofs.Events.{after_runs}
 
 any_not : {A : Type 0} (p : A → Bool) (xs : List A) → list_all p xs ≡ true → list_any (λ x. not (p x)) xs ≡ false
 any_not p [] h = refl
@@ -104,8 +104,8 @@ module _ (M : Machine) (L : Laws M) where
 
   pub writes_above : (deps : Deps) (c j : ℕ) (E : M.Repository) (us : List (Update M)) → AreAbove j (readers (causes_of_writes M deps c j E us))
   writes_above deps c j E us k h =
-      let first : List (Cause M) = Rattle.yt_machine.specs.Cascade.conflicts M c j E (suc j) us in
-      readers_join M first (Rattle.yt_machine.specs.Cascade.cascade M deps c (readers first) E [] (suc j) us) k
+      let first : List (Cause M) = conflicts M c j E (suc j) us in
+      readers_join M first (cascade M deps c (readers first) E [] (suc j) us) k
       ∙ or_from _ _ (conflicts_above M deps c j E (suc j) k us h) (cascade_above M deps c j (readers first) E [] (suc j) k us h)
 
   pub loss_above : (deps : Deps) (c j : ℕ) (D : M.Repository) (u : Update M) (us : List (Update M)) → AreAbove j (readers (causes_of_loss M deps c j D u us))
@@ -147,7 +147,7 @@ module _ (M : Machine) (L : Laws M) where
       by : (b : Bool) → nat_lt (suc k) (suc (suc p)) ≡ b → has_number ks (suc k) ≡ true
       by true e = absurd (both_ways _ (a (suc k) (ltb-true _ _ e)) g)
       by false e =
-          let low : suc (suc p) ≤ suc k = Rattle.std.proofs.lemmas.Bool.ltb-false _ _ e in
+          let low : suc (suc p) ≤ suc k = ltb-false _ _ e in
           h (k - suc p) (suc k) u (omega (arith, low)) (dropped_same us (suc p) (k - suc p) k (omega (arith, low)) ∙ f) g
 
   module _ (K : ℕ) (S : Session M) (us : List (Update M)) (z : M.Sound S.base) (r : AreRuns M S.base 1 us) where
@@ -175,7 +175,7 @@ module _ (M : Machine) (L : Laws M) where
         (loss_above Precise (committed M us) (suc p) D v (drop (suc p) us)) f g
 
     -- no other event has causes
-    quiet_deps : (x y : Effect M) (e : Rattle.yt_machine.specs.Effects.Entry M) → causes_in e ≡ [] → e ≡ x.entry → More x y
+    quiet_deps : (x y : Effect M) (e : Entry M) → causes_in e ≡ [] → e ≡ x.entry → More x y
     quiet_deps x y e n f k u h g = absurd (both_ways (has_number (readers (causes_in x.entry)) (suc k)) (ap (λ cs. has_number (readers cs) (suc k)) (sym (ap causes_in f) ∙ n)) g)
 
     -- the same update of both
@@ -196,7 +196,7 @@ deps_law M L s S es l e x y z h = by e
 
     by : (e : Event M) → effect M (with_deps s.retries Precise) S us e ≡ Some x → effect M (with_deps s.retries Coarse) S us e ≡ Some y → More M L s.retries S us z runs x y
     by Admits f g =
-        let p = mapped_some M L (admit_effect M us) _ x f in
+        let p = some_of (admit_effect M us) _ x f in
         quiet_deps M L s.retries S us z runs x y (admit_effect M us p.0).entry refl (ap (λ (q : Effect M). q.entry) p.2)
     by (Steps i) f g =
         let a = allowed_is us i (may_step M (with_deps s.retries Precise) us) (step_effect M (with_deps s.retries Precise) S us) x f in

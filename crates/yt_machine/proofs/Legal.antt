@@ -2,6 +2,7 @@
 use Rattle.std.proofs.Common.{◌≡◌, ℕ, zero, suc, ◌+◌, ap, sym, refl, subst, ◌∙◌, List, [], ◌∷◌, ◌++◌, append_assoc, append-nil, map, take, drop, length, arith, Some}
 use Rattle.std.specs.Prelude.{slice_get}
 use Rattle.std.proofs.lemmas.Option.{same_Some, none-some, option_and_then_some}
+use Rattle.yt_machine.proofs.Basics.{some_of, length_more}
 use Rattle.yt_machine.specs.Machine.{Machine, Laws}
 use Rattle.yt_machine.specs.Updates.{Update, Session, Settings, below, committed}
 use Rattle.yt_machine.specs.Cascade.{Cause, readers, restarted}
@@ -10,7 +11,6 @@ use Rattle.yt_machine.specs.Effects.{Event, Admits, Steps, Delivers, Answers, Wi
 use Rattle.yt_machine.specs.Histories.{Log, empty_log, with_entry, after, event_of, IsLegal}
 use Rattle.yt_machine.specs.Bounds.{admissions_of, admissions_in}
 use Rattle.yt_machine.proofs.Places.{allowed_is}
-use Rattle.yt_machine.proofs.Events.{mapped_some}
 
 length_restarted : (M : Machine) (ns : List ℕ) (n : ℕ) (us : List (Update M)) → length (restarted M ns n us) ≡ length us
 length_restarted M ns n [] = refl
@@ -20,10 +20,6 @@ length_put : {A : Type 0} (us : List A) (k : ℕ) (u v : A) (vs : List A) → sl
 length_put [] k u v vs h e = absurd (none-some u h)
 length_put (w ∷ us) zero u v vs h e = ap suc e
 length_put (w ∷ us) (suc k) u v vs h e = ap suc (length_put us k u v vs h e)
-
-length_more : {A : Type 0} (us : List A) (v : A) → length (us ++ v ∷ []) ≡ suc (length us)
-length_more [] v = refl
-length_more (u ∷ us) v = ap suc (length_more us v)
 
 length_of_put : (M : Machine) (us : List (Update M)) (k : ℕ) (u v : Update M) (causes : List (Cause M)) → slice_get us k ≡ Some u → length (put M us k v causes) ≡ length us
 length_of_put M us k u v causes h = length_put us k u v (restarted M (readers causes) (suc (suc k)) (drop (suc k) us)) h (length_restarted M (readers causes) (suc (suc k)) (drop (suc k) us))
@@ -43,7 +39,7 @@ module _ (M : Machine) (L : Laws M) (s : Settings) (S : Session M) where
 
   pub effect_records : (us : List (Update M)) (e : Event M) (x : Effect M) → effect M s S us e ≡ Some x → Records us e x
   effect_records us Admits x h =
-      let p = mapped_some M L (admit_effect M us) (slice_get S.submissions (length us)) x h in
+      let p = some_of (admit_effect M us) (slice_get S.submissions (length us)) x h in
       subst (λ (y : Effect M). Records us Admits y) p.2 (refl, omega (arith, length_more us (admitted M (suc (length us)) p.0)))
   effect_records us (Steps i) x h =
       let a = allowed_is us i (may_step M s us) (step_effect M s S us) x h in

@@ -26,3 +26,6 @@ pub mod Recorded
 pub mod Allowed
 pub mod Working
 pub mod Stamped
+pub mod Sessions
+pub mod Calls
+pub mod Told

@@ -8,10 +8,9 @@ use Rattle.yt_machine.specs.Updates.{Update, trail, is_over, committed}
 use Rattle.yt_machine.specs.Standings.{standing, is_pending}
 use Rattle.yt_machine.specs.Effects.{Admits, Steps, Delivers, Answers, Withdraws, Effect, step_effect, withdraw_effect, deliver_effect, answer_effect, admitted, admit_effect, may_step, may_deliver, may_answer, may_withdraw}
 use Rattle.yt_machine.specs.Local.{IsLocal, LocalLaw}
-use Rattle.yt_machine.proofs.Basics.{if_both, length_from}
+use Rattle.yt_machine.proofs.Basics.{if_both, length_from, some_of}
 use Rattle.yt_machine.proofs.Standing.{ready_parts, paused_parts, pending_parts, not_over}
 use Rattle.yt_machine.proofs.Places.{allowed_is, taken_same, take_put, committed_below, committed_kept, committed_more}
-use Rattle.yt_machine.proofs.Events.{mapped_some}
 
 pub pushed_same : {A : Type 0} (us vs : List A) (k : ℕ) → k < length us → slice_get (us ++ vs) k ≡ slice_get us k
 pushed_same [] vs k h = absurd (omega arith)
@@ -38,7 +37,7 @@ module _ (M : Machine) (L : Laws M) where
 
   pub local_law : LocalLaw M
   local_law s S us Admits x h =
-      let p = mapped_some M L (admit_effect M us) (slice_get S.submissions (length us)) x h in
+      let p = some_of (admit_effect M us) (slice_get S.submissions (length us)) x h in
       subst (λ (y : Effect M). IsLocal M S.base (suc (length us)) us y.updates) p.2
       record {
         lower = λ j l. pushed_same us (admitted M (suc (length us)) p.0 ∷ []) j (omega (arith, l));

@@ -1,12 +1,12 @@
 -- The update at a place of the list, those below it and those above it.
 use Rattle.std.proofs.Common.{◌≡◌, ℕ, zero, suc, ◌<◌, ◌≤◌, ◌+◌, ap, sym, refl, subst, ◌∙◌, List, [], ◌∷◌, ◌++◌, take, drop, length, Bool, true, false, arith, Some, None}
 use Rattle.std.specs.Prelude.{if◌then◌else◌, Option, slice_get, option_and_then}
-use Rattle.std.specs.List.{flat_map}
+use Rattle.std.specs.List.{flat_map, list_all}
 use Rattle.std.proofs.lemmas.Bool.{both_ways}
 use Rattle.std.proofs.lemmas.Option.{same_Some, none-some}
 use Rattle.yt_machine.specs.Machine.{Machine, Laws}
 use Rattle.yt_machine.specs.Updates.{Update, trail, below, is_over, committed}
-use Rattle.yt_machine.specs.Reads.{all_valid}
+use Rattle.yt_machine.specs.Reads.{all_valid, is_valid}
 use Rattle.yt_machine.specs.Runs.{IsRun, AreRuns}
 use Rattle.yt_machine.specs.Effects.{where_allowed}
 use Rattle.yt_machine.proofs.Basics.{if_both, if_some}
@@ -108,7 +108,7 @@ module _ (M : Machine) (L : Laws M) where
     where
       go : (w : Bool) → u.withdrawn ≡ w → all_valid M (below M D us k) u ≡ true
       go false w = run_valid M L (below M D us k) (n + k) u w (runs_at D n k us u r h)
-      go true w = ap (λ l. Rattle.std.specs.List.list_all (Rattle.yt_machine.specs.Reads.is_valid M u.operation (below M D us k) (M.own u.state)) l) ((runs_at D n k us u r h).gone w)
+      go true w = ap (λ l. list_all (is_valid M u.operation (below M D us k) (M.own u.state)) l) ((runs_at D n k us u r h).gone w)
 
   -- those above the update at a place
   pub runs_above : (D : M.Repository) (n k : ℕ) (us : List (Update M)) (u : Update M) → AreRuns M D n us → slice_get us k ≡ Some u → AreRuns M (M.apply (below M D us k) (trail M u)) (suc (n + k)) (drop (suc k) us)

@@ -9,11 +9,11 @@ use Rattle.yt_machine.specs.Standings.{Lack, Missing, Misfit, lack, is_held, sta
 use Rattle.yt_machine.specs.Steps.{next_state}
 use Rattle.yt_machine.specs.Runs.{IsRun, AreRuns}
 use Rattle.yt_machine.specs.Serial.{Ends, Stops, go_on, run, Turn, whole, with_finish, after_turn, serial, committed_finishes, all_turns, stop_at, first_stop}
-use Rattle.yt_machine.proofs.Basics.{if_true, if_false, longer_keeps}
+use Rattle.yt_machine.proofs.Basics.{if_true, if_false, longer_keeps, none_from}
 use Rattle.yt_machine.proofs.Places.{below_next}
 use Rattle.yt_machine.proofs.Events.{answers_kept, same_lack}
 use Rattle.yt_machine.proofs.Standing.{stopped_is}
-use Rattle.yt_machine.proofs.Serials.{counted, run_to, whole_is, none_from}
+use Rattle.yt_machine.proofs.Serials.{counted, run_to, whole_is}
 
 -- nothing in the list passes the test
 pub none_that : {M : Machine} (p : ℕ → Update M → Bool) (n k : ℕ) (us : List (Update M)) (u : Update M) → lowest_that p n us ≡ None → slice_get us k ≡ Some u → p (n + k) u ≡ false

@@ -1,6 +1,6 @@
 -- The updates of a history keep what was handed in.
-use Rattle.std.proofs.Common.{◌≡◌, ℕ, zero, suc, ap, sym, refl, subst, ◌∙◌, List, [], ◌∷◌, ◌++◌, append_assoc, take, drop, map, length, Bool, true, false, Some, None}
-use Rattle.std.specs.Prelude.{if◌then◌else◌, Option, slice_get, option_map, option_and_then}
+use Rattle.std.proofs.Common.{◌≡◌, ℕ, zero, suc, ap, sym, refl, subst, ◌∙◌, List, [], ◌∷◌, ◌++◌, append_assoc, take, drop, map, length, Bool, true, false, Some}
+use Rattle.std.specs.Prelude.{if◌then◌else◌, slice_get, option_map, option_and_then}
 use Rattle.std.specs.List.{list_all}
 use Rattle.std.proofs.lemmas.Bool.{and_parts, both_ways}
 use Rattle.std.proofs.lemmas.List.{take-append-drop}
@@ -13,12 +13,8 @@ use Rattle.yt_machine.specs.Effects.{Event, Admits, Steps, Delivers, Answers, Wi
 use Rattle.yt_machine.specs.Histories.{Log, empty_log, with_entry, after}
 use Rattle.yt_machine.specs.Serial.{all_turns, session_turns}
 use Rattle.yt_machine.specs.Recorded.{is_recorded, by_first_attempt, RecordedLaw, with_more, LongerLaw}
-use Rattle.yt_machine.proofs.Basics.{if_both, longer_keeps}
+use Rattle.yt_machine.proofs.Basics.{if_both, longer_keeps, some_of}
 use Rattle.yt_machine.proofs.Places.{allowed_is}
-
-some_of : {A B : Type 0} (f : A → B) (o : Option A) (y : B) → option_map f o ≡ Some y → (x : A) × (o ≡ Some x) × (f x ≡ y)
-some_of f None y h = absurd (none-some y h)
-some_of f (Some x) y h = (x, refl, same_Some _ _ h)
 
 -- ---- a property of updates and what was handed in, which events keep
 

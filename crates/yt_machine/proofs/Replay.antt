@@ -10,7 +10,7 @@ use Rattle.yt_machine.specs.Updates.{Read}
 use Rattle.yt_machine.specs.Reads.{is_valid}
 use Rattle.yt_machine.specs.Steps.{val, next_step, next_move, next_state, step_log}
 use Rattle.yt_machine.specs.Runs.{Reached, start, more}
-use Rattle.yt_machine.specs.Replay.{ReplayLaw}
+use Rattle.yt_machine.specs.Replay.{ReplayLaw, PlanLaw}
 use Rattle.yt_machine.proofs.TreeLaws.{replayed, replayed_log}
 
 -- the reads that a step's queries log
@@ -64,3 +64,11 @@ module _ (M : Machine) (L : Laws M) where
     valid = reads_valid [] (M.own P) (sym (append-nil (M.own P))) r;
     elsewhere = λ E v. replay E [] (M.own P) (sym (append-nil (M.own P))) r v;
   }
+
+  pub plan_law : PlanLaw M
+  plan_law op D E answers P v =
+      let own : take (length (M.own P)) (M.own P) ≡ M.own P = own_before P [] (M.own P) (sym (append-nil (M.own P))) in
+      let same : AreAnswers (val M op E P) (log_of (val M op D P) (next_step M answers P)) = logged_answers op D E P (M.own P) own (next_step M answers P) v in (
+        replayed (val M op D P) (val M op E P) (next_step M answers P) same,
+        ap (λ (l : List (M.Query × M.Reply)). map (λ r. record { query = r.0; answer = r.1; own = length (M.own P) }) l) (replayed_log (val M op D P) (val M op E P) (next_step M answers P) same),
+      )

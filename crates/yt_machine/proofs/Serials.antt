@@ -1,11 +1,10 @@
 -- What the committed updates leave is what the serial machine leaves.
-use Rattle.std.proofs.Common.{◌≡◌, ℕ, zero, suc, ◌≤◌, ◌+◌, ◌-◌, ap, sym, refl, ◌∙◌, List, [], ◌∷◌, Bool, true, false, ◌||◌, arith, Some, None}
+use Rattle.std.proofs.Common.{◌≡◌, ℕ, zero, suc, ◌≤◌, ◌+◌, ◌-◌, ap, sym, refl, ◌∙◌, List, [], ◌∷◌, Bool, true, false, ◌||◌, arith, None}
 use Rattle.std.specs.Prelude.{if◌then◌else◌, Option, is_some}
-use Rattle.std.proofs.lemmas.Bool.{both_ways}
 use Rattle.yt_machine.specs.Machine.{Machine, Laws}
 use Rattle.yt_machine.specs.Updates.{Read, Update, shown, trail, committed, below}
 use Rattle.yt_machine.specs.Standings.{lack}
-use Rattle.yt_machine.specs.Steps.{next_state}
+use Rattle.yt_machine.specs.Steps.{next_state, next_move}
 use Rattle.yt_machine.specs.Runs.{Reached, start, more, IsRun, AreRuns}
 use Rattle.yt_machine.specs.Serial.{Ends, go_on, run, Turn, whole, with_finish, after_turn, serial, committed_turns, committed_finishes}
 use Rattle.yt_machine.proofs.Basics.{if_true, if_false}
@@ -14,23 +13,19 @@ use Rattle.yt_machine.proofs.Places.{below_next}
 is_some_none : {A : Type 0} (o : Option A) → o ≡ None → is_some o ≡ false
 is_some_none o h = ap (λ x. is_some x) h
 
-pub none_from : {A : Type 0} (o : Option A) → is_some o ≡ false → o ≡ None
-none_from None h = refl
-none_from (Some x) h = absurd (both_ways true h refl)
-
 module _ (M : Machine) (L : Laws M) where
   pub counted : {D : M.Repository} {answers : List M.Choice} {n a : ℕ} {op : M.Operation} {P : M.State} {log : List (Read M)} → Reached M D answers n a op P log → (M.count P ≤ M.budget) × (M.outcome P ≡ None → suc (M.count P) ≤ M.budget)
   counted {n} {a} {op} start = (omega (arith, L.begin_count n a op), λ h. omega (arith, L.begin_count n a op, L.some_budget))
   counted {D} {answers} {op} (more {P} r going able) =
       let c : suc (M.count P) ≤ M.budget = (counted r).1 going in
-      (omega (arith, L.moved_count P (Rattle.yt_machine.specs.Steps.next_move M op D answers P)), λ h. L.bounded P (Rattle.yt_machine.specs.Steps.next_move M op D answers P) c h)
+      (omega (arith, L.moved_count P (next_move M op D answers P)), λ h. L.bounded P (next_move M op D answers P) c h)
 
   pub run_to : {D : M.Repository} {answers : List M.Choice} {n a : ℕ} {op : M.Operation} {P : M.State} {log : List (Read M)} → Reached M D answers n a op P log → (k : ℕ) → run M op D answers (M.count P + k) (M.begin n a op) ≡ run M op D answers k P
   run_to {D} {answers} {n} {a} {op} start k =
       let e : M.count (M.begin n a op) + k ≡ k = omega (arith, L.begin_count n a op) in
       ap (λ i. run M op D answers i (M.begin n a op)) e
   run_to {D} {answers} {n} {a} {op} (more {P} r going able) k =
-      let f : M.count (next_state M op D answers P) + k ≡ M.count P + suc k = omega (arith, L.moved_count P (Rattle.yt_machine.specs.Steps.next_move M op D answers P)) in
+      let f : M.count (next_state M op D answers P) + k ≡ M.count P + suc k = omega (arith, L.moved_count P (next_move M op D answers P)) in
       ap (λ i. run M op D answers i (M.begin n a op)) f ∙ run_to r (suc k)
       ∙ if_false (is_some (M.outcome P)) (Ends P) (go_on M (run M op D answers k) P (next_state M op D answers P) (lack M answers P)) (is_some_none (M.outcome P) going)
       ∙ ap (λ x. go_on M (run M op D answers k) P (next_state M op D answers P) x) able

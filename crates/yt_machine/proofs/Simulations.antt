@@ -2,7 +2,8 @@
 use Rattle.std.proofs.Common.{◌≡◌, ℕ, zero, suc, ◌≤◌, ◌+◌, ap, sym, refl, subst, ◌∙◌, List, [], ◌∷◌, ◌++◌, Bool, true, false, Some, None, arith}
 use Rattle.std.specs.Prelude.{if◌then◌else◌, Option, is_some}
 use Rattle.std.proofs.lemmas.Bool.{both_ways}
-use Rattle.std.proofs.lemmas.Option.{none-some}
+use Rattle.std.proofs.lemmas.Option.{none-some, same_Some}
+use Rattle.yt_machine.proofs.Basics.{none_from}
 use Rattle.yt_machine.specs.Machine.{Machine, Laws}
 use Rattle.yt_machine.specs.Updates.{Read, shown}
 use Rattle.yt_machine.specs.Standings.{Lack, lack}
@@ -11,7 +12,7 @@ use Rattle.yt_machine.specs.Runs.{Reached, start, more}
 use Rattle.yt_machine.specs.Serial.{Rest, Ends, Stops, go_on, run, Turn, whole, after_turn, serial}
 use Rattle.yt_machine.specs.Rests.{IsRest, RestLaw}
 use Rattle.yt_machine.specs.Simulation.{Simulation, AreTurns, AreResults}
-use Rattle.yt_machine.proofs.Serials.{counted, none_from}
+use Rattle.yt_machine.proofs.Serials.{counted}
 
 module _ (M : Machine) (L : Laws M) where
   -- k steps are enough where no more are left
@@ -53,7 +54,7 @@ module _ (M K : Machine) (L : Laws M) (R : Simulation M K) where
       by true false e f l m g h rec = absurd (both_ways _ f e)
       by false true e f l m g h rec = absurd (both_ways _ e f)
       by false false e f None None g h rec = rec (none_from (M.outcome P) e) g
-      by false false e f (Some x) (Some y) g h rec = (r, Rattle.std.proofs.lemmas.Option.same_Some x y (sym g ∙ h (none_from (M.outcome P) e)))
+      by false false e f (Some x) (Some y) g h rec = (r, same_Some x y (sym g ∙ h (none_from (M.outcome P) e)))
       by false false e f None (Some y) g h rec = absurd (none-some y (sym g ∙ h (none_from (M.outcome P) e)))
       by false false e f (Some x) None g h rec = absurd (none-some x (sym (h (none_from (M.outcome P) e)) ∙ g))
 

@@ -3,7 +3,7 @@ use Rattle.std.proofs.Common.{◌≡◌, ℕ, zero, suc, ◌<◌, ◌≤◌, ◌
 use Rattle.std.specs.Prelude.{if◌then◌else◌, Option, slice_get, nat_lt}
 use Rattle.std.specs.List.{flat_map}
 use Rattle.std.proofs.lemmas.Bool.{or_right, ltb-true, ltb-false, both_ways}
-use Rattle.std.proofs.lemmas.Option.{same_Some, none-some}
+use Rattle.std.proofs.lemmas.Option.{same_Some, none-some, slice_get_within}
 use Rattle.yt_machine.specs.Machine.{Machine, Laws, Avoids}
 use Rattle.yt_machine.specs.Updates.{Update, Session, Settings, hides, shown, trail, below, committed}
 use Rattle.yt_machine.specs.Cascade.{readers, has_number, restarted, anew}
@@ -14,9 +14,9 @@ use Rattle.yt_machine.specs.CauseLaw.{members_of}
 use Rattle.yt_machine.specs.Stamps.{AlikeSwaps, hidden_by, loses, IsUntouched, StampLaw}
 use Rattle.yt_machine.proofs.Basics.{if_both, if_true, if_false, length_from}
 use Rattle.yt_machine.proofs.Settling.{AvoidsAll, avoids_split}
-use Rattle.yt_machine.proofs.Walks.{here}
+use Rattle.yt_machine.proofs.Walks.{here, restarted_none}
 use Rattle.yt_machine.proofs.Standing.{ready_parts}
-use Rattle.yt_machine.proofs.Places.{allowed_is, sound_below}
+use Rattle.yt_machine.proofs.Places.{allowed_is, sound_below, IsAllowed}
 use Rattle.yt_machine.proofs.Local.{local_law}
 
 has_join : (ns ms : List ℕ) (k : ℕ) → has_number ms k ≡ true → has_number (ns ++ ms) k ≡ true
@@ -100,15 +100,6 @@ module _ (M : Machine) (L : Laws M) (swap : AlikeSwaps M) (D : M.Repository) (us
       (subst (λ F. M.Alike p (M.apply (M.apply (below M D us q) (trail M u)) (flat_map (trail M) (take d upper))) F) (sym (ap (λ xs. M.apply D (flat_map (trail M) xs)) t.1 ∙ laid q d v (restarted M ms (suc (suc q)) upper)))
       (alike_restarted M L swap p ns ms (suc (suc q)) d upper (M.apply (below M D us q) (trail M u)) (M.apply (below M D us q) (trail M v)) sub (own parts.0) parts.1))
 
-restarted_none : (M : Machine) (n : ℕ) (vs : List (Update M)) → restarted M [] n vs ≡ vs
-restarted_none M n [] = refl
-restarted_none M n (v ∷ vs) = ap (λ ws. v ∷ ws) (restarted_none M (suc n) vs)
-
-within : {A : Type 0} (xs : List A) (k : ℕ) (x : A) → slice_get xs k ≡ Some x → k < length xs
-within [] k x h = absurd (none-some x h)
-within (y ∷ xs) zero x h = omega arith
-within (y ∷ xs) (suc k) x h = omega (arith, within xs k x h)
-
 trail_open : (M : Machine) (u : Update M) → u.withdrawn ≡ false → hides (M.outcome u.state) ≡ false → trail M u ≡ M.own u.state
 trail_open M u w h = if_false u.withdrawn [] (shown M u.state) w ∙ if_false (hides (M.outcome u.state)) [] (M.own u.state) h
 
@@ -167,12 +158,12 @@ module _ (M : Machine) (L : Laws M) (swap : AlikeSwaps M) (s : Settings) (S : Se
   low_alike p e x k h l = subst (λ F. M.Alike p (D k) F) (sym ((local_law M L s S us e x h).below k l)) (L.alike_same p (D k) (sound k))
 
   high_alike : (p : ℕ → Bool) (e : Event M) (x : Effect M) (k : ℕ) (w : Update M) → slice_get us k ≡ Some w → effect M s S us e ≡ Some x → acts_on us e ≤ k → IsUntouched M S.base us e x k p → M.Alike p (D k) (below M S.base x.updates k)
-  high_alike p Admits x k w f h l t = let a : k < length us = within us k w f in absurd (omega (arith, l))
+  high_alike p Admits x k w f h l t = let a : k < length us = slice_get_within us k w f in absurd (omega (arith, l))
   high_alike p (Steps i) x k w f h l t =
       let a = allowed_is us i (may_step M s us) (step_effect M s S us) x h in
       go i x a l t
     where
-      go : (i : ℕ) (x : Effect M) → Rattle.yt_machine.proofs.Places.IsAllowed us i (may_step M s us) (step_effect M s S us) x → i ≤ k → IsUntouched M S.base us (Steps i) x k p → M.Alike p (D k) (below M S.base x.updates k)
+      go : (i : ℕ) (x : Effect M) → IsAllowed us i (may_step M s us) (step_effect M s S us) x → i ≤ k → IsUntouched M S.base us (Steps i) x k p → M.Alike p (D k) (below M S.base x.updates k)
       go i x a l t =
           let t' : IsUntouched M S.base us (Steps (suc a.place)) (step_effect M s S us a.place a.item) k p =
           subst (λ (y : ℕ × Effect M). IsUntouched M S.base us (Steps y.0) y.1 k p) (λ j. (a.number j, sym a.made j)) t in

@@ -1,10 +1,11 @@
 -- What a standing says of the update.
-use Rattle.std.proofs.Common.{◌≡◌, ℕ, suc, ap, refl, List, [], ◌∷◌, Bool, true, false, not, ◌&&◌, ◌||◌, Some, None}
+use Rattle.std.proofs.Common.{◌≡◌, ℕ, suc, ap, refl, List, [], ◌∷◌, Bool, true, false, not, ◌&&◌, Some, None, sym}
 use Rattle.std.specs.Prelude.{if◌then◌else◌, Option, is_some}
 use Rattle.std.proofs.lemmas.Bool.{or_from, both_ways}
+use Rattle.std.proofs.lemmas.Option.{none-some}
 use Rattle.yt_machine.specs.Machine.{Machine, Outcome}
 use Rattle.yt_machine.specs.Updates.{Update, Settings, is_over}
-use Rattle.yt_machine.specs.Standings.{Lack, Missing, Misfit, Held, Withdrawn, unless_ended, unless_paused, lack, is_nil, is_held, standing, is_ready, is_paused, is_pending}
+use Rattle.yt_machine.specs.Standings.{Lack, Missing, Misfit, Held, Withdrawn, unless_ended, unless_paused, lack, is_nil, is_held, standing, is_ready, is_paused, is_pending, Standing}
 
 -- an update that may go on
 pub record IsOpen (M : Machine) (s : Settings) (c n : ℕ) (u : Update M) : Type 0 where
@@ -15,7 +16,7 @@ pub record IsOpen (M : Machine) (s : Settings) (c n : ℕ) (u : Update M) : Type
 pub not_over : (M : Machine) (s : Settings) (c n : ℕ) (u : Update M) → IsOpen M s c n u → is_over M u ≡ false
 not_over M s c n u o = or_from _ _ o.present (ap (λ x. is_some x) o.going)
 
-abbrev stands : Bool → Option Outcome → Bool → Option Lack → ℕ → Rattle.yt_machine.specs.Standings.Standing
+abbrev stands : Bool → Option Outcome → Bool → Option Lack → ℕ → Standing
 stands w o h l c = if w then Withdrawn else unless_ended o (if h then Held c else unless_paused l)
 
 ready_is : (w : Bool) (o : Option Outcome) (h : Bool) (l : Option Lack) (c : ℕ) → is_ready (stands w o h l c) ≡ true → (w ≡ false) × (o ≡ None) × (h ≡ false) × (l ≡ None)
@@ -60,7 +61,7 @@ module _ (M : Machine) (s : Settings) (c n : ℕ) (u : Update M) where
 pub stopped_is : (w : Bool) (o : Option Outcome) (h : Bool) (l : Option Lack) (c : ℕ) {A : Type 0} (inbox : List A) → w ≡ false → o ≡ None → h ≡ false
     → is_ready (stands w o h l c) ≡ false → (is_pending (stands w o h l c) && not (is_nil inbox)) ≡ false → (x : Lack) × (l ≡ Some x) × (x ≡ Missing → inbox ≡ [])
 stopped_is true o h l c inbox w e f r d = absurd (both_ways true w refl)
-stopped_is false (Some x) h l c inbox w e f r d = absurd (Rattle.std.proofs.lemmas.Option.none-some x (λ i. Rattle.std.proofs.Common.sym e i))
+stopped_is false (Some x) h l c inbox w e f r d = absurd (none-some x (λ i. sym e i))
 stopped_is false None true l c inbox w e f r d = absurd (both_ways true f refl)
 stopped_is false None false None c inbox w e f r d = absurd (both_ways true r refl)
 stopped_is false None false (Some Misfit) c inbox w e f r d = (Misfit, refl, λ g. absurd (misfit_missing g))

@@ -39,6 +39,10 @@ one_reader M true f (Some x) n k h = or_none (reader (f x) == k) ∙ ap (λ m. m
     or_none true = refl
     or_none false = refl
 
+pub restarted_none : (M : Machine) (n : ℕ) (us : List (Update M)) → restarted M [] n us ≡ us
+restarted_none M n [] = refl
+restarted_none M n (u ∷ us) = ap (λ vs. u ∷ vs) (restarted_none M (suc n) us)
+
 module _ (M : Machine) (deps : Deps) (c j : ℕ) where
   conflict_reader : (E : M.Repository) (n k : ℕ) (u : Update M) → has_number (readers (option_to_list (conflict_of M c j E n u))) k ≡ (is_some (conflict_of M c j E n u) && (n == k))
   conflict_reader E n k u = one_reader M (is_live M c n u) (λ x. Conflict n x.read j x.old x.new) (changed_read M E u) n k (λ x. refl)

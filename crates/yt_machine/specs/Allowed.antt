@@ -9,11 +9,13 @@ use Rattle.yt_machine.specs.Effects.{Steps, Delivers, Answers, Withdraws, fits_q
 pub record IsAllowedBy (M : Machine) (s : Settings) (S : Session M) (us : List (Update M)) (k : ℕ) (u : Update M) : Type 0 where
   pub steps : is_some (effect M s S us (Steps (suc k))) ≡ is_ready (standing M s (committed M us) (suc k) u)
   pub delivers : is_some (effect M s S us (Delivers (suc k))) ≡ is_deliverable M s (committed M us) (suc k) u
-  pub answers : (c : M.Choice) → is_some (effect M s S us (Answers (suc k) c)) ≡ (is_paused (standing M s (committed M us) (suc k) u) && fits_question M (M.question u.state) c)
+  pub answers : (c : M.Choice)
+      → is_some (effect M s S us (Answers (suc k) c)) ≡ (is_paused (standing M s (committed M us) (suc k) u) && fits_question M (M.question u.state) c)
   pub withdraws : is_some (effect M s S us (Withdraws (suc k))) ≡ (nat_lt (committed M us) (suc k) && not u.withdrawn)
   -- there is a question exactly where it is paused, and a next answer that is there doesn't fit it
   pub question : is_some (question_of M s (committed M us) (suc k) u) ≡ is_paused (standing M s (committed M us) (suc k) u)
-  pub unfit : (q : M.Question) (c : M.Choice) → question_of M s (committed M us) (suc k) u ≡ Some q → slice_get u.answers (M.taken u.state) ≡ Some c → M.fits q c ≡ false
+  pub unfit : (q : M.Question) (c : M.Choice) → question_of M s (committed M us) (suc k) u ≡ Some q
+      → slice_get u.answers (M.taken u.state) ≡ Some c → M.fits q c ≡ false
 
 -- Where there is no update k + 1, nothing is allowed at it.
 pub record IsNowhere (M : Machine) (s : Settings) (S : Session M) (us : List (Update M)) (k : ℕ) : Type 0 where
@@ -22,6 +24,7 @@ pub record IsNowhere (M : Machine) (s : Settings) (S : Session M) (us : List (Up
   pub answers : (c : M.Choice) → effect M s S us (Answers (suc k) c) ≡ None
   pub withdraws : effect M s S us (Withdraws (suc k)) ≡ None
 
+-- In any list of updates.
 abbrev pub AllowedLaw : Machine → Type 0
 AllowedLaw M =
     (s : Settings) (S : Session M) (us : List (Update M)) (k : ℕ)

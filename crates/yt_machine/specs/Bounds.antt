@@ -4,6 +4,7 @@ use Rattle.yt_machine.specs.Machine.{Machine}
 use Rattle.yt_machine.specs.Updates.{Update}
 use Rattle.yt_machine.specs.Effects.{Entry, Admitted, Stepped, Delivered, Answered, Withdrew}
 
+-- Whether the entry is a step, as a number.
 abbrev pub steps_of : {M : Machine} → Entry M → ℕ
 steps_of (Admitted i) = 0
 steps_of (Stepped e) = 1
@@ -11,6 +12,7 @@ steps_of (Delivered i s) = 0
 steps_of (Answered i c s) = 0
 steps_of (Withdrew i cs n) = 0
 
+-- Whether it is an admission, as a number.
 abbrev pub admissions_of : {M : Machine} → Entry M → ℕ
 admissions_of (Admitted i) = 1
 admissions_of (Stepped e) = 0

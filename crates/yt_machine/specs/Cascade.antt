@@ -13,10 +13,12 @@ pub data Cause (M : Machine) : Type 0 where
   -- the reader's read depends on what an aborted update wrote: reader, read, on
   Depends : ℕ → ℕ → ℕ → Cause M
 
+-- The number of the update that the cause is for.
 abbrev pub reader : {M : Machine} → Cause M → ℕ
 reader (Conflict i read writer old new) = i
 reader (Depends i read on) = i
 
+-- Those of all the causes, in order.
 abbrev pub readers : {M : Machine} → List (Cause M) → List ℕ
 readers cs = map reader cs
 
@@ -46,7 +48,8 @@ reads_of M r ws = list_any (λ w. M.mentions r.query (M.touches w)) ws
 
 -- The read depends on the members below its update. D lies below the update, without their trails.
 -- Precise: it has another value over D. Coarse: it mentions a relation that one of them wrote.
-abbrev pub read_depends : (M : Machine) → Deps → M.Operation → M.Repository → List M.Write → List (Member M) → Read M → Bool
+abbrev pub read_depends : (M : Machine) → Deps → M.Operation → M.Repository → List M.Write → List (Member M) → Read M
+    → Bool
 read_depends M Precise op D own members r = not (is_valid M op D own r)
 read_depends M Coarse op D own members r = list_any (λ m. reads_of M r m.trail) members
 
@@ -62,6 +65,7 @@ dependence_of M deps c D members n u =
     then option_map (λ t. Depends n t.0 (writer_for M t.1 members)) (first_that (read_depends M deps u.operation D (M.own u.state) members) u.log)
     else None
 
+-- The number is among them.
 abbrev pub has_number : List ℕ → ℕ → Bool
 has_number ns n = list_any (λ k. k == n) ns
 
@@ -69,12 +73,14 @@ has_number ns n = list_any (λ k. k == n) ns
 abbrev pub with_member : (M : Machine) → Bool → List (Member M) → ℕ → Update M → List (Member M)
 with_member M b members n u = if b then members ++ record { number = n; trail = trail M u } ∷ [] else members
 
+-- What lies below the next update without the trails of members, once update n has its say.
 abbrev pub without_member : (M : Machine) → Bool → M.Repository → Update M → M.Repository
 without_member M b D u = if b then D else M.apply D (trail M u)
 
 -- The cascade: given the numbers of the first members, a cause for each update that joins them, taken upwards. The first
 -- of the list is update n, `members` are those below it, and D lies below it without their trails.
-abbrev pub cascade : (M : Machine) → Deps → ℕ → List ℕ → M.Repository → List (Member M) → ℕ → List (Update M) → List (Cause M)
+abbrev pub cascade : (M : Machine) → Deps → ℕ → List ℕ → M.Repository → List (Member M) → ℕ → List (Update M)
+    → List (Cause M)
 cascade M deps c firsts D members n [] = []
 cascade M deps c firsts D members n (u ∷ us) =
     let joins = if has_number firsts n then None else dependence_of M deps c D members n u in

@@ -78,15 +78,16 @@ abbrev pub IsDistinct : List ℕ → Type 0
 IsDistinct [] = Unit {0}
 IsDistinct (n ∷ ns) = (has_number ns n ≡ false) × IsDistinct ns
 
--- The updates with all trails as they are before an event takes any away: those of a step that doesn't end spent have its
--- writes. Then the number of the update that loses its own trail, which is the one first member, if there is such.
+-- The updates after the own step of the one at place k, which becomes v: with its writes, unless it ends spent.
 abbrev pub after_own_step : (M : Machine) → List (Update M) → ℕ → Update M → List (Update M)
 after_own_step M us k v = if is_spent (M.outcome v.state) then us else take k us ++ v ∷ drop (suc k) us
 
+-- The same for the update that stands at place k, if there is one.
 abbrev pub stepped_at : (M : Machine) → M.Repository → List (Update M) → ℕ → Option (Update M) → List (Update M)
 stepped_at M D us k None = us
 stepped_at M D us k (Some u) = after_own_step M us k (stepped M (below M D us k) u)
 
+-- The updates with all trails as they are before the event takes any away.
 abbrev pub before_loss : (M : Machine) → M.Repository → List (Update M) → Event M → List (Update M)
 before_loss M D us Admits = us
 before_loss M D us (Steps zero) = us
@@ -95,10 +96,12 @@ before_loss M D us (Delivers i) = us
 before_loss M D us (Answers i c) = us
 before_loss M D us (Withdraws i) = us
 
+-- The number of the update at place k where its step ends spent.
 abbrev pub lost_by : (M : Machine) → M.Repository → List (Update M) → ℕ → Option (Update M) → List ℕ
 lost_by M D us k None = []
 lost_by M D us k (Some u) = if is_spent (M.outcome (stepped M (below M D us k) u).state) then suc k ∷ [] else []
 
+-- The number of the update that loses its own trail by the event, if there is such.
 abbrev pub first_lost : (M : Machine) → M.Repository → List (Update M) → Event M → List ℕ
 first_lost M D us Admits = []
 first_lost M D us (Steps zero) = []
@@ -107,18 +110,27 @@ first_lost M D us (Delivers i) = []
 first_lost M D us (Answers i c) = []
 first_lost M D us (Withdraws i) = i ∷ []
 
+-- What the causes in the entry of an event say, and that they are the aborts.
 pub record AreCauses (M : Machine) (s : Settings) (S : Session M) (us : List (Update M)) (e : Event M) (x : Effect M) : Type 0 where
   -- every cause holds
   pub hold : AllByRecursion (Holds M s.deps S.base (acts_on us e) (first_lost M S.base us e ++ readers (causes_in x.entry)) (before_loss M S.base us e)) (causes_in x.entry)
   -- no update is named twice
   pub once : IsDistinct (readers (causes_in x.entry))
+  -- an update that is named stands above the one that the event acts on
+  pub above : (i : ℕ) → has_number (readers (causes_in x.entry)) i ≡ true → acts_on us e < i
   -- an update that is named is restarted; any other, but the one that the event acts on, is as it was
-  pub restarts : (k : ℕ) (u : Update M) → slice_get us k ≡ Some u → has_number (readers (causes_in x.entry)) (suc k) ≡ true → slice_get x.updates k ≡ Some (anew M (suc k) u)
-  pub others : (k : ℕ) (u : Update M) → slice_get us k ≡ Some u → has_number (readers (causes_in x.entry)) (suc k) ≡ false → (suc k ≡ acts_on us e → ⊥) → slice_get x.updates k ≡ Some u
+  pub restarts : (k : ℕ) (u : Update M) → slice_get us k ≡ Some u
+      → has_number (readers (causes_in x.entry)) (suc k) ≡ true → slice_get x.updates k ≡ Some (anew M (suc k) u)
+  pub others : (k : ℕ) (u : Update M) → slice_get us k ≡ Some u
+      → has_number (readers (causes_in x.entry)) (suc k) ≡ false → (suc k ≡ acts_on us e → ⊥)
+      → slice_get x.updates k ≡ Some u
   -- and that one keeps its attempt
-  pub own : (k : ℕ) (u : Update M) → slice_get us k ≡ Some u → suc k ≡ acts_on us e → (v : Update M) × (slice_get x.updates k ≡ Some v) × (v.attempt ≡ u.attempt)
+  pub own : (k : ℕ) (u : Update M) → slice_get us k ≡ Some u → suc k ≡ acts_on us e
+      → (v : Update M) × (slice_get x.updates k ≡ Some v) × (v.attempt ≡ u.attempt)
 
+-- At what any history leaves.
 abbrev pub CauseLaw : Machine → Type 0
 CauseLaw M =
-    (s : Settings) (S : Session M) (es : List (Event M)) (l : Log M) (e : Event M) (x : Effect M) → M.Sound S.base → after M s S (empty_log M) es ≡ Some l → effect M s S l.updates e ≡ Some x
+    (s : Settings) (S : Session M) (es : List (Event M)) (l : Log M) (e : Event M) (x : Effect M) → M.Sound S.base
+    → after M s S (empty_log M) es ≡ Some l → effect M s S l.updates e ≡ Some x
     → AreCauses M s S l.updates e x

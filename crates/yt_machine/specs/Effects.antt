@@ -40,6 +40,7 @@ pub record Effect (M : Machine) : Type 0 where
   pub updates : List (Update M)
   pub entry : Entry M
 
+-- The attempt ended out of its budget.
 abbrev pub is_spent : Option Outcome → Bool
 is_spent None = false
 is_spent (Some Done) = false
@@ -57,7 +58,8 @@ causes_of_writes M deps c j D upper =
     let first = conflicts M c j D (suc j) upper in first ++ cascade M deps c (readers first) D [] (suc j) upper
 
 -- The causes of a step that takes update j from u to v.
-abbrev pub causes_of_step : (M : Machine) → Deps → ℕ → ℕ → M.Repository → Update M → Update M → List (Update M) → List (Cause M)
+abbrev pub causes_of_step : (M : Machine) → Deps → ℕ → ℕ → M.Repository → Update M → Update M → List (Update M)
+    → List (Cause M)
 causes_of_step M deps c j D u v upper =
     if is_spent (M.outcome v.state) then causes_of_loss M deps c j D u upper else causes_of_writes M deps c j (M.apply D (trail M v)) upper
 
@@ -65,10 +67,12 @@ causes_of_step M deps c j D u v upper =
 abbrev pub put : (M : Machine) → List (Update M) → ℕ → Update M → List (Cause M) → List (Update M)
 put M us k v causes = take k us ++ v ∷ restarted M (readers causes) (suc (suc k)) (drop (suc k) us)
 
+-- The update loses its trail and its log, and is withdrawn.
 abbrev pub withdrawn_now : (M : Machine) → Update M → Update M
 withdrawn_now M u =
     record { operation = u.operation; attempt = u.attempt; state = u.state; log = []; withdrawn = true; answers = u.answers; inbox = u.inbox }
 
+-- The update with these answers delivered and these recorded.
 abbrev pub with_answers : (M : Machine) → Update M → List M.Choice → List M.Choice → Update M
 with_answers M u answers inbox =
     record { operation = u.operation; attempt = u.attempt; state = u.state; log = u.log; withdrawn = u.withdrawn; answers = answers; inbox = inbox }
@@ -81,6 +85,7 @@ delivered M u = with_answers M u (u.answers ++ take 1 u.inbox) (drop 1 u.inbox)
 abbrev pub answered : (M : Machine) → Update M → M.Choice → Update M
 answered M u c = with_answers M u (take (M.taken u.state) u.answers ++ c ∷ []) u.inbox
 
+-- There is a question, and the choice answers it.
 abbrev pub fits_question : (M : Machine) → Option M.Question → M.Choice → Bool
 fits_question M None c = false
 fits_question M (Some q) c = M.fits q c
@@ -104,27 +109,32 @@ step_effect M s S us k u =
       });
     }
 
+-- A withdrawal: the update loses its trail.
 abbrev pub withdraw_effect : (M : Machine) → Settings → Session M → List (Update M) → ℕ → Update M → Effect M
 withdraw_effect M s S us k u =
     let causes = causes_of_loss M s.deps (committed M us) (suc k) (below M S.base us k) u (drop (suc k) us) in
     let vs = put M us k (withdrawn_now M u) causes in
     record { updates = vs; entry = Withdrew (suc k) causes (committed M vs) }
 
+-- A delivery: the first recorded answer is delivered.
 abbrev pub deliver_effect : (M : Machine) → Settings → List (Update M) → ℕ → Update M → Effect M
 deliver_effect M s us k u =
     let v = delivered M u in
     let vs = take k us ++ v ∷ drop (suc k) us in
     record { updates = vs; entry = Delivered (suc k) (standing M s (committed M vs) (suc k) v) }
 
+-- An answer by a person.
 abbrev pub answer_effect : (M : Machine) → Settings → List (Update M) → M.Choice → ℕ → Update M → Effect M
 answer_effect M s us c k u =
     let v = answered M u c in
     let vs = take k us ++ v ∷ drop (suc k) us in
     record { updates = vs; entry = Answered (suc k) c (standing M s (committed M vs) (suc k) v) }
 
+-- Update n as it is when it is admitted: attempt 0 at its begin, with the recorded answers in the inbox.
 abbrev pub admitted : (M : Machine) → ℕ → Submission M → Update M
 admitted M n x = record { operation = x.operation; attempt = 0; state = M.begin n 0 x.operation; log = []; withdrawn = false; answers = []; inbox = x.answers }
 
+-- An admission: the update takes the next number.
 abbrev pub admit_effect : (M : Machine) → List (Update M) → Submission M → Effect M
 admit_effect M us x =
     record { updates = us ++ admitted M (suc (length us)) x ∷ []; entry = Admitted (suc (length us)) }
@@ -134,15 +144,19 @@ abbrev pub where_allowed : {A B : Type 0} → List A → ℕ → (ℕ → A → 
 where_allowed us zero allowed f = None
 where_allowed us (suc k) allowed f = option_and_then (λ u. if allowed k u then Some (f k u) else None) (slice_get us k)
 
+-- It is ready.
 abbrev pub may_step : (M : Machine) → Settings → List (Update M) → ℕ → Update M → Bool
 may_step M s us k u = is_ready (standing M s (committed M us) (suc k) u)
 
+-- It is pending, with an answer in its inbox.
 abbrev pub may_deliver : (M : Machine) → Settings → List (Update M) → ℕ → Update M → Bool
 may_deliver M s us k u = is_deliverable M s (committed M us) (suc k) u
 
+-- It is paused, and the choice answers its question.
 abbrev pub may_answer : (M : Machine) → Settings → List (Update M) → M.Choice → ℕ → Update M → Bool
 may_answer M s us c k u = is_paused (standing M s (committed M us) (suc k) u) && fits_question M (M.question u.state) c
 
+-- It is neither committed nor withdrawn.
 abbrev pub may_withdraw : (M : Machine) → List (Update M) → ℕ → Update M → Bool
 may_withdraw M us k u = nat_lt (committed M us) (suc k) && not u.withdrawn
 

@@ -10,6 +10,7 @@ pub record Log (M : Machine) : Type 0 where
   pub updates : List (Update M)
   pub entries : List (Entry M)
 
+-- What the event leaves, with its entry after those before it.
 abbrev pub with_entry : (M : Machine) → List (Entry M) → Effect M → Log M
 with_entry M entries e = record { updates = e.updates; entries = entries ++ e.entry ∷ [] }
 
@@ -18,6 +19,7 @@ abbrev pub after : (M : Machine) → Settings → Session M → Log M → List (
 after M s S l [] = Some l
 after M s S l (e ∷ es) = option_and_then (λ x. after M s S (with_entry M l.entries x) es) (effect M s S l.updates e)
 
+-- Where nothing has happened yet.
 abbrev pub empty_log : (M : Machine) → Log M
 empty_log M = record { updates = []; entries = [] }
 

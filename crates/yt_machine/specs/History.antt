@@ -10,13 +10,16 @@ use Rattle.yt_machine.specs.Runs.{Reached}
 use Rattle.yt_machine.specs.Serial.{serial, committed_turns, committed_finishes, all_turns, first_stop}
 use Rattle.yt_machine.specs.Bounds.{steps_in, admissions_in}
 
+-- What holds of the updates and the entries that events left.
 pub record IsHistory (M : Machine) (s : Settings) (S : Session M) (l : Log M) : Type 0 where
   -- the entries are a legal history that leaves the updates
   pub legal : IsLegal M s S l.entries l.updates
   -- every logged read is valid
-  pub valid : (k : ℕ) (u : Update M) → slice_get l.updates k ≡ Some u → all_valid M (below M S.base l.updates k) u ≡ true
+  pub valid : (k : ℕ) (u : Update M) → slice_get l.updates k ≡ Some u
+      → all_valid M (below M S.base l.updates k) u ≡ true
   -- each update that is not withdrawn is its present attempt's run over what lies below it now
-  pub runs : (k : ℕ) (u : Update M) → slice_get l.updates k ≡ Some u → u.withdrawn ≡ false → Reached M (below M S.base l.updates k) u.answers (suc k) u.attempt u.operation u.state u.log
+  pub runs : (k : ℕ) (u : Update M) → slice_get l.updates k ≡ Some u → u.withdrawn ≡ false
+      → Reached M (below M S.base l.updates k) u.answers (suc k) u.attempt u.operation u.state u.log
   -- the committed updates have come to what the serial machine comes to, and leave what it leaves
   pub as_serial : serial M S.base (committed_turns M 1 l.updates)
       ≡ record { finishes = committed_finishes M 1 l.updates; stop = None; repository = below M S.base l.updates (committed M l.updates) }
@@ -31,4 +34,6 @@ pub record IsHistory (M : Machine) (s : Settings) (S : Session M) (l : Log M) : 
 
 -- Whatever the events, where each is allowed in turn.
 abbrev pub HistoryLaw : Machine → Type 0
-HistoryLaw M = (s : Settings) (S : Session M) (es : List (Event M)) (l : Log M) → M.Sound S.base → after M s S (empty_log M) es ≡ Some l → IsHistory M s S l
+HistoryLaw M =
+    (s : Settings) (S : Session M) (es : List (Event M)) (l : Log M) → M.Sound S.base
+    → after M s S (empty_log M) es ≡ Some l → IsHistory M s S l

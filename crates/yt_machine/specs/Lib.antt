@@ -26,3 +26,6 @@ pub mod Recorded
 pub mod Allowed
 pub mod Work
 pub mod Stamps
+pub mod Quiet
+pub mod CallLaw
+pub mod Trails

@@ -20,5 +20,8 @@ pub record IsLocal (M : Machine) (D : M.Repository) (j : ℕ) (us vs : List (Upd
   pub uncommitted : committed M us < j
   pub grows : committed M us ≤ committed M vs
 
+-- Of every event where it is allowed.
 abbrev pub LocalLaw : Machine → Type 0
-LocalLaw M = (s : Settings) (S : Session M) (us : List (Update M)) (e : Event M) (x : Effect M) → effect M s S us e ≡ Some x → IsLocal M S.base (acts_on us e) us x.updates
+LocalLaw M =
+    (s : Settings) (S : Session M) (us : List (Update M)) (e : Event M) (x : Effect M) → effect M s S us e ≡ Some x
+    → IsLocal M S.base (acts_on us e) us x.updates

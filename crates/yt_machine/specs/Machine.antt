@@ -72,13 +72,18 @@ pub record Laws (M : Machine) : Type 0 where
   pub begin_taken : (n a : ℕ) (op : M.Operation) → M.taken (M.begin n a op) ≡ 0
   pub begin_count : (n a : ℕ) (op : M.Operation) → M.count (M.begin n a op) ≡ 0
   pub moved_own : (P : M.State) (m : M.Move) → M.own (M.moved P m) ≡ M.own P ++ M.writes m
-  pub moved_taken : (P : M.State) (m : M.Move) → M.taken (M.moved P m) ≡ (if is_some (M.question P) then suc (M.taken P) else M.taken P)
+  pub moved_taken : (P : M.State) (m : M.Move)
+      → M.taken (M.moved P m) ≡ (if is_some (M.question P) then suc (M.taken P) else M.taken P)
   pub moved_count : (P : M.State) (m : M.Move) → M.count (M.moved P m) ≡ suc (M.count P)
   -- with all its steps made an attempt has ended
   pub some_budget : 1 ≤ M.budget
-  pub bounded : (P : M.State) (m : M.Move) → suc (M.count P) ≤ M.budget → M.outcome (M.moved P m) ≡ None → suc (M.count (M.moved P m)) ≤ M.budget
+  pub bounded : (P : M.State) (m : M.Move) → suc (M.count P) ≤ M.budget → M.outcome (M.moved P m) ≡ None
+      → suc (M.count (M.moved P m)) ≤ M.budget
   pub sound_apply : (D : M.Repository) (ws : List M.Write) → M.Sound D → M.Sound (M.apply D ws)
   pub alike_same : (p : ℕ → Bool) (D : M.Repository) → M.Sound D → M.Alike p D D
-  pub alike_apply : (p : ℕ → Bool) (D E : M.Repository) (ws : List M.Write) → M.Alike p D E → M.Alike p (M.apply D ws) (M.apply E ws)
-  pub alike_skip : (p : ℕ → Bool) (D E : M.Repository) (ws : List M.Write) → Avoids M p ws → M.Alike p D E → M.Alike p (M.apply D ws) E
-  pub alike_value : (op : M.Operation) (q : M.Query) (D E : M.Repository) (own : List M.Write) → M.Alike (M.mentions q) D E → M.value op q D own ≡ M.value op q E own
+  pub alike_apply : (p : ℕ → Bool) (D E : M.Repository) (ws : List M.Write) → M.Alike p D E
+      → M.Alike p (M.apply D ws) (M.apply E ws)
+  pub alike_skip : (p : ℕ → Bool) (D E : M.Repository) (ws : List M.Write) → Avoids M p ws → M.Alike p D E
+      → M.Alike p (M.apply D ws) E
+  pub alike_value : (op : M.Operation) (q : M.Query) (D E : M.Repository) (own : List M.Write)
+      → M.Alike (M.mentions q) D E → M.value op q D own ≡ M.value op q E own

@@ -19,15 +19,21 @@ is_recorded (Withdraws i) = false
 abbrev pub by_first_attempt : {M : Machine} → Turn M → Turn M
 by_first_attempt t = record { number = t.number; attempt = 0; operation = t.operation; answers = t.answers }
 
+-- What the updates that the events left have of what was handed in.
 pub record IsRecorded (M : Machine) (S : Session M) (es : List (Event M)) (us : List (Update M)) : Type 0 where
   -- each update does what it was handed in to do
-  pub operations : (k : ℕ) (u : Update M) → slice_get us k ≡ Some u → (x : Submission M) × (slice_get S.submissions k ≡ Some x) × (u.operation ≡ x.operation)
+  pub operations : (k : ℕ) (u : Update M) → slice_get us k ≡ Some u
+      → (x : Submission M) × (slice_get S.submissions k ≡ Some x) × (u.operation ≡ x.operation)
   -- without live answers and withdrawals the turns are those of the session, but for their attempts
-  pub turns : list_all is_recorded es ≡ true → map by_first_attempt (all_turns M 1 us) ≡ session_turns M 1 (take (length us) S.submissions)
+  pub turns : list_all is_recorded es ≡ true
+      → map by_first_attempt (all_turns M 1 us) ≡ session_turns M 1 (take (length us) S.submissions)
   pub present : list_all is_recorded es ≡ true → (k : ℕ) (u : Update M) → slice_get us k ≡ Some u → u.withdrawn ≡ false
 
+-- After every history.
 abbrev pub RecordedLaw : Machine → Type 0
-RecordedLaw M = (s : Settings) (S : Session M) (es : List (Event M)) (l : Log M) → after M s S (empty_log M) es ≡ Some l → IsRecorded M S es l.updates
+RecordedLaw M =
+    (s : Settings) (S : Session M) (es : List (Event M)) (l : Log M) → after M s S (empty_log M) es ≡ Some l
+    → IsRecorded M S es l.updates
 
 -- The session with further updates handed in.
 abbrev pub with_more : {M : Machine} → Session M → List (Submission M) → Session M
@@ -35,4 +41,6 @@ with_more S xs = record { base = S.base; submissions = S.submissions ++ xs }
 
 -- A history stays one when further updates are handed in.
 abbrev pub LongerLaw : Machine → Type 0
-LongerLaw M = (s : Settings) (S : Session M) (xs : List (Submission M)) (l m : Log M) (es : List (Event M)) → after M s S l es ≡ Some m → after M s (with_more S xs) l es ≡ Some m
+LongerLaw M =
+    (s : Settings) (S : Session M) (xs : List (Submission M)) (l m : Log M) (es : List (Event M))
+    → after M s S l es ≡ Some m → after M s (with_more S xs) l es ≡ Some m

@@ -17,5 +17,6 @@ abbrev pub IsRest : (M : Machine) → M.Repository → Turn M → Rest M → Typ
 IsRest M D t (Ends P) = IsRunOf M D t P × (is_some (M.outcome P) ≡ true)
 IsRest M D t (Stops P l) = IsRunOf M D t P × (M.outcome P ≡ None) × (lack M t.answers P ≡ Some l)
 
+-- Of every turn over every repository.
 abbrev pub RestLaw : Machine → Type 0
 RestLaw M = (D : M.Repository) (t : Turn M) → IsRest M D t (whole M D t)

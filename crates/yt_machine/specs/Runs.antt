@@ -8,7 +8,8 @@ use Rattle.yt_machine.specs.Steps.{next_state, step_log}
 -- By steps from its begin over D, with these answers, attempt a of update n comes to this state with this log.
 pub data Reached (M : Machine) (D : M.Repository) (answers : List M.Choice) (n a : ℕ) (op : M.Operation) : M.State → List (Read M) → Type 0 where
   start : Reached M D answers n a op (M.begin n a op) []
-  more : {P : M.State} {log : List (Read M)} → Reached M D answers n a op P log → M.outcome P ≡ None → lack M answers P ≡ None
+  more : {P : M.State} {log : List (Read M)} → Reached M D answers n a op P log → M.outcome P ≡ None
+      → lack M answers P ≡ None
       → Reached M D answers n a op (next_state M op D answers P) (log ++ step_log M op D answers P)
 
 -- Update n is its present attempt's run over D. A withdrawn one has no log.

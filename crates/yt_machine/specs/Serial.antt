@@ -10,6 +10,7 @@ pub data Rest (M : Machine) : Type 0 where
   Ends : M.State → Rest M
   Stops : M.State → Lack → Rest M
 
+-- Goes on from the next state, unless something lacks.
 abbrev pub go_on : (M : Machine) → (M.State → Rest M) → M.State → M.State → Option Lack → Rest M
 go_on M go P next None = go next
 go_on M go P next (Some l) = Stops P l
@@ -50,13 +51,16 @@ pub record Result (M : Machine) : Type 0 where
   pub stop : Option (Stop M)
   pub repository : M.Repository
 
+-- The result with one more finish at its head.
 abbrev pub with_finish : (M : Machine) → ℕ → M.State → Result M → Result M
 with_finish M n P r = record { finishes = record { number = n; state = P } ∷ r.finishes; stop = r.stop; repository = r.repository }
 
+-- After the turn of update n over D: on to the next turns, or the stop.
 abbrev pub after_turn : (M : Machine) → (M.Repository → Result M) → ℕ → M.Repository → Rest M → Result M
 after_turn M rest n D (Ends P) = with_finish M n P (rest (M.apply D (shown M P)))
 after_turn M rest n D (Stops P l) = record { finishes = []; stop = Some (record { number = n; state = P; lack = l }); repository = D }
 
+-- One turn after the other from D on, up to the first that stops.
 abbrev pub serial : (M : Machine) → M.Repository → List (Turn M) → Result M
 serial M D [] = record { finishes = []; stop = None; repository = D }
 serial M D (t ∷ ts) = after_turn M (λ E. serial M E ts) t.number D (whole M D t)
@@ -87,6 +91,7 @@ all_turns M n (u ∷ us) =
     if u.withdrawn then all_turns M (suc n) us
     else record { number = n; attempt = u.attempt; operation = u.operation; answers = u.answers ++ u.inbox } ∷ all_turns M (suc n) us
 
+-- The stop of update n in this state, where something lacks.
 abbrev pub stop_at : (M : Machine) → ℕ → M.State → Option Lack → Option (Stop M)
 stop_at M n P None = None
 stop_at M n P (Some l) = Some (record { number = n; state = P; lack = l })

@@ -14,12 +14,17 @@ pub record Simulation (M K : Machine) : Type 1 where
   pub States : Turn M → Turn K → M.Repository → K.Repository → M.State → K.State → Type 0
   pub budget : M.budget ≡ K.budget
   pub number : (t : Turn M) (s : Turn K) → Turns t s → t.number ≡ s.number
-  pub begin : (t : Turn M) (s : Turn K) (D : M.Repository) (E : K.Repository) → Turns t s → Repositories t.number D E → States t s D E (M.begin t.number t.attempt t.operation) (K.begin s.number s.attempt s.operation)
-  pub ended : (t : Turn M) (s : Turn K) (D : M.Repository) (E : K.Repository) (P : M.State) (Q : K.State) → States t s D E P Q → is_some (M.outcome P) ≡ is_some (K.outcome Q)
-  pub lacks : (t : Turn M) (s : Turn K) (D : M.Repository) (E : K.Repository) (P : M.State) (Q : K.State) → States t s D E P Q → M.outcome P ≡ None → lack M t.answers P ≡ lack K s.answers Q
-  pub step : (t : Turn M) (s : Turn K) (D : M.Repository) (E : K.Repository) (P : M.State) (Q : K.State) → States t s D E P Q → M.outcome P ≡ None → lack M t.answers P ≡ None
+  pub begin : (t : Turn M) (s : Turn K) (D : M.Repository) (E : K.Repository) → Turns t s → Repositories t.number D E
+      → States t s D E (M.begin t.number t.attempt t.operation) (K.begin s.number s.attempt s.operation)
+  pub ended : (t : Turn M) (s : Turn K) (D : M.Repository) (E : K.Repository) (P : M.State) (Q : K.State)
+      → States t s D E P Q → is_some (M.outcome P) ≡ is_some (K.outcome Q)
+  pub lacks : (t : Turn M) (s : Turn K) (D : M.Repository) (E : K.Repository) (P : M.State) (Q : K.State)
+      → States t s D E P Q → M.outcome P ≡ None → lack M t.answers P ≡ lack K s.answers Q
+  pub step : (t : Turn M) (s : Turn K) (D : M.Repository) (E : K.Repository) (P : M.State) (Q : K.State)
+      → States t s D E P Q → M.outcome P ≡ None → lack M t.answers P ≡ None
       → States t s D E (next_state M t.operation D t.answers P) (next_state K s.operation E s.answers Q)
-  pub leave : (t : Turn M) (s : Turn K) (D : M.Repository) (E : K.Repository) (P : M.State) (Q : K.State) → Repositories t.number D E → States t s D E P Q → is_some (M.outcome P) ≡ true
+  pub leave : (t : Turn M) (s : Turn K) (D : M.Repository) (E : K.Repository) (P : M.State) (Q : K.State)
+      → Repositories t.number D E → States t s D E P Q → is_some (M.outcome P) ≡ true
       → Repositories (suc t.number) (M.apply D (shown M P)) (K.apply E (shown K Q))
   pub later : (n m : ℕ) (D : M.Repository) (E : K.Repository) → n ≤ m → Repositories n D E → Repositories m D E
 
@@ -40,12 +45,14 @@ pub record AreStates {M K : Machine} (R : Simulation M K) (P : M.State) (Q : K.S
   pub bases : R.Repositories turn.number base other_base
   pub states : R.States turn other base other_base P Q
 
+-- Finishes of the same numbers, with related states.
 abbrev pub AreFinishes : {M K : Machine} → Simulation M K → List (Finish M) → List (Finish K) → Type 0
 AreFinishes R [] [] = Unit {0}
 AreFinishes R (p ∷ ps) (q ∷ qs) = (p.number ≡ q.number) × AreStates R p.state q.state × AreFinishes R ps qs
 AreFinishes R [] (q ∷ qs) = ⊥
 AreFinishes R (p ∷ ps) [] = ⊥
 
+-- No stops, or stops of the same number with related states and the same lack.
 abbrev pub AreStops : {M K : Machine} → Simulation M K → Option (Stop M) → Option (Stop K) → Type 0
 AreStops R None None = Unit {0}
 AreStops R (Some p) (Some q) = (p.number ≡ q.number) × AreStates R p.state q.state × (p.lack ≡ q.lack)

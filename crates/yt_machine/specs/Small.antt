@@ -1,5 +1,5 @@
 -- A small machine: an update writes an item unless it finds another one, and may then ask a person what else to write.
-use Rattle.std.specs.Prelude.{◌≡◌, ℕ, suc, ◌==◌, nat_lt, Bool, true, false, not, if◌then◌else◌, List, [], ◌∷◌, ◌++◌, filter, Option, Some, None}
+use Rattle.std.specs.Prelude.{◌≡◌, ℕ, suc, ◌==◌, nat_lt, Bool, true, false, not, if◌then◌else◌, List, [], ◌∷◌, ◌++◌, filter, Option, Some, None, is_some}
 use Rattle.yt_machine.specs.Trees.{Tree, Leaf, Node}
 use Rattle.yt_machine.specs.Machine.{Machine, Outcome, Done, Spent}
 use Rattle.yt_machine.specs.Standings.{is_nil}
@@ -10,6 +10,7 @@ pub record Task : Type 0 where
   pub writes : ℕ
   pub asks : Bool
 
+-- An attempt at the task: its writes, its steps, the answers taken, whether it is done.
 pub record Small : Type 0 where
   pub task : Task
   pub own : List ℕ
@@ -17,6 +18,7 @@ pub record Small : Type 0 where
   pub taken : ℕ
   pub done : Bool
 
+-- What a step wrote, and whether the task is done.
 pub record SmallMove : Type 0 where
   pub wrote : List ℕ
   pub done : Bool
@@ -25,12 +27,15 @@ pub record SmallMove : Type 0 where
 pub data What : Type 0 where
   What_else : What
 
+-- Done, or out of its budget of B steps.
 abbrev pub small_outcome : ℕ → Small → Option Outcome
 small_outcome B P = if P.done then Some Done else (if nat_lt P.count B then None else Some Spent)
 
+-- After its first step it waits for an answer.
 abbrev pub small_question : Small → Option What
 small_question P = if P.count == 0 then None else Some What_else
 
+-- Without an answer it looks; with one it writes what the answer says.
 abbrev pub small_step : Task → Option ℕ → Tree ℕ Bool SmallMove
 small_step t None = Node t.looks_for (λ found. Leaf (record { wrote = if found then [] else t.writes ∷ []; done = not t.asks }))
 small_step t (Some c) = Leaf (record { wrote = c ∷ []; done = true })
@@ -59,7 +64,7 @@ small B =
         task = P.task;
         own = P.own ++ m.wrote;
         count = suc P.count;
-        taken = if Rattle.std.specs.Prelude.is_some (small_question P) then suc P.taken else P.taken;
+        taken = if is_some (small_question P) then suc P.taken else P.taken;
         done = m.done;
       };
       writes = λ m. m.wrote;

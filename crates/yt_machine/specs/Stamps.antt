@@ -22,6 +22,7 @@ writes_in (Delivered i s) = []
 writes_in (Answered i c s) = []
 writes_in (Withdrew i cs n) = []
 
+-- The number of the update at place k where its step ends spent or refused.
 abbrev pub hidden_by : (M : Machine) → M.Repository → List (Update M) → ℕ → Option (Update M) → List ℕ
 hidden_by M D us k None = []
 hidden_by M D us k (Some u) = if hides (M.outcome (stepped M (below M D us k) u).state) then suc k ∷ [] else []
@@ -48,9 +49,12 @@ pub record IsUntouched (M : Machine) (D : M.Repository) (us : List (Update M)) (
 -- mentions no touched one has the same value.
 pub record IsStamped (M : Machine) (D : M.Repository) (us : List (Update M)) (e : Event M) (x : Effect M) (k : ℕ) : Type 0 where
   pub alike : (p : ℕ → Bool) → IsUntouched M D us e x k p → M.Alike p (below M D us k) (below M D x.updates k)
-  pub value : (op : M.Operation) (q : M.Query) (own : List M.Write) → IsUntouched M D us e x k (M.mentions q) → M.value op q (below M D us k) own ≡ M.value op q (below M D x.updates k) own
+  pub value : (op : M.Operation) (q : M.Query) (own : List M.Write) → IsUntouched M D us e x k (M.mentions q)
+      → M.value op q (below M D us k) own ≡ M.value op q (below M D x.updates k) own
 
+-- Of every event where it is allowed, and every update.
 abbrev pub StampLaw : Machine → Type 0
 StampLaw M =
-    (s : Settings) (S : Session M) (us : List (Update M)) (e : Event M) (x : Effect M) → M.Sound S.base → effect M s S us e ≡ Some x
+    (s : Settings) (S : Session M) (us : List (Update M)) (e : Event M) (x : Effect M) → M.Sound S.base
+    → effect M s S us e ≡ Some x
     → (k : ℕ) (u : Update M) → slice_get us k ≡ Some u → IsStamped M S.base us e x k

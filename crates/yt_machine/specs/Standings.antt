@@ -22,10 +22,12 @@ pub data Standing : Type 0 where
 abbrev pub next_answer : (M : Machine) → List M.Choice → M.State → Option M.Choice
 next_answer M answers P = if is_some (M.question P) then slice_get answers (M.taken P) else None
 
+-- What lacks for the question with this next answer, if there is one.
 abbrev pub unless_fits : (M : Machine) → M.Question → Option M.Choice → Option Lack
 unless_fits M q None = Some Missing
 unless_fits M q (Some c) = if M.fits q c then None else Some Misfit
 
+-- What lacks for the question that the state waits with, if it does.
 abbrev pub lack_for : (M : Machine) → List M.Choice → M.State → Option M.Question → Option Lack
 lack_for M answers P None = None
 lack_for M answers P (Some q) = unless_fits M q (slice_get answers (M.taken P))
@@ -34,10 +36,12 @@ lack_for M answers P (Some q) = unless_fits M q (slice_get answers (M.taken P))
 abbrev pub lack : (M : Machine) → List M.Choice → M.State → Option Lack
 lack M answers P = lack_for M answers P (M.question P)
 
+-- Ready, unless something lacks.
 abbrev pub unless_paused : Option Lack → Standing
 unless_paused None = Ready
 unless_paused (Some l) = Paused l
 
+-- The standing, unless the attempt has ended.
 abbrev pub unless_ended : Option Outcome → Standing → Standing
 unless_ended None s = s
 unless_ended (Some o) s = Ended o
@@ -52,6 +56,7 @@ standing M s c n u =
     if u.withdrawn then Withdrawn
     else unless_ended (M.outcome u.state) (if is_held M s c n u then Held (suc c) else unless_paused (lack M u.answers u.state))
 
+-- The standing is Ready.
 abbrev pub is_ready : Standing → Bool
 is_ready Ready = true
 is_ready (Held c) = false
@@ -59,6 +64,7 @@ is_ready (Paused l) = false
 is_ready (Ended o) = false
 is_ready Withdrawn = false
 
+-- It is paused without a next answer.
 abbrev pub is_pending : Standing → Bool
 is_pending Ready = false
 is_pending (Held c) = false
@@ -67,6 +73,7 @@ is_pending (Paused Misfit) = false
 is_pending (Ended o) = false
 is_pending Withdrawn = false
 
+-- It is paused, with or without a next answer.
 abbrev pub is_paused : Standing → Bool
 is_paused Ready = false
 is_paused (Held c) = false
@@ -74,6 +81,7 @@ is_paused (Paused l) = true
 is_paused (Ended o) = false
 is_paused Withdrawn = false
 
+-- The list is empty.
 abbrev pub is_nil : {A : Type 0} → List A → Bool
 is_nil [] = true
 is_nil (x ∷ xs) = false
@@ -91,9 +99,11 @@ abbrev pub lowest_that : {M : Machine} → (ℕ → Update M → Bool) → ℕ �
 lowest_that p n [] = None
 lowest_that p n (u ∷ us) = if p n u then Some n else lowest_that p (suc n) us
 
+-- The least number of a ready update.
 abbrev pub lowest_ready : (M : Machine) → Settings → List (Update M) → Option ℕ
 lowest_ready M s us = lowest_that (λ n u. is_ready (standing M s (committed M us) n u)) 1 us
 
+-- The least number of a deliverable one.
 abbrev pub lowest_deliverable : (M : Machine) → Settings → List (Update M) → Option ℕ
 lowest_deliverable M s us = lowest_that (λ n u. is_deliverable M s (committed M us) n u) 1 us
 

@@ -13,6 +13,7 @@ val M op D P q = M.value op q D (M.own P)
 abbrev pub next_step : (M : Machine) → List M.Choice → M.State → Tree M.Query M.Reply M.Move
 next_step M answers P = M.step P (next_answer M answers P)
 
+-- The move of the next step over D.
 abbrev pub next_move : (M : Machine) → M.Operation → M.Repository → List M.Choice → M.State → M.Move
 next_move M op D answers P = result_of (val M op D P) (next_step M answers P)
 

@@ -17,5 +17,8 @@ pub record IsWalkOfLoss (M : Machine) (deps : Deps) (c j : ℕ) (D : M.Repositor
   pub restarts : restarted M (readers (causes_of_loss M deps c j D u us)) (suc j) us
       ≡ restart M (suc j) (settle M deps false c j (M.apply D (trail M u)) D (record { number = j; trail = trail M u } ∷ []) (suc j) us) us
 
+-- Above every update of a list.
 abbrev pub WalkLaw : Machine → Type 0
-WalkLaw M = (deps : Deps) (c j : ℕ) (D : M.Repository) (u : Update M) (us : List (Update M)) → IsWalkOfWrites M deps c j D us × IsWalkOfLoss M deps c j D u us
+WalkLaw M =
+    (deps : Deps) (c j : ℕ) (D : M.Repository) (u : Update M) (us : List (Update M))
+    → IsWalkOfWrites M deps c j D us × IsWalkOfLoss M deps c j D u us

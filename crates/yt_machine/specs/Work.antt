@@ -10,9 +10,13 @@ use Rattle.yt_machine.specs.Bounds.{left, waiting}
 abbrev pub work : (M : Machine) → Settings → List (Update M) → ℕ
 work M s us = left M s.retries us + waiting M us
 
+-- Each step and each delivery lowers the work.
 pub record IsLess (M : Machine) (s : Settings) (S : Session M) (us : List (Update M)) : Type 0 where
   pub steps : (i : ℕ) (x : Effect M) → effect M s S us (Steps i) ≡ Some x → suc (work M s x.updates) ≤ work M s us
   pub delivers : (i : ℕ) (x : Effect M) → effect M s S us (Delivers i) ≡ Some x → suc (work M s x.updates) ≤ work M s us
 
+-- At what any history leaves.
 abbrev pub WorkLaw : Machine → Type 0
-WorkLaw M = (s : Settings) (S : Session M) (es : List (Event M)) (l : Log M) → M.Sound S.base → after M s S (empty_log M) es ≡ Some l → IsLess M s S l.updates
+WorkLaw M =
+    (s : Settings) (S : Session M) (es : List (Event M)) (l : Log M) → M.Sound S.base
+    → after M s S (empty_log M) es ≡ Some l → IsLess M s S l.updates

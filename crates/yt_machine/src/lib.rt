@@ -7,16 +7,19 @@
 
 ghost use Rattle.std.specs.Prelude.{ℕ, ◌≤◌};
 ghost use Rattle.yt_machine.specs.Allowed.{AllowedLaw};
+ghost use Rattle.yt_machine.specs.CallLaw.{CallLaw};
 ghost use Rattle.yt_machine.specs.CauseLaw.{CauseLaw};
 ghost use Rattle.yt_machine.specs.DepsLaw.{DepsLaw};
 ghost use Rattle.yt_machine.specs.History.{HistoryLaw};
 ghost use Rattle.yt_machine.specs.Local.{LocalLaw};
+ghost use Rattle.yt_machine.specs.Quiet.{QuietLaw};
 ghost use Rattle.yt_machine.specs.Recorded.{LongerLaw, RecordedLaw};
-ghost use Rattle.yt_machine.specs.Replay.{ReplayLaw};
+ghost use Rattle.yt_machine.specs.Replay.{PlanLaw, ReplayLaw};
 ghost use Rattle.yt_machine.specs.Rests.{RestLaw};
 ghost use Rattle.yt_machine.specs.Small.{small};
 ghost use Rattle.yt_machine.specs.SmallHistories.{SmallRows};
 ghost use Rattle.yt_machine.specs.Stamps.{StampLaw};
+ghost use Rattle.yt_machine.specs.Trails.{TrailLaw};
 ghost use Rattle.yt_machine.specs.Trees.{Tree};
 ghost use Rattle.yt_machine.specs.TreeLaw.{IsReplay};
 ghost use Rattle.yt_machine.specs.WalkLaw.{WalkLaw};
@@ -35,10 +38,21 @@ pub fn histories_are_serial()
     ensures { (budget : ℕ) → 1 ≤ budget → HistoryLaw (small budget) }
 {}
 
+/// A quiet history of recorded events over a whole session is the serial machine's result on that session, but for the
+/// numbers of attempts.
+pub fn quiet_histories_are_the_session()
+    ensures { (budget : ℕ) → 1 ≤ budget → QuietLaw (small budget) }
+{}
+
 /// An attempt whose logged reads are all valid over a repository is the machine's run there, wherever its reads were
 /// answered; and the reads of a run are valid.
 pub fn valid_reads_make_a_run()
     ensures { (budget : ℕ) → 1 ≤ budget → ReplayLaw (small budget) }
+{}
+
+/// A step all of whose reads still have their values is the step that would be made now.
+pub fn valid_reads_make_a_step()
+    ensures { (budget : ℕ) → 1 ≤ budget → PlanLaw (small budget) }
 {}
 
 /// An event at an update changes neither the updates below it nor what lies below any of them or below it; it is at no
@@ -63,6 +77,11 @@ pub fn precise_restarts_are_coarse()
     ensures { (budget : ℕ) → 1 ≤ budget → DepsLaw (small budget) }
 {}
 
+/// The cascade of an event is that of all updates from the first on, given the numbers of its first members.
+pub fn cascades_start_at_the_base()
+    ensures { (budget : ℕ) → 1 ≤ budget → CallLaw (small budget) }
+{}
+
 /// One walk upwards finds the conflict set and the cascade, and restarts just the updates that they name.
 pub fn one_walk_settles()
     ensures { (budget : ℕ) → WalkLaw (small budget) }
@@ -72,6 +91,11 @@ pub fn one_walk_settles()
 /// same value there before and after it.
 pub fn untouched_values_stay()
     ensures { (budget : ℕ) → 1 ≤ budget → StampLaw (small budget) }
+{}
+
+/// The trail of an update is what the entries of its present attempt show that it wrote.
+pub fn histories_tell_the_trails()
+    ensures { (budget : ℕ) → 1 ≤ budget → TrailLaw (small budget) }
 {}
 
 /// Each step and each delivery lowers the work that is left, so making them while one is allowed comes to an end.

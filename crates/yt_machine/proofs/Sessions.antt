@@ -1,0 +1,56 @@
+-- A quiet history over a whole session is the serial machine there; turns that stand beside one another.
+use Rattle.std.proofs.Common.{◌≡◌, ℕ, suc, ◌≤◌, ◌+◌, ap, refl, ◌∙◌, List, [], ◌∷◌, ◌++◌, take, map, length, arith, Some}
+use Rattle.std.specs.Prelude.{if◌then◌else◌, slice_get}
+use Rattle.yt_machine.specs.Machine.{Machine, Laws}
+use Rattle.yt_machine.specs.Updates.{Update, is_over}
+use Rattle.yt_machine.specs.Serial.{Turn, committed_turns, all_turns, session_turns}
+use Rattle.yt_machine.specs.Simulation.{Simulation, AreTurns}
+use Rattle.yt_machine.specs.Quiet.{QuietLaw}
+use Rattle.yt_machine.proofs.Basics.{if_both}
+use Rattle.yt_machine.proofs.Theorem.{history_law}
+use Rattle.yt_machine.proofs.Recorded.{recorded_law}
+
+taken_whole : {A : Type 0} (xs : List A) → take (length xs) xs ≡ xs
+taken_whole [] = refl
+taken_whole (x ∷ xs) = ap (λ ys. x ∷ ys) (taken_whole xs)
+
+pub quiet_law : (M : Machine) → Laws M → QuietLaw M
+quiet_law M L s S es l z h p e q =
+    let kept = recorded_law M s S es l h in (
+      all_turns M 1 l.updates,
+      record {
+        of_session = kept.turns p ∙ ap (λ n. session_turns M 1 (take n S.submissions)) e ∙ ap (session_turns M 1) (taken_whole S.submissions);
+        result = (history_law M L s S es l z h).quiet q;
+      },
+    )
+
+-- ---- turns of a history beside other turns
+
+-- the turn of update n with these answers
+abbrev pub turn_of : (M : Machine) → ℕ → Update M → List M.Choice → Turn M
+turn_of M n u answers = record { number = n; attempt = u.attempt; operation = u.operation; answers = answers }
+
+module _ (M K : Machine) (R : Simulation M K) (f : Turn M → Turn K) where
+  earlier : (n m : ℕ) (ts : List (Turn M)) (ss : List (Turn K)) → n ≤ m → AreTurns R m ts ss → AreTurns R n ts ss
+  earlier n m [] [] l a = tt
+  earlier n m (t ∷ ts) [] l a = absurd a
+  earlier n m [] (s ∷ ss) l a = absurd a
+  earlier n m (t ∷ ts) (s ∷ ss) l a = (omega (arith, l, a.0), a.1, a.2)
+
+  pub all_beside : (n : ℕ) (us : List (Update M)) → ((k m : ℕ) (u : Update M) → m ≡ n + k → slice_get us k ≡ Some u → R.Turns (turn_of M m u (u.answers ++ u.inbox)) (f (turn_of M m u (u.answers ++ u.inbox)))) → AreTurns R n (all_turns M n us) (map f (all_turns M n us))
+  all_beside n [] h = tt
+  all_beside n (u ∷ us) h =
+      let rest : AreTurns R (suc n) (all_turns M (suc n) us) (map f (all_turns M (suc n) us)) = all_beside (suc n) us (λ k m v e g. h (suc k) m v (omega (arith, e)) g) in
+      if_both (λ (ts : List (Turn M)). AreTurns R n ts (map f ts)) u.withdrawn (all_turns M (suc n) us) (turn_of M n u (u.answers ++ u.inbox) ∷ all_turns M (suc n) us)
+      (λ w. earlier n (suc n) (all_turns M (suc n) us) (map f (all_turns M (suc n) us)) (omega arith) rest)
+      (λ w. (omega arith, h 0 n u (omega arith) refl, rest))
+
+  pub committed_beside : (n : ℕ) (us : List (Update M)) → ((k m : ℕ) (u : Update M) → m ≡ n + k → slice_get us k ≡ Some u → R.Turns (turn_of M m u u.answers) (f (turn_of M m u u.answers))) → AreTurns R n (committed_turns M n us) (map f (committed_turns M n us))
+  committed_beside n [] h = tt
+  committed_beside n (u ∷ us) h =
+      let rest : AreTurns R (suc n) (committed_turns M (suc n) us) (map f (committed_turns M (suc n) us)) = committed_beside (suc n) us (λ k m v e g. h (suc k) m v (omega (arith, e)) g) in
+      if_both (λ (ts : List (Turn M)). AreTurns R n ts (map f ts)) (is_over M u) (if u.withdrawn then committed_turns M (suc n) us else turn_of M n u u.answers ∷ committed_turns M (suc n) us) []
+      (λ o. if_both (λ (ts : List (Turn M)). AreTurns R n ts (map f ts)) u.withdrawn (committed_turns M (suc n) us) (turn_of M n u u.answers ∷ committed_turns M (suc n) us)
+      (λ w. earlier n (suc n) (committed_turns M (suc n) us) (map f (committed_turns M (suc n) us)) (omega arith) rest)
+      (λ w. (omega arith, h 0 n u (omega arith) refl, rest)))
+      (λ o. tt)
