@@ -43,9 +43,9 @@ const PIECE: usize = 16_384;
 
 /// Reads to the end of the input, of at most `limit` bytes.
 ///
-/// It answers `TooLong` exactly where it took more than `limit` bytes, which is one more at most.
-/// Memory for a piece is taken before the piece is read, so `Memory` too comes only where no more
-/// than that was taken.
+/// It answers `TooLong` exactly where it took more than `limit` bytes, and then it took one more.
+/// Memory for a piece is taken before the piece is read, so `Memory` comes only where no more than
+/// the limit was taken.
 pub fn read_all<S: Source>(
     alloc: Global,
     source: &mut S,
