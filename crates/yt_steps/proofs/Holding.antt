@@ -1,37 +1,29 @@
--- The mappings in force hold after every update of a timely session, which goes the same way in the caused scope.
+-- The mappings in force hold after an update that is done, and what is spent or refused leaves all as it was.
 use Rattle.std.specs.Prelude.{if◌then◌else◌, nat_lt, is_some, slice_get}
-use Rattle.std.proofs.Common.{◌≡◌, ℕ, zero, suc, ◌≤◌, ap, refl, sym, ◌∙◌, subst, List, [], ◌∷◌, ◌++◌, take, Bool, true, false, Option, Some, None, arith}
+use Rattle.std.proofs.Common.{◌≡◌, ℕ, suc, ap, refl, sym, ◌∙◌, subst, List, [], ◌∷◌, Bool, true, false, arith}
 use Rattle.std.specs.Option.{option_map}
 use Rattle.std.specs.List.{list_all}
 use Rattle.std.proofs.lemmas.Bool.{both_ways}
 use Rattle.yt_machine.specs.Updates.{Read, hides, shown}
-use Rattle.yt_machine.specs.Standings.{Lack}
 use Rattle.yt_machine.specs.Runs.{Reached}
-use Rattle.yt_machine.specs.Rests.{IsRest}
-use Rattle.yt_machine.specs.Serial.{Rest, Ends, Stops, Turn, after_turn, whole, serial}
-use Rattle.yt_machine.proofs.Simulations.{rest_law}
+use Rattle.yt_machine.specs.Serial.{Turn}
 use Rattle.yt_model.specs.Values.{Fact}
 use Rattle.yt_model.specs.Repository.{apply}
 use Rattle.yt_model.specs.Mappings.{Rule, Holds, in_force, HoldFrom, AllHold}
 use Rattle.yt_model.specs.Violations.{Scope, Every}
 use Rattle.yt_model.specs.Updates.{Operation, direction_of, Choice}
 use Rattle.yt_model.specs.Laws.{HaveNoNulls}
-use Rattle.yt_model.proofs.Bools.{differ, none_some, some_same}
+use Rattle.yt_model.proofs.Bools.{differ}
 use Rattle.yt_steps.specs.Attempts.{Done, Spent, Refused, Phase, Start, Look, Generate, Asked, Ended, Attempt, outcome_in}
-use Rattle.yt_steps.specs.Chase.{ending, chase, every, caused, whole_chase, caused_chase}
-use Rattle.yt_steps.specs.Serial.{Request, SerialResult, answered, at_rest, finished, stopped, told, turns_in}
+use Rattle.yt_steps.specs.Chase.{ending, chase, every, whole_chase, caused_chase}
 use Rattle.yt_steps.specs.Looking.{LookedHold, NoneLater}
-use Rattle.yt_steps.specs.Timely.{in_time, repairs_plainly, acts_in_time, ActInTime, IsTimely}
-use Rattle.yt_steps.specs.Holding.{WholeRests, Leaves, HoldAfter, HoldThroughout, SerialScopesAgree}
+use Rattle.yt_steps.specs.Timely.{in_time, repairs_plainly, acts_in_time}
+use Rattle.yt_steps.specs.Holding.{Leaves}
 use Rattle.yt_steps.proofs.Steady.{SoundPhase, SoundEnd}
 use Rattle.yt_steps.proofs.Reaching.{Steady, reached_steady}
-use Rattle.yt_steps.proofs.ChaseLaws.{chase_laws}
 use Rattle.yt_steps.proofs.Scopes.{agree}
 use Rattle.yt_steps.proofs.Passing.{all_weaker}
 use Rattle.yt_steps.proofs.Timely.{in_time_later, none_later, view_in_time}
-
-pub whole_rests : WholeRests
-whole_rests scope ms B few = rest_law (chase scope ms B) (chase_laws scope ms B few)
 
 -- ---- one update
 
@@ -47,15 +39,14 @@ looked_all u n (m ∷ ms) E h l = (λ f. by (nat_lt u m.since) refl f, looked_al
 abbrev pub shows : Phase → Bool
 shows p = hides (option_map ending (outcome_in p))
 
-module _ (ms : List Rule) (B : ℕ) (few : 1 ≤ B) where
-  -- a rest of this kind is one that was reached
-  reached_end : (scope : Operation → Scope) (D : List Fact) (t : Turn (chase scope ms B)) (P : Attempt) → whole (chase scope ms B) D t ≡ Ends P
-      → (log : List (Read (chase scope ms B))) × (Reached (chase scope ms B) D t.answers t.number t.attempt t.operation P log) × (is_some (option_map ending (outcome_in P.phase)) ≡ true)
-  reached_end scope D t P e =
-      let r : IsRest (chase scope ms B) D t (Ends P) = subst (λ x. IsRest (chase scope ms B) D t x) e (whole_rests scope ms B few D t) in
-      (r.0.log, r.0.reached, r.1)
+-- What is kept from update to update: the mappings in force hold, and those in force are in time for update u.
+pub record Kept (ms : List Rule) (u : ℕ) (D : List Fact) : Type 0 where
+  pub hold : AllHold ms D
+  pub timely : list_all (in_time ms u) D ≡ true
 
-  done_holds : (D : List Fact) (u a : ℕ) (op : Operation) (answers : List Choice) (P : Attempt) (log : List (Read (whole_chase ms B))) → Reached (whole_chase ms B) D answers u a op P log
+module _ (ms : List Rule) (B : ℕ) where
+  -- After Done the mappings looked at hold, so all in force if none came too late.
+  pub done_holds : (D : List Fact) (u a : ℕ) (op : Operation) (answers : List Choice) (P : Attempt) (log : List (Read (whole_chase ms B))) → Reached (whole_chase ms B) D answers u a op P log
       → P.phase ≡ Ended Done → NoneLater u 0 ms (apply D P.own) → AllHold ms (apply D P.own)
   done_holds D u a op answers P log r e l =
       let s : Steady u ms every D op P = reached_steady every ms B D answers u a op r in
@@ -65,35 +56,27 @@ module _ (ms : List Rule) (B : ℕ) (few : 1 ≤ B) where
   shown_at : (scope : Operation → Scope) (P : Attempt) (p : Phase) → P.phase ≡ p → shown (chase scope ms B) P ≡ (if shows p then [] else P.own)
   shown_at scope P p e = ap (λ p. if shows p then [] else P.own) e
 
-  pub leaves : (D : List Fact) (t : Turn (whole_chase ms B)) (P : Attempt) → whole (whole_chase ms B) D t ≡ Ends P → Leaves ms B D t P
-  leaves D t P e =
-      let r = reached_end every D t P e in
+  pub leaves_reached : (D : List Fact) (t : Turn (whole_chase ms B)) (P : Attempt) (log : List (Read (whole_chase ms B))) → Reached (whole_chase ms B) D t.answers t.number t.attempt t.operation P log → Leaves ms B D t P
+  leaves_reached D t P log r =
       record {
-        done = λ d l. subst (λ ws. AllHold ms (apply D ws)) (sym (shown_at every P (Ended Done) d)) (done_holds D t.number t.attempt t.operation t.answers P r.0 r.1 d l);
+        done = λ d l. subst (λ ws. AllHold ms (apply D ws)) (sym (shown_at every P (Ended Done) d)) (done_holds D t.number t.attempt t.operation t.answers P log r d l);
         spent = λ d. ap (apply D) (shown_at every P (Ended Spent) d);
         refused = λ n d. ap (apply D) (shown_at every P (Ended (Refused n)) d);
       }
 
-  -- ---- a timely session
-
-  -- what is kept from update to update: the mappings in force hold, and those in force are in time for update u
-  pub record Kept (u : ℕ) (D : List Fact) : Type 0 where
-    pub hold : AllHold ms D
-    pub timely : list_all (in_time ms u) D ≡ true
-
-  kept_later : (u : ℕ) (D : List Fact) → Kept u D → Kept (suc u) D
+  kept_later : (u : ℕ) (D : List Fact) → Kept ms u D → Kept ms (suc u) D
   kept_later u D k = record { hold = k.hold; timely = all_weaker (in_time ms u) (in_time ms (suc u)) (λ t h. in_time_later ms u (suc u) (omega arith) t h) D k.timely }
 
-  pub kept_on : (plain : repairs_plainly ms ≡ true) (D : List Fact) (t : Turn (whole_chase ms B)) (P : Attempt) → acts_in_time ms t.number t.operation ≡ true → Kept t.number D
-      → whole (whole_chase ms B) D t ≡ Ends P → Kept (suc t.number) (apply D (shown (whole_chase ms B) P))
-  kept_on plain D t P acts k e =
-      let r = reached_end every D t P e in
-      kept_later t.number (apply D (shown (whole_chase ms B) P)) (by P.phase refl r.2 (leaves D t P e) (view_in_time every ms B D t.answers t.number t.attempt t.operation plain acts k.timely r.1))
+  -- An update that has ended over what is kept keeps it for the next one.
+  pub kept_reached : (plain : repairs_plainly ms ≡ true) (D : List Fact) (t : Turn (whole_chase ms B)) (P : Attempt) (log : List (Read (whole_chase ms B))) → acts_in_time ms t.number t.operation ≡ true → Kept ms t.number D
+      → Reached (whole_chase ms B) D t.answers t.number t.attempt t.operation P log → is_some (option_map ending (outcome_in P.phase)) ≡ true → Kept ms (suc t.number) (apply D (shown (whole_chase ms B) P))
+  kept_reached plain D t P log acts k r ended =
+      kept_later t.number (apply D (shown (whole_chase ms B) P)) (by P.phase refl ended (leaves_reached D t P log r) (view_in_time every ms B D t.answers t.number t.attempt t.operation plain acts k.timely r))
     where
-      same : (F : List Fact) → F ≡ D → Kept t.number F
-      same F f = subst (λ G. Kept t.number G) (sym f) k
+      same : (F : List Fact) → F ≡ D → Kept ms t.number F
+      same F f = subst (λ G. Kept ms t.number G) (sym f) k
 
-      by : (p : Phase) → P.phase ≡ p → is_some (option_map ending (outcome_in p)) ≡ true → Leaves ms B D t P → list_all (in_time ms t.number) (apply D P.own) ≡ true → Kept t.number (apply D (shown (whole_chase ms B) P))
+      by : (p : Phase) → P.phase ≡ p → is_some (option_map ending (outcome_in p)) ≡ true → Leaves ms B D t P → list_all (in_time ms t.number) (apply D P.own) ≡ true → Kept ms t.number (apply D (shown (whole_chase ms B) P))
       by Start f o l v = differ o
       by Look f o l v = differ o
       by (Generate r) f o l v = differ o
@@ -106,70 +89,9 @@ module _ (ms : List Rule) (B : ℕ) (few : 1 ≤ B) where
       by (Ended Spent) f o l v = same (apply D (shown (whole_chase ms B) P)) (l.spent f)
       by (Ended (Refused n)) f o l v = same (apply D (shown (whole_chase ms B) P)) (l.refused n f)
 
-  abbrev turn : (scope : Operation → Scope) (u : ℕ) (r : Request) → Turn (chase scope ms B)
-  turn scope u r = record { number = u; attempt = 0; operation = r.operation; answers = r.answers }
-
-  turn_holds : (u : ℕ) (D : List Fact) (r : Request) (ts : List (Turn (whole_chase ms B))) (plain : repairs_plainly ms ≡ true) → acts_in_time ms u r.operation ≡ true → Kept u D
-      → ((E : List Fact) → Kept (suc u) E → AllHold ms (serial (whole_chase ms B) E ts).repository)
-      → (x : Rest (whole_chase ms B)) → whole (whole_chase ms B) D (turn every u r) ≡ x → AllHold ms (after_turn (whole_chase ms B) (λ E. serial (whole_chase ms B) E ts) u D x).repository
-  turn_holds u D r ts plain acts k rec (Ends P) e = rec (apply D (shown (whole_chase ms B) P)) (kept_on plain D (turn every u r) P acts k e)
-  turn_holds u D r ts plain acts k rec (Stops P l) e = k.hold
-
-  pub serial_holds : (plain : repairs_plainly ms ≡ true) (rs : List Request) (u : ℕ) (D : List Fact) → ActInTime ms u rs → Kept u D → AllHold ms (serial (whole_chase ms B) D (turns_in every ms B u rs)).repository
-  serial_holds plain [] u D a k = k.hold
-  serial_holds plain (r ∷ rs) u D a k =
-      turn_holds u D r (turns_in every ms B (suc u) rs) plain a.0 k (λ E j. serial_holds plain rs (suc u) E a.1 j) (whole (whole_chase ms B) D (turn every u r)) refl
-
-  -- ---- the caused scope
-
-  -- what is told with one finish more
-  abbrev with_one : ℕ → Attempt → SerialResult → SerialResult
-  with_one u P r = record { finishes = finished u P ++ r.finishes; stop = r.stop; repository = r.repository }
-
-  abbrev resting : Attempt → Option Lack → Attempt × Option Lack
-  resting P l = (P, l)
-
-  first_same : (P Q : Attempt) (l m : Option Lack) → resting P l ≡ resting Q m → P ≡ Q
-  first_same P Q l m e = ap (λ (x : Attempt × Option Lack). x.0) e
-
-  second_same : (P Q : Attempt) (l m : Option Lack) → resting P l ≡ resting Q m → l ≡ m
-  second_same P Q l m e = ap (λ (x : Attempt × Option Lack). x.1) e
-
-  turn_same : (u : ℕ) (D : List Fact) (r : Request) (ts : List (Turn (caused_chase ms B))) (ss : List (Turn (whole_chase ms B)))
-      → (x : Rest (caused_chase ms B)) (y : Rest (whole_chase ms B)) → at_rest caused ms B x ≡ at_rest every ms B y
-      → ((P : Attempt) → y ≡ Ends P → told caused ms B (serial (caused_chase ms B) (apply D (shown (caused_chase ms B) P)) ts) ≡ told every ms B (serial (whole_chase ms B) (apply D (shown (whole_chase ms B) P)) ss))
-      → told caused ms B (after_turn (caused_chase ms B) (λ E. serial (caused_chase ms B) E ts) u D x) ≡ told every ms B (after_turn (whole_chase ms B) (λ E. serial (whole_chase ms B) E ss) u D y)
-  turn_same u D r ts ss (Ends P) (Ends Q) e rec =
-      let same : P ≡ Q = first_same P Q None None e in
-      ap (λ S. with_one u S (told caused ms B (serial (caused_chase ms B) (apply D (shown (caused_chase ms B) S)) ts))) same ∙ ap (with_one u Q) (rec Q refl)
-  turn_same u D r ts ss (Ends P) (Stops Q m) e rec = absurd (none_some m (second_same P Q None (Some m) e))
-  turn_same u D r ts ss (Stops P l) (Ends Q) e rec = absurd (none_some l (sym (second_same P Q (Some l) None e)))
-  turn_same u D r ts ss (Stops P l) (Stops Q m) e rec =
-      let same : P ≡ Q = first_same P Q (Some l) (Some m) e in
-      let lack : l ≡ m = some_same l m (second_same P Q (Some l) (Some m) e) in
-      λ i. record { finishes = []; stop = stopped u (same i) (lack i); repository = answered D }
-
-  pub serial_same : (nulls : HaveNoNulls ms) (plain : repairs_plainly ms ≡ true) (rs : List Request) (u : ℕ) (D : List Fact) → ActInTime ms u rs → Kept u D
-      → told caused ms B (serial (caused_chase ms B) D (turns_in caused ms B u rs)) ≡ told every ms B (serial (whole_chase ms B) D (turns_in every ms B u rs))
-  serial_same nulls plain [] u D a k = refl
-  serial_same nulls plain (r ∷ rs) u D a k =
-      turn_same u D r (turns_in caused ms B (suc u) rs) (turns_in every ms B (suc u) rs) (whole (caused_chase ms B) D (turn caused u r)) (whole (whole_chase ms B) D (turn every u r))
-      (agree ms B D r.answers u 0 r.operation nulls k.hold).rests
-      (λ P e. serial_same nulls plain rs (suc u) (apply D (shown (whole_chase ms B) P)) a.1 (kept_on plain D (turn every u r) P a.0 k e))
-
-pub hold_after : HoldAfter
-hold_after ms B D t P few e = leaves ms B few D t P e
-
-taken_in_time : (ms : List Rule) (rs : List Request) (u k : ℕ) → ActInTime ms u rs → ActInTime ms u (take k rs)
-taken_in_time ms rs u zero a = tt
-taken_in_time ms [] u (suc k) a = tt
-taken_in_time ms (r ∷ rs) u (suc k) a = (a.0, taken_in_time ms rs (suc u) k a.1)
-
-first_kept : (ms : List Rule) (B : ℕ) (few : 1 ≤ B) (D : List Fact) (rs : List Request) → IsTimely ms D rs → AllHold ms D → Kept ms B few 1 D
-first_kept ms B few D rs t h = record { hold = h; timely = all_weaker (in_time ms 0) (in_time ms 1) (λ s e. in_time_later ms 0 1 (omega arith) s e) D t.base }
-
-pub hold_throughout : HoldThroughout
-hold_throughout ms B D rs k few t h = serial_holds ms B few t.mappings (take k rs) 1 D (taken_in_time ms rs 1 k t.updates) (first_kept ms B few D rs t h)
-
-pub serial_scopes_agree : SerialScopesAgree
-serial_scopes_agree ms B D rs few nulls t h = serial_same ms B few nulls t.mappings rs 1 D t.updates (first_kept ms B few D rs t h)
+  -- So does one that has looked only at the violations which it caused.
+  pub caused_kept : (plain : repairs_plainly ms ≡ true) (nulls : HaveNoNulls ms) (D : List Fact) (u a : ℕ) (op : Operation) (answers : List Choice) (P : Attempt) (log : List (Read (caused_chase ms B)))
+      → acts_in_time ms u op ≡ true → Kept ms u D → Reached (caused_chase ms B) D answers u a op P log → is_some (option_map ending (outcome_in P.phase)) ≡ true → Kept ms (suc u) (apply D (shown (caused_chase ms B) P))
+  caused_kept plain nulls D u a op answers P log acts k r ended =
+      let also = (agree ms B D answers u a op nulls k.hold).to_every P log r in
+      kept_reached plain D record { number = u; attempt = a; operation = op; answers = answers } P also.reads acts k also.reached ended

@@ -12,6 +12,7 @@ pub mod Origins
 pub mod Refusing
 pub mod Timely
 pub mod Holding
+pub mod SerialHolding
 pub mod Lacks
 pub mod ShiftedWords
 pub mod ShiftedSteps

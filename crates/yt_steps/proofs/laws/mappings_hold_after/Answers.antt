@@ -1,4 +1,4 @@
-use Rattle.yt_steps.proofs.Holding.{hold_after}
+use Rattle.yt_steps.proofs.SerialHolding.{hold_after}
 use Rattle.yt_steps.proofs.laws.mappings_hold_after.Goals as goal
 
 pub returns : goal.returns

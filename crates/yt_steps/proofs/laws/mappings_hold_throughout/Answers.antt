@@ -1,4 +1,4 @@
-use Rattle.yt_steps.proofs.Holding.{hold_throughout}
+use Rattle.yt_steps.proofs.SerialHolding.{hold_throughout}
 use Rattle.yt_steps.proofs.laws.mappings_hold_throughout.Goals as goal
 
 pub returns : goal.returns

@@ -1,4 +1,4 @@
-use Rattle.yt_steps.proofs.Holding.{serial_scopes_agree}
+use Rattle.yt_steps.proofs.SerialHolding.{serial_scopes_agree}
 use Rattle.yt_steps.proofs.laws.serial_scopes_agree.Goals as goal
 
 pub returns : goal.returns

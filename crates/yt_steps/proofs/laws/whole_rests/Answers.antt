@@ -1,4 +1,4 @@
-use Rattle.yt_steps.proofs.Holding.{whole_rests}
+use Rattle.yt_steps.proofs.SerialHolding.{whole_rests}
 use Rattle.yt_steps.proofs.laws.whole_rests.Goals as goal
 
 pub returns : goal.returns
