@@ -29,3 +29,5 @@ pub mod Stamped
 pub mod Sessions
 pub mod Calls
 pub mod Told
+pub mod Prefixes
+pub mod SmallSimulation

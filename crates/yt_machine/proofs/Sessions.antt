@@ -1,16 +1,20 @@
 -- A quiet history over a whole session is the serial machine there; turns that stand beside one another.
-use Rattle.std.proofs.Common.{◌≡◌, ℕ, suc, ◌≤◌, ◌+◌, ap, refl, ◌∙◌, List, [], ◌∷◌, ◌++◌, take, map, length, arith, Some}
+use Rattle.std.proofs.Common.{subst, true, ◌≡◌, ℕ, suc, ◌≤◌, ◌+◌, ap, refl, ◌∙◌, List, [], ◌∷◌, ◌++◌, take, map, length, arith, Some, None}
 use Rattle.std.specs.Prelude.{if◌then◌else◌, slice_get}
 use Rattle.yt_machine.specs.Machine.{Machine, Laws}
-use Rattle.yt_machine.specs.Updates.{Update, is_over}
-use Rattle.yt_machine.specs.Serial.{Turn, committed_turns, all_turns, session_turns}
-use Rattle.yt_machine.specs.Simulation.{Simulation, AreTurns}
+use Rattle.yt_machine.specs.Updates.{Update, Session, Settings, below, committed, is_over}
+use Rattle.yt_machine.specs.Serial.{Turn, Result, serial, committed_turns, committed_finishes, all_turns, first_stop, session_turns}
+use Rattle.yt_machine.specs.Simulation.{Simulation, AreTurns, AreResults}
+use Rattle.yt_machine.specs.Effects.{Event}
+use Rattle.yt_machine.specs.Histories.{Log, empty_log, after}
+use Rattle.yt_machine.specs.Standings.{is_quiet}
 use Rattle.yt_machine.specs.Quiet.{QuietLaw}
 use Rattle.yt_machine.proofs.Basics.{if_both}
 use Rattle.yt_machine.proofs.Theorem.{history_law}
 use Rattle.yt_machine.proofs.Recorded.{recorded_law}
+use Rattle.yt_machine.proofs.Simulations.{serial_alike}
 
-taken_whole : {A : Type 0} (xs : List A) → take (length xs) xs ≡ xs
+pub taken_whole : {A : Type 0} (xs : List A) → take (length xs) xs ≡ xs
 taken_whole [] = refl
 taken_whole (x ∷ xs) = ap (λ ys. x ∷ ys) (taken_whole xs)
 
@@ -54,3 +58,21 @@ module _ (M K : Machine) (R : Simulation M K) (f : Turn M → Turn K) where
       (λ w. earlier n (suc n) (committed_turns M (suc n) us) (map f (committed_turns M (suc n) us)) (omega arith) rest)
       (λ w. (omega arith, h 0 n u (omega arith) refl, rest)))
       (λ o. tt)
+
+-- ---- what a history leaves, beside the serial run of another machine
+
+module _ (M K : Machine) (L : Laws M) (R : Simulation M K) (f : Turn M → Turn K) (s : Settings) (S : Session M) (E : K.Repository) (es : List (Event M)) (l : Log M) (z : M.Sound S.base) (h : after M s S (empty_log M) es ≡ Some l) where
+  -- the committed updates
+  pub committed_alike : R.Repositories 1 S.base E → ((k m : ℕ) (u : Update M) → m ≡ 1 + k → slice_get l.updates k ≡ Some u → R.Turns (turn_of M m u u.answers) (f (turn_of M m u u.answers)))
+      → AreResults R (record { finishes = committed_finishes M 1 l.updates; stop = None; repository = below M S.base l.updates (committed M l.updates) }) (serial K E (map f (committed_turns M 1 l.updates)))
+  committed_alike r t =
+      subst (λ (x : Result M). AreResults R x (serial K E (map f (committed_turns M 1 l.updates)))) (history_law M L s S es l z h).as_serial
+      (serial_alike M K L R 1 (committed_turns M 1 l.updates) (map f (committed_turns M 1 l.updates)) S.base E (committed_beside M K R f 1 l.updates t) r)
+
+  -- all updates, where it is quiet
+  pub quiet_alike : is_quiet M s l.updates ≡ true → R.Repositories 1 S.base E
+      → ((k m : ℕ) (u : Update M) → m ≡ 1 + k → slice_get l.updates k ≡ Some u → R.Turns (turn_of M m u (u.answers ++ u.inbox)) (f (turn_of M m u (u.answers ++ u.inbox))))
+      → AreResults R (record { finishes = committed_finishes M 1 l.updates; stop = first_stop M 1 l.updates; repository = below M S.base l.updates (committed M l.updates) }) (serial K E (map f (all_turns M 1 l.updates)))
+  quiet_alike q r t =
+      subst (λ (x : Result M). AreResults R x (serial K E (map f (all_turns M 1 l.updates)))) ((history_law M L s S es l z h).quiet q)
+      (serial_alike M K L R 1 (all_turns M 1 l.updates) (map f (all_turns M 1 l.updates)) S.base E (all_beside M K R f 1 l.updates t) r)

@@ -29,3 +29,5 @@ pub mod Stamps
 pub mod Quiet
 pub mod CallLaw
 pub mod Trails
+pub mod LegalLaw
+pub mod SmallSessions

@@ -11,6 +11,7 @@ ghost use Rattle.yt_machine.specs.CallLaw.{CallLaw};
 ghost use Rattle.yt_machine.specs.CauseLaw.{CauseLaw};
 ghost use Rattle.yt_machine.specs.DepsLaw.{DepsLaw};
 ghost use Rattle.yt_machine.specs.History.{HistoryLaw};
+ghost use Rattle.yt_machine.specs.LegalLaw.{LegalLaw};
 ghost use Rattle.yt_machine.specs.Local.{LocalLaw};
 ghost use Rattle.yt_machine.specs.Quiet.{QuietLaw};
 ghost use Rattle.yt_machine.specs.Recorded.{LongerLaw, RecordedLaw};
@@ -18,6 +19,7 @@ ghost use Rattle.yt_machine.specs.Replay.{PlanLaw, ReplayLaw};
 ghost use Rattle.yt_machine.specs.Rests.{RestLaw};
 ghost use Rattle.yt_machine.specs.Small.{small};
 ghost use Rattle.yt_machine.specs.SmallHistories.{SmallRows};
+ghost use Rattle.yt_machine.specs.SmallSessions.{SmallSessions};
 ghost use Rattle.yt_machine.specs.Stamps.{StampLaw};
 ghost use Rattle.yt_machine.specs.Trails.{TrailLaw};
 ghost use Rattle.yt_machine.specs.Trees.{Tree};
@@ -108,6 +110,11 @@ pub fn histories_keep_the_session()
     ensures { (budget : ℕ) → RecordedLaw (small budget) }
 {}
 
+/// Legal histories grow by the entries of allowed events, their prefixes are legal, and each leaves one list of updates.
+pub fn legal_histories_grow()
+    ensures { (budget : ℕ) → 1 ≤ budget → LegalLaw (small budget) }
+{}
+
 /// A history stays one when further updates are handed in.
 pub fn histories_stay_with_more_updates()
     ensures { (budget : ℕ) → LongerLaw (small budget) }
@@ -116,6 +123,12 @@ pub fn histories_stay_with_more_updates()
 /// An update taken whole ends within its budget of steps, or stops at a question for want of an answer.
 pub fn turns_come_to_rest()
     ensures { (budget : ℕ) → 1 ≤ budget → RestLaw (small budget) }
+{}
+
+/// Whatever the order of recorded events over a whole session, where it is quiet the small machine has come to its serial
+/// result on the session, each update by its first attempt. It follows from the laws above with a machine beside itself.
+pub fn small_sessions_have_one_result()
+    ensures { SmallSessions }
 {}
 
 /// Histories with a conflict, a held update, a cascade of two levels under both kinds of dependence, a withdrawal and a
