@@ -72,14 +72,17 @@ module _ (M : Machine) (L : Laws M) (s : Settings) (S : Session M) where
       ∙ joined (empty_log M) record { updates = us; entries = H } record { updates = x.updates; entries = H ++ x.entry ∷ [] } (map event_of H) (e ∷ []) h
       (ap (option_and_then (λ y. after M s S (with_entry M H y) [])) f)
 
-  legal_prefix : (H J : List (Entry M)) (us : List (Update M)) → IsLegal M s S (H ++ J) us → (vs : List (Update M)) × IsLegal M s S H vs
-  legal_prefix H J us h =
-      let r = halves (empty_log M) (map event_of H) (map event_of J) record { updates = us; entries = H ++ J } (ap (λ es. after M s S (empty_log M) es) (sym (map_join M H J)) ∙ h) in
+  prefix_from : (H J : List (Entry M)) (us : List (Update M)) → Halves (empty_log M) (map event_of H) (map event_of J) record { updates = us; entries = H ++ J } → (vs : List (Update M)) × IsLegal M s S H vs
+  prefix_from H J us r =
       let a = added (empty_log M) r.middle (map event_of H) r.first in
       let b = added r.middle record { updates = us; entries = H ++ J } (map event_of J) r.second in
-      let split : r.middle.entries ++ b.0 ≡ H ++ J = λ i. sym b.1 i in
-      let same : r.middle.entries ≡ H = same_front r.middle.entries b.0 H J (omega (arith, a.2, length_map M H)) split in
+      let same : r.middle.entries ≡ H = same_front r.middle.entries b.0 H J (omega (arith, a.2, length_map M H)) (λ i. sym b.1 i) in
       (r.middle.updates, r.first ∙ (λ i. Some (record { updates = r.middle.updates; entries = same i })))
+
+  legal_prefix : (H J : List (Entry M)) (us : List (Update M)) → IsLegal M s S (H ++ J) us → (vs : List (Update M)) × IsLegal M s S H vs
+  legal_prefix H J us h =
+      prefix_from H J us
+      (halves (empty_log M) (map event_of H) (map event_of J) record { updates = us; entries = H ++ J } (ap (λ es. after M s S (empty_log M) es) (sym (map_join M H J)) ∙ h))
 
 pub legal_law : (M : Machine) → Laws M → LegalLaw M
 legal_law M L s S = record {
