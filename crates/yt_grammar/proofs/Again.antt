@@ -1,18 +1,18 @@
 -- The words of a statement are read as the statement.
-use Rattle.std.proofs.Common.{◌≡◌, ℕ, ◌+◌, ◌<◌, ◌≤◌, ◌⊎◌, inl, inr, Bool, true, false, List, [], ◌∷◌, ◌++◌, length, refl, sym, ap, ◌∙◌, append_assoc, append-nil, arith}
-use Rattle.std.specs.Prelude.{Result, Ok, codes, nat_le, pos}
+use Rattle.std.proofs.Common.{◌≡◌, ℕ, ◌≤◌, ◌⊎◌, inl, inr, Bool, true, List, [], ◌∷◌, ◌++◌, length, refl, sym, ap, ◌∙◌, append_assoc, append-nil, arith}
+use Rattle.std.specs.Prelude.{Result, Ok, codes, nat_le}
 use Rattle.std.specs.List.{AllByRecursion}
 use Rattle.std.proofs.lemmas.Bool.Decides.{nat_tests}
-use Rattle.yt_model.specs.Values.{NullName, Datum, Number, Text, Unknown}
+use Rattle.yt_model.specs.Values.{Datum, Number, Text, Unknown}
 use Rattle.yt_grammar.specs.declared.Wanted.TheVariants as missing
-use Rattle.yt_grammar.specs.Words.{Word, name, number, null, text, opens, closes, comma, colon, arrow}
+use Rattle.yt_grammar.specs.Words.{Word, name, number, closes, comma, arrow}
 use Rattle.yt_grammar.specs.Faults.{Kind}
-use Rattle.yt_grammar.specs.Reading.{◌>>=◌, many}
+use Rattle.yt_grammar.specs.Reading.{many}
 use Rattle.yt_grammar.specs.Names.{Name}
 use Rattle.yt_grammar.specs.Statements.{WrittenFact, WrittenTerm, Variable, Constant, WrittenAtom, WrittenMapping, WrittenOperation, InsertFact, DeleteFact, ReplaceNull, AddMapping, WrittenChoice, ExpandFact, UnifyFact, DeleteFacts, Statement, Header, Relation, Mapping, Base, Update, Answer, End}
-use Rattle.yt_grammar.specs.Grammar.{null_word, value_word, term_word, separated, one_word, fact_words, atom_words, mapping_words, operation_words, choice_words, statement_words}
+use Rattle.yt_grammar.specs.Grammar.{value_word, term_word, separated, one_word, fact_words, atom_words, mapping_words, operation_words, choice_words, statement_words}
 use Rattle.yt_grammar.specs.Parts.{name_at, open_at, colon_at, end_at, whole, value_of, term_of, item_at, items_at, fact_at, atom_at, left_atom, right_atom, last_fact, left_at, right_at, mapping_at, facts_at}
-use Rattle.yt_grammar.specs.Forms.{Section, Beginning, Relations, Mappings, Tuples, Updates, Ended, rank, header_at, relation_at, replace_at, operation_at, update_at, choice_at, answer_at, named_at, statement_at, section_of}
+use Rattle.yt_grammar.specs.Forms.{Section, Beginning, rank, header_at, relation_at, replace_at, operation_at, update_at, choice_at, answer_at, named_at, statement_at, section_of}
 use Rattle.yt_grammar.specs.Sayable.{IsOuter, IsTerm, IsWrittenFact, IsWrittenAtom, IsWrittenMapping, IsWrittenOperation, IsWrittenChoice, IsSayable, MayStand}
 use Rattle.yt_grammar.proofs.Many.{Reads, all_again}
 

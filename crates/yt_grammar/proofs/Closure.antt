@@ -99,6 +99,7 @@ pub cycle_decided : (n : ℕ) (ms : List Rule) → Decides (has_plain_cycle n ms
 cycle_decided n ms = (there, found) where
   there : has_plain_cycle n ms ≡ true → HasPlainCycle n ms
   there e = let x = found_in_range (λ r. through (leads ms) n r r) 0 n e in (x.0, omega (arith, x.1), only_paths (leads ms) n n x.0 x.0 (omega arith) x.2)
+
   found : HasPlainCycle n ms → has_plain_cycle n ms ≡ true
   found c = in_range (λ r. through (leads ms) n r r) 0 n c.0 (omega arith) (omega (arith, c.1)) (all_paths (leads ms) n c.0 c.0 c.2)
 

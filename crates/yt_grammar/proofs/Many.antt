@@ -1,5 +1,5 @@
 -- Items with commas between, as they are read one after the other.
-use Rattle.std.proofs.Common.{◌≡◌, ℕ, zero, suc, ◌+◌, ◌<◌, ◌≤◌, Bool, true, false, List, [], ◌∷◌, ◌++◌, length, refl, sym, ap, subst, ◌∙◌, append_assoc, arith, length-append}
+use Rattle.std.proofs.Common.{◌≡◌, ℕ, zero, suc, ◌≤◌, Bool, true, false, List, [], ◌∷◌, ◌++◌, length, refl, sym, ap, subst, ◌∙◌, append_assoc, arith, length-append}
 use Rattle.std.specs.Prelude.{Result, Ok, Err, if◌then◌else◌}
 use Rattle.std.specs.List.{AllByRecursion}
 use Rattle.yt_grammar.specs.Words.{Word, comma}
@@ -89,12 +89,15 @@ more_items {A} words Good Ends ws xs rest x after ys left found l e =
     let b : left ≡ rest = ap (λ (q : List A × List Word). q.1) p in
     let whole : Items words Good Ends ws (x ∷ ys) left = by ys l.some l.is l.good in
     subst (λ (zs : List A). Items words Good Ends ws zs rest) a (subst (λ (r : List Word). Items words Good Ends ws (x ∷ ys) r) b whole) where
-  by : (ys : List A) → 1 ≤ length ys → after ≡ separated words ys ++ l.tail → AllByRecursion Good ys → Items words Good Ends ws (x ∷ ys) left
-  by [] some is good = absurd (omega arith)
-  by (y ∷ zs) some is good = record {
-    some = omega arith; good = (found.0, good); tail = l.tail; ends = l.ends;
-    is = found.1 ∙ ap (λ (vs : List Word). words x ++ comma ∷ vs) is ∙ sym (append_assoc (words x) (comma ∷ separated words (y ∷ zs)) l.tail);
-  }
+      by : (ys : List A) → 1 ≤ length ys → after ≡ separated words ys ++ l.tail → AllByRecursion Good ys → Items words Good Ends ws (x ∷ ys) left
+      by [] some is good = absurd (omega arith)
+      by (y ∷ zs) some is good = record {
+        some = omega arith;
+        good = (found.0, good);
+        tail = l.tail;
+        ends = l.ends;
+        is = found.1 ∙ ap (λ (vs : List Word). words x ++ comma ∷ vs) is ∙ sym (append_assoc (words x) (comma ∷ separated words (y ∷ zs)) l.tail);
+      }
 
 abbrev More : {A : Type 0} → (List Word → Result (A × Bool × List Word) Kind) → (A → List Word) → (A → Type 0) → (List Word → List Word → Type 0) → ℕ → Type 0
 More {A} one words Good Ends n = (ws : List Word) (xs : List A) (rest : List Word) → length ws ≤ n → many n one ws ≡ Ok (xs, rest) → Items words Good Ends ws xs rest

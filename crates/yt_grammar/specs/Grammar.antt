@@ -1,5 +1,5 @@
 -- The grammar: the words of each statement. Numbers count by their values, so each statement has one list of words.
-use Rattle.std.specs.Prelude.{ℕ, pos, List, [], ◌∷◌, ◌++◌, map, codes}
+use Rattle.std.specs.Prelude.{pos, List, [], ◌∷◌, ◌++◌, codes}
 use Rattle.yt_model.specs.Values.{NullName, Datum, Number, Text, Unknown}
 use Rattle.yt_grammar.specs.Words.{Word, name, number, null, text, opens, closes, comma, colon, arrow}
 use Rattle.yt_grammar.specs.Statements.{WrittenFact, WrittenTerm, Variable, Constant, WrittenAtom, WrittenMapping, WrittenOperation, InsertFact, DeleteFact, ReplaceNull, AddMapping, WrittenChoice, ExpandFact, UnifyFact, DeleteFacts, Statement, Header, Relation, Mapping, Base, Update, Answer, End}

@@ -1,9 +1,9 @@
 -- Which statements have a spelling: those that some words say, where they may stand.
-use Rattle.std.specs.Prelude.{◌≡◌, ℕ, ◌≤◌, ◌⊎◌, List, length}
+use Rattle.std.specs.Prelude.{◌≡◌, ℕ, ◌≤◌, ◌⊎◌, length}
 use Rattle.std.specs.List.{AllByRecursion}
-use Rattle.yt_model.specs.Values.{NullName, Datum, Number, Text, Unknown}
+use Rattle.yt_model.specs.Values.{Datum, Number, Text, Unknown}
 use Rattle.yt_grammar.specs.Statements.{WrittenFact, WrittenTerm, Variable, Constant, WrittenAtom, WrittenMapping, WrittenOperation, InsertFact, DeleteFact, ReplaceNull, AddMapping, WrittenChoice, ExpandFact, UnifyFact, DeleteFacts, Statement, Header, Relation, Mapping, Base, Update, Answer, End}
-use Rattle.yt_grammar.specs.Forms.{Section, Beginning, Relations, Mappings, Tuples, Updates, Ended, rank, section_of}
+use Rattle.yt_grammar.specs.Forms.{Section, Beginning, rank, section_of}
 
 -- a null is named by its outer form
 abbrev pub IsOuter : Datum → Type 0

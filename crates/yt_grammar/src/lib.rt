@@ -6,7 +6,11 @@
 mod laws;
 mod rows;
 
-pub use laws::{closure_decides, statements_are_read_again, words_are_read_again};
+pub use laws::{
+    bytes_are_text_first, closure_decides, every_input_has_one_answer, format_2_has_more_relations,
+    nothing_else_is_read, sessions_are_read_again, spelled_sessions_are_valid,
+    statements_are_read_again, words_are_read_again,
+};
 pub use rows::{check_faults, form_faults, lexical_faults, printed_sessions};
 
 /// What is missing at the first token of a line that does not fit its form.

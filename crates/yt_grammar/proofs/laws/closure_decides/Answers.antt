@@ -1,5 +1,4 @@
 use Rattle.yt_grammar.proofs.Closure.{paths_decided, cycle_decided}
-use Rattle.yt_grammar.proofs.Many.{all_again, many_only}
 use Rattle.yt_grammar.proofs.laws.closure_decides.Goals as goal
 
 pub returns-clause-paths : goal.returns-clause-paths
