@@ -1,0 +1,13 @@
+use Rattle.std.proofs.Common.{◌≡◌, map, ◌||◌}
+use Rattle.yt_model.specs.Repository.{IsRepository, has}
+use Rattle.yt_model.specs.Values.{Fact}
+use Rattle.yt_base.specs.Meanings.{fact_of}
+use Rattle.yt_facts.proofs.plain.PlainFactsTryCopy.copy.Given as goal
+
+-- What has been copied and what is left are all.
+abbrev pub invariant-loop-tuple : goal.invariant-loop-tuple
+invariant-loop-tuple l =
+    (goal.iterator-loop-tuple).can_next l.tuple-iterator ×
+    (goal.iterator-loop-tuple).is_finite l.tuple-iterator ×
+    IsRepository l.copy ×
+    ((s : Fact) → (has l.copy s || has (map fact_of l.tuple-iterator) s) ≡ has l.self s)

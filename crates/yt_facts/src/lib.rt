@@ -1,0 +1,8 @@
+//! Sets of tuples: a plain ordered set, a set seen through writes that are not made, and a set with an index on each
+//! column. All are `Facts`, and mean the list of their tuples in order.
+#![tactic(auto)]
+
+mod plain;
+mod scanned;
+
+pub use crate::plain::PlainFacts;

@@ -1,0 +1,155 @@
+//! An ordered set of tuples.
+ghost use Rattle.std.specs.Prelude.{◌≡◌, [], not, length, map, IfOk, OnOk, OnErr, IfErr};
+ghost use Rattle.yt_model.specs.Repository.{has, change, Insert, Delete};
+ghost use Rattle.yt_base.specs.Meanings.{fact_of};
+
+use crate::scanned::{is_scanned, of_relation};
+use std::alloc::Global;
+use std::collections::BTreeSet;
+use std::marker::Model;
+use std::ops::Bound;
+use yt_base::{Facts, List, Memory, TryCopy, Tuple, TupleList, Value};
+
+/// A set of tuples in a balanced tree: insertions, deletions and cursors take steps as many as the logarithm of its
+/// size. Only a scan by column goes over the relation. Contracts see the list of its tuples, in order.
+#[derive(Drop)]
+pub struct PlainFacts {
+    tuples: BTreeSet<Tuple>,
+    alloc: Global,
+}
+
+impl Model for PlainFacts {
+    ghost use Rattle.std.specs.Prelude.{List, map};
+    ghost use Rattle.yt_model.specs.Values.{Fact};
+
+    ghost Value = { List Fact };
+
+    ghost use Rattle.yt_model.specs.Repository.{IsRepository};
+    ghost use Rattle.yt_base.specs.Meanings.{fact_of};
+
+    ghost view = { λ f. map fact_of f.tuples.keys };
+
+    ghost invariant = { λ f. IsRepository (map fact_of f.tuples.keys) };
+}
+
+impl PlainFacts {
+    /// The empty set. It takes no memory.
+    pub fn new(alloc: Global) -> PlainFacts
+        ensures empty { result ≡ [] }
+    {
+        PlainFacts {
+            tuples: BTreeSet::new(alloc),
+            alloc,
+        }
+    }
+
+    /// How many tuples there are.
+    pub fn len(&self) -> usize
+        ensures length { result ≡ length self.now }
+    {
+        self.tuples.len()
+    }
+
+    /// Puts a tuple in, and tells whether it is new. It is refused only for want of memory; it then hands the tuple
+    /// back, and the set is unchanged.
+    pub fn insert(&mut self, tuple: Tuple) -> Result<bool, (Tuple, Memory)>
+        ensures changed { IfOk result (λ changed. changed ≡ not (has self.old (fact_of tuple))) }
+        ensures ok { OnOk result (self.new ≡ change self.old (Insert (fact_of tuple))) }
+        ensures given_back { IfErr result (λ refused. refused.0 ≡ tuple) }
+        ensures err { OnErr result (self.new ≡ self.old) }
+    {
+        match self.tuples.insert(tuple) {
+            Ok(added) => return Ok(added),
+            Err(refused) => return Err((refused.value, Memory)),
+        }
+    }
+
+    /// Takes a tuple away, and tells whether it was there. It takes no memory.
+    pub fn remove(&mut self, tuple: &Tuple) -> bool
+        ensures changed { result ≡ has self.old (fact_of tuple.now) }
+        ensures after { self.new ≡ change self.old (Delete (fact_of tuple.now)) }
+    {
+        self.tuples.remove(tuple)
+    }
+
+    /// The tuples in order. It is refused only for want of memory.
+    pub fn list(&self, alloc: Global) -> Result<TupleList, Memory>
+        ensures tuples { IfOk result (λ list. map fact_of list.items ≡ self.now) }
+    {
+        let mut list = List::new(alloc);
+        list.reserve(self.tuples.len())?;
+        for tuple in self.tuples.iter() {
+            list.push(tuple.copy(alloc)?)?;
+        }
+        Ok(list)
+    }
+}
+
+impl TryCopy for PlainFacts {
+    ghost use Rattle.std.specs.Prelude.{List};
+    ghost use Rattle.yt_model.specs.Values.{Fact};
+
+    ghost Meaning = { List Fact };
+
+    ghost meaning = { λ D. D };
+
+    fn copy(&self, alloc: Global) -> Result<PlainFacts, Memory>
+        ensures same { IfOk result (λ copy. copy ≡ self.now) }
+    {
+        let mut copy = PlainFacts::new(alloc);
+        for tuple in self.tuples.iter() {
+            copy.insert(tuple.copy(alloc)?)?;
+        }
+        Ok(copy)
+    }
+}
+
+impl Facts for PlainFacts {
+    ghost tuples = { λ D. D };
+
+    fn contains(&self, tuple: &Tuple) -> bool {
+        self.tuples.contains(tuple)
+    }
+
+    fn first(&self, relation: u16) -> Option<&Tuple> {
+        let least = Tuple {
+            relation,
+            values: List::new(self.alloc),
+        };
+        let found = self
+            .tuples
+            .range((Bound::Included(&least), Bound::Unbounded))
+            .next();
+        of_relation(found, relation)
+    }
+
+    fn after(&self, tuple: &Tuple) -> Option<&Tuple> {
+        let found = self
+            .tuples
+            .range((Bound::Excluded(tuple), Bound::Unbounded))
+            .next();
+        of_relation(found, tuple.relation)
+    }
+
+    fn scan(
+        &self,
+        relation: u16,
+        column: u16,
+        value: &Value,
+        past: Option<&Tuple>,
+    ) -> Option<&Tuple> {
+        let least = Tuple {
+            relation,
+            values: List::new(self.alloc),
+        };
+        for found in self
+            .tuples
+            .range((Bound::Included(&least), Bound::Unbounded))
+        {
+            if is_scanned(found, relation, column, value, past) {
+                return Some(found);
+            }
+        }
+        None
+    }
+}
