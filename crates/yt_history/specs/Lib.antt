@@ -1,0 +1,3 @@
+pub mod HistoryWords
+pub mod AbortRows
+pub mod CascadeRows
