@@ -1,3 +1,5 @@
 pub mod HistoryWords
 pub mod AbortRows
 pub mod CascadeRows
+pub mod Admissible
+pub mod AnyOrder

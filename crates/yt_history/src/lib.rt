@@ -3,4 +3,5 @@
 //! The definitions stand in `specs/`. Each function here is a law: its contract is the statement and its body is empty.
 #![tactic(auto)]
 
+pub mod any_order;
 pub mod rows;
