@@ -4,3 +4,4 @@ pub mod Attempts
 pub mod ValueTests
 pub mod Firsts
 pub mod Theorem
+pub mod Nulls

@@ -3,3 +3,4 @@ pub mod AbortRows
 pub mod CascadeRows
 pub mod Admissible
 pub mod AnyOrder
+pub mod Nulls

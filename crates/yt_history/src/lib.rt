@@ -4,4 +4,5 @@
 #![tactic(auto)]
 
 pub mod any_order;
+pub mod laws;
 pub mod rows;
