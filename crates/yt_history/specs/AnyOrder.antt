@@ -1,0 +1,49 @@
+-- The theorem of histories: attempts in any order leave what the serial machine leaves, which takes the updates whole, one after the other in number order.
+use Rattle.std.specs.Prelude.{◌≡◌, ℕ, true, List, map, length, Option, Some, None}
+use Rattle.std.specs.List.{list_all}
+use Rattle.yt_machine.specs.Updates.{Update, Session, Settings, below, committed}
+use Rattle.yt_machine.specs.Standings.{is_quiet}
+use Rattle.yt_machine.specs.Effects.{Event}
+use Rattle.yt_machine.specs.Histories.{Log, empty_log, after}
+use Rattle.yt_machine.specs.Serial.{Turn, Stop, serial, committed_turns, committed_finishes, all_turns, first_stop}
+use Rattle.yt_machine.specs.Recorded.{is_recorded}
+use Rattle.yt_model.specs.Values.{Fact}
+use Rattle.yt_model.specs.Mappings.{Rule, AllHold}
+use Rattle.yt_steps.specs.Chase.{every, caused, whole_chase, caused_chase}
+use Rattle.yt_steps.specs.Serial.{SerialResult, told, serial_result}
+use Rattle.yt_steps.specs.Shifting.{outer_told}
+use Rattle.yt_history.specs.Admissible.{IsAdmissible, requests}
+
+-- The turn at the serial machine: by attempt 0, and looking at every violation.
+abbrev pub first_turn : (ms : List Rule) (B : ℕ) → Turn (caused_chase ms B) → Turn (whole_chase ms B)
+first_turn ms B t = record { number = t.number; attempt = 0; operation = t.operation; answers = t.answers }
+
+-- What the serial machine tells of these turns.
+abbrev pub serially : (ms : List Rule) (B : ℕ) → List Fact → List (Turn (caused_chase ms B)) → SerialResult
+serially ms B D ts = told every ms B (serial (whole_chase ms B) D (map (first_turn ms B) ts))
+
+-- The committed repository, with the attempts of its nulls.
+abbrev pub left : (ms : List Rule) (B : ℕ) → Session (caused_chase ms B) → List (Update (caused_chase ms B)) → List Fact
+left ms B S us = below (caused_chase ms B) S.base us (committed (caused_chase ms B) us)
+
+-- What is told of the updates by the outer forms of all nulls: the finishes of the committed ones that are not withdrawn, this stop, and the committed repository.
+abbrev pub tells : (ms : List Rule) (B : ℕ) → Session (caused_chase ms B) → List (Update (caused_chase ms B)) → Option (Stop (caused_chase ms B)) → SerialResult
+tells ms B S us stop = outer_told (told caused ms B (record { finishes = committed_finishes (caused_chase ms B) 1 us; stop = stop; repository = left ms B S us }))
+
+-- What the events that led to the updates come to.
+pub record IsSerial (ms : List Rule) (B : ℕ) (s : Settings) (S : Session (caused_chase ms B)) (es : List (Event (caused_chase ms B))) (us : List (Update (caused_chase ms B))) : Type 0 where
+  -- the committed updates that are not withdrawn, with the answers delivered to them, have the finishes that the serial machine gives them, and leave its repository
+  pub committed : serially ms B S.base (committed_turns (caused_chase ms B) 1 us) ≡ tells ms B S us None
+  -- every mapping in force holds there
+  pub hold : AllHold ms (left ms B S us)
+  -- where it is quiet, that is the serial machine's whole result over all updates that are not withdrawn, with the answers delivered and then those in the inbox
+  pub quiet : is_quiet (caused_chase ms B) s us ≡ true → serially ms B S.base (all_turns (caused_chase ms B) 1 us) ≡ tells ms B S us (first_stop (caused_chase ms B) 1 us)
+  -- and if besides all updates handed in are admitted, none was withdrawn and none was answered live, it is the serial machine's result on the session
+  pub session : list_all is_recorded es ≡ true → length us ≡ length S.submissions → is_quiet (caused_chase ms B) s us ≡ true
+      → serial_result ms B S.base (requests ms B S) ≡ tells ms B S us (first_stop (caused_chase ms B) 1 us)
+
+-- Whatever the order of admissions, steps, deliveries, answers and withdrawals, the retries and the kind of dependence.
+abbrev pub AnyOrder : Type 0
+AnyOrder =
+    (ms : List Rule) (B : ℕ) (s : Settings) (S : Session (caused_chase ms B)) (es : List (Event (caused_chase ms B))) (l : Log (caused_chase ms B)) → IsAdmissible ms B S
+    → after (caused_chase ms B) s S (empty_log (caused_chase ms B)) es ≡ Some l → IsSerial ms B s S es l.updates

@@ -1,0 +1,6 @@
+pub mod HistoryWords
+pub mod AbortRows
+pub mod CascadeRows
+pub mod Admissible
+pub mod AnyOrder
+pub mod Nulls

@@ -1,0 +1,17 @@
+//! The headline: attempts in any order leave what the serial machine leaves.
+ghost use Rattle.yt_history.specs.AnyOrder.{AnyOrder};
+ghost use Rattle.yt_history.specs.Nulls.{NullsArePresent};
+
+/// Whatever the order of admissions, steps, deliveries, answers and withdrawals, with restarts and cascades: the committed
+/// updates that are not withdrawn have the finishes of the serial machine and leave its repository, nulls by their outer
+/// forms, in which every mapping in force holds; and a quiet history is the serial machine's whole result.
+pub fn any_order_is_serial()
+    ensures { AnyOrder }
+{}
+
+/// Every null (u, a, k) of an update u that stands in the trail of an update i has u at most i and a the present attempt of
+/// u, which is neither withdrawn nor spent nor refused, and k at most the nulls that it drew; so outer forms tell the tuples
+/// of every view apart.
+pub fn nulls_are_of_present_attempts()
+    ensures { NullsArePresent }
+{}
