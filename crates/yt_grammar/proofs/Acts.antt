@@ -17,7 +17,7 @@ use Rattle.yt_grammar.specs.Printing.{written_fact, written_choice}
 use Rattle.yt_grammar.specs.Validity.{AreNames, IsName, IsRelation, IsFact, IsChoice}
 use Rattle.yt_grammar.proofs.Called.{at_seam}
 use Rattle.yt_grammar.proofs.Means.{fact_means, each_again}
-use Rattle.yt_grammar.proofs.Spoken.{choice_printed, choice_sayable}
+use Rattle.yt_grammar.proofs.Spoken.{choice_printed, choice_sayable, choice_members}
 use Rattle.yt_grammar.proofs.Runs.{Runs}
 use Rattle.yt_grammar.proofs.Build.{so_far, room_left}
 
@@ -74,6 +74,7 @@ module _ (f : ℕ) (relations : List RelationSchema) (mappings : List SessionMap
           in_order = omega arith;
           sayable = choice_sayable relations names some (length before + 1) choice all.0;
           words = ((refl, tt), ((called, tt), choice_printed relations names some (length before + 1) (omega arith) choice all.0));
+          members = choice_members relations names some (length before + 1) choice all.0;
         },
         (
           so_far f relations mappings base (before ++ answered_so u (given ++ choice ∷ []) ∷ []),

@@ -26,3 +26,4 @@ mod Grows
 mod Kept
 mod Held
 mod Once
+mod Direct

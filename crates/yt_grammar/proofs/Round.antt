@@ -13,15 +13,17 @@ use Rattle.yt_grammar.specs.Sessions.{SessionMapping, SessionUpdate, SessionData
 use Rattle.yt_grammar.specs.Cycles.{HasPlainCycle}
 use Rattle.yt_grammar.specs.Checks.{rules_of}
 use Rattle.yt_grammar.specs.Lines.{lines_from, begun, Spells}
-use Rattle.yt_grammar.specs.Printing.{written_fact, written_mapping, update_statements, statements_of, printed, written_choice}
+use Rattle.yt_grammar.specs.Printing.{written_fact, written_mapping, update_statements, statements_of, line_text, printed, written_choice}
 use Rattle.yt_grammar.specs.Validity.{AreNew, IsMapping, IsSession, enactments}
 use Rattle.yt_grammar.proofs.Ascii.{text_read}
 use Rattle.yt_grammar.proofs.Closure.{cycle_grows}
 use Rattle.yt_grammar.proofs.Paper.{split_lines, laid_line, IsLine}
 use Rattle.yt_grammar.proofs.Spoken.{ArePrinted, front_all, back_all}
-use Rattle.yt_grammar.proofs.Runs.{Fits, Runs, last_section, last_joined, runs_on, whole_read, runs_printed, header_words, printed_line, spoken_words}
+use Rattle.yt_grammar.proofs.Runs.{Fits, Runs, last_section, last_joined, runs_on, whole_read, runs_printed, runs_members, header_words, printed_line, spoken_words}
 use Rattle.yt_grammar.proofs.Build.{so_far, next_names, Within, relations_run, still_relations, mappings_run, mappings_within, base_run, base_within}
 use Rattle.yt_grammar.proofs.Whole.{Coming, updates_run, still_updates}
+use Rattle.yt_grammar.specs.Texts.{HasMembers, statement_text}
+use Rattle.yt_grammar.proofs.Direct.{statement_laid}
 use Rattle.yt_grammar.proofs.Utf.{laid_text, lines_text}
 
 -- ---- fronts and backs
@@ -59,7 +61,11 @@ updates_within s section (u ∷ us) w =
 end_fits : (f : ℕ) (section : Section) → Within section 4 → Fits section f End
 end_fits f section w =
     let high : rank section ≤ 4 = w.high in
-    record { behind = tt; begun = w.low; open_ = omega arith; in_order = omega arith; sayable = tt; words = ((refl, tt), tt) }
+    record { behind = tt; begun = w.low; open_ = omega arith; in_order = omega arith; sayable = tt; words = ((refl, tt), tt); members = tt }
+
+each_directly : (sts : List Statement) → AllByRecursion HasMembers sts → flat_map line_text sts ≡ flat_map (λ st. statement_text st ++ 10 ∷ []) sts
+each_directly [] all = refl
+each_directly (st ∷ sts) all = rw (statement_laid st all.0, each_directly sts all.1) refl
 
 module _ (s : SessionData) (valid : IsSession s) where
   abbrev parts : (List Statement) × (List Statement) × (List Statement) × (List Statement)
@@ -170,3 +176,10 @@ module _ (s : SessionData) (valid : IsSession s) where
       text_read (printed s) printed_is_text
       ∙ ap (lines_from 0 0 begun) (split_lines printed_line (statements_of s) (line_each (statements_of s) all_printed))
       ∙ whole_read s.format behind s valid.format runs ends
+
+  all_members : AllByRecursion HasMembers (statements_of s)
+  all_members = (tt, runs_members Relations (empty_session s.format) s behind runs)
+
+  -- the lines, written directly
+  pub printed_directly : printed s ≡ flat_map (λ st. statement_text st ++ 10 ∷ []) (statements_of s)
+  printed_directly = each_directly (statements_of s) all_members

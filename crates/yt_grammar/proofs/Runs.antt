@@ -9,6 +9,7 @@ use Rattle.yt_grammar.specs.Statements.{Statement, Header, Relation, Mapping, Ba
 use Rattle.yt_grammar.specs.Grammar.{statement_words}
 use Rattle.yt_grammar.specs.Layout.{laid_out, IsSpoken}
 use Rattle.yt_grammar.specs.Forms.{Section, Beginning, Relations, Ended, rank, section_of}
+use Rattle.yt_grammar.specs.Texts.{HasMembers}
 use Rattle.yt_grammar.specs.Sayable.{IsSayable, MayStand}
 use Rattle.yt_grammar.specs.Sessions.{SessionData, empty_session}
 use Rattle.yt_grammar.specs.Checks.{taken}
@@ -33,6 +34,7 @@ pub record Fits (section : Section) (format : ℕ) (st : Statement) : Type 0 whe
   pub in_order : rank section ≤ rank (section_of st)
   pub sayable : IsSayable format st
   pub words : ArePrinted (statement_words st)
+  pub members : HasMembers st
 
 may_stand : (section : Section) (st : Statement) → IsBehind st → 1 ≤ rank section → rank section ≤ rank (section_of st) → MayStand section st
 may_stand section (Header f) behind low le = absurd behind
@@ -122,6 +124,11 @@ whole_read f sts b format run last =
     let first = line_read 0 0 Beginning (empty_session 1) (empty_session f) (Header f) (map printed_line sts ++ [] ∷ []) tt (omega arith) format (header_words f format) refl in
     let others = runs_read (0 + 1) (0 + length (printed_line (Header f)) + 1) Relations (empty_session f) b sts ([] ∷ []) run in
     first ∙ others.same ∙ ap (λ (x : Section). lines_from (0 + 1 + length sts) others.place (record { section = x; session = b }) ([] ∷ [])) last ∙ ended (0 + 1 + length sts) others.place b
+
+-- all statements have their members
+pub runs_members : (section : Section) (a b : SessionData) (sts : List Statement) → Runs section a sts b → AllByRecursion HasMembers sts
+runs_members section a b [] run = tt
+runs_members section a b (st ∷ sts) run = (run.0.members, runs_members (section_of st) run.1.0 b sts run.1.2)
 
 -- all words of the statements can be printed
 pub runs_printed : (section : Section) (a b : SessionData) (sts : List Statement) → Runs section a sts b → AllByRecursion (λ st. ArePrinted (statement_words st)) sts

@@ -12,10 +12,11 @@ use Rattle.yt_grammar.specs.Names.{Name}
 use Rattle.yt_grammar.specs.Statements.{WrittenFact, WrittenTerm, WrittenAtom}
 use Rattle.yt_grammar.specs.Grammar.{value_word, term_word, separated, one_word, fact_words, atom_words, mapping_words, choice_words}
 use Rattle.yt_grammar.specs.Layout.{IsSpoken}
+use Rattle.yt_grammar.specs.Texts.{HasValue, HasTerm, HasAtoms, HasSides, ChoiceHasMembers}
 use Rattle.yt_grammar.specs.Sayable.{IsOuter, IsTerm, IsWrittenFact, IsWrittenAtom, IsWrittenMapping, IsWrittenChoice}
 use Rattle.yt_grammar.specs.Sessions.{RelationSchema, SessionMapping, relation_names}
 use Rattle.yt_grammar.specs.Printing.{name_of, written_fact, written_term, written_atom, written_mapping, written_choice}
-use Rattle.yt_grammar.specs.Validity.{IsName, AreNew, AreNames, IsRelation, IsValue, HasColumns, IsFact, IsSlot, IsAtom, IsMapping, IsChoice}
+use Rattle.yt_grammar.specs.Validity.{IsName, AreNew, AreNames, IsRelation, IsValue, HasColumns, IsFact, IsSlot, IsAtom, IsSide, IsMapping, IsChoice}
 
 -- a text is UTF-8
 abbrev pub IsText : Word → Type 0
@@ -117,6 +118,14 @@ module _ (relations : List RelationSchema) (names : AreNames (relation_names rel
   choice_sayable most (Unify t) good = fact_sayable most t good
   choice_sayable most (Drop ts) good = let n : length (map (written_fact relations) ts) ≡ length ts = length-map ts (written_fact relations) in let low : 1 ≤ length ts = good.0 in (omega arith, facts_sayable most ts good.1)
 
+  pub choice_members : (most : ℕ) (choice : Choice) → IsChoice relations most choice → ChoiceHasMembers (written_choice relations choice)
+  choice_members most Expand good = tt
+  choice_members most (Unify t) good = (fact_sayable most t good).0
+  choice_members most (Drop ts) good =
+      let n : length (map (written_fact relations) ts) ≡ length ts = length-map ts (written_fact relations) in
+      let low : 1 ≤ length ts = good.0 in
+      (omega arith, all_mapped HasValue (IsFact relations most) (written_fact relations) (λ t g. (fact_sayable most t g).0) ts good.1)
+
   module _ (m : SessionMapping) (good : IsMapping relations m) where
     slot_printed : (slot : Slot) → IsSlot (length m.variables) slot → IsPrinted (term_word (written_term m.variables slot))
     slot_printed (Var v) g = (named [] m.variables v good.names g, tt)
@@ -168,3 +177,12 @@ module _ (relations : List RelationSchema) (names : AreNames (relation_names rel
       all_mapped IsWrittenAtom (IsAtom relations (length m.variables)) (written_atom relations m.variables) atom_sayable m.rule.left good.left.2,
       all_mapped IsWrittenAtom (IsAtom relations (length m.variables)) (written_atom relations m.variables) atom_sayable m.rule.right good.right.2,
     )
+
+    atoms_members : (atoms : List Pattern) → IsSide relations (length m.variables) atoms → HasAtoms (map (written_atom relations m.variables) atoms)
+    atoms_members atoms side =
+        let n : length (map (written_atom relations m.variables) atoms) ≡ length atoms = length-map atoms (written_atom relations m.variables) in
+        let low : 1 ≤ length atoms = side.0 in
+        (omega arith, all_mapped HasTerm (IsAtom relations (length m.variables)) (written_atom relations m.variables) (λ a g. (atom_sayable a g).0) atoms side.2)
+
+    pub mapping_members : HasSides (written_mapping relations m)
+    mapping_members = (atoms_members m.rule.left good.left, atoms_members m.rule.right good.right)

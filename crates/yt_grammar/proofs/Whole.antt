@@ -11,6 +11,7 @@ use Rattle.yt_grammar.specs.Names.{Name, is_one_of}
 use Rattle.yt_grammar.specs.Statements.{AddMapping, Answer}
 use Rattle.yt_grammar.specs.Grammar.{operation_words}
 use Rattle.yt_grammar.specs.Forms.{Section, Updates, rank}
+use Rattle.yt_grammar.specs.Texts.{OperationHasMembers}
 use Rattle.yt_grammar.specs.Sayable.{IsWrittenOperation}
 use Rattle.yt_grammar.specs.Sessions.{RelationSchema, SessionMapping, SessionUpdate, SessionData, mapping_names, labels, curators, answer_count, is_initial, added_mappings, most_answers}
 use Rattle.yt_grammar.specs.Cycles.{HasPlainCycle}
@@ -18,7 +19,7 @@ use Rattle.yt_grammar.specs.Checks.{mappings_full, rules_of, add_mapping, operat
 use Rattle.yt_grammar.specs.Printing.{written_mapping, no_mapping, written_operation, written_choice, update_statements}
 use Rattle.yt_grammar.specs.Validity.{AreNew, IsValue, IsMapping, IsOperation, AreUpdates, enacted, enactments, sinces, IsSession}
 use Rattle.yt_grammar.proofs.Means.{fact_means, nulls_again}
-use Rattle.yt_grammar.proofs.Spoken.{ArePrinted, value_printed, value_outer, fact_printed, fact_sayable, mapping_printed, mapping_sayable}
+use Rattle.yt_grammar.proofs.Spoken.{ArePrinted, value_printed, value_outer, fact_printed, fact_sayable, mapping_printed, mapping_sayable, mapping_members}
 use Rattle.yt_grammar.proofs.Runs.{Runs, last_section, runs_on}
 use Rattle.yt_grammar.proofs.Build.{so_far, room_left, next_names, Within, mapping_added, front_acyclic}
 use Rattle.yt_grammar.proofs.Acts.{answered_so, answers_run, curator_room}
@@ -57,6 +58,7 @@ module _ (s : SessionData) (valid : IsSession s) where
     performed : operation_of (so_far s.format s.relations done s.base before) (written_operation s op) ≡ Ok (op, so_far s.format s.relations after s.base before)
     printed : ArePrinted (operation_words (written_operation s op))
     sayable : IsWrittenOperation s.format (written_operation s op)
+    members : OperationHasMembers (written_operation s op)
     coming : Coming after left (enactments (length before + 1 + 1) us)
 
   added_more : (done : List SessionMapping) (m : SessionMapping) → length (added_mappings (done ++ m ∷ [])) ≤ length (added_mappings done) + 1
@@ -95,6 +97,7 @@ module _ (s : SessionData) (valid : IsSession s) where
         performed = rw (found, added_then, here) refl;
         printed = subst (λ (x : SessionMapping). ArePrinted (operation_words (AddMapping (written_mapping s.relations x)))) (sym found) ((refl, tt), mapping_printed s.relations valid.relation_names valid.relations m coming.good.0 coming.names.0);
         sayable = subst (λ (x : SessionMapping). IsWrittenOperation s.format (AddMapping (written_mapping s.relations x))) (sym found) (coming.two (omega arith), mapping_sayable s.relations valid.relation_names valid.relations m coming.good.0);
+        members = subst (λ (x : SessionMapping). OperationHasMembers (AddMapping (written_mapping s.relations x))) (sym found) (mapping_members s.relations valid.relation_names valid.relations m coming.good.0);
         coming = record {
           whole = coming.whole ∙ sym (append_assoc done (m ∷ []) more);
           names = next_names (λ (x : SessionMapping). x.name) done m (mapping_names more) coming.names.2;
@@ -115,6 +118,7 @@ module _ (s : SessionData) (valid : IsSession s) where
     performed = rw (fact_means s.relations (length before) t valid.relation_names good) refl;
     printed = ((refl, tt), fact_printed s.relations valid.relation_names valid.relations (length before) (omega arith) t good);
     sayable = fact_sayable s.relations valid.relation_names valid.relations (length before) t good;
+    members = (fact_sayable s.relations valid.relation_names valid.relations (length before) t good).0;
   }
   act (Removes t) done more before us lt coming good = record {
     after = done;
@@ -123,6 +127,7 @@ module _ (s : SessionData) (valid : IsSession s) where
     performed = rw (fact_means s.relations (length before) t valid.relation_names good) refl;
     printed = ((refl, tt), fact_printed s.relations valid.relation_names valid.relations (length before) (omega arith) t good);
     sayable = fact_sayable s.relations valid.relation_names valid.relations (length before) t good;
+    members = (fact_sayable s.relations valid.relation_names valid.relations (length before) t good).0;
   }
   act (Replaces n d) done more before us lt coming good =
       let both : AllByRecursion (IsValue (length before)) (Unknown n ∷ d ∷ []) = (good.0, (good.1, tt)) in
@@ -133,6 +138,7 @@ module _ (s : SessionData) (valid : IsSession s) where
         performed = rw (nulls_again (length before) (Unknown n ∷ d ∷ []) both) refl;
         printed = ((refl, tt), (value_printed (length before) (omega arith) (Unknown n) good.0, ((refl, tt), (value_printed (length before) (omega arith) d good.1, tt))));
         sayable = (good.0.0, value_outer (length before) d good.1);
+        members = tt;
       }
   act (Enacts place) done more before us lt coming good = enact place done more before us coming
 
@@ -161,7 +167,7 @@ module _ (s : SessionData) (valid : IsSession s) where
       let n : length before + 1 ≡ length (before ++ u ∷ []) = omega (arith, length-append before (u ∷ [])) in
       let others = updates_run Updates a.after a.left (before ++ u ∷ []) us (record { low = omega arith; high = omega arith }) (whole ∙ sym (append_assoc before (u ∷ []) us))
       (subst (λ k. Coming a.after a.left (enactments (k + 1) us)) n a.coming) (next_names (λ (x : SessionUpdate). x.label) before u (labels us) new.2) (subst (λ k. AreUpdates s.relations k us) n all.1) in (
-        record { behind = tt; begun = w.low; open_ = omega arith; in_order = high; sayable = a.sayable; words = ((refl, tt), ((new.0, tt), ((all.0.0, tt), a.printed))) },
+        record { behind = tt; begun = w.low; open_ = omega arith; in_order = high; sayable = a.sayable; words = ((refl, tt), ((new.0, tt), ((all.0.0, tt), a.printed))); members = a.members },
         (
           so_far s.format s.relations a.after s.base (before ++ answered_so u [] ∷ []),
           update_added done a.after before u us new.1 lt few a.performed,

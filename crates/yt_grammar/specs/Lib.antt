@@ -15,3 +15,4 @@ pub mod Lines
 pub mod Layout
 pub mod Printing
 pub mod Validity
+pub mod Texts

@@ -24,16 +24,16 @@ value_text inner (Number z) = signed_decimal z
 value_text inner (Text t) = quoted t
 value_text inner (Unknown n) = null_name_text inner n
 
--- the values with a comma and a space between
-abbrev pub values_text : Bool → List Datum → List ℕ
-values_text inner [] = []
-values_text inner (d ∷ ds) = value_text inner d ++ flat_map (λ e. 44 ∷ 32 ∷ value_text inner e) ds
+-- items with a comma and a space between
+abbrev pub joined_text : {A : Type 0} → (A → List ℕ) → List A → List ℕ
+joined_text text [] = []
+joined_text text (x ∷ xs) = text x ++ flat_map (λ y. 44 ∷ 32 ∷ text y) xs
 
 -- A tuple: its relation and its values. One that says that a mapping was put in force is `*` and its number.
 abbrev pub tuple_text : List RelationSchema → Bool → Fact → List ℕ
 tuple_text relations inner t =
-    if t.relation == force_relation then 42 ∷ values_text inner t.values
-    else name_of (relation_names relations) t.relation ++ (40 ∷ (values_text inner t.values ++ 41 ∷ []))
+    if t.relation == force_relation then 42 ∷ joined_text (value_text inner) t.values
+    else name_of (relation_names relations) t.relation ++ (40 ∷ (joined_text (value_text inner) t.values ++ 41 ∷ []))
 
 -- A tuple, an atom and a mapping as they are written, with names in place of numbers.
 abbrev pub written_fact : List RelationSchema → Fact → WrittenFact

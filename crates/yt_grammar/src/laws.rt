@@ -1,7 +1,8 @@
 //! Laws of the language.
 
-ghost use Rattle.std.specs.Prelude.{◌≡◌, ◌⊎◌, ℕ, Bool, true, false, pos, List, [], ◌∷◌, ◌++◌, length, Ok, Err, Decides};
-ghost use Rattle.yt_model.specs.Mappings.{Rule};
+ghost use Rattle.std.specs.Prelude.{◌≡◌, ◌⊎◌, ℕ, Bool, true, false, pos, List, [], ◌∷◌, ◌++◌, length, ◌==◌, flat_map, Ok, Err, Decides};
+ghost use Rattle.yt_model.specs.Values.{Fact};
+ghost use Rattle.yt_model.specs.Mappings.{Rule, force_relation};
 ghost use Rattle.yt_grammar.specs.Cycles.{HasPlainCycle, Path, has_plain_cycle, through};
 ghost use Rattle.std.specs.List.{AllByRecursion};
 ghost use Rattle.std.specs.Str.{IsValidUpTo};
@@ -14,10 +15,11 @@ ghost use Rattle.yt_grammar.specs.Forms.{Section, statement_at};
 ghost use Rattle.yt_grammar.specs.Grammar.{statement_words};
 ghost use Rattle.yt_grammar.specs.Sayable.{IsSayable, MayStand};
 ghost use Rattle.yt_grammar.specs.Lines.{IsFirstFault, Spells, line_number};
-ghost use Rattle.yt_grammar.specs.Printing.{printed};
-ghost use Rattle.yt_grammar.specs.Sessions.{SessionData, relation_names};
+ghost use Rattle.yt_grammar.specs.Printing.{printed, statements_of, tuple_text, written_fact};
+ghost use Rattle.yt_grammar.specs.Sessions.{RelationSchema, SessionData, relation_names};
 ghost use Rattle.yt_grammar.specs.Validity.{IsSession};
 ghost use Rattle.yt_grammar.specs.Statements.{Statement};
+ghost use Rattle.yt_grammar.specs.Texts.{HasMembers, fact_text, statement_text};
 ghost use Rattle.yt_grammar.specs.Words.{Word, words_at};
 
 /// Words that are laid out on a line are read from it again.
@@ -73,4 +75,11 @@ pub fn format_2_has_more_relations()
     ensures in_1 { (s : SessionData) (n : Name) → s.format ≡ 1 → length s.relations ≡ 64 → is_one_of (relation_names s.relations) n ≡ false → add_relation s n (pos 1) ≡ Err (LimitReached limit.Relations) }
     ensures in_2 { (s : SessionData) (n : Name) → s.format ≡ 2 → length s.relations ≡ 64 → is_one_of (relation_names s.relations) n ≡ false
         → add_relation s n (pos 1) ≡ Ok (record s { relations = s.relations ++ record { name = n; arity = 1 } ∷ [] }) }
+{}
+
+/// What is laid out of a statement's words, and so the printed form, written out directly.
+pub fn statements_are_written_directly()
+    ensures session { (s : SessionData) → IsSession s → printed s ≡ flat_map (λ st. statement_text st ++ 10 ∷ []) (statements_of s) }
+    ensures tuple { (relations : List RelationSchema) (t : Fact) → (t.relation == force_relation) ≡ false → fact_text (written_fact relations t) ≡ tuple_text relations false t }
+    ensures statement { (st : Statement) → HasMembers st → laid_out (statement_words st) ≡ statement_text st }
 {}

@@ -9,9 +9,9 @@ mod rows;
 pub use laws::{
     bytes_are_text_first, closure_decides, every_input_has_one_answer, format_2_has_more_relations,
     nothing_else_is_read, sessions_are_read_again, spelled_sessions_are_valid,
-    statements_are_read_again, words_are_read_again,
+    statements_are_read_again, statements_are_written_directly, words_are_read_again,
 };
-pub use rows::{check_faults, form_faults, lexical_faults, printed_sessions};
+pub use rows::{check_faults, form_faults, lexical_faults, printed_sessions, printed_tuples};
 
 /// What is missing at the first token of a line that does not fit its form.
 #[derive(Clone, Copy, Debug, PartialEq, Eq)]

@@ -2,7 +2,10 @@
 
 ghost use Rattle.std.specs.Prelude.{◌≡◌, codes};
 ghost use Rattle.yt_grammar.specs.Lines.{fault_text, read};
-ghost use Rattle.yt_grammar.specs.Printing.{printed_text};
+ghost use Rattle.std.specs.Prelude.{[], ◌∷◌, true, false};
+ghost use Rattle.yt_model.specs.Mappings.{force};
+ghost use Rattle.yt_model.specs.Values.{Unknown};
+ghost use Rattle.yt_grammar.specs.Printing.{printed_text, tuple_text};
 
 /// Lexical faults: the leftmost of a line comes before all else that is wrong with it.
 pub fn lexical_faults()
@@ -53,4 +56,11 @@ pub fn printed_sessions()
     ensures format_check { printed_text (read (codes "youtopia 1\nrelation A 01\n\n\trelation B 2\r\nmapping m : A(x)->B(x,\"\\\"\\\\\\n\")  # m\nbase A(?0.01)\nbase A(-0)\nend")) ≡ codes "youtopia 1\nrelation A 1\nrelation B 2\nmapping m: A(x) -> B(x, \"\\\"\\\\\\n\")\nbase A(0)\nbase A(?0.1)\nend\n" }
     ensures answers_stand_behind_updates { printed_text (read (codes "youtopia 1\nrelation A 1\nupdate a ann insert A(1)\nupdate b bob delete A(1)\nanswer b delete A(1),A(2)\nanswer a unify A(?1.1)\nanswer a expand\nend\n")) ≡ codes "youtopia 1\nrelation A 1\nupdate a ann insert A(1)\nanswer a unify A(?1.1)\nanswer a expand\nupdate b bob delete A(1)\nanswer b delete A(1), A(2)\nend\n" }
     ensures added_mapping { printed_text (read (codes "youtopia 2\nrelation A 1\nrelation B 1\nbase A(1)\nupdate a ann mapping m: A(x) -> B(y)\nupdate b bob replace ?1.2 with \"x\"\nend\n")) ≡ codes "youtopia 2\nrelation A 1\nrelation B 1\nbase A(1)\nupdate a ann mapping m: A(x) -> B(y)\nupdate b bob replace ?1.2 with \"x\"\nend\n" }
+{}
+
+/// Tuples: one that says that a mapping is in force, and the two spellings of a null.
+pub fn printed_tuples()
+    ensures forced { tuple_text [] true (force 12) ≡ codes "*12" }
+    ensures inner { tuple_text (record { name = codes "A"; arity = 1 } ∷ []) true (record { relation = 0; values = Unknown (record { update = 3; attempt = 1; place = 2 }) ∷ [] }) ≡ codes "A(?3.2@1)" }
+    ensures outer { tuple_text (record { name = codes "A"; arity = 1 } ∷ []) false (record { relation = 0; values = Unknown (record { update = 3; attempt = 1; place = 2 }) ∷ [] }) ≡ codes "A(?3.2)" }
 {}
