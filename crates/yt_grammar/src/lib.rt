@@ -11,7 +11,9 @@ pub use laws::{
     nothing_else_is_read, sessions_are_read_again, spelled_sessions_are_valid,
     statements_are_read_again, statements_are_written_directly, words_are_read_again,
 };
-pub use rows::{check_faults, form_faults, lexical_faults, printed_sessions, printed_tuples};
+pub use rows::{
+    check_faults, form_faults, lexical_faults, printed_sessions, printed_tuples, wanted_faults,
+};
 
 /// What is missing at the first token of a line that does not fit its form.
 #[derive(Clone, Copy, Debug, PartialEq, Eq)]

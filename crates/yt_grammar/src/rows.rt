@@ -64,3 +64,17 @@ pub fn printed_tuples()
     ensures inner { tuple_text (record { name = codes "A"; arity = 1 } ∷ []) true (record { relation = 0; values = Unknown (record { update = 3; attempt = 1; place = 2 }) ∷ [] }) ≡ codes "A(?3.2@1)" }
     ensures outer { tuple_text (record { name = codes "A"; arity = 1 } ∷ []) false (record { relation = 0; values = Unknown (record { update = 3; attempt = 1; place = 2 }) ∷ [] }) ≡ codes "A(?3.2)" }
 {}
+
+/// What else can be wanted at the first word of a line that does not fit.
+pub fn wanted_faults()
+    ensures statement { fault_text (read (codes "youtopia 1\nrelations A 1\n")) ≡ codes "session line 2: fault 21: expected statement" }
+    ensures name { fault_text (read (codes "youtopia 1\nrelation 1\n")) ≡ codes "session line 2: fault 21: expected name" }
+    ensures colon { fault_text (read (codes "youtopia 1\nrelation A 1\nmapping m A(x) -> A(x)\n")) ≡ codes "session line 3: fault 21: expected colon" }
+    ensures open_ { fault_text (read (codes "youtopia 1\nrelation A 1\nbase A 1\n")) ≡ codes "session line 3: fault 21: expected open" }
+    ensures term { fault_text (read (codes "youtopia 1\nrelation A 1\nmapping m: A(?0.1) -> A(x)\n")) ≡ codes "session line 3: fault 21: expected term" }
+    ensures null { fault_text (read (codes "youtopia 1\nrelation A 1\nupdate a ann replace 1 with 2\n")) ≡ codes "session line 3: fault 21: expected null" }
+    ensures name_or_arrow { fault_text (read (codes "youtopia 1\nrelation A 1\nmapping m: 1 -> A(x)\n")) ≡ codes "session line 3: fault 21: expected name or arrow" }
+    ensures comma_or_end { fault_text (read (codes "youtopia 1\nrelation A 1\nmapping m: A(x) -> A(y) A(x)\n")) ≡ codes "session line 3: fault 21: expected comma or end" }
+    ensures choice { fault_text (read (codes "youtopia 1\nrelation A 1\nupdate a ann insert A(1)\nanswer a 1\n")) ≡ codes "session line 4: fault 21: expected choice" }
+    ensures end_of_line { fault_text (read (codes "youtopia 1\nrelation A 1 1\n")) ≡ codes "session line 2: fault 21: expected end of line" }
+{}
