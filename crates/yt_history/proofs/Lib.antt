@@ -5,3 +5,5 @@ pub mod ValueTests
 pub mod Firsts
 pub mod Theorem
 pub mod Nulls
+pub mod Asking
+pub mod Asked

@@ -4,3 +4,4 @@ pub mod CascadeRows
 pub mod Admissible
 pub mod AnyOrder
 pub mod Nulls
+pub mod Asked

@@ -1,5 +1,6 @@
 //! The headline: attempts in any order leave what the serial machine leaves.
 ghost use Rattle.yt_history.specs.AnyOrder.{AnyOrder};
+ghost use Rattle.yt_history.specs.Asked.{QuestionsAreOfViews};
 ghost use Rattle.yt_history.specs.Nulls.{NullsArePresent};
 
 /// Whatever the order of admissions, steps, deliveries, answers and withdrawals, with restarts and cascades: the committed
@@ -14,4 +15,11 @@ pub fn any_order_is_serial()
 /// of every view apart.
 pub fn nulls_are_of_present_attempts()
     ensures { NullsArePresent }
+{}
+
+/// There is a question exactly where an update is paused. A positive one has a generated tuple that is absent from the
+/// present view and all more specific tuples of it, at least one; a negative one has the two or more distinct tuples of the
+/// first violation there that the update caused. The next answer delivered, if there is one, does not fit.
+pub fn questions_are_of_present_views()
+    ensures { QuestionsAreOfViews }
 {}
