@@ -7,3 +7,4 @@ pub mod Theorem
 pub mod Nulls
 pub mod Asking
 pub mod Asked
+pub mod Sessions
