@@ -5,3 +5,6 @@ pub mod ValueTests
 pub mod Firsts
 pub mod Theorem
 pub mod Nulls
+pub mod Asking
+pub mod Asked
+pub mod Sessions

@@ -19,8 +19,9 @@ use Rattle.yt_steps.specs.Timely.{enacts_by, in_time, acts_in_time}
 use Rattle.yt_steps.proofs.ChaseLaws.{chase_laws}
 use Rattle.yt_steps.proofs.Holding.{Kept}
 use Rattle.yt_steps.proofs.Passing.{all_weaker}
+use Rattle.yt_history.specs.Histories.{left}
 use Rattle.yt_history.specs.Admissible.{is_plain, IsAdmissible}
-use Rattle.yt_history.specs.AnyOrder.{first_turn, serially, left, IsSerial, AnyOrder}
+use Rattle.yt_history.specs.AnyOrder.{first_turn, serially, IsSerial, AnyOrder}
 use Rattle.yt_history.proofs.Turns.{Rising, committed_rising, all_rising}
 use Rattle.yt_history.proofs.Whole.{InTime, serial_whole, serial_holds}
 use Rattle.yt_history.proofs.Attempts.{attempt_in, attempts_of, IsPresent, outer_turns}

@@ -1,7 +1,7 @@
 -- The theorem of histories: attempts in any order leave what the serial machine leaves, which takes the updates whole, one after the other in number order.
 use Rattle.std.specs.Prelude.{◌≡◌, ℕ, true, List, map, length, Option, Some, None}
 use Rattle.std.specs.List.{list_all}
-use Rattle.yt_machine.specs.Updates.{Update, Session, Settings, below, committed}
+use Rattle.yt_machine.specs.Updates.{Update, Session, Settings}
 use Rattle.yt_machine.specs.Standings.{is_quiet}
 use Rattle.yt_machine.specs.Effects.{Event}
 use Rattle.yt_machine.specs.Histories.{Log, empty_log, after}
@@ -12,6 +12,7 @@ use Rattle.yt_model.specs.Mappings.{Rule, AllHold}
 use Rattle.yt_steps.specs.Chase.{every, caused, whole_chase, caused_chase}
 use Rattle.yt_steps.specs.Serial.{SerialResult, told, serial_result}
 use Rattle.yt_steps.specs.Shifting.{outer_told}
+use Rattle.yt_history.specs.Histories.{left}
 use Rattle.yt_history.specs.Admissible.{IsAdmissible, requests}
 
 -- The turn at the serial machine: by attempt 0, and looking at every violation.
@@ -21,10 +22,6 @@ first_turn ms B t = record { number = t.number; attempt = 0; operation = t.opera
 -- What the serial machine tells of these turns.
 abbrev pub serially : (ms : List Rule) (B : ℕ) → List Fact → List (Turn (caused_chase ms B)) → SerialResult
 serially ms B D ts = told every ms B (serial (whole_chase ms B) D (map (first_turn ms B) ts))
-
--- The committed repository, with the attempts of its nulls.
-abbrev pub left : (ms : List Rule) (B : ℕ) → Session (caused_chase ms B) → List (Update (caused_chase ms B)) → List Fact
-left ms B S us = below (caused_chase ms B) S.base us (committed (caused_chase ms B) us)
 
 -- What is told of the updates by the outer forms of all nulls: the finishes of the committed ones that are not withdrawn, this stop, and the committed repository.
 abbrev pub tells : (ms : List Rule) (B : ℕ) → Session (caused_chase ms B) → List (Update (caused_chase ms B)) → Option (Stop (caused_chase ms B)) → SerialResult

@@ -1,7 +1,7 @@
 -- Words in which histories of the chase are written down, with a budget of 100 steps.
-use Rattle.std.specs.Prelude.{ℕ, suc, Bool, List, [], ◌∷◌, map, Option}
+use Rattle.std.specs.Prelude.{ℕ, suc, Bool, List, [], ◌∷◌, Option}
 use Rattle.std.specs.Option.{option_map}
-use Rattle.yt_machine.specs.Updates.{Update, Session, Settings, Deps, below, committed}
+use Rattle.yt_machine.specs.Updates.{Update, Session, Settings, Deps, committed}
 use Rattle.yt_machine.specs.Standings.{Standing, standing, is_quiet}
 use Rattle.yt_machine.specs.Cascade.{Cause}
 use Rattle.yt_machine.specs.Effects.{Event, Entry, Stepped}
@@ -11,14 +11,11 @@ use Rattle.yt_model.specs.Repository.{Change}
 use Rattle.yt_model.specs.Mappings.{Rule}
 use Rattle.yt_steps.specs.Chase.{caused_chase}
 use Rattle.yt_steps.specs.Serial.{Request}
+use Rattle.yt_history.specs.Histories.{session_of, left}
 
 -- The null ?u.k of attempt a.
 abbrev pub null_by : ℕ → ℕ → ℕ → Datum
 null_by u a k = Unknown record { update = u; attempt = a; place = k }
-
--- A session of this base and these updates.
-abbrev pub session : (ms : List Rule) → List Fact → List Request → Session (caused_chase ms 100)
-session ms D rs = record { base = D; submissions = map (λ (r : Request). record { operation = r.operation; answers = r.answers }) rs }
 
 -- The entry of a step: the update, the attempt, the standing after it, the writes, the causes, and how many updates are committed after it.
 abbrev pub a_step : (ms : List Rule) → ℕ → ℕ → Standing → List Change → List (Cause (caused_chase ms 100)) → ℕ → Entry (caused_chase ms 100)
@@ -42,12 +39,12 @@ left_of ms s S l =
     record {
       entries = l.entries;
       standings = standings ms s (committed (caused_chase ms 100) l.updates) 1 l.updates;
-      repository = below (caused_chase ms 100) S.base l.updates (committed (caused_chase ms 100) l.updates);
+      repository = left ms 100 S l.updates;
       quiet = is_quiet (caused_chase ms 100) s l.updates;
     }
 
 -- What is left by the events over this base and these updates, with K retries, where each event is allowed in turn.
 abbrev pub left_by : (ms : List Rule) → ℕ → Deps → List Fact → List Request → List (Event (caused_chase ms 100)) → Option (Left ms)
 left_by ms K deps D rs es =
-    option_map (left_of ms (record { retries = K; deps = deps }) (session ms D rs))
-    (after (caused_chase ms 100) (record { retries = K; deps = deps }) (session ms D rs) (empty_log (caused_chase ms 100)) es)
+    option_map (left_of ms (record { retries = K; deps = deps }) (session_of ms 100 D rs []))
+    (after (caused_chase ms 100) (record { retries = K; deps = deps }) (session_of ms 100 D rs []) (empty_log (caused_chase ms 100)) es)

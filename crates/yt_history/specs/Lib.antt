@@ -1,6 +1,9 @@
-pub mod HistoryWords
-pub mod AbortRows
-pub mod CascadeRows
+pub mod Histories
 pub mod Admissible
 pub mod AnyOrder
 pub mod Nulls
+pub mod Asked
+pub mod Sessions
+pub mod HistoryWords
+pub mod AbortRows
+pub mod CascadeRows

@@ -1,6 +1,8 @@
 //! The headline: attempts in any order leave what the serial machine leaves.
 ghost use Rattle.yt_history.specs.AnyOrder.{AnyOrder};
+ghost use Rattle.yt_history.specs.Asked.{QuestionsAreOfViews};
 ghost use Rattle.yt_history.specs.Nulls.{NullsArePresent};
+ghost use Rattle.yt_history.specs.Sessions.{SessionsAreAdmissible};
 
 /// Whatever the order of admissions, steps, deliveries, answers and withdrawals, with restarts and cascades: the committed
 /// updates that are not withdrawn have the finishes of the serial machine and leave its repository, nulls by their outer
@@ -14,4 +16,17 @@ pub fn any_order_is_serial()
 /// of every view apart.
 pub fn nulls_are_of_present_attempts()
     ensures { NullsArePresent }
+{}
+
+/// There is a question exactly where an update is paused. A positive one has a generated tuple that is absent from the
+/// present view and all more specific tuples of it, at least one; a negative one has the two or more distinct tuples of the
+/// first violation there that the update caused. The next answer delivered, if there is one, does not fit.
+pub fn questions_are_of_present_views()
+    ensures { QuestionsAreOfViews }
+{}
+
+/// A timely session over a base that meets its mappings is admissible, and stays so with one more update that acts in time;
+/// those of the worked histories are.
+pub fn sessions_are_admissible()
+    ensures { SessionsAreAdmissible }
 {}

@@ -5,6 +5,7 @@ ghost use Rattle.yt_machine.specs.CallLaw.{CallLaw};
 ghost use Rattle.yt_machine.specs.CauseLaw.{CauseLaw};
 ghost use Rattle.yt_machine.specs.DepsLaw.{DepsLaw};
 ghost use Rattle.yt_machine.specs.History.{HistoryLaw};
+ghost use Rattle.yt_machine.specs.LegalLaw.{LegalLaw};
 ghost use Rattle.yt_machine.specs.Local.{LocalLaw};
 ghost use Rattle.yt_machine.specs.Recorded.{LongerLaw, RecordedLaw};
 ghost use Rattle.yt_machine.specs.Replay.{PlanLaw, ReplayLaw};
@@ -84,6 +85,11 @@ pub fn steps_and_deliveries_end()
 /// Each update does what it was handed in to do; without live answers and withdrawals it has the answers recorded for it.
 pub fn histories_keep_the_session()
     ensures { (ms : List Rule) (budget : ℕ) → RecordedLaw (caused_chase ms budget) }
+{}
+
+/// Legal histories grow by the entries of allowed events, their prefixes are legal, and each leaves one list of updates.
+pub fn legal_histories_grow()
+    ensures { (ms : List Rule) (budget : ℕ) → 1 ≤ budget → LegalLaw (caused_chase ms budget) }
 {}
 
 /// A history stays one when further updates are handed in.

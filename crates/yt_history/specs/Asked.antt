@@ -1,0 +1,56 @@
+-- What is asked of people: the question of each paused update, and what it says of the update's present view.
+use Rattle.std.specs.Prelude.{◌≡◌, ℕ, suc, ◌≤◌, false, List, length, filter, Some, is_some, slice_get}
+use Rattle.yt_machine.specs.Updates.{Update, Session, Settings, view, committed}
+use Rattle.yt_machine.specs.Standings.{standing, is_paused, question_of}
+use Rattle.yt_machine.specs.Effects.{Event}
+use Rattle.yt_machine.specs.Histories.{Log, empty_log, after}
+use Rattle.yt_model.specs.Values.{Fact}
+use Rattle.yt_model.specs.Repository.{Change, has}
+use Rattle.yt_model.specs.Mappings.{Rule}
+use Rattle.yt_model.specs.Specific.{more_specific}
+use Rattle.yt_model.specs.Violations.{Scope}
+use Rattle.yt_model.specs.Updates.{Choice}
+use Rattle.yt_steps.specs.Attempts.{Repair, Question, Positive, Negative}
+use Rattle.yt_steps.specs.Rewriting.{in_order, generated}
+use Rattle.yt_steps.specs.Questions.{fits}
+use Rattle.yt_steps.specs.Chase.{caused, caused_chase}
+use Rattle.yt_steps.specs.Looking.{first_in_force}
+use Rattle.yt_history.specs.Admissible.{IsAdmissible}
+
+-- The tuple that the repair generates next is absent from the view, and the candidates are all more specific tuples of the view, at least one.
+pub record IsPositive (ms : List Rule) (E : List Fact) (r : Repair) (t : Fact) (cs : List Fact) : Type 0 where
+  pub is_generated : t ≡ generated ms r
+  pub absent : has E t ≡ false
+  pub candidates : cs ≡ filter (λ s. more_specific s t) E
+  pub some : 1 ≤ length cs
+
+-- The tuples are the distinct ones, two or more, of the first violation in the view, within the scope, of a mapping in force, and the mapping is the one violated.
+pub record IsNegative (ms : List Rule) (scope : Scope) (own : List Change) (E : List Fact) (n : ℕ) (ts : List Fact) : Type 0 where
+  pub image : List Fact
+  pub first : first_in_force scope own 0 ms E ≡ Some (n, image)
+  pub distinct : ts ≡ in_order image
+  pub several : 2 ≤ length ts
+
+-- What a question says of the view E of an update that has made these own writes.
+abbrev pub IsAsked : List Rule → Scope → List Change → List Fact → Question → Type 0
+IsAsked ms scope own E (Positive r t cs) = IsPositive ms E r t cs
+IsAsked ms scope own E (Negative n ts) = IsNegative ms scope own E n ts
+
+-- The question of update k + 1, which is u.
+pub record IsQuestion (ms : List Rule) (B : ℕ) (S : Session (caused_chase ms B)) (us : List (Update (caused_chase ms B))) (k : ℕ) (u : Update (caused_chase ms B)) (q : Question) : Type 0 where
+  -- it is true of the present view, by the violations that the update caused
+  pub asked : IsAsked ms (caused u.operation) u.state.own (view (caused_chase ms B) S.base us k) q
+  -- the next answer delivered, if there is one, does not fit it
+  pub unfit : (c : Choice) → slice_get u.answers u.state.taken ≡ Some c → fits q c ≡ false
+
+-- The questions of update k + 1, which is u: there is one exactly where it is paused.
+pub record AreQuestions (ms : List Rule) (B : ℕ) (s : Settings) (S : Session (caused_chase ms B)) (us : List (Update (caused_chase ms B))) (k : ℕ) (u : Update (caused_chase ms B)) : Type 0 where
+  pub paused : is_some (question_of (caused_chase ms B) s (committed (caused_chase ms B) us) (suc k) u) ≡ is_paused (standing (caused_chase ms B) s (committed (caused_chase ms B) us) (suc k) u)
+  pub question : (q : Question) → question_of (caused_chase ms B) s (committed (caused_chase ms B) us) (suc k) u ≡ Some q → IsQuestion ms B S us k u q
+
+-- After every history.
+abbrev pub QuestionsAreOfViews : Type 0
+QuestionsAreOfViews =
+    (ms : List Rule) (B : ℕ) (s : Settings) (S : Session (caused_chase ms B)) (es : List (Event (caused_chase ms B))) (l : Log (caused_chase ms B)) → IsAdmissible ms B S
+    → after (caused_chase ms B) s S (empty_log (caused_chase ms B)) es ≡ Some l
+    → (k : ℕ) (u : Update (caused_chase ms B)) → slice_get l.updates k ≡ Some u → AreQuestions ms B s S l.updates k u
