@@ -1,2 +1,5 @@
 pub mod Held
 pub mod Reading
+pub mod Unions
+pub mod Courses
+pub mod Overlays

@@ -2,7 +2,9 @@
 //! column. All are `Facts`, and mean the list of their tuples in order.
 #![tactic(auto)]
 
+mod overlay;
 mod plain;
 mod scanned;
 
+pub use crate::overlay::Overlay;
 pub use crate::plain::PlainFacts;

@@ -1,0 +1,97 @@
+-- A cursor that goes on from tuple to tuple goes over all that come after it.
+use Rattle.std.proofs.Common.{◌≡◌, ℕ, suc, length, ap, refl, sym, ◌∙◌, List, ◌∷◌, Bool, true, false, ◌&&◌, cond, Option, Some, None}
+use Rattle.std.specs.Ordering.{is_lt}
+use Rattle.std.specs.Prelude.{find, filter, ◌==◌}
+use Rattle.std.proofs.lemmas.Bool.{and_parts}
+use Rattle.yt_model.specs.Values.{Datum, Fact, fact_cmp}
+use Rattle.yt_model.specs.Repository.{IsRepository}
+use Rattle.yt_model.specs.Cursors.{is_of, is_past, is_beyond, has_at, is_scanned}
+use Rattle.yt_model.proofs.Bools.{differ}
+use Rattle.yt_model.proofs.Cursors.{found_begins, is_of-is}
+use Rattle.yt_model.proofs.Order.{fact_total}
+use Rattle.yt_model.proofs.Searches.{filter_as, none_passes, found_passes}
+use Rattle.yt_base.specs.Meanings.{datum_of}
+use Rattle.yt_facts.specs.Overlaid.{ahead, comes_after}
+use Rattle.yt_facts.specs.declared.overlay.Course.{Course}
+use Rattle.yt_facts.specs.declared.overlay.Course.TheVariants.{Relation, Column}
+use Rattle.yt_facts.proofs.Unions.{lt_less}
+
+-- What passes p and is above a tuple that passes p is what comes after it by q.
+abbrev pub Follows : (Fact → Bool) → (Fact → Fact → Bool) → Type 0
+Follows p q = (v u : Fact) → p v ≡ true → (p u && is_lt (fact_cmp v u)) ≡ q v u
+
+-- A cursor at the first that passes has all that passes ahead.
+pub all_ahead : (p : Fact → Bool) (q : Fact → Fact → Bool) (D : List Fact) → Follows p q → IsRepository D → (o : Option Fact) → o ≡ find p D → ahead q D o ≡ filter p D
+all_ahead p q D f s o e = ap (ahead q D) e ∙ by (find p D) refl
+  where
+    by : (o : Option Fact) → find p D ≡ o → ahead q D o ≡ filter p D
+    by None e = sym (none_passes p D e)
+    by (Some t) e = sym (found_begins p D t s e ∙ ap (λ l. t ∷ l) (filter_as (λ u. p u && is_lt (fact_cmp t u)) (q t) (λ u. f t u (found_passes p D t e)) D))
+
+module _ (test : Fact → Bool) (q : Fact → Fact → Bool) (D : List Fact) where
+  -- The cursor's tuple passes: it is found.
+  pub hit : (o whole : Option Fact) (t : Fact) → o ≡ Some t → test t ≡ true → find test (ahead q D o) ≡ whole → Some t ≡ whole
+  hit o whole t e h w = sym (ap (λ x. find test (ahead q D x)) e ∙ ap (λ b. cond b (Some t) (find test (filter (q t) D))) h) ∙ w
+
+  -- It does not pass: the next cursor finds the same.
+  pub miss : (o whole : Option Fact) (t : Fact) (next : Option Fact) → IsRepository D → Follows (q t) q → o ≡ Some t → next ≡ find (q t) D → test t ≡ false → find test (ahead q D o) ≡ whole → find test (ahead q D next) ≡ whole
+  miss o whole t next s f e n h w =
+      ap (find test) (all_ahead (q t) q D f s next n) ∙ sym (ap (λ x. find test (ahead q D x)) e ∙ ap (λ b. cond b (Some t) (find test (filter (q t) D))) h) ∙ w
+
+-- The next cursor has fewer ahead.
+pub fewer : (q : Fact → Fact → Bool) (D : List Fact) (o : Option Fact) (t : Fact) (next : Option Fact) → IsRepository D → Follows (q t) q → o ≡ Some t → next ≡ find (q t) D → length (ahead q D o) ≡ suc (length (ahead q D next))
+fewer q D o t next s f e n = ap (λ x. length (ahead q D x)) e ∙ ap (λ (l : List Fact). suc (length l)) (sym (all_ahead (q t) q D f s next n))
+
+-- ---- the courses
+
+through : (t v u : Fact) → is_lt (fact_cmp t v) ≡ true → is_lt (fact_cmp v u) ≡ true → is_lt (fact_cmp t u) ≡ true
+through t v u e f = ap is_lt (fact_total.trans t v u (lt_less t v e) (lt_less v u f))
+
+-- What is of the relation of a tuple, by its relation or by that of another.
+same_relation : (r : ℕ) (v u : Fact) → is_of r v ≡ true → (u.relation == r) ≡ (u.relation == v.relation)
+same_relation r v u e = ap (λ (n : ℕ). u.relation == n) (sym (is_of-is r v e))
+
+pub relation_follows : (r : ℕ) → Follows (is_of r) is_past
+relation_follows r v u e = ap (λ b. b && is_lt (fact_cmp v u)) (same_relation r v u e)
+
+pub past_follows : (t : Fact) → Follows (is_past t) is_past
+past_follows t v u e =
+    let parts = and_parts (is_of t.relation v) (is_lt (fact_cmp t v)) e in
+    by (is_of t.relation u) (is_lt (fact_cmp t u)) (is_lt (fact_cmp v u)) (through t v u parts.1) ∙ relation_follows t.relation v u parts.0
+  where
+    by : (a b c : Bool) → (c ≡ true → b ≡ true) → ((a && b) && c) ≡ (a && c)
+    by false b c h = refl
+    by true true c h = refl
+    by true false true h = h refl
+    by true false false h = refl
+
+pub scanned_follows : (r c : ℕ) (d : Datum) (past : Option Fact) → Follows (is_scanned r c d past) (λ t. is_scanned r c d (Some t))
+scanned_follows r c d past v u e = by (is_of r u) (is_beyond past u) (has_at c d u) (is_lt (fact_cmp v u)) (beyond past (second (is_of r v) (is_beyond past v) (has_at c d v) e))
+  where
+    second : (a b x : Bool) → (a && (b && x)) ≡ true → b ≡ true
+    second true true x f = refl
+    second true false x f = differ f
+    second false b x f = differ f
+
+    beyond : (past : Option Fact) → is_beyond past v ≡ true → is_lt (fact_cmp v u) ≡ true → is_beyond past u ≡ true
+    beyond None f h = refl
+    beyond (Some t) f h = through t v u f h
+
+    by : (a b x c : Bool) → (c ≡ true → b ≡ true) → ((a && (b && x)) && c) ≡ (a && (c && x))
+    by false b x c h = refl
+    by true b x true h = swap b x (h refl)
+      where
+        swap : (b x : Bool) → b ≡ true → ((b && x) && true) ≡ x
+        swap true true g = refl
+        swap true false g = refl
+        swap false x g = differ g
+    by true b x false h = off b x
+      where
+        off : (b x : Bool) → ((b && x) && false) ≡ false
+        off true true = refl
+        off true false = refl
+        off false x = refl
+
+pub course_follows : (course : Course) (t : Fact) → Follows (comes_after course t) (comes_after course)
+course_follows Relation t = past_follows t
+course_follows (Column r c v) t = scanned_follows r c (datum_of v.now) (Some t)

@@ -1,0 +1,166 @@
+//! A set of tuples as writes leave it, without a copy of the set.
+ghost use Rattle.std.specs.Prelude.{◌≡◌, ◌&&◌, not, find, map, IfOk, OnOk};
+ghost use Rattle.std.specs.Option.{option_map, option_copied};
+ghost use Rattle.yt_model.specs.Repository.{has, change, apply, IsRepository};
+ghost use Rattle.yt_base.specs.Meanings.{fact_of, change_of};
+ghost use Rattle.yt_facts.specs.Overlaid.{lesser, comes_after, ahead};
+
+use crate::plain::PlainFacts;
+use std::alloc::Global;
+use std::marker::Model;
+use yt_base::{Facts, Memory, TryCopy, Tuple, Value, Write, WriteList};
+
+/// A set with writes applied to it in turn. It borrows the set, and keeps only the tuples that the writes take away
+/// from it or put into it. Contracts see the list of its tuples, in order.
+#[derive(Drop)]
+pub struct Overlay<'a, F: Facts> {
+    facts: &'a F,
+    gone: PlainFacts,
+    added: PlainFacts,
+}
+
+impl<'a, F: Facts> Model for Overlay<'a, F> {
+    ghost use Rattle.std.specs.Prelude.{List};
+    ghost use Rattle.yt_model.specs.Values.{Fact};
+
+    ghost Value = { List Fact };
+
+    ghost use Rattle.yt_facts.specs.Overlaid.{overlaid};
+
+    ghost view = { λ o. overlaid (F.tuples o.facts.now) o.gone o.added };
+}
+
+impl<'a, F: Facts> Overlay<'a, F> {
+    /// The set as the writes, in turn, leave it. It is refused only for want of memory.
+    pub fn new(alloc: Global, facts: &'a F, writes: &WriteList) -> Result<Overlay<'a, F>, Memory>
+        ensures applied { IfOk result (λ overlay. overlay ≡ apply (F.tuples facts.now) (map change_of writes.now.items)) }
+    {
+        let mut overlay = Overlay {
+            facts,
+            gone: PlainFacts::new(alloc),
+            added: PlainFacts::new(alloc),
+        };
+        for write in writes.as_slice() {
+            overlay.take(alloc, write)?;
+        }
+        Ok(overlay)
+    }
+
+    // Applies one write: what the set lacks is added, and what it has is gone.
+    fn take(&mut self, alloc: Global, write: &Write) -> Result<(), Memory>
+        ensures ok { OnOk result (self.new ≡ change self.old (change_of write.now)) }
+    {
+        match write {
+            Write::Insert(tuple) => {
+                self.gone.remove(tuple);
+                if !self.facts.contains(tuple) {
+                    self.added.insert(tuple.copy(alloc)?)?;
+                }
+            }
+            Write::Delete(tuple) => {
+                self.added.remove(tuple);
+                if self.facts.contains(tuple) {
+                    self.gone.insert(tuple.copy(alloc)?)?;
+                }
+            }
+        }
+        Ok(())
+    }
+}
+
+impl<'a, F: Facts> Facts for Overlay<'a, F> {
+    ghost tuples = { λ D. D };
+
+    fn contains(&self, tuple: &Tuple) -> bool {
+        is_left(self.facts, &self.gone, tuple) || self.added.contains(tuple)
+    }
+
+    fn first(&self, relation: u16) -> Option<&Tuple> {
+        let below = self.facts.first(relation);
+        let left = remaining(self.facts, &self.gone, &Course::Relation, below);
+        least(left, self.added.first(relation))
+    }
+
+    fn after(&self, tuple: &Tuple) -> Option<&Tuple> {
+        let below = self.facts.after(tuple);
+        let left = remaining(self.facts, &self.gone, &Course::Relation, below);
+        least(left, self.added.after(tuple))
+    }
+
+    fn scan(
+        &self,
+        relation: u16,
+        column: u16,
+        value: &Value,
+        past: Option<&Tuple>,
+    ) -> Option<&Tuple> {
+        let below = self.facts.scan(relation, column, value, past);
+        let course = Course::Column(relation, column, value);
+        let left = remaining(self.facts, &self.gone, &course, below);
+        least(left, self.added.scan(relation, column, value, past))
+    }
+}
+
+// Whether the tuple is in the set and not gone.
+fn is_left<F: Facts>(facts: &F, gone: &PlainFacts, tuple: &Tuple) -> bool
+    ensures left { result ≡ (has (F.tuples facts.now) (fact_of tuple.now) && not (has gone.now (fact_of tuple.now))) }
+    ensures in_order { IsRepository (F.tuples facts.now) }
+{
+    facts.contains(tuple) && !gone.contains(tuple)
+}
+
+// Which tuples a cursor goes over: those of a relation, or those of a relation with a value in a column.
+#[derive(Drop)]
+enum Course<'v> {
+    Relation,
+    Column(u16, u16, &'v Value),
+}
+
+// The first tuple from the cursor on that is not gone.
+fn remaining<'a, F: Facts>(
+    facts: &'a F,
+    gone: &PlainFacts,
+    course: &Course<'_>,
+    from: Option<&'a Tuple>,
+) -> Option<&'a Tuple>
+    ensures found { option_map fact_of (option_copied result) ≡ find (λ u. not (has gone.now u)) (ahead (comes_after course.now) (F.tuples facts.now) (option_map fact_of (option_copied from.entry))) }
+{
+    let mut cursor = from;
+    while let Some(tuple) = cursor {
+        if !gone.contains(tuple) {
+            return Some(tuple);
+        }
+        cursor = next(facts, course, tuple);
+    }
+    None
+}
+
+// The next tuple on the course.
+fn next<'a, F: Facts>(facts: &'a F, course: &Course<'_>, tuple: &Tuple) -> Option<&'a Tuple>
+    ensures found { option_map fact_of (option_copied result) ≡ find (comes_after course.now (fact_of tuple.now)) (F.tuples facts.now) }
+    ensures in_order { IsRepository (F.tuples facts.now) }
+{
+    match course {
+        Course::Relation => facts.after(tuple),
+        Course::Column(relation, column, value) => {
+            facts.scan(*relation, *column, *value, Some(tuple))
+        }
+    }
+}
+
+// The lesser of two tuples, of those that there are.
+fn least<'a>(one: Option<&'a Tuple>, other: Option<&'a Tuple>) -> Option<&'a Tuple>
+    ensures least { option_map fact_of (option_copied result) ≡ lesser (option_map fact_of (option_copied one.entry)) (option_map fact_of (option_copied other.entry)) }
+{
+    let Some(tuple) = one else {
+        return other;
+    };
+    let Some(against) = other else {
+        return one;
+    };
+    if tuple.cmp(against).is_gt() {
+        Some(against)
+    } else {
+        Some(tuple)
+    }
+}
