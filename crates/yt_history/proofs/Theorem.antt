@@ -23,7 +23,7 @@ use Rattle.yt_history.specs.Histories.{left}
 use Rattle.yt_history.specs.Admissible.{is_plain, IsAdmissible}
 use Rattle.yt_history.specs.AnyOrder.{first_turn, serially, IsSerial, AnyOrder}
 use Rattle.yt_history.proofs.Turns.{Rising, committed_rising, all_rising}
-use Rattle.yt_history.proofs.Whole.{InTime, serial_whole, serial_holds}
+use Rattle.yt_history.proofs.Whole.{whole_turn, InTime, serial_whole, serial_holds}
 use Rattle.yt_history.proofs.Attempts.{attempt_in, attempts_of, IsPresent, outer_turns}
 use Rattle.yt_history.proofs.Firsts.{told_first}
 
@@ -85,6 +85,22 @@ module _ (ms : List Rule) (B : ℕ) (s : Settings) (S : Session (caused_chase ms
       (subst (λ (r : Result (whole_chase ms B)). AllHold ms r.repository) (serial_whole ms B fit.some_step fit.constants fit.repairs (committed_turns (caused_chase ms B) 1 l.updates) 1 S.base committed_timely base_kept)
       (serial_holds ms B fit.some_step fit.constants fit.repairs (committed_turns (caused_chase ms B) 1 l.updates) 1 S.base committed_timely base_kept))
 
+  -- in what the serial machine leaves by attempt 0 too
+  first_in_time : (n : ℕ) (ts : List (Turn (caused_chase ms B))) → Rising (caused_chase ms B) (InTime ms B fit.some_step fit.constants fit.repairs) n ts
+      → Rising (caused_chase ms B) (InTime ms B fit.some_step fit.constants fit.repairs) n (map (by_first_attempt {M = caused_chase ms B}) ts)
+  first_in_time n [] h = tt
+  first_in_time n (t ∷ ts) h = (h.0, h.1, first_in_time (suc t.number) ts h.2)
+
+  first_whole : (ts : List (Turn (caused_chase ms B))) → map (whole_turn ms B fit.some_step fit.constants fit.repairs) (map (by_first_attempt {M = caused_chase ms B}) ts) ≡ map (first_turn ms B) ts
+  first_whole [] = refl
+  first_whole (t ∷ ts) = ap (λ ss. first_turn ms B t ∷ ss) (first_whole ts)
+
+  holds_serially : AllHold ms (serial (whole_chase ms B) S.base (map (first_turn ms B) (committed_turns (caused_chase ms B) 1 l.updates))).repository
+  holds_serially =
+      subst (λ ss. AllHold ms (serial (whole_chase ms B) S.base ss).repository) (first_whole (committed_turns (caused_chase ms B) 1 l.updates))
+      (serial_holds ms B fit.some_step fit.constants fit.repairs (map (by_first_attempt {M = caused_chase ms B}) (committed_turns (caused_chase ms B) 1 l.updates)) 1 S.base
+      (first_in_time 1 (committed_turns (caused_chase ms B) 1 l.updates) committed_timely) base_kept)
+
   -- ---- the whole session
 
   first_again : (ts : List (Turn (caused_chase ms B))) → map (first_turn ms B) ts ≡ map (first_turn ms B) (map (by_first_attempt {M = caused_chase ms B}) ts)
@@ -106,6 +122,7 @@ module _ (ms : List Rule) (B : ℕ) (s : Settings) (S : Session (caused_chase ms
       record {
         committed = tells_same (committed_turns (caused_chase ms B) 1 l.updates) _ committed_timely committed_present history.as_serial;
         hold = holds;
+        hold_serially = holds_serially;
         quiet = λ q. tells_same (all_turns (caused_chase ms B) 1 l.updates) _ all_timely all_present (history.quiet q);
         session = λ r e q.
             ap (λ ts. told every ms B (serial (whole_chase ms B) S.base ts))

@@ -45,6 +45,7 @@ conflict_ends =
     ∷ a_step copying 2 1 (Ended Done) [] [] 2
     ∷ []
 
+-- What these histories leave, with precise and with coarse dependences.
 pub record Conflicts : Type 0 where
   pub conflict : left_by copying 3 Precise [] insert_delete conflict_events ≡ Some record { entries = conflict_entries; standings = Ready ∷ Ready ∷ []; repository = []; quiet = false }
   pub drained :
@@ -89,6 +90,7 @@ taken_entries =
     ∷ a_step taking 1 0 Ready (Insert (one_in 3) ∷ []) (Conflict 2 6 1 Nothing (Image (one_in 0 ∷ one_in 3 ∷ [])) ∷ Depends 3 1 2 ∷ []) 0
     ∷ []
 
+-- They go to their ends again, in number order.
 abbrev pub taken_rest : List (Event (caused_chase taking 100))
 taken_rest = Steps 1 ∷ Steps 2 ∷ Steps 2 ∷ Steps 2 ∷ Steps 2 ∷ Steps 2 ∷ Steps 2 ∷ Steps 3 ∷ Steps 3 ∷ []
 
@@ -110,6 +112,7 @@ taken_ends =
 abbrev pub taken_repository : List Fact
 taken_repository = one_in 0 ∷ fact 1 (num 1 ∷ null_by 2 1 1 ∷ []) ∷ fact 2 (null_by 2 1 1 ∷ []) ∷ one_in 3 ∷ one_in 4 ∷ []
 
+-- What these histories leave.
 pub record TakenNulls : Type 0 where
   pub taken : left_by taking 3 Precise [] taken_null taken_events ≡ Some record { entries = taken_entries; standings = Ready ∷ Ready ∷ Ready ∷ []; repository = []; quiet = false }
   pub drained :
@@ -132,6 +135,7 @@ added_entries =
     ∷ a_step added_copying 1 0 Ready (Insert (force 0) ∷ []) (Conflict 2 2 1 No Yes ∷ []) 0
     ∷ []
 
+-- Both go to their ends, in number order.
 abbrev pub added_rest : List (Event (caused_chase added_copying 100))
 added_rest = Steps 1 ∷ Steps 1 ∷ Steps 1 ∷ Steps 2 ∷ Steps 2 ∷ Steps 2 ∷ Steps 2 ∷ []
 
@@ -147,6 +151,7 @@ added_ends =
     ∷ a_step added_copying 2 1 (Ended Done) [] [] 2
     ∷ []
 
+-- What these histories leave.
 pub record AddedMappings : Type 0 where
   pub added : left_by added_copying 3 Precise (one_in 0 ∷ []) added_mapping added_events ≡ Some record { entries = added_entries; standings = Ready ∷ Ready ∷ []; repository = one_in 0 ∷ []; quiet = false }
   pub drained :

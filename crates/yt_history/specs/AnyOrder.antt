@@ -31,8 +31,9 @@ tells ms B S us stop = outer_told (told caused ms B (record { finishes = committ
 pub record IsSerial (ms : List Rule) (B : ℕ) (s : Settings) (S : Session (caused_chase ms B)) (es : List (Event (caused_chase ms B))) (us : List (Update (caused_chase ms B))) : Type 0 where
   -- the committed updates that are not withdrawn, with the answers delivered to them, have the finishes that the serial machine gives them, and leave its repository
   pub committed : serially ms B S.base (committed_turns (caused_chase ms B) 1 us) ≡ tells ms B S us None
-  -- every mapping in force holds there
+  -- every mapping in force holds in both
   pub hold : AllHold ms (left ms B S us)
+  pub hold_serially : AllHold ms (serial (whole_chase ms B) S.base (map (first_turn ms B) (committed_turns (caused_chase ms B) 1 us))).repository
   -- where it is quiet, that is the serial machine's whole result over all updates that are not withdrawn, with the answers delivered and then those in the inbox
   pub quiet : is_quiet (caused_chase ms B) s us ≡ true → serially ms B S.base (all_turns (caused_chase ms B) 1 us) ≡ tells ms B S us (first_stop (caused_chase ms B) 1 us)
   -- and if besides all updates handed in are admitted, none was withdrawn and none was answered live, it is the serial machine's result on the session

@@ -29,6 +29,7 @@ four_updates = request (Adds (one_in 0)) [] ∷ request (Adds (one_in 2)) [] ∷
 abbrev pub before_conflict : List (Event (caused_chase joining 100))
 before_conflict = Admits ∷ Admits ∷ Admits ∷ Admits ∷ Steps 2 ∷ Steps 2 ∷ Steps 3 ∷ Steps 3 ∷ Steps 4 ∷ Steps 4 ∷ []
 
+-- Update 3 deletes what update 2 inserted, and update 4 finds nothing to delete.
 abbrev pub entries_before : List (Entry (caused_chase joining 100))
 entries_before =
     Admitted 1
@@ -55,6 +56,7 @@ coarse_cause = Depends 4 1 2 ∷ []
 abbrev pub rest_of_three : List (Event (caused_chase joining 100))
 rest_of_three = Steps 1 ∷ Steps 2 ∷ Steps 2 ∷ Steps 2 ∷ Steps 2 ∷ Steps 3 ∷ Steps 3 ∷ []
 
+-- The repair of update 2 stays, and update 3 deletes its C(1) again.
 abbrev pub first_ends : List (Entry (caused_chase joining 100))
 first_ends =
     a_step joining 1 0 (Ended Done) [] [] 1
@@ -65,6 +67,7 @@ first_ends =
     ∷ a_step joining 3 1 Ready (Delete (one_in 2) ∷ []) [] 2
     ∷ []
 
+-- What these histories leave; with coarse dependences update 4 goes once more.
 pub record Cascades : Type 0 where
   pub precise :
       left_by joining 3 Precise [] four_updates (before_conflict ++ Steps 1 ∷ [])
@@ -135,6 +138,7 @@ two_level_entries =
 abbrev pub two_level_causes : ℕ → List (Cause (caused_chase joining_twice 100))
 two_level_causes read = Conflict 2 2 1 Nothing (Image (one_in 0 ∷ one_in 2 ∷ [])) ∷ Depends 3 read 2 ∷ Depends 4 1 3 ∷ []
 
+-- What these histories leave.
 pub record TwoLevels : Type 0 where
   pub precise :
       left_by joining_twice 3 Precise [] four_insertions two_level_events

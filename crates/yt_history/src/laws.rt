@@ -4,6 +4,7 @@ ghost use Rattle.yt_machine.specs.Allowed.{AllowedLaw};
 ghost use Rattle.yt_machine.specs.CallLaw.{CallLaw};
 ghost use Rattle.yt_machine.specs.CauseLaw.{CauseLaw};
 ghost use Rattle.yt_machine.specs.DepsLaw.{DepsLaw};
+ghost use Rattle.yt_machine.specs.Drains.{DrainLaw};
 ghost use Rattle.yt_machine.specs.History.{HistoryLaw};
 ghost use Rattle.yt_machine.specs.LegalLaw.{LegalLaw};
 ghost use Rattle.yt_machine.specs.Local.{LocalLaw};
@@ -80,6 +81,12 @@ pub fn histories_tell_the_trails()
 /// Each step and each delivery lowers the work that is left, so making them while one is allowed comes to an end.
 pub fn steps_and_deliveries_end()
     ensures { (ms : List Rule) (budget : ℕ) → 1 ≤ budget → WorkLaw (caused_chase ms budget) }
+{}
+
+/// A step of the lowest ready update, else a delivery to the lowest that can have one, is allowed while it isn't quiet, and
+/// making them comes to an end where it is quiet, within the work that is left.
+pub fn drains_end_quiet()
+    ensures { (ms : List Rule) (budget : ℕ) → 1 ≤ budget → DrainLaw (caused_chase ms budget) }
 {}
 
 /// Each update does what it was handed in to do; without live answers and withdrawals it has the answers recorded for it.

@@ -31,3 +31,4 @@ pub mod Calls
 pub mod Told
 pub mod Prefixes
 pub mod SmallSimulation
+pub mod Drained

@@ -31,3 +31,4 @@ pub mod CallLaw
 pub mod Trails
 pub mod LegalLaw
 pub mod SmallSessions
+pub mod Drains
