@@ -1,9 +1,10 @@
 -- The nulls in what a history leaves are those of the base and of the present attempts of lower updates.
-use Rattle.std.proofs.Common.{◌≡◌, ℕ, zero, suc, ◌≤◌, ◌<◌, ap, refl, ◌∙◌, List, [], ◌∷◌, Bool, true, false, not, ◌||◌, ◌&&◌, length, Option, Some, None, arith}
+use Rattle.std.proofs.Common.{◌≡◌, ℕ, zero, suc, ◌≤◌, ◌<◌, ap, refl, ◌∙◌, List, [], ◌∷◌, Bool, true, false, not, ◌||◌, ◌&&◌, length, Option, Some, None, arith, map}
 use Rattle.std.specs.Prelude.{◌==◌, nat_lt, if◌then◌else◌, slice_get}
 use Rattle.std.specs.List.{list_any, list_all}
 use Rattle.std.proofs.lemmas.Bool.{and_parts, both_ways, eqb-true, ltb-true, lt-ltb, le-ltb}
 use Rattle.yt_machine.specs.Updates.{Update, hides, trail, below}
+use Rattle.yt_machine.specs.Histories.{event_of}
 use Rattle.yt_machine.specs.History.{IsHistory}
 use Rattle.yt_machine.proofs.Basics.{length_from}
 use Rattle.yt_machine.proofs.Carried.{carried}
@@ -167,27 +168,27 @@ module _ (ms : List Rule) (B : ℕ) (us : List (Update (caused_chase ms B))) whe
       (all_weaker (is_present ms B us n) (is_by (attempts_of ms B us)) (present_by n) t.values (member_passes (are_present ms B us n) E t a g)) e
 
 pub nulls_are_present : NullsArePresent
-nulls_are_present ms B s S es l fit h =
+nulls_are_present ms B s S H us fit h =
     record {
-      trails = λ k u g. made k u g (lower k (length_from l.updates k u g));
+      trails = λ k u g. made k u g (lower k (length_from us k u g));
       views = lower;
-      apart = λ k x t b. apart_in ms B l.updates k (below (caused_chase ms B) S.base l.updates k) (lower k b) x t;
+      apart = λ k x t b. apart_in ms B us k (below (caused_chase ms B) S.base us k) (lower k b) x t;
     }
   where
-    history : IsHistory (caused_chase ms B) s S l
-    history = history_law (caused_chase ms B) (chase_laws caused ms B fit.some_step) s S es l fit.in_order h
+    history : IsHistory (caused_chase ms B) s S record { updates = us; entries = H }
+    history = history_law (caused_chase ms B) (chase_laws caused ms B fit.some_step) s S (map event_of H) record { updates = us; entries = H } fit.in_order h
 
-    made : (k : ℕ) (u : Update (caused_chase ms B)) → slice_get l.updates k ≡ Some u → list_all (are_present ms B l.updates k) (below (caused_chase ms B) S.base l.updates k) ≡ true
-        → TrailPresent ms B l.updates k (trail (caused_chase ms B) u)
+    made : (k : ℕ) (u : Update (caused_chase ms B)) → slice_get us k ≡ Some u → list_all (are_present ms B us k) (below (caused_chase ms B) S.base us k) ≡ true
+        → TrailPresent ms B us k (trail (caused_chase ms B) u)
     made k u g a =
-        trail_present ms B l.updates k u g
-        (λ w o. all_weaker (λ x. list_all (comes_from (below (caused_chase ms B) S.base l.updates k) (suc k) u.attempt u.state.nulls) (written x).values) (λ x. are_present ms B l.updates (suc k) (written x))
-        (λ x e. all_weaker (comes_from (below (caused_chase ms B) S.base l.updates k) (suc k) u.attempt u.state.nulls) (is_present ms B l.updates (suc k)) (value_present ms B l.updates k u (below (caused_chase ms B) S.base l.updates k) g w o a) (written x).values e)
+        trail_present ms B us k u g
+        (λ w o. all_weaker (λ x. list_all (comes_from (below (caused_chase ms B) S.base us k) (suc k) u.attempt u.state.nulls) (written x).values) (λ x. are_present ms B us (suc k) (written x))
+        (λ x e. all_weaker (comes_from (below (caused_chase ms B) S.base us k) (suc k) u.attempt u.state.nulls) (is_present ms B us (suc k)) (value_present ms B us k u (below (caused_chase ms B) S.base us k) g w o a) (written x).values e)
         u.state.own
-        (nulls_come_from caused ms B (below (caused_chase ms B) S.base l.updates k) u.answers (suc k) u.attempt u.operation u.state u.log fit.constants (history.runs k u g w)))
+        (nulls_come_from caused ms B (below (caused_chase ms B) S.base us k) u.answers (suc k) u.attempt u.operation u.state u.log fit.constants (history.runs k u g w)))
 
-    lower : (k : ℕ) → k ≤ length l.updates → list_all (are_present ms B l.updates k) (below (caused_chase ms B) S.base l.updates k) ≡ true
+    lower : (k : ℕ) → k ≤ length us → list_all (are_present ms B us k) (below (caused_chase ms B) S.base us k) ≡ true
     lower k b =
-        carried (caused_chase ms B) (chase_laws caused ms B fit.some_step) (λ n E. list_all (are_present ms B l.updates n) E ≡ true) S.base l.updates k b
-        (base_facts ms B l.updates S.base fit.base fit.first)
-        (λ i u j g a. after_trail ms B l.updates i (below (caused_chase ms B) S.base l.updates i) (trail (caused_chase ms B) u) a (made i u g a))
+        carried (caused_chase ms B) (chase_laws caused ms B fit.some_step) (λ n E. list_all (are_present ms B us n) E ≡ true) S.base us k b
+        (base_facts ms B us S.base fit.base fit.first)
+        (λ i u j g a. after_trail ms B us i (below (caused_chase ms B) S.base us i) (trail (caused_chase ms B) u) a (made i u g a))

@@ -19,7 +19,7 @@ use Rattle.yt_steps.specs.Timely.{repairs_plainly, acts_in_time, ActInTime}
 use Rattle.yt_steps.specs.Rows.{copying, one_in}
 use Rattle.yt_steps.specs.SessionRows.{insert_delete, taking, taken_null, added_copying, added_mapping}
 use Rattle.yt_history.specs.Histories.{submissions, session_of}
-use Rattle.yt_history.specs.Admissible.{is_plain, IsAdmissible}
+use Rattle.yt_history.specs.Admissible.{is_plain, IsAdmissible, requests}
 use Rattle.yt_history.specs.CascadeRows.{joining, four_updates, joining_twice, four_insertions}
 use Rattle.yt_history.specs.Sessions.{SessionsAreAdmissible}
 
@@ -35,6 +35,10 @@ module _ (ms : List Rule) (B : ℕ) where
   joined_nothing : (rs : List Request) → rs ++ [] ≡ rs
   joined_nothing [] = refl
   joined_nothing (r ∷ rs) = ap (λ ss. r ∷ ss) (joined_nothing rs)
+
+  pub same_requests : (D : List Fact) (rs : List Request) → requests ms B (session_of ms B D rs []) ≡ rs
+  same_requests D [] = refl
+  same_requests D (r ∷ rs) = ap (λ ss. r ∷ ss) (same_requests D rs)
 
   pub timely_admissible : (D : List Fact) (rs : List Request) → 1 ≤ B → IsRepository D → AllHold ms D → list_all is_plain D ≡ true → IsBase D → list_all (are_by (λ u. 0)) D ≡ true → HaveNoNulls ms
       → repairs_plainly ms ≡ true → ActInTime ms 1 rs → IsAdmissible ms B (session_of ms B D rs [])
@@ -88,6 +92,7 @@ sessions_are_admissible =
     record {
       timely = λ ms B D rs. timely_admissible ms B D rs;
       grows = λ ms B S x. admissible_grows ms B S x;
+      same = λ ms B D rs. same_requests ms B D rs;
       conflict = timely_admissible copying 100 [] insert_delete (omega arith) none_in_order (λ f. none_violates _ [] [] refl, tt) refl refl refl (refl, tt) refl (refl, (refl, tt));
       taken = timely_admissible taking 100 [] taken_null (omega arith) none_in_order (λ f. none_violates _ [] [] refl, (λ f. none_violates _ [] [] refl, tt)) refl refl refl (refl, (refl, tt)) refl (refl, (refl, (refl, tt)));
       added = timely_admissible added_copying 100 (one_in 0 ∷ []) added_mapping (omega arith) (one_in_order (one_in 0)) (λ f. absurd (false≢true f), tt) refl refl refl (refl, tt) refl (refl, (refl, tt));

@@ -3,8 +3,8 @@ use Rattle.std.proofs.Common.{◌≡◌, ℕ, suc, ◌+◌, ap, refl, sym, ◌�
 use Rattle.std.specs.Prelude.{◌==◌, if◌then◌else◌, slice_get}
 use Rattle.std.proofs.lemmas.Bool.{both_ways}
 use Rattle.yt_machine.specs.Updates.{Update, Submission, Session, Settings}
-use Rattle.yt_machine.specs.Effects.{Event}
-use Rattle.yt_machine.specs.Histories.{Log, empty_log, after}
+use Rattle.yt_machine.specs.Effects.{Entry}
+use Rattle.yt_machine.specs.Histories.{event_of}
 use Rattle.yt_machine.specs.Serial.{Turn, Result, serial, committed_turns, all_turns, session_turns}
 use Rattle.yt_machine.specs.Recorded.{IsRecorded, by_first_attempt}
 use Rattle.yt_machine.specs.History.{IsHistory}
@@ -19,7 +19,7 @@ use Rattle.yt_steps.specs.Timely.{enacts_by, in_time, acts_in_time}
 use Rattle.yt_steps.proofs.ChaseLaws.{chase_laws}
 use Rattle.yt_steps.proofs.Holding.{Kept}
 use Rattle.yt_steps.proofs.Passing.{all_weaker}
-use Rattle.yt_history.specs.Histories.{left}
+use Rattle.yt_history.specs.Histories.{IsLegalHistory, left}
 use Rattle.yt_history.specs.Admissible.{is_plain, IsAdmissible}
 use Rattle.yt_history.specs.AnyOrder.{first_turn, serially, IsSerial, AnyOrder}
 use Rattle.yt_history.proofs.Turns.{Rising, committed_rising, all_rising}
@@ -34,56 +34,56 @@ plain_in_time ms u t h = by (t.relation == force_relation) h
     by true e = absurd (both_ways false refl e)
     by false e = refl
 
-module _ (ms : List Rule) (B : ℕ) (s : Settings) (S : Session (caused_chase ms B)) (es : List (Event (caused_chase ms B))) (l : Log (caused_chase ms B)) (fit : IsAdmissible ms B S) (h : after (caused_chase ms B) s S (empty_log (caused_chase ms B)) es ≡ Some l) where
-  history : IsHistory (caused_chase ms B) s S l
-  history = history_law (caused_chase ms B) (chase_laws caused ms B fit.some_step) s S es l fit.in_order h
+module _ (ms : List Rule) (B : ℕ) (s : Settings) (S : Session (caused_chase ms B)) (H : List (Entry (caused_chase ms B))) (us : List (Update (caused_chase ms B))) (fit : IsAdmissible ms B S) (h : IsLegalHistory ms B s S H us) where
+  history : IsHistory (caused_chase ms B) s S record { updates = us; entries = H }
+  history = history_law (caused_chase ms B) (chase_laws caused ms B fit.some_step) s S (map event_of H) record { updates = us; entries = H } fit.in_order h
 
-  recorded : IsRecorded (caused_chase ms B) S es l.updates
-  recorded = recorded_law (caused_chase ms B) s S es l h
+  recorded : IsRecorded (caused_chase ms B) S (map event_of H) us
+  recorded = recorded_law (caused_chase ms B) s S (map event_of H) record { updates = us; entries = H } h
 
   -- what holds of the base below the first update
   pub base_kept : Kept ms 1 S.base
   base_kept = record { hold = fit.hold; timely = all_weaker is_plain (in_time ms 1) (plain_in_time ms 1) S.base fit.plain }
 
-  pub acts : (k : ℕ) (u : Update (caused_chase ms B)) → slice_get l.updates k ≡ Some u → acts_in_time ms (suc k) u.operation ≡ true
+  pub acts : (k : ℕ) (u : Update (caused_chase ms B)) → slice_get us k ≡ Some u → acts_in_time ms (suc k) u.operation ≡ true
   acts k u g = let x = recorded.operations k u g in ap (acts_in_time ms (suc k)) x.2 ∙ fit.timely k x.0 x.1
 
-  acts_at : (k m : ℕ) (u : Update (caused_chase ms B)) → m ≡ 1 + k → slice_get l.updates k ≡ Some u → acts_in_time ms m u.operation ≡ true
+  acts_at : (k m : ℕ) (u : Update (caused_chase ms B)) → m ≡ 1 + k → slice_get us k ≡ Some u → acts_in_time ms m u.operation ≡ true
   acts_at k m u e g = let n : m ≡ suc k = omega (arith, e) in ap (λ i. acts_in_time ms i u.operation) n ∙ acts k u g
 
-  attempt_at : (k m : ℕ) (u : Update (caused_chase ms B)) → m ≡ 1 + k → slice_get l.updates k ≡ Some u → attempts_of ms B l.updates m ≡ u.attempt
-  attempt_at k m u e g = let n : m ≡ suc k = omega (arith, e) in ap (attempts_of ms B l.updates) n ∙ ap (attempt_in ms B) g
+  attempt_at : (k m : ℕ) (u : Update (caused_chase ms B)) → m ≡ 1 + k → slice_get us k ≡ Some u → attempts_of ms B us m ≡ u.attempt
+  attempt_at k m u e g = let n : m ≡ suc k = omega (arith, e) in ap (attempts_of ms B us) n ∙ ap (attempt_in ms B) g
 
   abbrev Timely : List (Turn (caused_chase ms B)) → Type 0
   Timely ts = Rising (caused_chase ms B) (InTime ms B fit.some_step fit.constants fit.repairs) 1 ts
 
   abbrev Present : List (Turn (caused_chase ms B)) → Type 0
-  Present ts = Rising (caused_chase ms B) (IsPresent ms B l.updates) 1 ts
+  Present ts = Rising (caused_chase ms B) (IsPresent ms B us) 1 ts
 
   -- what the serial machine tells of turns that come to this result one after the other
   tells_same : (ts : List (Turn (caused_chase ms B))) (r : Result (caused_chase ms B)) → Timely ts → Present ts → serial (caused_chase ms B) S.base ts ≡ r → serially ms B S.base ts ≡ outer_told (told caused ms B r)
   tells_same ts r t p e =
       sym (told_first ms B fit.some_step fit.constants ts S.base fit.first)
-      ∙ outer_turns ms B fit.some_step fit.constants fit.repairs l.updates 1 ts S.base t p base_kept fit.base
+      ∙ outer_turns ms B fit.some_step fit.constants fit.repairs us 1 ts S.base t p base_kept fit.base
       ∙ ap (λ r. outer_told (told caused ms B r)) e
 
-  committed_timely : Timely (committed_turns (caused_chase ms B) 1 l.updates)
-  committed_timely = committed_rising (caused_chase ms B) (InTime ms B fit.some_step fit.constants fit.repairs) 1 l.updates acts_at
+  committed_timely : Timely (committed_turns (caused_chase ms B) 1 us)
+  committed_timely = committed_rising (caused_chase ms B) (InTime ms B fit.some_step fit.constants fit.repairs) 1 us acts_at
 
-  committed_present : Present (committed_turns (caused_chase ms B) 1 l.updates)
-  committed_present = committed_rising (caused_chase ms B) (IsPresent ms B l.updates) 1 l.updates attempt_at
+  committed_present : Present (committed_turns (caused_chase ms B) 1 us)
+  committed_present = committed_rising (caused_chase ms B) (IsPresent ms B us) 1 us attempt_at
 
-  all_timely : Timely (all_turns (caused_chase ms B) 1 l.updates)
-  all_timely = all_rising (caused_chase ms B) (InTime ms B fit.some_step fit.constants fit.repairs) 1 l.updates acts_at
+  all_timely : Timely (all_turns (caused_chase ms B) 1 us)
+  all_timely = all_rising (caused_chase ms B) (InTime ms B fit.some_step fit.constants fit.repairs) 1 us acts_at
 
-  all_present : Present (all_turns (caused_chase ms B) 1 l.updates)
-  all_present = all_rising (caused_chase ms B) (IsPresent ms B l.updates) 1 l.updates attempt_at
+  all_present : Present (all_turns (caused_chase ms B) 1 us)
+  all_present = all_rising (caused_chase ms B) (IsPresent ms B us) 1 us attempt_at
 
-  holds : AllHold ms (left ms B S l.updates)
+  holds : AllHold ms (left ms B S us)
   holds =
       subst (λ (r : Result (caused_chase ms B)). AllHold ms r.repository) history.as_serial
-      (subst (λ (r : Result (whole_chase ms B)). AllHold ms r.repository) (serial_whole ms B fit.some_step fit.constants fit.repairs (committed_turns (caused_chase ms B) 1 l.updates) 1 S.base committed_timely base_kept)
-      (serial_holds ms B fit.some_step fit.constants fit.repairs (committed_turns (caused_chase ms B) 1 l.updates) 1 S.base committed_timely base_kept))
+      (subst (λ (r : Result (whole_chase ms B)). AllHold ms r.repository) (serial_whole ms B fit.some_step fit.constants fit.repairs (committed_turns (caused_chase ms B) 1 us) 1 S.base committed_timely base_kept)
+      (serial_holds ms B fit.some_step fit.constants fit.repairs (committed_turns (caused_chase ms B) 1 us) 1 S.base committed_timely base_kept))
 
   -- in what the serial machine leaves by attempt 0 too
   first_in_time : (n : ℕ) (ts : List (Turn (caused_chase ms B))) → Rising (caused_chase ms B) (InTime ms B fit.some_step fit.constants fit.repairs) n ts
@@ -95,11 +95,11 @@ module _ (ms : List Rule) (B : ℕ) (s : Settings) (S : Session (caused_chase ms
   first_whole [] = refl
   first_whole (t ∷ ts) = ap (λ ss. first_turn ms B t ∷ ss) (first_whole ts)
 
-  holds_serially : AllHold ms (serial (whole_chase ms B) S.base (map (first_turn ms B) (committed_turns (caused_chase ms B) 1 l.updates))).repository
+  holds_serially : AllHold ms (serial (whole_chase ms B) S.base (map (first_turn ms B) (committed_turns (caused_chase ms B) 1 us))).repository
   holds_serially =
-      subst (λ ss. AllHold ms (serial (whole_chase ms B) S.base ss).repository) (first_whole (committed_turns (caused_chase ms B) 1 l.updates))
-      (serial_holds ms B fit.some_step fit.constants fit.repairs (map (by_first_attempt {M = caused_chase ms B}) (committed_turns (caused_chase ms B) 1 l.updates)) 1 S.base
-      (first_in_time 1 (committed_turns (caused_chase ms B) 1 l.updates) committed_timely) base_kept)
+      subst (λ ss. AllHold ms (serial (whole_chase ms B) S.base ss).repository) (first_whole (committed_turns (caused_chase ms B) 1 us))
+      (serial_holds ms B fit.some_step fit.constants fit.repairs (map (by_first_attempt {M = caused_chase ms B}) (committed_turns (caused_chase ms B) 1 us)) 1 S.base
+      (first_in_time 1 (committed_turns (caused_chase ms B) 1 us) committed_timely) base_kept)
 
   -- ---- the whole session
 
@@ -117,21 +117,21 @@ module _ (ms : List Rule) (B : ℕ) (s : Settings) (S : Session (caused_chase ms
   taken_whole [] = refl
   taken_whole (x ∷ xs) = ap (λ ys. x ∷ ys) (taken_whole xs)
 
-  pub serial_law : IsSerial ms B s S es l.updates
+  pub serial_law : IsSerial ms B s S H us
   serial_law =
       record {
-        committed = tells_same (committed_turns (caused_chase ms B) 1 l.updates) _ committed_timely committed_present history.as_serial;
+        committed = tells_same (committed_turns (caused_chase ms B) 1 us) _ committed_timely committed_present history.as_serial;
         hold = holds;
         hold_serially = holds_serially;
-        quiet = λ q. tells_same (all_turns (caused_chase ms B) 1 l.updates) _ all_timely all_present (history.quiet q);
+        quiet = λ q. tells_same (all_turns (caused_chase ms B) 1 us) _ all_timely all_present (history.quiet q);
         session = λ r e q.
             ap (λ ts. told every ms B (serial (whole_chase ms B) S.base ts))
             (sym (session_first 1 S.submissions)
             ∙ ap (λ xs. map (first_turn ms B) (session_turns (caused_chase ms B) 1 xs)) (sym (taken_whole S.submissions) ∙ ap (λ n. take n S.submissions) (sym e))
             ∙ ap (map (first_turn ms B)) (sym (recorded.turns r))
-            ∙ sym (first_again (all_turns (caused_chase ms B) 1 l.updates)))
-            ∙ tells_same (all_turns (caused_chase ms B) 1 l.updates) _ all_timely all_present (history.quiet q);
+            ∙ sym (first_again (all_turns (caused_chase ms B) 1 us)))
+            ∙ tells_same (all_turns (caused_chase ms B) 1 us) _ all_timely all_present (history.quiet q);
       }
 
 pub any_order : AnyOrder
-any_order ms B s S es l fit h = serial_law ms B s S es l fit h
+any_order ms B s S H us fit h = serial_law ms B s S H us fit h

@@ -1,10 +1,10 @@
 -- The theorem of histories: attempts in any order leave what the serial machine leaves, which takes the updates whole, one after the other in number order.
-use Rattle.std.specs.Prelude.{◌≡◌, ℕ, true, List, map, length, Option, Some, None}
+use Rattle.std.specs.Prelude.{◌≡◌, ℕ, true, List, map, length, Option, None}
 use Rattle.std.specs.List.{list_all}
 use Rattle.yt_machine.specs.Updates.{Update, Session, Settings}
 use Rattle.yt_machine.specs.Standings.{is_quiet}
-use Rattle.yt_machine.specs.Effects.{Event}
-use Rattle.yt_machine.specs.Histories.{Log, empty_log, after}
+use Rattle.yt_machine.specs.Effects.{Entry}
+use Rattle.yt_machine.specs.Histories.{event_of}
 use Rattle.yt_machine.specs.Serial.{Turn, Stop, serial, committed_turns, committed_finishes, all_turns, first_stop}
 use Rattle.yt_machine.specs.Recorded.{is_recorded}
 use Rattle.yt_model.specs.Values.{Fact}
@@ -12,7 +12,7 @@ use Rattle.yt_model.specs.Mappings.{Rule, AllHold}
 use Rattle.yt_steps.specs.Chase.{every, caused, whole_chase, caused_chase}
 use Rattle.yt_steps.specs.Serial.{SerialResult, told, serial_result}
 use Rattle.yt_steps.specs.Shifting.{outer_told}
-use Rattle.yt_history.specs.Histories.{left}
+use Rattle.yt_history.specs.Histories.{IsLegalHistory, left}
 use Rattle.yt_history.specs.Admissible.{IsAdmissible, requests}
 
 -- The turn at the serial machine: by attempt 0, and looking at every violation.
@@ -27,8 +27,8 @@ serially ms B D ts = told every ms B (serial (whole_chase ms B) D (map (first_tu
 abbrev pub tells : (ms : List Rule) (B : ℕ) → Session (caused_chase ms B) → List (Update (caused_chase ms B)) → Option (Stop (caused_chase ms B)) → SerialResult
 tells ms B S us stop = outer_told (told caused ms B (record { finishes = committed_finishes (caused_chase ms B) 1 us; stop = stop; repository = left ms B S us }))
 
--- What the events that led to the updates come to.
-pub record IsSerial (ms : List Rule) (B : ℕ) (s : Settings) (S : Session (caused_chase ms B)) (es : List (Event (caused_chase ms B))) (us : List (Update (caused_chase ms B))) : Type 0 where
+-- What a legal history comes to that has these entries and leaves these updates.
+pub record IsSerial (ms : List Rule) (B : ℕ) (s : Settings) (S : Session (caused_chase ms B)) (H : List (Entry (caused_chase ms B))) (us : List (Update (caused_chase ms B))) : Type 0 where
   -- the committed updates that are not withdrawn, with the answers delivered to them, have the finishes that the serial machine gives them, and leave its repository
   pub committed : serially ms B S.base (committed_turns (caused_chase ms B) 1 us) ≡ tells ms B S us None
   -- every mapping in force holds in both
@@ -37,11 +37,11 @@ pub record IsSerial (ms : List Rule) (B : ℕ) (s : Settings) (S : Session (caus
   -- where it is quiet, that is the serial machine's whole result over all updates that are not withdrawn, with the answers delivered and then those in the inbox
   pub quiet : is_quiet (caused_chase ms B) s us ≡ true → serially ms B S.base (all_turns (caused_chase ms B) 1 us) ≡ tells ms B S us (first_stop (caused_chase ms B) 1 us)
   -- and if besides all updates handed in are admitted, none was withdrawn and none was answered live, it is the serial machine's result on the session
-  pub session : list_all is_recorded es ≡ true → length us ≡ length S.submissions → is_quiet (caused_chase ms B) s us ≡ true
+  pub session : list_all is_recorded (map event_of H) ≡ true → length us ≡ length S.submissions → is_quiet (caused_chase ms B) s us ≡ true
       → serial_result ms B S.base (requests ms B S) ≡ tells ms B S us (first_stop (caused_chase ms B) 1 us)
 
--- Whatever the order of admissions, steps, deliveries, answers and withdrawals, the retries and the kind of dependence.
+-- Of every legal history: whatever the order of admissions, steps, deliveries, answers and withdrawals, the retries and the kind of dependence.
 abbrev pub AnyOrder : Type 0
 AnyOrder =
-    (ms : List Rule) (B : ℕ) (s : Settings) (S : Session (caused_chase ms B)) (es : List (Event (caused_chase ms B))) (l : Log (caused_chase ms B)) → IsAdmissible ms B S
-    → after (caused_chase ms B) s S (empty_log (caused_chase ms B)) es ≡ Some l → IsSerial ms B s S es l.updates
+    (ms : List Rule) (B : ℕ) (s : Settings) (S : Session (caused_chase ms B)) (H : List (Entry (caused_chase ms B))) (us : List (Update (caused_chase ms B))) → IsAdmissible ms B S → IsLegalHistory ms B s S H us
+    → IsSerial ms B s S H us

@@ -2,8 +2,7 @@
 use Rattle.std.specs.Prelude.{◌≡◌, ℕ, suc, ◌≤◌, false, List, length, filter, Some, is_some, slice_get}
 use Rattle.yt_machine.specs.Updates.{Update, Session, Settings, view, committed}
 use Rattle.yt_machine.specs.Standings.{standing, is_paused, question_of}
-use Rattle.yt_machine.specs.Effects.{Event}
-use Rattle.yt_machine.specs.Histories.{Log, empty_log, after}
+use Rattle.yt_machine.specs.Effects.{Entry}
 use Rattle.yt_model.specs.Values.{Fact}
 use Rattle.yt_model.specs.Repository.{Change, has}
 use Rattle.yt_model.specs.Mappings.{Rule}
@@ -15,6 +14,7 @@ use Rattle.yt_steps.specs.Rewriting.{in_order, generated}
 use Rattle.yt_steps.specs.Questions.{fits}
 use Rattle.yt_steps.specs.Chase.{caused, caused_chase}
 use Rattle.yt_steps.specs.Looking.{first_in_force}
+use Rattle.yt_history.specs.Histories.{IsLegalHistory}
 use Rattle.yt_history.specs.Admissible.{IsAdmissible}
 
 -- The tuple that the repair generates next is absent from the view, and the candidates are all more specific tuples of the view, at least one.
@@ -48,9 +48,8 @@ pub record AreQuestions (ms : List Rule) (B : ℕ) (s : Settings) (S : Session (
   pub paused : is_some (question_of (caused_chase ms B) s (committed (caused_chase ms B) us) (suc k) u) ≡ is_paused (standing (caused_chase ms B) s (committed (caused_chase ms B) us) (suc k) u)
   pub question : (q : Question) → question_of (caused_chase ms B) s (committed (caused_chase ms B) us) (suc k) u ≡ Some q → IsQuestion ms B S us k u q
 
--- After every history.
+-- After every legal history.
 abbrev pub QuestionsAreOfViews : Type 0
 QuestionsAreOfViews =
-    (ms : List Rule) (B : ℕ) (s : Settings) (S : Session (caused_chase ms B)) (es : List (Event (caused_chase ms B))) (l : Log (caused_chase ms B)) → IsAdmissible ms B S
-    → after (caused_chase ms B) s S (empty_log (caused_chase ms B)) es ≡ Some l
-    → (k : ℕ) (u : Update (caused_chase ms B)) → slice_get l.updates k ≡ Some u → AreQuestions ms B s S l.updates k u
+    (ms : List Rule) (B : ℕ) (s : Settings) (S : Session (caused_chase ms B)) (H : List (Entry (caused_chase ms B))) (us : List (Update (caused_chase ms B))) → IsAdmissible ms B S → IsLegalHistory ms B s S H us
+    → (k : ℕ) (u : Update (caused_chase ms B)) → slice_get us k ≡ Some u → AreQuestions ms B s S us k u

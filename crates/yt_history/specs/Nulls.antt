@@ -2,13 +2,13 @@
 use Rattle.std.specs.Prelude.{◌≡◌, ℕ, zero, suc, ◌≤◌, ◌==◌, nat_lt, Bool, true, false, not, ◌&&◌, ◌||◌, List, length, Option, Some, None, slice_get}
 use Rattle.std.specs.List.{list_all}
 use Rattle.yt_machine.specs.Updates.{Update, Session, Settings, hides, trail, below}
-use Rattle.yt_machine.specs.Effects.{Event}
-use Rattle.yt_machine.specs.Histories.{Log, empty_log, after}
+use Rattle.yt_machine.specs.Effects.{Entry}
 use Rattle.yt_model.specs.Values.{NullName, Datum, Number, Text, Unknown, Fact, outer}
 use Rattle.yt_model.specs.Repository.{has}
 use Rattle.yt_model.specs.Mappings.{Rule}
 use Rattle.yt_steps.specs.Chase.{caused_chase}
 use Rattle.yt_steps.specs.Origins.{written}
+use Rattle.yt_history.specs.Histories.{IsLegalHistory}
 use Rattle.yt_history.specs.Admissible.{IsAdmissible}
 
 -- The update of that number, if there is one.
@@ -39,8 +39,8 @@ pub record ArePresent (ms : List Rule) (B : ℕ) (S : Session (caused_chase ms B
   -- so each update has only one attempt among the nulls, and outer forms tell the tuples apart
   pub apart : (k : ℕ) (s t : Fact) → k ≤ length us → has (below (caused_chase ms B) S.base us k) s ≡ true → has (below (caused_chase ms B) S.base us k) t ≡ true → outer s ≡ outer t → s ≡ t
 
--- After every history.
+-- After every legal history.
 abbrev pub NullsArePresent : Type 0
 NullsArePresent =
-    (ms : List Rule) (B : ℕ) (s : Settings) (S : Session (caused_chase ms B)) (es : List (Event (caused_chase ms B))) (l : Log (caused_chase ms B)) → IsAdmissible ms B S
-    → after (caused_chase ms B) s S (empty_log (caused_chase ms B)) es ≡ Some l → ArePresent ms B S l.updates
+    (ms : List Rule) (B : ℕ) (s : Settings) (S : Session (caused_chase ms B)) (H : List (Entry (caused_chase ms B))) (us : List (Update (caused_chase ms B))) → IsAdmissible ms B S → IsLegalHistory ms B s S H us
+    → ArePresent ms B S us

@@ -14,10 +14,10 @@ use Rattle.yt_steps.specs.Timely.{repairs_plainly, acts_in_time, ActInTime}
 use Rattle.yt_steps.specs.Rows.{copying, one_in}
 use Rattle.yt_steps.specs.SessionRows.{insert_delete, taking, taken_null, added_copying, added_mapping}
 use Rattle.yt_history.specs.Histories.{session_of}
-use Rattle.yt_history.specs.Admissible.{is_plain, IsAdmissible}
+use Rattle.yt_history.specs.Admissible.{is_plain, IsAdmissible, requests}
 use Rattle.yt_history.specs.CascadeRows.{joining, four_updates, joining_twice, four_insertions}
 
--- What makes a session admissible.
+-- What makes a session admissible, and what it was made of.
 pub record SessionsAreAdmissible : Type 0 where
   -- the updates of the session act in time
   pub timely : (ms : List Rule) (B : ℕ) (D : List Fact) (rs : List Request) → 1 ≤ B → IsRepository D → AllHold ms D → list_all is_plain D ≡ true → IsBase D → list_all (are_by (λ u. 0)) D ≡ true → HaveNoNulls ms
@@ -25,6 +25,8 @@ pub record SessionsAreAdmissible : Type 0 where
   -- one more update that acts in time is handed in
   pub grows : (ms : List Rule) (B : ℕ) (S : Session (caused_chase ms B)) (x : Submission (caused_chase ms B)) → IsAdmissible ms B S → acts_in_time ms (suc (length S.submissions)) x.operation ≡ true
       → IsAdmissible ms B (with_more S (x ∷ []))
+  -- the session has the requests that it was made of
+  pub same : (ms : List Rule) (B : ℕ) (D : List Fact) (rs : List Request) → requests ms B (session_of ms B D rs []) ≡ rs
   -- the sessions of the worked histories
   pub conflict : IsAdmissible copying 100 (session_of copying 100 [] insert_delete [])
   pub taken : IsAdmissible taking 100 (session_of taking 100 [] taken_null [])
