@@ -1,13 +1,12 @@
-// A library with one function.
+//! The first violation of a mapping in a set of tuples: of all, or of those that an update's own writes caused.
 #![tactic(auto)]
 
-ghost use Rattle.std.specs.Prelude.{◌≡◌};
-ghost use Rattle.yt_violation.specs.Echo.{echo_of};
+mod caused;
+mod first;
+mod least;
+mod scope;
+mod unmet;
 
-// The `ensures` clause is the contract: what `echo` returns is `echo_of` of its argument, a definition
-// in `specs/Echo.antt`, which a caller's clause can cite too.
-pub fn echo(x: usize) -> usize
-    ensures { result ≡ echo_of x }
-{
-    x
-}
+pub use crate::first::{first_violation, holds};
+pub use crate::scope::Scope;
+pub use yt_match::Matched;
