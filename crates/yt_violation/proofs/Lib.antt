@@ -1,0 +1,5 @@
+pub mod Loops
+pub mod Merging
+pub mod Seeding
+pub mod Causing
+pub mod Firsts

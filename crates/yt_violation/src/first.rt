@@ -1,0 +1,61 @@
+//! The first violation of a mapping, and whether it holds.
+ghost use Rattle.std.specs.Prelude.{◌≡◌, Some, map, IfOk, IfSome};
+ghost use Rattle.std.specs.Bool.{Decides};
+ghost use Rattle.std.specs.Option.{option_map};
+ghost use Rattle.yt_model.specs.Mappings.{Holds};
+ghost use Rattle.yt_model.specs.Matching.{learn_all, nothing_known};
+ghost use Rattle.yt_model.specs.Violations.{first_violation as first_violation_lem};
+ghost use Rattle.yt_base.specs.Meanings.{fact_of, rule_of};
+ghost use Rattle.yt_base.specs.Maps.{known_of};
+ghost use Rattle.yt_match.specs.Partial.{known_at};
+ghost use Rattle.yt_violation.specs.Scopes.{scope_of, own_of};
+
+use crate::caused::first_caused;
+use crate::scope::Scope;
+use crate::unmet::first_unmet;
+use std::alloc::Global;
+use yt_base::{Direction, Facts, Mapping, Memory};
+use yt_match::{Matched, PartialMatch};
+
+/// The violation of the mapping in the facts, among those that count, whose image is least, compared tuple by
+/// tuple; None exactly where none counts. A violation is a match of the left side that no match of the right side
+/// extends; its binding has the variables of the left side. It is refused only for want of memory.
+pub fn first_violation<F: Facts>(
+    alloc: Global,
+    mapping: &Mapping,
+    facts: &F,
+    scope: Scope<'_>,
+) -> Result<Option<Matched>, Memory>
+    ensures image { IfOk result (λ found. option_map (λ violation. map fact_of violation.image.items) found ≡ first_violation_lem (scope_of scope.entry) (own_of scope.entry) (rule_of mapping.now) (F.tuples facts.now)) }
+    ensures binding { IfOk result (λ found. IfSome found (λ violation. learn_all (rule_of mapping.now).left (map fact_of violation.image.items) nothing_known ≡ Some (known_of violation.binding))) }
+{
+    match first_in_scope(alloc, mapping, facts, scope)? {
+        Some(partial) => Ok(Some(partial.to_matched(alloc)?)),
+        None => Ok(None),
+    }
+}
+
+// The first violation among those that count, with the tuples and values of the facts.
+fn first_in_scope<'a, F: Facts>(
+    alloc: Global,
+    mapping: &Mapping,
+    facts: &'a F,
+    scope: Scope<'a>,
+) -> Result<Option<PartialMatch<'a>>, Memory>
+    ensures image { IfOk result (λ found. option_map (λ q. q.image) found ≡ first_violation_lem (scope_of scope.entry) (own_of scope.entry) (rule_of mapping.now) (F.tuples facts.now)) }
+    ensures known { IfOk result (λ found. IfSome found (λ q. learn_all (rule_of mapping.now).left q.image nothing_known ≡ Some (known_at q))) }
+{
+    match scope {
+        Scope::All => first_unmet(PartialMatch::new(alloc), mapping, facts),
+        Scope::Forward(own) => first_caused(alloc, mapping, Direction::Forward, own, facts),
+        Scope::Backward(own) => first_caused(alloc, mapping, Direction::Backward, own, facts),
+    }
+}
+
+/// Whether the mapping holds in the facts: it has no violation there. It is refused only for want of memory.
+pub fn holds<F: Facts>(alloc: Global, mapping: &Mapping, facts: &F) -> Result<bool, Memory>
+    ensures decides { IfOk result (λ answer. Decides answer (Holds (rule_of mapping.now) (F.tuples facts.now))) }
+{
+    let first = first_in_scope(alloc, mapping, facts, Scope::All)?;
+    Ok(first.is_none())
+}

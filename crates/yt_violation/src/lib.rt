@@ -1,0 +1,12 @@
+//! The first violation of a mapping in a set of tuples: of all, or of those that an update's own writes caused.
+#![tactic(auto)]
+
+mod caused;
+mod first;
+mod least;
+mod scope;
+mod unmet;
+
+pub use crate::first::{first_violation, holds};
+pub use crate::scope::Scope;
+pub use yt_match::Matched;
