@@ -44,7 +44,7 @@ fewer q D o t next s f e n = ap (λ x. length (ahead q D x)) e ∙ ap (λ (l : L
 
 -- ---- the courses
 
-through : (t v u : Fact) → is_lt (fact_cmp t v) ≡ true → is_lt (fact_cmp v u) ≡ true → is_lt (fact_cmp t u) ≡ true
+pub through : (t v u : Fact) → is_lt (fact_cmp t v) ≡ true → is_lt (fact_cmp v u) ≡ true → is_lt (fact_cmp t u) ≡ true
 through t v u e f = ap is_lt (fact_total.trans t v u (lt_less t v e) (lt_less v u f))
 
 -- What is of the relation of a tuple, by its relation or by that of another.

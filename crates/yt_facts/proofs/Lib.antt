@@ -3,3 +3,5 @@ pub mod Reading
 pub mod Unions
 pub mod Courses
 pub mod Overlays
+pub mod Groups
+pub mod Indexing

@@ -2,9 +2,12 @@
 //! column. All are `Facts`, and mean the list of their tuples in order.
 #![tactic(auto)]
 
+mod columns;
+mod indexed;
 mod overlay;
 mod plain;
 mod scanned;
 
+pub use crate::indexed::IndexedFacts;
 pub use crate::overlay::Overlay;
 pub use crate::plain::PlainFacts;

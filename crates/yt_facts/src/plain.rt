@@ -1,6 +1,8 @@
 //! An ordered set of tuples.
-ghost use Rattle.std.specs.Prelude.{◌≡◌, [], not, length, map, IfOk, OnOk, OnErr, IfErr};
-ghost use Rattle.yt_model.specs.Repository.{has, change, Insert, Delete};
+ghost use Rattle.std.specs.Option.{option_map, option_copied};
+ghost use Rattle.std.specs.Prelude.{◌≡◌, [], not, length, map, find, IfOk, OnOk, OnErr, IfErr};
+ghost use Rattle.yt_model.specs.Repository.{has, change, Insert, Delete, IsRepository};
+ghost use Rattle.yt_model.specs.Cursors.{is_beyond};
 ghost use Rattle.yt_base.specs.Meanings.{fact_of};
 
 use crate::scanned::{is_scanned, of_relation};
@@ -48,6 +50,21 @@ impl PlainFacts {
         ensures length { result ≡ length self.now }
     {
         self.tuples.len()
+    }
+
+    /// The least of all tuples, or of those beyond `past` where that is given; None exactly where there is none. It
+    /// takes no memory.
+    pub fn beyond(&self, past: Option<&Tuple>) -> Option<&Tuple>
+        ensures found { option_map fact_of (option_copied result) ≡ find (is_beyond (option_map fact_of (option_copied past.entry))) self.now }
+        ensures in_order { IsRepository self.now }
+    {
+        match past {
+            Some(tuple) => self
+                .tuples
+                .range((Bound::Excluded(tuple), Bound::Unbounded))
+                .next(),
+            None => self.tuples.iter().next(),
+        }
     }
 
     /// Puts a tuple in, and tells whether it is new. It is refused only for want of memory; it then hands the tuple

@@ -1,0 +1,20 @@
+use Rattle.std.proofs.Common.{◌∙◌, ap, sym, refl, Option, Bor}
+use Rattle.std.specs.Option.{option_map, option_copied}
+use Rattle.std.specs.Ordering.{is_lt}
+use Rattle.std.specs.Prelude.{find}
+use Rattle.yt_model.specs.Values.{Fact, fact_cmp}
+use Rattle.yt_model.specs.Cursors.{is_beyond}
+use Rattle.yt_model.proofs.Bools.{and-true}
+use Rattle.yt_model.proofs.Ranges.{above}
+use Rattle.yt_model.proofs.Searches.{find_same}
+use Rattle.yt_base.specs.Meanings.{fact_of}
+use Rattle.yt_base.specs.declared.tuples.Tuple.{Tuple}
+use Rattle.yt_facts.proofs.Reading.{next_is_find}
+use Rattle.yt_facts.proofs.plain.PlainFacts.beyond.Goals as goal
+
+pub returns-in-Some-clause-found : goal.returns-in-Some-clause-found
+returns-in-Some-clause-found c =
+    let t = fact_of c.in-Some.tuple.now in
+    next_is_find _ (above t) (λ k. refl) c.self.inside.tuples.keys _ _ _ (c.range.ensures.between tt) c.next.ensures.steps
+    ∙ find_same (above t) (λ u. is_lt (fact_cmp t u)) (λ u. and-true (is_lt (fact_cmp t u))) _
+    ∙ (λ i. find (is_beyond (option_map fact_of (option_copied (sym c.in-Some.is i)))) (c.self.view_is i))

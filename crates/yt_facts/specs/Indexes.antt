@@ -1,0 +1,37 @@
+-- The index of a set: for each column, the tuples by their value in it.
+use Rattle.std.specs.BTreeMap.{BTreeMap}
+use Rattle.std.specs.Map.{lookup}
+use Rattle.std.specs.Prelude.{◌≡◌, ℕ, Bool, true, List, [], unwrap_or, slice_get, Option, Some, None}
+use Rattle.yt_model.specs.Values.{Datum, Fact, same_datum}
+use Rattle.yt_model.specs.Repository.{has}
+use Rattle.yt_model.specs.Cursors.{has_at}
+use Rattle.yt_base.specs.Meanings.{datum_of}
+use Rattle.yt_base.specs.declared.values.Value.{Value}
+
+-- The tuples that one column keeps at a value.
+abbrev pub group_in : BTreeMap Value (List Fact) → Datum → List Fact
+group_in m d = unwrap_or (lookup (λ k. same_datum d (datum_of k)) m.entries) []
+
+-- The tuples that column c keeps at value d; none past the last column.
+abbrev pub group_at : List (BTreeMap Value (List Fact)) → ℕ → Datum → List Fact
+group_at ms c d = at (slice_get ms c)
+  where
+    at : Option (BTreeMap Value (List Fact)) → List Fact
+    at None = []
+    at (Some m) = group_in m d
+
+-- Each tuple of the set is kept in each of its columns at its value there. There may be more.
+abbrev pub IsIndex : List Fact → List (BTreeMap Value (List Fact)) → Type 0
+IsIndex D ms = (t : Fact) (c : ℕ) (d : Datum) → has D t ≡ true → has_at c d t ≡ true → has (group_at ms c d) t ≡ true
+
+-- What one column kept of the tuples that pass, it keeps.
+abbrev pub Keeps : (Fact → Bool) → BTreeMap Value (List Fact) → BTreeMap Value (List Fact) → Type 0
+Keeps p m n = (d : Datum) (u : Fact) → p u ≡ true → has (group_in m d) u ≡ true → has (group_in n d) u ≡ true
+
+-- What the columns kept of the tuples that pass, they keep.
+abbrev pub KeepsAll : (Fact → Bool) → List (BTreeMap Value (List Fact)) → List (BTreeMap Value (List Fact)) → Type 0
+KeepsAll p ms ns = (c : ℕ) (d : Datum) (u : Fact) → p u ≡ true → has (group_at ms c d) u ≡ true → has (group_at ns c d) u ≡ true
+
+-- Any tuple passes.
+abbrev pub any_tuple : Fact → Bool
+any_tuple u = true

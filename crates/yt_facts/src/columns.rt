@@ -1,0 +1,145 @@
+//! The index of a set: for each column, the tuples by their value in it. Each column holds its own copies.
+ghost use Rattle.std.specs.Prelude.{◌≡◌, ℕ, true, not, ◌<◌, length, unwrap_or, [], IsTrue, OnOk};
+ghost use Rattle.std.specs.Option.{option_copied};
+ghost use Rattle.yt_model.specs.Values.{Datum, Fact, same_fact};
+ghost use Rattle.yt_model.specs.Repository.{has, IsRepository};
+ghost use Rattle.yt_model.specs.Cursors.{has_at};
+ghost use Rattle.yt_base.specs.Meanings.{fact_of, datum_of};
+ghost use Rattle.yt_facts.specs.Indexes.{group_in, group_at, IsIndex, Keeps, KeepsAll, any_tuple};
+
+use crate::plain::PlainFacts;
+use std::alloc::Global;
+use std::collections::BTreeMap;
+use yt_base::{Facts, Memory, TryCopy, Tuple, Value};
+
+/// The tuples by their value in one column.
+pub type Groups = BTreeMap<Value, PlainFacts>;
+
+/// The tuples that the column keeps at the value, if there is such a column and such a value in it.
+pub fn group<'a>(columns: &'a Vec<Groups>, column: usize, value: &Value) -> Option<&'a PlainFacts>
+    ensures group { unwrap_or (option_copied result) [] ≡ group_at columns.now.items column (datum_of value.now) }
+{
+    match columns.get(column) {
+        Some(groups) => groups.get(value),
+        None => None,
+    }
+}
+
+/// Keeps a copy of the tuple in each of its columns. What was kept is kept, also where memory is wanting.
+pub fn index(columns: &mut Vec<Groups>, alloc: Global, tuple: &Tuple) -> Result<(), Memory>
+    ensures kept { KeepsAll any_tuple columns.old.items columns.new.items }
+    ensures put { OnOk result ((c : ℕ) (d : Datum) → has_at c d (fact_of tuple.now) ≡ true → has (group_at columns.new.items c d) (fact_of tuple.now) ≡ true) }
+{
+    let values = tuple.values.as_slice();
+    for column in 0..values.len() {
+        let value = values[column].copy(alloc)?;
+        add_at(columns, alloc, column, value, tuple.copy(alloc)?)?;
+    }
+    Ok(())
+}
+
+/// Takes the tuple out of each of its columns. The others are kept. It takes no memory.
+pub fn sweep(columns: &mut Vec<Groups>, tuple: &Tuple)
+    ensures kept { KeepsAll (λ u. not (same_fact u (fact_of tuple.now))) columns.old.items columns.new.items }
+{
+    let values = tuple.values.as_slice();
+    for column in 0..values.len() {
+        sweep_at(columns, column, &values[column], tuple);
+    }
+}
+
+// Keeps the tuple in this column, at its value there.
+fn add_at(
+    columns: &mut Vec<Groups>,
+    alloc: Global,
+    column: usize,
+    value: Value,
+    tuple: Tuple,
+) -> Result<(), Memory>
+    ensures kept { KeepsAll any_tuple columns.old.items columns.new.items }
+    ensures put { OnOk result (has (group_at columns.new.items column (datum_of value)) (fact_of tuple) ≡ true) }
+{
+    reach(columns, alloc, column)?;
+    add(&mut columns[column], alloc, value, tuple)
+}
+
+// Makes the columns up to this one, where they are not there yet.
+fn reach(columns: &mut Vec<Groups>, alloc: Global, column: usize) -> Result<(), Memory>
+    ensures kept { KeepsAll any_tuple columns.old.items columns.new.items }
+    ensures there { OnOk result (column < length columns.new.items) }
+{
+    while columns.len() <= column {
+        columns.push(BTreeMap::new(alloc))?;
+    }
+    Ok(())
+}
+
+// Keeps the tuple at the value.
+fn add(groups: &mut Groups, alloc: Global, value: Value, tuple: Tuple) -> Result<(), Memory>
+    ensures kept { Keeps any_tuple groups.old groups.new }
+    ensures put { OnOk result (has (group_in groups.new (datum_of value)) (fact_of tuple) ≡ true) }
+{
+    match groups.get_mut(&value) {
+        Some(group) => return put(group, tuple),
+        None => {}
+    }
+    let mut group = PlainFacts::new(alloc);
+    put(&mut group, tuple)?;
+    match groups.insert(value, group) {
+        Ok(_) => Ok(()),
+        Err(_) => Err(Memory),
+    }
+}
+
+// Puts the tuple into the group.
+fn put(group: &mut PlainFacts, tuple: Tuple) -> Result<(), Memory>
+    ensures kept { (u : Fact) → has group.old u ≡ true → has group.new u ≡ true }
+    ensures put { OnOk result (has group.new (fact_of tuple) ≡ true) }
+{
+    match group.insert(tuple) {
+        Ok(_) => return Ok(()),
+        Err(_) => return Err(Memory),
+    }
+}
+
+// Takes the tuple out of this column, where it has the value.
+fn sweep_at(columns: &mut Vec<Groups>, column: usize, value: &Value, tuple: &Tuple)
+    ensures kept { KeepsAll (λ u. not (same_fact u (fact_of tuple.now))) columns.old.items columns.new.items }
+{
+    match columns.get_mut(column) {
+        Some(groups) => take_out(groups, value, tuple),
+        None => {}
+    }
+}
+
+// Takes the tuple out of the group of the value, and an empty group away.
+fn take_out(groups: &mut Groups, value: &Value, tuple: &Tuple)
+    ensures kept { Keeps (λ u. not (same_fact u (fact_of tuple.now))) groups.old groups.new }
+{
+    remove_from(groups, value, tuple);
+    if is_vacant(groups.get(value)) {
+        groups.remove(value);
+    }
+}
+
+// Takes the tuple out of the group of the value.
+fn remove_from(groups: &mut Groups, value: &Value, tuple: &Tuple)
+    ensures kept { Keeps (λ u. not (same_fact u (fact_of tuple.now))) groups.old groups.new }
+{
+    match groups.get_mut(value) {
+        Some(group) => {
+            group.remove(tuple);
+        }
+        None => {}
+    }
+}
+
+// Whether there is a group, without a tuple.
+fn is_vacant(group: Option<&PlainFacts>) -> bool
+    ensures vacant { IsTrue result → unwrap_or (option_copied group.entry) [] ≡ [] }
+{
+    match group {
+        Some(group) => group.len() == 0,
+        None => false,
+    }
+}

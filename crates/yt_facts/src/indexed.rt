@@ -1,0 +1,203 @@
+//! An ordered set of tuples with an index on each column.
+ghost use Rattle.std.specs.Prelude.{◌≡◌, [], not, length, map, IfOk, OnOk, OnErr, IfErr};
+ghost use Rattle.std.specs.Option.{option_map, option_copied};
+ghost use Rattle.yt_model.specs.Repository.{has, change, Insert, Delete, IsRepository};
+ghost use Rattle.yt_model.proofs.Scans.{start_of};
+ghost use Rattle.yt_base.specs.Meanings.{fact_of};
+ghost use Rattle.yt_facts.specs.Indexes.{IsIndex};
+
+use crate::columns::{Groups, group, index, sweep};
+use crate::plain::PlainFacts;
+use crate::scanned::is_scanned;
+use std::alloc::Global;
+use std::marker::Model;
+use yt_base::{Facts, Memory, TryCopy, Tuple, TupleList, Value};
+
+/// A set of tuples with, for each relation and column, its tuples in the order of their values there. So a scan by
+/// column takes steps as many as the logarithm of the set's size, as insertions, deletions and cursors do. Each tuple
+/// is held once more for each of its columns. Contracts see the list of its tuples, in order.
+#[derive(Drop)]
+pub struct IndexedFacts {
+    all: PlainFacts,
+    columns: Vec<Groups>,
+    alloc: Global,
+}
+
+impl Model for IndexedFacts {
+    ghost use Rattle.std.specs.Prelude.{List};
+    ghost use Rattle.yt_model.specs.Values.{Fact};
+
+    ghost Value = { List Fact };
+
+    ghost use Rattle.yt_model.specs.Repository.{IsRepository};
+    ghost use Rattle.yt_facts.specs.Indexes.{IsIndex};
+
+    ghost view = { λ f. f.all };
+
+    ghost invariant = { λ f. IsRepository f.all × IsIndex f.all f.columns.items };
+}
+
+impl IndexedFacts {
+    /// The empty set. It takes no memory.
+    pub fn new(alloc: Global) -> IndexedFacts
+        ensures empty { result ≡ [] }
+    {
+        IndexedFacts {
+            all: PlainFacts::new(alloc),
+            columns: Vec::new(alloc),
+            alloc,
+        }
+    }
+
+    /// The same set, with an index. It is refused only for want of memory; it then hands the set back.
+    pub fn of(alloc: Global, facts: PlainFacts) -> Result<IndexedFacts, (PlainFacts, Memory)>
+        ensures same { IfOk result (λ indexed. indexed ≡ facts) }
+        ensures given_back { IfErr result (λ refused. refused.0 ≡ facts) }
+    {
+        match index_all(alloc, &facts) {
+            Ok(columns) => {
+                return Ok(IndexedFacts {
+                    all: facts,
+                    columns,
+                    alloc,
+                });
+            }
+            Err(_) => return Err((facts, Memory)),
+        }
+    }
+
+    /// How many tuples there are.
+    pub fn len(&self) -> usize
+        ensures length { result ≡ length self.now }
+    {
+        self.all.len()
+    }
+
+    /// Puts a tuple in, and tells whether it is new. It is refused only for want of memory; it then hands the tuple
+    /// back, and the set is unchanged.
+    pub fn insert(&mut self, tuple: Tuple) -> Result<bool, (Tuple, Memory)>
+        ensures changed { IfOk result (λ changed. changed ≡ not (has self.old (fact_of tuple))) }
+        ensures ok { OnOk result (self.new ≡ change self.old (Insert (fact_of tuple))) }
+        ensures given_back { IfErr result (λ refused. refused.0 ≡ tuple) }
+        ensures err { OnErr result (self.new ≡ self.old) }
+    {
+        if self.all.contains(&tuple) {
+            return Ok(false);
+        }
+        match index(&mut self.columns, self.alloc, &tuple) {
+            Ok(()) => {}
+            Err(_) => {
+                sweep(&mut self.columns, &tuple);
+                return Err((tuple, Memory));
+            }
+        }
+        match self.all.insert(tuple) {
+            Ok(added) => return Ok(added),
+            Err(refused) => {
+                sweep(&mut self.columns, &refused.0);
+                return Err(refused);
+            }
+        }
+    }
+
+    /// Takes a tuple away, and tells whether it was there. It takes no memory.
+    pub fn remove(&mut self, tuple: &Tuple) -> bool
+        ensures changed { result ≡ has self.old (fact_of tuple.now) }
+        ensures after { self.new ≡ change self.old (Delete (fact_of tuple.now)) }
+    {
+        let there = self.all.remove(tuple);
+        sweep(&mut self.columns, tuple);
+        there
+    }
+
+    /// The tuples in order. It is refused only for want of memory.
+    pub fn list(&self, alloc: Global) -> Result<TupleList, Memory>
+        ensures tuples { IfOk result (λ list. map fact_of list.items ≡ self.now) }
+    {
+        self.all.list(alloc)
+    }
+}
+
+impl TryCopy for IndexedFacts {
+    ghost use Rattle.std.specs.Prelude.{List};
+    ghost use Rattle.yt_model.specs.Values.{Fact};
+
+    ghost Meaning = { List Fact };
+
+    ghost meaning = { λ D. D };
+
+    fn copy(&self, alloc: Global) -> Result<IndexedFacts, Memory>
+        ensures same { IfOk result (λ copy. copy ≡ self.now) }
+    {
+        let all = self.all.copy(alloc)?;
+        Ok(IndexedFacts::of(alloc, all)?)
+    }
+}
+
+impl Facts for IndexedFacts {
+    ghost tuples = { λ D. D };
+
+    fn contains(&self, tuple: &Tuple) -> bool {
+        self.all.contains(tuple)
+    }
+
+    fn first(&self, relation: u16) -> Option<&Tuple> {
+        self.all.first(relation)
+    }
+
+    fn after(&self, tuple: &Tuple) -> Option<&Tuple> {
+        self.all.after(tuple)
+    }
+
+    fn scan(
+        &self,
+        relation: u16,
+        column: u16,
+        value: &Value,
+        past: Option<&Tuple>,
+    ) -> Option<&Tuple> {
+        let Some(kept) = group(&self.columns, column as usize, value) else {
+            let _ = &self.all;
+            return None;
+        };
+        let mut cursor = begin(kept, relation, past);
+        while let Some(found) = cursor {
+            if is_scanned(found, relation, column, value, past) && self.all.contains(found) {
+                return Some(found);
+            }
+            cursor = kept.after(found);
+        }
+        None
+    }
+}
+
+// The first tuple of the relation, past the given one where that is of the relation.
+fn begin<'a>(kept: &'a PlainFacts, relation: u16, past: Option<&Tuple>) -> Option<&'a Tuple>
+    ensures found { option_map fact_of (option_copied result) ≡ start_of kept.now relation (option_map fact_of (option_copied past.entry)) }
+    ensures in_order { IsRepository kept.now }
+{
+    match past {
+        Some(before) => {
+            if before.relation == relation {
+                kept.after(before)
+            } else {
+                kept.first(relation)
+            }
+        }
+        None => kept.first(relation),
+    }
+}
+
+// The columns of all tuples of the set.
+fn index_all(alloc: Global, facts: &PlainFacts) -> Result<Vec<Groups>, Memory>
+    ensures index { IfOk result (λ columns. IsIndex facts.now columns.items) }
+    ensures in_order { IsRepository facts.now }
+{
+    let mut columns = Vec::new(alloc);
+    let mut cursor = facts.beyond(None);
+    while let Some(tuple) = cursor {
+        index(&mut columns, alloc, tuple)?;
+        cursor = facts.beyond(Some(tuple));
+    }
+    Ok(columns)
+}
