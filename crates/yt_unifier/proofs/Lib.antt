@@ -1,0 +1,4 @@
+pub mod Moving
+pub mod Ends
+pub mod Graphs
+pub mod Going

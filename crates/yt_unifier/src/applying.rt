@@ -1,0 +1,37 @@
+//! Functions on nulls, applied to tuples.
+ghost use Rattle.std.specs.Prelude.{◌≡◌, IfOk};
+ghost use Rattle.yt_model.specs.Values.{under};
+ghost use Rattle.yt_base.specs.Meanings.{datum_of, fact_of};
+ghost use Rattle.yt_base.specs.Maps.{images_of, moved_by};
+
+use std::alloc::Global;
+use yt_base::{List, Memory, Sub, TryCopy, Tuple, Value};
+
+/// The tuple with each null that has an image replaced by it. It is refused only for want of memory.
+pub fn apply(alloc: Global, sub: &Sub, tuple: &Tuple) -> Result<Tuple, Memory>
+    ensures value { IfOk result (λ moved. fact_of moved ≡ under (moved_by (images_of sub.now)) (fact_of tuple.now)) }
+{
+    let mut values = List::new(alloc);
+    values.reserve(tuple.values.len())?;
+    for value in tuple.values.as_slice() {
+        values.push(moved(alloc, sub, value)?)?;
+    }
+    Ok(Tuple {
+        relation: tuple.relation,
+        values,
+    })
+}
+
+// The image of the value where it is a null that has one, else the value.
+fn moved(alloc: Global, sub: &Sub, value: &Value) -> Result<Value, Memory>
+    ensures value { IfOk result (λ moved. datum_of moved ≡ moved_by (images_of sub.now) (datum_of value.now)) }
+{
+    match value {
+        Value::Null(null) => match sub.get(*null) {
+            Some(image) => image.copy(alloc),
+            None => value.copy(alloc),
+        },
+        Value::Int(_) => value.copy(alloc),
+        Value::Word(_) => value.copy(alloc),
+    }
+}
