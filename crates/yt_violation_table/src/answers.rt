@@ -1,0 +1,57 @@
+//! The first violations of a mapping in each scope.
+ghost use Rattle.std.specs.Prelude.{◌≡◌, map, IfOk};
+ghost use Rattle.std.specs.Option.{option_map};
+ghost use Rattle.yt_model.specs.Violations.{first_violation as first_violation_lem, Every, Caused, Forward, Backward};
+ghost use Rattle.yt_base.specs.Meanings.{fact_of, rule_of, change_of};
+ghost use Rattle.yt_violation.specs.Scopes.{scope_of, own_of};
+
+use std::alloc::Global;
+use yt_base::{Facts, Mapping, Memory, TupleList, WriteList};
+use yt_violation::{Scope, first_violation};
+
+/// The least image of a violation among all, among those that own writes caused forward, and among those that they
+/// caused backward; None where there is none.
+#[derive(Debug, Drop, PartialEq)]
+pub struct Answers {
+    pub all: Option<TupleList>,
+    pub forward: Option<TupleList>,
+    pub backward: Option<TupleList>,
+}
+
+impl Answers {
+    /// The answers over a set of tuples. It is refused only for want of memory.
+    pub fn over<F: Facts>(
+        alloc: Global,
+        mapping: &Mapping,
+        own: &WriteList,
+        facts: &F,
+    ) -> Result<Answers, Memory>
+        ensures all { IfOk result (λ answers. option_map (λ image. map fact_of image.items) answers.all ≡ first_violation_lem Every (map change_of own.now.items) (rule_of mapping.now) (F.tuples facts.now)) }
+        ensures forward { IfOk result (λ answers. option_map (λ image. map fact_of image.items) answers.forward ≡ first_violation_lem (Caused Forward) (map change_of own.now.items) (rule_of mapping.now) (F.tuples facts.now)) }
+        ensures backward { IfOk result (λ answers. option_map (λ image. map fact_of image.items) answers.backward ≡ first_violation_lem (Caused Backward) (map change_of own.now.items) (rule_of mapping.now) (F.tuples facts.now)) }
+    {
+        let all = first_image(alloc, mapping, facts, Scope::All)?;
+        let forward = first_image(alloc, mapping, facts, Scope::Forward(own))?;
+        let backward = first_image(alloc, mapping, facts, Scope::Backward(own))?;
+        Ok(Answers {
+            all,
+            forward,
+            backward,
+        })
+    }
+}
+
+// The image of the first violation in the scope.
+fn first_image<F: Facts>(
+    alloc: Global,
+    mapping: &Mapping,
+    facts: &F,
+    scope: Scope<'_>,
+) -> Result<Option<TupleList>, Memory>
+    ensures image { IfOk result (λ found. option_map (λ image. map fact_of image.items) found ≡ first_violation_lem (scope_of scope.entry) (own_of scope.entry) (rule_of mapping.now) (F.tuples facts.now)) }
+{
+    match first_violation(alloc, mapping, facts, scope)? {
+        Some(violation) => Ok(Some(violation.image)),
+        None => Ok(None),
+    }
+}

@@ -1,0 +1,65 @@
+//! A case: a mapping, a base, and own writes.
+ghost use Rattle.std.specs.Prelude.{◌≡◌, OnOk};
+ghost use Rattle.yt_model.specs.Repository.{change};
+ghost use Rattle.yt_base.specs.Meanings.{change_of};
+
+use std::alloc::Global;
+use yt_base::{List, Mapping, Memory, TryCopy, Write, WriteList};
+use yt_facts::{IndexedFacts, PlainFacts};
+
+/// A mapping, the tuples before the own writes, and the own writes in turn.
+#[derive(Drop)]
+pub struct Case {
+    pub mapping: Mapping,
+    pub base: PlainFacts,
+    pub own: WriteList,
+}
+
+impl Case {
+    /// The case that has nothing yet. It takes no memory.
+    pub fn new(alloc: Global) -> Case {
+        let mapping = Mapping {
+            name: List::new(alloc),
+            names: List::new(alloc),
+            universal: 0,
+            since: 0,
+            left: List::new(alloc),
+            right: List::new(alloc),
+        };
+        Case {
+            mapping,
+            base: PlainFacts::new(alloc),
+            own: List::new(alloc),
+        }
+    }
+}
+
+/// Makes the write in the plain set. It is refused only for want of memory.
+pub fn write_plain(alloc: Global, facts: &mut PlainFacts, write: &Write) -> Result<(), Memory>
+    ensures ok { OnOk result (facts.new ≡ change facts.old (change_of write.now)) }
+{
+    match write {
+        Write::Insert(tuple) => {
+            facts.insert(tuple.copy(alloc)?)?;
+        }
+        Write::Delete(tuple) => {
+            facts.remove(tuple);
+        }
+    }
+    Ok(())
+}
+
+/// Makes the write in the indexed set. It is refused only for want of memory.
+pub fn write_indexed(alloc: Global, facts: &mut IndexedFacts, write: &Write) -> Result<(), Memory>
+    ensures ok { OnOk result (facts.new ≡ change facts.old (change_of write.now)) }
+{
+    match write {
+        Write::Insert(tuple) => {
+            facts.insert(tuple.copy(alloc)?)?;
+        }
+        Write::Delete(tuple) => {
+            facts.remove(tuple);
+        }
+    }
+    Ok(())
+}
