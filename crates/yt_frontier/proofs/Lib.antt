@@ -1,0 +1,2 @@
+pub mod OuterForms
+pub mod Deciding
