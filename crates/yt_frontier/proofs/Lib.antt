@@ -1,2 +1,2 @@
-pub mod OuterForms
-pub mod Deciding
+mod Rows
+mod Finding

@@ -1,17 +1,13 @@
-//! The questions that the chase asks at its frontier, and which choices of a person fit them.
-//!
-//! What a `Question` means is what a person is shown of a question of `yt_steps`, by `shown_of` and `shown` of
-//! `specs/Shown.antt`. Whether a choice fits depends on that alone.
+//! The questions that the chase asks at its frontiers, and which answers fit them.
 #![tactic(auto)]
 
-mod fitting;
-mod laws;
-mod outer;
-mod questions;
+pub mod named;
+pub mod outer_forms;
+pub mod questions;
 
-pub use crate::fitting::fits;
-pub use crate::laws::what_is_shown_decides;
-pub use crate::questions::Question;
+pub use crate::named::{candidate, is_named, named_tuples};
+pub use crate::outer_forms::{has_outer_form, is_outer_form};
+pub use crate::questions::{Question, fits};
 
 #[cfg(test)]
 mod tests;

@@ -1,13 +1,18 @@
-//! Questions at the frontier.
-ghost use Rattle.std.specs.Prelude.{◌≡◌, IfOk};
-ghost use Rattle.yt_frontier.specs.Shown.{Shown, shown_of};
+//! The questions at a frontier of the chase, and which answers fit them.
+ghost use Rattle.std.specs.Prelude.{◌≡◌, map, IfOk};
+ghost use Rattle.std.specs.List.{list_all};
+ghost use Rattle.yt_base.specs.Meanings.{fact_of, choice_of};
+ghost use Rattle.yt_steps.specs.Attempts.{Question as Asked};
+ghost use Rattle.yt_steps.specs.Questions.{is_outer_of, fits_positive, fits_negative, fits as fits_asked};
+ghost use Rattle.yt_frontier.specs.Inquiries.{Inquiry, inquiry_of, inquiry_in, fits_inquiry};
 
+use crate::outer_forms::has_outer_form;
 use std::alloc::Global;
-use yt_base::{Memory, TryCopy, Tuple, TupleList};
+use yt_base::{Choice, Memory, TryCopy, Tuple, TupleList};
 
-/// A question of the chase. A positive one asks what to do about a generated tuple that has more specific ones, its
-/// candidates; a negative one asks which of the tuples on the left of a violation to delete. `mapping` is the
-/// number of the violated mapping.
+/// A question of the chase. A positive one has the violated mapping's number, the generated tuple, and the
+/// candidates: the tuples of the view that are more specific. A negative one has the violated mapping's number and
+/// the different tuples of its left side, of which at least one is to be deleted.
 #[derive(Debug, Drop)]
 pub enum Question {
     Positive {
@@ -22,12 +27,12 @@ pub enum Question {
 }
 
 impl TryCopy for Question {
-    ghost Meaning = { Shown };
+    ghost Meaning = { Inquiry };
 
-    ghost meaning = { shown_of };
+    ghost meaning = { inquiry_of };
 
     fn copy(&self, alloc: Global) -> Result<Question, Memory>
-        ensures same { IfOk result (λ copy. shown_of copy ≡ shown_of self.now) }
+        ensures same { IfOk result (λ copy. inquiry_of copy ≡ inquiry_of self.now) }
     {
         match self {
             Question::Positive {
@@ -45,4 +50,49 @@ impl TryCopy for Question {
             }),
         }
     }
+}
+
+/// Whether the answer fits the question. A positive question is fitted by `Expand`, and by `Unify` with the outer
+/// form of a candidate; a negative one by `Delete` of at least one of its tuples, each by its outer form, a repeated
+/// one counting once. It takes no memory.
+pub fn fits(question: &Question, choice: &Choice) -> bool
+    ensures answer { result ≡ fits_inquiry (inquiry_of question.now) (choice_of choice.now) }
+    ensures asked { (q : Asked) → inquiry_in q ≡ inquiry_of question.now → result ≡ fits_asked q (choice_of choice.now) }
+{
+    match question {
+        Question::Positive { candidates, .. } => fits_candidates(candidates, choice),
+        Question::Negative { tuples, .. } => fits_tuples(tuples, choice),
+    }
+}
+
+// Whether the answer fits a positive question with these candidates.
+fn fits_candidates(candidates: &TupleList, choice: &Choice) -> bool
+    ensures answer { result ≡ fits_positive (map fact_of candidates.now.items) (choice_of choice.now) }
+{
+    match choice {
+        Choice::Expand => true,
+        Choice::Unify(form) => has_outer_form(candidates, form),
+        Choice::Delete(_) => false,
+    }
+}
+
+// Whether the answer fits a negative question with these tuples.
+fn fits_tuples(tuples: &TupleList, choice: &Choice) -> bool
+    ensures answer { result ≡ fits_negative (map fact_of tuples.now.items) (choice_of choice.now) }
+{
+    match choice {
+        Choice::Expand => false,
+        Choice::Unify(_) => false,
+        Choice::Delete(forms) => !forms.is_empty() && all_are_outer_forms(tuples, forms),
+    }
+}
+
+// Whether each of the forms is the outer form of one of the tuples.
+fn all_are_outer_forms(tuples: &TupleList, forms: &TupleList) -> bool
+    ensures answer { result ≡ list_all (is_outer_of (map fact_of tuples.now.items)) (map fact_of forms.now.items) }
+{
+    forms
+        .as_slice()
+        .iter()
+        .all(|form| has_outer_form(tuples, form))
 }
