@@ -1,5 +1,5 @@
 -- The index keeps up with the set.
-use Rattle.std.proofs.Common.{◌≡◌, ℕ, zero, suc, ◌<◌, length, get_or, arith, ap, refl, sym, ◌∙◌, List, [], ◌∷◌, map, Bool, true, false, ◌||◌, ◌&&◌, not, Option, Some, None, Bor, inl, inr}
+use Rattle.std.proofs.Common.{◌≡◌, ℕ, zero, suc, ◌<◌, length, get_or, arith, ap, refl, sym, ◌∙◌, List, [], ◌∷◌, map, Bool, true, false, ◌||◌, ◌&&◌, not, Option, Some, None, inl, inr}
 use Rattle.std.specs.BTreeMap.{BTreeMap}
 use Rattle.std.specs.BTreeSet.{insert_key}
 use Rattle.std.specs.Cmp.{Equal-is}
@@ -16,7 +16,6 @@ use Rattle.yt_model.proofs.Scans.{scanned_in}
 use Rattle.yt_model.proofs.Sets.{has-insert, has-delete, insert_in_order, same_exact, same_repository}
 use Rattle.yt_base.specs.Meanings.{datum_of}
 use Rattle.yt_base.specs.declared.values.Value.{Value}
-use Rattle.yt_base.specs.declared.tuples.Tuple.{Tuple}
 use Rattle.yt_facts.specs.Courses.{ahead}
 use Rattle.yt_facts.specs.Indexes.{group_at, IsIndex, KeepsAll, any_tuple}
 use Rattle.yt_facts.proofs.Courses.{Follows, all_ahead, through, find_among, scanned_follows}

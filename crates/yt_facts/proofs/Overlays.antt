@@ -1,5 +1,5 @@
 -- What an overlay means: its members, its order, its writes, and what is found in it.
-use Rattle.std.proofs.Common.{◌≡◌, ap, refl, sym, ◌∙◌, List, [], ◌∷◌, Bool, true, false, ◌||◌, ◌&&◌, not, cond, Option, Some}
+use Rattle.std.proofs.Common.{◌≡◌, ap, refl, sym, ◌∙◌, List, [], ◌∷◌, Bool, true, false, ◌||◌, ◌&&◌, not, Option}
 use Rattle.std.specs.Prelude.{find, filter}
 use Rattle.yt_model.specs.Values.{Fact, same_fact}
 use Rattle.yt_model.specs.Repository.{Insert, Delete, IsRepository, change, has}

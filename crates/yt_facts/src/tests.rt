@@ -39,7 +39,11 @@ fn holds_the_seven<F: Facts>(
             Some(numbers) => Some(tuple(alloc, relation, numbers)?),
             None => None,
         };
-        assert_eq!(rt; facts.first(relation), least.as_ref(), "{way}: first of {relation}");
+        assert_eq!(rt;
+            facts.first(relation),
+            least.as_ref(),
+            "{way}: first of {relation}"
+        );
     }
     for (relation, numbers, next) in [
         (1, [0].as_slice(), Some([1].as_slice())),
@@ -74,7 +78,11 @@ fn holds_the_seven<F: Facts>(
             None => None,
         };
         let found = facts.scan(2, column, &Value::Int(number), past.as_ref());
-        assert_eq!(rt; found, next.as_ref(), "{way}: {number} in {column} past {past:?}");
+        assert_eq!(rt;
+            found,
+            next.as_ref(),
+            "{way}: {number} in {column} past {past:?}"
+        );
     }
     Ok(())
 }
@@ -102,8 +110,16 @@ fn the_sets_answer_alike(rt: HostRuntime) -> Result<(), Fail> {
     let mut indexed = IndexedFacts::new(alloc);
     for (at, (relation, numbers)) in INSERTED.iter().enumerate() {
         let new = at != 6;
-        assert_eq!(rt; plain.insert(tuple(alloc, *relation, *numbers)?)?, new, "at {at}");
-        assert_eq!(rt; indexed.insert(tuple(alloc, *relation, *numbers)?)?, new, "at {at}");
+        assert_eq!(rt;
+            plain.insert(tuple(alloc, *relation, *numbers)?)?,
+            new,
+            "at {at}"
+        );
+        assert_eq!(rt;
+            indexed.insert(tuple(alloc, *relation, *numbers)?)?,
+            new,
+            "at {at}"
+        );
     }
     for (relation, numbers, there) in REMOVED {
         let gone = tuple(alloc, relation, numbers)?;
@@ -146,7 +162,17 @@ fn an_overlay_answers_as_the_written_set(rt: HostRuntime) -> Result<(), Fail> {
         Write::Insert(tuple(alloc, 1, &[1])?),
         Write::Insert(tuple(alloc, 3, &[5])?),
     ]?);
-    holds_the_seven(&rt, alloc, &Overlay::new(alloc, &base, &writes)?, "over plain")?;
+    holds_the_seven(
+        &rt,
+        alloc,
+        &Overlay::new(alloc, &base, &writes)?,
+        "over plain",
+    )?;
     let base = IndexedFacts::of(alloc, base)?;
-    holds_the_seven(&rt, alloc, &Overlay::new(alloc, &base, &writes)?, "over indexed")
+    holds_the_seven(
+        &rt,
+        alloc,
+        &Overlay::new(alloc, &base, &writes)?,
+        "over indexed",
+    )
 }

@@ -1,4 +1,4 @@
-use Rattle.std.proofs.Common.{◌≡◌, ◌∙◌, ap, sym, [], List, None, Option, Some, Bor, arith, refl}
+use Rattle.std.proofs.Common.{◌∙◌, ap, sym, [], List, None, Option, Some, Bor, arith, refl}
 use Rattle.std.specs.Option.{option_map, option_copied}
 use Rattle.std.specs.Prelude.{find, unwrap_or}
 use Rattle.yt_model.specs.Values.{Fact}
@@ -17,13 +17,13 @@ returns-in_default-clause-found c =
     let past = option_map fact_of (option_copied c.args.past) in
     let d = datum_of c.args.value.now in
     scan_indexed c.self.inside.all c.self.inside.columns.items c.args.relation c.args.column d past [] None c.self.invariant.0 c.self.invariant.1
-      (ap (λ (o : Option (Bor (List Fact))). unwrap_or (option_copied o) []) (sym (none_left c.group.result c.in_default.not-Some)) ∙ c.group.ensures.group) empty_in_order refl
+    (ap (λ (o : Option (Bor (List Fact))). unwrap_or (option_copied o) []) (sym (none_left c.group.result c.in_default.not-Some)) ∙ c.group.ensures.group) empty_in_order refl
     ∙ ap (λ (E : List Fact). scan_of E c.args.relation c.args.column d past) c.self.view_is
 
 pub loop-cursor-init : goal.loop-cursor-init
 loop-cursor-init c =
     scan_indexed c.self.inside.all c.self.inside.columns.items c.args.relation c.args.column (datum_of c.args.value.now) (option_map fact_of (option_copied c.args.past)) c.in-Some.kept.now (option_map fact_of (option_copied c.scan-cursor.result))
-      c.self.invariant.0 c.self.invariant.1 c.in-Some.ensures.group c.scan-cursor.ensures.in_order c.scan-cursor.ensures.found
+    c.self.invariant.0 c.self.invariant.1 c.in-Some.ensures.group c.scan-cursor.ensures.in_order c.scan-cursor.ensures.found
 
 pub returns-then-contains-clause-found : goal.returns-then-contains-clause-found
 returns-then-contains-clause-found c =
@@ -48,7 +48,7 @@ loop-cursor-preserved c =
     let t = fact_of c.in-Some-cursor.found.now in
     let at = ap (λ (o : Option (Bor Tuple)). option_map fact_of (option_copied o)) c.in-Some-cursor.is in
     miss (has c.self.inside.all) (λ v. is_scanned c.args.relation c.args.column d (Some v)) c.in-Some.kept.now (option_map fact_of (option_copied c.loop-cursor.cursor)) (scan_of c.self.inside.all c.args.relation c.args.column d past) t (option_map fact_of (option_copied c.scan-cursor-in-Some-cursor.result))
-      c.scan-cursor-in-Some-cursor.ensures.in_order (scanned_follows c.args.relation c.args.column d (Some t)) at c.scan-cursor-in-Some-cursor.ensures.found (sym c.if-contains.ensures.answer) c.loop-cursor.invariant
+    c.scan-cursor-in-Some-cursor.ensures.in_order (scanned_follows c.args.relation c.args.column d (Some t)) at c.scan-cursor-in-Some-cursor.ensures.found (sym c.if-contains.ensures.answer) c.loop-cursor.invariant
 
 pub returns-clause-found : goal.returns-clause-found
 returns-clause-found c =

@@ -1,10 +1,6 @@
-use Rattle.std.proofs.Common.{◌∙◌, ap, subst, List}
-use Rattle.std.specs.Option.{option_map, option_copied}
+use Rattle.std.proofs.Common.{subst}
 use Rattle.yt_model.specs.Repository.{IsRepository}
-use Rattle.yt_model.specs.Values.{Fact}
-use Rattle.yt_model.specs.Cursors.{is_of, is_past, first_of}
-use Rattle.yt_base.specs.Meanings.{fact_of}
-use Rattle.yt_facts.specs.Overlaid.{lesser}
+use Rattle.yt_model.specs.Cursors.{is_of, is_past}
 use Rattle.yt_facts.proofs.Courses.{relation_follows}
 use Rattle.yt_facts.proofs.Overlays.{overlay_found, overlaid_in_order}
 use Rattle.yt_facts.proofs.overlay.OverlayFacts.first.Goals as goal
@@ -12,7 +8,7 @@ use Rattle.yt_facts.proofs.overlay.OverlayFacts.first.Goals as goal
 pub returns-clause-found : goal.returns-clause-found
 returns-clause-found g c =
     overlay_found (is_of c.args.relation) is_past (g.F.Facts.tuples c.self.inside.facts.now) c.self.inside.gone c.self.inside.added c.args.self.now _ _ _ _ (relation_follows c.args.relation) c.first-below.ensures.in_order c.first.ensures.in_order c.self.view_is
-      c.first-below.ensures.found c.remaining-left.ensures.found c.first.ensures.found c.least.ensures.least
+    c.first-below.ensures.found c.remaining-left.ensures.found c.first.ensures.found c.least.ensures.least
 
 pub returns-clause-in_order : goal.returns-clause-in_order
 returns-clause-in_order g c = subst IsRepository c.self.view_is (overlaid_in_order (g.F.Facts.tuples c.self.inside.facts.now) c.self.inside.gone c.self.inside.added c.first-below.ensures.in_order)

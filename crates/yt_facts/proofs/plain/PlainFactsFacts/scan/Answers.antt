@@ -1,4 +1,4 @@
-use Rattle.std.proofs.Common.{◌≡◌, ◌∙◌, ap, sym, arith, Option, Bor}
+use Rattle.std.proofs.Common.{ap, sym, arith, Option, Bor}
 use Rattle.std.specs.Option.{option_map, option_copied}
 use Rattle.yt_model.specs.Cursors.{is_past, is_scanned, scan_of}
 use Rattle.yt_base.specs.Meanings.{fact_of, datum_of}
@@ -31,4 +31,4 @@ loop-cursor-preserved c =
     let t = fact_of c.in-Some.found.now in
     let at = ap (λ (o : Option (Bor Tuple)). option_map fact_of (option_copied o)) c.in-Some.is in
     miss (is_scanned c.args.relation c.args.column d past) is_past c.args.self.now (option_map fact_of (option_copied c.loop-cursor.cursor)) (scan_of c.args.self.now c.args.relation c.args.column d past) t (option_map fact_of (option_copied c.after-cursor.result))
-      c.after-cursor.ensures.in_order (past_follows t) at c.after-cursor.ensures.found (sym c.if-is_scanned.ensures.answer) c.loop-cursor.invariant
+    c.after-cursor.ensures.in_order (past_follows t) at c.after-cursor.ensures.found (sym c.if-is_scanned.ensures.answer) c.loop-cursor.invariant
