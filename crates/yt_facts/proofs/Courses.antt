@@ -1,17 +1,18 @@
 -- A cursor that goes on from tuple to tuple goes over all that come after it.
-use Rattle.std.proofs.Common.{◌≡◌, ℕ, suc, length, ap, refl, sym, ◌∙◌, List, ◌∷◌, Bool, true, false, ◌&&◌, cond, Option, Some, None}
+use Rattle.std.proofs.Common.{◌≡◌, ℕ, suc, length, ap, refl, sym, ◌∙◌, List, ◌∷◌, Bool, true, false, ◌&&◌, cond, Option, Some, None, []}
 use Rattle.std.specs.Ordering.{is_lt}
 use Rattle.std.specs.Prelude.{find, filter, ◌==◌}
 use Rattle.std.proofs.lemmas.Bool.{and_parts}
 use Rattle.yt_model.specs.Values.{Datum, Fact, fact_cmp}
 use Rattle.yt_model.specs.Repository.{IsRepository}
-use Rattle.yt_model.specs.Cursors.{is_of, is_past, is_beyond, has_at, is_scanned}
+use Rattle.yt_model.specs.Cursors.{is_of, is_past, is_beyond, has_at, is_scanned, first_of, next_of, scan_of}
 use Rattle.yt_model.proofs.Bools.{differ}
 use Rattle.yt_model.proofs.Cursors.{found_begins, is_of-is}
 use Rattle.yt_model.proofs.Order.{fact_total}
-use Rattle.yt_model.proofs.Searches.{filter_as, none_passes, found_passes}
+use Rattle.yt_model.proofs.Searches.{find_filter, filter_as, none_passes, found_passes}
+use Rattle.yt_model.proofs.Scans.{start_of}
 use Rattle.yt_base.specs.Meanings.{datum_of}
-use Rattle.yt_facts.specs.Overlaid.{ahead, comes_after}
+use Rattle.yt_facts.specs.Courses.{ahead, comes_after}
 use Rattle.yt_facts.specs.declared.overlay.Course.{Course}
 use Rattle.yt_facts.specs.declared.overlay.Course.TheVariants.{Relation, Column}
 use Rattle.yt_facts.proofs.Unions.{lt_less}
@@ -95,3 +96,45 @@ scanned_follows r c d past v u e = by (is_of r u) (is_beyond past u) (has_at c d
 pub course_follows : (course : Course) (t : Fact) → Follows (comes_after course t) (comes_after course)
 course_follows Relation t = past_follows t
 course_follows (Column r c v) t = scanned_follows r c (datum_of v.now) (Some t)
+
+-- ---- where a scan begins
+
+-- What a scan that begins where `start_of` says has ahead finds what the whole set finds.
+pub scan_begins : (r c : ℕ) (d : Datum) (past : Option Fact) (D : List Fact) (o : Option Fact) → IsRepository D → o ≡ start_of D r past → find (is_scanned r c d past) (ahead is_past D o) ≡ scan_of D r c d past
+scan_begins r c d past D o s e = by past e
+  where
+    of_relation : (a x : Bool) → (a && x) ≡ true → a ≡ true
+    of_relation true x f = refl
+    of_relation false x f = differ f
+
+    from_first : (past : Option Fact) → o ≡ first_of D r → find (is_scanned r c d past) (ahead is_past D o) ≡ scan_of D r c d past
+    from_first past h =
+        ap (find (is_scanned r c d past)) (all_ahead (is_of r) is_past D (relation_follows r) s o h)
+        ∙ find_filter (is_scanned r c d past) (is_of r) (λ u. of_relation (is_of r u) (is_beyond past u && has_at c d u)) D
+
+    from_past : (t : Fact) → is_of r t ≡ true → o ≡ next_of D t → find (is_scanned r c d (Some t)) (ahead is_past D o) ≡ scan_of D r c d (Some t)
+    from_past t f h =
+        ap (find (is_scanned r c d (Some t))) (all_ahead (is_past t) is_past D (past_follows t) s o h)
+        ∙ find_filter (is_scanned r c d (Some t)) (is_past t) (λ u g. ap (λ b. b && is_lt (fact_cmp t u)) (sym (same_relation r t u f)) ∙ both_of (is_of r u) (is_lt (fact_cmp t u)) (has_at c d u) g) D
+      where
+        both_of : (a b x : Bool) → (a && (b && x)) ≡ true → (a && b) ≡ true
+        both_of true true x g = refl
+        both_of true false x g = differ g
+        both_of false b x g = differ g
+
+    by : (past : Option Fact) → o ≡ start_of D r past → find (is_scanned r c d past) (ahead is_past D o) ≡ scan_of D r c d past
+    by None h = from_first None h
+    by (Some t) h = at (is_of r t) refl h
+      where
+        at : (b : Bool) → is_of r t ≡ b → o ≡ cond b (next_of D t) (first_of D r) → find (is_scanned r c d (Some t)) (ahead is_past D o) ≡ scan_of D r c d (Some t)
+        at true f g = from_past t f g
+        at false f g = from_first (Some t) g
+
+-- A search among what passes is a search for what passes both.
+pub find_among : (p q : Fact → Bool) (D : List Fact) → find q (filter p D) ≡ find (λ u. p u && q u) D
+find_among p q [] = refl
+find_among p q (u ∷ D) = by (p u) (find_among p q D)
+  where
+    by : (b : Bool) → find q (filter p D) ≡ find (λ v. p v && q v) D → find q (cond b (u ∷ filter p D) (filter p D)) ≡ cond (b && q u) (Some u) (find (λ v. p v && q v) D)
+    by true h = ap (cond (q u) (Some u)) h
+    by false h = h

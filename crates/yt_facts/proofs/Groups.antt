@@ -1,12 +1,12 @@
 -- What a write of one group leaves of the others, and of the other columns.
-use Rattle.std.proofs.Common.{◌≡◌, ℕ, zero, suc, ◌<◌, ◌≤◌, length, arith, ap, refl, sym, ◌∙◌, List, [], ◌∷◌, ◌++◌, map, Bool, true, false, ◌||◌, not, cond, Option, Some, None}
+use Rattle.std.proofs.Common.{◌≡◌, ℕ, zero, suc, ◌<◌, length, arith, ap, refl, sym, ◌∙◌, List, [], ◌∷◌, ◌++◌, Bool, true, false, not, cond, Option, Some, None}
 use Rattle.std.proofs.Math.ListN.{set}
 use Rattle.std.specs.BTreeMap.{BTreeMap, get}
 use Rattle.std.specs.Cmp.{Equal-is}
 use Rattle.std.specs.Ordering.{is_eq, on}
 use Rattle.std.specs.Prelude.{unwrap_or, slice_get}
 use Rattle.std.specs.declared.cmp.Ordering.{Ordering}
-use Rattle.yt_model.specs.Values.{Datum, Number, Text, Unknown, Fact, fact_cmp, same_fact, same_datum, datum_cmp}
+use Rattle.yt_model.specs.Values.{Datum, Number, Text, Unknown, Fact, same_fact, same_datum, datum_cmp}
 use Rattle.yt_model.specs.Repository.{has, change, Insert, Delete}
 use Rattle.yt_model.proofs.Bools.{differ, some_same, both, or_left, or_right}
 use Rattle.yt_model.proofs.Order.{datum_exact}
@@ -14,7 +14,7 @@ use Rattle.yt_model.proofs.Sets.{has-insert, has-delete, same_itself}
 use Rattle.yt_base.specs.Meanings.{datum_of}
 use Rattle.yt_base.specs.declared.values.Value.{Value}
 use Rattle.yt_base.specs.declared.values.Value.TheVariants.{Int, Word, Null}
-use Rattle.yt_facts.specs.Indexes.{group_in, group_at, Keeps, KeepsAll, any_tuple}
+use Rattle.yt_facts.specs.Indexes.{group_in, group_at, Keeps, KeepsAll}
 
 pub put_keeps : (D E : List Fact) (t u : Fact) → E ≡ change D (Insert t) → has D u ≡ true → has E u ≡ true
 put_keeps D E t u e h = ap (λ (F : List Fact). has F u) e ∙ has-insert D t u ∙ or_right (same_fact u t) (has D u) h

@@ -1,5 +1,5 @@
 -- The index keeps up with the set.
-use Rattle.std.proofs.Common.{◌≡◌, ℕ, zero, suc, ◌<◌, length, get_or, arith, ap, refl, sym, ◌∙◌, List, [], ◌∷◌, map, Bool, true, false, ◌||◌, ◌&&◌, not, Option, Some, None, Bor, inl, inr}
+use Rattle.std.proofs.Common.{◌≡◌, ℕ, zero, suc, ◌<◌, length, get_or, arith, ap, refl, sym, ◌∙◌, List, [], ◌∷◌, map, Bool, true, false, ◌||◌, ◌&&◌, not, Option, Some, None, inl, inr}
 use Rattle.std.specs.BTreeMap.{BTreeMap}
 use Rattle.std.specs.BTreeSet.{insert_key}
 use Rattle.std.specs.Cmp.{Equal-is}
@@ -16,10 +16,9 @@ use Rattle.yt_model.proofs.Scans.{scanned_in}
 use Rattle.yt_model.proofs.Sets.{has-insert, has-delete, insert_in_order, same_exact, same_repository}
 use Rattle.yt_base.specs.Meanings.{datum_of}
 use Rattle.yt_base.specs.declared.values.Value.{Value}
-use Rattle.yt_base.specs.declared.tuples.Tuple.{Tuple}
-use Rattle.yt_facts.specs.Overlaid.{ahead}
+use Rattle.yt_facts.specs.Courses.{ahead}
 use Rattle.yt_facts.specs.Indexes.{group_at, IsIndex, KeepsAll, any_tuple}
-use Rattle.yt_facts.proofs.Courses.{Follows, all_ahead, through}
+use Rattle.yt_facts.proofs.Courses.{Follows, all_ahead, through, find_among, scanned_follows}
 
 -- A tuple that is in the set is not one that is not.
 other : (D : List Fact) (t u : Fact) → has D u ≡ true → has D t ≡ false → not (same_fact u t) ≡ true
@@ -114,10 +113,13 @@ index_ends D ms o e x u c d h a = x u c d h (ap (λ p. has (ahead above D p) u) 
 
 -- ---- scans
 
--- A scan of the group of a column's value finds what a scan of the set finds.
-pub scan_indexed : (D : List Fact) (ms : List (BTreeMap Value (List Fact))) (r c : ℕ) (d : Datum) (past : Option Fact) (G : List Fact) → IsRepository D → IsIndex D ms → G ≡ group_at ms c d → IsRepository G
-    → find (λ u. is_scanned r c d past u && has D u) G ≡ scan_of D r c d past
-scan_indexed D ms r c d past G s x e t = scanned_in r c d past D G s t (λ u a h. ap (λ (l : List Fact). has l u) e ∙ x u c d h a)
+-- Of what a scan of the group of a column's value goes over, the first that is in the set is what a scan of the set finds.
+pub scan_indexed : (D : List Fact) (ms : List (BTreeMap Value (List Fact))) (r c : ℕ) (d : Datum) (past : Option Fact) (G : List Fact) (o : Option Fact) → IsRepository D → IsIndex D ms → G ≡ group_at ms c d → IsRepository G → o ≡ scan_of G r c d past
+    → find (has D) (ahead (λ t. is_scanned r c d (Some t)) G o) ≡ scan_of D r c d past
+scan_indexed D ms r c d past G o s x e t h =
+    ap (find (has D)) (all_ahead (is_scanned r c d past) (λ v. is_scanned r c d (Some v)) G (scanned_follows r c d past) t o h)
+    ∙ find_among (is_scanned r c d past) (has D) G
+    ∙ scanned_in r c d past D G s t (λ u a k. ap (λ (l : List Fact). has l u) e ∙ x u c d k a)
 
 -- What is not something is nothing.
 pub none_left : {A : Type 0} (o : Option A) → ((x : A) → o ≡ Some x → ⊥) → o ≡ None

@@ -1,15 +1,16 @@
 -- What an overlay means: its members, its order, its writes, and what is found in it.
-use Rattle.std.proofs.Common.{◌≡◌, ap, refl, sym, ◌∙◌, List, [], ◌∷◌, Bool, true, false, ◌||◌, ◌&&◌, not, cond, Option, Some}
+use Rattle.std.proofs.Common.{◌≡◌, ap, refl, sym, ◌∙◌, List, [], ◌∷◌, Bool, true, false, ◌||◌, ◌&&◌, not, Option}
 use Rattle.std.specs.Prelude.{find, filter}
 use Rattle.yt_model.specs.Values.{Fact, same_fact}
 use Rattle.yt_model.specs.Repository.{Insert, Delete, IsRepository, change, has}
 use Rattle.yt_model.proofs.Bools.{differ}
 use Rattle.yt_model.proofs.Members.{has-filter}
-use Rattle.yt_model.proofs.Searches.{filter_all}
+use Rattle.yt_model.proofs.Searches.{find_same, filter_all}
 use Rattle.yt_model.proofs.Sets.{has-insert, has-delete, same_exact, same_repository, insert_in_order, filter_in_order}
-use Rattle.yt_facts.specs.Overlaid.{put_all, overlaid, lesser, ahead}
+use Rattle.yt_facts.specs.Courses.{ahead}
+use Rattle.yt_facts.specs.Overlaid.{put_all, overlaid, lesser}
 use Rattle.yt_facts.proofs.Unions.{find_union}
-use Rattle.yt_facts.proofs.Courses.{Follows, all_ahead}
+use Rattle.yt_facts.proofs.Courses.{Follows, all_ahead, find_among}
 
 has-put : (D ts : List Fact) (u : Fact) → has (put_all D ts) u ≡ (has D u || has ts u)
 has-put D [] u = off (has D u)
@@ -27,6 +28,10 @@ has-put D (t ∷ ts) u = has-insert (put_all D ts) t u ∙ ap (λ b. same_fact u
 -- A tuple is there where it was and is not gone, or where it is added.
 pub has-overlaid : (D gone added : List Fact) (u : Fact) → has (overlaid D gone added) u ≡ ((has D u && not (has gone u)) || has added u)
 has-overlaid D gone added u = has-put (filter (λ s. not (has gone s)) D) added u ∙ ap (λ b. b || has added u) (has-filter (λ s. not (has gone s)) D u)
+
+-- Whether a tuple is there, by whether it is left of the set.
+pub contained : (D gone added E : List Fact) (t : Fact) (left : Bool) → overlaid D gone added ≡ E → left ≡ (has D t && not (has gone t)) → (left || has added t) ≡ has E t
+contained D gone added E t left e f = ap (λ b. b || has added t) f ∙ sym (has-overlaid D gone added t) ∙ ap (λ (F : List Fact). has F t) e
 
 put_in_order : (D ts : List Fact) → IsRepository D → IsRepository (put_all D ts)
 put_in_order D [] s = s
@@ -120,16 +125,15 @@ module _ (D gone added : List Fact) (t : Fact) (s : IsRepository D) where
 
 -- ---- searches
 
--- A search among what passes is a search for what passes both, in either order.
+-- A search among what passes, in either order.
 find_both : (p q : Fact → Bool) (D : List Fact) → find q (filter p D) ≡ find p (filter q D)
-find_both p q [] = refl
-find_both p q (u ∷ D) = by (p u) refl (q u) refl (find_both p q D)
+find_both p q D = find_among p q D ∙ find_same (λ u. p u && q u) (λ u. q u && p u) (λ u. swap (p u) (q u)) D ∙ sym (find_among q p D)
   where
-    by : (b : Bool) → p u ≡ b → (c : Bool) → q u ≡ c → find q (filter p D) ≡ find p (filter q D) → find q (cond b (u ∷ filter p D) (filter p D)) ≡ find p (cond c (u ∷ filter q D) (filter q D))
-    by true e true f h = ap (λ a. cond a (Some u) (find q (filter p D))) f ∙ sym (ap (λ a. cond a (Some u) (find p (filter q D))) e)
-    by true e false f h = ap (λ a. cond a (Some u) (find q (filter p D))) f ∙ h
-    by false e true f h = h ∙ sym (ap (λ a. cond a (Some u) (find p (filter q D))) e)
-    by false e false f h = h
+    swap : (a b : Bool) → (a && b) ≡ (b && a)
+    swap true true = refl
+    swap true false = refl
+    swap false true = refl
+    swap false false = refl
 
 -- What is found in an overlay is the lesser of what is left of the set and what is added.
 pub find_overlaid : (p : Fact → Bool) (q : Fact → Fact → Bool) (D gone added : List Fact) (o : Option Fact) → Follows p q → IsRepository D → IsRepository added → o ≡ find p D
@@ -140,3 +144,8 @@ find_overlaid p q D gone added o f s t e =
   where
     either : find (λ u. not (has gone u)) (filter p D) ≡ find p (filter (λ u. not (has gone u)) D)
     either = find_both p (λ u. not (has gone u)) D
+
+-- So the lesser of the two is found in what the overlay means.
+pub overlay_found : (p : Fact → Bool) (q : Fact → Fact → Bool) (D gone added E : List Fact) (o left more least : Option Fact) → Follows p q → IsRepository D → IsRepository added → overlaid D gone added ≡ E
+    → o ≡ find p D → left ≡ find (λ u. not (has gone u)) (ahead q D o) → more ≡ find p added → least ≡ lesser left more → least ≡ find p E
+overlay_found p q D gone added E o left more least f s t e at l m h = h ∙ (λ i. lesser (l i) (m i)) ∙ find_overlaid p q D gone added o f s t at ∙ ap (find p) e

@@ -23,20 +23,3 @@ head_filter p q same (k ∷ ks) = by (p k) (head_filter p q same ks) ∙ ap (λ 
 -- The first of what a range holds is the first that passes.
 pub next_is_find : (p : Tuple → Bool) (q : Fact → Bool) → ((k : Tuple) → p k ≡ q (fact_of k)) → (ks s t : List Tuple) (r : Option (Bor Tuple)) → s ≡ filter p ks → TakesFirst deref s r t → option_map fact_of (option_copied r) ≡ find q (map fact_of ks)
 next_is_find p q same ks s t r e h = headed s t r h ∙ ap (λ (l : List Tuple). head (map fact_of l)) e ∙ head_filter p q same ks
-
--- What a range holds is what passes.
-pub map_filter : (p : Tuple → Bool) (q : Fact → Bool) → ((k : Tuple) → p k ≡ q (fact_of k)) → (ks : List Tuple) → map fact_of (filter p ks) ≡ filter q (map fact_of ks)
-map_filter p q same [] = refl
-map_filter p q same (k ∷ ks) = by (p k) (map_filter p q same ks) ∙ ap (λ b. cond b (fact_of k ∷ filter q (map fact_of ks)) (filter q (map fact_of ks))) (same k)
-  where
-    by : (b : Bool) → map fact_of (filter p ks) ≡ filter q (map fact_of ks) → map fact_of (cond b (k ∷ filter p ks) (filter p ks)) ≡ cond b (fact_of k ∷ filter q (map fact_of ks)) (filter q (map fact_of ks))
-    by true h = ap (λ l. fact_of k ∷ l) h
-    by false h = h
-
--- The next tuple passes: it is found.
-pub step_hit : (p : Fact → Bool) (s : List Tuple) (x : Tuple) (t : List Tuple) → s ≡ x ∷ t → p (fact_of x) ≡ true → Some (fact_of x) ≡ find p (map fact_of s)
-step_hit p s x t e h = sym (ap (λ (l : List Tuple). find p (map fact_of l)) e ∙ ap (λ b. cond b (Some (fact_of x)) (find p (map fact_of t))) h)
-
--- It does not pass: the others find the same.
-pub step_miss : (p : Fact → Bool) (s : List Tuple) (x : Tuple) (t : List Tuple) → s ≡ x ∷ t → p (fact_of x) ≡ false → find p (map fact_of t) ≡ find p (map fact_of s)
-step_miss p s x t e h = sym (ap (λ (l : List Tuple). find p (map fact_of l)) e ∙ ap (λ b. cond b (Some (fact_of x)) (find p (map fact_of t))) h)

@@ -1,14 +1,11 @@
 //! An ordered set of tuples with an index on each column.
 ghost use Rattle.std.specs.Prelude.{◌≡◌, [], not, length, map, IfOk, OnOk, OnErr, IfErr};
-ghost use Rattle.std.specs.Option.{option_map, option_copied};
 ghost use Rattle.yt_model.specs.Repository.{has, change, Insert, Delete, IsRepository};
-ghost use Rattle.yt_model.proofs.Scans.{start_of};
 ghost use Rattle.yt_base.specs.Meanings.{fact_of};
 ghost use Rattle.yt_facts.specs.Indexes.{IsIndex};
 
 use crate::columns::{Groups, group, index, sweep};
 use crate::plain::PlainFacts;
-use crate::scanned::is_scanned;
 use std::alloc::Global;
 use std::marker::Model;
 use yt_base::{Facts, Memory, TryCopy, Tuple, TupleList, Value};
@@ -16,7 +13,7 @@ use yt_base::{Facts, Memory, TryCopy, Tuple, TupleList, Value};
 /// A set of tuples with, for each relation and column, its tuples in the order of their values there. So a scan by
 /// column takes steps as many as the logarithm of the set's size, as insertions, deletions and cursors do. Each tuple
 /// is held once more for each of its columns. Contracts see the list of its tuples, in order.
-#[derive(Drop)]
+#[derive(Debug, Drop)]
 pub struct IndexedFacts {
     all: PlainFacts,
     columns: Vec<Groups>,
@@ -157,34 +154,16 @@ impl Facts for IndexedFacts {
         past: Option<&Tuple>,
     ) -> Option<&Tuple> {
         let Some(kept) = group(&self.columns, column as usize, value) else {
-            let _ = &self.all;
             return None;
         };
-        let mut cursor = begin(kept, relation, past);
+        let mut cursor = kept.scan(relation, column, value, past);
         while let Some(found) = cursor {
-            if is_scanned(found, relation, column, value, past) && self.all.contains(found) {
+            if self.all.contains(found) {
                 return Some(found);
             }
-            cursor = kept.after(found);
+            cursor = kept.scan(relation, column, value, Some(found));
         }
         None
-    }
-}
-
-// The first tuple of the relation, past the given one where that is of the relation.
-fn begin<'a>(kept: &'a PlainFacts, relation: u16, past: Option<&Tuple>) -> Option<&'a Tuple>
-    ensures found { option_map fact_of (option_copied result) ≡ start_of kept.now relation (option_map fact_of (option_copied past.entry)) }
-    ensures in_order { IsRepository kept.now }
-{
-    match past {
-        Some(before) => {
-            if before.relation == relation {
-                kept.after(before)
-            } else {
-                kept.first(relation)
-            }
-        }
-        None => kept.first(relation),
     }
 }
 

@@ -11,3 +11,6 @@ mod scanned;
 pub use crate::indexed::IndexedFacts;
 pub use crate::overlay::Overlay;
 pub use crate::plain::PlainFacts;
+
+#[cfg(test)]
+mod tests;

@@ -3,7 +3,8 @@ ghost use Rattle.std.specs.Prelude.{◌≡◌, ◌&&◌, not, find, map, IfOk, O
 ghost use Rattle.std.specs.Option.{option_map, option_copied};
 ghost use Rattle.yt_model.specs.Repository.{has, change, apply, IsRepository};
 ghost use Rattle.yt_base.specs.Meanings.{fact_of, change_of};
-ghost use Rattle.yt_facts.specs.Overlaid.{lesser, comes_after, ahead};
+ghost use Rattle.yt_facts.specs.Courses.{comes_after, ahead};
+ghost use Rattle.yt_facts.specs.Overlaid.{lesser};
 
 use crate::plain::PlainFacts;
 use std::alloc::Global;

@@ -3,6 +3,7 @@ ghost use Rattle.std.specs.Option.{option_map, option_copied};
 ghost use Rattle.std.specs.Prelude.{◌≡◌, [], not, length, map, find, IfOk, OnOk, OnErr, IfErr};
 ghost use Rattle.yt_model.specs.Repository.{has, change, Insert, Delete, IsRepository};
 ghost use Rattle.yt_model.specs.Cursors.{is_beyond};
+ghost use Rattle.yt_model.proofs.Scans.{start_of};
 ghost use Rattle.yt_base.specs.Meanings.{fact_of};
 
 use crate::scanned::{is_scanned, of_relation};
@@ -14,7 +15,7 @@ use yt_base::{Facts, List, Memory, TryCopy, Tuple, TupleList, Value};
 
 /// A set of tuples in a balanced tree: insertions, deletions and cursors take steps as many as the logarithm of its
 /// size. Only a scan by column goes over the relation. Contracts see the list of its tuples, in order.
-#[derive(Drop)]
+#[derive(Debug, Drop)]
 pub struct PlainFacts {
     tuples: BTreeSet<Tuple>,
     alloc: Global,
@@ -141,11 +142,7 @@ impl Facts for PlainFacts {
     }
 
     fn after(&self, tuple: &Tuple) -> Option<&Tuple> {
-        let found = self
-            .tuples
-            .range((Bound::Excluded(tuple), Bound::Unbounded))
-            .next();
-        of_relation(found, tuple.relation)
+        of_relation(self.beyond(Some(tuple)), tuple.relation)
     }
 
     fn scan(
@@ -155,18 +152,30 @@ impl Facts for PlainFacts {
         value: &Value,
         past: Option<&Tuple>,
     ) -> Option<&Tuple> {
-        let least = Tuple {
-            relation,
-            values: List::new(self.alloc),
-        };
-        for found in self
-            .tuples
-            .range((Bound::Included(&least), Bound::Unbounded))
-        {
+        let mut cursor = begin(self, relation, past);
+        while let Some(found) = cursor {
             if is_scanned(found, relation, column, value, past) {
                 return Some(found);
             }
+            cursor = self.after(found);
         }
         None
+    }
+}
+
+// The first tuple of the relation, past the given one where that is of the relation.
+fn begin<'a>(facts: &'a PlainFacts, relation: u16, past: Option<&Tuple>) -> Option<&'a Tuple>
+    ensures found { option_map fact_of (option_copied result) ≡ start_of facts.now relation (option_map fact_of (option_copied past.entry)) }
+    ensures in_order { IsRepository facts.now }
+{
+    match past {
+        Some(before) => {
+            if before.relation == relation {
+                facts.after(before)
+            } else {
+                facts.first(relation)
+            }
+        }
+        None => facts.first(relation),
     }
 }

@@ -1,1 +1,5 @@
 pub mod Named
+pub mod Known
+pub mod Noted
+pub mod Eached
+pub mod Fitted

@@ -22,7 +22,7 @@ places : {A B : Type 0} (f : A → B) (p : B → Bool) (xs : List A) → positio
 places f p [] = refl
 places f p (x ∷ xs) = rw (places f p xs) refl
 
-position_map : {A B : Type 0} (f : A → B) (p : B → Bool) (xs : List A) → position p (map f xs) ≡ position (λ x. p (f x)) xs
+pub position_map : {A B : Type 0} (f : A → B) (p : B → Bool) (xs : List A) → position p (map f xs) ≡ position (λ x. p (f x)) xs
 position_map f p xs = rw (places f p xs, length-map xs f) refl
 
 -- the place of a key is that of its relation

@@ -1,3 +1,4 @@
 pub mod Answers
-pub mod Relations
+pub mod Meanings
 pub mod Pages
+pub mod Relations

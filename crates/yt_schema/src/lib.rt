@@ -8,14 +8,19 @@
 //! answer.
 #![tactic(auto)]
 
+mod mappings;
 mod page;
 mod printing;
 mod refusals;
 mod schema;
 mod spelling;
+mod variables;
+mod written;
 
+pub use crate::mappings::{check_added_mapping, check_mapping};
 pub use crate::page::Page;
 pub use crate::printing::print_tuple;
 pub use crate::refusals::SchemaRefusal;
 pub use crate::schema::Schema;
+pub use crate::written::{RawAtom, RawAtomList, RawAtoms, RawTerm, RawTermList};
 pub use yt_grammar::Which;

@@ -4,6 +4,7 @@ ghost use Rattle.std.specs.Prelude.{◌≡◌, [], pos, length, position, slice_
 ghost use Rattle.yt_grammar.specs.Names.{same_name};
 ghost use Rattle.yt_grammar.specs.Sessions.{relation_names};
 ghost use Rattle.yt_grammar.specs.Checks.{add_relation, is_arity};
+ghost use Rattle.yt_grammar.specs.Meaning.{relation_of};
 ghost use Rattle.yt_grammar.specs.Printing.{name_of};
 ghost use Rattle.yt_schema.specs.Answers.{Gives};
 ghost use Rattle.yt_schema.specs.Relations.{with_relations};
@@ -12,7 +13,7 @@ use crate::refusals::SchemaRefusal;
 use indexmap::IndexMap;
 use std::alloc::Global;
 use std::marker::Model;
-use yt_base::Name;
+use yt_base::{Name, TryCopy};
 use yt_grammar::Which;
 
 /// The relations of a session, numbered from 0 in the order in which they came: at most 128, each with
@@ -109,5 +110,31 @@ impl Schema {
         }
         self.relations.insert(name.into_vec(), arity)?;
         Ok(number)
+    }
+
+    /// The number of the relation of a name that is used with so many columns. It is refused where no
+    /// relation has the name, and then where the relation has another number of columns.
+    pub fn relation_of(
+        &self,
+        alloc: Global,
+        name: &Name,
+        columns: usize,
+    ) -> Result<u16, SchemaRefusal>
+        ensures { Gives (λ r. r) result (relation_of self.now name.now.items columns) }
+    {
+        let Some(relation) = self.find(name) else {
+            return Err(SchemaRefusal::UnknownRelation(name.copy(alloc)?));
+        };
+        let Some(expected) = self.arity(relation) else {
+            return Err(SchemaRefusal::UnknownRelation(name.copy(alloc)?));
+        };
+        if expected as usize == columns {
+            return Ok(relation);
+        }
+        Err(SchemaRefusal::Arity {
+            name: name.copy(alloc)?,
+            expected,
+            found: columns as u64,
+        })
     }
 }

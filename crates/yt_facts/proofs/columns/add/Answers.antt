@@ -1,4 +1,4 @@
-use Rattle.std.proofs.Common.{◌≡◌, Some, None, rules, ap, sym, ◌∙◌, subst, List}
+use Rattle.std.proofs.Common.{Some, rules, ap, sym, ◌∙◌, subst, List}
 use Rattle.std.specs.BTreeMap.{BTreeMap, get}
 use Rattle.yt_model.specs.Values.{Fact}
 use Rattle.yt_base.specs.declared.values.Value.{Value}

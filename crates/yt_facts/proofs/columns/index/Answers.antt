@@ -1,7 +1,6 @@
-use Rattle.std.proofs.Common.{◌≡◌, ℕ, ◌<◌, ap, sym, refl, ◌∙◌, List, map, length, arith, inl, inr}
+use Rattle.std.proofs.Common.{ap, sym, refl, ◌∙◌, map, length, arith, inl, inr}
 use Rattle.std.specs.Prelude.{slice_get}
 use Rattle.std.proofs.lemmas.Bool.{cases_eq}
-use Rattle.yt_model.specs.Values.{Datum, Fact}
 use Rattle.yt_model.specs.Repository.{has}
 use Rattle.yt_model.specs.Cursors.{is_datum}
 use Rattle.yt_base.specs.Meanings.{fact_of, datum_of}

@@ -1,5 +1,4 @@
-use Rattle.std.proofs.Common.{◌≡◌, ℕ, ◌<◌, map, Some, true}
-use Rattle.std.specs.Prelude.{slice_get}
+use Rattle.std.proofs.Common.{◌≡◌, ℕ, ◌<◌, true}
 use Rattle.yt_model.specs.Values.{Datum}
 use Rattle.yt_model.specs.Repository.{has}
 use Rattle.yt_model.specs.Cursors.{has_at}

@@ -1,4 +1,4 @@
-use Rattle.std.proofs.Common.{ℕ, ◌-◌, ◌+◌, length}
+use Rattle.std.proofs.Common.{◌-◌, ◌+◌, length}
 use Rattle.yt_facts.specs.Indexes.{KeepsAll, any_tuple}
 use Rattle.yt_facts.proofs.columns.reach.Given as goal
 

@@ -1,4 +1,4 @@
-use Rattle.std.proofs.Common.{◌≡◌, Some, rules, ap, sym, ◌∙◌, not}
+use Rattle.std.proofs.Common.{Some, rules, not}
 use Rattle.yt_model.specs.Values.{Fact, same_fact}
 use Rattle.yt_base.specs.Meanings.{fact_of}
 use Rattle.yt_facts.proofs.Groups.{others_keep, some_kept, removed_keeps}

@@ -1,4 +1,4 @@
-use Rattle.std.proofs.Common.{◌≡◌, None, refl, not}
+use Rattle.std.proofs.Common.{None, refl, not}
 use Rattle.std.specs.Option.{option_copied}
 use Rattle.yt_model.specs.Values.{Fact, same_fact}
 use Rattle.yt_base.specs.Meanings.{fact_of}

@@ -1,7 +1,5 @@
 use Rattle.std.proofs.Common.{ap, arith, Option, Some, Bor}
 use Rattle.std.specs.Option.{option_map, option_copied}
-use Rattle.yt_model.specs.Cursors.{is_beyond}
-use Rattle.yt_model.specs.Values.{Fact}
 use Rattle.yt_base.specs.Meanings.{fact_of}
 use Rattle.yt_base.specs.declared.tuples.Tuple.{Tuple}
 use Rattle.yt_facts.proofs.Courses.{fewer}

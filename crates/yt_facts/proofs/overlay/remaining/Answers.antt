@@ -5,7 +5,7 @@ use Rattle.yt_model.specs.Repository.{has}
 use Rattle.yt_model.specs.Values.{Fact}
 use Rattle.yt_base.specs.Meanings.{fact_of}
 use Rattle.yt_base.specs.declared.tuples.Tuple.{Tuple}
-use Rattle.yt_facts.specs.Overlaid.{comes_after, ahead}
+use Rattle.yt_facts.specs.Courses.{comes_after, ahead}
 use Rattle.yt_facts.proofs.Courses.{miss, fewer, course_follows}
 use Rattle.yt_facts.proofs.overlay.remaining.Goals as goal
 

@@ -3,7 +3,7 @@ use Rattle.std.specs.Option.{option_map, option_copied}
 use Rattle.std.specs.Prelude.{find}
 use Rattle.yt_model.specs.Repository.{has}
 use Rattle.yt_base.specs.Meanings.{fact_of}
-use Rattle.yt_facts.specs.Overlaid.{comes_after, ahead}
+use Rattle.yt_facts.specs.Courses.{comes_after, ahead}
 use Rattle.yt_facts.proofs.overlay.remaining.Given as goal
 
 -- What is ahead finds what was ahead at the start.

@@ -1,4 +1,4 @@
-use Rattle.std.proofs.Common.{◌≡◌, ◌∙◌, ap, sym, subst, List, not}
+use Rattle.std.proofs.Common.{◌≡◌, sym, subst, List, not}
 use Rattle.std.specs.BTreeSet.{insert_key}
 use Rattle.yt_model.specs.Values.{Fact, fact_cmp, same_fact}
 use Rattle.yt_model.specs.Repository.{IsRepository}

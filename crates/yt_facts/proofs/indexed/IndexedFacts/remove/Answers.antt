@@ -1,4 +1,4 @@
-use Rattle.std.proofs.Common.{◌≡◌, sym, subst, List, not}
+use Rattle.std.proofs.Common.{sym, subst, List, not}
 use Rattle.yt_model.specs.Values.{Fact, same_fact}
 use Rattle.yt_model.specs.Repository.{IsRepository}
 use Rattle.yt_model.proofs.Sets.{filter_in_order}

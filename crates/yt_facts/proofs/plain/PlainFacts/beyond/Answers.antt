@@ -1,14 +1,13 @@
-use Rattle.std.proofs.Common.{◌∙◌, ap, sym, refl, Option, Bor}
+use Rattle.std.proofs.Common.{◌∙◌, sym, refl}
 use Rattle.std.specs.Option.{option_map, option_copied}
 use Rattle.std.specs.Ordering.{is_lt}
 use Rattle.std.specs.Prelude.{find}
-use Rattle.yt_model.specs.Values.{Fact, fact_cmp}
+use Rattle.yt_model.specs.Values.{fact_cmp}
 use Rattle.yt_model.specs.Cursors.{is_beyond}
 use Rattle.yt_model.proofs.Bools.{and-true}
 use Rattle.yt_model.proofs.Ranges.{above}
 use Rattle.yt_model.proofs.Searches.{find_same}
 use Rattle.yt_base.specs.Meanings.{fact_of}
-use Rattle.yt_base.specs.declared.tuples.Tuple.{Tuple}
 use Rattle.yt_facts.proofs.Reading.{next_is_find}
 use Rattle.yt_facts.proofs.plain.PlainFacts.beyond.Goals as goal
 

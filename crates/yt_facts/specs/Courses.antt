@@ -1,0 +1,17 @@
+-- Going over some tuples of a set: which comes after which, and what is still ahead.
+use Rattle.std.specs.Prelude.{Bool, List, [], ◌∷◌, filter, Option, Some, None}
+use Rattle.yt_model.specs.Values.{Fact}
+use Rattle.yt_model.specs.Cursors.{is_past, is_scanned}
+use Rattle.yt_base.specs.Meanings.{datum_of}
+use Rattle.yt_facts.specs.declared.overlay.Course.{Course}
+use Rattle.yt_facts.specs.declared.overlay.Course.TheVariants.{Relation, Column}
+
+-- The tuple u comes after t on the course: in the same relation, or among those of a relation with a value in a column.
+abbrev pub comes_after : Course → Fact → Fact → Bool
+comes_after Relation t u = is_past t u
+comes_after (Column r c v) t u = is_scanned r c (datum_of v.now) (Some t) u
+
+-- What a cursor at this tuple has before it: it, and those that come after it by q.
+abbrev pub ahead : (Fact → Fact → Bool) → List Fact → Option Fact → List Fact
+ahead q D None = []
+ahead q D (Some t) = t ∷ filter (q t) D

@@ -1,0 +1,178 @@
+use super::*;
+use std::alloc::Global;
+use std::process::Abort;
+use std::test::Fail;
+use yt_base::{Facts, List, Memory, TryCopy, Tuple, Value, Write};
+
+fn tuple(alloc: Global, relation: u16, numbers: &[i64]) -> Result<Tuple, Memory> {
+    let mut values = List::new(alloc);
+    for number in numbers {
+        values.push(Value::Int(*number))?;
+    }
+    Ok(Tuple { relation, values })
+}
+
+// What each way to make the set must give: 1(1), 1(2), 1(3), 2(1, 5), 2(2, 5), 2(2, 7), 3(5).
+fn holds_the_seven<F: Facts>(
+    rt: &impl Abort,
+    alloc: Global,
+    facts: &F,
+    way: &str,
+) -> Result<(), Fail> {
+    for (relation, numbers, there) in [
+        (1, [1].as_slice(), true),
+        (1, [4].as_slice(), false),
+        (2, [2, 7].as_slice(), true),
+        (2, [1, 7].as_slice(), false),
+        (3, [5].as_slice(), true),
+    ] {
+        let asked = tuple(alloc, relation, numbers)?;
+        assert_eq!(rt; facts.contains(&asked), there, "{way}: {asked:?}");
+    }
+    for (relation, least) in [
+        (0, None),
+        (1, Some([1].as_slice())),
+        (2, Some([1, 5].as_slice())),
+        (4, None),
+    ] {
+        let least = match least {
+            Some(numbers) => Some(tuple(alloc, relation, numbers)?),
+            None => None,
+        };
+        assert_eq!(rt;
+            facts.first(relation),
+            least.as_ref(),
+            "{way}: first of {relation}"
+        );
+    }
+    for (relation, numbers, next) in [
+        (1, [0].as_slice(), Some([1].as_slice())),
+        (1, [1].as_slice(), Some([2].as_slice())),
+        (1, [3].as_slice(), None),
+        (2, [1, 9].as_slice(), Some([2, 5].as_slice())),
+        (3, [5].as_slice(), None),
+    ] {
+        let from = tuple(alloc, relation, numbers)?;
+        let next = match next {
+            Some(numbers) => Some(tuple(alloc, relation, numbers)?),
+            None => None,
+        };
+        assert_eq!(rt; facts.after(&from), next.as_ref(), "{way}: after {from:?}");
+    }
+    for (column, number, past, next) in [
+        (1, 5, None, Some([1, 5].as_slice())),
+        (1, 5, Some((2, [1, 5].as_slice())), Some([2, 5].as_slice())),
+        (1, 5, Some((2, [2, 5].as_slice())), None),
+        (0, 2, Some((2, [2, 5].as_slice())), Some([2, 7].as_slice())),
+        (0, 2, Some((1, [9].as_slice())), Some([2, 5].as_slice())),
+        (0, 2, Some((3, [0].as_slice())), None),
+        (0, 5, None, None),
+        (2, 5, None, None),
+    ] {
+        let past = match past {
+            Some((relation, numbers)) => Some(tuple(alloc, relation, numbers)?),
+            None => None,
+        };
+        let next = match next {
+            Some(numbers) => Some(tuple(alloc, 2, numbers)?),
+            None => None,
+        };
+        let found = facts.scan(2, column, &Value::Int(number), past.as_ref());
+        assert_eq!(rt;
+            found,
+            next.as_ref(),
+            "{way}: {number} in {column} past {past:?}"
+        );
+    }
+    Ok(())
+}
+
+// The seven tuples in another order, one of them twice, and two more that go again.
+const INSERTED: [(u16, &[i64]); 10] = [
+    (2, &[2, 7]),
+    (1, &[3]),
+    (2, &[9, 5]),
+    (1, &[1]),
+    (3, &[5]),
+    (2, &[1, 5]),
+    (1, &[1]),
+    (1, &[2]),
+    (1, &[7]),
+    (2, &[2, 5]),
+];
+
+const REMOVED: [(u16, &[i64], bool); 3] = [(2, &[9, 5], true), (1, &[7], true), (1, &[8], false)];
+
+#[test]
+fn the_sets_answer_alike(rt: HostRuntime) -> Result<(), Fail> {
+    let alloc = rt.alloc();
+    let mut plain = PlainFacts::new(alloc);
+    let mut indexed = IndexedFacts::new(alloc);
+    for (at, (relation, numbers)) in INSERTED.iter().enumerate() {
+        let new = at != 6;
+        assert_eq!(rt;
+            plain.insert(tuple(alloc, *relation, *numbers)?)?,
+            new,
+            "at {at}"
+        );
+        assert_eq!(rt;
+            indexed.insert(tuple(alloc, *relation, *numbers)?)?,
+            new,
+            "at {at}"
+        );
+    }
+    for (relation, numbers, there) in REMOVED {
+        let gone = tuple(alloc, relation, numbers)?;
+        assert_eq!(rt; plain.remove(&gone), there, "{gone:?}");
+        assert_eq!(rt; indexed.remove(&gone), there, "{gone:?}");
+    }
+    holds_the_seven(&rt, alloc, &plain, "plain")?;
+    holds_the_seven(&rt, alloc, &indexed, "indexed")?;
+    holds_the_seven(&rt, alloc, &plain.copy(alloc)?, "copied")?;
+    holds_the_seven(&rt, alloc, &indexed.copy(alloc)?, "indexed, copied")?;
+    assert_eq!(rt; (plain.len(), indexed.len()), (7, 7));
+    assert_eq!(rt; plain.list(alloc)?, indexed.list(alloc)?);
+    assert_eq!(rt; plain.beyond(None), plain.first(1));
+    holds_the_seven(&rt, alloc, &IndexedFacts::of(alloc, plain)?, "of plain")
+}
+
+#[test]
+fn an_overlay_answers_as_the_written_set(rt: HostRuntime) -> Result<(), Fail> {
+    let alloc = rt.alloc();
+    let mut base = PlainFacts::new(alloc);
+    for (relation, numbers) in [
+        (1, [0].as_slice()),
+        (1, [2].as_slice()),
+        (2, [1, 5].as_slice()),
+        (2, [2, 5].as_slice()),
+        (2, [0, 5].as_slice()),
+        (3, [5].as_slice()),
+    ] {
+        base.insert(tuple(alloc, relation, numbers)?)?;
+    }
+    let writes = List::from_vec(vec![in alloc;
+        Write::Delete(tuple(alloc, 1, &[0])?),
+        Write::Insert(tuple(alloc, 1, &[3])?),
+        Write::Delete(tuple(alloc, 1, &[2])?),
+        Write::Insert(tuple(alloc, 2, &[2, 7])?),
+        Write::Insert(tuple(alloc, 2, &[8, 8])?),
+        Write::Delete(tuple(alloc, 2, &[8, 8])?),
+        Write::Insert(tuple(alloc, 1, &[2])?),
+        Write::Delete(tuple(alloc, 2, &[0, 5])?),
+        Write::Insert(tuple(alloc, 1, &[1])?),
+        Write::Insert(tuple(alloc, 3, &[5])?),
+    ]?);
+    holds_the_seven(
+        &rt,
+        alloc,
+        &Overlay::new(alloc, &base, &writes)?,
+        "over plain",
+    )?;
+    let base = IndexedFacts::of(alloc, base)?;
+    holds_the_seven(
+        &rt,
+        alloc,
+        &Overlay::new(alloc, &base, &writes)?,
+        "over indexed",
+    )
+}

@@ -1,0 +1,34 @@
+-- What queries, answers and logged reads mean.
+use Rattle.std.specs.Prelude.{ℕ, map}
+use Rattle.yt_query.specs.declared.queries.Query.{Query as QueryOfProgram}
+use Rattle.yt_query.specs.declared.queries.Query.TheVariants.{Present as PresentQuery, Violation as ViolationQuery, Specific as SpecificQuery, Occurs as OccursQuery}
+use Rattle.yt_query.specs.declared.answers.Answer.{Answer}
+use Rattle.yt_query.specs.declared.answers.Answer.TheVariants.{Yes as YesAnswer, No as NoAnswer, Image as ImageAnswer, Nothing as NothingAnswer, Tuples as TuplesAnswer}
+use Rattle.yt_query.specs.declared.log.LoggedRead.{LoggedRead}
+use Rattle.yt_model.specs.Queries.{Query, Present, Violation, Specific, Occurs, Reply, Yes, No, Image, Nothing, Tuples}
+use Rattle.yt_base.specs.Meanings.{fact_of}
+
+-- The query that a `Query` stands for.
+abbrev pub query_of : QueryOfProgram → Query
+query_of (PresentQuery t) = Present (fact_of t)
+query_of (ViolationQuery n) = Violation n
+query_of (SpecificQuery t) = Specific (fact_of t)
+query_of (OccursQuery u k) = Occurs u k
+
+-- The reply that an `Answer` stands for.
+abbrev pub reply_of : Answer → Reply
+reply_of YesAnswer = Yes
+reply_of NoAnswer = No
+reply_of (ImageAnswer ts) = Image (map fact_of ts.items)
+reply_of NothingAnswer = Nothing
+reply_of (TuplesAnswer ts) = Tuples (map fact_of ts.items)
+
+-- A read: what was asked, what was answered, and how many own writes had been made before.
+pub record Read : Type 0 where
+  pub query : Query
+  pub reply : Reply
+  pub own : ℕ
+
+-- The read that a `LoggedRead` stands for.
+abbrev pub read_of : LoggedRead → Read
+read_of r = record { query = query_of r.query; reply = reply_of r.answer; own = r.own }
