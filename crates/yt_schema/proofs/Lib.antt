@@ -3,3 +3,4 @@ pub mod Known
 pub mod Noted
 pub mod Eached
 pub mod Fitted
+pub mod Lined

@@ -14,6 +14,7 @@ mod printing;
 mod refusals;
 mod schema;
 mod spelling;
+mod statements;
 mod variables;
 mod written;
 
@@ -22,5 +23,9 @@ pub use crate::page::Page;
 pub use crate::printing::print_tuple;
 pub use crate::refusals::SchemaRefusal;
 pub use crate::schema::Schema;
+pub use crate::statements::{print_mapping, with_mapping};
 pub use crate::written::{RawAtom, RawAtomList, RawAtoms, RawTerm, RawTermList};
 pub use yt_grammar::Which;
+
+#[cfg(test)]
+mod tests;
