@@ -51,7 +51,7 @@ impl<T: Drop> From<(T, Memory)> for FormRefusal {
 }
 
 /// This is missing.
-pub fn wants(wanted: Wanted) -> FormRefusal
+pub(crate) fn wants(wanted: Wanted) -> FormRefusal
     ensures { result ≡ Expected wanted }
 {
     FormRefusal::Expected(wanted)

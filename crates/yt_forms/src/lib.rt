@@ -5,10 +5,15 @@
 mod faults;
 mod mappings;
 mod parts;
+mod raw;
+mod statements;
 mod words;
 
-pub use crate::faults::{FormRefusal, wants};
-pub use crate::mappings::{facts_at, mapping_at};
-pub use crate::parts::{end_at, fact_at, name_at, value_of};
+pub use crate::faults::FormRefusal;
+pub use crate::raw::{RawChoice, RawOperation, RawStatement, Section};
+pub use crate::statements::{statement_at, whole_fact};
 pub use crate::words::{RawFact, RawFactList, RawMapping, Word, WordList};
 pub use yt_grammar::Wanted;
+
+#[cfg(test)]
+mod tests;

@@ -133,7 +133,7 @@ fn right_at(alloc: Global, words: &[Word]) -> Result<RawAtomList, FormRefusal>
 
 /// A mapping behind the word `mapping`, to the end of the line.
 #[tactic(auto, unfolding(yt_grammar::specs::Parts::mapping_at))]
-pub fn mapping_at(alloc: Global, words: &[Word]) -> Result<RawMapping, FormRefusal>
+pub(crate) fn mapping_at(alloc: Global, words: &[Word]) -> Result<RawMapping, FormRefusal>
     ensures gives { Gives mapping_meant result (mapping_at (words_of words.now)) }
 {
     let (name, rest) = name_at(alloc, words)?;
@@ -145,7 +145,7 @@ pub fn mapping_at(alloc: Global, words: &[Word]) -> Result<RawMapping, FormRefus
 
 /// The facts of an answer, to the end of the line.
 #[tactic(auto, unfolding(yt_grammar::specs::Parts::facts_at))]
-pub fn facts_at(alloc: Global, words: &[Word]) -> Result<RawFactList, FormRefusal>
+pub(crate) fn facts_at(alloc: Global, words: &[Word]) -> Result<RawFactList, FormRefusal>
     ensures gives { Gives (λ x. map fact_meant x.items) result (facts_at (words_of words.now)) }
 {
     let (found, _rest) = last_facts(alloc, words)?;

@@ -17,7 +17,7 @@ use yt_schema::{RawAtom, RawTerm, RawTermList};
 
 /// A name, and what stands behind it.
 #[tactic(auto, unfolding(yt_grammar::specs::Parts::name_at), using(crate::proofs::Copies::same_bytes))]
-pub fn name_at(alloc: Global, words: &[Word]) -> Result<(Name, &[Word]), FormRefusal>
+pub(crate) fn name_at(alloc: Global, words: &[Word]) -> Result<(Name, &[Word]), FormRefusal>
     ensures gives { Gives (λ x. (x.0.items, words_of x.1.now)) result (name_at (words_of words.now)) }
     ensures shorter { IfOk result (λ x. length x.1.now < length words.now) }
 {
@@ -51,7 +51,7 @@ pub(crate) fn colon_at(words: &[Word]) -> Result<&[Word], FormRefusal>
 
 /// Nothing stands there.
 #[tactic(auto, unfolding(yt_grammar::specs::Parts::end_at))]
-pub fn end_at(words: &[Word]) -> Result<(), FormRefusal>
+pub(crate) fn end_at(words: &[Word]) -> Result<(), FormRefusal>
     ensures gives { Gives (λ u. u) result (end_at (words_of words.now)) }
 {
     match words {
@@ -62,7 +62,7 @@ pub fn end_at(words: &[Word]) -> Result<(), FormRefusal>
 
 /// A value.
 #[tactic(auto, using(crate::proofs::Copies::same_bytes))]
-pub fn value_of(alloc: Global, word: &Word) -> Result<Value, FormRefusal>
+pub(crate) fn value_of(alloc: Global, word: &Word) -> Result<Value, FormRefusal>
     ensures gives { Gives datum_of result (value_of (word_of word.now)) }
 {
     match word {
@@ -158,7 +158,7 @@ fn terms_at(alloc: Global, words: &[Word]) -> Result<(RawTermList, &[Word]), For
 
 /// A fact, and what stands behind it.
 #[tactic(auto, unfolding(yt_grammar::specs::Parts::fact_at, yt_grammar::specs::Parts::items_at))]
-pub fn fact_at(alloc: Global, words: &[Word]) -> Result<(RawFact, &[Word]), FormRefusal>
+pub(crate) fn fact_at(alloc: Global, words: &[Word]) -> Result<(RawFact, &[Word]), FormRefusal>
     ensures gives { Gives (λ x. (fact_meant x.0, words_of x.1.now)) result (fact_at (words_of words.now)) }
     ensures shorter { IfOk result (λ x. length x.1.now < length words.now) }
 {
