@@ -1,9 +1,13 @@
+ghost use Rattle.std.specs.Prelude.{◌≡◌, [], ◌∷◌, IfOk};
+
 use super::*;
 use std::alloc::Global;
 use std::test::Fail;
 use yt_base::{List, Memory, Name, Null, Tuple, Value};
 
-fn name(alloc: Global, bytes: &[u8]) -> Result<Name, Memory> {
+fn name(alloc: Global, bytes: &[u8]) -> Result<Name, Memory>
+    ensures same { IfOk result (λ name. name.items ≡ bytes.now) }
+{
     Ok(List::from_vec(Vec::from_slice(alloc, bytes)?))
 }
 
@@ -19,7 +23,10 @@ fn atom(alloc: Global, relation: &[u8], variables: &[u8]) -> Result<RawAtom, Mem
     })
 }
 
-fn side(alloc: Global, atom: RawAtom) -> Result<RawAtoms, Memory> {
+// One side of the mapping m.
+fn side(alloc: Global, atom: RawAtom) -> Result<RawAtoms, Memory>
+    ensures called { IfOk result (λ side. side.name.items ≡ 109 ∷ []) }
+{
     let mut atoms = List::new(alloc);
     atoms.push(atom)?;
     Ok(RawAtoms {
