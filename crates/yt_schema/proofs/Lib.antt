@@ -1,6 +1,0 @@
-pub mod Named
-pub mod Known
-pub mod Noted
-pub mod Eached
-pub mod Fitted
-pub mod Lined

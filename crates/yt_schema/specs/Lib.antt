@@ -1,4 +1,0 @@
-pub mod Answers
-pub mod Meanings
-pub mod Pages
-pub mod Relations
