@@ -1,0 +1,13 @@
+use Rattle.std.proofs.Common.{◌≤◌, length, map}
+use Rattle.yt_schema.specs.Meanings.{atom_of as atom_meant}
+use Rattle.yt_grammar.specs.Parts.{right_atom}
+use Rattle.yt_grammar.specs.Reading.{many}
+use Rattle.yt_forms.specs.Views.{words_of}
+use Rattle.yt_forms.proofs.Items.{Keeps}
+use Rattle.yt_forms.proofs.mappings.right_atoms.Given as goal
+
+abbrev pub invariant-items : goal.invariant-items
+invariant-items l = Keeps right_atom (map atom_meant l.found.items) (words_of l.rest) (length l.rest) (many (length l.words) right_atom (words_of l.words)) × (length l.rest ≤ length l.words)
+
+abbrev pub decreases-items : goal.decreases-items
+decreases-items l = length l.rest

@@ -1,0 +1,14 @@
+use Rattle.std.proofs.Common.{◌≤◌, length, map}
+use Rattle.yt_schema.specs.Meanings.{term_of as term_meant}
+use Rattle.yt_grammar.specs.declared.Wanted.TheVariants as missing
+use Rattle.yt_grammar.specs.Parts.{item_at, term_of}
+use Rattle.yt_grammar.specs.Reading.{many}
+use Rattle.yt_forms.specs.Views.{words_of}
+use Rattle.yt_forms.proofs.Items.{Keeps}
+use Rattle.yt_forms.proofs.parts.terms_at.Given as goal
+
+abbrev pub invariant-items : goal.invariant-items
+invariant-items l = Keeps (item_at missing.Term term_of) (map term_meant l.found.items) (words_of l.rest) (length l.rest) (many (length l.words) (item_at missing.Term term_of) (words_of l.words)) × (length l.rest ≤ length l.words)
+
+abbrev pub decreases-items : goal.decreases-items
+decreases-items l = length l.rest

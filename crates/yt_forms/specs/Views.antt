@@ -1,0 +1,47 @@
+-- What the words of the program say, and what reading them answers beside what is read by definition.
+use Rattle.std.specs.Prelude.{◌≡◌, List, map, Result, Ok, Err}
+use Rattle.yt_grammar.specs.Words.{Word as WordMeant, name, number, null, text, opens, closes, comma, colon, arrow}
+use Rattle.yt_base.specs.Meanings.{datum_of}
+use Rattle.yt_schema.specs.Meanings.{atom_of}
+use Rattle.yt_grammar.specs.Statements.{WrittenFact, WrittenMapping}
+use Rattle.yt_grammar.specs.Faults.{Kind, BadHeader, Expected}
+use Rattle.yt_forms.specs.declared.words.Word.{Word}
+use Rattle.yt_forms.specs.declared.words.Word.TheVariants.{Name, Number, Null, Text, Open, Close, Comma, Colon, Arrow}
+use Rattle.yt_forms.specs.declared.words.RawFact.{RawFact}
+use Rattle.yt_forms.specs.declared.words.RawMapping.{RawMapping}
+use Rattle.yt_forms.specs.declared.faults.FormRefusal.{FormRefusal}
+use Rattle.yt_forms.specs.declared.faults.FormRefusal.TheVariants as refusal
+
+-- what a `Word` says
+abbrev pub word_of : Word → WordMeant
+word_of (Name n) = name n.items
+word_of (Number z) = number z
+word_of (Null u k) = null u k
+word_of (Text t) = text t.items
+word_of Open = opens
+word_of Close = closes
+word_of Comma = comma
+word_of Colon = colon
+word_of Arrow = arrow
+
+abbrev pub words_of : List Word → List WordMeant
+words_of words = map word_of words
+
+-- the fact that a `RawFact` stands for
+abbrev pub fact_of : RawFact → WrittenFact
+fact_of f = record { relation = f.relation.items; values = map datum_of f.values.items }
+
+-- the mapping that a `RawMapping` stands for
+abbrev pub mapping_of : RawMapping → WrittenMapping
+mapping_of m = record { name = m.name.items; left = map atom_of m.left.items; right = map atom_of m.right.items }
+
+-- a refusal is the fault that is read; want of memory may come in place of any answer
+abbrev pub Refuses : {Y : Type 0} → FormRefusal → Result Y Kind → Type 0
+Refuses refusal.BadHeader read = read ≡ Err BadHeader
+Refuses (refusal.Expected wanted) read = read ≡ Err (Expected wanted)
+Refuses refusal.Memory read = Unit {0}
+
+-- an answer, seen by `view`, is what is read
+abbrev pub Gives : {X Y : Type 0} → (X → Y) → Result X FormRefusal → Result Y Kind → Type 0
+Gives view (Ok x) read = read ≡ Ok (view x)
+Gives view (Err e) read = Refuses e read

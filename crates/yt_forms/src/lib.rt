@@ -1,0 +1,19 @@
+//! The forms of statements: what the words of a line say, read from the left, or what is wanted at the
+//! first word that does not fit.
+#![tactic(auto)]
+
+mod faults;
+mod mappings;
+mod parts;
+mod raw;
+mod statements;
+mod words;
+
+pub use crate::faults::FormRefusal;
+pub use crate::raw::{RawChoice, RawOperation, RawStatement, Section};
+pub use crate::statements::{statement_at, whole_fact};
+pub use crate::words::{RawFact, RawFactList, RawMapping, Word, WordList};
+pub use yt_grammar::Wanted;
+
+#[cfg(test)]
+mod tests;

@@ -1,0 +1,6 @@
+pub mod Named
+pub mod Known
+pub mod Noted
+pub mod Eached
+pub mod Fitted
+pub mod Lined

@@ -1,0 +1,31 @@
+//! The relations of a session by name, the checks of a mapping against them, and the printed form of
+//! tuples and mappings.
+//!
+//! A `Schema` is seen as the list of its relations, in the order of their numbers. Each call says what
+//! it answers by the definitions of `yt_grammar`, which speak of such a list: `Gives view result read`
+//! means that an answer, seen by `view`, is the one that is read by definition, that a refusal other
+//! than want of memory is the fault that is read, and that want of memory may come in place of any
+//! answer.
+#![tactic(auto)]
+
+mod mappings;
+mod page;
+mod printing;
+mod refusals;
+mod schema;
+mod spelling;
+mod statements;
+mod variables;
+mod written;
+
+pub use crate::mappings::{check_added_mapping, check_mapping};
+pub use crate::page::Page;
+pub use crate::printing::print_tuple;
+pub use crate::refusals::SchemaRefusal;
+pub use crate::schema::Schema;
+pub use crate::statements::{print_mapping, with_mapping};
+pub use crate::written::{RawAtom, RawAtomList, RawAtoms, RawTerm, RawTermList};
+pub use yt_grammar::Which;
+
+#[cfg(test)]
+mod tests;

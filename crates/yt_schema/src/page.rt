@@ -1,0 +1,146 @@
+//! Text to which words are added, laid out as on a line.
+
+ghost use Rattle.std.specs.Prelude.{◌≡◌, ◌++◌, OnOk, IfOk};
+ghost use Rattle.yt_base.specs.Meanings.{datum_of};
+ghost use Rattle.yt_grammar.specs.Words.{name, number, opens, closes, comma, colon, arrow};
+ghost use Rattle.yt_grammar.specs.Grammar.{value_word};
+ghost use Rattle.yt_schema.specs.Pages.{blank, space, with_word, with_line_feed};
+
+use crate::spelling::{push_null, push_number, push_text};
+use std::alloc::{AllocError, Global};
+use std::marker::Model;
+use yt_base::{Memory, Value};
+
+/// Text that grows word by word. A space comes between two words, but none behind `(` and none before
+/// `(`, `)`, `,` and `:`. A call that wants memory takes the page with it.
+#[derive(Drop)]
+pub struct Page {
+    text: Vec<u8>,
+    apart: bool,
+}
+
+impl Model for Page {
+    ghost use Rattle.yt_schema.specs.Pages.{Written};
+
+    ghost Value = { Written };
+
+    ghost view = { λ p. record { text = p.text.items; apart = p.apart } };
+}
+
+fn push_space(out: &mut Vec<u8>, apart: bool) -> Result<(), AllocError>
+    ensures { OnOk result (out.new.items ≡ out.old.items ++ space apart) }
+{
+    if apart {
+        out.push(b' ')?;
+    }
+    Ok(())
+}
+
+impl Page {
+    /// The page with nothing on it. It takes no memory.
+    pub fn new(alloc: Global) -> Page
+        ensures blank { result ≡ blank }
+    {
+        Page {
+            text: Vec::new(alloc),
+            apart: false,
+        }
+    }
+
+    /// Adds a name.
+    pub fn name(mut self, bytes: &[u8]) -> Result<Page, Memory>
+        ensures word { IfOk result (λ page. page ≡ with_word self (name bytes.now)) }
+    {
+        push_space(&mut self.text, self.apart)?;
+        self.text.extend_from_slice(bytes)?;
+        self.apart = true;
+        Ok(self)
+    }
+
+    /// Adds a number.
+    pub fn number(mut self, alloc: Global, integer: i64) -> Result<Page, Memory>
+        ensures word { IfOk result (λ page. page ≡ with_word self (number integer)) }
+    {
+        push_space(&mut self.text, self.apart)?;
+        push_number(alloc, &mut self.text, integer)?;
+        self.apart = true;
+        Ok(self)
+    }
+
+    /// Adds a value, a null by its outer name.
+    pub fn value(mut self, alloc: Global, value: &Value) -> Result<Page, Memory>
+        ensures word { IfOk result (λ page. page ≡ with_word self (value_word (datum_of value.now))) }
+    {
+        push_space(&mut self.text, self.apart)?;
+        match value {
+            Value::Int(number) => push_number(alloc, &mut self.text, *number)?,
+            Value::Word(text) => push_text(&mut self.text, text.as_slice())?,
+            Value::Null(null) => push_null(alloc, &mut self.text, null.update, null.place)?,
+        }
+        self.apart = true;
+        Ok(self)
+    }
+
+    /// Adds `(`.
+    pub fn open(mut self) -> Result<Page, Memory>
+        ensures word { IfOk result (λ page. page ≡ with_word self opens) }
+    {
+        self.text.push(b'(')?;
+        self.apart = false;
+        Ok(self)
+    }
+
+    /// Adds `)`.
+    pub fn close(mut self) -> Result<Page, Memory>
+        ensures word { IfOk result (λ page. page ≡ with_word self closes) }
+    {
+        self.text.push(b')')?;
+        self.apart = true;
+        Ok(self)
+    }
+
+    /// Adds `,`.
+    pub fn comma(mut self) -> Result<Page, Memory>
+        ensures word { IfOk result (λ page. page ≡ with_word self comma) }
+    {
+        self.text.push(b',')?;
+        self.apart = true;
+        Ok(self)
+    }
+
+    /// Adds `:`.
+    pub fn colon(mut self) -> Result<Page, Memory>
+        ensures word { IfOk result (λ page. page ≡ with_word self colon) }
+    {
+        self.text.push(b':')?;
+        self.apart = true;
+        Ok(self)
+    }
+
+    /// Adds `->`.
+    pub fn arrow(mut self) -> Result<Page, Memory>
+        ensures word { IfOk result (λ page. page ≡ with_word self arrow) }
+    {
+        push_space(&mut self.text, self.apart)?;
+        self.text.extend_from_slice(b"->")?;
+        self.apart = true;
+        Ok(self)
+    }
+
+    /// Ends the line with a line feed.
+    pub fn end_line(mut self) -> Result<Page, Memory>
+        ensures ended { IfOk result (λ page. page ≡ with_line_feed self) }
+    {
+        self.text.push(b'\n')?;
+        self.apart = false;
+        Ok(self)
+    }
+
+    /// The text. It takes no memory.
+    pub fn into_text(self) -> Vec<u8>
+        ensures text { result.items ≡ self.text }
+    {
+        let Page { text, apart: _ } = self;
+        text
+    }
+}

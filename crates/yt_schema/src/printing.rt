@@ -1,0 +1,91 @@
+//! The printed form of a tuple.
+
+ghost use Rattle.std.specs.Prelude.{◌≡◌, ◌++◌, ◌∷◌, [], map, flat_map, IfOk, OnOk};
+ghost use Rattle.yt_base.specs.Meanings.{datum_of, fact_of};
+ghost use Rattle.yt_grammar.specs.Printing.{joined_text, tuple_text, value_text};
+
+use crate::schema::Schema;
+use crate::spelling::push_value;
+use std::alloc::{AllocError, Global};
+use yt_base::{Memory, Tuple, Value};
+
+fn push_other(
+    alloc: Global,
+    out: &mut Vec<u8>,
+    inner: bool,
+    value: &Value,
+) -> Result<(), AllocError>
+    ensures { OnOk result (out.new.items ≡ out.old.items ++ 44 ∷ 32 ∷ value_text inner (datum_of value.now)) }
+{
+    out.extend_from_slice(b", ")?;
+    push_value(alloc, out, inner, value)
+}
+
+fn push_others(
+    alloc: Global,
+    out: &mut Vec<u8>,
+    inner: bool,
+    values: &[Value],
+) -> Result<(), AllocError>
+    ensures { OnOk result (out.new.items ≡ out.old.items ++ flat_map (λ d. 44 ∷ 32 ∷ value_text inner d) (map datum_of values.now)) }
+{
+    for value in values {
+        push_other(alloc, out, inner, value)?;
+    }
+    Ok(())
+}
+
+fn push_values(
+    alloc: Global,
+    out: &mut Vec<u8>,
+    inner: bool,
+    values: &[Value],
+) -> Result<(), AllocError>
+    ensures { OnOk result (out.new.items ≡ out.old.items ++ joined_text (value_text inner) (map datum_of values.now)) }
+{
+    match values {
+        [] => Ok(()),
+        [first, others @ ..] => {
+            push_value(alloc, out, inner, first)?;
+            push_others(alloc, out, inner, others)
+        }
+    }
+}
+
+fn push_tuple(
+    alloc: Global,
+    out: &mut Vec<u8>,
+    schema: &Schema,
+    inner: bool,
+    tuple: &Tuple,
+) -> Result<(), AllocError>
+    ensures { OnOk result (out.new.items ≡ out.old.items ++ tuple_text schema.now inner (fact_of tuple.now)) }
+{
+    let values = tuple.values.as_slice();
+    if tuple.relation == 65535 {
+        out.push(b'*')?;
+        return push_values(alloc, out, inner, values);
+    }
+    out.extend_from_slice(schema.name(tuple.relation))?;
+    out.push(b'(')?;
+    push_values(alloc, out, inner, values)?;
+    out.push(b')')?;
+    Ok(())
+}
+
+/// The printed form of a tuple: the name of its relation and its values, as a session spells them.
+/// Nulls have their outer names `?u.k`, or where `inner` asks for them their inner names `?u.k@a`. A
+/// tuple of relation 65,535, which says that a mapping was put in force, is `*` and that mapping's
+/// number. It is refused only for want of memory.
+pub fn print_tuple(
+    alloc: Global,
+    schema: &Schema,
+    tuple: &Tuple,
+    inner: bool,
+) -> Result<Vec<u8>, Memory>
+    ensures printed { IfOk result (λ text. text.items ≡ tuple_text schema.now inner (fact_of tuple.now)) }
+{
+    let mut text = Vec::new(alloc);
+    push_tuple(alloc, &mut text, schema, inner, tuple)?;
+    Ok(text)
+}

@@ -1,0 +1,101 @@
+//! How names, numbers, nulls and texts are spelled.
+
+ghost use Rattle.std.specs.Prelude.{◌≡◌, ◌++◌, ◌∷◌, [], OnOk, flat_map};
+ghost use Rattle.std.specs.Fmt.{decimal, signed_decimal};
+ghost use Rattle.yt_grammar.specs.Layout.{null_text, quoted, written_byte};
+ghost use Rattle.yt_grammar.specs.Printing.{null_name_text, value_text};
+ghost use Rattle.yt_base.specs.Meanings.{datum_of, null_of};
+
+use std::alloc::{AllocError, Global};
+use yt_base::{Null, Value};
+
+/// A number in plain decimal.
+pub(crate) fn push_number(alloc: Global, out: &mut Vec<u8>, number: i64) -> Result<(), AllocError>
+    ensures { OnOk result (out.new.items ≡ out.old.items ++ signed_decimal number) }
+{
+    let digits = format!(in alloc; "{number}")?;
+    out.extend_from_slice(digits.as_bytes())
+}
+
+/// The null of an update and a place.
+pub(crate) fn push_null(
+    alloc: Global,
+    out: &mut Vec<u8>,
+    update: u32,
+    place: u32,
+) -> Result<(), AllocError>
+    ensures { OnOk result (out.new.items ≡ out.old.items ++ null_text update place) }
+{
+    let spelled = format!(in alloc; "?{update}.{place}")?;
+    out.extend_from_slice(spelled.as_bytes())
+}
+
+// A null by its outer name, or by its inner name with the attempt.
+fn push_null_name(
+    alloc: Global,
+    out: &mut Vec<u8>,
+    inner: bool,
+    null: Null,
+) -> Result<(), AllocError>
+    ensures { OnOk result (out.new.items ≡ out.old.items ++ null_name_text inner (null_of null)) }
+{
+    push_null(alloc, out, null.update, null.place)?;
+    if !inner {
+        return Ok(());
+    }
+    let attempt = null.attempt;
+    let spelled = format!(in alloc; "@{attempt}")?;
+    out.extend_from_slice(spelled.as_bytes())
+}
+
+// A byte of a text.
+fn push_byte(out: &mut Vec<u8>, byte: u8) -> Result<(), AllocError>
+    ensures { OnOk result (out.new.items ≡ out.old.items ++ written_byte byte) }
+{
+    if byte == b'"' {
+        return out.extend_from_slice(b"\\\"");
+    }
+    if byte == b'\\' {
+        return out.extend_from_slice(b"\\\\");
+    }
+    if byte == b'\n' {
+        return out.extend_from_slice(b"\\n");
+    }
+    out.push(byte)?;
+    Ok(())
+}
+
+fn push_bytes(out: &mut Vec<u8>, text: &[u8]) -> Result<(), AllocError>
+    ensures { OnOk result (out.new.items ≡ out.old.items ++ flat_map written_byte text.now) }
+{
+    for byte in text {
+        push_byte(out, *byte)?;
+    }
+    Ok(())
+}
+
+/// A text in its quotes.
+pub(crate) fn push_text(out: &mut Vec<u8>, text: &[u8]) -> Result<(), AllocError>
+    ensures { OnOk result (out.new.items ≡ out.old.items ++ quoted text.now) }
+{
+    out.push(b'"')?;
+    push_bytes(out, text)?;
+    out.push(b'"')?;
+    Ok(())
+}
+
+/// A value, nulls by their inner names where that is asked for.
+pub(crate) fn push_value(
+    alloc: Global,
+    out: &mut Vec<u8>,
+    inner: bool,
+    value: &Value,
+) -> Result<(), AllocError>
+    ensures { OnOk result (out.new.items ≡ out.old.items ++ value_text inner (datum_of value.now)) }
+{
+    match value {
+        Value::Int(number) => push_number(alloc, out, *number),
+        Value::Word(text) => push_text(out, text.as_slice()),
+        Value::Null(null) => push_null_name(alloc, out, inner, *null),
+    }
+}

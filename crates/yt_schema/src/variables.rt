@@ -1,0 +1,129 @@
+//! The variables of a mapping, numbered by first occurrence.
+
+ghost use Rattle.std.specs.Prelude.{◌≡◌, [], IfOk, OnOk, flat_map, fold, map, length};
+ghost use Rattle.yt_grammar.specs.Names.{same_name, place_of, with_new};
+ghost use Rattle.yt_grammar.specs.Meaning.{slot_of, variable_of, variables_in};
+ghost use Rattle.yt_base.specs.Meanings.{slot_of as slot_meant};
+ghost use Rattle.yt_schema.specs.Meanings.{atom_of, term_of};
+
+use crate::written::{RawAtom, RawTerm};
+use indexmap::IndexSet;
+use std::alloc::Global;
+use std::marker::Model;
+use yt_base::{List, Memory, NameList, Term, TermRow, TryCopy};
+
+/// Names, each once, numbered from 0 in the order in which they came. Contracts see them as a list.
+#[derive(Drop)]
+pub(crate) struct Variables {
+    names: IndexSet<Vec<u8>>,
+}
+
+impl Model for Variables {
+    ghost use Rattle.std.specs.Prelude.{ℕ, List, map};
+
+    ghost Value = { List (List ℕ) };
+
+    ghost view = { λ v. map (λ n. n.items) v.names.keys };
+}
+
+impl Variables {
+    /// No name.
+    pub(crate) fn new(alloc: Global) -> Variables
+        ensures { result ≡ [] }
+    {
+        Variables {
+            names: IndexSet::new(alloc),
+        }
+    }
+
+    /// How many names there are.
+    pub(crate) fn len(&self) -> usize
+        ensures { result ≡ length self.now }
+    {
+        self.names.len()
+    }
+
+    // The number of a name, or how many there are where it is none of them.
+    fn place_of(&self, name: &[u8]) -> usize
+        ensures { result ≡ place_of self.now name.now }
+    {
+        match self.names.get_index_of(name) {
+            Some(index) => index,
+            None => self.names.len(),
+        }
+    }
+
+    // Adds a name, unless it is there.
+    fn note(&mut self, alloc: Global, name: &[u8]) -> Result<(), Memory>
+        ensures noted { OnOk result (self.new ≡ with_new same_name self.old name.now) }
+    {
+        self.names.insert(Vec::from_slice(alloc, name)?)?;
+        Ok(())
+    }
+
+    fn note_term(&mut self, alloc: Global, term: &RawTerm) -> Result<(), Memory>
+        ensures noted { OnOk result (self.new ≡ fold (with_new same_name) self.old (variable_of (term_of term.now))) }
+    {
+        match term {
+            RawTerm::Var(name) => self.note(alloc, name.as_slice()),
+            RawTerm::Const(_) => Ok(()),
+        }
+    }
+
+    #[tactic(auto, using(crate::proofs::Noted::fold_more))]
+    fn note_atom(&mut self, alloc: Global, atom: &RawAtom) -> Result<(), Memory>
+        ensures noted { OnOk result (self.new ≡ fold (with_new same_name) self.old (flat_map variable_of (map term_of atom.now.terms.items))) }
+    {
+        for term in atom.terms.as_slice() {
+            self.note_term(alloc, term)?;
+        }
+        Ok(())
+    }
+
+    /// Adds the variables of atoms.
+    #[tactic(auto, using(crate::proofs::Noted::fold_more))]
+    pub(crate) fn note_atoms(&mut self, alloc: Global, atoms: &[RawAtom]) -> Result<(), Memory>
+        ensures noted { OnOk result (self.new ≡ fold (with_new same_name) self.old (variables_in (map atom_of atoms.now))) }
+    {
+        for atom in atoms {
+            self.note_atom(alloc, atom)?;
+        }
+        Ok(())
+    }
+
+    // A term, with its variable by number. The numbers of variables fit, since the atoms of a mapping
+    // have at most 128 terms.
+    fn term(&self, alloc: Global, term: &RawTerm) -> Result<Term, Memory>
+        ensures { IfOk result (λ t. slot_meant t ≡ slot_of self.now (term_of term.now)) }
+    {
+        match term {
+            RawTerm::Var(name) => match u16::try_from(self.place_of(name.as_slice())) {
+                Ok(number) => Ok(Term::Var(number)),
+                Err(_) => Err(Memory),
+            },
+            RawTerm::Const(value) => Ok(Term::Const(value.copy(alloc)?)),
+        }
+    }
+
+    /// The terms of an atom, with their variables by number.
+    pub(crate) fn terms(&self, alloc: Global, terms: &[RawTerm]) -> Result<TermRow, Memory>
+        ensures { IfOk result (λ row. map slot_meant row.items ≡ map (slot_of self.now) (map term_of terms.now)) }
+    {
+        let mut row = List::new(alloc);
+        for term in terms {
+            row.push(self.term(alloc, term)?)?;
+        }
+        Ok(row)
+    }
+
+    /// The names in the order of their numbers.
+    pub(crate) fn list(&self, alloc: Global) -> Result<NameList, Memory>
+        ensures { IfOk result (λ names. map (λ n. n.items) names.items ≡ self.now) }
+    {
+        let mut names = List::new(alloc);
+        for name in self.names.as_slice() {
+            names.push(List::from_vec(Vec::from_slice(alloc, name)?))?;
+        }
+        Ok(names)
+    }
+}
