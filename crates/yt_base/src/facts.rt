@@ -1,7 +1,7 @@
 //! Sets of tuples that can be gone over in order.
-ghost use Rattle.std.specs.Prelude.{◌≡◌, List};
+ghost use Rattle.std.specs.Prelude.{◌≡◌, List, find};
 ghost use Rattle.std.specs.Option.{option_map, option_copied};
-ghost use Rattle.yt_model.specs.Cursors.{first_of, next_of, scan_of};
+ghost use Rattle.yt_model.specs.Cursors.{is_beyond, first_of, next_of, scan_of};
 ghost use Rattle.yt_model.specs.Repository.{has, IsRepository};
 ghost use Rattle.yt_model.specs.Values.{Fact};
 ghost use Rattle.yt_base.specs.Meanings.{fact_of, datum_of};
@@ -17,6 +17,12 @@ pub trait Facts {
     /// Whether the tuple is in the set.
     fn contains(&self, tuple: &Tuple) -> bool
         ensures answer { result ≡ has (tuples self.now) (fact_of tuple.now) }
+        ensures in_order { IsRepository (tuples self.now) };
+
+    /// The least tuple of any relation above the given one, which need not be in the set, or of all where none is
+    /// given; None exactly where there is none.
+    fn beyond(&self, past: Option<&Tuple>) -> Option<&Tuple>
+        ensures found { option_map fact_of (option_copied result) ≡ find (is_beyond (option_map fact_of (option_copied past.entry))) (tuples self.now) }
         ensures in_order { IsRepository (tuples self.now) };
 
     /// The least tuple of the relation; None exactly where it has none.

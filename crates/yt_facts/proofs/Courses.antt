@@ -14,7 +14,7 @@ use Rattle.yt_model.proofs.Scans.{start_of}
 use Rattle.yt_base.specs.Meanings.{datum_of}
 use Rattle.yt_facts.specs.Courses.{ahead, comes_after}
 use Rattle.yt_facts.specs.declared.overlay.Course.{Course}
-use Rattle.yt_facts.specs.declared.overlay.Course.TheVariants.{Relation, Column}
+use Rattle.yt_facts.specs.declared.overlay.Course.TheVariants.{All, Relation, Column}
 use Rattle.yt_facts.proofs.Unions.{lt_less}
 
 -- What passes p and is above a tuple that passes p is what comes after it by q.
@@ -93,7 +93,21 @@ scanned_follows r c d past v u e = by (is_of r u) (is_beyond past u) (has_at c d
         off true false = refl
         off false x = refl
 
+-- The tuple u comes after t.
+abbrev pub above : Fact → Fact → Bool
+above t u = is_lt (fact_cmp t u)
+
+pub beyond_follows : (past : Option Fact) → Follows (is_beyond past) above
+beyond_follows None v u e = refl
+beyond_follows (Some t) v u e = by (is_lt (fact_cmp t u)) (is_lt (fact_cmp v u)) (through t v u e)
+  where
+    by : (b c : Bool) → (c ≡ true → b ≡ true) → (b && c) ≡ c
+    by true c h = refl
+    by false true h = h refl
+    by false false h = refl
+
 pub course_follows : (course : Course) (t : Fact) → Follows (comes_after course t) (comes_after course)
+course_follows All t = beyond_follows (Some t)
 course_follows Relation t = past_follows t
 course_follows (Column r c v) t = scanned_follows r c (datum_of v.now) (Some t)
 

@@ -3,7 +3,6 @@ use Rattle.std.proofs.Common.{◌≡◌, ℕ, zero, suc, ◌<◌, length, get_or
 use Rattle.std.specs.BTreeMap.{BTreeMap}
 use Rattle.std.specs.BTreeSet.{insert_key}
 use Rattle.std.specs.Cmp.{Equal-is}
-use Rattle.std.specs.Ordering.{is_lt}
 use Rattle.std.specs.Prelude.{filter, find, slice_get}
 use Rattle.std.proofs.lemmas.Bool.{and_parts, or_cases}
 use Rattle.yt_model.specs.Values.{Datum, Fact, fact_cmp, datum_cmp, same_fact, same_datum}
@@ -18,7 +17,7 @@ use Rattle.yt_base.specs.Meanings.{datum_of}
 use Rattle.yt_base.specs.declared.values.Value.{Value}
 use Rattle.yt_facts.specs.Courses.{ahead}
 use Rattle.yt_facts.specs.Indexes.{group_at, IsIndex, KeepsAll, any_tuple}
-use Rattle.yt_facts.proofs.Courses.{Follows, all_ahead, through, find_among, scanned_follows}
+use Rattle.yt_facts.proofs.Courses.{above, beyond_follows, all_ahead, find_among, scanned_follows}
 
 -- A tuple that is in the set is not one that is not.
 other : (D : List Fact) (t u : Fact) → has D u ≡ true → has D t ≡ false → not (same_fact u t) ≡ true
@@ -73,19 +72,6 @@ within (x ∷ xs) zero d e = omega arith
 within (x ∷ xs) (suc c) d e = omega (arith, within xs c d e)
 
 -- ---- all tuples
-
--- The tuple u comes after t.
-abbrev pub above : Fact → Fact → Bool
-above t u = is_lt (fact_cmp t u)
-
-pub beyond_follows : (past : Option Fact) → Follows (is_beyond past) above
-beyond_follows None v u e = refl
-beyond_follows (Some t) v u e = by (is_lt (fact_cmp t u)) (is_lt (fact_cmp v u)) (through t v u e)
-  where
-    by : (b c : Bool) → (c ≡ true → b ≡ true) → (b && c) ≡ c
-    by true c h = refl
-    by false true h = h refl
-    by false false h = refl
 
 -- All tuples that are not ahead of the cursor are indexed.
 abbrev pub IsIndexTo : List Fact → Option Fact → List (BTreeMap Value (List Fact)) → Type 0

@@ -138,6 +138,10 @@ impl Facts for IndexedFacts {
         self.all.contains(tuple)
     }
 
+    fn beyond(&self, past: Option<&Tuple>) -> Option<&Tuple> {
+        self.all.beyond(past)
+    }
+
     fn first(&self, relation: u16) -> Option<&Tuple> {
         self.all.first(relation)
     }

@@ -76,6 +76,12 @@ impl<'a, F: Facts> Facts for Overlay<'a, F> {
         is_left(self.facts, &self.gone, tuple) || self.added.contains(tuple)
     }
 
+    fn beyond(&self, past: Option<&Tuple>) -> Option<&Tuple> {
+        let below = self.facts.beyond(past);
+        let left = remaining(self.facts, &self.gone, &Course::All, below);
+        least(left, self.added.beyond(past))
+    }
+
     fn first(&self, relation: u16) -> Option<&Tuple> {
         let below = self.facts.first(relation);
         let left = remaining(self.facts, &self.gone, &Course::Relation, below);
@@ -110,9 +116,10 @@ fn is_left<F: Facts>(facts: &F, gone: &PlainFacts, tuple: &Tuple) -> bool
     facts.contains(tuple) && !gone.contains(tuple)
 }
 
-// Which tuples a cursor goes over: those of a relation, or those of a relation with a value in a column.
+// Which tuples a cursor goes over: all, those of a relation, or those of a relation with a value in a column.
 #[derive(Drop)]
 enum Course<'v> {
+    All,
     Relation,
     Column(u16, u16, &'v Value),
 }
@@ -142,6 +149,7 @@ fn next<'a, F: Facts>(facts: &'a F, course: &Course<'_>, tuple: &Tuple) -> Optio
     ensures in_order { IsRepository (F.tuples facts.now) }
 {
     match course {
+        Course::All => facts.beyond(Some(tuple)),
         Course::Relation => facts.after(tuple),
         Course::Column(relation, column, value) => {
             facts.scan(*relation, *column, *value, Some(tuple))

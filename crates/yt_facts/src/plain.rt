@@ -1,8 +1,7 @@
 //! An ordered set of tuples.
 ghost use Rattle.std.specs.Option.{option_map, option_copied};
-ghost use Rattle.std.specs.Prelude.{◌≡◌, [], not, length, map, find, IfOk, OnOk, OnErr, IfErr};
+ghost use Rattle.std.specs.Prelude.{◌≡◌, [], not, length, map, IfOk, OnOk, OnErr, IfErr};
 ghost use Rattle.yt_model.specs.Repository.{has, change, Insert, Delete, IsRepository};
-ghost use Rattle.yt_model.specs.Cursors.{is_beyond};
 ghost use Rattle.yt_model.proofs.Scans.{start_of};
 ghost use Rattle.yt_base.specs.Meanings.{fact_of};
 
@@ -51,21 +50,6 @@ impl PlainFacts {
         ensures length { result ≡ length self.now }
     {
         self.tuples.len()
-    }
-
-    /// The least of all tuples, or of those beyond `past` where that is given; None exactly where there is none. It
-    /// takes no memory.
-    pub fn beyond(&self, past: Option<&Tuple>) -> Option<&Tuple>
-        ensures found { option_map fact_of (option_copied result) ≡ find (is_beyond (option_map fact_of (option_copied past.entry))) self.now }
-        ensures in_order { IsRepository self.now }
-    {
-        match past {
-            Some(tuple) => self
-                .tuples
-                .range((Bound::Excluded(tuple), Bound::Unbounded))
-                .next(),
-            None => self.tuples.iter().next(),
-        }
     }
 
     /// Puts a tuple in, and tells whether it is new. It is refused only for want of memory; it then hands the tuple
@@ -127,6 +111,16 @@ impl Facts for PlainFacts {
 
     fn contains(&self, tuple: &Tuple) -> bool {
         self.tuples.contains(tuple)
+    }
+
+    fn beyond(&self, past: Option<&Tuple>) -> Option<&Tuple> {
+        match past {
+            Some(tuple) => self
+                .tuples
+                .range((Bound::Excluded(tuple), Bound::Unbounded))
+                .next(),
+            None => self.tuples.iter().next(),
+        }
     }
 
     fn first(&self, relation: u16) -> Option<&Tuple> {

@@ -1,3 +1,4 @@
+//! The sets against one small set that is written out.
 use super::*;
 use std::alloc::Global;
 use std::process::Abort;
@@ -58,6 +59,26 @@ fn holds_the_seven<F: Facts>(
             None => None,
         };
         assert_eq!(rt; facts.after(&from), next.as_ref(), "{way}: after {from:?}");
+    }
+    for (past, next) in [
+        (None, Some((1, [1].as_slice()))),
+        (Some((1, [3].as_slice())), Some((2, [1, 5].as_slice()))),
+        (Some((2, [2, 6].as_slice())), Some((2, [2, 7].as_slice()))),
+        (Some((3, [5].as_slice())), None),
+    ] {
+        let past = match past {
+            Some((relation, numbers)) => Some(tuple(alloc, relation, numbers)?),
+            None => None,
+        };
+        let next = match next {
+            Some((relation, numbers)) => Some(tuple(alloc, relation, numbers)?),
+            None => None,
+        };
+        assert_eq!(rt;
+            facts.beyond(past.as_ref()),
+            next.as_ref(),
+            "{way}: beyond {past:?}"
+        );
     }
     for (column, number, past, next) in [
         (1, 5, None, Some([1, 5].as_slice())),
@@ -132,7 +153,6 @@ fn the_sets_answer_alike(rt: HostRuntime) -> Result<(), Fail> {
     holds_the_seven(&rt, alloc, &indexed.copy(alloc)?, "indexed, copied")?;
     assert_eq!(rt; (plain.len(), indexed.len()), (7, 7));
     assert_eq!(rt; plain.list(alloc)?, indexed.list(alloc)?);
-    assert_eq!(rt; plain.beyond(None), plain.first(1));
     holds_the_seven(&rt, alloc, &IndexedFacts::of(alloc, plain)?, "of plain")
 }
 

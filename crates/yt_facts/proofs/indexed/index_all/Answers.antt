@@ -2,8 +2,8 @@ use Rattle.std.proofs.Common.{ap, arith, Option, Some, Bor}
 use Rattle.std.specs.Option.{option_map, option_copied}
 use Rattle.yt_base.specs.Meanings.{fact_of}
 use Rattle.yt_base.specs.declared.tuples.Tuple.{Tuple}
-use Rattle.yt_facts.proofs.Courses.{fewer}
-use Rattle.yt_facts.proofs.Indexing.{above, beyond_follows, index_begins, index_goes_on}
+use Rattle.yt_facts.proofs.Courses.{fewer, above, beyond_follows}
+use Rattle.yt_facts.proofs.Indexing.{index_begins, index_goes_on}
 use Rattle.yt_facts.proofs.indexed.index_all.Goals as goal
 
 pub loop-cursor-init : goal.loop-cursor-init

@@ -2,7 +2,8 @@ use Rattle.std.proofs.Common.{length}
 use Rattle.std.specs.Option.{option_map, option_copied}
 use Rattle.yt_base.specs.Meanings.{fact_of}
 use Rattle.yt_facts.specs.Courses.{ahead}
-use Rattle.yt_facts.proofs.Indexing.{above, IsIndexTo}
+use Rattle.yt_facts.proofs.Courses.{above}
+use Rattle.yt_facts.proofs.Indexing.{IsIndexTo}
 use Rattle.yt_facts.proofs.indexed.index_all.Given as goal
 
 -- All tuples that are not ahead are indexed.

@@ -9,7 +9,7 @@ use Rattle.yt_model.proofs.Ranges.{above}
 use Rattle.yt_model.proofs.Searches.{find_same}
 use Rattle.yt_base.specs.Meanings.{fact_of}
 use Rattle.yt_facts.proofs.Reading.{next_is_find}
-use Rattle.yt_facts.proofs.plain.PlainFacts.beyond.Goals as goal
+use Rattle.yt_facts.proofs.plain.PlainFactsFacts.beyond.Goals as goal
 
 pub returns-in-Some-clause-found : goal.returns-in-Some-clause-found
 returns-in-Some-clause-found c =
