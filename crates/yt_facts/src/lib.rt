@@ -4,6 +4,7 @@
 
 mod columns;
 mod indexed;
+mod listed;
 mod overlay;
 mod plain;
 mod scanned;
