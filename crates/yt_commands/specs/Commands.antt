@@ -1,0 +1,48 @@
+-- What each command on a session makes of its input.
+use Rattle.std.specs.Prelude.{ℕ, List, [], ◌∷◌, ◌++◌, length, Option, Some, None, Result, Ok, Err, codes}
+use Rattle.std.specs.Fmt.{decimal}
+use Rattle.yt_command.specs.Outputs.{OutputView, Text, Refused}
+use Rattle.yt_command.specs.declared.outputs.Ending.TheVariants.{Ended}
+use Rattle.yt_command.specs.declared.outputs.Refusal.TheVariants.{SessionRefused, BaseViolates}
+use Rattle.yt_grammar.specs.Faults.{Wrong, wrong_text}
+use Rattle.yt_grammar.specs.Lines.{read}
+use Rattle.yt_grammar.specs.Printing.{printed}
+use Rattle.yt_grammar.specs.Sessions.{SessionData, answer_count}
+use Rattle.yt_commands.specs.Base.{Violated, base_violation, base_line}
+
+-- what users are told of an input that spells no session: the first fault, in one line
+abbrev pub fault_line : Wrong → List ℕ
+fault_line wrong = codes "youtopia: " ++ (wrong_text wrong ++ 10 ∷ [])
+
+-- what is made of the session that was read, or the refusal by its first fault
+abbrev pub of_read : (SessionData → OutputView) → Result SessionData Wrong → OutputView
+of_read make (Ok s) = make s
+of_read make (Err wrong) = Refused SessionRefused (fault_line wrong)
+
+-- what is made of the session that an input spells
+abbrev pub of_session : (SessionData → OutputView) → List ℕ → OutputView
+of_session make input = of_read make (read input)
+
+-- an output, where the base violates no mapping
+abbrev pub unless_violated : SessionData → OutputView → Option Violated → OutputView
+unless_violated s output None = output
+unless_violated s output (Some v) = Refused BaseViolates (base_line s.relations v)
+
+-- `format`: the session's printed form
+abbrev pub formatted : SessionData → OutputView
+formatted s = Text Ended (printed s)
+
+-- `upgrade`: that of the same session in format 2
+abbrev pub upgraded : SessionData → OutputView
+upgraded s = Text Ended (printed (record s { format = 2 }))
+
+-- the numbers of a session's parts, in one line
+abbrev pub count_line : SessionData → List ℕ
+count_line s =
+    codes "ok relations " ++ (decimal (length s.relations) ++ (codes " mappings " ++ (decimal (length s.mappings) ++ (codes " base "
+    ++ (decimal (length s.base) ++ (codes " updates " ++ (decimal (length s.updates) ++ (codes " answers "
+    ++ (decimal (answer_count s.updates) ++ 10 ∷ [])))))))))
+
+-- `check`: the numbers of its parts, where its base meets the mappings in force from the start
+abbrev pub checked : SessionData → OutputView
+checked s = unless_violated s (Text Ended (count_line s)) (base_violation s)

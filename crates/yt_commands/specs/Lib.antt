@@ -1,0 +1,3 @@
+pub mod Base
+pub mod Commands
+pub mod Violations

@@ -1,0 +1,122 @@
+//! Whether the base of a session meets the mappings that are in force from the start.
+ghost use Rattle.std.specs.Prelude.{◌≡◌, ◌++◌, ◌∷◌, [], flat_map, false, map, option_map, IfOk, OnOk};
+ghost use Rattle.yt_model.specs.Repository.{IsRepository};
+ghost use Rattle.yt_base.specs.Meanings.{fact_of};
+ghost use Rattle.yt_schema.specs.Meanings.{session_mapping_of};
+ghost use Rattle.yt_session.specs.Meanings.{session_of};
+ghost use Rattle.yt_grammar.specs.Printing.{joined_text, tuple_text};
+ghost use Rattle.yt_commands.specs.Base.{base_line, base_violation, first_violated, violated_by};
+ghost use Rattle.yt_commands.specs.Violations.{violated_of};
+
+use std::alloc::Global;
+use yt_base::{Facts, Mapping, Memory, Tuple, TupleList};
+use yt_facts::{IndexedFacts, PlainFacts};
+use yt_schema::{Schema, print_tuple};
+use yt_session::Session;
+use yt_violation::{Scope, first_violation};
+
+/// A mapping that the base violates, and the image of its first violation there.
+pub(crate) struct Violated<'a> {
+    pub mapping: &'a Mapping,
+    pub image: TupleList,
+}
+
+// The first violation of the mapping, where it is in force from the start.
+fn violated_by<'a, F: Facts>(
+    alloc: Global,
+    base: &F,
+    mapping: &'a Mapping,
+) -> Result<Option<Violated<'a>>, Memory>
+    ensures { IfOk result (λ found. option_map violated_of found ≡ violated_by (F.tuples base.now) (session_mapping_of mapping.now)) }
+{
+    if mapping.since != 0 {
+        return Ok(None);
+    }
+    match first_violation(alloc, mapping, base, Scope::All)? {
+        Some(matched) => Ok(Some(Violated {
+            mapping,
+            image: matched.image,
+        })),
+        None => Ok(None),
+    }
+}
+
+// That of the first mapping that has one.
+fn first_violated<'a, F: Facts>(
+    alloc: Global,
+    base: &F,
+    mappings: &'a [Mapping],
+) -> Result<Option<Violated<'a>>, Memory>
+    ensures { IfOk result (λ found. option_map violated_of found ≡ first_violated (F.tuples base.now) (map session_mapping_of mappings.now)) }
+{
+    for mapping in mappings {
+        if let Some(violated) = violated_by(alloc, base, mapping)? {
+            return Ok(Some(violated));
+        }
+    }
+    Ok(None)
+}
+
+/// The first violation of the session's base.
+pub(crate) fn base_violation<'a>(
+    alloc: Global,
+    session: &'a Session,
+) -> Result<Option<Violated<'a>>, Memory>
+    requires { IsRepository (map fact_of session.now.base.items) }
+    ensures { IfOk result (λ found. option_map violated_of found ≡ base_violation (session_of session.now)) }
+{
+    let base = PlainFacts::of_list(alloc, &session.base)?;
+    let base = IndexedFacts::of(alloc, base)?;
+    first_violated(alloc, &base, session.mappings.as_slice())
+}
+
+// Adds tuples, each behind a comma and a space.
+fn push_others(
+    alloc: Global,
+    line: &mut Vec<u8>,
+    schema: &Schema,
+    tuples: &[Tuple],
+) -> Result<(), Memory>
+    ensures { OnOk result (line.new.items ≡ line.old.items ++ flat_map (λ t. 44 ∷ 32 ∷ tuple_text schema.now false t) (map fact_of tuples.now)) }
+{
+    for tuple in tuples {
+        line.extend_from_slice(b", ")?;
+        line.extend_from_slice(&print_tuple(alloc, schema, tuple, false)?)?;
+    }
+    Ok(())
+}
+
+// Adds tuples with a comma and a space between.
+fn push_tuples(
+    alloc: Global,
+    line: &mut Vec<u8>,
+    schema: &Schema,
+    tuples: &[Tuple],
+) -> Result<(), Memory>
+    ensures { OnOk result (line.new.items ≡ line.old.items ++ joined_text (tuple_text schema.now false) (map fact_of tuples.now)) }
+{
+    match tuples {
+        [] => Ok(()),
+        [first, others @ ..] => {
+            line.extend_from_slice(&print_tuple(alloc, schema, first, false)?)?;
+            push_others(alloc, line, schema, others)
+        }
+    }
+}
+
+/// The line that tells a violation of the base.
+pub(crate) fn base_line(
+    alloc: Global,
+    schema: &Schema,
+    violated: &Violated<'_>,
+) -> Result<Vec<u8>, Memory>
+    ensures { IfOk result (λ line. line.items ≡ base_line schema.now (violated_of violated.now)) }
+{
+    let mut line = Vec::new(alloc);
+    line.extend_from_slice(b"youtopia: base violates ")?;
+    line.extend_from_slice(violated.mapping.name.as_slice())?;
+    line.extend_from_slice(b": ")?;
+    push_tuples(alloc, &mut line, schema, violated.image.as_slice())?;
+    line.push(b'\n')?;
+    Ok(line)
+}
