@@ -8,7 +8,8 @@ use Rattle.yt_grammar.specs.Faults.{Wrong, wrong_text}
 use Rattle.yt_grammar.specs.Lines.{read}
 use Rattle.yt_grammar.specs.Printing.{printed}
 use Rattle.yt_grammar.specs.Sessions.{SessionData, answer_count}
-use Rattle.yt_commands.specs.Base.{Violated, base_violation, base_line}
+use Rattle.yt_session.specs.Base.{Violated, base_violation}
+use Rattle.yt_commands.specs.Base.{base_line}
 
 -- what users are told of an input that spells no session: the first fault, in one line
 abbrev pub fault_line : Wrong → List ℕ

@@ -2,7 +2,7 @@
 use Rattle.std.specs.Prelude.{map}
 use Rattle.yt_base.specs.Meanings.{fact_of}
 use Rattle.yt_commands.specs.declared.base.Violated.{Violated}
-use Rattle.yt_commands.specs.Base as meant
+use Rattle.yt_session.specs.Base as meant
 
 -- the violated mapping by its name, and the image
 abbrev pub violated_of : Violated → meant.Violated

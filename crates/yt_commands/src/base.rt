@@ -5,7 +5,8 @@ ghost use Rattle.yt_base.specs.Meanings.{fact_of};
 ghost use Rattle.yt_schema.specs.Meanings.{session_mapping_of};
 ghost use Rattle.yt_session.specs.Meanings.{session_of};
 ghost use Rattle.yt_grammar.specs.Printing.{joined_text, tuple_text};
-ghost use Rattle.yt_commands.specs.Base.{base_line, base_violation, first_violated, violated_by};
+ghost use Rattle.yt_session.specs.Base.{base_violation, first_violated, violated_by};
+ghost use Rattle.yt_commands.specs.Base.{base_line};
 ghost use Rattle.yt_commands.specs.Violations.{violated_of};
 
 use std::alloc::Global;

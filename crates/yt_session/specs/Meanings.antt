@@ -1,6 +1,6 @@
 -- What a session of the program stands for, in the terms of the language of sessions and of the chase.
 use Rattle.std.specs.Prelude.{List, map}
-use Rattle.yt_base.specs.Meanings.{fact_of, operation_of, choice_of, rule_of}
+use Rattle.yt_base.specs.Meanings.{fact_of, operation_of, choice_of}
 use Rattle.yt_steps.specs.Serial.{Request}
 use Rattle.yt_schema.specs.Meanings.{session_mapping_of}
 use Rattle.yt_grammar.specs.Sessions.{SessionData}

@@ -1,11 +1,14 @@
 //! A session as the program holds it: relations, mappings, base tuples, updates with their answers.
 //!
 //! `specs/Meanings.antt` says what it stands for in the terms of `yt_grammar`: `session_of` gives the session as
-//! pure data. Whether some bytes spell it is `IsSession` of its meaning.
+//! pure data. Whether some bytes spell it is `IsSession` of its meaning. `specs/Base.antt` says when the base of a
+//! session violates a mapping.
 #![tactic(auto)]
 
+mod laws;
 mod sessions;
 
+pub use crate::laws::{base_holds, sessions_suit_the_chase};
 pub use crate::sessions::{Session, SessionUpdate, SessionUpdates};
 
 #[cfg(test)]

@@ -1,6 +1,6 @@
 use Rattle.std.proofs.Common.{◌≡◌, map, drop}
 use Rattle.yt_schema.specs.Meanings.{session_mapping_of}
-use Rattle.yt_commands.specs.Base.{first_violated}
+use Rattle.yt_session.specs.Base.{first_violated}
 use Rattle.yt_commands.proofs.base.first_violated.Given as goal
 
 -- No mapping before the place has a violation.
