@@ -1,0 +1,12 @@
+//! A session as the program holds it: relations, mappings, base tuples, updates with their answers.
+//!
+//! `specs/Meanings.antt` says what it stands for in the terms of `yt_grammar`: `session_of` gives the session as
+//! pure data. Whether some bytes spell it is `IsSession` of its meaning.
+#![tactic(auto)]
+
+mod sessions;
+
+pub use crate::sessions::{Session, SessionUpdate, SessionUpdates};
+
+#[cfg(test)]
+mod tests;
