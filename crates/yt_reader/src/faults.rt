@@ -1,6 +1,9 @@
 //! What can be wrong with a session, and where.
 
-use yt_base::Name;
+ghost use Rattle.std.specs.Prelude.{◌≡◌};
+ghost use Rattle.yt_reader.specs.declared.faults.LineRefusal.TheVariants.{Memory as WantOfMemory};
+
+use yt_base::{Memory, Name};
 use yt_grammar::{Wanted, Which};
 
 /// What is wrong with a session. Places count bytes of the input from 0.
@@ -37,7 +40,10 @@ pub enum FaultKind {
     /// No update has this label.
     UnknownLabel(Name),
     /// A null does not come from an update below.
-    NullNotBelow { update: u32, place: u32 },
+    NullNotBelow {
+        update: u32,
+        place: u32,
+    },
     /// There is no room for one more of these.
     LimitReached(Which),
     /// The input ends without `end`.
@@ -51,4 +57,21 @@ pub enum FaultKind {
 pub struct SessionFault {
     pub line: u32,
     pub kind: FaultKind,
+}
+
+/// Why a line is not read.
+#[derive(Debug, Drop)]
+pub(crate) enum LineRefusal {
+    /// This is wrong with it.
+    Fault(FaultKind),
+    /// There was not enough memory.
+    Memory,
+}
+
+impl From<Memory> for LineRefusal {
+    ghost from_gives = { λ _ refusal. refusal ≡ WantOfMemory };
+
+    fn from(_: Memory) -> Self {
+        LineRefusal::Memory
+    }
 }
