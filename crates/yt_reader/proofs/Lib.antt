@@ -1,0 +1,3 @@
+pub mod Places
+pub mod Lexed
+pub mod Lineless

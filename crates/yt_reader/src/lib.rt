@@ -1,0 +1,8 @@
+//! From bytes to a session: lines, their words and statements, the first fault, and what users are told
+//! of it.
+#![tactic(auto)]
+
+mod faults;
+mod words;
+
+pub use crate::faults::{FaultKind, SessionFault};
