@@ -1,3 +1,5 @@
 pub mod Places
+pub mod Counted
 pub mod Lexed
-pub mod Lineless
+pub mod Loop
+pub mod Cut

@@ -3,6 +3,8 @@
 #![tactic(auto)]
 
 mod faults;
+mod lines;
+mod split;
 mod words;
 
-pub use crate::faults::{FaultKind, SessionFault};
+pub use crate::faults::{FaultKind, ReadFailure, SessionFault};
