@@ -1,6 +1,7 @@
 -- What faults of the program stand for, and what reading a line answers beside what is read by definition.
-use Rattle.std.specs.Prelude.{◌≡◌, Result, Ok, Err}
+use Rattle.std.specs.Prelude.{◌≡◌, ℕ, List, Result, Ok, Err}
 use Rattle.yt_grammar.specs.Faults.{Kind, UnknownRelation, Arity, EmptySide, TooManyAtoms, DuplicateName, PlainCycle, BadByte, OpenText, WideNumber, LongText, BadHeader, Expected, UnknownLabel, NullNotBelow, LimitReached, NoEnd, AfterEnd, Wrong}
+use Rattle.yt_grammar.specs.Lines.{IsFirstFault}
 use Rattle.yt_reader.specs.declared.faults.FaultKind.{FaultKind}
 use Rattle.yt_reader.specs.declared.faults.FaultKind.TheVariants as fault
 use Rattle.yt_reader.specs.declared.faults.SessionFault.{SessionFault}
@@ -52,3 +53,8 @@ Fails failure.Memory read = Unit {0}
 abbrev pub GivesWhole : {X Y : Type 0} → (X → Y) → Result X ReadFailure → Result Y Wrong → Type 0
 GivesWhole view (Ok x) read = read ≡ Ok (view x)
 GivesWhole view (Err e) read = Fails e read
+
+-- the failure tells what is wrong with the bytes first, or there was not enough memory
+abbrev pub IsTold : List ℕ → ReadFailure → Type 0
+IsTold bytes (failure.Fault f) = IsFirstFault bytes (wrong_of f)
+IsTold bytes failure.Memory = Unit {0}

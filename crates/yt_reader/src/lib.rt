@@ -4,7 +4,9 @@
 
 mod faults;
 mod lines;
+mod reading;
 mod split;
 mod words;
 
 pub use crate::faults::{FaultKind, ReadFailure, SessionFault};
+pub use crate::reading::read_session;
