@@ -6,7 +6,9 @@ mod faults;
 mod lines;
 mod reading;
 mod split;
+mod texts;
 mod words;
 
 pub use crate::faults::{FaultKind, ReadFailure, SessionFault};
 pub use crate::reading::read_session;
+pub use crate::texts::fault_text;
