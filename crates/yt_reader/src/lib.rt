@@ -3,6 +3,12 @@
 #![tactic(auto)]
 
 mod faults;
+mod lines;
+mod reading;
+mod split;
+mod texts;
 mod words;
 
-pub use crate::faults::{FaultKind, SessionFault};
+pub use crate::faults::{FaultKind, ReadFailure, SessionFault};
+pub use crate::reading::read_session;
+pub use crate::texts::fault_text;

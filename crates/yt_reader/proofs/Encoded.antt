@@ -1,0 +1,14 @@
+-- Bytes that are UTF-8 are read line by line.
+use Rattle.std.specs.Prelude.{◌≡◌, ℕ, List, length, true, ◌==◌, IsUtf8}
+use Rattle.std.proofs.Common.{refl, ap, ◌∙◌, arith}
+use Rattle.std.specs.Str.Lossy.{utf8_valid_len}
+use Rattle.std.proofs.lemmas.Bool.Decides.{nat_tests}
+use Rattle.std.proofs.lemmas.Str.{utf8_valid_len-IsUtf8}
+use Rattle.yt_grammar.specs.Lines.{begun, lines_from, lines_of, read}
+
+pub text_read : (bytes : List ℕ) → IsUtf8 bytes → read bytes ≡ lines_from 0 0 begun (lines_of bytes)
+unfolding read
+text_read bytes text =
+    let same : (length bytes == length bytes) ≡ true = grind (arith, nat_tests) in
+    let whole : (utf8_valid_len bytes == length bytes) ≡ true = ap (λ n. n == length bytes) (utf8_valid_len-IsUtf8 bytes text) ∙ same in
+    rw whole refl
