@@ -1,5 +1,6 @@
 // What a command makes of its input.
-ghost use Rattle.std.specs.Prelude.{IfOk};
+ghost use Rattle.std.specs.Prelude.{◌≤◌, length, IfOk};
+ghost use Rattle.yt_command.specs.declared.performing.TheConstants.{INPUT_LIMIT};
 ghost use Rattle.yt_command.specs.Outputs.{Meaning, view_of};
 
 use std::alloc::Global;
@@ -45,7 +46,8 @@ pub trait Command {
     /// What the command may make of an input.
     ghost gives: { Self → Meaning };
 
-    /// The output for the input. Memory for the whole of it is taken here.
+    /// The output for the input, which is no longer than the limit. Memory for the whole of it is taken here.
     fn run(&self, alloc: Global, input: &[u8]) -> Result<Output, Memory>
+        requires short { length input.now ≤ INPUT_LIMIT }
         ensures { IfOk result (λ output. gives self.now input.now (view_of output)) };
 }

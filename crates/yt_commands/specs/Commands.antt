@@ -8,6 +8,7 @@ use Rattle.yt_grammar.specs.Faults.{Wrong, wrong_text}
 use Rattle.yt_grammar.specs.Lines.{read}
 use Rattle.yt_grammar.specs.Printing.{printed}
 use Rattle.yt_grammar.specs.Sessions.{SessionData, answer_count}
+use Rattle.yt_print.specs.Upgrades.{upgraded}
 use Rattle.yt_session.specs.Base.{Violated, base_violation}
 use Rattle.yt_commands.specs.Base.{base_line}
 
@@ -34,8 +35,8 @@ abbrev pub formatted : SessionData → OutputView
 formatted s = Text Ended (printed s)
 
 -- `upgrade`: that of the same session in format 2
-abbrev pub upgraded : SessionData → OutputView
-upgraded s = Text Ended (printed (record s { format = 2 }))
+abbrev pub upgraded_text : SessionData → OutputView
+upgraded_text s = Text Ended (printed (upgraded s))
 
 -- the numbers of a session's parts, in one line
 abbrev pub count_line : SessionData → List ℕ

@@ -17,6 +17,7 @@ use yt_session::Session;
 use yt_violation::{Scope, first_violation};
 
 /// A mapping that the base violates, and the image of its first violation there.
+#[derive(Drop)]
 pub(crate) struct Violated<'a> {
     pub mapping: &'a Mapping,
     pub image: TupleList,

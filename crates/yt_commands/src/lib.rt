@@ -1,8 +1,13 @@
 //! The commands on a session: what each makes of its input.
 //!
-//! `specs/Commands.antt` says it in the terms of the language of sessions; `specs/Base.antt` says when the base of a
-//! session violates a mapping, and how that is told.
+//! `specs/Commands.antt` says it in the terms of the language of sessions: `of_session makes input` is what a command
+//! makes of the session that the input spells, or the refusal of an input that spells none.
 #![tactic(auto)]
 
 mod base;
 mod counts;
+mod reading;
+mod sessions;
+
+pub use crate::reading::{OnSession, SessionCommand};
+pub use crate::sessions::{Check, Format, Upgrade};

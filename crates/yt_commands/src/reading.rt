@@ -1,0 +1,58 @@
+//! A command on a session, as a command on the bytes that spell it.
+ghost use Rattle.std.specs.Prelude.{◌≡◌, ◌++◌, ◌∷◌, [], codes, IfOk};
+ghost use Rattle.yt_command.specs.Outputs.{view_of};
+ghost use Rattle.yt_grammar.specs.Faults.{wrong_text};
+ghost use Rattle.yt_grammar.specs.Sessions.{SessionData};
+ghost use Rattle.yt_grammar.specs.Validity.{IsSession};
+ghost use Rattle.yt_command.specs.Outputs.{OutputView};
+ghost use Rattle.yt_reader.specs.Answers.{wrong_of};
+ghost use Rattle.yt_session.specs.Meanings.{session_of};
+ghost use Rattle.yt_commands.specs.Commands.{fault_line, of_session};
+
+use std::alloc::Global;
+use yt_base::Memory;
+use yt_command::{Command, Output, Refusal};
+use yt_reader::{ReadFailure, SessionFault, fault_text, read_session};
+use yt_session::Session;
+
+/// What a command makes of a session.
+pub trait SessionCommand {
+    /// The output for a session.
+    ghost makes: { Self → SessionData → OutputView };
+
+    /// The output for a valid session. Memory for the whole of it is taken here.
+    fn make(&self, alloc: Global, session: &Session) -> Result<Output, Memory>
+        requires valid { IsSession (session_of session.now) }
+        ensures output { IfOk result (λ output. view_of output ≡ makes self.now (session_of session.now)) };
+}
+
+/// A command on the session that the input spells. An input that spells none is refused with its first fault.
+#[derive(Drop)]
+pub struct OnSession<C: SessionCommand>(pub C);
+
+// The line that tells the first fault of an input.
+fn fault_line(alloc: Global, fault: &SessionFault) -> Result<Vec<u8>, Memory>
+    ensures { IfOk result (λ line. line.items ≡ fault_line (wrong_of fault.now)) }
+{
+    let text = fault_text(alloc, fault)?;
+    let mut line = Vec::new(alloc);
+    line.extend_from_slice(b"youtopia: ")?;
+    line.extend_from_slice(&text)?;
+    line.push(b'\n')?;
+    Ok(line)
+}
+
+impl<C: SessionCommand> Command for OnSession<C> {
+    ghost gives = { λ c input output. output ≡ of_session (C.makes c.0) input };
+
+    fn run(&self, alloc: Global, input: &[u8]) -> Result<Output, Memory> {
+        match read_session(alloc, input) {
+            Ok(session) => self.0.make(alloc, &session),
+            Err(ReadFailure::Fault(fault)) => Ok(Output::Refused(
+                Refusal::SessionRefused,
+                fault_line(alloc, &fault)?,
+            )),
+            Err(ReadFailure::Memory) => Err(Memory),
+        }
+    }
+}
