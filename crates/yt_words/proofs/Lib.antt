@@ -1,2 +1,3 @@
 pub mod DefaultTexts
 pub mod Matched
+pub mod OneFault
