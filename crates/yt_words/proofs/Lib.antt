@@ -1,3 +1,4 @@
 pub mod DefaultTexts
 pub mod Matched
 pub mod OneFault
+pub mod Refusals

@@ -1,18 +1,16 @@
--- What the words of the one simple command come to.
-use Rattle.std.proofs.Common.{◌≡◌, ◌∙◌, ◌<◌, ◌≤◌, ◌^◌, ap, ℕ, Bool, true, false, List, [], ◌∷◌, suc, zero, length, Option, Some, None, refl, sym, subst, inl, inr, arith, codes}
-use Rattle.std.specs.Prelude.{option_map, slice_index, pos, Ok, Err, Result, ◌⊎◌, IfOk, IfErr}
+-- What the words that clap takes come to, option by option.
+use Rattle.std.proofs.Common.{◌≡◌, ◌∙◌, ◌<◌, ◌≤◌, ◌^◌, ap, ℕ, Bool, true, false, List, [], ◌∷◌, suc, zero, length, Option, Some, None, refl, sym, subst, arith, codes}
+use Rattle.std.specs.Prelude.{option_map, slice_index, pos, Ok, Result}
 use Rattle.std.specs.Option.{option_map_or}
 use Rattle.std.specs.List.{slice_index_or, list_all}
 use Rattle.std.specs.Borrow.{Bor}
 use Rattle.std.specs.Str.{bytes_eq}
 use Rattle.std.specs.Str.Parse.{ParsesUnsigned, digits_value, without_leading_plus}
 use Rattle.clap.specs.Lexer.{without_minus}
-use Rattle.clap.specs.Words.{App, HasKind, HasMatchesOf, IsAmong, IsParsedFrom, Rule, Text, app_of, fault_of, first_of, first_value, found_of, is_simple, is_simple_and_free, kind_of, matches_of, one_of, one_text, rows_of}
+use Rattle.clap.specs.Words.{App, HasMatchesOf, IsParsedFrom, Rule, Text, app_of, first_of, first_value, found_of, is_simple, matches_of, one_of, one_text, rows_of}
 use Rattle.clap.specs.Matches.{ReadsOne}
 use Rattle.clap.specs.Faults.{has_free_rules}
 use Rattle.clap.specs.Simple.{is_ready, is_ready_leaf}
-use Rattle.clap.specs.declared.error.Error.{Error}
-use Rattle.clap.specs.declared.error.ErrorKind.TheVariants.{OutOfMemory}
 use Rattle.clap.specs.declared.builder.Command.{Command}
 use Rattle.clap.specs.declared.builder.ValueParser.TheVariants as parser
 use Rattle.clap.specs.declared.parser.ArgMatches.{ArgMatches}
@@ -20,63 +18,11 @@ use Rattle.clap.proofs.WalkLemmas.{both, first_value-rows, one_text-rows}
 use Rattle.clap.proofs.CallerReads.{signed_reads}
 use Rattle.std.specs.Prelude.{IsSome, not}
 use Rattle.std.proofs.lemmas.Bool.{true≢false}
-use Rattle.clap.specs.declared.error.kind.ErrorKind.{ErrorKind}
-use Rattle.clap.specs.declared.error.kind.ErrorKind.TheVariants as kind
-use Rattle.yt_words.specs.declared.reading.Request.{Request}
-use Rattle.yt_words.specs.declared.reading.Request.TheVariants.{Help, Version}
-use Rattle.yt_words.specs.declared.reading.WordsRefusal.{WordsRefusal}
-use Rattle.yt_words.specs.declared.reading.WordsRefusal.TheVariants.{Usage, Memory}
-use Rattle.yt_words.specs.Arguments.{NumberOf, faults_of, flag_at, number_at, number_rule, only, rows_at, rules, youtopia_app}
-use Rattle.yt_words.specs.Meaning.{Answers, Refused, answer_to}
-use Rattle.yt_words.specs.Names.{is_command, is_deps}
+use Rattle.yt_words.specs.Arguments.{NumberOf, flag_at, number_at, number_rule, only, rows_at, rules, youtopia_app}
 use Rattle.yt_words.proofs.DefaultTexts.{default_text}
-
-ok_is : (p q : Request) → (let s : Result Request WordsRefusal = Ok p in s) ≡ Ok q → p ≡ q
-ok_is p q e = cc
-
-no_ok : (refusal : WordsRefusal) (request : Request) → (let s : Result Request WordsRefusal = Err refusal in s) ≡ Ok request → ⊥
-no_ok refusal request e = cc
-
-not_memory : (let s : Result Request WordsRefusal = Err Memory in s) ≡ Err Usage → ⊥
-not_memory e = cc
-
-is_plain_app : is_simple_and_free youtopia_app ≡ true
-is_plain_app = refl
 
 is_simple_app : is_simple youtopia_app ≡ true
 is_simple_app = refl
-
--- a kind of error that clap gives, as the command in words has it
-among : (a : App) (ws : List Text) (e : Error) → a ≡ youtopia_app → (is_simple_and_free a ≡ true → HasKind (fault_of a ws) e)
-    → (kind_of e ≡ OutOfMemory) ⊎ IsAmong (kind_of e) (faults_of ws)
-among a ws e is kinds = elim (kinds (ap is_simple_and_free is ∙ is_plain_app)) [
-  | inl memory ↦ inl memory
-  | inr one ↦ inr (subst (IsAmong (kind_of e)) (ap (λ x. fault_of x ws) is) one)
-]
-
-answer : (k : ErrorKind) (ws : List Text) (request : Request) → answer_to k ≡ Ok request → IsAmong k (faults_of ws) → Answers ws request
-answer kind.DisplayHelp ws request e one = subst (Answers ws) (ok_is Help request e) one
-answer kind.DisplayVersion ws request e one = subst (Answers ws) (ok_is Version request e) one
-answer _ ws request e one = absurd (no_ok _ request e)
-
-pub asked : (a : App) (ws : List Text) (e : Error) (r : Result Request WordsRefusal) → a ≡ youtopia_app → (is_simple_and_free a ≡ true → HasKind (fault_of a ws) e)
-    → r ≡ answer_to (kind_of e) → IfOk r (Answers ws)
-asked a ws e (Ok request) is kinds gives = elim (among a ws e is kinds) [
-  | inl memory ↦ absurd (no_ok Memory request (sym (gives ∙ ap answer_to memory)))
-  | inr one ↦ answer (kind_of e) ws request (sym gives) one
-]
-asked a ws e (Err refusal) is kinds gives = tt
-
-pub refused : (a : App) (ws : List Text) (e : Error) (r : Result Request WordsRefusal) → a ≡ youtopia_app → (is_simple_and_free a ≡ true → HasKind (fault_of a ws) e)
-    → r ≡ answer_to (kind_of e) → IfErr r (λ refusal. refusal ≡ Usage → Refused ws)
-refused a ws e (Ok request) is kinds gives = tt
-refused a ws e (Err refusal) is kinds gives = λ usage. elim (among a ws e is kinds) [
-  | inl memory ↦ absurd (not_memory (sym (sym (ap (λ (x : WordsRefusal). let s : Result Request WordsRefusal = Err x in s) usage) ∙ gives ∙ ap answer_to memory)))
-  | inr one ↦ inl (record { kind = kind_of e; among = one; refused = sym gives ∙ ap (λ (x : WordsRefusal). let s : Result Request WordsRefusal = Err x in s) usage })
-]
-
-pub taken : (a : App) (ws : List Text) → a ≡ youtopia_app → (is_simple_and_free a ≡ true → fault_of a ws ≡ []) → fault_of youtopia_app ws ≡ []
-taken a ws is kinds = ap (λ x. fault_of x ws) (sym is) ∙ kinds (ap is_simple_and_free is ∙ is_plain_app)
 
 pub rows_are : (a : App) (ws : List Text) (m : ArgMatches) → a ≡ youtopia_app → HasMatchesOf a ws m → rows_of (found_of m) ≡ rows_at ws
 rows_are a ws m is has = (has (ap is_simple is ∙ is_simple_app)).0 ∙ ap (λ x. matches_of x ws) is
@@ -153,28 +99,6 @@ some_is (Some x) n e = refl
 some_is None n e = cc
 
 -- the refusals of the positional and of `--deps`
-pub no_command : (ws : List Text) (o : Option (Bor Text)) → option_map (λ s. s.now) o ≡ first_of (codes "command") (rows_at ws) → o ≡ None → Refused ws
-no_command ws o given none =
-    let no : first_of (codes "command") (rows_at ws) ≡ None = sym given ∙ ap (option_map (λ s. s.now)) none in
-    inr (inl (ap (λ x. option_map_or is_command x false) no))
-
-pub other_command : (ws : List Text) (o : Option (Bor Text)) (t : Bor Text) → option_map (λ s. s.now) o ≡ first_of (codes "command") (rows_at ws) → o ≡ Some t
-    → is_command t.now ≡ false → Refused ws
-other_command ws o t given some other =
-    let there : first_of (codes "command") (rows_at ws) ≡ Some t.now = sym given ∙ ap (option_map (λ s. s.now)) some in
-    inr (inl (ap (λ x. option_map_or is_command x false) there ∙ other))
-
-pub no_deps : (ws : List Text) (o : Option (Bor Text)) → option_map (λ s. s.now) o ≡ first_of (codes "deps") (rows_at ws) → o ≡ None → Refused ws
-no_deps ws o given none =
-    let no : first_of (codes "deps") (rows_at ws) ≡ None = sym given ∙ ap (option_map (λ s. s.now)) none in
-    inr (inr ((ap (λ x. option_map_or is_deps x false) no)))
-
-pub other_deps : (ws : List Text) (o : Option (Bor Text)) (t : Bor Text) → option_map (λ s. s.now) o ≡ first_of (codes "deps") (rows_at ws) → o ≡ Some t
-    → is_deps t.now ≡ false → Refused ws
-other_deps ws o t given some other =
-    let there : first_of (codes "deps") (rows_at ws) ≡ Some t.now = sym given ∙ ap (option_map (λ s. s.now)) some in
-    inr (inr ((ap (λ x. option_map_or is_deps x false) there ∙ other)))
-
 pub flag_is : (a : App) (ws : List Text) (m : ArgMatches) → a ≡ youtopia_app → HasMatchesOf a ws m
     → (id : Text) (b : Bool) → b ≡ option_map_or (λ t. bytes_eq t (codes "true")) (first_value (found_of m) id) false → b ≡ flag_at id (rows_at ws)
 flag_is a ws m is has id b given =
