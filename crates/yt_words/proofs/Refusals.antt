@@ -55,11 +55,11 @@ sole k (x ∷ y ∷ ks) few one = absurd (omega arith)
 -- ---- what is refused
 
 -- `is_refused`, by what clap finds
-abbrev refused_by : List Text → Kinds → Bool
+abbrev pub refused_by : List Text → Kinds → Bool
 refused_by ws kinds = list_any refuses kinds || (is_empty kinds && not (names_command (rows_at ws) && names_deps (rows_at ws)))
 
-by : (ws : List Text) (kinds : Kinds) → faults_of ws ≡ kinds → is_refused ws ≡ refused_by ws kinds
-by ws kinds is = ap (refused_by ws) is
+pub refused_as : (ws : List Text) (kinds : Kinds) → faults_of ws ≡ kinds → is_refused ws ≡ refused_by ws kinds
+refused_as ws kinds is = ap (refused_by ws) is
 
 refusing : (k : ErrorKind) → answer_to k ≡ Err Usage → refuses k ≡ true
 refusing kind.DisplayHelp e = absurd (no_ok Usage Help (sym e))
@@ -67,17 +67,17 @@ refusing kind.DisplayVersion e = absurd (no_ok Usage Version (sym e))
 refusing _ e = refl
 
 by_clap : (ws : List Text) (k : ErrorKind) → IsAmong k (faults_of ws) → refuses k ≡ true → is_refused ws ≡ true
-by_clap ws k one refuses_it = by ws (k ∷ []) (sole k (faults_of ws) (one_fault ws) one) ∙ head (refuses k) refuses_it
+by_clap ws k one refuses_it = refused_as ws (k ∷ []) (sole k (faults_of ws) (one_fault ws) one) ∙ head (refuses k) refuses_it
   where
     head : (b : Bool) → b ≡ true → (let rest : Bool = false in (b || rest) || rest) ≡ true
     head true e = refl
     head false e = e
 
 unnamed_command : (ws : List Text) → faults_of ws ≡ [] → names_command (rows_at ws) ≡ false → is_refused ws ≡ true
-unnamed_command ws takes unknown = by ws [] takes ∙ ap (λ b. not (b && names_deps (rows_at ws))) unknown
+unnamed_command ws takes unknown = refused_as ws [] takes ∙ ap (λ b. not (b && names_deps (rows_at ws))) unknown
 
 unnamed_deps : (ws : List Text) → faults_of ws ≡ [] → names_deps (rows_at ws) ≡ false → is_refused ws ≡ true
-unnamed_deps ws takes unknown = by ws [] takes ∙ (ap (λ b. not (names_command (rows_at ws) && b)) unknown ∙ never (names_command (rows_at ws)))
+unnamed_deps ws takes unknown = refused_as ws [] takes ∙ (ap (λ b. not (names_command (rows_at ws) && b)) unknown ∙ never (names_command (rows_at ws)))
   where
     never : (b : Bool) → not (b && false) ≡ true
     never true = refl
@@ -99,14 +99,14 @@ deps_are_known deps.Precise = refl
 
 pub said_not_refused : (ws : List Text) (options : Options) → Says ws options → is_refused ws ≡ false
 said_not_refused ws options says =
-    by ws [] says.taken
+    refused_as ws [] says.taken
     ∙ ap₂ (λ a b. not (a && b)) (ap (λ o. option_map_or is_command o false) says.command ∙ command_is_known options.command)
     (ap (λ o. option_map_or is_deps o false) says.deps ∙ deps_are_known options.deps)
 
 pub not_refused : (ws : List Text) (request : Request) → Answers ws request → is_refused ws ≡ false
 not_refused ws (Command options) says = said_not_refused ws options says
-not_refused ws Help is = by ws (kind.DisplayHelp ∷ []) is
-not_refused ws Version is = by ws (kind.DisplayVersion ∷ []) is
+not_refused ws Help is = refused_as ws (kind.DisplayHelp ∷ []) is
+not_refused ws Version is = refused_as ws (kind.DisplayVersion ∷ []) is
 
 answer : (k : ErrorKind) (ws : List Text) (request : Request) → answer_to k ≡ Ok request → IsAmong k (faults_of ws) → Answers ws request
 answer kind.DisplayHelp ws request e one = subst (Answers ws) (ok_is Help request e) (sole kind.DisplayHelp (faults_of ws) (one_fault ws) one)

@@ -16,3 +16,8 @@ pub fn words_have_one_fault()
 pub fn refused_words_are_not_answered()
     ensures { (words : List Text) (request : Request) → Answers words request → is_refused words ≡ false }
 {}
+
+/// Words that are not refused ask for something.
+pub fn other_words_are_answered()
+    ensures { (words : List Text) → is_refused words ≡ false → (request : Request) × Answers words request }
+{}

@@ -8,7 +8,9 @@ mod names;
 mod reading;
 
 pub use help::{HELP, VERSION};
-pub use laws::{refused_words_are_not_answered, words_have_one_fault};
+pub use laws::{
+    other_words_are_answered, refused_words_are_not_answered, words_have_one_fault,
+};
 pub use names::{CommandName, Deps};
 pub use reading::{Options, Request, WordsRefusal, read_words};
 
