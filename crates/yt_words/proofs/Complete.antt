@@ -5,19 +5,13 @@ use Rattle.std.specs.List.{AllByRecursion, list_all, list_any}
 use Rattle.std.specs.Option.{option_map_or}
 use Rattle.std.specs.Borrow.{Bor}
 use Rattle.std.specs.Str.{bytes_eq}
-use Rattle.std.specs.Str.Parse.{digits_value, without_leading_plus}
 use Rattle.std.proofs.lemmas.Slice.Eq.{bytes_eq-Decides}
-use Rattle.clap.specs.Lexer.{without_minus}
-use Rattle.clap.specs.Kinds.{Kinds, or_else}
-use Rattle.clap.specs.Walk.{Row, Rule, Text, finished, first_of, has_row, nothing_held, one_of, rows_after, settled, walk, walk_from}
-use Rattle.clap.specs.Simple.{Shape, argument_words, built, filled}
-use Rattle.clap.specs.Takes.{value_passes}
-use Rattle.clap.specs.Faults.{check_fault, defaults_fault, level_fault, settle_fault, walk_fault}
+use Rattle.clap.specs.Kinds.{Kinds}
+use Rattle.clap.specs.Walk.{Text, first_of}
 use Rattle.clap.specs.declared.error.kind.ErrorKind.{ErrorKind}
 use Rattle.clap.specs.declared.error.kind.ErrorKind.TheVariants as kind
-use Rattle.clap.proofs.FaultLemmas.{leaf_fault}
 use Rattle.clap.proofs.WalkLemmas.{both}
-use Rattle.yt_words.specs.Arguments.{NumberOf, faults_of, flag_at, number_at, number_rule, only, rows_at, youtopia_app}
+use Rattle.yt_words.specs.Arguments.{faults_of, flag_at, number_at, rows_at}
 use Rattle.yt_words.specs.Meaning.{Answers, Says, is_refused, names_command, names_deps, refuses}
 use Rattle.yt_words.specs.Names.{command_text, commands, deps_text, is_command, is_deps}
 use Rattle.yt_words.specs.declared.names.CommandName.{CommandName}
@@ -26,77 +20,11 @@ use Rattle.yt_words.specs.declared.names.Deps.TheVariants.{Coarse, Precise}
 use Rattle.yt_words.specs.declared.reading.Options.{Options}
 use Rattle.yt_words.specs.declared.reading.Request.{Request}
 use Rattle.yt_words.specs.declared.reading.Request.TheVariants.{Command, Help, Version}
-use Rattle.yt_words.proofs.FinishedRows.{all_added, defaults_fine, in_range, one_given}
+use Rattle.yt_words.proofs.Numbers.{number_in}
 use Rattle.yt_words.proofs.OneFault.{one_fault}
-use Rattle.yt_words.proofs.ParsedRows.{AreFine, IsSole, neither, settle_fine, walk_fine}
 use Rattle.yt_words.proofs.Refusals.{refused_as, refused_by}
 
--- ---- the number options
-
-not_that : (b : Bool) → not b ≡ true → b ≡ true → ⊥
-not_that true n y = true≢false (sym n)
-not_that false n y = true≢false (sym y)
-
-others : (a : Rule) (rs : List Rule) → list_all (λ q. not (bytes_eq q.id a.id)) rs ≡ true → AllByRecursion (IsSole a) rs
-others a [] h = tt
-others a (r ∷ rs) h =
-    let two = both (not (bytes_eq r.id a.id)) (list_all (λ q. not (bytes_eq q.id a.id)) rs) h in
-    (λ same. absurd (not_that (bytes_eq r.id a.id) two.0 same), others a rs two.1)
-
-sole_at : (a : Rule) (k : ℕ) (rs : List Rule) → only a.id k rs ≡ true → slice_get rs k ≡ Some a → AllByRecursion (IsSole a) rs
-sole_at a k [] h at = tt
-sole_at a zero (r ∷ rs) h at = (λ same. some_is r a at, others a rs h)
-  where
-    some_is : (u v : Rule) → Some u ≡ Some v → u ≡ v
-    some_is u v e = cc
-sole_at a (suc k) (r ∷ rs) h at =
-    let two = both (not (bytes_eq r.id a.id)) (only a.id k rs) h in
-    (λ same. absurd (not_that (bytes_eq r.id a.id) two.0 same), sole_at a k rs two.1 at)
-
--- an option of a command with no subcommands that clap takes the words for: its number lies in its range
-number_within : (s : Shape) (words : List Text) → level_fault s [] nothing_held words false [] ≡ []
-    → (k : ℕ) (name : Text) (low high : ℕ) (fallback : Text) → slice_get s.rules k ≡ Some (filled (number_rule name low high fallback)) → only name k s.rules ≡ true
-    → (low ≤ number_at name (rows_after s.rules [] words)) × (number_at name (rows_after s.rules [] words) ≤ high)
-number_within s words clean k name low high fallback at one = within (one_given a (rows_after s.rules [] words) fine has)
-  where
-    a : Rule
-    a = filled (number_rule name low high fallback)
-
-    start : List Row
-    start = (settled s.rules (walk s.rules [] nothing_held words).held).rows
-
-    sole : AllByRecursion (IsSole a) s.rules
-    sole = sole_at a k s.rules one at
-
-    fine : AreFine a (rows_after s.rules [] words)
-    fine =
-        let end = (walk s.rules [] nothing_held words).held in
-        let last = or_else (defaults_fault start s.rules) (check_fault s (finished s.rules end) false) in
-        let first = neither (walk_fault s [] (walk_from nothing_held) words) (or_else (settle_fault s.rules s.args_override_self end) last) clean in
-        let second = neither (settle_fault s.rules s.args_override_self end) last first.1 in
-        let third = neither (defaults_fault start s.rules) (check_fault s (finished s.rules end) false) second.1 in
-        defaults_fine a s.rules start sole third.0
-        (settle_fine s a refl refl sole end second.0 (walk_fine s a refl refl sole words (walk_from nothing_held) first.0 tt))
-
-    has : has_row name (rows_after s.rules [] words) ≡ true
-    has = all_added a fallback k s.rules start at refl
-
-    within : (t : Text) × (one_of name (rows_after s.rules [] words) ≡ Some (without_minus t)) × (value_passes a t ≡ true)
-        → (low ≤ number_at name (rows_after s.rules [] words)) × (number_at name (rows_after s.rules [] words) ≤ high)
-    within got =
-        let is = ap (λ o. option_map_or (λ t. digits_value 10 (without_leading_plus t)) o 0) got.1 in
-        let range = in_range low high got.0 got.2 in
-        (subst (λ n. low ≤ n) (sym is) range.0, subst (λ n. n ≤ high) (sym is) range.1)
-
-number_in : (ws : List Text) → faults_of ws ≡ []
-    → (k : ℕ) (name : Text) (low high : ℕ) (fallback : Text) → slice_get (built youtopia_app).top.rules k ≡ Some (filled (number_rule name low high fallback))
-    → only name k (built youtopia_app).top.rules ≡ true → NumberOf (number_at name (rows_at ws)) name low high ws
-number_in ws takes k name low high fallback at one =
-    let own = argument_words youtopia_app ws in
-    let range = number_within (built youtopia_app).top own (sym (leaf_fault (built youtopia_app) nothing_held own refl) ∙ takes) k name low high fallback at one in
-    (refl, range.0, range.1)
-
--- ---- the texts
+-- ---- the texts that are given
 
 any_given : {X : Type 0} (test : X → Bool) (xs : List X) → list_any test xs ≡ true → (x : X) × (test x ≡ true)
 any_given test [] e = absurd (true≢false (sym e))

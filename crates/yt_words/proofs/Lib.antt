@@ -1,7 +1,7 @@
 pub mod Complete
-pub mod DefaultTexts
 pub mod FinishedRows
 pub mod Matched
+pub mod Numbers
 pub mod OneFault
 pub mod ParsedRows
 pub mod Refusals

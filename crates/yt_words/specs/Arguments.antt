@@ -78,9 +78,3 @@ flag_at id rows = option_map_or (λ t. bytes_eq t (codes "true")) (first_of id r
 -- n is the number that the option has, and lies in its range
 abbrev pub NumberOf : ℕ → Text → ℕ → ℕ → List Text → Type 0
 NumberOf n name low high words = (n ≡ number_at name (rows_at words)) × (low ≤ n) × (n ≤ high)
-
--- whether no rule but the k-th has the name
-abbrev pub only : Text → ℕ → List Rule → Bool
-only name k [] = true
-only name zero (r ∷ rs) = list_all (λ q. not (bytes_eq q.id name)) rs
-only name (suc k) (r ∷ rs) = not (bytes_eq r.id name) && only name k rs
