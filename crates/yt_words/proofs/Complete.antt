@@ -1,7 +1,6 @@
 -- Words that are not refused ask for something.
-use Rattle.std.proofs.Common.{◌≡◌, ◌∙◌, ◌≤◌, ◌&&◌, ◌||◌, ℕ, Bool, not, zero, suc, true, false, length, List, [], ◌∷◌, Option, Some, None, fold, refl, sym, ap, subst, arith, true≢false, option_map, codes}
-use Rattle.std.specs.Prelude.{slice_get}
-use Rattle.std.specs.List.{AllByRecursion, list_all, list_any}
+use Rattle.std.proofs.Common.{◌≡◌, ◌∙◌, ◌≤◌, ◌&&◌, ◌||◌, Bool, not, true, false, length, List, [], ◌∷◌, Option, Some, None, refl, sym, ap, arith, true≢false, option_map, codes}
+use Rattle.std.specs.List.{list_any}
 use Rattle.std.specs.Option.{option_map_or}
 use Rattle.std.specs.Borrow.{Bor}
 use Rattle.std.specs.Str.{bytes_eq}
@@ -22,7 +21,7 @@ use Rattle.yt_words.specs.declared.reading.Request.{Request}
 use Rattle.yt_words.specs.declared.reading.Request.TheVariants.{Command, Help, Version}
 use Rattle.yt_words.proofs.Numbers.{number_in}
 use Rattle.yt_words.proofs.OneFault.{one_fault}
-use Rattle.yt_words.proofs.Refusals.{refused_as, refused_by}
+use Rattle.yt_words.proofs.Refusals.{refused_as}
 
 -- ---- the texts that are given
 

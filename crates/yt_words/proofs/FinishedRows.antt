@@ -1,7 +1,7 @@
 -- The rows at the end of a parse without a fault, with the defaults filled in.
-use Rattle.std.proofs.Common.{◌≡◌, ◌∙◌, ◌≤◌, ◌&&◌, ◌||◌, ◌^◌, ℕ, Bool, zero, suc, true, false, cond, length, drop, List, [], ◌∷◌, Option, Some, None, if◌then◌else◌, fold, find, refl, sym, ap, subst, arith, true≢false, option_map, codes}
+use Rattle.std.proofs.Common.{◌≡◌, ◌∙◌, ◌≤◌, ◌||◌, ℕ, Bool, zero, suc, true, false, cond, drop, List, [], ◌∷◌, Some, None, if◌then◌else◌, fold, find, refl, sym, ap, subst, arith, true≢false, option_map}
 use Rattle.std.specs.Prelude.{pos, slice_get, option_and_then, unwrap_or, ◌++◌, ◌==◌}
-use Rattle.std.specs.List.{AllByRecursion, list_any}
+use Rattle.std.specs.List.{AllByRecursion}
 use Rattle.std.specs.Str.{bytes_eq}
 use Rattle.std.specs.Str.Parse.{IsNumeral, digits_value, starts_with_minus, without_leading_plus}
 use Rattle.std.proofs.lemmas.Bool.{ne_eqb}
@@ -9,10 +9,10 @@ use Rattle.std.proofs.lemmas.Int.{ints}
 use Rattle.std.proofs.lemmas.Slice.Eq.{bytes_eq-Decides}
 use Rattle.std.proofs.lemmas.Str.Parse.{digit_from_value}
 use Rattle.clap.specs.Lexer.{without_minus}
-use Rattle.clap.specs.Values.{Accepts, IsSignedIn, read_as, reading_of}
+use Rattle.clap.specs.Values.{IsSignedIn, read_as}
 use Rattle.clap.specs.ValueTests.{accepts}
-use Rattle.clap.specs.Facts.{parser_of_value, unwrap_or_range}
-use Rattle.clap.specs.Kinds.{Kinds, or_else, request_kinds, value_kinds, values_kinds}
+use Rattle.clap.specs.Facts.{parser_of_value}
+use Rattle.clap.specs.Kinds.{request_kinds, value_kinds, values_kinds}
 use Rattle.clap.specs.Walk.{Row, Rule, Text, action_of, at_row, default_rows, has_row, is_empty, more_values, one_of, reading_by, row_text, with_default, with_values}
 use Rattle.clap.specs.Takes.{value_passes}
 use Rattle.clap.specs.Faults.{default_fault, defaults_fault, given_default_fault, values_fault}
@@ -21,7 +21,7 @@ use Rattle.clap.specs.declared.builder.value_parser.ValueParser.TheVariants as p
 use Rattle.clap.specs.declared.parser.matches.ValueSource.{ValueSource}
 use Rattle.clap.specs.declared.parser.matches.ValueSource.TheVariants.{DefaultValue}
 use Rattle.clap.proofs.ValueTestLemmas.{accepts-Accepts}
-use Rattle.yt_words.proofs.ParsedRows.{AreFine, IsFine, IsSole, accepted, fine_values, neither, passes_first}
+use Rattle.yt_words.proofs.FineRows.{AreFine, IsSole, accepted, fine_values, neither, passes_first}
 
 -- ---- a default
 

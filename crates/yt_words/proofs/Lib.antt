@@ -1,4 +1,5 @@
 pub mod Complete
+pub mod FineRows
 pub mod FinishedRows
 pub mod Matched
 pub mod Numbers

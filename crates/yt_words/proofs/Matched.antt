@@ -1,24 +1,21 @@
 -- What the words that clap takes come to, option by option.
-use Rattle.std.proofs.Common.{◌≡◌, ◌∙◌, ◌<◌, ◌≤◌, ◌^◌, ap, ℕ, Bool, true, false, List, [], ◌∷◌, suc, zero, length, Option, Some, None, refl, sym, subst, arith, codes}
+use Rattle.std.proofs.Common.{◌≡◌, ◌∙◌, ◌<◌, ◌^◌, ap, ℕ, Bool, true, false, List, [], Option, Some, None, refl, sym, subst, arith, codes}
 use Rattle.std.specs.Prelude.{option_map, slice_get, pos, Ok, Result}
 use Rattle.std.specs.Option.{option_map_or}
-use Rattle.std.specs.List.{slice_index_or, list_all}
 use Rattle.std.specs.Borrow.{Bor}
 use Rattle.std.specs.Str.{bytes_eq}
 use Rattle.std.specs.Str.Parse.{ParsesUnsigned, digits_value, without_leading_plus}
 use Rattle.clap.specs.Lexer.{without_minus}
-use Rattle.clap.specs.Words.{App, HasMatchesOf, IsParsedFrom, Rule, Text, app_of, first_of, fault_of, first_value, found_of, is_simple, is_simple_and_free, matches_of, one_of, one_text, rows_of}
+use Rattle.clap.specs.Words.{App, HasMatchesOf, Text, first_of, fault_of, first_value, found_of, is_simple, is_simple_and_free, matches_of, one_of, one_text, rows_of}
 use Rattle.clap.specs.Matches.{ReadsOne}
 use Rattle.clap.specs.Simple.{built, filled}
-use Rattle.clap.specs.declared.builder.Command.{Command}
 use Rattle.clap.specs.declared.builder.ValueParser.TheVariants as parser
 use Rattle.clap.specs.declared.parser.ArgMatches.{ArgMatches}
-use Rattle.clap.proofs.WalkLemmas.{both, first_value-rows, one_text-rows}
+use Rattle.clap.proofs.WalkLemmas.{first_value-rows, one_text-rows}
 use Rattle.clap.proofs.CallerReads.{signed_reads}
 use Rattle.clap.proofs.ValueTestLemmas.{accepts-Accepts}
-use Rattle.std.specs.Prelude.{IsSome, not}
-use Rattle.std.proofs.lemmas.Bool.{true≢false}
-use Rattle.yt_words.specs.Arguments.{NumberOf, flag_at, number_at, number_rule, rows_at, rules, youtopia_app}
+use Rattle.std.specs.Prelude.{IsSome}
+use Rattle.yt_words.specs.Arguments.{NumberOf, flag_at, number_rule, rows_at, youtopia_app}
 use Rattle.yt_words.proofs.Numbers.{number_text, only}
 use Rattle.yt_words.proofs.Refusals.{taken}
 

@@ -1,5 +1,5 @@
 -- The number options of words that clap takes: each has a text that passed its range.
-use Rattle.std.proofs.Common.{◌≡◌, ◌∙◌, ◌≤◌, ◌&&◌, ℕ, Bool, not, zero, suc, true, false, List, [], ◌∷◌, Option, Some, refl, sym, ap, subst, true≢false}
+use Rattle.std.proofs.Common.{◌≡◌, ◌∙◌, ◌≤◌, ◌&&◌, ℕ, Bool, not, zero, suc, true, false, List, [], ◌∷◌, Some, refl, sym, ap, subst, true≢false}
 use Rattle.std.specs.Prelude.{pos, slice_get}
 use Rattle.std.specs.List.{AllByRecursion, list_all}
 use Rattle.std.specs.Option.{option_map_or}
@@ -8,7 +8,7 @@ use Rattle.std.specs.Str.Parse.{digits_value, without_leading_plus}
 use Rattle.clap.specs.Lexer.{without_minus}
 use Rattle.clap.specs.ValueTests.{accepts}
 use Rattle.clap.specs.Kinds.{or_else}
-use Rattle.clap.specs.Walk.{Row, Rule, Text, finished, has_row, nothing_held, one_of, rows_after, settled, walk, walk_from}
+use Rattle.clap.specs.Walk.{Row, Rule, Text, finished, nothing_held, one_of, rows_after, settled, walk, walk_from}
 use Rattle.clap.specs.Simple.{Shape, argument_words, built, filled}
 use Rattle.clap.specs.Faults.{check_fault, defaults_fault, level_fault, settle_fault, walk_fault}
 use Rattle.clap.specs.declared.builder.ValueParser.TheVariants as parser
@@ -16,7 +16,8 @@ use Rattle.clap.proofs.FaultLemmas.{leaf_fault}
 use Rattle.clap.proofs.WalkLemmas.{both}
 use Rattle.yt_words.specs.Arguments.{NumberOf, faults_of, number_at, number_rule, rows_at, youtopia_app}
 use Rattle.yt_words.proofs.FinishedRows.{all_added, defaults_fine, in_range, one_given}
-use Rattle.yt_words.proofs.ParsedRows.{AreFine, IsSole, neither, settle_fine, walk_fine}
+use Rattle.yt_words.proofs.FineRows.{AreFine, IsSole, neither}
+use Rattle.yt_words.proofs.ParsedRows.{settle_fine, walk_fine}
 
 -- whether no rule but the k-th has the name
 abbrev pub only : Text → ℕ → List Rule → Bool

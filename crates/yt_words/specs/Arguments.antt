@@ -1,7 +1,6 @@
 -- The one simple command that clap reads the words by, and what it then holds of them.
-use Rattle.std.specs.Prelude.{◌≡◌, ◌≤◌, ◌&&◌, not, zero, suc, ℕ, List, [], ◌∷◌, Some, Bool, true, false, codes, pos}
+use Rattle.std.specs.Prelude.{◌≡◌, ◌≤◌, ℕ, List, [], ◌∷◌, Some, Bool, true, false, codes, pos}
 use Rattle.std.specs.Option.{option_map_or}
-use Rattle.std.specs.List.{list_all}
 use Rattle.std.specs.Str.{bytes_eq}
 use Rattle.std.specs.Str.Parse.{digits_value, without_leading_plus}
 use Rattle.clap.specs.Words.{App, Kinds, Row, Rule, Text, fault_of, first_of, matches_of, new_app, new_rule, one_of}

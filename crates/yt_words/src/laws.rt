@@ -12,12 +12,8 @@ pub fn words_have_one_fault()
     ensures { (words : List Text) → length (faults_of words) ≤ 1 }
 {}
 
-/// Words that are refused ask for nothing.
-pub fn refused_words_are_not_answered()
-    ensures { (words : List Text) (request : Request) → Answers words request → is_refused words ≡ false }
-{}
-
-/// Words that are not refused ask for something.
-pub fn other_words_are_answered()
-    ensures { (words : List Text) → is_refused words ≡ false → (request : Request) × Answers words request }
+/// Words ask for something exactly where they are not refused.
+pub fn words_are_answered_or_refused()
+    ensures never_both { (words : List Text) (request : Request) → Answers words request → is_refused words ≡ false }
+    ensures either { (words : List Text) → is_refused words ≡ false → (request : Request) × Answers words request }
 {}

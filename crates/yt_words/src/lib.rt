@@ -8,9 +8,7 @@ mod names;
 mod reading;
 
 pub use help::{HELP, VERSION};
-pub use laws::{
-    other_words_are_answered, refused_words_are_not_answered, words_have_one_fault,
-};
+pub use laws::{words_are_answered_or_refused, words_have_one_fault};
 pub use names::{CommandName, Deps};
 pub use reading::{Options, Request, WordsRefusal, read_words};
 
