@@ -21,7 +21,7 @@ answer_to DisplayVersion = Ok Version
 answer_to OutOfMemory = Err Memory
 answer_to _ = Err Usage
 
--- whether an error of clap's refuses the words
+-- whether an error of clap's refuses the words: a call for help or the version does not
 abbrev pub refuses : ErrorKind → Bool
 refuses DisplayHelp = false
 refuses DisplayVersion = false
@@ -35,7 +35,7 @@ names_command rows = option_map_or is_command (first_of (codes "command") rows) 
 abbrev pub names_deps : List Row → Bool
 names_deps rows = option_map_or is_deps (first_of (codes "deps") rows) false
 
--- whether the words are refused: by clap, or by us where clap takes them, since there is no such command or no such dependencies
+-- whether the words are refused: by clap, or, where clap takes them, since there is no such command or no such dependencies
 abbrev pub is_refused : List Text → Bool
 is_refused words = list_any refuses (faults_of words)
     || (is_empty (faults_of words) && not (names_command (rows_at words) && names_deps (rows_at words)))
