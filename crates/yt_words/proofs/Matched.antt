@@ -1,82 +1,26 @@
--- What the words of the one simple command come to.
-use Rattle.std.proofs.Common.{◌≡◌, ◌∙◌, ◌<◌, ◌≤◌, ◌^◌, ap, ℕ, Bool, true, false, List, [], ◌∷◌, suc, zero, length, Option, Some, None, refl, sym, subst, inl, inr, arith, codes}
-use Rattle.std.specs.Prelude.{option_map, slice_index, pos, Ok, Err, Result, ◌⊎◌, IfOk, IfErr}
+-- What the words that clap takes come to, option by option.
+use Rattle.std.proofs.Common.{◌≡◌, ◌∙◌, ◌<◌, ◌^◌, ap, ℕ, Bool, true, false, List, [], Option, Some, None, refl, sym, subst, arith, codes}
+use Rattle.std.specs.Prelude.{option_map, slice_get, pos, Ok, Result}
 use Rattle.std.specs.Option.{option_map_or}
-use Rattle.std.specs.List.{slice_index_or, list_all}
 use Rattle.std.specs.Borrow.{Bor}
 use Rattle.std.specs.Str.{bytes_eq}
 use Rattle.std.specs.Str.Parse.{ParsesUnsigned, digits_value, without_leading_plus}
 use Rattle.clap.specs.Lexer.{without_minus}
-use Rattle.clap.specs.Words.{App, HasKind, HasMatchesOf, IsAmong, IsParsedFrom, Rule, Text, app_of, fault_of, first_of, first_value, found_of, is_simple, is_simple_and_free, kind_of, matches_of, one_of, one_text, rows_of}
+use Rattle.clap.specs.Words.{App, HasMatchesOf, Text, first_of, fault_of, first_value, found_of, is_simple, is_simple_and_free, matches_of, one_of, one_text, rows_of}
 use Rattle.clap.specs.Matches.{ReadsOne}
-use Rattle.clap.specs.Faults.{has_free_rules}
-use Rattle.clap.specs.Simple.{is_ready, is_ready_leaf}
-use Rattle.clap.specs.declared.error.Error.{Error}
-use Rattle.clap.specs.declared.error.ErrorKind.TheVariants.{OutOfMemory}
-use Rattle.clap.specs.declared.builder.Command.{Command}
+use Rattle.clap.specs.Simple.{built, filled}
 use Rattle.clap.specs.declared.builder.ValueParser.TheVariants as parser
 use Rattle.clap.specs.declared.parser.ArgMatches.{ArgMatches}
-use Rattle.clap.proofs.WalkLemmas.{both, first_value-rows, one_text-rows}
+use Rattle.clap.proofs.WalkLemmas.{first_value-rows, one_text-rows}
 use Rattle.clap.proofs.CallerReads.{signed_reads}
-use Rattle.std.specs.Prelude.{IsSome, not}
-use Rattle.std.proofs.lemmas.Bool.{true≢false}
-use Rattle.clap.specs.declared.error.kind.ErrorKind.{ErrorKind}
-use Rattle.clap.specs.declared.error.kind.ErrorKind.TheVariants as kind
-use Rattle.yt_words.specs.declared.reading.Request.{Request}
-use Rattle.yt_words.specs.declared.reading.Request.TheVariants.{Help, Version}
-use Rattle.yt_words.specs.declared.reading.WordsRefusal.{WordsRefusal}
-use Rattle.yt_words.specs.declared.reading.WordsRefusal.TheVariants.{Usage, Memory}
-use Rattle.yt_words.specs.Arguments.{NumberOf, faults_of, flag_at, number_at, number_rule, only, rows_at, rules, youtopia_app}
-use Rattle.yt_words.specs.Meaning.{Answers, Refused, answer_to}
-use Rattle.yt_words.specs.Names.{is_command, is_deps}
-use Rattle.yt_words.proofs.DefaultTexts.{default_text}
-
-ok_is : (p q : Request) → (let s : Result Request WordsRefusal = Ok p in s) ≡ Ok q → p ≡ q
-ok_is p q e = cc
-
-no_ok : (refusal : WordsRefusal) (request : Request) → (let s : Result Request WordsRefusal = Err refusal in s) ≡ Ok request → ⊥
-no_ok refusal request e = cc
-
-not_memory : (let s : Result Request WordsRefusal = Err Memory in s) ≡ Err Usage → ⊥
-not_memory e = cc
-
-is_plain_app : is_simple_and_free youtopia_app ≡ true
-is_plain_app = refl
+use Rattle.clap.proofs.ValueTestLemmas.{accepts-Accepts}
+use Rattle.std.specs.Prelude.{IsSome}
+use Rattle.yt_words.specs.Arguments.{NumberOf, flag_at, number_rule, rows_at, youtopia_app}
+use Rattle.yt_words.proofs.Numbers.{number_text, only}
+use Rattle.yt_words.proofs.Refusals.{taken}
 
 is_simple_app : is_simple youtopia_app ≡ true
 is_simple_app = refl
-
--- a kind of error that clap gives, as the command in words has it
-among : (a : App) (ws : List Text) (e : Error) → a ≡ youtopia_app → (is_simple_and_free a ≡ true → HasKind (fault_of a ws) e)
-    → (kind_of e ≡ OutOfMemory) ⊎ IsAmong (kind_of e) (faults_of ws)
-among a ws e is kinds = elim (kinds (ap is_simple_and_free is ∙ is_plain_app)) [
-  | inl memory ↦ inl memory
-  | inr one ↦ inr (subst (IsAmong (kind_of e)) (ap (λ x. fault_of x ws) is) one)
-]
-
-answer : (k : ErrorKind) (ws : List Text) (request : Request) → answer_to k ≡ Ok request → IsAmong k (faults_of ws) → Answers ws request
-answer kind.DisplayHelp ws request e one = subst (Answers ws) (ok_is Help request e) one
-answer kind.DisplayVersion ws request e one = subst (Answers ws) (ok_is Version request e) one
-answer _ ws request e one = absurd (no_ok _ request e)
-
-pub asked : (a : App) (ws : List Text) (e : Error) (r : Result Request WordsRefusal) → a ≡ youtopia_app → (is_simple_and_free a ≡ true → HasKind (fault_of a ws) e)
-    → r ≡ answer_to (kind_of e) → IfOk r (Answers ws)
-asked a ws e (Ok request) is kinds gives = elim (among a ws e is kinds) [
-  | inl memory ↦ absurd (no_ok Memory request (sym (gives ∙ ap answer_to memory)))
-  | inr one ↦ answer (kind_of e) ws request (sym gives) one
-]
-asked a ws e (Err refusal) is kinds gives = tt
-
-pub refused : (a : App) (ws : List Text) (e : Error) (r : Result Request WordsRefusal) → a ≡ youtopia_app → (is_simple_and_free a ≡ true → HasKind (fault_of a ws) e)
-    → r ≡ answer_to (kind_of e) → IfErr r (λ refusal. refusal ≡ Usage → Refused ws)
-refused a ws e (Ok request) is kinds gives = tt
-refused a ws e (Err refusal) is kinds gives = λ usage. elim (among a ws e is kinds) [
-  | inl memory ↦ absurd (not_memory (sym (sym (ap (λ (x : WordsRefusal). let s : Result Request WordsRefusal = Err x in s) usage) ∙ gives ∙ ap answer_to memory)))
-  | inr one ↦ inl (record { kind = kind_of e; among = one; refused = sym gives ∙ ap (λ (x : WordsRefusal). let s : Result Request WordsRefusal = Err x in s) usage })
-]
-
-pub taken : (a : App) (ws : List Text) → a ≡ youtopia_app → (is_simple_and_free a ≡ true → fault_of a ws ≡ []) → fault_of youtopia_app ws ≡ []
-taken a ws is kinds = ap (λ x. fault_of x ws) (sym is) ∙ kinds (ap is_simple_and_free is ∙ is_plain_app)
 
 pub rows_are : (a : App) (ws : List Text) (m : ArgMatches) → a ≡ youtopia_app → HasMatchesOf a ws m → rows_of (found_of m) ≡ rows_at ws
 rows_are a ws m is has = (has (ap is_simple is ∙ is_simple_app)).0 ∙ ap (λ x. matches_of x ws) is
@@ -95,135 +39,47 @@ number_value E low high t (Some v) G only h n is =
     sym same ∙ (only (without_minus t) (Ok v) h).1
 number_value E low high t None G only h n is = cc
 
-pub number_is : (old : Command) (ws : List Text) (m : ArgMatches) → app_of old ≡ youtopia_app → IsParsedFrom old m → HasMatchesOf (app_of old) ws m
-    → (k : ℕ) (name : Text) (low high : ℕ) (fallback : Text) → k < length rules → slice_index_or rules k (number_rule name low high fallback) ≡ number_rule name low high fallback
-    → high < 2 ^ 32
-    → ((j : ℕ) (s : Rule) → j < length rules → bytes_eq (slice_index_or rules j s).id name ≡ true → j ≡ k)
-    → (name ≡ [] → ⊥) → (name ≡ codes "help" → ⊥) → (name ≡ codes "version" → ⊥)
-    → (E : Type 0) (G : Text → Result ℕ E → Type 0) → ((u : Text) (x : Result ℕ E) → G u x → ParsesUnsigned 32 10 u x)
-    → (r : Option ℕ) → ((t : Text) → one_text (found_of m) name ≡ Some t → ReadsOne G t r)
-    → (n : ℕ) × (r ≡ Some n) × (low ≤ n) × (n ≤ high) × (n ≡ number_at name (rows_at ws))
-number_is old ws m is p has k name low high fallback lt here fits unique named not_help not_version E G only r read =
-    let got = default_text old m p rules (ap (λ a. a.top.rules) is) (ap (λ a. is_ready a.top) is) (ap (λ a. list_all is_ready_leaf a.subs) is) (ap (λ a. has_free_rules a.top) is)
-    k (number_rule name low high fallback) (parser.Signed (pos low) (pos high)) lt here refl (omega arith) refl refl (omega arith) unique named not_help not_version in
-    let t = got.0 in
-    let text : one_text (found_of m) name ≡ Some (without_minus t) = got.1 in
-    let one = read (without_minus t) text in
-    let n = signed_reads E G 32 low high t r one only fits got.2 in
-    let value = number_value E low high t r G only one n.0 n.1 in
-    let there : one_of name (rows_at ws) ≡ Some (without_minus t) = ap (one_of name) (sym (rows_are (app_of old) ws m is has)) ∙ (sym (one_text-rows (found_of m) name) ∙ text) in
-    (n.0, n.1, n.2, n.3, value ∙ ap (λ o. option_map_or (λ u. digits_value 10 (without_leading_plus u)) o 0) (sym there))
-
-not_that : (b : Bool) → not b ≡ true → b ≡ true → ⊥
-not_that true n y = let bad : false ≡ true = n in true≢false (sym bad)
-not_that false n y = true≢false (sym y)
-
-no_more : (name : Text) (rs : List Rule) → list_all (λ q. not (bytes_eq q.id name)) rs ≡ true
-    → (j : ℕ) (s : Rule) → j < length rs → bytes_eq (slice_index_or rs j s).id name ≡ true → ⊥
-no_more name [] all j s lt e = absurd (omega arith)
-no_more name (r ∷ rs) all zero s lt e = not_that (bytes_eq r.id name) (both (not (bytes_eq r.id name)) _ all).0 e
-no_more name (r ∷ rs) all (suc j) s lt e = no_more name rs (both (not (bytes_eq r.id name)) _ all).1 j s (omega arith) e
-
-only_one : (name : Text) (k : ℕ) (rs : List Rule) → only name k rs ≡ true
-    → (j : ℕ) (s : Rule) → j < length rs → bytes_eq (slice_index_or rs j s).id name ≡ true → j ≡ k
-only_one name k [] h j s lt e = absurd (omega arith)
-only_one name zero (r ∷ rs) h zero s lt e = refl
-only_one name zero (r ∷ rs) h (suc j) s lt e = absurd (no_more name rs h j s (omega arith) e)
-only_one name (suc k) (r ∷ rs) h zero s lt e = absurd (not_that (bytes_eq r.id name) (both (not (bytes_eq r.id name)) _ h).0 e)
-only_one name (suc k) (r ∷ rs) h (suc j) s lt e = ap suc (only_one name k rs (both (not (bytes_eq r.id name)) _ h).1 j s (omega arith) e)
-
--- what `get_one::<u32>` gives of each
-abbrev pub Reads32 : (E : Type 0) → (Text → Result ℕ E → Type 0) → Type 0
-Reads32 E G = (u : Text) (x : Result ℕ E) → G u x → ParsesUnsigned 32 10 u x
-
--- the number of an option that stands at k and nowhere else
-pub option_is : (old : Command) (ws : List Text) (m : ArgMatches) → app_of old ≡ youtopia_app → IsParsedFrom old m → HasMatchesOf (app_of old) ws m
-    → (k : ℕ) (name : Text) (low high : ℕ) (fallback : Text) → slice_index_or rules k (number_rule name low high fallback) ≡ number_rule name low high fallback
-    → only name k rules ≡ true → 1 ≤ k → k ≤ 9 → high < 2 ^ 32
-    → (slice_index name 0 ≡ 0 → ⊥) → (slice_index name 0 ≡ 104 → ⊥) → (slice_index name 0 ≡ 118 → ⊥)
-    → (E : Type 0) (G : Text → Result ℕ E → Type 0) → Reads32 E G
-    → (r : Option ℕ) → ((t : Text) → one_text (found_of m) name ≡ Some t → ReadsOne G t r)
-    → (n : ℕ) × (r ≡ Some n) × (low ≤ n) × (n ≤ high) × (n ≡ number_at name (rows_at ws))
-option_is old ws m is p has k name low high fallback here one first last fits some not_h not_v E G reads r read =
-    number_is old ws m is p has k name low high fallback (omega arith) here fits (only_one name k rules one)
-    (λ e. some (ap (λ t. slice_index t 0) e)) (λ e. not_h (ap (λ t. slice_index t 0) e)) (λ e. not_v (ap (λ t. slice_index t 0) e)) E G reads r read
-
-pub some_is : {X : Type 0} (o : Option X) (n : X) → o ≡ Some n → IsSome o
-some_is (Some x) n e = refl
-some_is None n e = cc
-
--- the refusals of the positional and of `--deps`
-pub no_command : (ws : List Text) (o : Option (Bor Text)) → option_map (λ s. s.now) o ≡ first_of (codes "command") (rows_at ws) → o ≡ None → Refused ws
-no_command ws o given none =
-    let no : first_of (codes "command") (rows_at ws) ≡ None = sym given ∙ ap (option_map (λ s. s.now)) none in
-    inr (inl (ap (λ x. option_map_or is_command x false) no))
-
-pub other_command : (ws : List Text) (o : Option (Bor Text)) (t : Bor Text) → option_map (λ s. s.now) o ≡ first_of (codes "command") (rows_at ws) → o ≡ Some t
-    → is_command t.now ≡ false → Refused ws
-other_command ws o t given some other =
-    let there : first_of (codes "command") (rows_at ws) ≡ Some t.now = sym given ∙ ap (option_map (λ s. s.now)) some in
-    inr (inl (ap (λ x. option_map_or is_command x false) there ∙ other))
-
-pub no_deps : (ws : List Text) (o : Option (Bor Text)) → option_map (λ s. s.now) o ≡ first_of (codes "deps") (rows_at ws) → o ≡ None → Refused ws
-no_deps ws o given none =
-    let no : first_of (codes "deps") (rows_at ws) ≡ None = sym given ∙ ap (option_map (λ s. s.now)) none in
-    inr (inr ((ap (λ x. option_map_or is_deps x false) no)))
-
-pub other_deps : (ws : List Text) (o : Option (Bor Text)) (t : Bor Text) → option_map (λ s. s.now) o ≡ first_of (codes "deps") (rows_at ws) → o ≡ Some t
-    → is_deps t.now ≡ false → Refused ws
-other_deps ws o t given some other =
-    let there : first_of (codes "deps") (rows_at ws) ≡ Some t.now = sym given ∙ ap (option_map (λ s. s.now)) some in
-    inr (inr ((ap (λ x. option_map_or is_deps x false) there ∙ other)))
-
 pub flag_is : (a : App) (ws : List Text) (m : ArgMatches) → a ≡ youtopia_app → HasMatchesOf a ws m
     → (id : Text) (b : Bool) → b ≡ option_map_or (λ t. bytes_eq t (codes "true")) (first_value (found_of m) id) false → b ≡ flag_at id (rows_at ws)
 flag_is a ws m is has id b given =
     given ∙ ap (λ o. option_map_or (λ t. bytes_eq t (codes "true")) o false) (first_value-rows (found_of m) id ∙ ap (first_of id) (rows_are a ws m is has))
 
-pub workers_are : (old : Command) (ws : List Text) (m : ArgMatches) → app_of old ≡ youtopia_app → IsParsedFrom old m → HasMatchesOf (app_of old) ws m
-    → (E : Type 0) (G : Text → Result ℕ E → Type 0) → Reads32 E G
-    → (r : Option ℕ) → ((t : Text) → one_text (found_of m) (codes "workers") ≡ Some t → ReadsOne G t r)
-    → (n : ℕ) × (r ≡ Some n) × NumberOf n (codes "workers") 1 16 ws
-workers_are old ws m is p has E G reads r read =
-    let n = option_is old ws m is p has 1 (codes "workers") 1 16 (codes "4") refl refl (omega arith) (omega arith) (omega arith)
-    (λ e. let bad : 119 ≡ 0 = e in absurd (omega arith)) (λ e. let bad : 119 ≡ 104 = e in absurd (omega arith)) (λ e. let bad : 119 ≡ 118 = e in absurd (omega arith)) E G reads r read in
-    (n.0, n.1, (n.4, n.2, n.3))
+-- what `get_one::<u32>` gives of each
+abbrev pub Reads32 : (E : Type 0) → (Text → Result ℕ E → Type 0) → Type 0
+Reads32 E G = (u : Text) (x : Result ℕ E) → G u x → ParsesUnsigned 32 10 u x
 
-pub steps_are : (old : Command) (ws : List Text) (m : ArgMatches) → app_of old ≡ youtopia_app → IsParsedFrom old m → HasMatchesOf (app_of old) ws m
-    → (E : Type 0) (G : Text → Result ℕ E → Type 0) → Reads32 E G
-    → (r : Option ℕ) → ((t : Text) → one_text (found_of m) (codes "steps") ≡ Some t → ReadsOne G t r)
-    → (n : ℕ) × (r ≡ Some n) × NumberOf n (codes "steps") 1 300 ws
-steps_are old ws m is p has E G reads r read =
-    let n = option_is old ws m is p has 3 (codes "steps") 1 300 (codes "100") refl refl (omega arith) (omega arith) (omega arith)
-    (λ e. let bad : 115 ≡ 0 = e in absurd (omega arith)) (λ e. let bad : 115 ≡ 104 = e in absurd (omega arith)) (λ e. let bad : 115 ≡ 118 = e in absurd (omega arith)) E G reads r read in
-    (n.0, n.1, (n.4, n.2, n.3))
+-- `get_one::<u32>` gives a number, which is that of the option
+abbrev pub GivesNumber : ArgMatches → Text → ℕ → ℕ → List Text → Type 1
+GivesNumber m name low high ws = (E : Type 0) (G : Text → Result ℕ E → Type 0) → Reads32 E G
+    → (r : Option ℕ) → ((t : Text) → one_text (found_of m) name ≡ Some t → ReadsOne G t r) → (n : ℕ) × (r ≡ Some n) × NumberOf n name low high ws
 
-pub retries_are : (old : Command) (ws : List Text) (m : ArgMatches) → app_of old ≡ youtopia_app → IsParsedFrom old m → HasMatchesOf (app_of old) ws m
-    → (E : Type 0) (G : Text → Result ℕ E → Type 0) → Reads32 E G
-    → (r : Option ℕ) → ((t : Text) → one_text (found_of m) (codes "retries") ≡ Some t → ReadsOne G t r)
-    → (n : ℕ) × (r ≡ Some n) × NumberOf n (codes "retries") 0 4 ws
-retries_are old ws m is p has E G reads r read =
-    let n = option_is old ws m is p has 4 (codes "retries") 0 4 (codes "3") refl refl (omega arith) (omega arith) (omega arith)
-    (λ e. let bad : 114 ≡ 0 = e in absurd (omega arith)) (λ e. let bad : 114 ≡ 104 = e in absurd (omega arith)) (λ e. let bad : 114 ≡ 118 = e in absurd (omega arith)) E G reads r read in
-    (n.0, n.1, (n.4, n.2, n.3))
+-- the number of an option that stands at k and nowhere else
+option_is : (a : App) (ws : List Text) (m : ArgMatches) → a ≡ youtopia_app → (is_simple_and_free a ≡ true → fault_of a ws ≡ []) → HasMatchesOf a ws m
+    → (k : ℕ) (name : Text) (low high : ℕ) (fallback : Text) → slice_get (built youtopia_app).top.rules k ≡ Some (filled (number_rule name low high fallback))
+    → only name k (built youtopia_app).top.rules ≡ true → high < 2 ^ 32 → GivesNumber m name low high ws
+option_is a ws m is kinds has k name low high fallback at one fits E G reads r read =
+    let got = number_text ws (taken a ws is kinds) k name low high fallback at one in
+    let t = got.0 in
+    let text : one_text (found_of m) name ≡ Some (without_minus t) = one_text-rows (found_of m) name ∙ (ap (one_of name) (rows_are a ws m is has) ∙ got.1) in
+    let n = signed_reads E G 32 low high t r (read (without_minus t) text) reads fits (accepts-Accepts false (parser.Signed (pos low) (pos high)) t got.2) in
+    let value = number_value E low high t r G reads (read (without_minus t) text) n.0 n.1 in
+    (n.0, n.1, (value ∙ ap (λ o. option_map_or (λ u. digits_value 10 (without_leading_plus u)) o 0) (sym got.1), n.2, n.3))
 
-pub count_are : (old : Command) (ws : List Text) (m : ArgMatches) → app_of old ≡ youtopia_app → IsParsedFrom old m → HasMatchesOf (app_of old) ws m
-    → (E : Type 0) (G : Text → Result ℕ E → Type 0) → Reads32 E G
-    → (r : Option ℕ) → ((t : Text) → one_text (found_of m) (codes "count") ≡ Some t → ReadsOne G t r)
-    → (n : ℕ) × (r ≡ Some n) × NumberOf n (codes "count") 1 1000 ws
-count_are old ws m is p has E G reads r read =
-    let n = option_is old ws m is p has 6 (codes "count") 1 1000 (codes "60") refl refl (omega arith) (omega arith) (omega arith)
-    (λ e. let bad : 99 ≡ 0 = e in absurd (omega arith)) (λ e. let bad : 99 ≡ 104 = e in absurd (omega arith)) (λ e. let bad : 99 ≡ 118 = e in absurd (omega arith)) E G reads r read in
-    (n.0, n.1, (n.4, n.2, n.3))
+module _ (a : App) (ws : List Text) (m : ArgMatches) (is : a ≡ youtopia_app) (kinds : is_simple_and_free a ≡ true → fault_of a ws ≡ []) (has : HasMatchesOf a ws m) where
+  pub workers_are : GivesNumber m (codes "workers") 1 16 ws
+  workers_are = option_is a ws m is kinds has 1 (codes "workers") 1 16 (codes "4") refl refl (omega arith)
 
-pub seed_are : (old : Command) (ws : List Text) (m : ArgMatches) → app_of old ≡ youtopia_app → IsParsedFrom old m → HasMatchesOf (app_of old) ws m
-    → (E : Type 0) (G : Text → Result ℕ E → Type 0) → Reads32 E G
-    → (r : Option ℕ) → ((t : Text) → one_text (found_of m) (codes "seed") ≡ Some t → ReadsOne G t r)
-    → (n : ℕ) × (r ≡ Some n) × NumberOf n (codes "seed") 0 4294967295 ws
-seed_are old ws m is p has E G reads r read =
-    let n = option_is old ws m is p has 7 (codes "seed") 0 4294967295 (codes "1") refl refl (omega arith) (omega arith) (omega arith)
-    (λ e. let bad : 115 ≡ 0 = e in absurd (omega arith)) (λ e. let bad : 115 ≡ 104 = e in absurd (omega arith)) (λ e. let bad : 115 ≡ 118 = e in absurd (omega arith)) E G reads r read in
-    (n.0, n.1, (n.4, n.2, n.3))
+  pub steps_are : GivesNumber m (codes "steps") 1 300 ws
+  steps_are = option_is a ws m is kinds has 3 (codes "steps") 1 300 (codes "100") refl refl (omega arith)
+
+  pub retries_are : GivesNumber m (codes "retries") 0 4 ws
+  retries_are = option_is a ws m is kinds has 4 (codes "retries") 0 4 (codes "3") refl refl (omega arith)
+
+  pub count_are : GivesNumber m (codes "count") 1 1000 ws
+  count_are = option_is a ws m is kinds has 6 (codes "count") 1 1000 (codes "60") refl refl (omega arith)
+
+  pub seed_are : GivesNumber m (codes "seed") 0 4294967295 ws
+  seed_are = option_is a ws m is kinds has 7 (codes "seed") 0 4294967295 (codes "1") refl refl (omega arith)
 
 -- the number that `unwrap` gave
 pub unwrapped : (o : Option ℕ) (x : ℕ) (name : Text) (low high : ℕ) (ws : List Text) → (n : ℕ) × (o ≡ Some n) × NumberOf n name low high ws → o ≡ Some x
@@ -237,3 +93,7 @@ unwrapped o x name low high ws n is =
 
 pub there : (o : Option ℕ) (P : ℕ → Type 0) → (n : ℕ) × (o ≡ Some n) × P n → IsSome o
 there o P n = some_is o n.0 n.1
+  where
+    some_is : (p : Option ℕ) (x : ℕ) → p ≡ Some x → IsSome p
+    some_is None x e = cc
+    some_is (Some y) x e = refl

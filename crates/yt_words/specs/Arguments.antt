@@ -1,7 +1,6 @@
 -- The one simple command that clap reads the words by, and what it then holds of them.
-use Rattle.std.specs.Prelude.{◌≡◌, ◌≤◌, ◌&&◌, not, zero, suc, ℕ, List, [], ◌∷◌, Some, Bool, true, false, codes, pos}
+use Rattle.std.specs.Prelude.{◌≡◌, ◌≤◌, ℕ, List, [], ◌∷◌, Some, Bool, true, false, codes, pos}
 use Rattle.std.specs.Option.{option_map_or}
-use Rattle.std.specs.List.{list_all}
 use Rattle.std.specs.Str.{bytes_eq}
 use Rattle.std.specs.Str.Parse.{digits_value, without_leading_plus}
 use Rattle.clap.specs.Words.{App, Kinds, Row, Rule, Text, fault_of, first_of, matches_of, new_app, new_rule, one_of}
@@ -78,9 +77,3 @@ flag_at id rows = option_map_or (λ t. bytes_eq t (codes "true")) (first_of id r
 -- n is the number that the option has, and lies in its range
 abbrev pub NumberOf : ℕ → Text → ℕ → ℕ → List Text → Type 0
 NumberOf n name low high words = (n ≡ number_at name (rows_at words)) × (low ≤ n) × (n ≤ high)
-
--- whether no rule but the k-th has the name
-abbrev pub only : Text → ℕ → List Rule → Bool
-only name k [] = true
-only name zero (r ∷ rs) = list_all (λ q. not (bytes_eq q.id name)) rs
-only name (suc k) (r ∷ rs) = not (bytes_eq r.id name) && only name k rs

@@ -1,7 +1,9 @@
 -- What words ask for, and which are refused.
-use Rattle.std.specs.Prelude.{◌≡◌, ◌⊎◌, List, [], Some, Result, Ok, Err, false, codes, option_map}
+use Rattle.std.specs.Prelude.{◌≡◌, ◌&&◌, ◌||◌, not, Bool, true, false, List, [], ◌∷◌, Some, Result, Ok, Err, codes, option_map}
+use Rattle.std.specs.List.{list_any}
 use Rattle.std.specs.Option.{option_map_or}
-use Rattle.clap.specs.Words.{IsAmong, Text, first_of}
+use Rattle.clap.specs.Walk.{is_empty}
+use Rattle.clap.specs.Words.{Row, Text, first_of}
 use Rattle.clap.specs.declared.error.kind.ErrorKind.{ErrorKind}
 use Rattle.clap.specs.declared.error.kind.ErrorKind.TheVariants.{DisplayHelp, DisplayVersion, OutOfMemory}
 use Rattle.yt_words.specs.declared.reading.Options.{Options}
@@ -19,17 +21,24 @@ answer_to DisplayVersion = Ok Version
 answer_to OutOfMemory = Err Memory
 answer_to _ = Err Usage
 
--- clap refuses the words, other than by help or the version
-pub record IsRefusedByClap (words : List Text) : Type 0 where
-  pub kind : ErrorKind
-  pub among : IsAmong kind (faults_of words)
-  pub refused : answer_to kind ≡ Err Usage
+-- whether an error of clap's refuses the words: a call for help or the version does not
+abbrev pub refuses : ErrorKind → Bool
+refuses DisplayHelp = false
+refuses DisplayVersion = false
+refuses _ = true
 
--- the words are refused: by clap, since there is no such command, or since there are no such dependencies
-abbrev pub Refused : List Text → Type 0
-Refused words = IsRefusedByClap words
-    ⊎ ((option_map_or is_command (first_of (codes "command") (rows_at words)) false ≡ false)
-    ⊎ (option_map_or is_deps (first_of (codes "deps") (rows_at words)) false ≡ false))
+-- whether the positional is the word of a command
+abbrev pub names_command : List Row → Bool
+names_command rows = option_map_or is_command (first_of (codes "command") rows) false
+
+-- whether the option `deps` has the word of a kind of dependencies
+abbrev pub names_deps : List Row → Bool
+names_deps rows = option_map_or is_deps (first_of (codes "deps") rows) false
+
+-- whether the words are refused: by clap, or, where clap takes them, since there is no such command or no such dependencies
+abbrev pub is_refused : List Text → Bool
+is_refused words = list_any refuses (faults_of words)
+    || (is_empty (faults_of words) && not (names_command (rows_at words) && names_deps (rows_at words)))
 
 -- what words that name a command say: clap takes them, and each option has its value
 pub record Says (words : List Text) (options : Options) : Type 0 where
@@ -45,8 +54,8 @@ pub record Says (words : List Text) (options : Options) : Type 0 where
   pub query : option_map (λ text. text.now) options.query ≡ first_of (codes "query") (rows_at words)
   pub trace : options.trace ≡ flag_at (codes "trace") (rows_at words)
 
--- what the words ask for
+-- what the words ask for: the text of help or the version where clap's one fault is that call, else what they say
 abbrev pub Answers : List Text → Request → Type 0
 Answers words (Command options) = Says words options
-Answers words Help = IsAmong DisplayHelp (faults_of words)
-Answers words Version = IsAmong DisplayVersion (faults_of words)
+Answers words Help = faults_of words ≡ DisplayHelp ∷ []
+Answers words Version = faults_of words ≡ DisplayVersion ∷ []

@@ -3,10 +3,12 @@
 
 mod arguments;
 mod help;
+mod laws;
 mod names;
 mod reading;
 
 pub use help::{HELP, VERSION};
+pub use laws::{words_are_answered_or_refused, words_have_one_fault};
 pub use names::{CommandName, Deps};
 pub use reading::{Options, Request, WordsRefusal, read_words};
 

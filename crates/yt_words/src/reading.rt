@@ -1,11 +1,11 @@
 //! What the words ask for.
 
-ghost use Rattle.std.specs.Prelude.{◌≡◌, IfErr, IfOk, codes, false, map, string_bytes};
+ghost use Rattle.std.specs.Prelude.{◌≡◌, IfErr, IfOk, OnOk, codes, false, map, string_bytes, true};
 ghost use Rattle.std.specs.Option.{option_map_or};
 ghost use Rattle.std.specs.Str.{bytes_eq};
 ghost use Rattle.clap.specs.Words.{first_value, found_of, kind_of};
 ghost use Rattle.yt_words.specs.declared.reading.WordsRefusal.TheVariants.{Memory};
-ghost use Rattle.yt_words.specs.Meaning.{Answers, Refused, answer_to};
+ghost use Rattle.yt_words.specs.Meaning.{Answers, answer_to, is_refused};
 
 use crate::arguments::command_line;
 use crate::names::{CommandName, Deps, command_named, deps_named};
@@ -92,10 +92,13 @@ fn is_given(matches: &ArgMatches<'_>, id: &str) -> bool
 ///
 /// They are read by one command of `clap`'s: a positional, the number options `workers`, `steps`,
 /// `retries`, `count` and `seed` with their ranges and defaults, the texts `deps`, `tuple` and
-/// `query`, and the flag `trace`. Want of memory may come in place of any answer.
+/// `query`, and the flag `trace`. The answer is `Err(Usage)` exactly where the words are refused: by
+/// `clap`, or since there is no such command or no such dependencies. Want of memory may come in
+/// place of any answer.
 pub fn read_words<'a>(alloc: Global, words: &'a [String]) -> Result<Request<'a>, WordsRefusal>
     ensures answer { IfOk result (Answers (map string_bytes words.entry.now)) }
-    ensures usage { IfErr result (λ refusal. refusal ≡ WordsRefusal.Usage → Refused (map string_bytes words.entry.now)) }
+    ensures taken { OnOk result (is_refused (map string_bytes words.entry.now) ≡ false) }
+    ensures usage { IfErr result (λ refusal. refusal ≡ WordsRefusal.Usage → is_refused (map string_bytes words.entry.now) ≡ true) }
 {
     let command = command_line(alloc)?;
     let matches = match command.try_get_matches_from(words) {

@@ -85,6 +85,8 @@ fn other_words_are_refused_or_ask_for_help(rt: HostRuntime) -> Result<(), Fail> 
         ("--workers 17 --help", "usage"),
         ("--help=1", "usage"),
         ("--help", "help"),
+        ("--help --bogus", "help"),
+        ("--help -V", "help"),
         ("run -h", "help"),
         ("dance --help", "help"),
         ("-V", "version"),
