@@ -86,11 +86,8 @@ unnamed_deps ws takes unknown = refused_as ws [] takes ∙ (ap (λ b. not (names
 -- ---- what is answered
 
 command_is_known : (c : CommandName) → is_command (command_text c) ≡ true
-command_is_known command.Run = refl
-command_is_known command.Serial = refl
 command_is_known command.Format = refl
 command_is_known command.Check = refl
-command_is_known command.Save = refl
 command_is_known command.Upgrade = refl
 
 deps_are_known : (d : Deps) → is_deps (deps_text d) ≡ true

@@ -4,22 +4,19 @@ use Rattle.std.specs.List.{list_any}
 use Rattle.std.specs.Str.{bytes_eq}
 use Rattle.clap.specs.Words.{Text}
 use Rattle.yt_words.specs.declared.names.CommandName.{CommandName}
-use Rattle.yt_words.specs.declared.names.CommandName.TheVariants.{Run, Serial, Format, Check, Save, Upgrade}
+use Rattle.yt_words.specs.declared.names.CommandName.TheVariants.{Format, Check, Upgrade}
 use Rattle.yt_words.specs.declared.names.Deps.{Deps}
 use Rattle.yt_words.specs.declared.names.Deps.TheVariants.{Coarse, Precise}
 
 -- the word of each command
 abbrev pub command_text : CommandName → Text
-command_text Run = codes "run"
-command_text Serial = codes "serial"
 command_text Format = codes "format"
 command_text Check = codes "check"
-command_text Save = codes "save"
 command_text Upgrade = codes "upgrade"
 
 -- the commands that there are
 abbrev pub commands : List CommandName
-commands = Run ∷ Serial ∷ Format ∷ Check ∷ Save ∷ Upgrade ∷ []
+commands = Format ∷ Check ∷ Upgrade ∷ []
 
 -- whether the text is the word of a command
 abbrev pub is_command : Text → Bool

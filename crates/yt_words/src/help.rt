@@ -11,11 +11,8 @@ mappings while several curators update it.
 Usage: youtopia COMMAND [OPTIONS] < SESSION
 
 Commands:
-  run       run the session's updates with several workers
-  serial    run the session's updates one after the other
   format    print the session in its own format
   check     check the session and its base, and count its parts
-  save      run the updates serially, and print what is left as a session
   upgrade   print the session in the newest format
 
 Options:
@@ -37,5 +34,5 @@ Statuses:
   7 out of memory   8 input too long   9 result too large
 
 Example:
-  youtopia serial --steps 50 < travel.session
+  youtopia format < travel.session
 ";

@@ -1,0 +1,41 @@
+//! The program: one command between standard input, standard output and the standard error stream.
+#![tactic(auto)]
+
+mod telling;
+mod top;
+
+use crate::top::youtopia;
+use std::env;
+use std::io::{self, ErrorKind};
+use std::process::ExitCode;
+use yt_command::{Failure, Status, fail};
+use yt_text::{StdSink, StdSource};
+
+// The words after the program's name. Where one of them is not UTF-8 there are none, which is refused as no words are.
+fn words(rt: &HostRuntime) -> io::Result<Vec<String>> {
+    let mut words = Vec::new(rt.alloc());
+    match env::args(rt) {
+        Ok(all) => {
+            for word in all.skip(1) {
+                words.push(word)?;
+            }
+        }
+        Err(error) => {
+            if error.kind() == ErrorKind::OutOfMemory {
+                return Err(error);
+            }
+        }
+    }
+    Ok(words)
+}
+
+fn main(rt: HostRuntime) -> ExitCode {
+    let mut source = StdSource::new(rt.stdin());
+    let mut out = StdSink::new(rt.stdout());
+    let mut err = StdSink::new(rt.stderr());
+    let status = match words(&rt) {
+        Ok(words) => youtopia(rt.alloc(), &words, &mut source, &mut out, &mut err),
+        Err(_) => fail(Failure::OutOfMemory, &mut err),
+    };
+    ExitCode::from(status.number())
+}

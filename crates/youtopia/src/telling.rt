@@ -1,0 +1,22 @@
+//! A command that tells a fixed text, whatever its input.
+ghost use Rattle.std.specs.Prelude.{◌≡◌};
+ghost use Rattle.youtopia.specs.Calls.{telling};
+
+use std::alloc::Global;
+use yt_command::{Command, Ending, Memory, Output};
+
+/// Tells the text.
+#[derive(Drop)]
+pub struct Telling {
+    pub text: &'static str,
+}
+
+impl Command for Telling {
+    ghost gives = { λ t. telling t.text.now };
+
+    fn run(&self, alloc: Global, _input: &[u8]) -> Result<Output, Memory> {
+        let mut text = Vec::new(alloc);
+        text.extend_from_slice(self.text.as_bytes())?;
+        Ok(Output::Text(Ending::Ended, text))
+    }
+}

@@ -1,0 +1,73 @@
+//! The top call: the words, and then the command that they name.
+ghost use Rattle.std.specs.Prelude.{◌≡◌, map, string_bytes};
+ghost use Rattle.yt_command.specs.Devices.{change};
+ghost use Rattle.yt_command.specs.Rows.{Row};
+ghost use Rattle.youtopia.specs.Calls.{Calls, Performs, meaning_of};
+
+use crate::telling::Telling;
+use std::alloc::Global;
+use yt_command::{Failure, Status, fail, perform, perform_alone};
+use yt_commands::{Check, Format, OnSession, Upgrade};
+use yt_text::{Sink, Source};
+use yt_words::{CommandName, HELP, Options, Request, VERSION, WordsRefusal, read_words};
+
+// Does the command between the devices.
+fn command<S: Source, O: Sink, E: Sink>(
+    alloc: Global,
+    options: &Options<'_>,
+    source: &mut S,
+    out: &mut O,
+    err: &mut E,
+) -> Status
+    ensures row { Row result (meaning_of options.now)
+        (change S.left S.fault_count source.old source.new)
+        (change O.taken O.fault_count out.old out.new)
+        (change E.taken E.fault_count err.old err.new) }
+{
+    match options.command {
+        CommandName::Format => perform(alloc, &OnSession(Format), source, out, err),
+        CommandName::Check => perform(alloc, &OnSession(Check), source, out, err),
+        CommandName::Upgrade => perform(alloc, &OnSession(Upgrade), source, out, err),
+    }
+}
+
+// Does what the words ask for.
+fn attend<S: Source, O: Sink, E: Sink>(
+    alloc: Global,
+    request: Request<'_>,
+    source: &mut S,
+    out: &mut O,
+    err: &mut E,
+) -> Status
+    ensures done { Performs request.entry result
+        (change S.left S.fault_count source.old source.new)
+        (change O.taken O.fault_count out.old out.new)
+        (change E.taken E.fault_count err.old err.new) }
+{
+    match request {
+        Request::Command(options) => command(alloc, &options, source, out, err),
+        Request::Help => perform_alone(alloc, &Telling { text: HELP }, out, err),
+        Request::Version => perform_alone(alloc, &Telling { text: VERSION }, out, err),
+    }
+}
+
+/// Does what the words after the program's name ask for, from the source to the two sinks, and answers the status with
+/// which the program ends. Each status has its row, which says what was read, what `out` took and what `err` was told.
+pub fn youtopia<S: Source, O: Sink, E: Sink>(
+    alloc: Global,
+    words: &[String],
+    source: &mut S,
+    out: &mut O,
+    err: &mut E,
+) -> Status
+    ensures calls { Calls (map string_bytes words.now) result
+        (change S.left S.fault_count source.old source.new)
+        (change O.taken O.fault_count out.old out.new)
+        (change E.taken E.fault_count err.old err.new) }
+{
+    match read_words(alloc, words) {
+        Ok(request) => attend(alloc, request, source, out, err),
+        Err(WordsRefusal::Usage) => fail(Failure::Usage, err),
+        Err(WordsRefusal::Memory) => fail(Failure::OutOfMemory, err),
+    }
+}
