@@ -1,5 +1,5 @@
 -- Going over all tuples, and the tuple that says that a mapping is in force.
-use Rattle.std.proofs.Common.{◌≡◌, ℕ, ℤ, pos, ◌<◌, ◌^◌, arith, to_z, of_z, w64, ap, refl, sym, ◌∙◌, subst, List, [], ◌∷◌, map, Bool, true, false, ◌&&◌}
+use Rattle.std.proofs.Common.{◌≡◌, ℕ, ℤ, pos, ◌<◌, ◌^◌, arith, to_z, of_z, w64, ap, sym, ◌∙◌, subst, List, [], ◌∷◌, map, Bool, true, false}
 use Rattle.std.specs.Bool.{Decides}
 use Rattle.std.specs.Cmp.Lexicographic.{pointwise}
 use Rattle.std.specs.Ordering.{on, eq_by_cmp}
@@ -25,9 +25,10 @@ pub says_force : (n : ℕ) (t : Tuple) (vs : List Value) (b : Bool) → t.relati
 says_force n t vs b e k h = same_from_decides b (same_fact (force n) (fact_of t)) whole (same_fact_decides (force n) (fact_of t))
   where
     whole : Decides b (force n ≡ fact_of t)
-    whole =
-        (λ f. λ i. record { relation = sym e i; values = (sym (h.0 f) ∙ ap (map datum_of) k) i },
-        λ g. h.1 (ap (map datum_of) k ∙ ap (λ (u : Fact). u.values) (sym g)))
+    whole = (
+      λ f. λ i. record { relation = sym e i; values = (sym (h.0 f) ∙ ap (map datum_of) k) i },
+      λ g. h.1 (ap (map datum_of) k ∙ ap (λ (u : Fact). u.values) (sym g)),
+    )
 
 -- A tuple of another relation does not.
 pub says_nothing : (n : ℕ) (t : Tuple) → (t.relation ≡ force_relation → ⊥) → (t.relation == force_relation) ≡ same_fact (force n) (fact_of t)

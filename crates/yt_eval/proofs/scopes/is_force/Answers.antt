@@ -7,4 +7,4 @@ returns-then-tuple c = record {
 }
 
 pub returns-else-tuple : goal.returns-else-tuple
-returns-else-tuple c = record { answer = says_nothing c.args.number c.args.tuple.now c.if-tuple.false; }
+returns-else-tuple c = record { answer = says_nothing c.args.number c.args.tuple.now c.if-tuple.false }
