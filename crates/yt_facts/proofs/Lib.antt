@@ -5,3 +5,4 @@ pub mod Courses
 pub mod Overlays
 pub mod Groups
 pub mod Indexing
+pub mod Sweeping
