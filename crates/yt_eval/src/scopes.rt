@@ -22,13 +22,13 @@ use yt_violation::{Scope, first_violation};
 const FORCE_RELATION: u16 = 65535;
 
 /// Which violations count: every one, or those that the own writes caused in a direction.
-#[derive(Clone, Copy, Debug)]
+#[derive(Clone, Copy)]
 pub(crate) enum Counted {
     Every,
     Caused(Direction),
 }
 
-/// Which violations of the mapping of this number count: every one of a mapping that the own writes put in force.
+/// Which violations of the mapping of this number count: forward, every one where the own writes put it in force.
 pub(crate) fn scope_at(counted: Counted, own: &WriteList, number: u16) -> Scope<'_>
     ensures same { (m : Rule) (E : List Fact) → first_violation_lem (scope_of result) (own_of result) m E ≡ first_violation_lem (scope_at_lem (scope_meant counted) (map change_of own.now.items) number) (map change_of own.now.items) m E }
 {

@@ -11,8 +11,8 @@ use yt_base::{Direction, Facts, MappingList, Memory, WriteList};
 use yt_query::{Answer, Query};
 
 /// The value of the query over the set with the own writes applied, where of violations only those count that they
-/// caused in the direction. A mapping that they put in force is looked at whole, and one that is not in the list has
-/// no violation. It is refused only for want of memory.
+/// caused in the direction. Forward, a mapping that they put in force is looked at whole; one that is not in the list
+/// has no violation. It is refused only for want of memory.
 pub fn eval<F: Facts>(
     alloc: Global,
     query: &Query,

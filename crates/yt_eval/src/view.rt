@@ -20,6 +20,7 @@ use yt_unifier::candidates;
 /// see the tuples below the writes, and the writes.
 #[derive(Drop)]
 pub struct View<'a, F: Facts> {
+    // The set without the writes, of which contracts speak.
     below: &'a F,
     own: &'a WriteList,
     overlay: Overlay<'a, F>,
@@ -52,9 +53,9 @@ impl<'a, F: Facts> View<'a, F> {
         })
     }
 
-    /// The value of the query, where of violations only those count that the own writes caused in the direction. A
-    /// mapping that they put in force is looked at whole, and one that is not in the list has no violation. It is
-    /// refused only for want of memory.
+    /// The value of the query, where of violations only those count that the own writes caused in the direction.
+    /// Forward, a mapping that they put in force is looked at whole; one that is not in the list has no violation. It
+    /// is refused only for want of memory.
     pub fn eval(
         &self,
         query: &Query,
