@@ -4,3 +4,4 @@ pub mod Exact
 pub mod OuterForms
 pub mod Known
 pub mod Images
+pub mod Gathering

@@ -1,3 +1,4 @@
+//! Orders, lists, copies and outer forms on small values.
 use super::*;
 use std::alloc::Global;
 use std::cmp::Ordering;

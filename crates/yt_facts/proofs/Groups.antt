@@ -1,5 +1,5 @@
 -- What a write of one group leaves of the others, and of the other columns.
-use Rattle.std.proofs.Common.{◌≡◌, ℕ, zero, suc, ◌<◌, length, arith, ap, refl, sym, ◌∙◌, List, [], ◌∷◌, ◌++◌, Bool, true, false, not, cond, Option, Some, None}
+use Rattle.std.proofs.Common.{◌≡◌, ℕ, zero, suc, ◌<◌, length, arith, ap, refl, sym, ◌∙◌, List, [], ◌∷◌, ◌++◌, Bool, true, false, cond, Option, Some, None}
 use Rattle.std.proofs.Math.ListN.{set}
 use Rattle.std.specs.BTreeMap.{BTreeMap, get}
 use Rattle.std.specs.Cmp.{Equal-is}
@@ -7,10 +7,10 @@ use Rattle.std.specs.Ordering.{is_eq, on}
 use Rattle.std.specs.Prelude.{unwrap_or, slice_get}
 use Rattle.std.specs.declared.cmp.Ordering.{Ordering}
 use Rattle.yt_model.specs.Values.{Datum, Number, Text, Unknown, Fact, same_fact, same_datum, datum_cmp}
-use Rattle.yt_model.specs.Repository.{has, change, Insert, Delete}
-use Rattle.yt_model.proofs.Bools.{differ, some_same, both, or_left, or_right}
+use Rattle.yt_model.specs.Repository.{has, change, Insert}
+use Rattle.yt_model.proofs.Bools.{differ, some_same, or_left, or_right}
 use Rattle.yt_model.proofs.Order.{datum_exact}
-use Rattle.yt_model.proofs.Sets.{has-insert, has-delete, same_itself}
+use Rattle.yt_model.proofs.Sets.{has-insert, same_itself}
 use Rattle.yt_base.specs.Meanings.{datum_of}
 use Rattle.yt_base.specs.declared.values.Value.{Value}
 use Rattle.yt_base.specs.declared.values.Value.TheVariants.{Int, Word, Null}
@@ -22,9 +22,6 @@ put_keeps D E t u e h = ap (λ (F : List Fact). has F u) e ∙ has-insert D t u 
 pub put_has : (D E : List Fact) (t : Fact) → E ≡ change D (Insert t) → has E t ≡ true
 put_has D E t e = ap (λ (F : List Fact). has F t) e ∙ has-insert D t t ∙ or_left (same_fact t t) (has D t) (same_itself t)
 
-pub removed_keeps : (D E : List Fact) (t u : Fact) → E ≡ change D (Delete t) → not (same_fact u t) ≡ true → has D u ≡ true → has E u ≡ true
-removed_keeps D E t u e n h = ap (λ (F : List Fact). has F u) e ∙ has-delete D t u ∙ both (has D u) (not (same_fact u t)) h n
-
 -- ---- one column
 
 -- The order of values, by what they mean.
@@ -32,7 +29,7 @@ abbrev pub value_cmp : Value → Value → Ordering
 value_cmp = on datum_of datum_cmp
 
 -- A value that means d.
-value_for : (d : Datum) → (q : Value) × (datum_of q ≡ d)
+pub value_for : (d : Datum) → (q : Value) × (datum_of q ≡ d)
 value_for (Number i) = (Int i, refl)
 value_for (Text w) = (Word (record { items = w; spare = 0 }), refl)
 value_for (Unknown n) = (Null (record { update = n.update; attempt = n.attempt; place = n.place }), refl)
@@ -41,7 +38,7 @@ value_for (Unknown n) = (Null (record { update = n.update; attempt = n.attempt; 
 pub looked_up : (m : BTreeMap Value (List Fact)) (q : Value) → unwrap_or (get value_cmp m q) [] ≡ group_in m (datum_of q)
 looked_up m q = refl
 
-same_exact : (x y : Datum) → same_datum x y ≡ true → x ≡ y
+pub same_exact : (x y : Datum) → same_datum x y ≡ true → x ≡ y
 same_exact x y e = datum_exact x y ((Equal-is (datum_cmp x y)).0 e)
 
 -- A write of the group at one value keeps what that group keeps, and the other groups.
@@ -64,10 +61,6 @@ none_kept p m v w e u a h = differ (ap (λ (o : Option (List Fact)). has (unwrap
 pub some_kept : (p : Fact → Bool) (m : BTreeMap Value (List Fact)) (v : Value) (D w : List Fact) → Some D ≡ get value_cmp m v → ((u : Fact) → p u ≡ true → has D u ≡ true → has w u ≡ true)
     → (u : Fact) → p u ≡ true → has (unwrap_or (get value_cmp m v) []) u ≡ true → has w u ≡ true
 some_kept p m v D w e k u a h = k u a (ap (λ (o : Option (List Fact)). has (unwrap_or o []) u) e ∙ h)
-
--- Where the group at a value is empty, it may go.
-pub vacant_kept : (p : Fact → Bool) (m : BTreeMap Value (List Fact)) (v : Value) (o : Option (List Fact)) → o ≡ get value_cmp m v → unwrap_or o [] ≡ [] → (u : Fact) → p u ≡ true → has (unwrap_or (get value_cmp m v) []) u ≡ true → false ≡ true
-vacant_kept p m v o e f u a h = sym (ap (λ (D : List Fact). has D u) (ap (λ x. unwrap_or x []) (sym e) ∙ f)) ∙ h
 
 -- ---- all columns
 

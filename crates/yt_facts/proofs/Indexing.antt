@@ -106,8 +106,3 @@ scan_indexed D ms r c d past G o s x e t h =
     ap (find (has D)) (all_ahead (is_scanned r c d past) (λ v. is_scanned r c d (Some v)) G (scanned_follows r c d past) t o h)
     ∙ find_among (is_scanned r c d past) (has D) G
     ∙ scanned_in r c d past D G s t (λ u a k. ap (λ (l : List Fact). has l u) e ∙ x u c d k a)
-
--- What is not something is nothing.
-pub none_left : {A : Type 0} (o : Option A) → ((x : A) → o ≡ Some x → ⊥) → o ≡ None
-none_left None n = refl
-none_left (Some x) n = absurd (n x refl)

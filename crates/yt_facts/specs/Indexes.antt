@@ -1,8 +1,8 @@
 -- The index of a set: for each column, the tuples by their value in it.
 use Rattle.std.specs.BTreeMap.{BTreeMap}
 use Rattle.std.specs.Map.{lookup}
-use Rattle.std.specs.Prelude.{◌≡◌, ℕ, Bool, true, List, [], unwrap_or, slice_get, Option, Some, None}
-use Rattle.yt_model.specs.Values.{Datum, Fact, same_datum}
+use Rattle.std.specs.Prelude.{◌≡◌, ℕ, not, ◌&&◌, Bool, true, List, [], unwrap_or, slice_get, Option, Some, None}
+use Rattle.yt_model.specs.Values.{Datum, Fact, same_datum, same_fact}
 use Rattle.yt_model.specs.Repository.{has}
 use Rattle.yt_model.specs.Cursors.{has_at}
 use Rattle.yt_base.specs.Meanings.{datum_of}
@@ -35,3 +35,11 @@ KeepsAll p ms ns = (c : ℕ) (d : Datum) (u : Fact) → p u ≡ true → has (gr
 -- Any tuple passes.
 abbrev pub any_tuple : Fact → Bool
 any_tuple u = true
+
+-- Of what one column kept exactly this tuple, at this value, is gone.
+abbrev pub Drops : Datum → Fact → BTreeMap Value (List Fact) → BTreeMap Value (List Fact) → Type 0
+Drops v t m n = (d : Datum) (u : Fact) → has (group_in n d) u ≡ (has (group_in m d) u && not (same_datum d v && same_fact u t))
+
+-- Of what the columns kept exactly this tuple, where it has its values, is gone.
+abbrev pub DropsAll : Fact → List (BTreeMap Value (List Fact)) → List (BTreeMap Value (List Fact)) → Type 0
+DropsAll t ms ns = (c : ℕ) (d : Datum) (u : Fact) → has (group_at ns c d) u ≡ (has (group_at ms c d) u && not (has_at c d t && same_fact u t))

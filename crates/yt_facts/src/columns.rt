@@ -1,11 +1,12 @@
 //! The index of a set: for each column, the tuples by their value in it. Each column holds its own copies.
-ghost use Rattle.std.specs.Prelude.{◌≡◌, ℕ, true, not, ◌<◌, length, unwrap_or, [], IsTrue, OnOk};
+ghost use Rattle.std.specs.Map.{lookup};
+ghost use Rattle.std.specs.Prelude.{◌≡◌, ◌↔◌, ℕ, true, not, ◌&&◌, ◌<◌, length, unwrap_or, [], Some, IsTrue, IfSome, OnOk};
 ghost use Rattle.std.specs.Option.{option_copied};
-ghost use Rattle.yt_model.specs.Values.{Datum, Fact, same_fact};
+ghost use Rattle.yt_model.specs.Values.{Datum, Fact, same_datum, same_fact};
 ghost use Rattle.yt_model.specs.Repository.{has, IsRepository};
 ghost use Rattle.yt_model.specs.Cursors.{has_at};
 ghost use Rattle.yt_base.specs.Meanings.{fact_of, datum_of};
-ghost use Rattle.yt_facts.specs.Indexes.{group_in, group_at, IsIndex, Keeps, KeepsAll, any_tuple};
+ghost use Rattle.yt_facts.specs.Indexes.{group_in, group_at, IsIndex, Keeps, KeepsAll, Drops, DropsAll, any_tuple};
 
 use crate::plain::PlainFacts;
 use std::alloc::Global;
@@ -38,9 +39,9 @@ pub fn index(columns: &mut Vec<Groups>, alloc: Global, tuple: &Tuple) -> Result<
     Ok(())
 }
 
-/// Takes the tuple out of each of its columns. The others are kept. It takes no memory.
+/// Takes the tuple, and no other, out of each of its columns. It takes no memory.
 pub fn sweep(columns: &mut Vec<Groups>, tuple: &Tuple)
-    ensures kept { KeepsAll (λ u. not (same_fact u (fact_of tuple.now))) columns.old.items columns.new.items }
+    ensures dropped { DropsAll (fact_of tuple.now) columns.old.items columns.new.items }
 {
     let values = tuple.values.as_slice();
     for column in 0..values.len() {
@@ -104,7 +105,8 @@ fn put(group: &mut PlainFacts, tuple: Tuple) -> Result<(), Memory>
 
 // Takes the tuple out of this column, where it has the value.
 fn sweep_at(columns: &mut Vec<Groups>, column: usize, value: &Value, tuple: &Tuple)
-    ensures kept { KeepsAll (λ u. not (same_fact u (fact_of tuple.now))) columns.old.items columns.new.items }
+    ensures dropped { (d : Datum) (u : Fact) → has (group_at columns.new.items column d) u ≡ (has (group_at columns.old.items column d) u && not (same_datum d (datum_of value.now) && same_fact u (fact_of tuple.now))) }
+    ensures others { (c : ℕ) (d : Datum) → (c ≡ column → ⊥) → group_at columns.new.items c d ≡ group_at columns.old.items c d }
 {
     match columns.get_mut(column) {
         Some(groups) => take_out(groups, value, tuple),
@@ -112,9 +114,10 @@ fn sweep_at(columns: &mut Vec<Groups>, column: usize, value: &Value, tuple: &Tup
     }
 }
 
-// Takes the tuple out of the group of the value, and an empty group away.
+// Takes the tuple out of the group of the value, and the group away where it is then empty.
 fn take_out(groups: &mut Groups, value: &Value, tuple: &Tuple)
-    ensures kept { Keeps (λ u. not (same_fact u (fact_of tuple.now))) groups.old groups.new }
+    ensures dropped { Drops (datum_of value.now) (fact_of tuple.now) groups.old groups.new }
+    ensures vacant { IfSome (lookup (λ k. same_datum (datum_of value.now) (datum_of k)) groups.new.entries) (λ group. group ≡ [] → ⊥) }
 {
     remove_from(groups, value, tuple);
     if is_vacant(groups.get(value)) {
@@ -124,7 +127,7 @@ fn take_out(groups: &mut Groups, value: &Value, tuple: &Tuple)
 
 // Takes the tuple out of the group of the value.
 fn remove_from(groups: &mut Groups, value: &Value, tuple: &Tuple)
-    ensures kept { Keeps (λ u. not (same_fact u (fact_of tuple.now))) groups.old groups.new }
+    ensures dropped { Drops (datum_of value.now) (fact_of tuple.now) groups.old groups.new }
 {
     match groups.get_mut(value) {
         Some(group) => {
@@ -136,7 +139,7 @@ fn remove_from(groups: &mut Groups, value: &Value, tuple: &Tuple)
 
 // Whether there is a group, without a tuple.
 fn is_vacant(group: Option<&PlainFacts>) -> bool
-    ensures vacant { IsTrue result → unwrap_or (option_copied group.entry) [] ≡ [] }
+    ensures vacant { IsTrue result ↔ (option_copied group.entry ≡ Some []) }
 {
     match group {
         Some(group) => group.len() == 0,

@@ -1,14 +1,24 @@
-use Rattle.std.proofs.Common.{Some, rules, not}
-use Rattle.yt_model.specs.Values.{Fact, same_fact}
-use Rattle.yt_base.specs.Meanings.{fact_of}
-use Rattle.yt_facts.proofs.Groups.{others_keep, some_kept, removed_keeps}
+use Rattle.std.proofs.Common.{Some, List, rules, subst, sym}
+use Rattle.std.specs.BTreeMap.{BTreeMap}
+use Rattle.yt_model.specs.Values.{Fact}
+use Rattle.yt_base.specs.Meanings.{fact_of, datum_of}
+use Rattle.yt_base.specs.declared.values.Value.{Value}
+use Rattle.yt_facts.specs.Indexes.{Drops}
+use Rattle.yt_facts.proofs.Sweeping.{group_drops, left_in_group, nothing_drops}
 use Rattle.yt_facts.proofs.columns.remove_from.Goals as goal
 
 pub returns-in-Some : goal.returns-in-Some
 returns-in-Some c =
     let t = fact_of c.args.tuple.now in
-    let p = λ (u : Fact). not (same_fact u t) in
+    let m = c.args.groups.now in
+    let v = c.args.value.now in
     record {
-      kept = others_keep p c.args.groups.now (c.get_mut.follows.lender c.remove.new.self) c.args.value.now (Some c.remove.new.self) ((c.get_mut.follows.holds c.remove.new.self).3 (search rules)).0
-          (some_kept p c.args.groups.now c.args.value.now c.in-Some.group.now c.remove.new.self c.in-Some.ensures.value (λ u a h. removed_keeps c.in-Some.group.now c.remove.new.self t u c.remove.ensures.after a h));
+      dropped = group_drops m (c.get_mut.follows.lender c.remove.new.self) v (Some c.remove.new.self) t ((c.get_mut.follows.holds c.remove.new.self).3 (search rules)).0
+          (λ u. left_in_group m v c.in-Some.group.now c.remove.new.self t u c.in-Some.ensures.value c.remove.ensures.after);
     }
+
+pub returns-in-None : goal.returns-in-None
+returns-in-None c = record {
+  dropped = subst (λ (n : BTreeMap Value (List Fact)). Drops (datum_of c.args.value.now) (fact_of c.args.tuple.now) c.args.groups.now n) (sym c.get_mut.follows.holds-at-none)
+      (nothing_drops c.args.groups.now c.args.value.now (fact_of c.args.tuple.now) c.in-None.ensures.value);
+}

@@ -10,7 +10,8 @@ use Rattle.yt_base.specs.Listed.{Listed}
 use Rattle.yt_base.specs.Meanings.{fact_of}
 use Rattle.yt_base.specs.declared.tuples.Tuple.{Tuple}
 use Rattle.yt_unifier.specs.Candidates.{column_of, is_candidate}
-use Rattle.yt_unifier.proofs.Going.{none_left, begins_at, candidate_of, past_candidate, is_among, all_left, one_kept, one_passed, none_more}
+use Rattle.yt_base.proofs.Gathering.{none_left, all_left, one_kept, one_passed, none_more}
+use Rattle.yt_unifier.proofs.Going.{begins_at, candidate_of, past_candidate, is_among}
 use Rattle.yt_unifier.proofs.finding.candidates.Goals as goal
 use Rattle.yt_unifier.proofs.finding.candidates.Goals.{then-is_more_specific+in_ok-copy+in_ok-push, else-is_more_specific}
 

@@ -7,6 +7,7 @@ use Rattle.yt_base.specs.Meanings.{fact_of}
 use Rattle.yt_base.specs.declared.tuples.Tuple.{Tuple}
 use Rattle.yt_facts.specs.Indexes.{IsIndex, KeepsAll}
 use Rattle.yt_facts.proofs.Indexing.{index_kept, index_swept, index_grows, insert_present}
+use Rattle.yt_facts.proofs.Sweeping.{drops_keep}
 use Rattle.yt_facts.proofs.indexed.IndexedFacts.insert.Goals as goal
 
 pub returns-then-contains-clause-ok : goal.returns-then-contains-clause-ok
@@ -18,7 +19,7 @@ pub invariant_of-self : goal.invariant_of-self
 invariant_of-self c =
     let D = c.self.inside.all in (
       c.self.invariant.0,
-      index_swept D c.index.new.columns.items c.sweep.new.columns.items (fact_of c.args.tuple) (index_kept D c.self.inside.columns.items c.index.new.columns.items c.self.invariant.1 c.index.ensures.kept) c.sweep.ensures.kept (sym c.if-contains.ensures.answer),
+      index_swept D c.index.new.columns.items c.sweep.new.columns.items (fact_of c.args.tuple) (index_kept D c.self.inside.columns.items c.index.new.columns.items c.self.invariant.1 c.index.ensures.kept) (drops_keep (fact_of c.args.tuple) c.index.new.columns.items c.sweep.new.columns.items c.sweep.ensures.dropped) (sym c.if-contains.ensures.answer),
     )
 
 pub invariant_of-self-in-Ok-insert : goal.invariant_of-self-in-Ok-insert
@@ -35,6 +36,6 @@ invariant_of-self-in-Err-insert c =
     subst (λ (E : List Fact). IsRepository E × IsIndex E ns) (sym c.in-Err-insert.ensures.err) (
       c.self.invariant.0,
       index_swept D ms ns (fact_of c.args.tuple) (index_kept D c.self.inside.columns.items ms c.self.invariant.1 c.index.ensures.kept)
-          (subst (λ (t : Tuple). KeepsAll (λ u. not (same_fact u (fact_of t))) ms ns) c.in-Err-insert.ensures.given_back c.sweep-in-Err-insert.ensures.kept)
+          (subst (λ (t : Tuple). KeepsAll (λ u. not (same_fact u (fact_of t))) ms ns) c.in-Err-insert.ensures.given_back (drops_keep (fact_of c.in-Err-insert.refused.0) ms ns c.sweep-in-Err-insert.ensures.dropped))
           (sym c.if-contains.ensures.answer),
     )

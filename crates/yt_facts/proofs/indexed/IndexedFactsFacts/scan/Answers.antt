@@ -9,7 +9,8 @@ use Rattle.yt_base.specs.declared.tuples.Tuple.{Tuple}
 use Rattle.yt_facts.specs.Courses.{ahead}
 use Rattle.yt_facts.proofs.Courses.{hit, miss, fewer, scanned_follows}
 use Rattle.yt_facts.proofs.Held.{empty_in_order}
-use Rattle.yt_facts.proofs.Indexing.{none_left, scan_indexed}
+use Rattle.yt_base.proofs.Gathering.{none_left}
+use Rattle.yt_facts.proofs.Indexing.{scan_indexed}
 use Rattle.yt_facts.proofs.indexed.IndexedFactsFacts.scan.Goals as goal
 
 pub returns-in_default-clause-found : goal.returns-in_default-clause-found

@@ -1,0 +1,9 @@
+-- What a contract sees of a view.
+use Rattle.std.specs.Prelude.{List}
+use Rattle.yt_model.specs.Values.{Fact}
+use Rattle.yt_model.specs.Repository.{Change}
+
+-- The tuples below the own writes, and the own writes in turn.
+pub record Seen : Type 0 where
+  pub below : List Fact
+  pub own : List Change

@@ -1,0 +1,100 @@
+//! Which violations count at a query, and the first of them.
+ghost use Rattle.std.specs.Prelude.{◌≡◌, [], ◌∷◌, List, map, pos, IfOk};
+ghost use Rattle.std.specs.Bool.{Decides};
+ghost use Rattle.std.specs.List.{list_any};
+ghost use Rattle.std.specs.Option.{option_map, option_copied};
+ghost use Rattle.yt_model.specs.Values.{Fact, Number, same_fact};
+ghost use Rattle.yt_model.specs.Repository.{inserts};
+ghost use Rattle.yt_model.specs.Mappings.{Rule, force};
+ghost use Rattle.yt_model.specs.Violations.{first_violation as first_violation_lem};
+ghost use Rattle.yt_model.specs.Queries.{scope_at as scope_at_lem, violation_reply};
+ghost use Rattle.yt_base.specs.Meanings.{datum_of, fact_of, change_of, rule_of};
+ghost use Rattle.yt_query.specs.Meanings.{reply_of};
+ghost use Rattle.yt_violation.specs.Scopes.{scope_of, own_of};
+ghost use Rattle.yt_eval.specs.Counted.{scope_meant};
+
+use std::alloc::Global;
+use yt_base::{Direction, Facts, Mapping, Memory, Tuple, Value, Write, WriteList};
+use yt_query::Answer;
+use yt_violation::{Scope, first_violation};
+
+// The relation of the tuples that say which mappings are in force.
+const FORCE_RELATION: u16 = 65535;
+
+/// Which violations count: every one, or those that the own writes caused in a direction.
+#[derive(Clone, Copy)]
+pub(crate) enum Counted {
+    Every,
+    Caused(Direction),
+}
+
+/// Which violations of the mapping of this number count: forward, every one where the own writes put it in force.
+pub(crate) fn scope_at(counted: Counted, own: &WriteList, number: u16) -> Scope<'_>
+    ensures same { (m : Rule) (E : List Fact) → first_violation_lem (scope_of result) (own_of result) m E ≡ first_violation_lem (scope_at_lem (scope_meant counted) (map change_of own.now.items) number) (map change_of own.now.items) m E }
+{
+    match counted {
+        Counted::Every => Scope::All,
+        Counted::Caused(Direction::Forward) => {
+            if puts_in_force(own, number) {
+                Scope::All
+            } else {
+                Scope::Forward(own)
+            }
+        }
+        Counted::Caused(Direction::Backward) => Scope::Backward(own),
+    }
+}
+
+// Whether a write puts the mapping of this number in force.
+fn puts_in_force(writes: &WriteList, number: u16) -> bool
+    ensures answer { result ≡ list_any (inserts (force number)) (map change_of writes.now.items) }
+{
+    writes
+        .as_slice()
+        .iter()
+        .any(|write| inserts_force(write, number))
+}
+
+// Whether the write puts the mapping of this number in force.
+fn inserts_force(write: &Write, number: u16) -> bool
+    ensures answer { result ≡ inserts (force number) (change_of write.now) }
+{
+    match write {
+        Write::Insert(tuple) => is_force(tuple, number),
+        Write::Delete(_) => false,
+    }
+}
+
+// Whether the tuple says that the mapping of this number is in force.
+fn is_force(tuple: &Tuple, number: u16) -> bool
+    ensures answer { result ≡ same_fact (force number) (fact_of tuple.now) }
+{
+    tuple.relation == FORCE_RELATION && is_alone(tuple.values.as_slice(), number)
+}
+
+// Whether the number is the only value.
+fn is_alone(values: &[Value], number: u16) -> bool
+    ensures decides { Decides result (map datum_of values.now ≡ Number (pos number) ∷ []) }
+{
+    let alone = [Value::Int(i64::from(number))];
+    values == alone.as_slice()
+}
+
+/// The image of the mapping's first violation among those that count, or that there is none; where there is no
+/// mapping there is none. It is refused only for want of memory.
+pub(crate) fn first_image<F: Facts>(
+    alloc: Global,
+    mapping: Option<&Mapping>,
+    facts: &F,
+    scope: Scope<'_>,
+) -> Result<Answer, Memory>
+    ensures value { IfOk result (λ answer. reply_of answer ≡ violation_reply (option_map rule_of (option_copied mapping.entry)) (scope_of scope.entry) (own_of scope.entry) (F.tuples facts.now)) }
+{
+    let Some(mapping) = mapping else {
+        return Ok(Answer::Nothing);
+    };
+    match first_violation(alloc, mapping, facts, scope)? {
+        Some(violation) => Ok(Answer::Image(violation.image)),
+        None => Ok(Answer::Nothing),
+    }
+}

@@ -1,0 +1,43 @@
+//! The value of a single query.
+ghost use Rattle.std.specs.Prelude.{◌≡◌, map, IfOk};
+ghost use Rattle.yt_model.specs.Queries.{value};
+ghost use Rattle.yt_model.specs.Violations.{Every, Caused};
+ghost use Rattle.yt_base.specs.Meanings.{rule_of, change_of, heading_of};
+ghost use Rattle.yt_query.specs.Meanings.{query_of, reply_of};
+
+use crate::view::View;
+use std::alloc::Global;
+use yt_base::{Direction, Facts, MappingList, Memory, WriteList};
+use yt_query::{Answer, Query};
+
+/// The value of the query over the set with the own writes applied, where of violations only those count that they
+/// caused in the direction. Forward, a mapping that they put in force is looked at whole; one that is not in the list
+/// has no violation. It is refused only for want of memory.
+pub fn eval<F: Facts>(
+    alloc: Global,
+    query: &Query,
+    mappings: &MappingList,
+    facts: &F,
+    own: &WriteList,
+    direction: Direction,
+) -> Result<Answer, Memory>
+    ensures value { IfOk result (λ answer. reply_of answer ≡ value (map rule_of mappings.now.items) (query_of query.now) (F.tuples facts.now) (map change_of own.now.items) (Caused (heading_of direction))) }
+{
+    let view = View::new(alloc, facts, own)?;
+    view.eval(query, mappings, direction, alloc)
+}
+
+/// The value of the query over the set with the own writes applied, where every violation counts. A mapping that is
+/// not in the list has none. It is refused only for want of memory.
+pub fn eval_all<F: Facts>(
+    alloc: Global,
+    query: &Query,
+    mappings: &MappingList,
+    facts: &F,
+    own: &WriteList,
+) -> Result<Answer, Memory>
+    ensures value { IfOk result (λ answer. reply_of answer ≡ value (map rule_of mappings.now.items) (query_of query.now) (F.tuples facts.now) (map change_of own.now.items) Every) }
+{
+    let view = View::new(alloc, facts, own)?;
+    view.eval_all(query, mappings, alloc)
+}

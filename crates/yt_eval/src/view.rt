@@ -1,0 +1,121 @@
+//! A set of tuples as an update sees it.
+ghost use Rattle.std.specs.Prelude.{◌≡◌, if◌then◌else◌, map, IfOk};
+ghost use Rattle.yt_model.specs.Queries.{value, Yes, No};
+ghost use Rattle.yt_model.specs.Repository.{has};
+ghost use Rattle.yt_model.specs.Violations.{Every, Caused};
+ghost use Rattle.yt_base.specs.Meanings.{fact_of, rule_of, change_of, heading_of};
+ghost use Rattle.yt_query.specs.Meanings.{query_of, reply_of};
+ghost use Rattle.yt_eval.specs.Counted.{scope_meant};
+
+use crate::occurrences::occurrences;
+use crate::scopes::{Counted, first_image, scope_at};
+use std::alloc::Global;
+use std::marker::Model;
+use yt_base::{Direction, Facts, MappingList, Memory, Tuple, WriteList};
+use yt_facts::Overlay;
+use yt_query::{Answer, Query};
+use yt_unifier::candidates;
+
+/// A set of tuples as an update sees it: with its own writes applied. It borrows the set and the writes. Contracts
+/// see the tuples below the writes, and the writes.
+#[derive(Drop)]
+pub struct View<'a, F: Facts> {
+    // The set without the writes, of which contracts speak.
+    below: &'a F,
+    own: &'a WriteList,
+    overlay: Overlay<'a, F>,
+}
+
+impl<'a, F: Facts> Model for View<'a, F> {
+    ghost use Rattle.std.specs.Prelude.{◌≡◌, map};
+    ghost use Rattle.yt_model.specs.Repository.{apply};
+    ghost use Rattle.yt_base.specs.Meanings.{change_of};
+    ghost use Rattle.yt_eval.specs.Seen.{Seen};
+
+    ghost Value = { Seen };
+
+    ghost view = { λ v. record { below = F.tuples v.below.now; own = map change_of v.own.now.items } };
+
+    ghost invariant = { λ v. v.overlay ≡ apply (F.tuples v.below.now) (map change_of v.own.now.items) };
+}
+
+impl<'a, F: Facts> View<'a, F> {
+    /// The set as these own writes, in turn, leave it. It is refused only for want of memory.
+    pub fn new(alloc: Global, below: &'a F, own: &'a WriteList) -> Result<View<'a, F>, Memory>
+        ensures below { IfOk result (λ view. view.below ≡ F.tuples below.now) }
+        ensures own { IfOk result (λ view. view.own ≡ map change_of own.now.items) }
+    {
+        let overlay = Overlay::new(alloc, below, own)?;
+        Ok(View {
+            below,
+            own,
+            overlay,
+        })
+    }
+
+    /// The value of the query, where of violations only those count that the own writes caused in the direction.
+    /// Forward, a mapping that they put in force is looked at whole; one that is not in the list has no violation. It
+    /// is refused only for want of memory.
+    pub fn eval(
+        &self,
+        query: &Query,
+        mappings: &MappingList,
+        direction: Direction,
+        alloc: Global,
+    ) -> Result<Answer, Memory>
+        ensures value { IfOk result (λ answer. reply_of answer ≡ value (map rule_of mappings.now.items) (query_of query.now) self.now.below self.now.own (Caused (heading_of direction))) }
+    {
+        self.value(query, mappings, Counted::Caused(direction), alloc)
+    }
+
+    /// The value of the query, where every violation counts. A mapping that is not in the list has none. It is
+    /// refused only for want of memory.
+    pub fn eval_all(
+        &self,
+        query: &Query,
+        mappings: &MappingList,
+        alloc: Global,
+    ) -> Result<Answer, Memory>
+        ensures value { IfOk result (λ answer. reply_of answer ≡ value (map rule_of mappings.now.items) (query_of query.now) self.now.below self.now.own Every) }
+    {
+        self.value(query, mappings, Counted::Every, alloc)
+    }
+
+    // The value of the query, where these violations count.
+    fn value(
+        &self,
+        query: &Query,
+        mappings: &MappingList,
+        counted: Counted,
+        alloc: Global,
+    ) -> Result<Answer, Memory>
+        ensures value { IfOk result (λ answer. reply_of answer ≡ value (map rule_of mappings.now.items) (query_of query.now) self.now.below self.now.own (scope_meant counted)) }
+    {
+        match query {
+            Query::Present(tuple) => Ok(presence(tuple, &self.overlay)),
+            Query::Violation(number) => {
+                let scope = scope_at(counted, self.own, *number);
+                first_image(alloc, mappings.get(*number as usize), &self.overlay, scope)
+            }
+            Query::Specific(tuple) => {
+                let found = candidates(alloc, tuple, &self.overlay)?;
+                Ok(Answer::Tuples(found))
+            }
+            Query::Occurs(update, place) => {
+                let found = occurrences(alloc, *update, *place, &self.overlay)?;
+                Ok(Answer::Tuples(found))
+            }
+        }
+    }
+}
+
+// Whether the tuple is in the set.
+fn presence<F: Facts>(tuple: &Tuple, facts: &F) -> Answer
+    ensures answer { reply_of result ≡ (if has (F.tuples facts.now) (fact_of tuple.now) then Yes else No) }
+{
+    if facts.contains(tuple) {
+        Answer::Yes
+    } else {
+        Answer::No
+    }
+}
