@@ -1,0 +1,21 @@
+//! A session that grows statement by statement, with the checks of each statement.
+//!
+//! A `Draft` is seen as the session that has been taken so far, `SessionData` of `yt_grammar`. Each call
+//! says what it answers by the definitions of that crate's `Checks`: `Gives view result found` means that
+//! an answer, seen by `view`, is the one that is found by definition, that a refusal other than want of
+//! memory is the fault that is found, and that want of memory may come in place of any answer.
+//!
+//! `take` is the call for each statement:
+//!
+//! ```text
+//! pub fn take(&mut self, alloc: Global, statement: RawStatement) -> Result<(), TakeRefusal>
+//!     ensures taken { Gives (λ _. self.new) result (taken self.old (statement_of statement)) }
+//!     ensures err { OnErr result (self.new ≡ self.old) }
+//! ```
+#![tactic(auto)]
+
+mod draft;
+mod refusals;
+
+pub use crate::draft::Draft;
+pub use crate::refusals::TakeRefusal;
