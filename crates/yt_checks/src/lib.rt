@@ -15,6 +15,8 @@
 #![tactic(auto)]
 
 mod draft;
+mod facts;
+mod names;
 mod refusals;
 
 pub use crate::draft::Draft;
