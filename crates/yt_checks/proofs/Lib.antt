@@ -1,2 +1,5 @@
+pub mod Bits
 pub mod Carried
+pub mod Found
 pub mod Items
+pub mod Rows

@@ -14,10 +14,12 @@
 //! ```
 #![tactic(auto)]
 
+mod cycles;
 mod draft;
 mod facts;
 mod names;
 mod refusals;
+mod relations;
 
 pub use crate::draft::Draft;
 pub use crate::refusals::TakeRefusal;
