@@ -20,6 +20,7 @@ mod facts;
 mod names;
 mod refusals;
 mod relations;
+mod updates;
 
 pub use crate::draft::Draft;
 pub use crate::refusals::TakeRefusal;
