@@ -4,6 +4,8 @@ ghost use Rattle.std.specs.Prelude.{◌≡◌, ℕ, ◌<◌, ◌≤◌, ◌&&◌
 ghost use Rattle.std.specs.List.{list_any, range_with_len};
 ghost use Rattle.yt_base.specs.Meanings.{pattern_of, rule_of, slot_of};
 ghost use Rattle.yt_grammar.specs.Cycles.{has_plain_cycle, is_plain, is_plain_slot, leads, stands_left, stands_plain, through};
+ghost use Rattle.yt_grammar.specs.Checks.{rules_of};
+ghost use Rattle.yt_schema.specs.Meanings.{session_mapping_of};
 ghost use Rattle.yt_checks.specs.Tables.{among, IsTableOf, widened};
 
 use crate::relations::RelationSet;
@@ -146,7 +148,7 @@ pub(crate) fn has_plain_cycle(
     last: &Mapping,
 ) -> Result<bool, Memory>
     requires few { relations ≤ 128 }
-    ensures cycle { IfOk result (λ cycle. cycle ≡ has_plain_cycle relations (map rule_of mappings.now ++ rule_of last.now ∷ [])) }
+    ensures cycle { IfOk result (λ cycle. cycle ≡ has_plain_cycle relations (rules_of (map session_mapping_of mappings.now ++ session_mapping_of last.now ∷ []))) }
 {
     let mut rows = table_of(alloc, relations, mappings, last)?;
     for between in 0..relations {

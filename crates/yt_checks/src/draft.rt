@@ -1,15 +1,29 @@
-//! The session that has been read so far.
+//! The session that has been taken so far.
 
-ghost use Rattle.std.specs.Prelude.{◌≡◌, IfOk, OnErr};
+ghost use Rattle.std.specs.Prelude.{◌≡◌, ◌<◌, IfOk, OnErr, length};
+ghost use Rattle.yt_base.specs.Meanings.{operation_of as operation_meant};
 ghost use Rattle.yt_grammar.specs.Sessions.{empty_session};
+ghost use Rattle.yt_grammar.specs.Checks.{add_answer, add_mapping, add_relation, add_tuple, add_update, operation_of, taken};
+ghost use Rattle.yt_forms.specs.Views.{fact_of, mapping_of as mapping_written};
+ghost use Rattle.yt_forms.specs.Statements.{choice_of, operation_of as operation_written, statement_of};
+ghost use Rattle.yt_schema.specs.Meanings.{session_mapping_of};
 ghost use Rattle.yt_session.specs.Meanings.{session_of};
+ghost use Rattle.yt_checks.specs.Answers.{Gives};
+ghost use Rattle.yt_checks.specs.Additions.{with_mapping};
 
+use crate::cycles::has_plain_cycle;
+use crate::facts::bounded_fact;
+use crate::limits::{arity_of, has_relation, most_relations, most_tuples};
+use crate::mappings::{has_mapping, mapping_of, mappings_full};
+use crate::refusals::{TakeRefusal, limit};
+use crate::updates::Updates;
 use std::alloc::Global;
 use std::marker::Model;
-use yt_base::{List, MappingList, Memory};
+use yt_base::{Facts, List, Mapping, MappingList, Memory, Name};
 use yt_facts::PlainFacts;
-use yt_schema::Schema;
-use yt_session::{Session, SessionUpdates};
+use yt_forms::{RawFact, RawMapping};
+use yt_schema::{Schema, SchemaRefusal, Which};
+use yt_session::Session;
 
 /// A session that grows statement by statement. Contracts see the session that has been taken so far.
 #[derive(Drop)]
@@ -18,18 +32,19 @@ pub struct Draft {
     schema: Schema,
     mappings: MappingList,
     base: PlainFacts,
-    updates: SessionUpdates,
+    updates: Updates,
 }
 
 impl Model for Draft {
-    ghost use Rattle.std.specs.Prelude.{map};
+    ghost use Rattle.std.specs.Prelude.{◌≤◌, length, map};
     ghost use Rattle.yt_grammar.specs.Sessions.{SessionData};
     ghost use Rattle.yt_schema.specs.Meanings.{session_mapping_of};
-    ghost use Rattle.yt_session.specs.Meanings.{update_of};
 
     ghost Value = { SessionData };
 
-    ghost view = { λ d. record { format = d.format; relations = d.schema; mappings = map session_mapping_of d.mappings.items; base = d.base; updates = map update_of d.updates.items } };
+    ghost view = { λ d. record { format = d.format; relations = d.schema; mappings = map session_mapping_of d.mappings.items; base = d.base; updates = d.updates } };
+
+    ghost invariant = { λ d. length d.schema ≤ 128 };
 }
 
 impl Draft {
@@ -42,7 +57,7 @@ impl Draft {
             schema: Schema::new(alloc),
             mappings: List::new(alloc),
             base: PlainFacts::new(alloc),
-            updates: List::new(alloc),
+            updates: Updates::new(alloc),
         }
     }
 
@@ -62,7 +77,75 @@ impl Draft {
             schema,
             mappings,
             base: base.list(alloc)?,
-            updates,
+            updates: updates.into_list(),
         })
+    }
+
+    // A relation: the name is new, the arity fits, and there is room.
+    #[tactic(auto, unfolding(yt_grammar::specs::Checks::add_relation))]
+    fn add_relation(&mut self, name: Name, columns: i64) -> Result<(), TakeRefusal>
+        ensures taken { Gives (λ _. self.new) result (add_relation self.old name.items columns) }
+        ensures err { OnErr result (self.new ≡ self.old) }
+    {
+        if has_relation(&self.schema, &name) {
+            return Err(TakeRefusal::Schema(SchemaRefusal::DuplicateName(name)));
+        }
+        let Some(arity) = arity_of(columns) else {
+            return Err(limit(Which::Arity));
+        };
+        if most_relations(self.format) <= self.schema.len() {
+            return Err(limit(Which::Relations));
+        }
+        self.schema.relation(name, arity)?;
+        Ok(())
+    }
+
+    // A mapping that the given update puts in force, or that is in force from the start, with its checks.
+    #[tactic(auto, unfolding(yt_grammar::specs::Checks::add_mapping))]
+    fn checked_mapping(
+        &self,
+        alloc: Global,
+        since: u32,
+        mapping: RawMapping,
+    ) -> Result<Mapping, TakeRefusal>
+        ensures checked { Gives (λ m. with_mapping self.now (session_mapping_of m)) result (add_mapping self.now since (mapping_written mapping)) }
+        ensures few { IfOk result (λ _. length self.now.mappings < 64) }
+    {
+        let mappings = self.mappings.as_slice();
+        if has_mapping(mappings, &mapping.name) {
+            return Err(TakeRefusal::Schema(SchemaRefusal::DuplicateName(mapping.name)));
+        }
+        if mappings_full(mappings, since) {
+            return Err(limit(Which::Mappings));
+        }
+        let mapping = mapping_of(alloc, &self.schema, since, mapping)?;
+        if has_plain_cycle(alloc, self.schema.len(), mappings, &mapping)? {
+            return Err(TakeRefusal::PlainCycle(mapping.name));
+        }
+        Ok(mapping)
+    }
+
+    // A mapping that is in force from the start.
+    fn add_mapping(&mut self, alloc: Global, mapping: RawMapping) -> Result<(), TakeRefusal>
+        ensures taken { Gives (λ _. self.new) result (add_mapping self.old 0 (mapping_written mapping)) }
+        ensures err { OnErr result (self.new ≡ self.old) }
+    {
+        let mapping = self.checked_mapping(alloc, 0, mapping)?;
+        self.mappings.push(mapping)?;
+        Ok(())
+    }
+
+    // A tuple of the base; one that is given twice is kept once.
+    #[tactic(auto, unfolding(yt_grammar::specs::Checks::add_tuple))]
+    fn add_tuple(&mut self, alloc: Global, fact: RawFact) -> Result<(), TakeRefusal>
+        ensures taken { Gives (λ _. self.new) result (add_tuple self.old (fact_of fact)) }
+        ensures err { OnErr result (self.new ≡ self.old) }
+    {
+        let tuple = bounded_fact(alloc, &self.schema, 0, fact)?;
+        if !self.base.contains(&tuple) && most_tuples(self.format) <= self.base.len() {
+            return Err(limit(Which::Base));
+        }
+        self.base.insert(tuple)?;
+        Ok(())
     }
 }

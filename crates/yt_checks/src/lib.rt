@@ -17,6 +17,8 @@
 mod cycles;
 mod draft;
 mod facts;
+mod limits;
+mod mappings;
 mod names;
 mod refusals;
 mod relations;

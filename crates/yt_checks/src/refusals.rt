@@ -1,13 +1,13 @@
 //! Why a statement is not taken.
 
 ghost use Rattle.std.specs.Prelude.{◌≡◌};
-ghost use Rattle.yt_schema.specs.declared.refusals.SchemaRefusal.TheVariants.{Memory as WantOfMemory};
+ghost use Rattle.yt_schema.specs.declared.refusals.SchemaRefusal.TheVariants.{Limit, Memory as WantOfMemory};
 ghost use Rattle.yt_checks.specs.declared.refusals.TakeRefusal.TheVariants.{Schema};
 
 use std::alloc::AllocError;
 use yt_base::Name;
 use yt_memory::Memory;
-use yt_schema::SchemaRefusal;
+use yt_schema::{SchemaRefusal, Which};
 
 /// Why a statement is not taken.
 #[derive(Debug, Drop)]
@@ -54,4 +54,11 @@ impl<T: Drop> From<(T, Memory)> for TakeRefusal {
     fn from(_: (T, Memory)) -> Self {
         TakeRefusal::Schema(SchemaRefusal::Memory)
     }
+}
+
+/// The limit is reached.
+pub(crate) fn limit(which: Which) -> TakeRefusal
+    ensures { result ≡ Schema (Limit which) }
+{
+    TakeRefusal::Schema(SchemaRefusal::Limit(which))
 }
