@@ -1,10 +1,10 @@
 -- One update of a session with one more answer.
-use Rattle.std.proofs.Common.{◌≡◌, ◌∙◌, ℕ, zero, suc, ◌+◌, ◌<◌, ◌≤◌, List, [], ◌∷◌, ◌++◌, length, get_or, map, Some, refl, sym, ap, arith, subst}
+use Rattle.std.proofs.Common.{◌≡◌, ◌∙◌, ℕ, zero, suc, ◌+◌, ◌<◌, ◌≤◌, List, [], ◌∷◌, ◌++◌, length, get_or, map, Some, refl, sym, ap, arith}
 use Rattle.std.specs.Prelude.{slice_get, slice_set, sum_by}
 use Rattle.std.proofs.lemmas.List.{length-append, length-map, map_push}
 use Rattle.std.proofs.lemmas.List.Sums.{sum_by-cons}
 use Rattle.yt_model.specs.Updates.{Choice}
-use Rattle.yt_grammar.specs.Names.{Name, same_name, firsts}
+use Rattle.yt_grammar.specs.Names.{same_name, firsts}
 use Rattle.yt_grammar.specs.Sessions.{labels, curators, answer_count}
 use Rattle.yt_grammar.specs.Sessions as meant
 use Rattle.yt_grammar.specs.Checks.{with_answer}

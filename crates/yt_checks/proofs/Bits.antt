@@ -1,5 +1,5 @@
 -- Bits of a set, one for each relation.
-use Rattle.std.proofs.Common.{◌≡◌, ◌∙◌, ℕ, zero, suc, ◌*◌, ◌^◌, ◌%◌, ◌<◌, Bool, true, false, refl, sym, ap, arith}
+use Rattle.std.proofs.Common.{◌≡◌, ℕ, zero, suc, ◌*◌, ◌^◌, ◌%◌, ◌<◌, Bool, true, false, refl, sym, arith}
 use Rattle.std.specs.Prelude.{◌==◌, ◌||◌, max}
 use Rattle.std.specs.Int.{bit_at, w128}
 use Rattle.std.specs.Int.RustNames.{bit_or}

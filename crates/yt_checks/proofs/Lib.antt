@@ -3,5 +3,6 @@ pub mod Bits
 pub mod Carried
 pub mod Found
 pub mod Items
+pub mod Labelled
 pub mod Mapped
 pub mod Rows

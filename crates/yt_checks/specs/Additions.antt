@@ -4,7 +4,6 @@ use Rattle.yt_base.specs.declared.updates.Update.{Update}
 use Rattle.yt_base.specs.declared.mappings.Mapping.{Mapping}
 use Rattle.yt_base.specs.Meanings.{operation_of}
 use Rattle.yt_grammar.specs.Sessions.{SessionData, SessionMapping, SessionUpdate}
-use Rattle.yt_grammar.specs.Checks.{Performed}
 use Rattle.yt_schema.specs.Meanings.{session_mapping_of}
 
 -- an update without answers

@@ -1,7 +1,8 @@
 //! Facts and answers as they are written, with their relations by number and their nulls within bounds.
 
-ghost use Rattle.std.specs.Prelude.{map};
-ghost use Rattle.yt_base.specs.Meanings.{datum_of, fact_of as fact_meant, choice_of as choice_meant};
+ghost use Rattle.std.specs.Prelude.{[], ◌∷◌, map};
+ghost use Rattle.yt_model.specs.Values.{Unknown};
+ghost use Rattle.yt_base.specs.Meanings.{datum_of, null_of, fact_of as fact_meant, choice_of as choice_meant};
 ghost use Rattle.yt_grammar.specs.Meaning.{bounded_fact, nulls_within};
 ghost use Rattle.yt_grammar.specs.Checks.{choice_of};
 ghost use Rattle.yt_grammar.specs.Reading.{each};
@@ -11,9 +12,23 @@ ghost use Rattle.yt_checks.specs.Answers.{Gives};
 
 use crate::refusals::TakeRefusal;
 use std::alloc::Global;
-use yt_base::{Choice, List, Tuple, TupleList, Value};
+use yt_base::{Choice, List, Null, Tuple, TupleList, Value};
 use yt_forms::{RawChoice, RawFact, RawFactList};
 use yt_schema::Schema;
+
+// The null comes from an update up to the given one.
+#[tactic(auto, unfolding(yt_grammar::specs::Meaning::nulls_within))]
+fn null_within(most: u32, null: Null) -> Result<(), TakeRefusal>
+    ensures { Gives (λ u. u) result (nulls_within most (Unknown (null_of null) ∷ [])) }
+{
+    if most < null.update {
+        return Err(TakeRefusal::NullNotBelow {
+            update: null.update,
+            place: null.place,
+        });
+    }
+    Ok(())
+}
 
 /// The nulls among values come from updates up to the given one. They are refused with the first from the
 /// left that does not.
@@ -36,6 +51,19 @@ pub(crate) fn nulls_within(most: u32, values: &[Value]) -> Result<(), TakeRefusa
         }
     }
     Ok(())
+}
+
+// The two sides of a replacement come from updates up to the given one.
+#[tactic(auto, unfolding(yt_grammar::specs::Meaning::nulls_within))]
+pub(crate) fn replaced_within(most: u32, null: Null, value: &Value) -> Result<(), TakeRefusal>
+    ensures { Gives (λ u. u) result (nulls_within most (Unknown (null_of null) ∷ datum_of value.now ∷ [])) }
+{
+    null_within(most, null)?;
+    match value {
+        Value::Null(other) => null_within(most, *other),
+        Value::Int(_) => Ok(()),
+        Value::Word(_) => Ok(()),
+    }
 }
 
 /// The tuple of a fact whose nulls come from updates up to the given one.

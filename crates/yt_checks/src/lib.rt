@@ -4,14 +4,6 @@
 //! says what it answers by the definitions of that crate's `Checks`: `Gives view result found` means that
 //! an answer, seen by `view`, is the one that is found by definition, that a refusal other than want of
 //! memory is the fault that is found, and that want of memory may come in place of any answer.
-//!
-//! `take` is the call for each statement:
-//!
-//! ```text
-//! pub fn take(&mut self, alloc: Global, statement: RawStatement) -> Result<(), TakeRefusal>
-//!     ensures taken { Gives (λ _. self.new) result (taken self.old (statement_of statement)) }
-//!     ensures err { OnErr result (self.new ≡ self.old) }
-//! ```
 #![tactic(auto)]
 
 mod cycles;

@@ -1,6 +1,6 @@
 //! Names, each once, that are found by their hash.
 
-ghost use Rattle.std.specs.Prelude.{◌≡◌, ◌+◌, ◌≤◌, [], length, position, IsOk, OnOk, OnErr};
+ghost use Rattle.std.specs.Prelude.{◌≡◌, ◌<◌, ◌≤◌, [], length, position, IfSome, IsOk, OnOk, OnErr};
 ghost use Rattle.yt_grammar.specs.Names.{is_one_of, same_name, with_new};
 
 use indexmap::IndexSet;
@@ -45,6 +45,7 @@ impl Names {
     /// The place of a name, counted from 0; None exactly where it is none of them. It takes no memory.
     pub(crate) fn find(&self, name: &Name) -> Option<usize>
         ensures place { result ≡ position (same_name name.now.items) self.now.items }
+        ensures within { IfSome result (λ place. place < length self.now.items) }
     {
         self.names.get_index_of(name.as_slice())
     }

@@ -1,8 +1,8 @@
 //! The updates of a session, found by label, with their curators and their answers counted.
 
-ghost use Rattle.std.specs.Prelude.{◌≡◌, ◌<◌, ◌++◌, ◌∷◌, [], Some, false, length, map, position, slice_get, slice_set, OnOk, OnErr};
+ghost use Rattle.std.specs.Prelude.{◌≡◌, ◌<◌, ◌++◌, ◌∷◌, [], Some, None, false, length, map, slice_get, IfSome, IfNone, slice_set, OnOk, OnErr};
 ghost use Rattle.yt_base.specs.Meanings.{choice_of};
-ghost use Rattle.yt_grammar.specs.Names.{is_one_of, same_name};
+ghost use Rattle.yt_grammar.specs.Names.{is_one_of, place_of};
 ghost use Rattle.yt_grammar.specs.Sessions.{SessionUpdate as UpdateMeant, answer_count, labels};
 ghost use Rattle.yt_grammar.specs.Checks.{curators_full, with_answer};
 ghost use Rattle.yt_session.specs.Meanings.{update_of};
@@ -57,7 +57,9 @@ impl Updates {
 
     /// The place of the update of a label, counted from 0; None exactly where there is none.
     pub(crate) fn find(&self, label: &Name) -> Option<u32>
-        ensures place { result ≡ position (same_name label.now.items) (labels self.now) }
+        ensures place { IfSome result (λ place. place ≡ place_of (labels self.now) label.now.items) }
+        ensures within { IfSome result (λ place. (place < length self.now) × (place < 1000)) }
+        ensures absent { IfNone result (slice_get self.now (place_of (labels self.now) label.now.items) ≡ None) }
     {
         match self.label_names.find(label) {
             Some(place) => Some(place as u32),
