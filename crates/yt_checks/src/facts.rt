@@ -53,7 +53,7 @@ pub(crate) fn nulls_within(most: u32, values: &[Value]) -> Result<(), TakeRefusa
     Ok(())
 }
 
-// The two sides of a replacement come from updates up to the given one.
+/// The null of a replacement, and then its value if that is one, come from updates up to the given one.
 #[tactic(auto, unfolding(yt_grammar::specs::Meaning::nulls_within))]
 pub(crate) fn replaced_within(most: u32, null: Null, value: &Value) -> Result<(), TakeRefusal>
     ensures { Gives (λ u. u) result (nulls_within most (Unknown (null_of null) ∷ datum_of value.now ∷ [])) }

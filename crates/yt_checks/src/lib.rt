@@ -18,3 +18,6 @@ mod updates;
 
 pub use crate::draft::Draft;
 pub use crate::refusals::TakeRefusal;
+
+#[cfg(test)]
+mod tests;
