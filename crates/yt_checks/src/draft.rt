@@ -1,0 +1,99 @@
+//! The session that has been taken so far.
+
+ghost use Rattle.std.specs.Prelude.{◌≡◌, IfOk, OnErr};
+ghost use Rattle.yt_grammar.specs.Sessions.{empty_session};
+ghost use Rattle.yt_grammar.specs.Checks.{taken};
+ghost use Rattle.yt_forms.specs.Statements.{statement_of};
+ghost use Rattle.yt_session.specs.Meanings.{session_of};
+ghost use Rattle.yt_checks.specs.Answers.{Gives};
+
+mod asked;
+mod given;
+
+use crate::refusals::TakeRefusal;
+use crate::updates::Updates;
+use std::alloc::Global;
+use std::marker::Model;
+use yt_base::{List, MappingList, Memory};
+use yt_facts::PlainFacts;
+use yt_forms::RawStatement;
+use yt_schema::Schema;
+use yt_session::Session;
+
+/// A session that grows statement by statement. Contracts see the session that has been taken so far.
+#[derive(Drop)]
+pub struct Draft {
+    format: u8,
+    schema: Schema,
+    mappings: MappingList,
+    base: PlainFacts,
+    updates: Updates,
+}
+
+impl Model for Draft {
+    ghost use Rattle.std.specs.Prelude.{◌≤◌, length, map};
+    ghost use Rattle.yt_grammar.specs.Sessions.{SessionData};
+    ghost use Rattle.yt_schema.specs.Meanings.{session_mapping_of};
+
+    ghost Value = { SessionData };
+
+    ghost view = { λ d. record { format = d.format; relations = d.schema; mappings = map session_mapping_of d.mappings.items; base = d.base; updates = d.updates } };
+
+    ghost invariant = { λ d. length d.schema ≤ 128 };
+}
+
+impl Draft {
+    /// What the header of a format leaves. It takes no memory.
+    pub fn new(alloc: Global, format: u8) -> Draft
+        ensures empty { result ≡ empty_session format }
+    {
+        Draft {
+            format,
+            schema: Schema::new(alloc),
+            mappings: List::new(alloc),
+            base: PlainFacts::new(alloc),
+            updates: Updates::new(alloc),
+        }
+    }
+
+    /// The session. It is refused only for want of memory.
+    pub fn into_session(self, alloc: Global) -> Result<Session, Memory>
+        ensures same { IfOk result (λ session. session_of session ≡ self) }
+    {
+        let Draft {
+            format,
+            schema,
+            mappings,
+            base,
+            updates,
+        } = self;
+        Ok(Session {
+            format,
+            schema,
+            mappings,
+            base: base.list(alloc)?,
+            updates: updates.into_list(),
+        })
+    }
+
+    /// Takes one more statement, in the place where it may stand. A header begins the session anew. It is
+    /// refused with the first fault of its checks, and where there is not enough memory; nothing has then
+    /// changed.
+    pub fn take(&mut self, alloc: Global, statement: RawStatement) -> Result<(), TakeRefusal>
+        ensures taken { Gives (λ _. self.new) result (taken self.old (statement_of statement)) }
+        ensures err { OnErr result (self.new ≡ self.old) }
+    {
+        match statement {
+            RawStatement::Header(format) => *self = Draft::new(alloc, format),
+            RawStatement::Relation(name, columns) => self.add_relation(name, columns)?,
+            RawStatement::Mapping(mapping) => self.add_mapping(alloc, mapping)?,
+            RawStatement::Base(fact) => self.add_tuple(alloc, fact)?,
+            RawStatement::Update(label, curator, operation) => {
+                self.add_update(alloc, label, curator, operation)?
+            }
+            RawStatement::Answer(label, choice) => self.add_answer(alloc, label, choice)?,
+            RawStatement::End => {}
+        }
+        Ok(())
+    }
+}
