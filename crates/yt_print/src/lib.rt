@@ -1,0 +1,19 @@
+//! The printed form of a session: each statement on a line of its own, and the words of facts, answers and
+//! operations for whoever prints such lines.
+//!
+//! All of it is written on one `Page`, word by word; a contract says which words, or which lines of words, a page
+//! has gained.
+#![tactic(auto)]
+
+mod choices;
+mod lines;
+mod operations;
+mod sessions;
+mod worded;
+
+pub use crate::choices::with_choice;
+pub use crate::sessions::{print_session, print_upgraded};
+pub use crate::worded::{Worded, with_separated};
+
+#[cfg(test)]
+mod tests;

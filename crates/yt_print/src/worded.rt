@@ -1,0 +1,89 @@
+//! What stands on a line as words, and lists of it with commas between.
+
+ghost use Rattle.std.specs.Prelude.{◌≡◌, ◌∷◌, [], List, IfOk, flat_map, map};
+ghost use Rattle.yt_grammar.specs.Words.{Word, comma};
+ghost use Rattle.yt_grammar.specs.Grammar.{fact_words, one_word, separated, value_word};
+ghost use Rattle.yt_grammar.specs.Printing.{written_fact};
+ghost use Rattle.yt_grammar.specs.Sessions.{RelationSchema};
+ghost use Rattle.yt_base.specs.Meanings.{datum_of, fact_of};
+ghost use Rattle.yt_schema.specs.Pages.{with_words};
+
+use std::alloc::Global;
+use yt_base::{Memory, Tuple, Value};
+use yt_schema::{Page, Schema};
+
+/// What has words on a line, by the names of the relations.
+pub trait Worded {
+    ghost words: { List RelationSchema → Self → List Word };
+
+    /// Adds the words. It is refused only for want of memory.
+    fn write(&self, alloc: Global, page: Page, schema: &Schema) -> Result<Page, Memory>
+        ensures written { IfOk result (λ p. p ≡ with_words page (words schema.now self.now)) };
+}
+
+impl Worded for Value {
+    ghost words = { λ _ v. value_word (datum_of v) ∷ [] };
+
+    fn write(&self, alloc: Global, page: Page, _schema: &Schema) -> Result<Page, Memory> {
+        page.value(alloc, self)
+    }
+}
+
+impl Worded for Tuple {
+    ghost words = { λ relations t. fact_words (written_fact relations (fact_of t)) };
+
+    fn write(&self, alloc: Global, page: Page, schema: &Schema) -> Result<Page, Memory> {
+        let inside = page.name(schema.name(self.relation))?.open()?;
+        with_values(alloc, inside, schema, self.values.as_slice())?.close()
+    }
+}
+
+// Each item behind a comma.
+#[tactic(auto, using(yt_schema::proofs::Noted::fold_more))]
+fn with_others<T: Worded>(
+    alloc: Global,
+    mut page: Page,
+    schema: &Schema,
+    items: &[T],
+) -> Result<Page, Memory>
+    ensures { IfOk result (λ p. p ≡ with_words page (flat_map (λ x. comma ∷ T.words schema.now x) items.now)) }
+{
+    for item in items {
+        page = item.write(alloc, page.comma()?, schema)?;
+    }
+    Ok(page)
+}
+
+fn with_some<T: Worded>(
+    alloc: Global,
+    page: Page,
+    schema: &Schema,
+    first: &T,
+    others: &[T],
+) -> Result<Page, Memory>
+    ensures { IfOk result (λ p. p ≡ with_words page (separated (T.words schema.now) (first.now ∷ others.now))) }
+{
+    let page = first.write(alloc, page, schema)?;
+    with_others(alloc, page, schema, others)
+}
+
+/// Adds the words of each item, with commas between. It is refused only for want of memory.
+pub fn with_separated<T: Worded>(
+    alloc: Global,
+    page: Page,
+    schema: &Schema,
+    items: &[T],
+) -> Result<Page, Memory>
+    ensures words { IfOk result (λ p. p ≡ with_words page (separated (T.words schema.now) items.now)) }
+{
+    match items {
+        [] => Ok(page),
+        [first, others @ ..] => with_some(alloc, page, schema, first, others),
+    }
+}
+
+fn with_values(alloc: Global, page: Page, schema: &Schema, values: &[Value]) -> Result<Page, Memory>
+    ensures { IfOk result (λ p. p ≡ with_words page (separated (one_word value_word) (map datum_of values.now))) }
+{
+    with_separated(alloc, page, schema, values)
+}
