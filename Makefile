@@ -1,26 +1,27 @@
 # Youtopia: `make` alone lists the targets.
 PREFIX ?= /usr/local
-NAME = yt_ticket_demo
+NAME = youtopia
 PROGRAM = crates/$(NAME)/out/$(NAME)
+EXAMPLE = examples/travel.session
 
 .PHONY: help run build install test
 
 help:
-	@echo 'make run               run the demonstration of the lock and its workers, as proved or by the quick run without proof'
-	@echo 'make build             prove and build it'
+	@echo 'make run               check an example, by the program as proved, or by the quick run without proof'
+	@echo 'make build             prove and build the program'
 	@echo 'make install PREFIX=/usr/local'
 	@echo '                       put the built program into PREFIX/bin'
 	@echo 'make test              prove every crate, try every must-fail edit, run every program and stored row'
 
 run:
 	@if [ -x $(PROGRAM) ]; then \
-	  echo '$(NAME), as it was proved and built'; $(PROGRAM); \
+	  echo '$(NAME), as it was proved and built'; $(PROGRAM) check < $(EXAMPLE); \
 	else \
-	  echo '$(NAME), by the quick run without proof (make build proves it)'; cd crates/$(NAME) && rt try 2>/dev/null | grep '^seats'; \
+	  echo '$(NAME), by the quick run without proof (make build proves it)'; cd crates/$(NAME) && rt try -- check < ../../$(EXAMPLE) 2>/dev/null | grep '^ok'; \
 	fi
 
 build:
-	cd crates/$(NAME) && rt run
+	cd crates/$(NAME) && rt run -- check < ../../$(EXAMPLE)
 
 install: $(PROGRAM)
 	install -D -m 755 $(PROGRAM) $(DESTDIR)$(PREFIX)/bin/$(NAME)

@@ -30,6 +30,8 @@ pub(crate) fn count_line(alloc: Global, session: &Session) -> Result<Vec<u8>, Me
     let base = session.base.len();
     let updates = session.updates.len();
     let answers = count_answers(session.updates.as_slice());
-    let line = format!(in alloc; "ok relations {relations} mappings {mappings} base {base} updates {updates} answers {answers}\n")?;
+    let line = format!(in alloc;
+        "ok relations {relations} mappings {mappings} base {base} updates {updates} answers {answers}\n"
+    )?;
     Ok(line.into_bytes())
 }
