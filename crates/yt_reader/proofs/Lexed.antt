@@ -7,7 +7,7 @@ use Rattle.yt_lex.specs.declared.LexRefusal.TheVariants.{BadByte, OpenText, Wide
 use Rattle.yt_lex.specs.Answers.{◌>>=◌, Refuses}
 use Rattle.yt_lex.specs.Lines.{line_at, line_of, next_line, tokens_at}
 use Rattle.yt_reader.specs.Places.{IsOneLine, place_in}
-use Rattle.yt_reader.proofs.Lineless.{line_of_one}
+use Rattle.yt_reader.proofs.Cut.{line_of_one}
 use Rattle.yt_reader.proofs.Places.{Within, tokens_within}
 
 -- the tokens alone

@@ -1,3 +1,6 @@
 pub mod Places
+pub mod Counted
+pub mod Encoded
 pub mod Lexed
-pub mod Lineless
+pub mod Loop
+pub mod Cut

@@ -1,11 +1,14 @@
 -- What faults of the program stand for, and what reading a line answers beside what is read by definition.
-use Rattle.std.specs.Prelude.{◌≡◌, Result, Ok, Err}
+use Rattle.std.specs.Prelude.{◌≡◌, ℕ, List, Result, Ok, Err}
 use Rattle.yt_grammar.specs.Faults.{Kind, UnknownRelation, Arity, EmptySide, TooManyAtoms, DuplicateName, PlainCycle, BadByte, OpenText, WideNumber, LongText, BadHeader, Expected, UnknownLabel, NullNotBelow, LimitReached, NoEnd, AfterEnd, Wrong}
+use Rattle.yt_grammar.specs.Lines.{IsFirstFault}
 use Rattle.yt_reader.specs.declared.faults.FaultKind.{FaultKind}
 use Rattle.yt_reader.specs.declared.faults.FaultKind.TheVariants as fault
 use Rattle.yt_reader.specs.declared.faults.SessionFault.{SessionFault}
 use Rattle.yt_reader.specs.declared.faults.LineRefusal.{LineRefusal}
 use Rattle.yt_reader.specs.declared.faults.LineRefusal.TheVariants as refusal
+use Rattle.yt_reader.specs.declared.faults.ReadFailure.{ReadFailure}
+use Rattle.yt_reader.specs.declared.faults.ReadFailure.TheVariants as failure
 
 -- the kind of fault that a `FaultKind` stands for
 abbrev pub kind_of : FaultKind → Kind
@@ -40,3 +43,18 @@ Refuses refusal.Memory read = Unit {0}
 abbrev pub Gives : {X Y : Type 0} → (X → Y) → Result X LineRefusal → Result Y Kind → Type 0
 Gives view (Ok x) read = read ≡ Ok (view x)
 Gives view (Err e) read = Refuses e read
+
+-- a failure is the fault that is read, with its line; want of memory may come in place of any answer
+abbrev pub Fails : {Y : Type 0} → ReadFailure → Result Y Wrong → Type 0
+Fails (failure.Fault f) read = read ≡ Err (wrong_of f)
+Fails failure.Memory read = Unit {0}
+
+-- an answer, seen by `view`, is what is read, with lines
+abbrev pub GivesWhole : {X Y : Type 0} → (X → Y) → Result X ReadFailure → Result Y Wrong → Type 0
+GivesWhole view (Ok x) read = read ≡ Ok (view x)
+GivesWhole view (Err e) read = Fails e read
+
+-- the failure tells what is wrong with the bytes first, or there was not enough memory
+abbrev pub IsTold : List ℕ → ReadFailure → Type 0
+IsTold bytes (failure.Fault f) = IsFirstFault bytes (wrong_of f)
+IsTold bytes failure.Memory = Unit {0}

@@ -1,10 +1,15 @@
 //! What can be wrong with a session, and where.
 
 ghost use Rattle.std.specs.Prelude.{◌≡◌};
+ghost use Rattle.yt_reader.specs.Refusals.{of_form, of_schema, of_statement};
 ghost use Rattle.yt_reader.specs.declared.faults.LineRefusal.TheVariants.{Memory as WantOfMemory};
+ghost use Rattle.yt_reader.specs.declared.faults.ReadFailure.TheVariants.{Memory as NoMemory};
 
 use yt_base::{Memory, Name};
+use yt_checks::TakeRefusal;
+use yt_forms::FormRefusal;
 use yt_grammar::{Wanted, Which};
+use yt_schema::SchemaRefusal;
 
 /// What is wrong with a session. Places count bytes of the input from 0.
 #[derive(Debug, Drop)]
@@ -39,7 +44,7 @@ pub enum FaultKind {
     Expected(Wanted),
     /// No update has this label.
     UnknownLabel(Name),
-    /// A null does not come from an update below.
+    /// A null comes from an update, this one, that is not below.
     NullNotBelow {
         update: u32,
         place: u32,
@@ -59,6 +64,15 @@ pub struct SessionFault {
     pub kind: FaultKind,
 }
 
+/// Why no session is read.
+#[derive(Debug, Drop)]
+pub enum ReadFailure {
+    /// The input spells no session: this is wrong with it first.
+    Fault(SessionFault),
+    /// There was not enough memory.
+    Memory,
+}
+
 /// Why a line is not read.
 #[derive(Debug, Drop)]
 pub(crate) enum LineRefusal {
@@ -68,10 +82,73 @@ pub(crate) enum LineRefusal {
     Memory,
 }
 
+impl From<Memory> for ReadFailure {
+    ghost from_gives = { λ _ failure. failure ≡ NoMemory };
+
+    fn from(_: Memory) -> Self {
+        ReadFailure::Memory
+    }
+}
+
 impl From<Memory> for LineRefusal {
     ghost from_gives = { λ _ refusal. refusal ≡ WantOfMemory };
 
     fn from(_: Memory) -> Self {
         LineRefusal::Memory
+    }
+}
+
+impl From<FormRefusal> for LineRefusal {
+    ghost from_gives = { λ refused refusal. refusal ≡ of_form refused };
+
+    fn from(refused: FormRefusal) -> Self {
+        match refused {
+            FormRefusal::BadHeader => LineRefusal::Fault(FaultKind::Header),
+            FormRefusal::Expected(wanted) => LineRefusal::Fault(FaultKind::Expected(wanted)),
+            FormRefusal::Memory => LineRefusal::Memory,
+        }
+    }
+}
+
+impl From<SchemaRefusal> for LineRefusal {
+    ghost from_gives = { λ refused refusal. refusal ≡ of_schema refused };
+
+    fn from(refused: SchemaRefusal) -> Self {
+        match refused {
+            SchemaRefusal::UnknownRelation(name) => {
+                LineRefusal::Fault(FaultKind::UnknownRelation(name))
+            }
+            SchemaRefusal::Arity {
+                name,
+                expected,
+                found,
+            } => LineRefusal::Fault(FaultKind::Arity {
+                name,
+                expected,
+                found,
+            }),
+            SchemaRefusal::EmptySide => LineRefusal::Fault(FaultKind::EmptySide),
+            SchemaRefusal::TooManyAtoms => LineRefusal::Fault(FaultKind::TooManyAtoms),
+            SchemaRefusal::DuplicateName(name) => {
+                LineRefusal::Fault(FaultKind::DuplicateName(name))
+            }
+            SchemaRefusal::Limit(which) => LineRefusal::Fault(FaultKind::LimitReached(which)),
+            SchemaRefusal::Memory => LineRefusal::Memory,
+        }
+    }
+}
+
+impl From<TakeRefusal> for LineRefusal {
+    ghost from_gives = { λ refused refusal. refusal ≡ of_statement refused };
+
+    fn from(refused: TakeRefusal) -> Self {
+        match refused {
+            TakeRefusal::Schema(refused) => LineRefusal::from(refused),
+            TakeRefusal::PlainCycle(name) => LineRefusal::Fault(FaultKind::PlainCycle(name)),
+            TakeRefusal::UnknownLabel(name) => LineRefusal::Fault(FaultKind::UnknownLabel(name)),
+            TakeRefusal::NullNotBelow { update, place } => {
+                LineRefusal::Fault(FaultKind::NullNotBelow { update, place })
+            }
+        }
     }
 }

@@ -3,6 +3,17 @@
 #![tactic(auto)]
 
 mod faults;
+mod lines;
+mod reading;
+mod split;
+mod texts;
+mod tuples;
 mod words;
 
-pub use crate::faults::{FaultKind, SessionFault};
+pub use crate::faults::{FaultKind, ReadFailure, SessionFault};
+pub use crate::reading::read_session;
+pub use crate::texts::fault_text;
+pub use crate::tuples::{TupleText, read_tuple};
+
+#[cfg(test)]
+mod tests;
