@@ -78,7 +78,7 @@ impl Draft {
             format,
             schema,
             mappings,
-            base: base.list(alloc)?,
+            base: base.into_list(alloc)?,
             updates: updates.into_list(),
         })
     }
