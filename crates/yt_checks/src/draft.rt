@@ -56,6 +56,13 @@ impl Draft {
         }
     }
 
+    /// The format of the session. It takes no memory.
+    pub fn format(&self) -> u8
+        ensures format { result ≡ self.now.format }
+    {
+        self.format
+    }
+
     /// The session. It is refused only for want of memory.
     pub fn into_session(self, alloc: Global) -> Result<Session, Memory>
         ensures same { IfOk result (λ session. session_of session ≡ self) }
@@ -71,7 +78,7 @@ impl Draft {
             format,
             schema,
             mappings,
-            base: base.list(alloc)?,
+            base: base.into_list(alloc)?,
             updates: updates.into_list(),
         })
     }

@@ -85,6 +85,19 @@ impl PlainFacts {
         }
         Ok(list)
     }
+
+    /// The tuples in order, taken out of the set. It is refused only for want of memory.
+    pub fn into_list(self, alloc: Global) -> Result<TupleList, Memory>
+        ensures tuples { IfOk result (λ list. map fact_of list.items ≡ self) }
+    {
+        let PlainFacts { tuples, .. } = self;
+        let mut list = List::new(alloc);
+        list.reserve(tuples.len())?;
+        for tuple in tuples {
+            list.push(tuple)?;
+        }
+        Ok(list)
+    }
 }
 
 impl TryCopy for PlainFacts {

@@ -149,6 +149,7 @@ fn the_sets_answer_alike(rt: HostRuntime) -> Result<(), Fail> {
     }
     holds_the_seven(&rt, alloc, &plain, "plain")?;
     holds_the_seven(&rt, alloc, &indexed, "indexed")?;
+    assert_eq!(rt; plain.copy(alloc)?.into_list(alloc)?, indexed.list(alloc)?);
     holds_the_seven(&rt, alloc, &plain.copy(alloc)?, "copied")?;
     holds_the_seven(&rt, alloc, &indexed.copy(alloc)?, "indexed, copied")?;
     assert_eq!(rt; (plain.len(), indexed.len()), (7, 7));

@@ -1,4 +1,5 @@
 pub mod Answers
+pub mod Facts
 pub mod Places
 pub mod Refusals
 pub mod States

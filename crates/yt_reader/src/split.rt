@@ -1,6 +1,6 @@
 //! The lines of a text: what stands between its line feeds.
 
-ghost use Rattle.std.specs.Prelude.{◌≡◌, ◌+◌, ◌<◌, ◌≤◌, ◌∷◌, MatchOption, length};
+ghost use Rattle.std.specs.Prelude.{◌≡◌, ◌+◌, ◌<◌, ◌≤◌, ◌∷◌, ◌↔◌, IsTrue, MatchOption, length};
 ghost use Rattle.std.specs.List.{count_by};
 ghost use Rattle.std.specs.Option.{option_copied};
 ghost use Rattle.yt_grammar.specs.Lines.{line_number, lines_of};
@@ -20,6 +20,13 @@ pub(crate) fn first_line(text: &[u8]) -> (&[u8], Option<&[u8]>)
         Some(place) => (&text[..place], Some(&text[place + 1..])),
         None => (text, None),
     }
+}
+
+/// Whether no line feed stands in a text.
+pub(crate) fn is_one_line(text: &[u8]) -> bool
+    ensures { IsTrue result ↔ IsOneLine text.now }
+{
+    memchr(b'\n', text).is_none()
 }
 
 /// The number of the line of a place.

@@ -1,0 +1,30 @@
+-- A fact as a text by itself.
+use Rattle.std.specs.Prelude.{◌≡◌, ℕ, List, Result, Ok, Err, IsUtf8}
+use Rattle.yt_base.specs.Meanings.{fact_of as tuple_meant}
+use Rattle.yt_grammar.specs.Faults.{Kind}
+use Rattle.yt_grammar.specs.Lines.{placed_words}
+use Rattle.yt_grammar.specs.Meaning.{fact_of}
+use Rattle.yt_grammar.specs.Parts.{fact_at, whole}
+use Rattle.yt_grammar.specs.Reading.{◌>>=◌}
+use Rattle.yt_grammar.specs.Sessions.{RelationSchema}
+use Rattle.yt_grammar.specs.Statements.{WrittenFact}
+use Rattle.yt_grammar.specs.Words.{words_at}
+use Rattle.yt_reader.specs.declared.tuples.TupleText.{TupleText}
+use Rattle.yt_reader.specs.declared.tuples.TupleText.TheVariants.{Malformed, Unknown, Tuple}
+use Rattle.yt_reader.specs.Places.{IsOneLine}
+
+-- the fact that the words of a line are
+abbrev pub fact_on : List ℕ → Result WrittenFact Kind
+fact_on line = placed_words 0 (words_at line) >>= (λ words. whole (fact_at words))
+
+-- A text spells a fact: it is UTF-8 and one line, and its words are the fact's. Blanks and a comment may stand around.
+pub record SpellsFact (text : List ℕ) (fact : WrittenFact) : Type 0 where
+  pub utf8 : IsUtf8 text
+  pub one_line : IsOneLine text
+  pub words : fact_on text ≡ Ok fact
+
+-- what the text says over the relations: no fact, a fact that goes with none of them, or a tuple
+abbrev pub Says : List RelationSchema → List ℕ → TupleText → Type 0
+Says relations text Malformed = (fact : WrittenFact) → SpellsFact text fact → ⊥
+Says relations text Unknown = (fact : WrittenFact) × SpellsFact text fact × (kind : Kind) × (fact_of relations fact ≡ Err kind)
+Says relations text (Tuple t) = (fact : WrittenFact) × SpellsFact text fact × (fact_of relations fact ≡ Ok (tuple_meant t))
