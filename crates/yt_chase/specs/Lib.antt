@@ -1,0 +1,4 @@
+pub mod Repairs
+pub mod Stands
+pub mod Meanings
+pub mod Stages
