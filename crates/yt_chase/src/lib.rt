@@ -10,6 +10,7 @@
 
 mod fresh;
 mod nulls;
+mod ordering;
 mod repairs;
 mod rewriting;
 mod stages;
@@ -17,6 +18,7 @@ mod wants;
 
 pub use crate::fresh::{Fresh, existential};
 pub use crate::nulls::nulls_in;
+pub use crate::ordering::in_order;
 pub use crate::repairs::Repair;
-pub use crate::rewriting::{in_order, rewrite};
+pub use crate::rewriting::rewrite;
 pub use crate::wants::{Progress, RepairWant};

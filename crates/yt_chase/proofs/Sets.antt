@@ -1,0 +1,36 @@
+-- Ordered sets of what means values of an order, and tuples put in one after the other.
+use Rattle.std.proofs.Common.{◌≡◌, ℕ, ◌+◌, ◌<◌, ap, refl, sym, ◌∙◌, List, [], ◌∷◌, ◌++◌, map, take, length, get_or}
+use Rattle.std.proofs.lemmas.List.{map-append, map_more}
+use Rattle.std.specs.BTreeSet.{insert_key}
+use Rattle.yt_model.specs.Values.{Fact}
+use Rattle.yt_model.specs.Repository.{Change, Insert, change, apply}
+use Rattle.std.specs.Ordering.{match_ordering, on}
+use Rattle.std.specs.declared.cmp.Ordering.{Ordering}
+use Rattle.std.specs.declared.cmp.Ordering.TheVariants.{Less, Equal, Greater}
+
+-- A key put in among those that mean the keys.
+pub insert_mapped : {A B : Type 0} (f : A → B) (cmp : B → B → Ordering) (k : A) (ks : List A) → map f (insert_key (on f cmp) ks k) ≡ insert_key cmp (map f ks) (f k)
+insert_mapped f cmp k [] = refl
+insert_mapped f cmp k (x ∷ ks) = by (cmp (f k) (f x)) (insert_mapped f cmp k ks)
+  where
+    by : (o : Ordering) → map f (insert_key (on f cmp) ks k) ≡ insert_key cmp (map f ks) (f k)
+        → map f (match_ordering o (k ∷ x ∷ ks) (x ∷ ks) (x ∷ insert_key (on f cmp) ks k)) ≡ match_ordering o (f k ∷ f x ∷ map f ks) (f x ∷ map f ks) (f x ∷ insert_key cmp (map f ks) (f k))
+    by Less h = refl
+    by Equal h = refl
+    by Greater h = ap (λ l. f x ∷ l) h
+
+apply_more : (D : List Fact) (ws : List Change) (w : Change) → apply D (ws ++ w ∷ []) ≡ apply (apply D ws) (w ∷ [])
+apply_more D [] w = refl
+apply_more D (v ∷ ws) w = apply_more (change D v) ws w
+
+-- One tuple more is put in.
+pub one_more : (D E F ts us : List Fact) (t : Fact) → E ≡ apply D (map Insert ts) → F ≡ apply E (Insert t ∷ []) → us ≡ ts ++ t ∷ [] → F ≡ apply D (map Insert us)
+one_more D E F ts us t e f h = f ∙ ap (λ (G : List Fact). apply G (Insert t ∷ [])) e ∙ sym (apply_more D (map Insert ts) (Insert t)) ∙ ap (apply D) (sym (ap (map Insert) h ∙ map-append Insert ts (t ∷ [])))
+
+-- The facts of the tuples up to the place that a loop has come to.
+pub facts_more : {A B : Type 0} (f : A → B) (xs : List A) (i : ℕ) (x : A) → i < length xs → x ≡ get_or xs i x → map f (take (i + 1) xs) ≡ map f (take i xs) ++ f x ∷ []
+facts_more f xs i x h is = map_more f xs i x h ∙ ap (λ y. map f (take i xs) ++ f y ∷ []) (sym is)
+
+-- The images of these facts.
+pub images_more : {A B C : Type 0} (g : B → C) (f : A → B) (xs : List A) (i : ℕ) (x : A) → i < length xs → x ≡ get_or xs i x → map g (map f (take (i + 1) xs)) ≡ map g (map f (take i xs)) ++ g (f x) ∷ []
+images_more g f xs i x h is = ap (map g) (facts_more f xs i x h is) ∙ map-append g (map f (take i xs)) (f x ∷ [])
