@@ -1,8 +1,11 @@
 -- Ordered sets of what means values of an order, and tuples put in one after the other.
-use Rattle.std.proofs.Common.{◌≡◌, ℕ, ◌+◌, ◌<◌, ap, refl, sym, ◌∙◌, List, [], ◌∷◌, ◌++◌, map, take, length, get_or}
-use Rattle.std.proofs.lemmas.List.{map-append, map_more}
+use Rattle.std.proofs.Common.{◌≡◌, ℕ, ◌+◌, ◌<◌, ap, refl, sym, ◌∙◌, ◌-◌, ◌≤◌, List, [], ◌∷◌, ◌++◌, map, take, drop, length, get_or, arith}
+use Rattle.std.proofs.lemmas.List.{map-append, map_more, take_rest}
 use Rattle.std.specs.BTreeSet.{insert_key}
-use Rattle.yt_model.specs.Values.{Fact}
+use Rattle.yt_model.specs.Values.{Fact, null_cmp}
+use Rattle.yt_base.specs.declared.nulls.Null.{Null}
+use Rattle.yt_base.specs.Meanings.{null_of}
+use Rattle.yt_steps.specs.Rewriting.{sorted_nulls}
 use Rattle.yt_model.specs.Repository.{Change, Insert, change, apply}
 use Rattle.std.specs.Ordering.{match_ordering, on}
 use Rattle.std.specs.declared.cmp.Ordering.{Ordering}
@@ -34,3 +37,12 @@ facts_more f xs i x h is = map_more f xs i x h ∙ ap (λ y. map f (take i xs) +
 -- The images of these facts.
 pub images_more : {A B C : Type 0} (g : B → C) (f : A → B) (xs : List A) (i : ℕ) (x : A) → i < length xs → x ≡ get_or xs i x → map g (map f (take (i + 1) xs)) ≡ map g (map f (take i xs)) ++ g (f x) ∷ []
 images_more g f xs i x h is = ap (map g) (facts_more f xs i x h is) ∙ map-append g (map f (take i xs)) (f x ∷ [])
+
+-- The first null put in among the others.
+pub sorted_more : (ns : List Null) (ks new : List Null) (d : Null) → 1 ≤ length ns → new ≡ insert_key (on null_of null_cmp) ks (get_or ns 0 d)
+    → map null_of ks ≡ sorted_nulls (map null_of (take (length ns - 1) (drop 1 ns))) → map null_of new ≡ sorted_nulls (map null_of ns)
+sorted_more ns ks new d h e f = by ns h e (f ∙ ap (λ l. sorted_nulls (map null_of l)) (take_rest ns 1))
+  where
+    by : (ns : List Null) → 1 ≤ length ns → new ≡ insert_key (on null_of null_cmp) ks (get_or ns 0 d) → map null_of ks ≡ sorted_nulls (map null_of (drop 1 ns)) → map null_of new ≡ sorted_nulls (map null_of ns)
+    by [] h e f = absurd (omega arith)
+    by (n ∷ ns) h e f = ap (map null_of) e ∙ insert_mapped null_of null_cmp n ks ∙ ap (λ l. insert_key null_cmp l (null_of n)) f

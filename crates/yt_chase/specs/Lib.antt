@@ -2,3 +2,4 @@ pub mod Repairs
 pub mod Stands
 pub mod Meanings
 pub mod Stages
+pub mod Nulls

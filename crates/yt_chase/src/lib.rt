@@ -9,6 +9,7 @@
 #![tactic(auto)]
 
 mod fresh;
+mod generating;
 mod nulls;
 mod ordering;
 mod repairs;
