@@ -1,11 +1,13 @@
 -- Ordered sets of what means values of an order, and tuples put in one after the other.
 use Rattle.std.proofs.Common.{◌≡◌, ℕ, ◌+◌, ◌<◌, ap, refl, sym, ◌∙◌, ◌-◌, ◌≤◌, List, [], ◌∷◌, ◌++◌, map, take, drop, length, get_or, arith}
-use Rattle.std.proofs.lemmas.List.{map-append, map_more, take_rest}
+use Rattle.std.proofs.lemmas.List.{map-append, map_more, take_more, take_rest, append-nil}
+use Rattle.std.proofs.lemmas.Grind.{flat_map-append}
+use Rattle.std.specs.List.{flat_map}
 use Rattle.std.specs.BTreeSet.{insert_key}
 use Rattle.yt_model.specs.Values.{Fact, null_cmp}
 use Rattle.yt_base.specs.declared.nulls.Null.{Null}
 use Rattle.yt_base.specs.Meanings.{null_of}
-use Rattle.yt_steps.specs.Rewriting.{sorted_nulls}
+use Rattle.yt_steps.specs.Rewriting.{in_order, sorted_nulls}
 use Rattle.yt_model.specs.Repository.{Change, Insert, change, apply}
 use Rattle.std.specs.Ordering.{match_ordering, on}
 use Rattle.std.specs.declared.cmp.Ordering.{Ordering}
@@ -46,3 +48,16 @@ sorted_more ns ks new d h e f = by ns h e (f ∙ ap (λ l. sorted_nulls (map nul
     by : (ns : List Null) → 1 ≤ length ns → new ≡ insert_key (on null_of null_cmp) ks (get_or ns 0 d) → map null_of ks ≡ sorted_nulls (map null_of (drop 1 ns)) → map null_of new ≡ sorted_nulls (map null_of ns)
     by [] h e f = absurd (omega arith)
     by (n ∷ ns) h e f = ap (map null_of) e ∙ insert_mapped null_of null_cmp n ks ∙ ap (λ l. insert_key null_cmp l (null_of n)) f
+
+apply_all : (D : List Fact) (ws vs : List Change) → apply D (ws ++ vs) ≡ apply (apply D ws) vs
+apply_all D [] vs = refl
+apply_all D (w ∷ ws) vs = apply_all (change D w) ws vs
+
+-- All of a list are put in after those that were.
+pub all_more : (E F ts us vs : List Fact) → E ≡ in_order ts → F ≡ apply E (map Insert us) → vs ≡ ts ++ us → F ≡ in_order vs
+all_more E F ts us vs e f h = f ∙ ap (λ (G : List Fact). apply G (map Insert us)) e ∙ sym (apply_all [] (map Insert ts) (map Insert us)) ∙ ap (apply []) (sym (ap (map Insert) h ∙ map-append Insert ts us))
+
+-- The lists up to the place that a loop has come to, one after another.
+pub lists_more : {A B : Type 0} (f : A → List B) (xs : List A) (i : ℕ) (x : A) → i < length xs → x ≡ get_or xs i x → flat_map f (take (i + 1) xs) ≡ flat_map f (take i xs) ++ f x
+lists_more f xs i x h is =
+    ap (flat_map f) (take_more xs i x h ∙ ap (λ y. take i xs ++ y ∷ []) (sym is)) ∙ flat_map-append f (take i xs) (x ∷ []) ∙ ap (λ l. flat_map f (take i xs) ++ l) (append-nil (f x))

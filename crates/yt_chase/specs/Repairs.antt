@@ -1,9 +1,9 @@
 -- Where the repair of one violation stands, as data, and what the step under way still asks and does.
-use Rattle.std.specs.Prelude.{Bool, true, false, List, [], ◌++◌, map}
+use Rattle.std.specs.Prelude.{Bool, true, false, List, [], ◌∷◌, ◌++◌, map}
 use Rattle.yt_machine.specs.Trees.{Node}
 use Rattle.yt_model.specs.Values.{NullName, Datum, Fact}
 use Rattle.yt_model.specs.Mappings.{Rule}
-use Rattle.yt_model.specs.Queries.{Query, Specific}
+use Rattle.yt_model.specs.Queries.{Query, Specific, Occurs}
 use Rattle.yt_base.specs.Maps.{images_of, moved_by}
 use Rattle.yt_steps.specs.Attempts.{Repair, Question, Positive, Phase, Look, Generate, Asked}
 use Rattle.yt_steps.specs.Rewriting.{in_order, rewrite, next_atom}
@@ -15,6 +15,11 @@ pub record Gathering : Type 0 where
   pub query : Query
   pub later : List NullName
   pub found : List Fact
+
+-- The step once the tuples of the query are found: the next of these nulls is asked for.
+abbrev pub asking_next : List NullName → Gathering → List Fact → Gathering
+asking_next [] g ts = g
+asking_next (n ∷ ns) g ts = record { images = g.images; query = Occurs n.update n.place; later = ns; found = g.found ++ ts }
 
 -- A repair is between two steps: it will generate, waits at a question, or is at its end. Or it is within a step: it asks whether the generated tuple is present, or which tuples are more specific, or, at an answer `unify` to the positive question of the three, which tuples hold the nulls that move.
 pub data Repairing : Type 0 where
@@ -43,11 +48,14 @@ is_asking (Waiting q) = false
 is_asking (Unifying r t cs g) = true
 is_asking Repaired = false
 
+-- The repair with each of its values moved.
+abbrev pub moved_repair : (Datum → Datum) → Repair → Repair
+moved_repair f r = record { mapping = r.mapping; binding = map f r.binding; atom = r.atom }
+
 -- The end of the step of `unify`, with all tuples found: the images go through them and through the values of the repair.
 abbrev pub unified : List Rule → Repair → List (NullName × Datum) → List Fact → Asking
 unified ms r images ts =
-    makes (rewrite (moved_by (images_of images)) (in_order ts))
-    (next_atom ms record { mapping = r.mapping; binding = map (moved_by (images_of images)) r.binding; atom = r.atom })
+    makes (rewrite (moved_by (images_of images)) (in_order ts)) (next_atom ms (moved_repair (moved_by (images_of images)) r))
 
 -- What the step under way still asks and does. Between two steps that is nothing.
 abbrev pub tree_in : List Rule → Repairing → Asking

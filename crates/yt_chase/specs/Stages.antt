@@ -1,5 +1,5 @@
 -- What the parts of a `Repair` stand for, and what is true of them.
-use Rattle.std.specs.Prelude.{◌≡◌, ℕ, true, List, map, drop}
+use Rattle.std.specs.Prelude.{◌≡◌, ℕ, true, List, map}
 use Rattle.std.specs.List.{list_all, flat_map}
 use Rattle.yt_model.specs.Specific.{more_specific}
 use Rattle.yt_base.specs.Meanings.{null_of, datum_of, fact_of}
@@ -26,7 +26,7 @@ gathering_of g =
     record {
       images = g.sub;
       query = query_of g.query;
-      later = drop g.next (map null_of g.nulls.items);
+      later = map null_of g.later.items;
       found = flat_map (λ l. map fact_of l.items) g.found.items;
     }
 

@@ -8,13 +8,17 @@
 //! `Err` is want of memory, of which no clause can say when it comes; everything is then unchanged.
 #![tactic(auto)]
 
+mod answers;
+mod comparing;
 mod fresh;
 mod generating;
+mod looking;
 mod nulls;
 mod ordering;
 mod repairs;
 mod rewriting;
 mod stages;
+mod unifying;
 mod wants;
 
 pub use crate::fresh::{Fresh, existential};

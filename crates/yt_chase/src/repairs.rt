@@ -6,19 +6,22 @@ ghost use Rattle.yt_model.specs.Violations.{Forward};
 ghost use Rattle.yt_base.specs.Meanings.{fact_of, change_of, choice_of, rule_of};
 ghost use Rattle.yt_query.specs.Meanings.{reply_of};
 ghost use Rattle.yt_steps.specs.Attempts.{Attempt};
-ghost use Rattle.yt_steps.specs.Rewriting.{in_order};
+ghost use Rattle.yt_steps.specs.Rewriting.{in_order as in_order_lem};
 ghost use Rattle.yt_steps.specs.Steps.{makes, repair as repair_row, negative, step_in};
 ghost use Rattle.yt_chase.specs.Repairs.{phase_of, is_asking, tree_in};
 ghost use Rattle.yt_chase.specs.Stands.{wanted, WantsStep, TakesReply, TakesChoice, query_in, first_query, branch, drawing, settled, stand};
 ghost use Rattle.yt_chase.specs.Meanings.{want_of, writes_of, DrawsFrom};
 
-use crate::fresh::Fresh;
+use crate::fresh::{Fresh, values_at};
+use crate::generating::generated;
+use crate::looking::look_back;
+use crate::ordering::in_order;
 use crate::stages::{Generation, Stage};
 use crate::wants::{Progress, RepairWant};
 use std::alloc::Global;
 use std::marker::Model;
-use yt_base::{Choice, Mapping, MappingList, Memory, TryCopy, TupleList, WriteList};
-use yt_query::Answer;
+use yt_base::{Choice, Mapping, MappingList, Memory, Row, TryCopy, TupleList, WriteList};
+use yt_query::{Answer, Query};
 
 /// The repair of one violation, as a value. A forward repair generates the right atoms in turn; a backward one asks
 /// which tuples to delete. Contracts see where it stands.
@@ -46,7 +49,7 @@ impl Repair {
     /// of such an attempt makes this, and draws as many nulls as the mapping has existential variables. It is refused
     /// only for want of memory.
     pub fn forward(
-        _alloc: Global,
+        alloc: Global,
         number: u16,
         mapping: &Mapping,
         image: &TupleList,
@@ -56,32 +59,47 @@ impl Repair {
         ensures look { IfOk result (λ made. (P : Attempt) → DrawsFrom P fresh → repair_row P Forward number (rule_of mapping.now) (map fact_of image.now.items) ≡ drawing (phase_of made) (rule_of mapping.now).existential) }
         ensures rests { IfOk result (λ made. wanted made ≡ WantsStep) }
     {
-        Err(Memory)
+        Ok(Repair {
+            generation: Generation {
+                mapping: number,
+                binding: values_at(alloc, mapping, image, fresh)?,
+                atom: 0,
+            },
+            stage: Stage::Generating,
+        })
     }
 
     /// The repair of a violation by deletions, and the writes of the look that makes it: a single tuple of the image is
     /// deleted at once, of several a person is asked, whose question names the mapping's number. It is refused only for
     /// want of memory.
     pub fn backward(
-        _alloc: Global,
+        alloc: Global,
         number: u16,
         image: &TupleList,
     ) -> Result<(Repair, WriteList), Memory>
-        ensures look { IfOk result (λ made. makes (map change_of made.1.items) (phase_of made.0) ≡ negative number (in_order (map fact_of image.now.items))) }
+        ensures look { IfOk result (λ made. makes (map change_of made.1.items) (phase_of made.0) ≡ negative number (in_order_lem (map fact_of image.now.items))) }
         ensures rests { IfOk result (λ made. is_asking made.0 ≡ false) }
     {
-        Err(Memory)
+        let generation = Generation {
+            mapping: number,
+            binding: Row::new(alloc),
+            atom: 0,
+        };
+        let (stage, writes) = look_back(alloc, number, in_order(alloc, image)?)?;
+        Ok((Repair { generation, stage }, writes))
     }
 
     /// Begins the step that is next. It then asks. It is refused only for want of memory; the repair is then unchanged.
-    pub fn begin(&mut self, _alloc: Global, mappings: &MappingList) -> Result<(), Memory>
+    pub fn begin(&mut self, alloc: Global, mappings: &MappingList) -> Result<(), Memory>
         requires { wanted self.old ≡ WantsStep }
         ensures step { OnOk result ((P : Attempt) (c : Option ChoiceMeant) → tree_in (map rule_of mappings.now.items) self.new ≡ step_in (map rule_of mappings.now.items) P c (phase_of self.old)) }
         ensures asks { OnOk result (is_asking self.new ≡ true) }
         ensures phase { phase_of self.new ≡ phase_of self.old }
         ensures err { OnErr result (self.new ≡ self.old) }
     {
-        Err(Memory)
+        let tuple = generated(alloc, &self.generation, mappings)?;
+        self.stage = Stage::Querying(Query::Present(tuple));
+        Ok(())
     }
 
     /// Takes the answer to the query that is asked, and goes on by it. It is refused only for want of memory; the repair

@@ -12,14 +12,13 @@ pub(crate) struct Generation {
     pub(crate) atom: usize,
 }
 
-// The step of an answer `Unify`: the unifier, the query that is asked, the nulls that it moves, from which place on they
-// are still to be asked for, and the tuples found so far, answer by answer.
+// The step of an answer `Unify`: the unifier, the query that is asked, the nulls that are asked for after it, and the
+// tuples found so far, answer by answer.
 #[derive(Debug, Drop)]
 pub(crate) struct Gathering {
     pub(crate) sub: Sub,
     pub(crate) query: Query,
-    pub(crate) nulls: List<Null>,
-    pub(crate) next: usize,
+    pub(crate) later: Vec<Null>,
     pub(crate) found: List<TupleList>,
 }
 
