@@ -1,3 +1,6 @@
 pub mod Sets
 pub mod Values
 pub mod Distinct
+pub mod Asking
+pub mod Chosen
+pub mod Unified

@@ -7,8 +7,8 @@ use Rattle.yt_model.specs.Queries.{Query, Present, Specific, Reply}
 use Rattle.yt_model.specs.Updates.{Choice}
 use Rattle.yt_query.specs.Kinds.{IsOfKind}
 use Rattle.yt_frontier.specs.Inquiries.{Inquiry, inquiry_in, fits_inquiry}
-use Rattle.yt_steps.specs.Attempts.{Phase}
-use Rattle.yt_steps.specs.Steps.{Move, Asking}
+use Rattle.yt_steps.specs.Attempts.{Phase, Attempt}
+use Rattle.yt_steps.specs.Steps.{Move, Asking, step_in}
 use Rattle.yt_chase.specs.Repairs.{Repairing, Generating, Checking, Comparing, Waiting, Unifying, Repaired, phase_of, tree_in}
 
 -- What a repair wants next: the reply to a query, the answer to a question, the next step, or nothing any more.
@@ -76,3 +76,7 @@ settled p (Node q k) = Within p (Node q k)
 abbrev pub stand : List Rule → Option (List Change) → Repairing → Stand
 stand ms None s = Within (phase_of s) (tree_in ms s)
 stand ms (Some ws) s = Moved record { writes = ws; phase = phase_of s; drawn = 0 }
+
+-- By the answer to the question of s the step has come to these writes, if it has ended, and to s'.
+abbrev pub ChosenStep : List Rule → Choice → Repairing → Option (List Change) → Repairing → Type 0
+ChosenStep ms c s ws s' = (P : Attempt) → stand ms ws s' ≡ settled (phase_of s) (step_in ms P (Some c) (phase_of s))

@@ -8,13 +8,16 @@
 //! `Err` is want of memory, of which no clause can say when it comes; everything is then unchanged.
 #![tactic(auto)]
 
+mod answering;
 mod answers;
+mod choosing;
 mod comparing;
 mod fresh;
 mod generating;
 mod looking;
 mod nulls;
 mod ordering;
+mod planning;
 mod repairs;
 mod rewriting;
 mod stages;

@@ -12,6 +12,8 @@ ghost use Rattle.yt_chase.specs.Repairs.{phase_of, is_asking, tree_in};
 ghost use Rattle.yt_chase.specs.Stands.{wanted, WantsStep, TakesReply, TakesChoice, query_in, first_query, branch, drawing, settled, stand};
 ghost use Rattle.yt_chase.specs.Meanings.{want_of, writes_of, DrawsFrom};
 
+use crate::answering::answered;
+use crate::choosing::chosen;
 use crate::fresh::{Fresh, values_at};
 use crate::generating::generated;
 use crate::looking::look_back;
@@ -106,7 +108,7 @@ impl Repair {
     /// is then unchanged.
     pub fn answer(
         &mut self,
-        _alloc: Global,
+        alloc: Global,
         answer: &Answer,
         mappings: &MappingList,
     ) -> Result<Progress, Memory>
@@ -115,14 +117,20 @@ impl Repair {
         ensures asks { IfOk result (λ progress. is_asking self.new ≡ is_none (writes_of progress)) }
         ensures err { OnErr result (self.new ≡ self.old) }
     {
-        Err(Memory)
+        answered(
+            alloc,
+            &mut self.generation,
+            &mut self.stage,
+            answer,
+            mappings,
+        )
     }
 
     /// Takes the answer to the question, which fits it, and makes the step of it up to its first query or its end. It is
     /// refused only for want of memory; the repair is then unchanged.
     pub fn choose(
         &mut self,
-        _alloc: Global,
+        alloc: Global,
         choice: &Choice,
         mappings: &MappingList,
     ) -> Result<Progress, Memory>
@@ -131,7 +139,13 @@ impl Repair {
         ensures asks { IfOk result (λ progress. is_asking self.new ≡ is_none (writes_of progress)) }
         ensures err { OnErr result (self.new ≡ self.old) }
     {
-        Err(Memory)
+        chosen(
+            alloc,
+            &mut self.generation,
+            &mut self.stage,
+            choice,
+            mappings,
+        )
     }
 
     /// What is wanted next. A query is what the step under way asks first. It takes no memory.
