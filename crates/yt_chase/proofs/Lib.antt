@@ -4,3 +4,4 @@ pub mod Distinct
 pub mod Asking
 pub mod Chosen
 pub mod Unified
+pub mod Copied

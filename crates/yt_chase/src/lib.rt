@@ -12,6 +12,7 @@ mod answering;
 mod answers;
 mod choosing;
 mod comparing;
+mod copying;
 mod fresh;
 mod generating;
 mod looking;

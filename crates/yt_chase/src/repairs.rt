@@ -14,6 +14,7 @@ ghost use Rattle.yt_chase.specs.Meanings.{want_of, writes_of, DrawsFrom};
 
 use crate::answering::answered;
 use crate::choosing::chosen;
+use crate::copying::copy_stage;
 use crate::fresh::{Fresh, values_at};
 use crate::generating::generated;
 use crate::looking::look_back;
@@ -160,5 +161,22 @@ impl Repair {
             Stage::Unifying(_, gathering) => RepairWant::Query(&gathering.query),
             Stage::Repaired => RepairWant::Finished,
         }
+    }
+}
+
+impl TryCopy for Repair {
+    ghost use Rattle.yt_chase.specs.Repairs.{Repairing};
+
+    ghost Meaning = { Repairing };
+
+    ghost meaning = { λ r. r };
+
+    fn copy(&self, alloc: Global) -> Result<Repair, Memory>
+        ensures same { IfOk result (λ copy. copy ≡ self.now) }
+    {
+        Ok(Repair {
+            generation: self.generation.copy(alloc)?,
+            stage: copy_stage(alloc, &self.stage)?,
+        })
     }
 }
