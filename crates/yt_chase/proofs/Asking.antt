@@ -1,5 +1,5 @@
 -- The step of `unify` once the tuples of one of its queries are found, and nulls are left to be asked for.
-use Rattle.std.proofs.Common.{◌≡◌, ℕ, ◌<◌, ap, sym, ◌∙◌, List, [], ◌∷◌, ◌++◌, map, length, subst, arith}
+use Rattle.std.proofs.Common.{◌≡◌, ◌<◌, ap, sym, ◌∙◌, List, [], ◌∷◌, ◌++◌, map, length, subst, arith}
 use Rattle.std.proofs.lemmas.List.{append_assoc}
 use Rattle.yt_machine.specs.Trees.{Node}
 use Rattle.yt_model.specs.Values.{NullName, Datum, Fact}
@@ -10,7 +10,7 @@ use Rattle.yt_frontier.specs.declared.questions.Question.{Question}
 use Rattle.yt_frontier.specs.declared.questions.Question.TheVariants.{Positive, Negative}
 use Rattle.yt_steps.specs.Attempts.{Repair, Phase}
 use Rattle.yt_steps.specs.Steps.{gather, tuples_of}
-use Rattle.yt_chase.specs.Repairs.{Gathering, Repairing, Unifying, phase_of, tree_in, unified, asking_next}
+use Rattle.yt_chase.specs.Repairs.{Gathering, Unifying, phase_of, tree_in, unified, asking_next}
 use Rattle.yt_chase.specs.Stands.{Within, branch, settled}
 use Rattle.yt_chase.specs.Stages.{gathering_of, repair_of, unifying, repairing_of, IsSound}
 use Rattle.yt_chase.specs.declared.stages.Gathering.{Gathering as Collected}

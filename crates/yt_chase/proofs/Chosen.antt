@@ -1,5 +1,5 @@
 -- What is found among candidates is one of them.
-use Rattle.std.proofs.Common.{◌≡◌, List, [], ◌∷◌, Bool, true, false, ◌&&◌, Option, Some, find, cond, refl, subst}
+use Rattle.std.proofs.Common.{◌≡◌, List, [], ◌∷◌, Bool, true, false, ◌&&◌, Some, find, cond, refl, subst}
 use Rattle.std.specs.List.{list_all}
 use Rattle.yt_model.proofs.Bools.{differ}
 

@@ -4,7 +4,6 @@ use Rattle.std.specs.List.{list_all, flat_map}
 use Rattle.yt_model.specs.Values.{Fact}
 use Rattle.yt_model.specs.Specific.{more_specific}
 use Rattle.yt_base.specs.Listed.{Listed}
-use Rattle.yt_base.specs.declared.nulls.Null.{Null}
 use Rattle.yt_base.specs.declared.tuples.Tuple.{Tuple}
 use Rattle.yt_base.specs.Meanings.{null_of, fact_of}
 use Rattle.yt_query.specs.Meanings.{query_of}

@@ -18,7 +18,7 @@ use Rattle.yt_frontier.specs.declared.questions.Question.TheVariants.{Positive}
 use Rattle.yt_steps.specs.Attempts.{Repair, Phase, Asked, Attempt, Positive as PositiveMeant}
 use Rattle.yt_steps.specs.Questions.{candidate}
 use Rattle.yt_steps.specs.Rewriting.{in_order, rewrite, moved_nulls, next_atom}
-use Rattle.yt_steps.specs.Steps.{Asking, makes, tuples_of, gather, unify, step_in}
+use Rattle.yt_steps.specs.Steps.{makes, tuples_of, gather, unify, step_in}
 use Rattle.yt_chase.specs.Repairs.{Gathering, Unifying as UnifyingMeant, phase_of, tree_in, unified, moved_repair}
 use Rattle.yt_chase.specs.Stands.{Stand, Within, Moved, settled}
 use Rattle.yt_chase.specs.Stages.{gathering_of, repair_of, repairing_of}

@@ -1,5 +1,5 @@
 use Rattle.std.proofs.Common.{◌∙◌, ap, sym, map, filter}
-use Rattle.yt_model.specs.Values.{Fact, outer, same_fact}
+use Rattle.yt_model.specs.Values.{outer, same_fact}
 use Rattle.yt_model.specs.Specific.{more_specific}
 use Rattle.yt_model.specs.Unifier.{unifier}
 use Rattle.yt_base.specs.Meanings.{null_of, fact_of}
