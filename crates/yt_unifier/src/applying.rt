@@ -1,25 +1,32 @@
-//! Functions on nulls, applied to tuples.
-ghost use Rattle.std.specs.Prelude.{◌≡◌, IfOk};
+//! Functions on nulls, applied to tuples and rows of values.
+ghost use Rattle.std.specs.Prelude.{◌≡◌, map, IfOk};
 ghost use Rattle.yt_model.specs.Values.{under};
 ghost use Rattle.yt_base.specs.Meanings.{datum_of, fact_of};
 ghost use Rattle.yt_base.specs.Maps.{images_of, moved_by};
 
 use std::alloc::Global;
-use yt_base::{List, Memory, Sub, TryCopy, Tuple, Value};
+use yt_base::{List, Memory, Row, Sub, TryCopy, Tuple, Value};
 
 /// The tuple with each null that has an image replaced by it. It is refused only for want of memory.
 pub fn apply(alloc: Global, sub: &Sub, tuple: &Tuple) -> Result<Tuple, Memory>
     ensures value { IfOk result (λ moved. fact_of moved ≡ under (moved_by (images_of sub.now)) (fact_of tuple.now)) }
 {
-    let mut values = List::new(alloc);
-    values.reserve(tuple.values.len())?;
-    for value in tuple.values.as_slice() {
-        values.push(moved(alloc, sub, value)?)?;
-    }
     Ok(Tuple {
         relation: tuple.relation,
-        values,
+        values: apply_row(alloc, sub, &tuple.values)?,
     })
+}
+
+/// The values with each null that has an image replaced by it. It is refused only for want of memory.
+pub fn apply_row(alloc: Global, sub: &Sub, row: &Row) -> Result<Row, Memory>
+    ensures value { IfOk result (λ moved. map datum_of moved.items ≡ map (moved_by (images_of sub.now)) (map datum_of row.now.items)) }
+{
+    let mut values = List::new(alloc);
+    values.reserve(row.len())?;
+    for value in row.as_slice() {
+        values.push(moved(alloc, sub, value)?)?;
+    }
+    Ok(values)
 }
 
 // The image of the value where it is a null that has one, else the value.

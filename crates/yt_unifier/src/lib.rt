@@ -15,7 +15,7 @@ mod nulls;
 mod specific;
 mod unifying;
 
-pub use crate::applying::apply;
+pub use crate::applying::{apply, apply_row};
 pub use crate::finding::candidates;
 pub use crate::specific::{is_more_specific, specific_by};
 pub use crate::unifying::unifier;

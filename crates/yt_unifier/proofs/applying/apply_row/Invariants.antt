@@ -1,7 +1,7 @@
 use Rattle.std.proofs.Common.{◌≡◌, map, take}
 use Rattle.yt_base.specs.Meanings.{datum_of}
 use Rattle.yt_base.specs.Maps.{images_of, moved_by}
-use Rattle.yt_unifier.proofs.applying.apply.Given as goal
+use Rattle.yt_unifier.proofs.applying.apply_row.Given as goal
 
 -- The values so far are the images of those that were gone over.
 abbrev pub invariant-loop-value : goal.invariant-loop-value

@@ -1,0 +1,5 @@
+pub mod Repairs
+pub mod Stands
+pub mod Meanings
+pub mod Stages
+pub mod Nulls

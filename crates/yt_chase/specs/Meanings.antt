@@ -1,0 +1,31 @@
+-- What the types of this crate mean, in the terms of the steps of the chase.
+use Rattle.std.specs.Prelude.{◌≡◌, List, map, Option, Some, None}
+use Rattle.yt_model.specs.Repository.{Change}
+use Rattle.yt_base.specs.Meanings.{change_of}
+use Rattle.yt_query.specs.Meanings.{query_of}
+use Rattle.yt_frontier.specs.Inquiries.{inquiry_of}
+use Rattle.yt_steps.specs.Attempts.{Attempt}
+use Rattle.yt_chase.specs.Stands.{Wanted, WantsReply, WantsChoice, WantsStep, WantsNothing}
+use Rattle.yt_chase.specs.declared.wants.RepairWant.{RepairWant}
+use Rattle.yt_chase.specs.declared.wants.RepairWant.TheVariants.{Query, Question, NextStep, Finished}
+use Rattle.yt_chase.specs.declared.wants.Progress.{Progress}
+use Rattle.yt_chase.specs.declared.wants.Progress.TheVariants.{Asks, Ends}
+use Rattle.yt_chase.specs.declared.fresh.Fresh.{Fresh}
+
+-- What a `RepairWant` says is wanted.
+abbrev pub want_of : RepairWant → Wanted
+want_of (Query q) = WantsReply (query_of q.now)
+want_of (Question q) = WantsChoice (inquiry_of q.now)
+want_of NextStep = WantsStep
+want_of Finished = WantsNothing
+
+-- The writes of a step that has ended.
+abbrev pub writes_of : Progress → Option (List Change)
+writes_of Asks = None
+writes_of (Ends ws) = Some (map change_of ws.items)
+
+-- The attempt draws its next null where the fresh ones begin.
+pub record DrawsFrom (P : Attempt) (f : Fresh) : Type 0 where
+  pub update : P.number ≡ f.update
+  pub attempt : P.attempt ≡ f.attempt
+  pub drawn : P.nulls ≡ f.drawn

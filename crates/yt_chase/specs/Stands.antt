@@ -1,0 +1,82 @@
+-- What a repair wants next, which replies and answers it takes, and what a step has come to.
+use Rattle.std.specs.Prelude.{◌≡◌, ℕ, true, List, [], Option, Some, None}
+use Rattle.yt_machine.specs.Trees.{Leaf, Node}
+use Rattle.yt_model.specs.Repository.{Change}
+use Rattle.yt_model.specs.Mappings.{Rule}
+use Rattle.yt_model.specs.Queries.{Query, Present, Specific, Reply}
+use Rattle.yt_model.specs.Updates.{Choice}
+use Rattle.yt_query.specs.Kinds.{IsOfKind}
+use Rattle.yt_frontier.specs.Inquiries.{Inquiry, inquiry_in, fits_inquiry}
+use Rattle.yt_steps.specs.Attempts.{Phase, Attempt}
+use Rattle.yt_steps.specs.Steps.{Move, Asking, step_in}
+use Rattle.yt_chase.specs.Repairs.{Repairing, Generating, Checking, Comparing, Waiting, Unifying, Repaired, phase_of, tree_in}
+
+-- What a repair wants next: the reply to a query, the answer to a question, the next step, or nothing any more.
+pub data Wanted : Type 0 where
+  WantsReply : Query → Wanted
+  WantsChoice : Inquiry → Wanted
+  WantsStep : Wanted
+  WantsNothing : Wanted
+
+-- What the repair wants.
+abbrev pub wanted : Repairing → Wanted
+wanted (Generating r) = WantsStep
+wanted (Checking r t) = WantsReply (Present t)
+wanted (Comparing r t) = WantsReply (Specific t)
+wanted (Waiting q) = WantsChoice (inquiry_in q)
+wanted (Unifying r t cs g) = WantsReply g.query
+wanted Repaired = WantsNothing
+
+-- The reply to a query is wanted, and this one is of its kind.
+abbrev pub TakesReply : List Rule → Wanted → Reply → Type 0
+TakesReply ms (WantsReply q) a = IsOfKind ms q a
+TakesReply ms (WantsChoice i) a = ⊥
+TakesReply ms WantsStep a = ⊥
+TakesReply ms WantsNothing a = ⊥
+
+-- The answer to a question is wanted, and this one fits.
+abbrev pub TakesChoice : Wanted → Choice → Type 0
+TakesChoice (WantsReply q) c = ⊥
+TakesChoice (WantsChoice i) c = fits_inquiry i c ≡ true
+TakesChoice WantsStep c = ⊥
+TakesChoice WantsNothing c = ⊥
+
+-- The query whose reply is wanted, if one is.
+abbrev pub query_in : Wanted → Option Query
+query_in (WantsReply q) = Some q
+query_in (WantsChoice i) = None
+query_in WantsStep = None
+query_in WantsNothing = None
+
+-- The query that is asked first, if one is.
+abbrev pub first_query : Asking → Option Query
+first_query (Leaf m) = None
+first_query (Node q k) = Some q
+
+-- How it goes on by the reply to the first query.
+abbrev pub branch : Asking → Reply → Asking
+branch (Leaf m) a = Leaf m
+branch (Node q k) a = k a
+
+-- What a step has come to: it is within the step of this phase, with this still to be asked and done; or it has made this move.
+pub data Stand : Type 0 where
+  Within : Phase → Asking → Stand
+  Moved : Move → Stand
+
+-- The move of a look that draws n nulls, writes nothing, and leaves this phase.
+abbrev pub drawing : Phase → ℕ → Asking
+drawing p n = Leaf record { writes = []; phase = p; drawn = n }
+
+-- The step of a phase of which this is still to be asked and done.
+abbrev pub settled : Phase → Asking → Stand
+settled p (Leaf m) = Moved m
+settled p (Node q k) = Within p (Node q k)
+
+-- A step of the repair that asks on, or has ended with these writes.
+abbrev pub stand : List Rule → Option (List Change) → Repairing → Stand
+stand ms None s = Within (phase_of s) (tree_in ms s)
+stand ms (Some ws) s = Moved record { writes = ws; phase = phase_of s; drawn = 0 }
+
+-- By the answer to the question of s the step has come to these writes, if it has ended, and to s'.
+abbrev pub ChosenStep : List Rule → Choice → Repairing → Option (List Change) → Repairing → Type 0
+ChosenStep ms c s ws s' = (P : Attempt) → stand ms ws s' ≡ settled (phase_of s) (step_in ms P (Some c) (phase_of s))

@@ -1,0 +1,81 @@
+//! How a step goes on by the answer to its query.
+ghost use Rattle.std.specs.Prelude.{◌≡◌, is_none, map, IfOk, OnErr};
+ghost use Rattle.yt_base.specs.declared.tuples.Tuple.{Tuple};
+ghost use Rattle.yt_base.specs.Meanings.{rule_of};
+ghost use Rattle.yt_query.specs.Meanings.{reply_of};
+ghost use Rattle.yt_chase.specs.Repairs.{phase_of, is_asking, tree_in};
+ghost use Rattle.yt_chase.specs.Stands.{wanted, TakesReply, branch, settled, stand};
+ghost use Rattle.yt_chase.specs.Meanings.{writes_of};
+ghost use Rattle.yt_chase.specs.Stages.{repairing_of, IsSound};
+
+use crate::answers::{is_yes, tuples_of};
+use crate::comparing::compared;
+use crate::generating::go_on;
+use crate::stages::{Generation, Stage};
+use crate::unifying::{all_found, ask_next, unify};
+use crate::wants::Progress;
+use std::alloc::Global;
+use std::mem;
+use yt_base::{MappingList, Memory, WriteList};
+use yt_query::{Answer, Query};
+
+/// Goes on by the answer to the query of this stage. It is refused only for want of memory; the repair then stands where
+/// it stood.
+pub(crate) fn answered(
+    alloc: Global,
+    generation: &mut Generation,
+    stage: &mut Stage,
+    answer: &Answer,
+    mappings: &MappingList,
+) -> Result<Progress, Memory>
+    requires fits { IsSound generation.old stage.old }
+    requires reply { TakesReply (map rule_of mappings.now.items) (wanted (repairing_of generation.old stage.old)) (reply_of answer.now) }
+    ensures step { IfOk result (λ progress. stand (map rule_of mappings.now.items) (writes_of progress) (repairing_of generation.new stage.new) ≡ settled (phase_of (repairing_of generation.old stage.old)) (branch (tree_in (map rule_of mappings.now.items) (repairing_of generation.old stage.old)) (reply_of answer.now))) }
+    ensures asks { IfOk result (λ progress. is_asking (repairing_of generation.new stage.new) ≡ is_none (writes_of progress)) }
+    ensures sound { IsSound generation.new stage.new }
+    ensures err { OnErr result (repairing_of generation.new stage.new ≡ repairing_of generation.old stage.old) }
+{
+    match stage {
+        Stage::Querying(Query::Present(_)) => {
+            if is_yes(answer) {
+                *stage = go_on(generation, mappings);
+                Ok(Progress::Ends(WriteList::new(alloc)))
+            } else {
+                *stage = compare(mem::replace(stage, Stage::Repaired));
+                Ok(Progress::Asks)
+            }
+        }
+        Stage::Querying(Query::Specific(tuple)) => {
+            let (next, writes) = compared(alloc, generation, tuple, tuples_of(answer), mappings)?;
+            *stage = next;
+            Ok(Progress::Ends(writes))
+        }
+        Stage::Unifying(_, gathering) => {
+            let tuples = tuples_of(answer);
+            if gathering.later.is_empty() {
+                let all = all_found(alloc, gathering, tuples)?;
+                let (next, writes) = unify(alloc, generation, &gathering.sub, &all, mappings)?;
+                *stage = next;
+                Ok(Progress::Ends(writes))
+            } else {
+                ask_next(alloc, gathering, tuples)?;
+                Ok(Progress::Asks)
+            }
+        }
+        Stage::Querying(Query::Violation(_)) => unreachable!(),
+        Stage::Querying(Query::Occurs(_, _)) => unreachable!(),
+        Stage::Generating => unreachable!(),
+        Stage::Waiting(_) => unreachable!(),
+        Stage::Repaired => unreachable!(),
+    }
+}
+
+// The stage that asks for more specific tuples, after the one that asks whether the tuple is present.
+fn compare(stage: Stage) -> Stage
+    ensures { (t : Tuple) → stage ≡ Stage.Querying (Query.Present t) → result ≡ Stage.Querying (Query.Specific t) }
+{
+    match stage {
+        Stage::Querying(Query::Present(tuple)) => Stage::Querying(Query::Specific(tuple)),
+        other => other,
+    }
+}

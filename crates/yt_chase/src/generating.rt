@@ -1,0 +1,88 @@
+//! The right atoms of a repair in hand: the tuple that is generated for one, and which one comes next.
+ghost use Rattle.std.specs.Prelude.{◌≡◌, false, pos, map, slice_get, IfOk};
+ghost use Rattle.yt_model.specs.Mappings.{value_under, fact_under, listed as listed_lem};
+ghost use Rattle.yt_base.specs.Meanings.{datum_of, fact_of, slot_of, pattern_of, rule_of};
+ghost use Rattle.yt_steps.specs.Rewriting.{right_atoms as right_atoms_lem, generated as generated_lem, next_atom};
+ghost use Rattle.yt_chase.specs.Repairs.{phase_of, is_asking};
+ghost use Rattle.yt_chase.specs.Stages.{repair_of, repairing_of, IsSound};
+
+use crate::stages::{Generation, Stage};
+use std::alloc::Global;
+use yt_base::{Atom, List, MappingList, Memory, Row, Term, TermRow, TryCopy, Tuple, Value};
+
+/// The tuple that the repair generates next. It is refused only for want of memory.
+pub(crate) fn generated(
+    alloc: Global,
+    generation: &Generation,
+    mappings: &MappingList,
+) -> Result<Tuple, Memory>
+    ensures value { IfOk result (λ tuple. fact_of tuple ≡ generated_lem (map rule_of mappings.now.items) (repair_of generation.now)) }
+{
+    match right_atoms(mappings, generation.mapping).get(generation.atom) {
+        Some(atom) => tuple_under(alloc, &generation.binding, atom),
+        None => Ok(Tuple {
+            relation: 0,
+            values: List::new(alloc),
+        }),
+    }
+}
+
+/// The stage after a right atom: the next one is to be generated, or the repair is at its end. It takes no memory.
+pub(crate) fn go_on(generation: &mut Generation, mappings: &MappingList) -> Stage
+    ensures phase { phase_of (repairing_of generation.new result) ≡ next_atom (map rule_of mappings.now.items) (repair_of generation.old) }
+    ensures rests { is_asking (repairing_of generation.new result) ≡ false }
+    ensures sound { IsSound generation.new result }
+{
+    let count = right_atoms(mappings, generation.mapping).len();
+    if count > 0 && generation.atom < count - 1 {
+        generation.atom += 1;
+        Stage::Generating
+    } else {
+        Stage::Repaired
+    }
+}
+
+// The right atoms of the mapping of this number; none where there is no such mapping.
+fn right_atoms(mappings: &MappingList, number: u16) -> &[Atom]
+    ensures atoms { map pattern_of result.now ≡ right_atoms_lem (slice_get (map rule_of mappings.now.items) number) }
+{
+    match mappings.get(number as usize) {
+        Some(mapping) => mapping.right.as_slice(),
+        None => &[],
+    }
+}
+
+// The tuple that the atom is under the values.
+fn tuple_under(alloc: Global, binding: &Row, atom: &Atom) -> Result<Tuple, Memory>
+    ensures value { IfOk result (λ tuple. fact_of tuple ≡ fact_under (listed_lem (map datum_of binding.now.items)) (pattern_of atom.now)) }
+{
+    Ok(Tuple {
+        relation: atom.relation,
+        values: values_under(alloc, binding, &atom.terms)?,
+    })
+}
+
+// The values of the terms under the values of the variables.
+fn values_under(alloc: Global, binding: &Row, terms: &TermRow) -> Result<Row, Memory>
+    ensures value { IfOk result (λ values. map datum_of values.items ≡ map (value_under (listed_lem (map datum_of binding.now.items))) (map slot_of terms.now.items)) }
+{
+    let mut values = List::new(alloc);
+    values.reserve(terms.len())?;
+    for term in terms.as_slice() {
+        values.push(value_of(alloc, binding, term)?)?;
+    }
+    Ok(values)
+}
+
+// The value of the term; the number 0 for a variable that has none.
+fn value_of(alloc: Global, binding: &Row, term: &Term) -> Result<Value, Memory>
+    ensures value { IfOk result (λ value. datum_of value ≡ value_under (listed_lem (map datum_of binding.now.items)) (slot_of term.now)) }
+{
+    match term {
+        Term::Const(value) => value.copy(alloc),
+        Term::Var(variable) => match binding.get(*variable as usize) {
+            Some(value) => value.copy(alloc),
+            None => Ok(Value::Int(0)),
+        },
+    }
+}

@@ -1,0 +1,35 @@
+//! The end of a look that found a violation to be repaired by deletions.
+ghost use Rattle.std.specs.Prelude.{◌≡◌, false, map, IfOk};
+ghost use Rattle.yt_base.specs.Meanings.{fact_of, change_of};
+ghost use Rattle.yt_steps.specs.Steps.{makes, negative};
+ghost use Rattle.yt_chase.specs.Repairs.{phase_of, is_asking};
+ghost use Rattle.yt_chase.specs.Stages.{repairing_of, IsSound};
+ghost use Rattle.yt_chase.specs.declared.stages.Generation.{Generation};
+
+use crate::rewriting::deletions;
+use crate::stages::Stage;
+use std::alloc::Global;
+use yt_base::{List, Memory, TupleList, WriteList};
+use yt_frontier::Question;
+
+/// A single tuple is deleted; of several a person is asked which, in a question that names the mapping's number. It is
+/// refused only for want of memory.
+pub(crate) fn look_back(
+    alloc: Global,
+    number: u16,
+    tuples: TupleList,
+) -> Result<(Stage, WriteList), Memory>
+    ensures look { IfOk result (λ end. (g : Generation) → makes (map change_of end.1.items) (phase_of (repairing_of g end.0)) ≡ negative number (map fact_of tuples.items)) }
+    ensures rests { IfOk result (λ end. (g : Generation) → is_asking (repairing_of g end.0) ≡ false) }
+    ensures sound { IfOk result (λ end. (g : Generation) → IsSound g end.0) }
+{
+    if tuples.len() > 1 {
+        let question = Question::Negative {
+            mapping: number,
+            tuples,
+        };
+        Ok((Stage::Waiting(question), List::new(alloc)))
+    } else {
+        Ok((Stage::Repaired, deletions(alloc, tuples)?))
+    }
+}

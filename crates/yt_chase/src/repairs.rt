@@ -1,0 +1,182 @@
+//! The repair of one violation, which asks queries and questions and takes their answers.
+ghost use Rattle.std.specs.Prelude.{◌≡◌, ◌+◌, ◌<◌, ◌^◌, true, false, None, Some, is_none, List, Option, map, IfOk, OnOk, OnErr};
+ghost use Rattle.yt_model.specs.Mappings.{Rule};
+ghost use Rattle.yt_model.specs.Updates.{Choice as ChoiceMeant};
+ghost use Rattle.yt_model.specs.Violations.{Forward};
+ghost use Rattle.yt_base.specs.Meanings.{fact_of, change_of, choice_of, rule_of};
+ghost use Rattle.yt_query.specs.Meanings.{reply_of};
+ghost use Rattle.yt_steps.specs.Attempts.{Attempt};
+ghost use Rattle.yt_steps.specs.Rewriting.{in_order as in_order_lem};
+ghost use Rattle.yt_steps.specs.Steps.{makes, repair as repair_row, negative, step_in};
+ghost use Rattle.yt_chase.specs.Repairs.{phase_of, is_asking, tree_in};
+ghost use Rattle.yt_chase.specs.Stands.{wanted, WantsStep, TakesReply, TakesChoice, query_in, first_query, branch, drawing, settled, stand};
+ghost use Rattle.yt_chase.specs.Meanings.{want_of, writes_of, DrawsFrom};
+
+use crate::answering::answered;
+use crate::choosing::chosen;
+use crate::copying::copy_stage;
+use crate::fresh::{Fresh, values_at};
+use crate::generating::generated;
+use crate::looking::look_back;
+use crate::ordering::in_order;
+use crate::stages::{Generation, Stage};
+use crate::wants::{Progress, RepairWant};
+use std::alloc::Global;
+use std::marker::Model;
+use yt_base::{Choice, Mapping, MappingList, Memory, Row, TryCopy, TupleList, WriteList};
+use yt_query::{Answer, Query};
+
+/// The repair of one violation, as a value. A forward repair generates the right atoms in turn; a backward one asks
+/// which tuples to delete. Contracts see where it stands.
+#[derive(Debug, Drop)]
+pub struct Repair {
+    generation: Generation,
+    stage: Stage,
+}
+
+impl Model for Repair {
+    ghost use Rattle.yt_chase.specs.Repairs.{Repairing};
+
+    ghost Value = { Repairing };
+
+    ghost use Rattle.yt_chase.specs.Stages.{repairing_of, IsSound};
+
+    ghost view = { λ r. repairing_of r.generation r.stage };
+
+    ghost invariant = { λ r. IsSound r.generation r.stage };
+}
+
+impl Repair {
+    /// The repair of a violation by insertions: the variables on the left have their values at the image, each
+    /// existential one a fresh null, and the right atoms are to be generated in turn. `number` is the mapping's. A look
+    /// of such an attempt makes this, and draws as many nulls as the mapping has existential variables. It is refused
+    /// only for want of memory.
+    pub fn forward(
+        alloc: Global,
+        number: u16,
+        mapping: &Mapping,
+        image: &TupleList,
+        fresh: Fresh,
+    ) -> Result<Repair, Memory>
+        requires { fresh.drawn + (rule_of mapping.now).existential < 2 ^ 32 }
+        ensures look { IfOk result (λ made. (P : Attempt) → DrawsFrom P fresh → repair_row P Forward number (rule_of mapping.now) (map fact_of image.now.items) ≡ drawing (phase_of made) (rule_of mapping.now).existential) }
+        ensures rests { IfOk result (λ made. wanted made ≡ WantsStep) }
+    {
+        Ok(Repair {
+            generation: Generation {
+                mapping: number,
+                binding: values_at(alloc, mapping, image, fresh)?,
+                atom: 0,
+            },
+            stage: Stage::Generating,
+        })
+    }
+
+    /// The repair of a violation by deletions, and the writes of the look that makes it: a single tuple of the image is
+    /// deleted at once, of several a person is asked, whose question names the mapping's number. It is refused only for
+    /// want of memory.
+    pub fn backward(
+        alloc: Global,
+        number: u16,
+        image: &TupleList,
+    ) -> Result<(Repair, WriteList), Memory>
+        ensures look { IfOk result (λ made. makes (map change_of made.1.items) (phase_of made.0) ≡ negative number (in_order_lem (map fact_of image.now.items))) }
+        ensures rests { IfOk result (λ made. is_asking made.0 ≡ false) }
+    {
+        let generation = Generation {
+            mapping: number,
+            binding: Row::new(alloc),
+            atom: 0,
+        };
+        let (stage, writes) = look_back(alloc, number, in_order(alloc, image)?)?;
+        Ok((Repair { generation, stage }, writes))
+    }
+
+    /// Begins the step that is next. It then asks. It is refused only for want of memory; the repair is then unchanged.
+    pub fn begin(&mut self, alloc: Global, mappings: &MappingList) -> Result<(), Memory>
+        requires { wanted self.old ≡ WantsStep }
+        ensures step { OnOk result ((P : Attempt) (c : Option ChoiceMeant) → tree_in (map rule_of mappings.now.items) self.new ≡ step_in (map rule_of mappings.now.items) P c (phase_of self.old)) }
+        ensures asks { OnOk result (is_asking self.new ≡ true) }
+        ensures phase { phase_of self.new ≡ phase_of self.old }
+        ensures err { OnErr result (self.new ≡ self.old) }
+    {
+        let tuple = generated(alloc, &self.generation, mappings)?;
+        self.stage = Stage::Querying(Query::Present(tuple));
+        Ok(())
+    }
+
+    /// Takes the answer to the query that is asked, and goes on by it. It is refused only for want of memory; the repair
+    /// is then unchanged.
+    pub fn answer(
+        &mut self,
+        alloc: Global,
+        answer: &Answer,
+        mappings: &MappingList,
+    ) -> Result<Progress, Memory>
+        requires { TakesReply (map rule_of mappings.now.items) (wanted self.old) (reply_of answer.now) }
+        ensures step { IfOk result (λ progress. stand (map rule_of mappings.now.items) (writes_of progress) self.new ≡ settled (phase_of self.old) (branch (tree_in (map rule_of mappings.now.items) self.old) (reply_of answer.now))) }
+        ensures asks { IfOk result (λ progress. is_asking self.new ≡ is_none (writes_of progress)) }
+        ensures err { OnErr result (self.new ≡ self.old) }
+    {
+        answered(
+            alloc,
+            &mut self.generation,
+            &mut self.stage,
+            answer,
+            mappings,
+        )
+    }
+
+    /// Takes the answer to the question, which fits it, and makes the step of it up to its first query or its end. It is
+    /// refused only for want of memory; the repair is then unchanged.
+    pub fn choose(
+        &mut self,
+        alloc: Global,
+        choice: &Choice,
+        mappings: &MappingList,
+    ) -> Result<Progress, Memory>
+        requires { TakesChoice (wanted self.old) (choice_of choice.now) }
+        ensures step { IfOk result (λ progress. (P : Attempt) → stand (map rule_of mappings.now.items) (writes_of progress) self.new ≡ settled (phase_of self.old) (step_in (map rule_of mappings.now.items) P (Some (choice_of choice.now)) (phase_of self.old))) }
+        ensures asks { IfOk result (λ progress. is_asking self.new ≡ is_none (writes_of progress)) }
+        ensures err { OnErr result (self.new ≡ self.old) }
+    {
+        chosen(
+            alloc,
+            &mut self.generation,
+            &mut self.stage,
+            choice,
+            mappings,
+        )
+    }
+
+    /// What is wanted next. A query is what the step under way asks first. It takes no memory.
+    pub fn wants(&self) -> RepairWant<'_>
+        ensures want { want_of result ≡ wanted self.now }
+        ensures query { (ms : List Rule) → first_query (tree_in ms self.now) ≡ query_in (want_of result) }
+    {
+        match &self.stage {
+            Stage::Generating => RepairWant::NextStep,
+            Stage::Querying(query) => RepairWant::Query(query),
+            Stage::Waiting(question) => RepairWant::Question(question),
+            Stage::Unifying(_, gathering) => RepairWant::Query(&gathering.query),
+            Stage::Repaired => RepairWant::Finished,
+        }
+    }
+}
+
+impl TryCopy for Repair {
+    ghost use Rattle.yt_chase.specs.Repairs.{Repairing};
+
+    ghost Meaning = { Repairing };
+
+    ghost meaning = { λ r. r };
+
+    fn copy(&self, alloc: Global) -> Result<Repair, Memory>
+        ensures same { IfOk result (λ copy. copy ≡ self.now) }
+    {
+        Ok(Repair {
+            generation: self.generation.copy(alloc)?,
+            stage: copy_stage(alloc, &self.stage)?,
+        })
+    }
+}

@@ -1,0 +1,73 @@
+//! The step of an answer `Unify`: the tuples that hold the nulls which move, and their rewriting by the unifier.
+ghost use Rattle.std.specs.Prelude.{◌≡◌, ◌<◌, ◌++◌, false, length, map, IfOk, OnOk, OnErr};
+ghost use Rattle.std.specs.List.{flat_map};
+ghost use Rattle.yt_base.specs.Meanings.{fact_of, change_of, rule_of};
+ghost use Rattle.yt_base.specs.Maps.{images_of, moved_by};
+ghost use Rattle.yt_steps.specs.Rewriting.{in_order, rewrite as rewrite_lem, next_atom};
+ghost use Rattle.yt_steps.specs.Steps.{makes};
+ghost use Rattle.yt_chase.specs.Repairs.{phase_of, is_asking, moved_repair, asking_next};
+ghost use Rattle.yt_chase.specs.Stages.{repair_of, gathering_of, repairing_of, IsSound};
+
+use crate::answers::copies;
+use crate::generating::go_on;
+use crate::ordering::{listed, put_copies};
+use crate::rewriting::rewrite;
+use crate::stages::{Gathering, Generation, Stage};
+use std::alloc::Global;
+use std::collections::BTreeSet;
+use yt_base::{List, MappingList, Memory, Sub, Tuple, TupleList, WriteList};
+use yt_query::Query;
+use yt_unifier::apply_row;
+
+/// Keeps the tuples that were found, and asks for the next null. It is refused only for want of memory; the step is then
+/// where it was.
+pub(crate) fn ask_next(
+    alloc: Global,
+    gathering: &mut Gathering,
+    tuples: &[Tuple],
+) -> Result<(), Memory>
+    requires { 0 < length gathering.old.later.items }
+    ensures ok { OnOk result (gathering_of gathering.new ≡ asking_next (gathering_of gathering.old).later (gathering_of gathering.old) (map fact_of tuples.now)) }
+    ensures err { OnErr result (gathering_of gathering.new ≡ gathering_of gathering.old) }
+{
+    gathering.found.push(copies(alloc, tuples)?)?;
+    let null = gathering.later.remove(0);
+    gathering.query = Query::Occurs(null.update, null.place);
+    Ok(())
+}
+
+/// The tuples found in the step, with the last ones, in order. It is refused only for want of memory.
+pub(crate) fn all_found(
+    alloc: Global,
+    gathering: &Gathering,
+    last: &[Tuple],
+) -> Result<TupleList, Memory>
+    ensures value { IfOk result (λ list. map fact_of list.items ≡ in_order ((gathering_of gathering.now).found ++ map fact_of last.now)) }
+{
+    let mut set = BTreeSet::new(alloc);
+    for tuples in gathering.found.as_slice() {
+        put_copies(alloc, &mut set, tuples.as_slice())?;
+    }
+    put_copies(alloc, &mut set, last)?;
+    listed(alloc, set)
+}
+
+/// The end of the step: the unifier goes through the tuples, and through the values of the repair in hand. It is refused
+/// only for want of memory; the repair in hand is then unchanged.
+pub(crate) fn unify(
+    alloc: Global,
+    generation: &mut Generation,
+    sub: &Sub,
+    tuples: &TupleList,
+    mappings: &MappingList,
+) -> Result<(Stage, WriteList), Memory>
+    ensures writes { IfOk result (λ end. map change_of end.1.items ≡ rewrite_lem (moved_by (images_of sub.now)) (map fact_of tuples.now.items)) }
+    ensures phase { IfOk result (λ end. phase_of (repairing_of generation.new end.0) ≡ next_atom (map rule_of mappings.now.items) (moved_repair (moved_by (images_of sub.now)) (repair_of generation.old))) }
+    ensures rests { IfOk result (λ end. is_asking (repairing_of generation.new end.0) ≡ false) }
+    ensures sound { IfOk result (λ end. IsSound generation.new end.0) }
+    ensures err { OnErr result (generation.new ≡ generation.old) }
+{
+    let writes = rewrite(alloc, sub, tuples)?;
+    generation.binding = apply_row(alloc, sub, &generation.binding)?;
+    Ok((go_on(generation, mappings), writes))
+}
