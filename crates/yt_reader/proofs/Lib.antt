@@ -1,6 +1,5 @@
-pub mod Places
-pub mod Counted
+pub mod Cut
 pub mod Encoded
 pub mod Lexed
 pub mod Loop
-pub mod Cut
+pub mod Places

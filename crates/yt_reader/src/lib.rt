@@ -1,5 +1,8 @@
-//! From bytes to a session: lines, their words and statements, the first fault, and what users are told
-//! of it.
+//! From bytes to a session, or to the first thing that is wrong with them and what users are told of it;
+//! and from the text of a fact to a tuple.
+//!
+//! The clauses speak by the definitions of `yt_grammar`: `Spells bytes s` says that the bytes spell the
+//! session, and `IsFirstFault bytes wrong` that this is wrong with them first.
 #![tactic(auto)]
 
 mod faults;
