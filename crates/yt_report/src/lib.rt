@@ -1,0 +1,18 @@
+//! The texts that tell of a run: the result text, and a question on its own.
+//!
+//! Each line is words laid out as those of a session, on one `Page`. A contract says which lines a page has gained, by
+//! the definitions of `specs/Results.antt`.
+#![tactic(auto)]
+
+mod finishes;
+mod named;
+mod questions;
+mod repositories;
+mod results;
+mod rows;
+
+pub use crate::results::{question_lines, question_text, result_text};
+pub use crate::rows::worked_results;
+
+#[cfg(test)]
+mod tests;
