@@ -7,12 +7,15 @@
 mod finishes;
 mod named;
 mod questions;
+mod renaming;
 mod repositories;
 mod results;
 mod rows;
+mod saving;
 
 pub use crate::results::{question_lines, question_text, result_text};
-pub use crate::rows::worked_results;
+pub use crate::rows::{worked_results, worked_saves};
+pub use crate::saving::{SaveRefusal, saved};
 
 #[cfg(test)]
 mod tests;
