@@ -1,6 +1,7 @@
 -- Sorted lists of keys: what is put into one by what it means, and how many of its keys are below a key.
 use Rattle.std.proofs.Common.{◌≡◌, ◌∙◌, ℕ, zero, suc, ◌+◌, ◌<◌, ◌≤◌, Bool, true, false, List, [], ◌∷◌, length, map, refl, sym, ap, arith, cond}
 use Rattle.std.specs.Prelude.{count_by, slice_index_or}
+use Rattle.std.proofs.lemmas.List.Recursion.{is_count_by}
 use Rattle.std.specs.Cmp.{IsTotalOrder}
 use Rattle.std.specs.BTreeSet.{insert_key}
 use Rattle.std.specs.Ordering.{is_lt, match_ordering, on}
@@ -46,19 +47,32 @@ below_in_front cmp total (x ∷ xs) n s zero (suc j) d le lt h =
 below_in_front cmp total (x ∷ xs) n s (suc i) zero d le lt h = absurd (omega arith)
 below_in_front cmp total (x ∷ xs) n s (suc i) (suc j) d le lt h = below_in_front cmp total xs n s.1 i j d (omega arith) (omega arith) h
 
+-- how many pass, one by one
+abbrev passing : {A : Type 0} → (A → Bool) → List A → ℕ
+passing p [] = 0
+passing p (x ∷ xs) = cond (p x) (1 + passing p xs) (passing p xs)
+
+passing_is : {A : Type 0} (p : A → Bool) (xs : List A) → passing p xs ≡ count_by p xs
+passing_is p xs = is_count_by (passing p) p refl (λ y ys. refl) xs
+
 -- where those that pass stand in front of a place, it is their number
+in_front : {A : Type 0} (p : A → Bool) (xs : List A) (i : ℕ) → i ≤ length xs → IsPartitionPoint (λ y. p y ≡ true) (λ y. p y ≡ false) xs i → i ≡ passing p xs
+in_front p [] i le h = omega arith
+in_front p (x ∷ xs) zero le h =
+    in_front p xs 0 (omega arith) ((λ k d lo hi. absurd (omega arith)), (λ k d lo hi. h.1 (suc k) d (omega arith) (omega arith)))
+    ∙ sym (ap (λ (b : Bool). cond b (1 + passing p xs) (passing p xs)) (h.1 0 x (omega arith) (omega arith)))
+in_front p (x ∷ xs) (suc i) le h =
+    let rest : i ≡ passing p xs = in_front p xs i (omega arith) ((λ k d lo hi. h.0 (suc k) d (omega arith) (omega arith)), (λ k d lo hi. h.1 (suc k) d (omega arith) (omega arith))) in
+    let more : suc i ≡ 1 + passing p xs = omega (arith, rest) in
+    more ∙ sym (ap (λ (b : Bool). cond b (1 + passing p xs) (passing p xs)) (h.0 0 x (omega arith) (omega arith)))
+
 pub count_in_front : {A : Type 0} (p : A → Bool) (xs : List A) (i : ℕ) → i ≤ length xs → IsPartitionPoint (λ y. p y ≡ true) (λ y. p y ≡ false) xs i → i ≡ count_by p xs
-count_in_front p [] i le h = omega arith
-count_in_front p (x ∷ xs) zero le h =
-    let rest : 0 ≡ count_by p xs = count_in_front p xs 0 (omega arith) ((λ k d lo hi. absurd (omega arith)), (λ k d lo hi. h.1 (suc k) d (omega arith) (omega arith))) in
-    let out : p x ≡ false = h.1 0 x (omega arith) (omega arith) in
-    rw (out, ← rest) refl
-count_in_front p (x ∷ xs) (suc i) le h =
-    let rest : i ≡ count_by p xs = count_in_front p xs i (omega arith) ((λ k d lo hi. h.0 (suc k) d (omega arith) (omega arith)), (λ k d lo hi. h.1 (suc k) d (omega arith) (omega arith))) in
-    let in' : p x ≡ true = h.0 0 x (omega arith) (omega arith) in
-    rw (in', ← rest) refl
+count_in_front p xs i le h = in_front p xs i le h ∙ passing_is p xs
+
+images_passing : {A B : Type 0} (f : A → B) (p : B → Bool) (xs : List A) → passing (λ x. p (f x)) xs ≡ passing p (map f xs)
+images_passing f p [] = refl
+images_passing f p (x ∷ xs) = ap (λ (n : ℕ). cond (p (f x)) (1 + n) n) (images_passing f p xs)
 
 -- how many of the images pass
 pub count_meant : {A B : Type 0} (f : A → B) (p : B → Bool) (xs : List A) → count_by (λ x. p (f x)) xs ≡ count_by p (map f xs)
-count_meant f p [] = refl
-count_meant f p (x ∷ xs) = ap (λ (n : ℕ). cond (p (f x)) 1 0 + n) (count_meant f p xs)
+count_meant f p xs = sym (passing_is (λ x. p (f x)) xs) ∙ images_passing f p xs ∙ passing_is p (map f xs)

@@ -1,6 +1,6 @@
 //! The saved session, and why it is refused.
 
-ghost use Rattle.std.specs.Prelude.{◌≡◌, false, [], ◌∷◌, ◌++◌, map, IfOk, IfErr, OnOk};
+ghost use Rattle.std.specs.Prelude.{◌≡◌, false, ◌||◌, nat_lt, [], ◌∷◌, ◌++◌, map, IfOk, IfErr, IfSome, IfNone, OnOk};
 ghost use Rattle.std.specs.Option.{option_map, option_copied};
 ghost use Rattle.yt_schema.specs.Meanings.{session_mapping_of};
 ghost use Rattle.yt_session.specs.Meanings.{session_of};
@@ -115,6 +115,27 @@ fn saved_session(alloc: Global, session: Session, told: &SessionResult) -> Resul
     })
 }
 
+// Whether so many tuples or so many bytes are too many.
+fn is_over(tuples: u64, bytes: u64) -> bool
+    ensures { result ≡ (nat_lt 100000 tuples || nat_lt 16777216 bytes) }
+{
+    MOST_TUPLES < tuples || MOST_BYTES < bytes
+}
+
+// The refusal of a session that is too large; None where it is not.
+fn too_large(alloc: Global, session: &Session) -> Result<Option<SaveRefusal>, Memory>
+    ensures refused { IfOk result (λ found. IfSome found (λ refusal. Refuses refusal (session_of session.now))) }
+    ensures fits { IfOk result (λ found. IfNone found (is_too_large (session_of session.now) ≡ false)) }
+{
+    let text = print_session(alloc, session)?;
+    let tuples = session.base.len() as u64;
+    let bytes = text.len() as u64;
+    if is_over(tuples, bytes) {
+        return Ok(Some(SaveRefusal::TooLarge { tuples, bytes }));
+    }
+    Ok(None)
+}
+
 /// The session that begins with what a run left: of format 2, with the relations of the session that ran, the mappings
 /// in force in the end, the repository as its base, and no updates. It is refused as too large exactly where it has
 /// more than 100,000 tuples or its printed form more than 16,777,216 bytes; both numbers are told.
@@ -124,10 +145,8 @@ pub fn saved(alloc: Global, session: Session, told: &SessionResult) -> Result<Se
     ensures refused { IfErr result (λ refusal. Refuses refusal (saved (session_of session) (result_of told.now))) }
 {
     let begun = saved_session(alloc, session, told)?;
-    let tuples = begun.base.len() as u64;
-    let bytes = print_session(alloc, &begun)?.len() as u64;
-    if MOST_TUPLES < tuples || MOST_BYTES < bytes {
-        return Err(SaveRefusal::TooLarge { tuples, bytes });
+    match too_large(alloc, &begun)? {
+        Some(refusal) => Err(refusal),
+        None => Ok(begun),
     }
-    Ok(begun)
 }
