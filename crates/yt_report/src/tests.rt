@@ -4,6 +4,7 @@ use std::alloc::Global;
 use std::test::Fail;
 use yt_base::{List, Mapping, Memory, Name, Null, Operation, Tuple, TupleList, Update, Value};
 use yt_frontier::Question;
+use yt_print::print_session;
 use yt_program::{Finish, Lack, Outcome, SessionResult, Stop};
 use yt_schema::Schema;
 use yt_session::{Session, SessionUpdate};
@@ -144,6 +145,37 @@ fn a_stop_is_told_with_its_question(rt: HostRuntime) -> Result<(), Fail> {
     assert_eq!(rt;
         question_lines(alloc, &stuck, &stop.question)?.as_slice(),
         b"question positive m Country(\"US\", ?1.1)\ncandidate Country(\"US\", \"DC\")\n".as_slice()
+    );
+    Ok(())
+}
+
+// What a run left of a city whose country's null the second attempt of update 1 drew.
+fn left(alloc: Global) -> Result<SessionResult, Memory> {
+    let mut finishes = List::new(alloc);
+    finishes.push(Finish {
+        outcome: Outcome::Done,
+        steps: 4,
+        nulls: 1,
+    })?;
+    let mut repository = List::new(alloc);
+    repository.push(country(alloc, None)?)?;
+    Ok(SessionResult {
+        finishes,
+        stop: None,
+        repository,
+    })
+}
+
+#[test]
+fn a_session_is_saved_with_nulls_of_a_base(rt: HostRuntime) -> Result<(), Fail> {
+    let alloc = rt.alloc();
+    let told = left(alloc)?;
+    let Ok(begun) = saved(alloc, session(alloc, &["City", "Country"], &["a"])?, &told) else {
+        return Err(Fail::from(Memory));
+    };
+    assert_eq!(rt;
+        print_session(alloc, &begun)?.as_slice(),
+        b"youtopia 2\nrelation City 2\nrelation Country 2\nbase Country(\"US\", ?0.1)\nend\n".as_slice()
     );
     Ok(())
 }
