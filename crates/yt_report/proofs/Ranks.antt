@@ -7,7 +7,7 @@ use Rattle.std.specs.BTreeSet.{insert_key}
 use Rattle.std.specs.Ordering.{is_lt, match_ordering, on}
 use Rattle.std.specs.declared.cmp.Ordering.{Ordering}
 use Rattle.std.specs.declared.cmp.Ordering.TheVariants.{Less, Equal, Greater}
-use Rattle.std.specs.List.{AllByRecursion, AllWithin}
+use Rattle.std.specs.List.{AllByRecursion}
 use Rattle.std.specs.List.Sorted.{IsStrictlySortedBy, IsPartitionedBy, IsPartitionPoint}
 
 -- a key put in by what it means
@@ -23,12 +23,12 @@ insert_meant f cmp (x ∷ ks) k = by (cmp (f k) (f x)) (insert_meant f cmp ks k)
     by Greater h = ap (λ l. f x ∷ l) h
 
 -- what is less
-lt_true : (o : Ordering) → is_lt o ≡ true → o ≡ Less
+pub lt_true : (o : Ordering) → is_lt o ≡ true → o ≡ Less
 lt_true Less e = refl
 lt_true Equal e = cc
 lt_true Greater e = cc
 
-less_true : (o : Ordering) → o ≡ Less → is_lt o ≡ true
+pub less_true : (o : Ordering) → o ≡ Less → is_lt o ≡ true
 less_true o e = ap is_lt e
 
 -- what holds of all holds at a place
@@ -48,11 +48,11 @@ below_in_front cmp total (x ∷ xs) n s (suc i) zero d le lt h = absurd (omega a
 below_in_front cmp total (x ∷ xs) n s (suc i) (suc j) d le lt h = below_in_front cmp total xs n s.1 i j d (omega arith) (omega arith) h
 
 -- how many pass, one by one
-abbrev passing : {A : Type 0} → (A → Bool) → List A → ℕ
+abbrev pub passing : {A : Type 0} → (A → Bool) → List A → ℕ
 passing p [] = 0
 passing p (x ∷ xs) = cond (p x) (1 + passing p xs) (passing p xs)
 
-passing_is : {A : Type 0} (p : A → Bool) (xs : List A) → passing p xs ≡ count_by p xs
+pub passing_is : {A : Type 0} (p : A → Bool) (xs : List A) → passing p xs ≡ count_by p xs
 passing_is p xs = is_count_by (passing p) p refl (λ y ys. refl) xs
 
 -- where those that pass stand in front of a place, it is their number

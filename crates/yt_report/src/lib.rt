@@ -5,6 +5,7 @@
 #![tactic(auto)]
 
 mod finishes;
+mod laws;
 mod named;
 mod questions;
 mod renaming;
@@ -13,6 +14,7 @@ mod results;
 mod rows;
 mod saving;
 
+pub use crate::laws::names_keep_the_order;
 pub use crate::results::{question_lines, question_text, result_text};
 pub use crate::rows::{worked_results, worked_saves};
 pub use crate::saving::{SaveRefusal, saved};

@@ -1,4 +1,4 @@
-use Rattle.std.proofs.Common.{◌≡◌, ◌+◌, ℕ, suc, subst, refl, arith, map, take}
+use Rattle.std.proofs.Common.{◌≡◌, ◌+◌, ℕ, suc, subst, arith, map, take}
 use Rattle.yt_session.specs.Meanings.{update_of}
 use Rattle.yt_program.specs.Results.{finish_of}
 use Rattle.yt_print.specs.Lines.{with_line, with_lines}

@@ -1,8 +1,8 @@
-use Rattle.std.proofs.Common.{◌≡◌, ◌∙◌, Bool, rules}
+use Rattle.std.proofs.Common.{◌∙◌, Bool, rules}
 use Rattle.std.specs.Cmp.{on_total}
 use Rattle.std.specs.Ordering.{is_lt, on}
 use Rattle.std.proofs.lemmas.List.Sorted.{IsPartitionPoint-from_clause}
-use Rattle.yt_model.specs.Values.{NullName, null_cmp}
+use Rattle.yt_model.specs.Values.{null_cmp}
 use Rattle.yt_model.proofs.Order.{null_total}
 use Rattle.yt_base.specs.Meanings.{null_of}
 use Rattle.yt_base.specs.declared.nulls.Null.{Null}

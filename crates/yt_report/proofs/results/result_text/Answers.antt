@@ -1,4 +1,4 @@
-use Rattle.std.proofs.Common.{◌≡◌, ◌∙◌, [], ◌∷◌, ap}
+use Rattle.std.proofs.Common.{◌∙◌, [], ◌∷◌, ap}
 use Rattle.std.specs.Prelude.{codes, pos}
 use Rattle.yt_grammar.specs.Words.{name, number}
 use Rattle.yt_schema.specs.Pages.{Written}
