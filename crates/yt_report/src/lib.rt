@@ -1,0 +1,23 @@
+//! The texts that tell of a run: the result text, and a question on its own.
+//!
+//! Each line is words laid out as those of a session, on one `Page`. A contract says which lines a page has gained, by
+//! the definitions of `specs/Results.antt`.
+#![tactic(auto)]
+
+mod finishes;
+mod laws;
+mod named;
+mod questions;
+mod renaming;
+mod repositories;
+mod results;
+mod rows;
+mod saving;
+
+pub use crate::laws::names_keep_the_order;
+pub use crate::results::{question_lines, question_text, result_text};
+pub use crate::rows::{worked_results, worked_saves};
+pub use crate::saving::{SaveRefusal, saved};
+
+#[cfg(test)]
+mod tests;

@@ -1,0 +1,66 @@
+//! Updates and mappings by their names.
+
+ghost use Rattle.std.specs.Prelude.{◌≡◌, ◌<◌, ◌^◌, pos, [], ◌∷◌, map, IfOk};
+ghost use Rattle.yt_grammar.specs.Words as word_of;
+ghost use Rattle.yt_grammar.specs.Printing.{name_of};
+ghost use Rattle.yt_grammar.specs.Sessions.{mapping_names};
+ghost use Rattle.yt_schema.specs.Meanings.{session_mapping_of};
+ghost use Rattle.yt_schema.specs.Pages.{with_words};
+ghost use Rattle.yt_session.specs.Meanings.{update_of};
+ghost use Rattle.yt_report.specs.Results.{update_words};
+
+use std::alloc::Global;
+use yt_base::{MappingList, Memory};
+use yt_schema::Page;
+use yt_session::SessionUpdates;
+
+// A number and two names.
+fn with_names(
+    alloc: Global,
+    page: Page,
+    number: usize,
+    label: &[u8],
+    curator: &[u8],
+) -> Result<Page, Memory>
+    requires { number < 2 ^ 63 }
+    ensures { IfOk result (λ p. p ≡ with_words page (word_of.number (pos number) ∷ word_of.name label.now ∷ word_of.name curator.now ∷ [])) }
+{
+    page.number(alloc, number as i64)?
+        .name(label)?
+        .name(curator)
+}
+
+/// Adds an update by its number, label and curator.
+pub(crate) fn with_update(
+    alloc: Global,
+    page: Page,
+    updates: &SessionUpdates,
+    number: usize,
+) -> Result<Page, Memory>
+    requires { number < 2 ^ 63 }
+    ensures { IfOk result (λ p. p ≡ with_words page (update_words (map update_of updates.now.items) number)) }
+{
+    match updates.get(number.saturating_sub(1)) {
+        Some(named) => {
+            let update = &named.update;
+            with_names(
+                alloc,
+                page,
+                number,
+                update.label.as_slice(),
+                update.curator.as_slice(),
+            )
+        }
+        None => with_names(alloc, page, number, &[], &[]),
+    }
+}
+
+/// The name of the mapping of a number; nothing where there is none.
+pub(crate) fn mapping_name(mappings: &MappingList, number: u16) -> &[u8]
+    ensures { result.now ≡ name_of (mapping_names (map session_mapping_of mappings.now.items)) number }
+{
+    match mappings.get(number as usize) {
+        Some(mapping) => mapping.name.as_slice(),
+        None => &[],
+    }
+}

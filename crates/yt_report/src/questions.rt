@@ -1,0 +1,140 @@
+//! The lines of a question, and of the update that stopped at it.
+
+ghost use Rattle.std.specs.Prelude.{◌≡◌, [], ◌∷◌, codes, map, IfOk};
+ghost use Rattle.yt_base.specs.Meanings.{fact_of};
+ghost use Rattle.std.specs.Option.{option_map};
+ghost use Rattle.yt_grammar.specs.Words as word_of;
+ghost use Rattle.yt_frontier.specs.Inquiries.{inquiry_of};
+ghost use Rattle.yt_session.specs.Meanings.{session_of};
+ghost use Rattle.yt_print.specs.Lines.{with_lines};
+ghost use Rattle.yt_program.specs.Results.{lack_of, stop_of};
+ghost use Rattle.yt_report.specs.Results.{candidate_lines, lack_name, question_lines, stop_lines, stop_lines_in, tuple_words};
+
+use crate::named::{mapping_name, with_update};
+use std::alloc::Global;
+use yt_base::{Memory, Tuple};
+use yt_frontier::Question;
+use yt_print::Worded;
+use yt_program::{Lack, Stop};
+use yt_schema::{Page, Schema};
+use yt_session::Session;
+
+#[tactic(auto, using(yt_print::proofs::Onward::mapped_more))]
+fn with_candidates(
+    alloc: Global,
+    mut page: Page,
+    schema: &Schema,
+    tuples: &[Tuple],
+) -> Result<Page, Memory>
+    ensures { IfOk result (λ p. p ≡ with_lines (λ words. words) page (candidate_lines schema.now (map fact_of tuples.now))) }
+{
+    for tuple in tuples {
+        page = tuple
+            .write(alloc, page.name(b"candidate")?, schema)?
+            .end_line()?;
+    }
+    Ok(page)
+}
+
+// A positive question by the name of its mapping.
+fn with_positive(
+    alloc: Global,
+    page: Page,
+    schema: &Schema,
+    called: &[u8],
+    tuple: &Tuple,
+    candidates: &[Tuple],
+) -> Result<Page, Memory>
+    ensures { IfOk result (λ p. p ≡ with_lines (λ words. words) page
+        ((word_of.name (codes "question") ∷ word_of.name (codes "positive") ∷ word_of.name called.now ∷ tuple_words schema.now (fact_of tuple.now))
+        ∷ candidate_lines schema.now (map fact_of candidates.now))) }
+{
+    let named = page.name(b"question")?.name(b"positive")?.name(called)?;
+    let told = tuple.write(alloc, named, schema)?.end_line()?;
+    with_candidates(alloc, told, schema, candidates)
+}
+
+// A negative question by the name of its mapping.
+fn with_negative(
+    alloc: Global,
+    page: Page,
+    schema: &Schema,
+    called: &[u8],
+    tuples: &[Tuple],
+) -> Result<Page, Memory>
+    ensures { IfOk result (λ p. p ≡ with_lines (λ words. words) page
+        ((word_of.name (codes "question") ∷ word_of.name (codes "negative") ∷ word_of.name called.now ∷ [])
+        ∷ candidate_lines schema.now (map fact_of tuples.now))) }
+{
+    let told = page
+        .name(b"question")?
+        .name(b"negative")?
+        .name(called)?
+        .end_line()?;
+    with_candidates(alloc, told, schema, tuples)
+}
+
+/// Adds a question, and then its candidates, or the tuples of which some have to go.
+pub(crate) fn with_question(
+    alloc: Global,
+    page: Page,
+    session: &Session,
+    question: &Question,
+) -> Result<Page, Memory>
+    ensures { IfOk result (λ p. p ≡ with_lines (λ words. words) page (question_lines (session_of session.now) (inquiry_of question.now))) }
+{
+    let schema = &session.schema;
+    match question {
+        Question::Positive {
+            mapping,
+            tuple,
+            candidates,
+        } => {
+            let called = mapping_name(&session.mappings, *mapping);
+            with_positive(alloc, page, schema, called, tuple, candidates.as_slice())
+        }
+        Question::Negative { mapping, tuples } => {
+            let called = mapping_name(&session.mappings, *mapping);
+            with_negative(alloc, page, schema, called, tuples.as_slice())
+        }
+    }
+}
+
+fn lack_name(lack: Lack) -> &'static [u8]
+    ensures { result.now ≡ lack_name (lack_of lack) }
+{
+    match lack {
+        Lack::Missing => b"missing",
+        Lack::Misfit => b"misfit",
+    }
+}
+
+/// Adds the update that stopped, and its question.
+pub(crate) fn with_stop(
+    alloc: Global,
+    page: Page,
+    session: &Session,
+    stop: &Stop,
+) -> Result<Page, Memory>
+    ensures { IfOk result (λ p. p ≡ with_lines (λ words. words) page (stop_lines (session_of session.now) (stop_of stop.now))) }
+{
+    let stuck = page.name(b"stuck")?;
+    let named = with_update(alloc, stuck, &session.updates, stop.update as usize)?;
+    let told = named.name(lack_name(stop.lack))?.end_line()?;
+    with_question(alloc, told, session, &stop.question)
+}
+
+/// Adds the stop, where there is one.
+pub(crate) fn with_stop_in(
+    alloc: Global,
+    page: Page,
+    session: &Session,
+    stop: &Option<Stop>,
+) -> Result<Page, Memory>
+    ensures { IfOk result (λ p. p ≡ with_lines (λ words. words) page (stop_lines_in (session_of session.now) (option_map stop_of stop.now))) }
+{
+    match stop {
+        None => Ok(page),
+        Some(stopped) => with_stop(alloc, page, session, stopped),
+    }
+}

@@ -1,0 +1,69 @@
+//! The result text, and the text of a question.
+
+ghost use Rattle.std.specs.Prelude.{◌≡◌, pos, [], ◌∷◌, IfOk, codes};
+ghost use Rattle.yt_frontier.specs.Inquiries.{inquiry_of};
+ghost use Rattle.yt_grammar.specs.Words as word_of;
+ghost use Rattle.yt_print.specs.Lines.{with_line};
+ghost use Rattle.yt_program.specs.Results.{result_of, stop_of};
+ghost use Rattle.yt_session.specs.Meanings.{session_of};
+ghost use Rattle.yt_report.specs.Results.{lines_text, question_lines as lines_of_question, question_text, result_text};
+
+use crate::finishes::with_finishes;
+use crate::questions::{with_question, with_stop, with_stop_in};
+use crate::repositories::{with_committed, with_repository};
+use std::alloc::Global;
+use yt_base::Memory;
+use yt_frontier::Question;
+use yt_program::{SessionResult, Stop};
+use yt_schema::Page;
+use yt_session::Session;
+
+fn with_title(alloc: Global, page: Page) -> Result<Page, Memory>
+    ensures { IfOk result (λ p. p ≡ with_line page (word_of.name (codes "youtopia") ∷ word_of.name (codes "result") ∷ word_of.number (pos 1) ∷ [])) }
+{
+    page.name(b"youtopia")?
+        .name(b"result")?
+        .number(alloc, 1)?
+        .end_line()
+}
+
+/// The result text of a session and of what is told of its run: each update that came to its end, the question at
+/// which the run stopped, if it did, the repository, and how many updates came to their ends. It is refused only for
+/// want of memory.
+pub fn result_text(
+    alloc: Global,
+    session: &Session,
+    told: &SessionResult,
+) -> Result<Vec<u8>, Memory>
+    ensures text { IfOk result (λ text. text.items ≡ result_text (session_of session.now) (result_of told.now)) }
+{
+    let finishes = told.finishes.as_slice();
+    let title = with_title(alloc, Page::new(alloc))?;
+    let finished = with_finishes(alloc, title, &session.updates, finishes)?;
+    let stopped = with_stop_in(alloc, finished, session, &told.stop)?;
+    let tuples = told.repository.as_slice();
+    let held = with_repository(alloc, stopped, &session.schema, tuples)?;
+    let whole = with_committed(alloc, held, finishes, session.updates.as_slice())?;
+    Ok(whole.into_text())
+}
+
+/// The lines of an update that stopped: which it is and what lacks, its question, and the candidates or the tuples of
+/// which some have to go. It is refused only for want of memory.
+pub fn question_text(alloc: Global, session: &Session, stop: &Stop) -> Result<Vec<u8>, Memory>
+    ensures text { IfOk result (λ text. text.items ≡ question_text (session_of session.now) (stop_of stop.now)) }
+{
+    let page = with_stop(alloc, Page::new(alloc), session, stop)?;
+    Ok(page.into_text())
+}
+
+/// The lines of a question alone. It is refused only for want of memory.
+pub fn question_lines(
+    alloc: Global,
+    session: &Session,
+    question: &Question,
+) -> Result<Vec<u8>, Memory>
+    ensures text { IfOk result (λ text. text.items ≡ lines_text (lines_of_question (session_of session.now) (inquiry_of question.now))) }
+{
+    let page = with_question(alloc, Page::new(alloc), session, question)?;
+    Ok(page.into_text())
+}
