@@ -5,3 +5,4 @@ pub mod Standings
 pub mod Wanting
 pub mod Landing
 pub mod Repairs
+pub mod Replying
