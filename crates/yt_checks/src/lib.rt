@@ -18,6 +18,3 @@ mod updates;
 
 pub use crate::draft::Draft;
 pub use crate::refusals::TakeRefusal;
-
-#[cfg(test)]
-mod tests;
