@@ -17,6 +17,3 @@ pub use crate::faults::{FaultKind, ReadFailure, SessionFault};
 pub use crate::reading::read_session;
 pub use crate::texts::fault_text;
 pub use crate::tuples::{TupleText, read_tuple};
-
-#[cfg(test)]
-mod tests;
