@@ -8,8 +8,8 @@ use crate::replies::reply;
 use std::alloc::Global;
 use std::test::Fail;
 use yt_base::{
-    Atom, AtomList, Choice, Mapping, MappingList, Memory, Name, NameList, Null, Operation, Row, Term,
-    TermRow, TryCopy, Tuple, TupleList, Update, Value,
+    Atom, AtomList, Choice, Mapping, MappingList, Memory, Name, NameList, Null, Operation, Row,
+    Term, TermRow, TryCopy, Tuple, TupleList, Update, Value,
 };
 use yt_chase::existential;
 use yt_frontier::fits;
@@ -38,7 +38,12 @@ fn atoms(alloc: Global, relations: &[u16], variables: &[u16]) -> Result<AtomList
 }
 
 // The mapping from these relations to relation 2, with an existential variable or without one.
-fn mapping(alloc: Global, since: u32, left: &[u16], has_existential: bool) -> Result<Mapping, Memory> {
+fn mapping(
+    alloc: Global,
+    since: u32,
+    left: &[u16],
+    has_existential: bool,
+) -> Result<Mapping, Memory> {
     let mut names = NameList::new(alloc);
     names.push(Name::new(alloc))?;
     names.push(Name::new(alloc))?;

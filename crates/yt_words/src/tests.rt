@@ -58,7 +58,10 @@ fn words_name_a_command_and_its_options(rt: HostRuntime) -> Result<(), Fail> {
             "Upgrade 4 Precise 100 0 1000 4294967295 - - false",
         ),
         ("-- format", "Format 4 Precise 100 3 60 1 - - false"),
-        ("format --tuple=-x", "Format 4 Precise 100 3 60 1 -x - false"),
+        (
+            "format --tuple=-x",
+            "Format 4 Precise 100 3 60 1 -x - false",
+        ),
     ];
     for (line, wanted) in cases {
         let told = asked(rt.alloc(), line)?;
