@@ -5,4 +5,3 @@ pub mod Standings
 pub mod Wanting
 pub mod Landing
 pub mod Repairs
-pub mod Replying

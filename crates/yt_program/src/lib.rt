@@ -28,8 +28,3 @@ mod writes;
 pub use crate::ends::{Outcome, Want};
 pub use crate::programs::Program;
 pub use crate::results::{Finish, FinishList, Lack, SessionResult, Stop};
-
-#[cfg(test)]
-mod replies;
-#[cfg(test)]
-mod tests;
