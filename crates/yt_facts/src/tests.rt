@@ -3,7 +3,7 @@ use super::*;
 use std::alloc::Global;
 use std::process::Abort;
 use std::test::Fail;
-use yt_base::{Facts, List, Memory, TryCopy, Tuple, Value, Write};
+use yt_base::{Facts, List, Memory, TryCopy, Tuple, TupleList, Value, Write};
 
 fn tuple(alloc: Global, relation: u16, numbers: &[i64]) -> Result<Tuple, Memory> {
     let mut values = List::new(alloc);
@@ -59,26 +59,6 @@ fn holds_the_seven<F: Facts>(
             None => None,
         };
         assert_eq!(rt; facts.after(&from), next.as_ref(), "{way}: after {from:?}");
-    }
-    for (past, next) in [
-        (None, Some((1, [1].as_slice()))),
-        (Some((1, [3].as_slice())), Some((2, [1, 5].as_slice()))),
-        (Some((2, [2, 6].as_slice())), Some((2, [2, 7].as_slice()))),
-        (Some((3, [5].as_slice())), None),
-    ] {
-        let past = match past {
-            Some((relation, numbers)) => Some(tuple(alloc, relation, numbers)?),
-            None => None,
-        };
-        let next = match next {
-            Some((relation, numbers)) => Some(tuple(alloc, relation, numbers)?),
-            None => None,
-        };
-        assert_eq!(rt;
-            facts.beyond(past.as_ref()),
-            next.as_ref(),
-            "{way}: beyond {past:?}"
-        );
     }
     for (column, number, past, next) in [
         (1, 5, None, Some([1, 5].as_slice())),
@@ -149,12 +129,38 @@ fn the_sets_answer_alike(rt: HostRuntime) -> Result<(), Fail> {
     }
     holds_the_seven(&rt, alloc, &plain, "plain")?;
     holds_the_seven(&rt, alloc, &indexed, "indexed")?;
-    assert_eq!(rt; plain.copy(alloc)?.into_list(alloc)?, indexed.list(alloc)?);
     holds_the_seven(&rt, alloc, &plain.copy(alloc)?, "copied")?;
     holds_the_seven(&rt, alloc, &indexed.copy(alloc)?, "indexed, copied")?;
     assert_eq!(rt; (plain.len(), indexed.len()), (7, 7));
     assert_eq!(rt; plain.list(alloc)?, indexed.list(alloc)?);
     holds_the_seven(&rt, alloc, &IndexedFacts::of(alloc, plain)?, "of plain")
+}
+
+// Going over the set from the least tuple on tells these.
+fn goes_over<F: Facts>(rt: &impl Abort, facts: &F, tuples: &TupleList) {
+    let mut past = None;
+    for tuple in tuples.as_slice() {
+        let next = facts.beyond(past);
+        assert_eq!(rt; next, Some(tuple));
+        past = next;
+    }
+    assert_eq!(rt; facts.beyond(past), None);
+}
+
+#[test]
+fn sets_are_gone_over_in_order(rt: HostRuntime) -> Result<(), Fail> {
+    let alloc = rt.alloc();
+    let mut plain = PlainFacts::new(alloc);
+    for (relation, numbers) in INSERTED {
+        plain.insert(tuple(alloc, relation, numbers)?)?;
+    }
+    let list = plain.list(alloc)?;
+    goes_over(&rt, &plain, &list);
+    goes_over(&rt, &PlainFacts::of_list(alloc, &list)?, &list);
+    goes_over(&rt, &Overlay::new(alloc, &plain, &List::new(alloc))?, &list);
+    assert_eq!(rt; plain.copy(alloc)?.into_list(alloc)?, list);
+    goes_over(&rt, &IndexedFacts::of(alloc, plain)?, &list);
+    Ok(())
 }
 
 #[test]
