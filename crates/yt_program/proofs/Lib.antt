@@ -1,0 +1,7 @@
+pub mod Lookups
+pub mod Looks
+pub mod Namings
+pub mod Standings
+pub mod Wanting
+pub mod Landing
+pub mod Repairs

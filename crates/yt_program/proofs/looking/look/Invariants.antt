@@ -1,0 +1,9 @@
+use Rattle.std.proofs.Common.{◌≡◌, map, drop}
+use Rattle.yt_base.specs.Meanings.{rule_of}
+use Rattle.yt_steps.specs.Attempts.{Attempt}
+use Rattle.yt_steps.specs.Steps.{look_from}
+use Rattle.yt_program.proofs.looking.look.Given as goal
+
+-- The look from here on is that from the start on.
+abbrev pub invariant-loop-place : goal.invariant-loop-place
+invariant-loop-place l = (P : Attempt) → P.number ≡ l.number → look_from P l.place (drop l.place (map rule_of l.mappings.items)) ≡ look_from P l.from (drop l.from (map rule_of l.mappings.items))

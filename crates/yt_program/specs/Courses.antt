@@ -1,0 +1,45 @@
+-- What a program is to its callers: an attempt, and the course of the step in hand, as a tree of queries that ends in the attempt after it.
+use Rattle.std.specs.Prelude.{ℕ, Option, Some, None, List}
+use Rattle.yt_machine.specs.Trees.{Tree, Leaf, Node, then_tree}
+use Rattle.yt_model.specs.Mappings.{Rule}
+use Rattle.yt_model.specs.Queries.{Query, Reply}
+use Rattle.yt_steps.specs.Attempts.{Attempt}
+use Rattle.yt_steps.specs.Steps.{Asking, moved}
+use Rattle.yt_program.specs.Rows.{Row, row_tree}
+
+-- A step in hand: its budget, and where it stands.
+pub record Reading : Type 0 where
+  pub budget : ℕ
+  pub row : Row
+
+-- An attempt between two steps; or as it was when the step in hand began, with that step.
+pub record State : Type 0 where
+  pub attempt : Attempt
+  pub reading : Option Reading
+
+-- The queries that are asked, in turn by their answers, up to the attempt after the step.
+abbrev pub Course : Type 0
+Course = Tree Query Reply Attempt
+
+-- A step of P with this budget that asks and does this: it leads to the attempt after the step.
+abbrev pub coming_to : ℕ → Attempt → Asking → Course
+coming_to B P tree = then_tree tree (λ m. Leaf (moved B P m))
+
+-- How it goes on by the answer to the first query.
+abbrev pub by_reply : Course → Reply → Course
+by_reply (Leaf P) a = Leaf P
+by_reply (Node q k) a = k a
+
+-- The query that is asked first, if one is.
+abbrev pub first_asked : Course → Option Query
+first_asked (Leaf P) = None
+first_asked (Node q k) = Some q
+
+-- The course of the step in hand of P, if there is one.
+abbrev pub course_by : List Rule → Attempt → Option Reading → Course
+course_by ms P None = Leaf P
+course_by ms P (Some r) = coming_to r.budget P (row_tree ms P r.row)
+
+-- The course of the step in hand by these mappings; between two steps the attempt itself.
+abbrev pub course : List Rule → State → Course
+course ms s = course_by ms s.attempt s.reading

@@ -1,0 +1,63 @@
+-- What is wanted of a program and where it stands, in the terms of the steps of the chase.
+use Rattle.std.specs.Prelude.{Option, Some, None, if◌then◌else◌}
+use Rattle.yt_base.specs.Meanings.{null_of}
+use Rattle.yt_query.specs.Meanings.{query_of}
+use Rattle.yt_frontier.specs.Inquiries.{inquiry_of}
+use Rattle.yt_steps.specs.Attempts.{Outcome, Phase, Done as DoneMeant, Spent as SpentMeant, Refused as RefusedMeant, Start as StartMeant, Look as LookMeant, Ended as EndedMeant}
+use Rattle.yt_chase.specs.Repairs.{phase_of, is_asking}
+use Rattle.yt_program.specs.Rows as rows
+use Rattle.yt_program.specs.Rows.{begun_in}
+use Rattle.yt_program.specs.Wishes.{End as EndTold, IsDone, IsSpent, IsRefused, Wish, WishesReply, WishesChoice, WishesNothing, WishesStep}
+use Rattle.yt_program.specs.RowMeanings.{row_of}
+use Rattle.yt_program.specs.declared.ends.Outcome.{Outcome as OutcomeOfProgram}
+use Rattle.yt_program.specs.declared.ends.Outcome.TheVariants.{Done as DoneOutcome, Spent as SpentOutcome, Refused as RefusedOutcome}
+use Rattle.yt_program.specs.declared.ends.Want.{Want}
+use Rattle.yt_program.specs.declared.ends.Want.TheVariants.{Read, Choice, Ended as EndedWant, NextStep}
+use Rattle.yt_program.specs.declared.ends.End.{End}
+use Rattle.yt_program.specs.declared.ends.End.TheVariants.{Done, Spent, Refused}
+use Rattle.yt_program.specs.declared.readings.Reading.{Reading}
+use Rattle.yt_program.specs.declared.points.Point.{Point}
+use Rattle.yt_program.specs.declared.points.Point.TheVariants.{Start, Look, Repair, Ended, Reading as ReadingPoint}
+
+-- The outcome that an `End` stands for.
+abbrev pub outcome_of : End → Outcome
+outcome_of Done = DoneMeant
+outcome_of Spent = SpentMeant
+outcome_of (Refused n) = RefusedMeant (null_of n)
+
+-- What an `Outcome` tells.
+abbrev pub end_of : OutcomeOfProgram → EndTold
+end_of DoneOutcome = IsDone
+end_of SpentOutcome = IsSpent
+end_of (RefusedOutcome u k) = IsRefused u k
+
+-- What a `Want` says is wanted.
+abbrev pub want_of : Want → Wish
+want_of (Read q) = WishesReply (query_of q.now)
+want_of (Choice q) = WishesChoice (inquiry_of q.now)
+want_of (EndedWant o) = WishesNothing (end_of o)
+want_of NextStep = WishesStep
+
+-- Where a `Reading` stands.
+abbrev pub reading_of : Reading → rows.Row
+reading_of r = row_of r.row (query_of r.query)
+
+-- The phase at a point between two steps; within a step, the phase in which it began.
+abbrev pub phase_at : Point → Phase
+phase_at Start = StartMeant
+phase_at Look = LookMeant
+phase_at (Repair r) = phase_of r
+phase_at (Ended e) = EndedMeant (outcome_of e)
+phase_at (ReadingPoint r) = begun_in (reading_of r)
+
+-- Where the step in hand stands, if there is one.
+abbrev pub row_at : Point → Option rows.Row
+row_at Start = None
+row_at Look = None
+row_at (Repair r) = if is_asking r then Some (rows.Mending r) else None
+row_at (Ended e) = None
+row_at (ReadingPoint r) = Some (reading_of r)
+
+-- The phase and the step in hand that a `Point` stands for.
+abbrev pub point_of : Point → Phase × Option rows.Row
+point_of p = (phase_at p, row_at p)

@@ -1,0 +1,34 @@
+-- What the types that say where a step stands mean.
+use Rattle.std.specs.Prelude.{List, [], map, drop}
+use Rattle.yt_model.specs.Values.{NullName, Datum, Unknown, Fact}
+use Rattle.yt_model.specs.Queries.{Query, Present, Violation, Specific, Occurs}
+use Rattle.yt_base.specs.Meanings.{null_of, datum_of, fact_of}
+use Rattle.yt_program.specs.Rows as rows
+use Rattle.yt_program.specs.declared.found.Standing.{Standing}
+use Rattle.yt_program.specs.declared.rows.Naming.{Naming}
+use Rattle.yt_program.specs.declared.rows.Row.{Row}
+use Rattle.yt_program.specs.declared.rows.Row.TheVariants.{Naming as NamingRow, Writing, Replacing, Renaming, Forcing, Violating}
+
+-- The named null and the value that a `Standing` pairs.
+abbrev pub standing_of : Standing → NullName × Datum
+standing_of s = (null_of s.name, datum_of s.value)
+
+-- Where a step stands that looks up named nulls.
+abbrev pub naming_of : Naming → rows.Row
+naming_of n = rows.Naming (map standing_of n.found.items) (null_of n.name) (map null_of (drop n.next n.names.items))
+
+-- The tuple that is asked about.
+abbrev pub tuple_asked : Query → Fact
+tuple_asked (Present t) = t
+tuple_asked (Violation n) = record { relation = 0; values = [] }
+tuple_asked (Specific t) = t
+tuple_asked (Occurs u k) = record { relation = 0; values = [] }
+
+-- Where a step stands that asks this query.
+abbrev pub row_of : Row → Query → rows.Row
+row_of (NamingRow n) q = naming_of n
+row_of Writing q = rows.Writing (tuple_asked q)
+row_of (Replacing n) q = rows.Replacing (null_of n)
+row_of (Renaming n m ts) q = rows.Renaming (null_of n) (Unknown (null_of m)) (map fact_of ts.items)
+row_of (Forcing n) q = rows.Forcing n
+row_of (Violating n) q = rows.Violating n

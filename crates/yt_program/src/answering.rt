@@ -1,0 +1,51 @@
+//! How a step of an operation or of a look goes on by an answer.
+ghost use Rattle.std.specs.Prelude.{◌≡◌, ◌+◌, ◌<◌, map, IfOk};
+ghost use Rattle.yt_model.specs.Mappings.{Rule};
+ghost use Rattle.yt_base.specs.Meanings.{operation_of, rule_of};
+ghost use Rattle.yt_query.specs.Meanings.{query_of, reply_of};
+ghost use Rattle.yt_query.specs.Kinds.{IsOfKind};
+ghost use Rattle.yt_steps.specs.Attempts.{Attempt};
+ghost use Rattle.yt_program.specs.Conditions.{AreWithin};
+ghost use Rattle.yt_program.specs.Rows.{begun_in, goes_on};
+ghost use Rattle.yt_program.specs.PointMeanings.{reading_of};
+ghost use Rattle.yt_program.specs.TurnMeanings.{turn_tree, IsTurnOf, IsOf};
+
+use crate::looking::{found_force, found_violation};
+use crate::readings::Reading;
+use crate::replacing::{found_replaced, found_replacement};
+use crate::rows::Row;
+use crate::starting::{found_name, is_yes, tuple_found};
+use crate::turns::Turn;
+use std::alloc::Global;
+use yt_base::{MappingList, Memory, Operation};
+use yt_chase::Fresh;
+use yt_query::Answer;
+
+/// Goes on by the answer to the query that is asked. It is refused only for want of memory.
+pub(crate) fn answered(
+    alloc: Global,
+    operation: &Operation,
+    fresh: Fresh,
+    reading: &Reading,
+    answer: &Answer,
+    mappings: &MappingList,
+) -> Result<Turn, Memory>
+    requires within { AreWithin (map rule_of mappings.now.items) }
+    requires room { fresh.drawn + 64 < 4294967296 }
+    requires kind { IsOfKind (map rule_of mappings.now.items) (query_of reading.now.query) (reply_of answer.now) }
+    ensures value { IfOk result (λ turn. (P : Attempt) → IsOf P fresh (operation_of operation.now) → turn_tree (map rule_of mappings.now.items) P turn ≡ goes_on (map rule_of mappings.now.items) P (reading_of reading.now) (reply_of answer.now)) }
+    ensures turn { IfOk result (IsTurnOf (begun_in (reading_of reading.now))) }
+{
+    match &reading.row {
+        Row::Naming(naming) => found_name(alloc, operation, naming, answer),
+        Row::Writing => tuple_found(alloc, operation, &reading.query, is_yes(answer)),
+        Row::Replacing(name) => found_replaced(alloc, operation, *name, answer),
+        Row::Renaming { name, null, tuples } => {
+            found_replacement(alloc, *name, *null, tuples, answer)
+        }
+        Row::Forcing(place) => found_force(alloc, fresh.update, *place, answer, mappings),
+        Row::Violating(place) => {
+            found_violation(alloc, operation, fresh, *place, answer, mappings)
+        }
+    }
+}

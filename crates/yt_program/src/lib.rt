@@ -1,0 +1,30 @@
+//! An update as a program: a value that asks queries and questions, takes their answers, and makes the steps of the
+//! chase.
+//!
+//! Contracts see a `Program` as its attempt, as it stands between two steps or stood when the step in hand began, and
+//! where that step stands (`State` of `specs/Courses.antt`). `course ms` of it, by the mappings `ms`, is the tree of
+//! the queries that are still asked, which ends in the attempt after the step: a call that begins a step or takes an
+//! answer says which tree that is, by the definition of the step in `yt_steps`. `ms` is `map rule_of mappings.now.items`.
+//!
+//! `Err` is want of memory, of which no clause can say when it comes; the program is then unchanged.
+#![tactic(auto)]
+
+mod answering;
+mod ends;
+mod found;
+mod looking;
+mod mending;
+mod moves;
+mod points;
+mod programs;
+mod readings;
+mod replacing;
+mod results;
+mod rows;
+mod starting;
+mod turns;
+mod writes;
+
+pub use crate::ends::{Outcome, Want};
+pub use crate::programs::Program;
+pub use crate::results::{Finish, FinishList, Lack, SessionResult, Stop};

@@ -1,0 +1,174 @@
+//! The step of a look: mapping by mapping up to the first violation, whose repair it begins.
+ghost use Rattle.std.specs.Prelude.{◌≡◌, ◌+◌, ◌<◌, ◌≤◌, suc, ◌∷◌, List, Some, drop, map, length, IfOk, IfSome, IfNone};
+ghost use Rattle.std.specs.List.{slice_get};
+ghost use Rattle.yt_model.specs.Mappings.{Rule};
+ghost use Rattle.yt_base.specs.Meanings.{fact_of, rule_of, operation_of, heading_of};
+ghost use Rattle.yt_query.specs.Meanings.{reply_of};
+ghost use Rattle.yt_steps.specs.Attempts.{Attempt, Look};
+ghost use Rattle.yt_steps.specs.Steps.{repair as repair_lem, look_from};
+ghost use Rattle.yt_chase.specs.Meanings.{DrawsFrom};
+ghost use Rattle.yt_program.specs.Conditions.{AreWithin};
+ghost use Rattle.yt_program.specs.Rows.{Forcing, Violating, row_tree, goes_on};
+ghost use Rattle.yt_program.specs.TurnMeanings.{turn_tree, IsTurnOf, IsOf};
+
+use crate::moves::Move;
+use crate::points::Point;
+use crate::readings::Reading;
+use crate::rows::Row;
+use crate::starting::{force, is_yes};
+use crate::turns::Turn;
+use std::alloc::Global;
+use yt_base::{Direction, Mapping, MappingList, Memory, Operation, TupleList, WriteList};
+use yt_chase::{Fresh, Repair, existential};
+use yt_query::{Answer, Query};
+
+/// Looks at the mappings from place `from` on, up to the next one that may be in force for an update of this number. It
+/// is refused only for want of memory.
+pub(crate) fn look(
+    alloc: Global,
+    number: u32,
+    from: usize,
+    mappings: &MappingList,
+) -> Result<Turn, Memory>
+    requires { length mappings.now.items ≤ 65536 }
+    ensures value { IfOk result (λ turn. (P : Attempt) → P.number ≡ number → turn_tree (map rule_of mappings.now.items) P turn ≡ look_from P from (drop from (map rule_of mappings.now.items))) }
+    ensures turn { IfOk result (IsTurnOf Look) }
+{
+    for place in from..mappings.len() {
+        if let Some(mapping) = in_play(number, place, mappings) {
+            return look_at(alloc, place as u16, mapping);
+        }
+    }
+    Ok(Turn::ends(alloc))
+}
+
+// The mapping at the place, if it may be in force for an update of this number.
+fn in_play(number: u32, place: usize, mappings: &MappingList) -> Option<&Mapping>
+    ensures passed { IfNone result ((P : Attempt) → P.number ≡ number → look_from P place (drop place (map rule_of mappings.now.items)) ≡ look_from P (place + 1) (drop (place + 1) (map rule_of mappings.now.items))) }
+    ensures found { IfSome result (λ mapping. slice_get (map rule_of mappings.now.items) place ≡ Some (rule_of mapping.now)) }
+    ensures since { IfSome result (λ mapping. mapping.now.since ≤ number) }
+{
+    match mappings.get(place) {
+        Some(mapping) => if mapping.since <= number {
+            Some(mapping)
+        } else {
+            None
+        },
+        None => None,
+    }
+}
+
+// Asks for the first violation of a mapping that is in force from the start; of another one, first whether it has been
+// put in force.
+fn look_at(alloc: Global, place: u16, mapping: &Mapping) -> Result<Turn, Memory>
+    ensures value { IfOk result (λ turn. (ms : List Rule) (P : Attempt) → mapping.now.since ≤ P.number → slice_get ms place ≡ Some (rule_of mapping.now) → turn_tree ms P turn ≡ look_from P place (rule_of mapping.now ∷ drop (suc place) ms)) }
+    ensures turn { IfOk result (IsTurnOf Look) }
+{
+    if mapping.since == 0 {
+        Ok(asks_violation(place))
+    } else {
+        asks_force(alloc, place)
+    }
+}
+
+// Asks for the first violation of the mapping.
+fn asks_violation(place: u16) -> Turn
+    ensures tree { (ms : List Rule) (P : Attempt) → turn_tree ms P result ≡ row_tree ms P (Violating place) }
+    ensures turn { IsTurnOf Look result }
+{
+    Turn::Asks(Reading {
+        query: Query::Violation(place),
+        row: Row::Violating(place),
+    })
+}
+
+// Asks whether the mapping has been put in force.
+fn asks_force(alloc: Global, place: u16) -> Result<Turn, Memory>
+    ensures tree { IfOk result (λ turn. (ms : List Rule) (P : Attempt) → turn_tree ms P turn ≡ row_tree ms P (Forcing place)) }
+    ensures turn { IfOk result (IsTurnOf Look) }
+{
+    Ok(Turn::Asks(Reading {
+        query: Query::Present(force(alloc, place)?),
+        row: Row::Forcing(place),
+    }))
+}
+
+/// Goes on by whether the mapping has been put in force. It is refused only for want of memory.
+pub(crate) fn found_force(
+    alloc: Global,
+    number: u32,
+    place: u16,
+    answer: &Answer,
+    mappings: &MappingList,
+) -> Result<Turn, Memory>
+    requires { length mappings.now.items ≤ 65536 }
+    ensures value { IfOk result (λ turn. (P : Attempt) → P.number ≡ number → turn_tree (map rule_of mappings.now.items) P turn ≡ goes_on (map rule_of mappings.now.items) P (Forcing place) (reply_of answer.now)) }
+    ensures turn { IfOk result (IsTurnOf Look) }
+{
+    if is_yes(answer) && (place as usize) < mappings.len() {
+        Ok(asks_violation(place))
+    } else {
+        look(alloc, number, place as usize + 1, mappings)
+    }
+}
+
+/// Goes on by the first violation of the mapping: begins its repair, or looks on. It is refused only for want of
+/// memory.
+pub(crate) fn found_violation(
+    alloc: Global,
+    operation: &Operation,
+    fresh: Fresh,
+    place: u16,
+    answer: &Answer,
+    mappings: &MappingList,
+) -> Result<Turn, Memory>
+    requires within { AreWithin (map rule_of mappings.now.items) }
+    requires room { fresh.drawn + 64 < 4294967296 }
+    ensures value { IfOk result (λ turn. (P : Attempt) → IsOf P fresh (operation_of operation.now) → turn_tree (map rule_of mappings.now.items) P turn ≡ goes_on (map rule_of mappings.now.items) P (Violating place) (reply_of answer.now)) }
+    ensures turn { IfOk result (IsTurnOf Look) }
+{
+    match answer {
+        Answer::Image(image) => match mappings.get(place as usize) {
+            Some(mapping) => repair(alloc, operation.direction(), fresh, place, mapping, image),
+            None => look(alloc, fresh.update, place as usize + 1, mappings),
+        },
+        Answer::Yes => look(alloc, fresh.update, place as usize + 1, mappings),
+        Answer::No => look(alloc, fresh.update, place as usize + 1, mappings),
+        Answer::Nothing => look(alloc, fresh.update, place as usize + 1, mappings),
+        Answer::Tuples(_) => look(alloc, fresh.update, place as usize + 1, mappings),
+    }
+}
+
+// Begins the repair of the violation in that direction.
+fn repair(
+    alloc: Global,
+    direction: Direction,
+    fresh: Fresh,
+    place: u16,
+    mapping: &Mapping,
+    image: &TupleList,
+) -> Result<Turn, Memory>
+    requires few { (rule_of mapping.now).existential ≤ 64 }
+    requires room { fresh.drawn + 64 < 4294967296 }
+    ensures value { IfOk result (λ turn. (ms : List Rule) (P : Attempt) → DrawsFrom P fresh → turn_tree ms P turn ≡ repair_lem P (heading_of direction) place (rule_of mapping.now) (map fact_of image.now.items)) }
+    ensures turn { IfOk result (IsTurnOf Look) }
+{
+    match direction {
+        Direction::Forward => {
+            let repair = Repair::forward(alloc, place, mapping, image, fresh)?;
+            Ok(Turn::Moves(Move {
+                writes: WriteList::new(alloc),
+                point: Point::Repair(repair),
+                drawn: existential(mapping) as u32,
+            }))
+        }
+        Direction::Backward => {
+            let (repair, writes) = Repair::backward(alloc, place, image)?;
+            Ok(Turn::Moves(Move {
+                writes,
+                point: Point::Repair(repair),
+                drawn: 0,
+            }))
+        }
+    }
+}

@@ -1,0 +1,369 @@
+//! A program: an attempt at an update, step by step.
+ghost use Rattle.std.specs.Prelude.{◌≡◌, ◌+◌, ◌≤◌, ◌||◌, suc, true, nat_lt, if◌then◌else◌, None, Some, List, map, is_some, IfOk, OnOk, OnErr};
+ghost use Rattle.yt_model.specs.Mappings.{Rule};
+ghost use Rattle.yt_base.specs.Meanings.{change_of, choice_of, operation_of, heading_of, rule_of};
+ghost use Rattle.yt_model.specs.Updates.{direction_of};
+ghost use Rattle.yt_query.specs.Meanings.{reply_of};
+ghost use Rattle.yt_steps.specs.Attempts.{begun, question_in, outcome_in, Ended, Spent};
+ghost use Rattle.yt_steps.specs.Steps.{step, moved};
+ghost use Rattle.yt_program.specs.Conditions.{AreWithin, IsBudget};
+ghost use Rattle.yt_program.specs.Courses.{coming_to, course, by_reply, first_asked};
+ghost use Rattle.yt_program.specs.Wishes.{wish, wish_of_repair, WishesStep, query_wished, TakesAnswer, Fits};
+ghost use Rattle.yt_chase.specs.Meanings.{DrawsFrom};
+ghost use Rattle.yt_program.specs.PointMeanings.{want_of, phase_at, row_at};
+ghost use Rattle.yt_program.specs.TurnMeanings.{move_of, turn_tree, IsTurnOf};
+
+use crate::answering::answered;
+use crate::ends::{End, Want};
+use crate::looking::look;
+use crate::mending::{chosen, generated, mended};
+use crate::moves::Move;
+use crate::points::Point;
+use crate::starting::start;
+use crate::turns::Turn;
+use crate::writes::append;
+use std::alloc::Global;
+use std::marker::Model;
+use yt_base::{Choice, Direction, MappingList, Memory, Operation, TryCopy, Update, WriteList};
+use yt_chase::{Fresh, Repair, RepairWant};
+use yt_query::Answer;
+
+// The step in hand: its budget, and whether it takes the answer to a question.
+#[derive(Clone, Copy, Debug)]
+struct Hand {
+    budget: u32,
+    answers: bool,
+}
+
+/// An attempt at an update, which asks queries and questions, takes their answers, and makes the steps of the chase.
+/// Contracts see it as its attempt and the step in hand.
+#[derive(Debug, Drop)]
+pub struct Program {
+    number: u32,
+    attempt: u32,
+    operation: Operation,
+    own: WriteList,
+    steps: u32,
+    nulls: u32,
+    taken: u32,
+    hand: Hand,
+    point: Point,
+}
+
+impl Model for Program {
+    ghost use Rattle.yt_program.specs.Courses.{State};
+
+    ghost Value = { State };
+
+    ghost use Rattle.yt_program.specs.Views.{state_of, IsCounted};
+
+    ghost view = { state_of };
+
+    ghost invariant = { IsCounted };
+}
+
+impl Program {
+    /// The attempt of that number at an update, at its start. `number` is the update's. It is refused only for want of
+    /// memory.
+    pub fn start(
+        alloc: Global,
+        update: &Update,
+        number: u32,
+        attempt: u32,
+    ) -> Result<Program, Memory>
+        ensures begun { IfOk result (λ made. made ≡ record { attempt = begun number attempt (operation_of update.now.operation); reading = None }) }
+    {
+        Ok(Program {
+            number,
+            attempt,
+            operation: update.operation.copy(alloc)?,
+            own: WriteList::new(alloc),
+            steps: 0,
+            nulls: 0,
+            taken: 0,
+            hand: Hand {
+                budget: 0,
+                answers: false,
+            },
+            point: Point::Start,
+        })
+    }
+
+    /// What is wanted next: the answer to a query exactly where the step in hand asks that query first, and else what
+    /// the attempt between two steps wants. It takes no memory.
+    pub fn wants(&self) -> Want<'_>
+        ensures want { want_of result ≡ wish self.now }
+        ensures first { (ms : List Rule) → first_asked (course ms self.now) ≡ query_wished (want_of result) }
+    {
+        match &self.point {
+            Point::Start => Want::NextStep,
+            Point::Look => Want::NextStep,
+            Point::Repair(repair) => want_of_repair(repair),
+            Point::Ended(end) => Want::Ended(end.told()),
+            Point::Reading(reading) => Want::Read(&reading.query),
+        }
+    }
+
+    /// Begins the next step, up to its first query or its end. The budget is that of the attempt; with its last step
+    /// made, an attempt that has not ended is spent. While the step asks, the attempt stays as it was.
+    pub fn begin(
+        &mut self,
+        alloc: Global,
+        mappings: &MappingList,
+        budget: u32,
+    ) -> Result<(), Memory>
+        requires next { wish self.old ≡ WishesStep }
+        requires within { AreWithin (map rule_of mappings.now.items) }
+        requires budget { IsBudget self.old.attempt.steps budget }
+        ensures step { OnOk result (course (map rule_of mappings.now.items) self.new ≡ coming_to budget self.old.attempt (step (map rule_of mappings.now.items) self.old.attempt None)) }
+        ensures attempt { is_some self.new.reading ≡ true → self.new.attempt ≡ self.old.attempt }
+        ensures err { OnErr result (self.new ≡ self.old) }
+    {
+        let turn = self.begun(alloc, mappings)?;
+        self.follow(
+            alloc,
+            turn,
+            Hand {
+                budget,
+                answers: false,
+            },
+        )
+    }
+
+    // What the next step comes to before any answer.
+    fn begun(&self, alloc: Global, mappings: &MappingList) -> Result<Turn, Memory>
+        requires next { wish self.now ≡ WishesStep }
+        requires within { AreWithin (map rule_of mappings.now.items) }
+        ensures value { IfOk result (λ turn. turn_tree (map rule_of mappings.now.items) self.now.attempt turn ≡ step (map rule_of mappings.now.items) self.now.attempt None) }
+        ensures turn { IfOk result (IsTurnOf self.now.attempt.phase) }
+    {
+        match &self.point {
+            Point::Start => start(alloc, &self.operation),
+            Point::Look => look(alloc, self.number, 0, mappings),
+            Point::Repair(repair) => match repair.wants() {
+                RepairWant::NextStep => generated(alloc, repair, mappings),
+                RepairWant::Finished => look(alloc, self.number, 0, mappings),
+                RepairWant::Query(_) => unreachable!(),
+                RepairWant::Question(_) => unreachable!(),
+            },
+            Point::Ended(_) => unreachable!(),
+            Point::Reading(_) => unreachable!(),
+        }
+    }
+
+    /// Takes the answer to the query that is asked, and goes on by it up to the next query or the end of the step. While
+    /// the step asks, the attempt stays as it was.
+    pub fn take(
+        &mut self,
+        alloc: Global,
+        answer: &Answer,
+        mappings: &MappingList,
+    ) -> Result<(), Memory>
+        requires within { AreWithin (map rule_of mappings.now.items) }
+        requires kind { TakesAnswer (map rule_of mappings.now.items) (wish self.old) (reply_of answer.now) }
+        ensures step { OnOk result (course (map rule_of mappings.now.items) self.new ≡ by_reply (course (map rule_of mappings.now.items) self.old) (reply_of answer.now)) }
+        ensures attempt { is_some self.new.reading ≡ true → self.new.attempt ≡ self.old.attempt }
+        ensures err { OnErr result (self.new ≡ self.old) }
+    {
+        let turn = match &self.point {
+            Point::Reading(reading) => {
+                answered(
+                    alloc,
+                    &self.operation,
+                    self.fresh(),
+                    reading,
+                    answer,
+                    mappings,
+                )?
+            }
+            Point::Repair(repair) => mended(alloc, repair, answer, mappings)?,
+            Point::Start => unreachable!(),
+            Point::Look => unreachable!(),
+            Point::Ended(_) => unreachable!(),
+        };
+        let hand = self.hand;
+        self.follow(alloc, turn, hand)
+    }
+
+    /// Takes an answer that fits the question, and makes the step of it up to its first query or its end. The budget is
+    /// as for `begin`. While the step asks, the attempt stays as it was.
+    pub fn choose(
+        &mut self,
+        alloc: Global,
+        choice: &Choice,
+        mappings: &MappingList,
+        budget: u32,
+    ) -> Result<(), Memory>
+        requires fits { Fits (wish self.old) (choice_of choice.now) }
+        requires within { AreWithin (map rule_of mappings.now.items) }
+        requires budget { IsBudget self.old.attempt.steps budget }
+        ensures step { OnOk result (course (map rule_of mappings.now.items) self.new ≡ coming_to budget self.old.attempt (step (map rule_of mappings.now.items) self.old.attempt (Some (choice_of choice.now)))) }
+        ensures attempt { is_some self.new.reading ≡ true → self.new.attempt ≡ self.old.attempt }
+        ensures err { OnErr result (self.new ≡ self.old) }
+    {
+        let turn = match &self.point {
+            Point::Repair(repair) => chosen(alloc, repair, choice, mappings)?,
+            Point::Start => unreachable!(),
+            Point::Look => unreachable!(),
+            Point::Ended(_) => unreachable!(),
+            Point::Reading(_) => unreachable!(),
+        };
+        self.follow(
+            alloc,
+            turn,
+            Hand {
+                budget,
+                answers: true,
+            },
+        )
+    }
+
+    // Goes on to what the step has come to.
+    fn follow(&mut self, alloc: Global, turn: Turn, hand: Hand) -> Result<(), Memory>
+        requires budget { IsBudget self.old.attempt.steps hand.budget }
+        requires answers { hand.answers ≡ is_some (question_in self.old.attempt.phase) }
+        requires turn { IsTurnOf self.old.attempt.phase turn }
+        ensures step { OnOk result ((ms : List Rule) → course ms self.new ≡ coming_to hand.budget self.old.attempt (turn_tree ms self.old.attempt turn)) }
+        ensures attempt { is_some self.new.reading ≡ true → self.new.attempt ≡ self.old.attempt }
+        ensures err { OnErr result (self.new ≡ self.old) }
+    {
+        match turn {
+            Turn::Asks(reading) => {
+                self.point = Point::Reading(reading);
+                self.hand = hand;
+                Ok(())
+            }
+            Turn::Mends(repair) => {
+                self.point = Point::Repair(repair);
+                self.hand = hand;
+                Ok(())
+            }
+            Turn::Moves(step) => self.land(alloc, step, hand),
+        }
+    }
+
+    // Does what the step does, and counts it.
+    fn land(&mut self, alloc: Global, step: Move, hand: Hand) -> Result<(), Memory>
+        requires budget { IsBudget self.old.attempt.steps hand.budget }
+        requires answers { hand.answers ≡ is_some (question_in self.old.attempt.phase) }
+        ensures moved { OnOk result (self.new ≡ record { attempt = moved hand.budget self.old.attempt (move_of step); reading = None }) }
+        ensures err { OnErr result (self.new ≡ self.old) }
+    {
+        append(alloc, &mut self.own, step.writes)?;
+        self.steps += 1;
+        self.nulls += step.drawn;
+        self.taken = counted(self.taken, hand.answers);
+        self.point = kept(step.point, self.steps, hand.budget);
+        Ok(())
+    }
+
+    // From where the attempt draws its nulls.
+    fn fresh(&self) -> Fresh
+        ensures draws { DrawsFrom self.now.attempt result }
+        ensures room { result.drawn ≤ 19200 }
+    {
+        Fresh {
+            update: self.number,
+            attempt: self.attempt,
+            drawn: self.nulls,
+        }
+    }
+
+    /// The writes that the attempt has made, in order.
+    pub fn own(&self) -> &WriteList
+        ensures own { map change_of result.now.items ≡ self.now.attempt.own }
+    {
+        &self.own
+    }
+
+    /// How many steps it has made.
+    pub fn steps(&self) -> u32
+        ensures steps { result ≡ self.now.attempt.steps }
+        ensures most { result ≤ 300 }
+    {
+        self.steps
+    }
+
+    /// How many nulls it has drawn.
+    pub fn nulls(&self) -> u32
+        ensures nulls { result ≡ self.now.attempt.nulls }
+    {
+        self.nulls
+    }
+
+    /// How many answers to questions it has taken.
+    pub fn taken(&self) -> u32
+        ensures taken { result ≡ self.now.attempt.taken }
+        ensures most { result ≤ self.now.attempt.steps }
+    {
+        self.taken
+    }
+
+    /// The direction of its repairs.
+    pub fn direction(&self) -> Direction
+        ensures heading { heading_of result ≡ direction_of self.now.attempt.operation }
+    {
+        self.operation.direction()
+    }
+}
+
+// The count of answers after a step that takes one or none.
+fn counted(taken: u32, answers: bool) -> u32
+    requires { taken ≤ 300 }
+    ensures value { result ≡ (if answers then suc taken else taken) }
+    ensures most { result ≤ taken + 1 }
+{
+    if answers { taken + 1 } else { taken }
+}
+
+// The point, unless all steps are made and the attempt has not ended there: it is then spent.
+fn kept(point: Point, steps: u32, budget: u32) -> Point
+    requires { row_at point ≡ None }
+    ensures phase { phase_at result ≡ (if is_some (outcome_in (phase_at point)) || nat_lt steps budget then phase_at point else Ended Spent) }
+    ensures rests { row_at result ≡ None }
+{
+    match point {
+        Point::Ended(end) => Point::Ended(end),
+        _ => if steps < budget {
+            point
+        } else {
+            Point::Ended(End::Spent)
+        },
+    }
+}
+
+// What a repair wants, as a program wants it.
+fn want_of_repair(repair: &Repair) -> Want<'_>
+    ensures want { want_of result ≡ wish_of_repair repair.now }
+{
+    match repair.wants() {
+        RepairWant::Query(query) => Want::Read(query),
+        RepairWant::Question(question) => Want::Choice(question),
+        RepairWant::NextStep => Want::NextStep,
+        RepairWant::Finished => Want::NextStep,
+    }
+}
+
+impl TryCopy for Program {
+    ghost use Rattle.yt_program.specs.Courses.{State};
+
+    ghost Meaning = { State };
+
+    ghost meaning = { λ s. s };
+
+    fn copy(&self, alloc: Global) -> Result<Program, Memory>
+        ensures same { IfOk result (λ copy. copy ≡ self.now) }
+    {
+        Ok(Program {
+            number: self.number,
+            attempt: self.attempt,
+            operation: self.operation.copy(alloc)?,
+            own: self.own.copy(alloc)?,
+            steps: self.steps,
+            nulls: self.nulls,
+            taken: self.taken,
+            hand: self.hand,
+            point: self.point.copy(alloc)?,
+        })
+    }
+}

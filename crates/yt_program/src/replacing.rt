@@ -1,0 +1,103 @@
+//! The step of a replacement: the tuples that hold the null are rewritten.
+ghost use Rattle.std.specs.Prelude.{◌≡◌, List, map, IfOk};
+ghost use Rattle.yt_model.specs.Values.{NullName, Unknown};
+ghost use Rattle.yt_model.specs.Mappings.{Rule};
+ghost use Rattle.yt_model.specs.Queries.{Occurs};
+ghost use Rattle.yt_base.specs.Meanings.{null_of, datum_of, fact_of, operation_of};
+ghost use Rattle.yt_query.specs.Meanings.{reply_of};
+ghost use Rattle.yt_query.specs.Kinds.{IsOfKind};
+ghost use Rattle.yt_steps.specs.Attempts.{Attempt, Start, Look};
+ghost use Rattle.yt_steps.specs.Rewriting.{rewrite as rewrite_lem, replacing, standing_for as standing_for_lem};
+ghost use Rattle.yt_steps.specs.Steps.{makes};
+ghost use Rattle.yt_program.specs.Rows.{Replacing, Renaming, goes_on, replaced as replaced_lem};
+ghost use Rattle.yt_program.specs.TurnMeanings.{turn_tree, IsTurnOf};
+
+use crate::found::{holders, standing_for};
+use crate::readings::Reading;
+use crate::rows::Row;
+use crate::turns::Turn;
+use std::alloc::Global;
+use yt_base::{Memory, Null, Operation, Sub, TryCopy, TupleList, Value, WriteList};
+use yt_chase::rewrite;
+use yt_query::{Answer, Query};
+
+/// Goes on by the answer to the look-up of the null that is to be replaced. It is refused only for want of memory.
+pub(crate) fn found_replaced(
+    alloc: Global,
+    operation: &Operation,
+    name: Null,
+    answer: &Answer,
+) -> Result<Turn, Memory>
+    requires { (ms : List Rule) → IsOfKind ms (Occurs name.update name.place) (reply_of answer.now) }
+    ensures value { IfOk result (λ turn. (ms : List Rule) (P : Attempt) → P.operation ≡ operation_of operation.now → turn_tree ms P turn ≡ goes_on ms P (Replacing (null_of name)) (reply_of answer.now)) }
+    ensures turn { IfOk result (IsTurnOf Start) }
+{
+    match holders(answer) {
+        Some(tuples) => match standing_for(alloc, name, tuples)? {
+            Value::Null(null) => replaced(alloc, operation, null, tuples),
+            Value::Int(_) => unreachable!(),
+            Value::Word(_) => unreachable!(),
+        },
+        None => Ok(Turn::refuses(alloc, name)),
+    }
+}
+
+// Looks up what is to stand in place of the null, if that is a null too; else rewrites the tuples that hold it.
+fn replaced(
+    alloc: Global,
+    operation: &Operation,
+    null: Null,
+    tuples: &TupleList,
+) -> Result<Turn, Memory>
+    ensures value { IfOk result (λ turn. (ms : List Rule) (P : Attempt) (n : NullName) → standing_for_lem n (map fact_of tuples.now.items) ≡ Unknown (null_of null) → turn_tree ms P turn ≡ replaced_lem (operation_of operation.now) n (map fact_of tuples.now.items)) }
+    ensures turn { IfOk result (IsTurnOf Start) }
+{
+    match operation {
+        Operation::Insert(_) => Ok(Turn::looks(WriteList::new(alloc))),
+        Operation::Delete(_) => Ok(Turn::looks(WriteList::new(alloc))),
+        Operation::Replace(_, value) => match value {
+            Value::Null(name) => Ok(Turn::Asks(Reading {
+                query: Query::Occurs(name.update, name.place),
+                row: Row::Renaming {
+                    name: *name,
+                    null,
+                    tuples: tuples.copy(alloc)?,
+                },
+            })),
+            Value::Int(_) => rewritten(alloc, null, value.copy(alloc)?, tuples),
+            Value::Word(_) => rewritten(alloc, null, value.copy(alloc)?, tuples),
+        },
+        Operation::Enact(_) => Ok(Turn::looks(WriteList::new(alloc))),
+    }
+}
+
+/// Goes on by the answer to the look-up of the null that replaces the other one in these tuples. It is refused only for
+/// want of memory.
+pub(crate) fn found_replacement(
+    alloc: Global,
+    name: Null,
+    null: Null,
+    tuples: &TupleList,
+    answer: &Answer,
+) -> Result<Turn, Memory>
+    ensures value { IfOk result (λ turn. (ms : List Rule) (P : Attempt) → turn_tree ms P turn ≡ goes_on ms P (Renaming (null_of name) (Unknown (null_of null)) (map fact_of tuples.now.items)) (reply_of answer.now)) }
+    ensures turn { IfOk result (IsTurnOf Start) }
+{
+    match holders(answer) {
+        Some(holding) => {
+            let value = standing_for(alloc, name, holding)?;
+            rewritten(alloc, null, value, tuples)
+        }
+        None => Ok(Turn::refuses(alloc, name)),
+    }
+}
+
+// Rewrites the tuples with the value in place of the null.
+fn rewritten(alloc: Global, null: Null, value: Value, tuples: &TupleList) -> Result<Turn, Memory>
+    ensures value { IfOk result (λ turn. (ms : List Rule) (P : Attempt) → turn_tree ms P turn ≡ makes (rewrite_lem (replacing (Unknown (null_of null)) (datum_of value)) (map fact_of tuples.now.items)) Look) }
+    ensures turn { IfOk result (IsTurnOf Start) }
+{
+    let mut sub = Sub::new(alloc);
+    sub.set(null, value)?;
+    Ok(Turn::looks(rewrite(alloc, &sub, tuples)?))
+}

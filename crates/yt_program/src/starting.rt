@@ -1,0 +1,203 @@
+//! The step of an insertion or a deletion: its named nulls are looked up, then it is asked whether its tuple is there.
+ghost use Rattle.std.specs.Prelude.{◌≡◌, List, [], ◌∷◌, ◌++◌, drop, map, IfOk};
+ghost use Rattle.yt_model.specs.Mappings.{Rule, force as force_lem};
+ghost use Rattle.yt_base.specs.Meanings.{null_of, datum_of, fact_of, operation_of};
+ghost use Rattle.yt_query.specs.Meanings.{query_of, reply_of};
+ghost use Rattle.yt_steps.specs.Attempts.{Attempt, Start};
+ghost use Rattle.yt_steps.specs.Rewriting.{nulls_in as nulls_in_lem};
+ghost use Rattle.yt_steps.specs.Steps.{start as start_lem, is_yes as is_yes_lem};
+ghost use Rattle.yt_program.specs.Rows.{Writing, row_tree, goes_on, named, present as present_lem, written as written_lem};
+ghost use Rattle.yt_program.specs.RowMeanings.{standing_of, naming_of, tuple_asked};
+ghost use Rattle.yt_program.specs.TurnMeanings.{turn_tree, IsTurnOf};
+
+use crate::found::{Standing, StandingList, holders, resolved, standing_for};
+use crate::readings::Reading;
+use crate::rows::{Naming, NullList, Row};
+use crate::turns::Turn;
+use crate::writes::one;
+use std::alloc::Global;
+use yt_base::{Memory, Operation, Row as ValueRow, TryCopy, Tuple, Value, Write, WriteList};
+use yt_chase::nulls_in;
+use yt_query::{Answer, Query};
+
+/// Begins the step of the operation. It is refused only for want of memory.
+pub(crate) fn start(alloc: Global, operation: &Operation) -> Result<Turn, Memory>
+    ensures value { IfOk result (λ turn. (ms : List Rule) (P : Attempt) → P.operation ≡ operation_of operation.now → turn_tree ms P turn ≡ start_lem (operation_of operation.now)) }
+    ensures turn { IfOk result (IsTurnOf Start) }
+{
+    match operation {
+        Operation::Insert(tuple) => look_up(alloc, operation, tuple),
+        Operation::Delete(tuple) => look_up(alloc, operation, tuple),
+        Operation::Replace(name, _) => Ok(Turn::Asks(Reading {
+            query: Query::Occurs(name.update, name.place),
+            row: Row::Replacing(*name),
+        })),
+        Operation::Enact(mapping) => Ok(Turn::looks(one(
+            alloc,
+            Write::Insert(force(alloc, *mapping)?),
+        )?)),
+    }
+}
+
+// Begins to look up the named nulls of the operation's tuple.
+fn look_up(alloc: Global, operation: &Operation, tuple: &Tuple) -> Result<Turn, Memory>
+    ensures value { IfOk result (λ turn. (ms : List Rule) (P : Attempt) → P.operation ≡ operation_of operation.now → turn_tree ms P turn ≡ named (operation_of operation.now) [] (nulls_in_lem (fact_of tuple.now).values)) }
+    ensures turn { IfOk result (IsTurnOf Start) }
+{
+    let names = nulls_in(alloc, tuple.values.as_slice())?;
+    next_name(alloc, operation, StandingList::new(alloc), names, 0)
+}
+
+/// The tuple which says that the mapping has been put in force. It is refused only for want of memory.
+pub(crate) fn force(alloc: Global, mapping: u16) -> Result<Tuple, Memory>
+    ensures value { IfOk result (λ tuple. fact_of tuple ≡ force_lem mapping) }
+{
+    let mut values = ValueRow::new(alloc);
+    values.push(Value::Int(i64::from(mapping)))?;
+    Ok(Tuple {
+        relation: u16::MAX,
+        values,
+    })
+}
+
+// Asks for the named null at place `next`, with those found before it; after the last one, whether the operation's
+// tuple is there.
+fn next_name(
+    alloc: Global,
+    operation: &Operation,
+    found: StandingList,
+    names: NullList,
+    next: usize,
+) -> Result<Turn, Memory>
+    ensures value { IfOk result (λ turn. (ms : List Rule) (P : Attempt) → P.operation ≡ operation_of operation.now → turn_tree ms P turn ≡ named (operation_of operation.now) (map standing_of found.items) (map null_of (drop next names.items))) }
+    ensures turn { IfOk result (IsTurnOf Start) }
+{
+    match names.get(next) {
+        Some(name) => {
+            let name = *name;
+            Ok(Turn::Asks(Reading {
+                query: Query::Occurs(name.update, name.place),
+                row: Row::Naming(Naming {
+                    found,
+                    name,
+                    names,
+                    next: next + 1,
+                }),
+            }))
+        }
+        None => present(alloc, operation, found.as_slice()),
+    }
+}
+
+// Asks whether the operation's tuple, with the named nulls resolved, is there.
+fn present(alloc: Global, operation: &Operation, found: &[Standing]) -> Result<Turn, Memory>
+    ensures value { IfOk result (λ turn. (ms : List Rule) (P : Attempt) → P.operation ≡ operation_of operation.now → turn_tree ms P turn ≡ present_lem (operation_of operation.now) (map standing_of found.now)) }
+    ensures turn { IfOk result (IsTurnOf Start) }
+{
+    match operation {
+        Operation::Insert(tuple) => Ok(asks_for(resolved(alloc, found, tuple)?)),
+        Operation::Delete(tuple) => Ok(asks_for(resolved(alloc, found, tuple)?)),
+        Operation::Replace(_, _) => Ok(Turn::looks(WriteList::new(alloc))),
+        Operation::Enact(_) => Ok(Turn::looks(WriteList::new(alloc))),
+    }
+}
+
+// Asks whether the tuple is there, of which the operation then decides.
+fn asks_for(tuple: Tuple) -> Turn
+    ensures tree { (ms : List Rule) (P : Attempt) → turn_tree ms P result ≡ row_tree ms P (Writing (fact_of tuple)) }
+    ensures turn { IsTurnOf Start result }
+{
+    Turn::Asks(Reading {
+        query: Query::Present(tuple),
+        row: Row::Writing,
+    })
+}
+
+/// Goes on by the answer to the look-up of a named null. It is refused only for want of memory.
+pub(crate) fn found_name(
+    alloc: Global,
+    operation: &Operation,
+    naming: &Naming,
+    answer: &Answer,
+) -> Result<Turn, Memory>
+    ensures value { IfOk result (λ turn. (ms : List Rule) (P : Attempt) → P.operation ≡ operation_of operation.now → turn_tree ms P turn ≡ goes_on ms P (naming_of naming.now) (reply_of answer.now)) }
+    ensures turn { IfOk result (IsTurnOf Start) }
+{
+    match holders(answer) {
+        Some(tuples) => {
+            let value = standing_for(alloc, naming.name, tuples)?;
+            let found = with_standing(alloc, naming, value)?;
+            let names = NullList::from_vec(Vec::from_slice(alloc, naming.names.as_slice())?);
+            next_name(alloc, operation, found, names, naming.next)
+        }
+        None => Ok(Turn::refuses(alloc, naming.name)),
+    }
+}
+
+// The pairs found before, and that of the named null with the value.
+fn with_standing(alloc: Global, naming: &Naming, value: Value) -> Result<StandingList, Memory>
+    ensures value { IfOk result (λ found. map standing_of found.items ≡ map standing_of naming.now.found.items ++ (null_of naming.now.name, datum_of value) ∷ []) }
+{
+    let mut found = naming.found.copy(alloc)?;
+    found.push(Standing {
+        name: naming.name,
+        value,
+    })?;
+    Ok(found)
+}
+
+/// Goes on by whether the tuple that the query asks for is there. It is refused only for want of memory.
+pub(crate) fn tuple_found(
+    alloc: Global,
+    operation: &Operation,
+    query: &Query,
+    there: bool,
+) -> Result<Turn, Memory>
+    ensures value { IfOk result (λ turn. (ms : List Rule) (P : Attempt) → turn_tree ms P turn ≡ written_lem (operation_of operation.now) (tuple_asked (query_of query.now)) there) }
+    ensures turn { IfOk result (IsTurnOf Start) }
+{
+    match query {
+        Query::Present(tuple) => written(alloc, operation, tuple, there),
+        Query::Specific(tuple) => written(alloc, operation, tuple, there),
+        Query::Violation(_) => written(alloc, operation, &nothing(alloc), there),
+        Query::Occurs(_, _) => written(alloc, operation, &nothing(alloc), there),
+    }
+}
+
+// The tuple without values.
+fn nothing(alloc: Global) -> Tuple
+    ensures value { fact_of result ≡ record { relation = 0; values = [] } }
+{
+    Tuple {
+        relation: 0,
+        values: ValueRow::new(alloc),
+    }
+}
+
+// An insertion writes the tuple where it is not there, a deletion where it is.
+fn written(alloc: Global, operation: &Operation, tuple: &Tuple, there: bool) -> Result<Turn, Memory>
+    ensures value { IfOk result (λ turn. (ms : List Rule) (P : Attempt) → turn_tree ms P turn ≡ written_lem (operation_of operation.now) (fact_of tuple.now) there) }
+    ensures turn { IfOk result (IsTurnOf Start) }
+{
+    match operation {
+        Operation::Insert(_) => if there {
+            Ok(Turn::looks(WriteList::new(alloc)))
+        } else {
+            Ok(Turn::looks(one(alloc, Write::Insert(tuple.copy(alloc)?))?))
+        },
+        Operation::Delete(_) => if there {
+            Ok(Turn::looks(one(alloc, Write::Delete(tuple.copy(alloc)?))?))
+        } else {
+            Ok(Turn::looks(WriteList::new(alloc)))
+        },
+        Operation::Replace(_, _) => Ok(Turn::looks(WriteList::new(alloc))),
+        Operation::Enact(_) => Ok(Turn::looks(WriteList::new(alloc))),
+    }
+}
+
+/// Whether the answer is yes.
+pub(crate) fn is_yes(answer: &Answer) -> bool
+    ensures answer { result ≡ is_yes_lem (reply_of answer.now) }
+{
+    matches!(answer, Answer::Yes)
+}

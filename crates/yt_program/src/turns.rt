@@ -1,0 +1,61 @@
+//! What a step has come to.
+ghost use Rattle.std.specs.Prelude.{◌≡◌, [], List, map};
+ghost use Rattle.yt_model.specs.Mappings.{Rule};
+ghost use Rattle.yt_base.specs.Meanings.{null_of, change_of};
+ghost use Rattle.yt_steps.specs.Attempts.{Attempt, Start, Look, Ended, Done, Refused};
+ghost use Rattle.yt_steps.specs.Steps.{makes};
+ghost use Rattle.yt_program.specs.TurnMeanings.{turn_tree, IsTurnOf};
+
+use crate::ends::End;
+use crate::moves::Move;
+use crate::points::Point;
+use crate::readings::Reading;
+use std::alloc::Global;
+use yt_base::{Null, WriteList};
+use yt_chase::Repair;
+
+/// What a step comes to by the answers so far: it asks a query, of its own or of the repair in hand, or it does this.
+#[derive(Debug, Drop)]
+pub(crate) enum Turn {
+    Asks(Reading),
+    Mends(Repair),
+    Moves(Move),
+}
+
+impl Turn {
+    /// The step of an operation makes the writes, and a look comes next.
+    pub(crate) fn looks(writes: WriteList) -> Turn
+        ensures tree { (ms : List Rule) (P : Attempt) → turn_tree ms P result ≡ makes (map change_of writes.items) Look }
+        ensures turn { IsTurnOf Start result }
+    {
+        Turn::Moves(Move {
+            writes,
+            point: Point::Look,
+            drawn: 0,
+        })
+    }
+
+    /// The step of an operation finds the null nowhere, and the attempt is refused.
+    pub(crate) fn refuses(alloc: Global, name: Null) -> Turn
+        ensures tree { (ms : List Rule) (P : Attempt) → turn_tree ms P result ≡ makes [] (Ended (Refused (null_of name))) }
+        ensures turn { IsTurnOf Start result }
+    {
+        Turn::Moves(Move {
+            writes: WriteList::new(alloc),
+            point: Point::Ended(End::Refused(name)),
+            drawn: 0,
+        })
+    }
+
+    /// The look finds no violation, and the attempt is done.
+    pub(crate) fn ends(alloc: Global) -> Turn
+        ensures tree { (ms : List Rule) (P : Attempt) → turn_tree ms P result ≡ makes [] (Ended Done) }
+        ensures turn { IsTurnOf Look result }
+    {
+        Turn::Moves(Move {
+            writes: WriteList::new(alloc),
+            point: Point::Ended(End::Done),
+            drawn: 0,
+        })
+    }
+}
