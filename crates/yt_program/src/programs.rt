@@ -1,5 +1,5 @@
 //! A program: an attempt at an update, step by step.
-ghost use Rattle.std.specs.Prelude.{◌≡◌, ◌+◌, ◌≤◌, ◌||◌, suc, true, nat_lt, if◌then◌else◌, None, Some, List, map, is_some, IfOk, OnOk, OnErr};
+ghost use Rattle.std.specs.Prelude.{◌≡◌, ◌+◌, ◌≤◌, ◌||◌, suc, true, false, nat_lt, if◌then◌else◌, None, Some, List, map, is_some, IfOk, OnOk, OnErr};
 ghost use Rattle.yt_model.specs.Mappings.{Rule};
 ghost use Rattle.yt_base.specs.Meanings.{change_of, choice_of, operation_of, heading_of, rule_of};
 ghost use Rattle.yt_model.specs.Updates.{direction_of};
@@ -10,6 +10,7 @@ ghost use Rattle.yt_program.specs.Conditions.{AreWithin, IsBudget};
 ghost use Rattle.yt_program.specs.Courses.{coming_to, course, by_reply, first_asked};
 ghost use Rattle.yt_program.specs.Wishes.{wish, wish_of_repair, WishesStep, query_wished, TakesAnswer, Fits};
 ghost use Rattle.yt_chase.specs.Meanings.{DrawsFrom};
+ghost use Rattle.yt_chase.specs.Repairs.{is_asking};
 ghost use Rattle.yt_program.specs.PointMeanings.{want_of, phase_at, row_at};
 ghost use Rattle.yt_program.specs.TurnMeanings.{move_of, turn_tree, IsTurnOf};
 
@@ -94,6 +95,7 @@ impl Program {
     pub fn wants(&self) -> Want<'_>
         ensures want { want_of result ≡ wish self.now }
         ensures first { (ms : List Rule) → first_asked (course ms self.now) ≡ query_wished (want_of result) }
+        ensures rests { query_wished (want_of result) ≡ None → self.now.reading ≡ None }
     {
         match &self.point {
             Point::Start => Want::NextStep,
@@ -335,6 +337,7 @@ fn kept(point: Point, steps: u32, budget: u32) -> Point
 // What a repair wants, as a program wants it.
 fn want_of_repair(repair: &Repair) -> Want<'_>
     ensures want { want_of result ≡ wish_of_repair repair.now }
+    ensures rests { query_wished (want_of result) ≡ None → is_asking repair.now ≡ false }
 {
     match repair.wants() {
         RepairWant::Query(query) => Want::Read(query),
