@@ -1,0 +1,20 @@
+use Rattle.std.proofs.Common.{◌≡◌, ◌-◌, ◌<◌, false, None, is_some, map}
+use Rattle.yt_base.specs.Meanings.{choice_of, rule_of}
+use Rattle.yt_session.specs.Meanings.{update_of, request_of}
+use Rattle.yt_steps.specs.Attempts.{outcome_in}
+use Rattle.yt_serial.specs.Turns.{rest_from, turn_of, whole_rest}
+use Rattle.yt_serial.proofs.wholes.take_whole.Given as goal
+
+-- Between two steps, from where the attempt comes to the same rest; some steps are left unless it has ended.
+abbrev pub invariant-turns : goal.invariant-turns
+invariant-turns l = record {
+  between : l.program.reading ≡ None;
+  left : is_some (outcome_in l.program.attempt.phase) ≡ false → l.program.attempt.steps < l.budget;
+  together :
+      whole_rest (map rule_of l.mappings.items) l.budget l.facts (turn_of (map rule_of l.mappings.items) l.budget l.number (request_of (update_of l.update)))
+      ≡ rest_from (map rule_of l.mappings.items) l.budget l.facts (map choice_of l.update.answers.items) (l.budget - l.program.attempt.steps) l.program.attempt;
+}
+
+-- How many steps are left.
+abbrev pub decreases-turns : goal.decreases-turns
+decreases-turns l = l.budget - l.program.attempt.steps

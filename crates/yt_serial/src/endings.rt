@@ -1,0 +1,78 @@
+//! What is told of an update that has come to rest.
+ghost use Rattle.std.specs.Prelude.{◌≡◌, ℕ, [], ◌∷◌, true, List, map, is_some, None, Some, IfOk, OnOk};
+ghost use Rattle.yt_machine.specs.Updates.{shown};
+ghost use Rattle.yt_model.specs.Mappings.{Rule};
+ghost use Rattle.yt_model.specs.Repository.{apply};
+ghost use Rattle.yt_steps.specs.Chase.{caused_chase};
+ghost use Rattle.yt_serial.specs.Runs.{HasFinished};
+ghost use Rattle.std.specs.Option.{option_map};
+ghost use Rattle.yt_steps.specs.Attempts.{question_in, outcome_in};
+ghost use Rattle.yt_steps.specs.Serial.{finished, stopped};
+ghost use Rattle.yt_program.specs.PointMeanings.{end_of};
+ghost use Rattle.yt_program.specs.Results.{finish_in, finish_of, lack_of, stop_in, stop_of};
+ghost use Rattle.yt_program.specs.Wishes.{end_in};
+
+use crate::repositories::keep;
+use std::alloc::Global;
+use yt_base::{Memory, TryCopy};
+use yt_facts::IndexedFacts;
+use yt_program::{Finish, FinishList, Lack, Program, Stop, Want};
+
+// What is told of an update that has ended. It takes no memory.
+fn finish(program: &Program) -> Finish
+    requires between { program.now.reading ≡ None }
+    requires ended { is_some (outcome_in program.now.attempt.phase) ≡ true }
+    ensures told { (n : ℕ) → map finish_in (finished n program.now.attempt) ≡ finish_of result ∷ [] }
+    ensures outcome { option_map end_in (outcome_in program.now.attempt.phase) ≡ Some (end_of result.outcome) }
+{
+    match program.wants() {
+        Want::Ended(outcome) => Finish {
+            outcome,
+            steps: program.steps(),
+            nulls: program.nulls(),
+        },
+        Want::Read(_) => unreachable!(),
+        Want::Choice(_) => unreachable!(),
+        Want::NextStep => unreachable!(),
+    }
+}
+
+/// What is told of the update of this number, which stops at a question for what is lacking. It is refused only for
+/// want of memory.
+pub fn stop(alloc: Global, program: &Program, number: u32, lack: Lack) -> Result<Stop, Memory>
+    requires between { program.now.reading ≡ None }
+    requires asked { is_some (question_in program.now.attempt.phase) ≡ true }
+    ensures told { IfOk result (λ stop. option_map stop_in (stopped number program.now.attempt (lack_of lack)) ≡ Some (stop_of stop)) }
+{
+    match program.wants() {
+        Want::Choice(question) => {
+            let question = question.copy(alloc)?;
+            Ok(Stop {
+                update: number,
+                question,
+                lack,
+            })
+        }
+        Want::Read(_) => unreachable!(),
+        Want::Ended(_) => unreachable!(),
+        Want::NextStep => unreachable!(),
+    }
+}
+
+/// Tells the finish of an update that has ended, and keeps its writes. It is refused only for want of memory.
+pub fn end(
+    alloc: Global,
+    finishes: &mut FinishList,
+    facts: &mut IndexedFacts,
+    program: &Program,
+) -> Result<(), Memory>
+    requires between { program.now.reading ≡ None }
+    requires ended { is_some (outcome_in program.now.attempt.phase) ≡ true }
+    ensures told { OnOk result ((n : ℕ) → HasFinished n program.now.attempt (map finish_of finishes.old.items) (map finish_of finishes.new.items)) }
+    ensures kept { OnOk result ((ms : List Rule) (B : ℕ) → facts.new ≡ apply facts.old (shown (caused_chase ms B) program.now.attempt)) }
+{
+    let finish = finish(program);
+    keep(alloc, facts, program, finish.outcome)?;
+    finishes.push(finish)?;
+    Ok(())
+}

@@ -1,0 +1,84 @@
+//! The repository of a run: what an update leaves in it, and what is told of it.
+ghost use Rattle.std.specs.Prelude.{◌≡◌, ℕ, List, map, Some, IfOk, OnOk};
+ghost use Rattle.std.specs.Option.{option_map};
+ghost use Rattle.yt_machine.specs.Updates.{shown};
+ghost use Rattle.yt_model.specs.Mappings.{Rule};
+ghost use Rattle.yt_model.specs.Repository.{apply, change};
+ghost use Rattle.yt_base.specs.Meanings.{change_of, fact_of};
+ghost use Rattle.yt_steps.specs.Attempts.{outcome_in};
+ghost use Rattle.yt_steps.specs.Chase.{caused_chase};
+ghost use Rattle.yt_steps.specs.Serial.{answered};
+ghost use Rattle.yt_program.specs.PointMeanings.{end_of};
+ghost use Rattle.yt_program.specs.Wishes.{end_in};
+
+use std::alloc::Global;
+use yt_base::{Memory, TryCopy, Tuple, TupleList, Write};
+use yt_facts::IndexedFacts;
+use yt_program::{Outcome, Program};
+
+// The relation of the tuples that say which mappings are in force.
+const FORCE_RELATION: u16 = 65535;
+
+/// Makes the writes of an update that has ended so: where it is done those that it made, and else none. It is refused
+/// only for want of memory.
+pub(crate) fn keep(
+    alloc: Global,
+    facts: &mut IndexedFacts,
+    program: &Program,
+    outcome: Outcome,
+) -> Result<(), Memory>
+    requires outcome { option_map end_in (outcome_in program.now.attempt.phase) ≡ Some (end_of outcome) }
+    ensures kept { OnOk result ((ms : List Rule) (B : ℕ) → facts.new ≡ apply facts.old (shown (caused_chase ms B) program.now.attempt)) }
+{
+    match outcome {
+        Outcome::Done => make(alloc, facts, program.own().as_slice()),
+        Outcome::Spent => Ok(()),
+        Outcome::Refused { .. } => Ok(()),
+    }
+}
+
+// Makes the writes in turn.
+fn make(alloc: Global, facts: &mut IndexedFacts, writes: &[Write]) -> Result<(), Memory>
+    ensures made { OnOk result (facts.new ≡ apply facts.old (map change_of writes.now)) }
+{
+    for write in writes {
+        make_one(alloc, facts, write)?;
+    }
+    Ok(())
+}
+
+fn make_one(alloc: Global, facts: &mut IndexedFacts, write: &Write) -> Result<(), Memory>
+    ensures made { OnOk result (facts.new ≡ change facts.old (change_of write.now)) }
+{
+    match write {
+        Write::Insert(tuple) => {
+            facts.insert(tuple.copy(alloc)?)?;
+        }
+        Write::Delete(tuple) => {
+            facts.remove(tuple);
+        }
+    }
+    Ok(())
+}
+
+/// The tuples of the repository in order, without those that say which mappings are in force. It is refused only for
+/// want of memory.
+pub fn told(alloc: Global, facts: &IndexedFacts) -> Result<TupleList, Memory>
+    ensures told { IfOk result (λ tuples. map fact_of tuples.items ≡ answered facts.now) }
+{
+    let all = facts.list(alloc)?;
+    without_force(alloc, all.as_slice())
+}
+
+// Copies of the tuples but for those that say which mappings are in force.
+fn without_force(alloc: Global, tuples: &[Tuple]) -> Result<TupleList, Memory>
+    ensures others { IfOk result (λ others. map fact_of others.items ≡ answered (map fact_of tuples.now)) }
+{
+    let mut others = TupleList::new(alloc);
+    for tuple in tuples {
+        if tuple.relation != FORCE_RELATION {
+            others.push(tuple.copy(alloc)?)?;
+        }
+    }
+    Ok(others)
+}

@@ -1,0 +1,52 @@
+//! An update taken whole: steps up to its end, or to a question where something is lacking.
+ghost use Rattle.std.specs.Prelude.{◌≡◌, ◌≤◌, map, IfOk, None, is_some, is_none};
+ghost use Rattle.std.specs.Option.{option_map};
+ghost use Rattle.yt_model.specs.Repository.{IsRepository};
+ghost use Rattle.yt_base.specs.Meanings.{rule_of};
+ghost use Rattle.yt_steps.specs.Attempts.{question_in, outcome_in};
+ghost use Rattle.yt_session.specs.Meanings.{update_of, request_of};
+ghost use Rattle.yt_program.specs.Conditions.{AreWithin};
+ghost use Rattle.yt_program.specs.Results.{lack_of};
+ghost use Rattle.yt_serial.specs.Turns.{turn_of, whole_rest};
+
+use crate::stepping::step;
+use crate::turns::{Next, what_next};
+use std::alloc::Global;
+use yt_base::{MappingList, Memory};
+use yt_facts::IndexedFacts;
+use yt_program::{Lack, Program};
+use yt_session::SessionUpdate;
+
+/// An update that has come to rest: at its end, or at a question where something is lacking.
+#[derive(Drop)]
+pub struct Rest {
+    pub program: Program,
+    pub lack: Option<Lack>,
+}
+
+/// The update of this number taken whole over the repository, by attempt 0. It is refused only for want of memory.
+pub fn take_whole(
+    alloc: Global,
+    number: u32,
+    update: &SessionUpdate,
+    facts: &IndexedFacts,
+    mappings: &MappingList,
+    budget: u32,
+) -> Result<Rest, Memory>
+    requires sorted { IsRepository facts.now }
+    requires within { AreWithin (map rule_of mappings.now.items) }
+    requires some { 1 ≤ budget }
+    requires most { budget ≤ 300 }
+    ensures rest { IfOk result (λ rest. whole_rest (map rule_of mappings.now.items) budget facts.now (turn_of (map rule_of mappings.now.items) budget number (request_of (update_of update.now))) ≡ (rest.program.attempt, option_map lack_of rest.lack)) }
+    ensures between { IfOk result (λ rest. rest.program.reading ≡ None) }
+    ensures asked { IfOk result (λ rest. is_some (question_in rest.program.attempt.phase) ≡ is_some rest.lack) }
+    ensures ended { IfOk result (λ rest. is_some (outcome_in rest.program.attempt.phase) ≡ is_none rest.lack) }
+{
+    let mut program = Program::start(alloc, &update.update, number, 0)?;
+    'turns: loop {
+        match what_next(&program, &update.answers) {
+            Next::Step(choice) => step(alloc, &mut program, choice, facts, mappings, budget)?,
+            Next::Rest(lack) => return Ok(Rest { program, lack }),
+        }
+    }
+}
