@@ -1,0 +1,12 @@
+//! What a run leaves, as laws over the definitions: what it leaves fits the session, and the saved session is a session
+//! whose base is what the run left, under other names for its nulls.
+//!
+//! Each law is the contract of a function that does nothing, so that it is proved and can be cited.
+#![tactic(auto)]
+
+mod laws;
+
+pub use crate::laws::{
+    bases_are_renamed, bases_meet_their_mappings, names_keep_mappings, runs_leave_facts,
+    saved_sessions_are_sessions, upgrades_tell_the_same,
+};
