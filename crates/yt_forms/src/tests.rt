@@ -1,3 +1,4 @@
+//! A fact that is a line by itself.
 use super::*;
 use std::alloc::Global;
 use std::test::Fail;
@@ -5,41 +6,6 @@ use yt_base::{List, Memory, Name};
 
 fn name(alloc: Global, bytes: &[u8]) -> Result<Name, Memory> {
     Ok(List::from_vec(Vec::from_slice(alloc, bytes)?))
-}
-
-#[test]
-fn statements_are_read_where_they_may_stand(rt: HostRuntime) -> Result<(), Fail> {
-    let alloc = rt.alloc();
-    let words = vec![in alloc;
-        Word::Name(name(alloc, b"relation")?),
-        Word::Name(name(alloc, b"A")?),
-        Word::Number(2),
-    ]?;
-    assert!(rt;
-        matches!(
-            statement_at(alloc, Section::Relations, 1, &words),
-            Ok(RawStatement::Relation(_, 2))
-        )
-    );
-    assert!(rt;
-        matches!(
-            statement_at(alloc, Section::Mappings, 1, &words),
-            Err(FormRefusal::Expected(Wanted::Statement))
-        )
-    );
-    assert!(rt;
-        matches!(
-            statement_at(alloc, Section::Beginning, 1, &words),
-            Err(FormRefusal::BadHeader)
-        )
-    );
-    assert!(rt;
-        matches!(
-            statement_at(alloc, Section::Relations, 1, &words[..2]),
-            Err(FormRefusal::Expected(Wanted::Number))
-        )
-    );
-    Ok(())
 }
 
 #[test]

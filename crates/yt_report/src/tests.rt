@@ -1,11 +1,10 @@
-//! Result texts of stored sessions, with what an independent implementation tells of them.
+//! A question's text, which no command writes by itself yet, with what an independent implementation tells.
 use super::*;
 use std::alloc::Global;
 use std::test::Fail;
-use yt_base::{List, Mapping, Memory, Name, Null, Operation, Tuple, TupleList, Update, Value};
+use yt_base::{List, Mapping, Memory, Name, Null, Operation, Tuple, Update, Value};
 use yt_frontier::Question;
-use yt_print::print_session;
-use yt_program::{Finish, Lack, Outcome, SessionResult, Stop};
+use yt_program::{Lack, Stop};
 use yt_schema::Schema;
 use yt_session::{Session, SessionUpdate};
 
@@ -13,31 +12,31 @@ fn name(alloc: Global, text: &str) -> Result<Name, Memory> {
     Ok(List::from_vec(Vec::from_slice(alloc, text.as_bytes())?))
 }
 
-// A session of binary relations, and of updates that insert nothing of note.
-fn session(alloc: Global, relations: &[&str], labels: &[&str]) -> Result<Session, Memory> {
+// A session of two binary relations, the mapping m, and an update a of which only the name is told.
+fn session(alloc: Global) -> Result<Session, Memory> {
     let mut schema = Schema::new(alloc);
-    for called in relations {
-        let Ok(_) = schema.relation(name(alloc, called)?, 2) else {
+    for relation in ["City", "Country"] {
+        let Ok(_) = schema.relation(name(alloc, relation)?, 2) else {
             return Err(Memory);
         };
     }
+    let mut mappings = List::new(alloc);
+    mappings.push(mapping(alloc)?)?;
     let mut updates = List::new(alloc);
-    for label in labels {
-        updates.push(update(alloc, label)?)?;
-    }
+    updates.push(update(alloc)?)?;
     Ok(Session {
         format: 1,
         schema,
-        mappings: List::new(alloc),
+        mappings,
         base: List::new(alloc),
         updates,
     })
 }
 
-fn update(alloc: Global, label: &str) -> Result<SessionUpdate, Memory> {
+fn update(alloc: Global) -> Result<SessionUpdate, Memory> {
     Ok(SessionUpdate {
         update: Update {
-            label: name(alloc, label)?,
+            label: name(alloc, "a")?,
             curator: name(alloc, "ann")?,
             operation: Operation::Enact(0),
         },
@@ -57,87 +56,42 @@ fn mapping(alloc: Global) -> Result<Mapping, Memory> {
     })
 }
 
-fn pair(alloc: Global, relation: u16, first: Value, second: Value) -> Result<Tuple, Memory> {
+// A country and its city.
+fn country(alloc: Global, city: Value) -> Result<Tuple, Memory> {
     let mut values = List::new(alloc);
-    values.push(first)?;
-    values.push(second)?;
-    Ok(Tuple { relation, values })
+    values.push(Value::Word(name(alloc, "US")?))?;
+    values.push(city)?;
+    Ok(Tuple {
+        relation: 1,
+        values,
+    })
 }
 
-// A country and its city: a word, or the first null that the second attempt of update 1 drew.
-fn country(alloc: Global, city: Option<&str>) -> Result<Tuple, Memory> {
-    let value = match city {
-        Some(word) => Value::Word(name(alloc, word)?),
-        None => Value::Null(Null {
-            update: 1,
-            attempt: 2,
-            place: 1,
-        }),
-    };
-    pair(alloc, 1, Value::Word(name(alloc, "US")?), value)
-}
-
-fn countries(alloc: Global) -> Result<TupleList, Memory> {
-    let mut tuples = List::new(alloc);
-    tuples.push(country(alloc, Some("DC"))?)?;
-    Ok(tuples)
-}
-
-#[test]
-fn nothing_is_told_of_the_empty_session(rt: HostRuntime) -> Result<(), Fail> {
-    let alloc = rt.alloc();
-    let told = SessionResult {
-        finishes: List::new(alloc),
-        stop: None,
-        repository: List::new(alloc),
-    };
-    assert_eq!(rt;
-        result_text(alloc, &session(alloc, &[], &[])?, &told)?.as_slice(),
-        b"youtopia result 1\nrepository 0\ncommitted 0 of 0\n".as_slice()
-    );
-    Ok(())
-}
-
-#[test]
-fn a_refused_update_is_told_with_its_null(rt: HostRuntime) -> Result<(), Fail> {
-    let alloc = rt.alloc();
-    let mut finishes = List::new(alloc);
-    finishes.push(Finish {
-        outcome: Outcome::Refused {
-            update: 0,
-            place: 9,
+// The question of the update: whether the country with an unknown city is the one with a known city.
+fn stop(alloc: Global) -> Result<Stop, Memory> {
+    let mut candidates = List::new(alloc);
+    candidates.push(country(alloc, Value::Word(name(alloc, "DC")?))?)?;
+    let unknown = Value::Null(Null {
+        update: 1,
+        attempt: 2,
+        place: 1,
+    });
+    Ok(Stop {
+        update: 1,
+        question: Question::Positive {
+            mapping: 0,
+            tuple: country(alloc, unknown)?,
+            candidates,
         },
-        steps: 1,
-        nulls: 0,
-    })?;
-    let mut repository = List::new(alloc);
-    repository.push(pair(alloc, 0, Value::Int(2), Value::Int(1))?)?;
-    let told = SessionResult {
-        finishes,
-        stop: None,
-        repository,
-    };
-    assert_eq!(rt;
-        result_text(alloc, &session(alloc, &["A"], &["a"])?, &told)?.as_slice(),
-        b"youtopia result 1\nupdate 1 a ann refused ?0.9 steps 1 nulls 0\nrepository 1\nA(2, 1)\ncommitted 1 of 1\n".as_slice()
-    );
-    Ok(())
+        lack: Lack::Missing,
+    })
 }
 
 #[test]
 fn a_stop_is_told_with_its_question(rt: HostRuntime) -> Result<(), Fail> {
     let alloc = rt.alloc();
-    let mut stuck = session(alloc, &["City", "Country"], &["a"])?;
-    stuck.mappings.push(mapping(alloc)?)?;
-    let stop = Stop {
-        update: 1,
-        question: Question::Positive {
-            mapping: 0,
-            tuple: country(alloc, None)?,
-            candidates: countries(alloc)?,
-        },
-        lack: Lack::Missing,
-    };
+    let stuck = session(alloc)?;
+    let stop = stop(alloc)?;
     assert_eq!(rt;
         question_text(alloc, &stuck, &stop)?.as_slice(),
         b"stuck 1 a ann missing\nquestion positive m Country(\"US\", ?1.1)\ncandidate Country(\"US\", \"DC\")\n".as_slice()
@@ -145,37 +99,6 @@ fn a_stop_is_told_with_its_question(rt: HostRuntime) -> Result<(), Fail> {
     assert_eq!(rt;
         question_lines(alloc, &stuck, &stop.question)?.as_slice(),
         b"question positive m Country(\"US\", ?1.1)\ncandidate Country(\"US\", \"DC\")\n".as_slice()
-    );
-    Ok(())
-}
-
-// What a run left of a city whose country's null the second attempt of update 1 drew.
-fn left(alloc: Global) -> Result<SessionResult, Memory> {
-    let mut finishes = List::new(alloc);
-    finishes.push(Finish {
-        outcome: Outcome::Done,
-        steps: 4,
-        nulls: 1,
-    })?;
-    let mut repository = List::new(alloc);
-    repository.push(country(alloc, None)?)?;
-    Ok(SessionResult {
-        finishes,
-        stop: None,
-        repository,
-    })
-}
-
-#[test]
-fn a_session_is_saved_with_nulls_of_a_base(rt: HostRuntime) -> Result<(), Fail> {
-    let alloc = rt.alloc();
-    let told = left(alloc)?;
-    let Ok(begun) = saved(alloc, session(alloc, &["City", "Country"], &["a"])?, &told) else {
-        return Err(Fail::from(Memory));
-    };
-    assert_eq!(rt;
-        print_session(alloc, &begun)?.as_slice(),
-        b"youtopia 2\nrelation City 2\nrelation Country 2\nbase Country(\"US\", ?0.1)\nend\n".as_slice()
     );
     Ok(())
 }

@@ -1,4 +1,5 @@
-ghost use Rattle.std.specs.Prelude.{◌≡◌, [], ◌∷◌, IfOk};
+//! Printed tuples, with outer and inner names.
+ghost use Rattle.std.specs.Prelude.{◌≡◌, IfOk};
 
 use super::*;
 use std::alloc::Global;
@@ -11,80 +12,11 @@ fn name(alloc: Global, bytes: &[u8]) -> Result<Name, Memory>
     Ok(List::from_vec(Vec::from_slice(alloc, bytes)?))
 }
 
-// The relation with one variable for each of the names.
-fn atom(alloc: Global, relation: &[u8], variables: &[u8]) -> Result<RawAtom, Memory> {
-    let mut terms = List::new(alloc);
-    for variable in variables {
-        terms.push(RawTerm::Var(name(alloc, &[*variable])?))?;
-    }
-    Ok(RawAtom {
-        relation: name(alloc, relation)?,
-        terms,
-    })
-}
-
-// One side of the mapping m.
-fn side(alloc: Global, atom: RawAtom) -> Result<RawAtoms, Memory>
-    ensures called { IfOk result (λ side. side.name.items ≡ 109 ∷ []) }
-{
-    let mut atoms = List::new(alloc);
-    atoms.push(atom)?;
-    Ok(RawAtoms {
-        name: name(alloc, b"m")?,
-        atoms,
-    })
-}
-
 fn cities(alloc: Global) -> Result<Schema, SchemaRefusal> {
     let mut schema = Schema::new(alloc);
     schema.relation(name(alloc, b"City")?, 2)?;
     schema.relation(name(alloc, b"Country")?, 2)?;
     Ok(schema)
-}
-
-#[test]
-fn relations_are_found_by_name_and_number(rt: HostRuntime) -> Result<(), Fail> {
-    let alloc = rt.alloc();
-    let Ok(mut schema) = cities(alloc) else {
-        return Err(Fail::from(Memory));
-    };
-    assert_eq!(rt; schema.len(), 2);
-    assert_eq!(rt; schema.find(&name(alloc, b"Country")?), Some(1));
-    assert_eq!(rt; schema.find(&name(alloc, b"Town")?), None);
-    assert_eq!(rt; (schema.arity(1), schema.arity(2)), (Some(2), None));
-    assert_eq!(rt; schema.name(0), b"City".as_slice());
-    assert!(rt;
-        matches!(
-            schema.relation(name(alloc, b"City")?, 9),
-            Err(SchemaRefusal::DuplicateName(_))
-        )
-    );
-    assert!(rt;
-        matches!(
-            schema.relation(name(alloc, b"Town")?, 9),
-            Err(SchemaRefusal::Limit(Which::Arity))
-        )
-    );
-    Ok(())
-}
-
-#[test]
-fn a_mapping_is_printed_as_it_is_written(rt: HostRuntime) -> Result<(), Fail> {
-    let alloc = rt.alloc();
-    let Ok(schema) = cities(alloc) else {
-        return Err(Fail::from(Memory));
-    };
-    let left = side(alloc, atom(alloc, b"City", b"xc")?)?;
-    let right = side(alloc, atom(alloc, b"Country", b"cz")?)?;
-    let Ok(mapping) = check_mapping(alloc, &schema, &left, &right) else {
-        return Err(Fail::from(Memory));
-    };
-    assert_eq!(rt; mapping.universal, 2);
-    assert_eq!(rt;
-        print_mapping(alloc, &schema, &mapping)?.as_slice(),
-        b"mapping m: City(x, c) -> Country(c, z)".as_slice()
-    );
-    Ok(())
 }
 
 #[test]
