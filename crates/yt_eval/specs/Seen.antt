@@ -1,5 +1,5 @@
 -- What a contract sees of a view.
-use Rattle.std.specs.Prelude.{List}
+use Rattle.std.specs.Prelude.{List, ◌++◌}
 use Rattle.yt_model.specs.Values.{Fact}
 use Rattle.yt_model.specs.Repository.{Change}
 
@@ -7,3 +7,7 @@ use Rattle.yt_model.specs.Repository.{Change}
 pub record Seen : Type 0 where
   pub below : List Fact
   pub own : List Change
+
+-- What is seen after these own writes more.
+abbrev pub written : Seen → List Change → Seen
+written seen more = record { below = seen.below; own = seen.own ++ more }

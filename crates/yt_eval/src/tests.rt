@@ -277,7 +277,8 @@ fn queries_see_own_writes_over_a_plain_set(rt: HostRuntime) -> Result<(), Fail> 
     let alloc = rt.alloc();
     let base = base(alloc)?;
     let own = writes(alloc, &EARLIER)?;
-    let view = View::new(alloc, &base, &own)?;
+    let mut view = View::new(alloc, &base);
+    view.write_all(alloc, own.as_slice())?;
     are_answered(&rt, alloc, &view, &OVER_BASE, &FIRST_OVER_BASE)
 }
 
@@ -286,9 +287,11 @@ fn queries_see_own_writes_over_an_overlay(rt: HostRuntime) -> Result<(), Fail> {
     let alloc = rt.alloc();
     let base = base(alloc)?;
     let earlier = writes(alloc, &EARLIER)?;
-    let below = Overlay::new(alloc, &base, &earlier)?;
+    let mut below = Overlay::new(alloc, &base);
+    below.write_all(alloc, earlier.as_slice())?;
     let own = writes(alloc, &LATER)?;
-    let view = View::new(alloc, &below, &own)?;
+    let mut view = View::new(alloc, &below);
+    view.write_all(alloc, own.as_slice())?;
     are_answered(&rt, alloc, &view, &OVER_OVERLAY, &FIRST_OVER_OVERLAY)
 }
 

@@ -23,7 +23,8 @@ pub fn eval<F: Facts>(
 ) -> Result<Answer, Memory>
     ensures value { IfOk result (λ answer. reply_of answer ≡ value (map rule_of mappings.now.items) (query_of query.now) (F.tuples facts.now) (map change_of own.now.items) (Caused (heading_of direction))) }
 {
-    let view = View::new(alloc, facts, own)?;
+    let mut view = View::new(alloc, facts);
+    view.write_all(alloc, own.as_slice())?;
     view.eval(query, mappings, direction, alloc)
 }
 
@@ -38,6 +39,7 @@ pub fn eval_all<F: Facts>(
 ) -> Result<Answer, Memory>
     ensures value { IfOk result (λ answer. reply_of answer ≡ value (map rule_of mappings.now.items) (query_of query.now) (F.tuples facts.now) (map change_of own.now.items) Every) }
 {
-    let view = View::new(alloc, facts, own)?;
+    let mut view = View::new(alloc, facts);
+    view.write_all(alloc, own.as_slice())?;
     view.eval_all(query, mappings, alloc)
 }

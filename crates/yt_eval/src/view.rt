@@ -1,28 +1,29 @@
 //! A set of tuples as an update sees it.
-ghost use Rattle.std.specs.Prelude.{◌≡◌, if◌then◌else◌, map, IfOk};
+ghost use Rattle.std.specs.Prelude.{◌≡◌, ◌∷◌, [], if◌then◌else◌, map, IfOk, OnErr, OnOk};
 ghost use Rattle.yt_model.specs.Queries.{value, Yes, No};
 ghost use Rattle.yt_model.specs.Repository.{has};
 ghost use Rattle.yt_model.specs.Violations.{Every, Caused};
 ghost use Rattle.yt_base.specs.Meanings.{fact_of, rule_of, change_of, heading_of};
 ghost use Rattle.yt_query.specs.Meanings.{query_of, reply_of};
 ghost use Rattle.yt_eval.specs.Counted.{scope_meant};
+ghost use Rattle.yt_eval.specs.Seen.{written};
 
 use crate::occurrences::occurrences;
 use crate::scopes::{Counted, first_image, scope_at};
 use std::alloc::Global;
 use std::marker::Model;
-use yt_base::{Direction, Facts, MappingList, Memory, Tuple, WriteList};
+use yt_base::{Direction, Facts, MappingList, Memory, TryCopy, Tuple, Write, WriteList};
 use yt_facts::Overlay;
 use yt_query::{Answer, Query};
 use yt_unifier::candidates;
 
-/// A set of tuples as an update sees it: with its own writes applied. It borrows the set and the writes. Contracts
-/// see the tuples below the writes, and the writes.
+/// A set of tuples as an update sees it: with its own writes applied, to which more can be added. It borrows the set,
+/// and keeps a copy of the writes. Contracts see the tuples below the writes, and the writes.
 #[derive(Drop)]
 pub struct View<'a, F: Facts> {
     // The set without the writes, of which contracts speak.
     below: &'a F,
-    own: &'a WriteList,
+    own: WriteList,
     overlay: Overlay<'a, F>,
 }
 
@@ -34,23 +35,44 @@ impl<'a, F: Facts> Model for View<'a, F> {
 
     ghost Value = { Seen };
 
-    ghost view = { λ v. record { below = F.tuples v.below.now; own = map change_of v.own.now.items } };
+    ghost view = { λ v. record { below = F.tuples v.below.now; own = map change_of v.own.items } };
 
-    ghost invariant = { λ v. v.overlay ≡ apply (F.tuples v.below.now) (map change_of v.own.now.items) };
+    ghost invariant = { λ v. v.overlay ≡ apply (F.tuples v.below.now) (map change_of v.own.items) };
 }
 
 impl<'a, F: Facts> View<'a, F> {
-    /// The set as these own writes, in turn, leave it. It is refused only for want of memory.
-    pub fn new(alloc: Global, below: &'a F, own: &'a WriteList) -> Result<View<'a, F>, Memory>
-        ensures below { IfOk result (λ view. view.below ≡ F.tuples below.now) }
-        ensures own { IfOk result (λ view. view.own ≡ map change_of own.now.items) }
+    /// The set before any own write. It takes no memory.
+    pub fn new(alloc: Global, below: &'a F) -> View<'a, F>
+        ensures before { result ≡ record { below = F.tuples below.now; own = [] } }
     {
-        let overlay = Overlay::new(alloc, below, own)?;
-        Ok(View {
+        View {
             below,
-            own,
-            overlay,
-        })
+            own: WriteList::new(alloc),
+            overlay: Overlay::new(alloc, below),
+        }
+    }
+
+    /// Adds an own write. It is refused only for want of memory; the view is then the same.
+    pub fn write(&mut self, alloc: Global, write: &Write) -> Result<(), Memory>
+        ensures ok { OnOk result (self.new ≡ written self.old (change_of write.now ∷ [])) }
+        ensures err { OnErr result (self.new ≡ self.old) }
+    {
+        let copy = write.copy(alloc)?;
+        self.own.reserve(1)?;
+        self.overlay.write(alloc, write)?;
+        self.own.push(copy)?;
+        Ok(())
+    }
+
+    /// Adds own writes in turn. It is refused only for want of memory; some of them may then be added.
+    #[tactic(auto, using(crate::proofs::Written::written_on))]
+    pub fn write_all(&mut self, alloc: Global, writes: &[Write]) -> Result<(), Memory>
+        ensures ok { OnOk result (self.new ≡ written self.old (map change_of writes.now)) }
+    {
+        for write in writes {
+            self.write(alloc, write)?;
+        }
+        Ok(())
     }
 
     /// The value of the query, where of violations only those count that the own writes caused in the direction.
@@ -94,7 +116,7 @@ impl<'a, F: Facts> View<'a, F> {
         match query {
             Query::Present(tuple) => Ok(presence(tuple, &self.overlay)),
             Query::Violation(number) => {
-                let scope = scope_at(counted, self.own, *number);
+                let scope = scope_at(counted, &self.own, *number);
                 first_image(alloc, mappings.get(*number as usize), &self.overlay, scope)
             }
             Query::Specific(tuple) => {

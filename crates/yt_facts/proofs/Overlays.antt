@@ -70,19 +70,17 @@ module _ (D gone added : List Fact) (t : Fact) (s : IsRepository D) where
       by b false a false h = refl
 
   -- An insertion of what the set lacks: it is added.
-  pub insert_new : (g m : List Fact) → g ≡ change gone (Delete t) → m ≡ change added (Insert t) → overlaid D g m ≡ change (overlaid D gone added) (Insert t)
-  insert_new g m k l =
-      (λ i. overlaid D (k i) (l i))
-      ∙ same_repository (overlaid D (change gone (Delete t)) (change added (Insert t))) (change (overlaid D gone added) (Insert t)) (overlaid_in_order D (change gone (Delete t)) (change added (Insert t)) s) (insert_in_order (overlaid D gone added) t (overlaid_in_order D gone added s))
-      (λ u. has-overlaid D (change gone (Delete t)) (change added (Insert t)) u ∙ (λ i. (has D u && not (deleted gone u i)) || has-insert added t u i) ∙ by (has D u) (has gone u) (has added u) (same_fact u t)
+  pub insert_new : (m : List Fact) → m ≡ change added (Insert t) → overlaid D gone m ≡ change (overlaid D gone added) (Insert t)
+  insert_new m l =
+      ap (λ (x : List Fact). overlaid D gone x) l
+      ∙ same_repository (overlaid D gone (change added (Insert t))) (change (overlaid D gone added) (Insert t)) (overlaid_in_order D gone (change added (Insert t)) s) (insert_in_order (overlaid D gone added) t (overlaid_in_order D gone added s))
+      (λ u. has-overlaid D gone (change added (Insert t)) u ∙ ap (λ b. (has D u && not (has gone u)) || b) (has-insert added t u) ∙ by (has D u && not (has gone u)) (has added u) (same_fact u t)
       ∙ ap (λ b. same_fact u t || b) (sym (has-overlaid D gone added u)) ∙ sym (has-insert (overlaid D gone added) t u))
     where
-      by : (b g a c : Bool) → ((b && not (g && not c)) || (c || a)) ≡ (c || ((b && not g) || a))
-      by true true a true = refl
-      by true false a true = refl
-      by false g a true = refl
-      by b true a false = refl
-      by b false a false = refl
+      by : (b a c : Bool) → (b || (c || a)) ≡ (c || (b || a))
+      by true a true = refl
+      by true a false = refl
+      by false a c = refl
 
   -- A deletion of what the set has: it is gone.
   pub delete_there : (g m : List Fact) → g ≡ change gone (Insert t) → m ≡ change added (Delete t) → overlaid D g m ≡ change (overlaid D gone added) (Delete t)

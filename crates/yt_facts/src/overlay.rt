@@ -1,7 +1,7 @@
 //! A set of tuples as writes leave it, without a copy of the set.
-ghost use Rattle.std.specs.Prelude.{◌≡◌, ◌&&◌, not, find, map, IfOk, OnOk};
+ghost use Rattle.std.specs.Prelude.{◌≡◌, ◌&&◌, not, find, map, OnErr, OnOk};
 ghost use Rattle.std.specs.Option.{option_map, option_copied};
-ghost use Rattle.yt_model.specs.Repository.{has, change, apply, IsRepository};
+ghost use Rattle.yt_model.specs.Repository.{Delete, Insert, has, change, apply, IsRepository};
 ghost use Rattle.yt_base.specs.Meanings.{fact_of, change_of};
 ghost use Rattle.yt_facts.specs.Courses.{comes_after, ahead};
 ghost use Rattle.yt_facts.specs.Overlaid.{lesser};
@@ -9,7 +9,7 @@ ghost use Rattle.yt_facts.specs.Overlaid.{lesser};
 use crate::plain::PlainFacts;
 use std::alloc::Global;
 use std::marker::Model;
-use yt_base::{Facts, Memory, TryCopy, Tuple, Value, Write, WriteList};
+use yt_base::{Facts, Memory, TryCopy, Tuple, Value, Write};
 
 /// A set with writes applied to it in turn. It borrows the set, and keeps only the tuples that the writes take away
 /// from it or put into it. Contracts see the list of its tuples, in order.
@@ -32,38 +32,62 @@ impl<'a, F: Facts> Model for Overlay<'a, F> {
 }
 
 impl<'a, F: Facts> Overlay<'a, F> {
-    /// The set as the writes, in turn, leave it. It is refused only for want of memory.
-    pub fn new(alloc: Global, facts: &'a F, writes: &WriteList) -> Result<Overlay<'a, F>, Memory>
-        ensures applied { IfOk result (λ overlay. overlay ≡ apply (F.tuples facts.now) (map change_of writes.now.items)) }
+    /// The set as it is, before any write. It takes no memory.
+    pub fn new(alloc: Global, facts: &'a F) -> Overlay<'a, F>
+        ensures same { result ≡ F.tuples facts.now }
     {
-        let mut overlay = Overlay {
+        Overlay {
             facts,
             gone: PlainFacts::new(alloc),
             added: PlainFacts::new(alloc),
-        };
-        for write in writes.as_slice() {
-            overlay.take(alloc, write)?;
         }
-        Ok(overlay)
     }
 
-    // Applies one write: what the set lacks is added, and what it has is gone.
-    fn take(&mut self, alloc: Global, write: &Write) -> Result<(), Memory>
+    /// Applies one write. It is refused only for want of memory; the tuples are then the same.
+    pub fn write(&mut self, alloc: Global, write: &Write) -> Result<(), Memory>
         ensures ok { OnOk result (self.new ≡ change self.old (change_of write.now)) }
+        ensures err { OnErr result (self.new ≡ self.old) }
     {
         match write {
-            Write::Insert(tuple) => {
-                self.gone.remove(tuple);
-                if !self.facts.contains(tuple) {
-                    self.added.insert(tuple.copy(alloc)?)?;
-                }
-            }
-            Write::Delete(tuple) => {
-                self.added.remove(tuple);
-                if self.facts.contains(tuple) {
-                    self.gone.insert(tuple.copy(alloc)?)?;
-                }
-            }
+            Write::Insert(tuple) => self.insert(alloc, tuple),
+            Write::Delete(tuple) => self.delete(alloc, tuple),
+        }
+    }
+
+    // Puts a tuple in: what the set has is no longer gone, and what it lacks is added.
+    fn insert(&mut self, alloc: Global, tuple: &Tuple) -> Result<(), Memory>
+        ensures ok { OnOk result (self.new ≡ change self.old (Insert (fact_of tuple.now))) }
+        ensures err { OnErr result (self.new ≡ self.old) }
+    {
+        if self.facts.contains(tuple) {
+            self.gone.remove(tuple);
+        } else {
+            self.added.insert(tuple.copy(alloc)?)?;
+        }
+        Ok(())
+    }
+
+    // Takes a tuple away: what the set has is gone, and what it lacks is no longer added.
+    fn delete(&mut self, alloc: Global, tuple: &Tuple) -> Result<(), Memory>
+        ensures ok { OnOk result (self.new ≡ change self.old (Delete (fact_of tuple.now))) }
+        ensures err { OnErr result (self.new ≡ self.old) }
+    {
+        if self.facts.contains(tuple) {
+            self.gone.insert(tuple.copy(alloc)?)?;
+            self.added.remove(tuple);
+            Ok(())
+        } else {
+            self.added.remove(tuple);
+            Ok(())
+        }
+    }
+
+    /// Applies the writes in turn. It is refused only for want of memory; some of them may then be applied.
+    pub fn write_all(&mut self, alloc: Global, writes: &[Write]) -> Result<(), Memory>
+        ensures ok { OnOk result (self.new ≡ apply self.old (map change_of writes.now)) }
+    {
+        for write in writes {
+            self.write(alloc, write)?;
         }
         Ok(())
     }

@@ -157,49 +157,62 @@ fn sets_are_gone_over_in_order(rt: HostRuntime) -> Result<(), Fail> {
     let list = plain.list(alloc)?;
     goes_over(&rt, &plain, &list);
     goes_over(&rt, &PlainFacts::of_list(alloc, &list)?, &list);
-    goes_over(&rt, &Overlay::new(alloc, &plain, &List::new(alloc))?, &list);
+    goes_over(&rt, &Overlay::new(alloc, &plain), &list);
     assert_eq!(rt; plain.copy(alloc)?.into_list(alloc)?, list);
     goes_over(&rt, &IndexedFacts::of(alloc, plain)?, &list);
     Ok(())
+}
+
+// The tuples below an overlay, and the writes that make the seven of them: whether one puts in, and its tuple.
+const BELOW: [(u16, &[i64]); 6] = [
+    (1, &[0]),
+    (1, &[2]),
+    (2, &[1, 5]),
+    (2, &[2, 5]),
+    (2, &[0, 5]),
+    (3, &[5]),
+];
+
+const WRITES: [(bool, u16, &[i64]); 10] = [
+    (false, 1, &[0]),
+    (true, 1, &[3]),
+    (false, 1, &[2]),
+    (true, 2, &[2, 7]),
+    (true, 2, &[8, 8]),
+    (false, 2, &[8, 8]),
+    (true, 1, &[2]),
+    (false, 2, &[0, 5]),
+    (true, 1, &[1]),
+    (true, 3, &[5]),
+];
+
+// The set with the writes applied, the first one by itself.
+fn written<F: Facts>(alloc: Global, facts: &F) -> Result<Overlay<'_, F>, Memory> {
+    let mut writes = List::new(alloc);
+    for (puts_in, relation, numbers) in WRITES {
+        let tuple = tuple(alloc, relation, numbers)?;
+        writes.push(if puts_in {
+            Write::Insert(tuple)
+        } else {
+            Write::Delete(tuple)
+        })?;
+    }
+    let mut overlay = Overlay::new(alloc, facts);
+    if let [first, others @ ..] = writes.as_slice() {
+        overlay.write(alloc, first)?;
+        overlay.write_all(alloc, others)?;
+    }
+    Ok(overlay)
 }
 
 #[test]
 fn an_overlay_answers_as_the_written_set(rt: HostRuntime) -> Result<(), Fail> {
     let alloc = rt.alloc();
     let mut base = PlainFacts::new(alloc);
-    for (relation, numbers) in [
-        (1, [0].as_slice()),
-        (1, [2].as_slice()),
-        (2, [1, 5].as_slice()),
-        (2, [2, 5].as_slice()),
-        (2, [0, 5].as_slice()),
-        (3, [5].as_slice()),
-    ] {
+    for (relation, numbers) in BELOW {
         base.insert(tuple(alloc, relation, numbers)?)?;
     }
-    let writes = List::from_vec(vec![in alloc;
-        Write::Delete(tuple(alloc, 1, &[0])?),
-        Write::Insert(tuple(alloc, 1, &[3])?),
-        Write::Delete(tuple(alloc, 1, &[2])?),
-        Write::Insert(tuple(alloc, 2, &[2, 7])?),
-        Write::Insert(tuple(alloc, 2, &[8, 8])?),
-        Write::Delete(tuple(alloc, 2, &[8, 8])?),
-        Write::Insert(tuple(alloc, 1, &[2])?),
-        Write::Delete(tuple(alloc, 2, &[0, 5])?),
-        Write::Insert(tuple(alloc, 1, &[1])?),
-        Write::Insert(tuple(alloc, 3, &[5])?),
-    ]?);
-    holds_the_seven(
-        &rt,
-        alloc,
-        &Overlay::new(alloc, &base, &writes)?,
-        "over plain",
-    )?;
+    holds_the_seven(&rt, alloc, &written(alloc, &base)?, "over plain")?;
     let base = IndexedFacts::of(alloc, base)?;
-    holds_the_seven(
-        &rt,
-        alloc,
-        &Overlay::new(alloc, &base, &writes)?,
-        "over indexed",
-    )
+    holds_the_seven(&rt, alloc, &written(alloc, &base)?, "over indexed")
 }
