@@ -36,13 +36,8 @@ pub fn serial(alloc: Global, session: &Session, steps: u32) -> Result<SessionRes
     serial_scopes_agree();
     let base = PlainFacts::of_list(alloc, &session.base)?;
     let base = IndexedFacts::of(alloc, base)?;
-    run(
-        alloc,
-        base,
-        session.updates.as_slice(),
-        &session.mappings,
-        steps,
-    )
+    let updates = session.updates.as_slice();
+    run(alloc, base, updates, &session.mappings, steps)
 }
 
 // The run of these updates over the base, the first of them number 1.
