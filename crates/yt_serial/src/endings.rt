@@ -39,7 +39,12 @@ fn finish(program: &Program) -> Finish
 
 /// What is told of the update of this number, which stops at a question for what is lacking. It is refused only for
 /// want of memory.
-pub fn stop(alloc: Global, program: &Program, number: u32, lack: Lack) -> Result<Stop, Memory>
+pub(crate) fn stop(
+    alloc: Global,
+    program: &Program,
+    number: u32,
+    lack: Lack,
+) -> Result<Stop, Memory>
     requires between { program.now.reading ≡ None }
     requires asked { is_some (question_in program.now.attempt.phase) ≡ true }
     ensures told { IfOk result (λ stop. option_map stop_in (stopped number program.now.attempt (lack_of lack)) ≡ Some (stop_of stop)) }
@@ -60,7 +65,7 @@ pub fn stop(alloc: Global, program: &Program, number: u32, lack: Lack) -> Result
 }
 
 /// Tells the finish of an update that has ended, and keeps its writes. It is refused only for want of memory.
-pub fn end(
+pub(crate) fn end(
     alloc: Global,
     finishes: &mut FinishList,
     facts: &mut IndexedFacts,

@@ -1,13 +1,12 @@
-//! An update of a session taken whole over a repository, as in the serial run: its steps, its rest, and what is told and
-//! kept of it.
+//! The serial run of a session: its updates taken whole over a repository, one after the other in the order of their
+//! numbers, up to the first that stops at a question. `serial` tells what the serial machine of `yt_steps` tells.
 #![tactic(auto)]
 
 mod endings;
 mod repositories;
+mod runs;
 mod stepping;
 mod turns;
 mod wholes;
 
-pub use crate::endings::{end, stop};
-pub use crate::repositories::told;
-pub use crate::wholes::{Rest, take_whole};
+pub use crate::runs::serial;

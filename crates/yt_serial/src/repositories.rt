@@ -12,7 +12,7 @@ ghost use Rattle.yt_program.specs.PointMeanings.{end_of};
 ghost use Rattle.yt_program.specs.Wishes.{end_in};
 
 use std::alloc::Global;
-use yt_base::{Memory, TryCopy, Tuple, TupleList, Write};
+use yt_base::{Memory, TryCopy, TupleList, Write};
 use yt_facts::IndexedFacts;
 use yt_program::{Outcome, Program};
 
@@ -63,21 +63,20 @@ fn make_one(alloc: Global, facts: &mut IndexedFacts, write: &Write) -> Result<()
 
 /// The tuples of the repository in order, without those that say which mappings are in force. It is refused only for
 /// want of memory.
-pub fn told(alloc: Global, facts: &IndexedFacts) -> Result<TupleList, Memory>
+pub(crate) fn told(alloc: Global, facts: &IndexedFacts) -> Result<TupleList, Memory>
     ensures told { IfOk result (λ tuples. map fact_of tuples.items ≡ answered facts.now) }
 {
-    let all = facts.list(alloc)?;
-    without_force(alloc, all.as_slice())
+    without_force(alloc, facts.list(alloc)?)
 }
 
-// Copies of the tuples but for those that say which mappings are in force.
-fn without_force(alloc: Global, tuples: &[Tuple]) -> Result<TupleList, Memory>
-    ensures others { IfOk result (λ others. map fact_of others.items ≡ answered (map fact_of tuples.now)) }
+// The tuples but for those that say which mappings are in force.
+fn without_force(alloc: Global, tuples: TupleList) -> Result<TupleList, Memory>
+    ensures others { IfOk result (λ others. map fact_of others.items ≡ answered (map fact_of tuples.items)) }
 {
     let mut others = TupleList::new(alloc);
-    for tuple in tuples {
+    for tuple in tuples.into_vec() {
         if tuple.relation != FORCE_RELATION {
-            others.push(tuple.copy(alloc)?)?;
+            others.push(tuple)?;
         }
     }
     Ok(others)

@@ -19,13 +19,13 @@ use yt_session::SessionUpdate;
 
 /// An update that has come to rest: at its end, or at a question where something is lacking.
 #[derive(Drop)]
-pub struct Rest {
+pub(crate) struct Rest {
     pub program: Program,
     pub lack: Option<Lack>,
 }
 
 /// The update of this number taken whole over the repository, by attempt 0. It is refused only for want of memory.
-pub fn take_whole(
+pub(crate) fn take_whole(
     alloc: Global,
     number: u32,
     update: &SessionUpdate,

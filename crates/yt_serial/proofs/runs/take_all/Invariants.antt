@@ -1,0 +1,17 @@
+use Rattle.std.proofs.Common.{◌≡◌, suc, drop, map}
+use Rattle.yt_base.specs.Meanings.{rule_of}
+use Rattle.yt_model.specs.Repository.{IsRepository}
+use Rattle.yt_program.specs.Results.{finish_of}
+use Rattle.yt_session.specs.Meanings.{request_of, update_of}
+use Rattle.yt_serial.specs.Runs.{behind, told_from}
+use Rattle.yt_serial.proofs.runs.take_all.Given as goal
+
+-- What is told of the whole is what is told so far and then of the updates that are left.
+abbrev pub invariant-loop-update : goal.invariant-loop-update
+invariant-loop-update l = record {
+  sorted : IsRepository l.facts;
+  number : l.number ≡ suc l.update-index;
+  together :
+      behind (map finish_of l.fn.finishes.items) (told_from (map rule_of l.mappings.items) l.steps l.fn.facts 1 (map request_of (map update_of l.updates)))
+      ≡ behind (map finish_of l.finishes.items) (told_from (map rule_of l.mappings.items) l.steps l.facts l.number (map request_of (map update_of (drop l.update-index l.updates))));
+}
