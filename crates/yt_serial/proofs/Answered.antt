@@ -1,7 +1,11 @@
 -- Steps whose queries are answered by a function: what they come to, and that the queries grow fewer.
-use Rattle.std.proofs.Common.{◌≡◌, ◌∙◌, ap, refl, sym, subst, ℕ, ◌<◌, Option, Some, None, List, length, arith}
+use Rattle.std.proofs.Common.{◌≡◌, ◌∙◌, ap, refl, sym, subst, ℕ, zero, suc, ◌+◌, ◌-◌, ◌<◌, ◌≤◌, Option, Some, None, List, [], ◌∷◌, ◌++◌, length, take, drop, map, arith}
+use Rattle.std.proofs.Math.Seq.{take-append_seam, take-length}
+use Rattle.std.proofs.lemmas.List.{length-append, length-drop}
 use Rattle.yt_machine.specs.Trees.{Leaf, Node, result_of, log_of}
 use Rattle.yt_model.specs.Queries.{Query, Reply, value}
+use Rattle.yt_base.specs.Meanings.{change_of}
+use Rattle.yt_base.specs.declared.updates.Write.{Write}
 use Rattle.yt_model.specs.Values.{Fact}
 use Rattle.yt_model.specs.Repository.{Change}
 use Rattle.yt_model.specs.Violations.{Direction, Caused}
@@ -58,3 +62,31 @@ pub stepped_is : (ms : List Rule) (B : ℕ) (D : List Fact) (P : Attempt) (c : O
     → result_of (λ q. value ms q below own (Caused h)) t ≡ stepped ms B D P c
 stepped_is ms B D P c t below own h e f g k =
     (λ i. result_of (λ q. value ms q (e i) (f i) (Caused (g i))) (k i)) ∙ comes_to (λ q. value ms q D P.own (Caused (direction_of P.operation))) B P (step ms P c)
+
+-- The own writes of an attempt stay in front of those of its step.
+pub writes_stay : (ms : List Rule) (B : ℕ) (D : List Fact) (P : Attempt) (c : Option Choice) (s : State) (own : List Change)
+    → s ≡ between (stepped ms B D P c) → own ≡ s.attempt.own → take (length P.own) own ≡ P.own
+writes_stay ms B D P c s own e f =
+    let m = result_of (λ q. value ms q D P.own (Caused (direction_of P.operation))) (step ms P c) in
+    ap (take (length P.own)) (f ∙ ap (λ (t : State). t.attempt.own) e) ∙ take-append_seam P.own m.writes
+
+-- They are no more than those.
+pub writes_grow : (ms : List Rule) (B : ℕ) (D : List Fact) (P : Attempt) (c : Option Choice) (s : State) (own : List Change)
+    → s ≡ between (stepped ms B D P c) → own ≡ s.attempt.own → length P.own ≤ length own
+writes_grow ms B D P c s own e f =
+    let m = result_of (λ q. value ms q D P.own (Caused (direction_of P.operation))) (step ms P c) in
+    let count : length own ≡ length P.own + length m.writes = ap length (f ∙ ap (λ (t : State). t.attempt.own) e) ∙ length-append P.own m.writes in
+    omega (arith, count)
+
+dropped : (n : ℕ) (ws : List Write) → take n (map change_of ws) ++ map change_of (drop n ws) ≡ map change_of ws
+dropped zero ws = refl
+dropped (suc n) [] = refl
+dropped (suc n) (w ∷ ws) = ap (λ (vs : List Change). change_of w ∷ vs) (dropped n ws)
+
+-- The first writes that were seen, and those behind them, are all.
+pub seen_all : (n : ℕ) (ws vs : List Write) (own : List Change) → vs ≡ ws → take n (map change_of ws) ≡ own → own ++ map change_of (take (length vs - n) (drop n vs)) ≡ map change_of ws
+seen_all n ws vs own e f =
+    ap (λ (us : List Write). own ++ map change_of (take (length us - n) (drop n us))) e
+    ∙ ap (λ (first : List Change). first ++ map change_of (take (length ws - n) (drop n ws))) (sym f)
+    ∙ ap (λ (us : List Write). take n (map change_of ws) ++ map change_of us) (ap (λ k. take k (drop n ws)) (sym (length-drop n ws)) ∙ take-length (drop n ws))
+    ∙ dropped n ws

@@ -5,10 +5,11 @@ use Rattle.yt_steps.specs.Attempts.{outcome_in}
 use Rattle.yt_serial.specs.Turns.{rest_from, turn_of, whole_rest}
 use Rattle.yt_serial.proofs.wholes.take_whole.Given as goal
 
--- Between two steps, from where the attempt comes to the same rest; some steps are left unless it has ended.
+-- Between two steps; the view sees the own writes; from where the attempt comes to the same rest; some steps are left unless it has ended.
 abbrev pub invariant-turns : goal.invariant-turns
 invariant-turns l = record {
   between : l.program.reading ≡ None;
+  seen : l.view ≡ record { below = l.facts; own = l.program.attempt.own };
   left : is_some (outcome_in l.program.attempt.phase) ≡ false → l.program.attempt.steps < l.budget;
   together :
       whole_rest (map rule_of l.mappings.items) l.budget l.facts (turn_of (map rule_of l.mappings.items) l.budget l.number (request_of (update_of l.update)))
