@@ -4,10 +4,12 @@
 
 mod endings;
 mod repositories;
+mod runs;
 mod stepping;
 mod turns;
 mod wholes;
 
 pub use crate::endings::{end, stop};
 pub use crate::repositories::told;
+pub use crate::runs::serial;
 pub use crate::wholes::{Rest, take_whole};
