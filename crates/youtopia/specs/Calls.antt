@@ -5,7 +5,6 @@ use Rattle.clap.specs.Words.{Text as Letters}
 use Rattle.yt_command.specs.Devices.{Change, no_input, TakesNothing, Tells}
 use Rattle.yt_command.specs.Outputs.{Meaning, OutputView, Text}
 use Rattle.yt_command.specs.Rows.{Row}
-use Rattle.yt_command.specs.Completeness.{IsComplete}
 use Rattle.yt_command.specs.Statuses.{line_of}
 use Rattle.yt_command.specs.declared.outputs.Ending.TheVariants.{Ended}
 use Rattle.yt_command.specs.declared.failures.Failure.{Failure}
@@ -13,24 +12,28 @@ use Rattle.yt_command.specs.declared.failures.Failure.TheVariants as failures
 use Rattle.yt_command.specs.declared.statuses.Status.{Status}
 use Rattle.yt_command.specs.declared.statuses.Status.TheVariants.{Usage, OutOfMemory}
 use Rattle.yt_commands.specs.Commands.{of_session, formatted, upgraded_text, checked}
+use Rattle.yt_commands.specs.Runs.{ran, kept}
 use Rattle.yt_grammar.specs.Sessions.{SessionData}
 use Rattle.yt_words.specs.Meaning.{Answers, is_refused}
 use Rattle.yt_words.specs.declared.help.TheConstants.{HELP, VERSION}
 use Rattle.yt_words.specs.declared.names.CommandName.{CommandName}
-use Rattle.yt_words.specs.declared.names.CommandName.TheVariants.{Format, Check, Upgrade}
+use Rattle.yt_words.specs.declared.names.CommandName.TheVariants.{Run, Serial, Format, Check, Save, Upgrade}
 use Rattle.yt_words.specs.declared.reading.Options.{Options}
 use Rattle.yt_words.specs.declared.reading.Request.{Request}
 use Rattle.yt_words.specs.declared.reading.Request.TheVariants.{Command, Help, Version}
 
--- what each command makes of a session
-abbrev pub made_by : CommandName → SessionData → OutputView
-made_by Format s = formatted s
-made_by Check s = checked s
-made_by Upgrade s = upgraded_text s
+-- what each command makes of a session, where an update may take so many steps
+abbrev pub made_by : CommandName → ℕ → SessionData → OutputView
+made_by Run steps s = ran steps s
+made_by Serial steps s = ran steps s
+made_by Format steps s = formatted s
+made_by Check steps s = checked s
+made_by Save steps s = kept steps s
+made_by Upgrade steps s = upgraded_text s
 
 -- what a command with its options makes of an input
 abbrev pub meaning_of : Options → Meaning
-meaning_of options input output = output ≡ of_session (made_by options.command) input
+meaning_of options input output = output ≡ of_session (made_by options.command options.steps) input
 
 -- what tells a fixed text makes of any input
 abbrev pub telling : List ℕ → Meaning

@@ -1,13 +1,14 @@
 //! The top call: the words, and then the command that they name.
-ghost use Rattle.std.specs.Prelude.{◌≡◌, map, string_bytes};
+ghost use Rattle.std.specs.Prelude.{◌≡◌, ◌≤◌, map, string_bytes};
 ghost use Rattle.yt_command.specs.Devices.{change};
 ghost use Rattle.yt_command.specs.Rows.{Row};
+ghost use Rattle.yt_words.specs.Meaning.{HasBudget};
 ghost use Rattle.youtopia.specs.Calls.{Calls, Performs, meaning_of};
 
 use crate::telling::Telling;
 use std::alloc::Global;
 use yt_command::{Failure, Status, fail, perform, perform_alone};
-use yt_commands::{Check, Format, OnSession, Upgrade};
+use yt_commands::{Budget, Check, Format, OnSession, Save, Serial, Upgrade};
 use yt_text::{Sink, Source};
 use yt_words::{CommandName, HELP, Options, Request, VERSION, WordsRefusal, read_words};
 
@@ -19,14 +20,20 @@ fn command<S: Source, O: Sink, E: Sink>(
     out: &mut O,
     err: &mut E,
 ) -> Status
+    requires some { 1 ≤ options.now.steps }
+    requires most { options.now.steps ≤ 300 }
     ensures row { Row result (meaning_of options.now)
         (change S.left S.fault_count source.old source.new)
         (change O.taken O.fault_count out.old out.new)
         (change E.taken E.fault_count err.old err.new) }
 {
+    let budget = Budget::new(options.steps);
     match options.command {
+        CommandName::Run => perform(alloc, &OnSession(Serial { budget }), source, out, err),
+        CommandName::Serial => perform(alloc, &OnSession(Serial { budget }), source, out, err),
         CommandName::Format => perform(alloc, &OnSession(Format), source, out, err),
         CommandName::Check => perform(alloc, &OnSession(Check), source, out, err),
+        CommandName::Save => perform(alloc, &OnSession(Save { budget }), source, out, err),
         CommandName::Upgrade => perform(alloc, &OnSession(Upgrade), source, out, err),
     }
 }
@@ -39,6 +46,7 @@ fn attend<S: Source, O: Sink, E: Sink>(
     out: &mut O,
     err: &mut E,
 ) -> Status
+    requires budget { HasBudget request }
     ensures done { Performs request.entry result
         (change S.left S.fault_count source.old source.new)
         (change O.taken O.fault_count out.old out.new)

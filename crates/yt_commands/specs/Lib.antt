@@ -1,3 +1,4 @@
 pub mod Base
 pub mod Commands
+pub mod Runs
 pub mod Violations

@@ -2,6 +2,7 @@
 ghost use Rattle.std.specs.Prelude.{◌≡◌, ◌++◌, ◌∷◌, [], flat_map, false, map, option_map, IfOk, OnOk};
 ghost use Rattle.yt_model.specs.Repository.{IsRepository};
 ghost use Rattle.yt_base.specs.Meanings.{fact_of};
+ghost use Rattle.yt_command.specs.Outputs.{Refused, view_of};
 ghost use Rattle.yt_schema.specs.Meanings.{session_mapping_of};
 ghost use Rattle.yt_session.specs.Meanings.{session_of};
 ghost use Rattle.yt_grammar.specs.Printing.{joined_text, tuple_text};
@@ -11,6 +12,7 @@ ghost use Rattle.yt_commands.specs.Violations.{violated_of};
 
 use std::alloc::Global;
 use yt_base::{Facts, Mapping, Memory, Tuple, TupleList};
+use yt_command::{Output, Refusal};
 use yt_facts::{IndexedFacts, PlainFacts};
 use yt_schema::{Schema, print_tuple};
 use yt_session::Session;
@@ -106,12 +108,8 @@ fn push_tuples(
     }
 }
 
-/// The line that tells a violation of the base.
-pub(crate) fn base_line(
-    alloc: Global,
-    schema: &Schema,
-    violated: &Violated<'_>,
-) -> Result<Vec<u8>, Memory>
+// The line that tells a violation of the base.
+fn base_line(alloc: Global, schema: &Schema, violated: &Violated<'_>) -> Result<Vec<u8>, Memory>
     ensures { IfOk result (λ line. line.items ≡ base_line schema.now (violated_of violated.now)) }
 {
     let mut line = Vec::new(alloc);
@@ -121,4 +119,15 @@ pub(crate) fn base_line(
     push_tuples(alloc, &mut line, schema, violated.image.as_slice())?;
     line.push(b'\n')?;
     Ok(line)
+}
+
+/// The refusal that tells a violation of the base.
+pub(crate) fn base_refusal(
+    alloc: Global,
+    schema: &Schema,
+    violated: &Violated<'_>,
+) -> Result<Output, Memory>
+    ensures { IfOk result (λ output. view_of output ≡ Refused Refusal.BaseViolates (base_line schema.now (violated_of violated.now))) }
+{
+    Ok(Output::Refused(Refusal::BaseViolates, base_line(alloc, schema, violated)?))
 }

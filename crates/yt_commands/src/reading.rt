@@ -21,9 +21,9 @@ pub trait SessionCommand {
     ghost makes: { Self → SessionData → OutputView };
 
     /// The output for a valid session. Memory for the whole of it is taken here.
-    fn make(&self, alloc: Global, session: &Session) -> Result<Output, Memory>
-        requires valid { IsSession (session_of session.now) }
-        ensures output { IfOk result (λ output. view_of output ≡ makes self.now (session_of session.now)) };
+    fn make(&self, alloc: Global, session: Session) -> Result<Output, Memory>
+        requires valid { IsSession (session_of session) }
+        ensures output { IfOk result (λ output. view_of output ≡ makes self.now (session_of session)) };
 }
 
 /// A command on the session that the input spells. An input that spells none is refused with its first fault.
@@ -47,7 +47,7 @@ impl<C: SessionCommand> Command for OnSession<C> {
 
     fn run(&self, alloc: Global, input: &[u8]) -> Result<Output, Memory> {
         match read_session(alloc, input) {
-            Ok(session) => self.0.make(alloc, &session),
+            Ok(session) => self.0.make(alloc, session),
             Err(ReadFailure::Fault(fault)) => Ok(Output::Refused(
                 Refusal::SessionRefused,
                 fault_line(alloc, &fault)?,

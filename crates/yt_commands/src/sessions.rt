@@ -5,12 +5,12 @@ ghost use Rattle.yt_grammar.specs.Validity.{IsSession};
 ghost use Rattle.yt_session.specs.Meanings.{session_of};
 ghost use Rattle.yt_commands.specs.Commands.{checked, formatted, upgraded_text};
 
-use crate::base::{base_line, base_violation};
+use crate::base::{base_refusal, base_violation};
 use crate::counts::count_line;
 use crate::reading::SessionCommand;
 use std::alloc::Global;
 use yt_base::Memory;
-use yt_command::{Ending, Output, Refusal};
+use yt_command::{Ending, Output};
 use yt_print::{print_session, print_upgraded};
 use yt_session::Session;
 
@@ -29,29 +29,26 @@ pub struct Check;
 impl SessionCommand for Format {
     ghost makes = { λ _ s. formatted s };
 
-    fn make(&self, alloc: Global, session: &Session) -> Result<Output, Memory> {
-        Ok(Output::Text(Ending::Ended, print_session(alloc, session)?))
+    fn make(&self, alloc: Global, session: Session) -> Result<Output, Memory> {
+        Ok(Output::Text(Ending::Ended, print_session(alloc, &session)?))
     }
 }
 
 impl SessionCommand for Upgrade {
     ghost makes = { λ _ s. upgraded_text s };
 
-    fn make(&self, alloc: Global, session: &Session) -> Result<Output, Memory> {
-        Ok(Output::Text(Ending::Ended, print_upgraded(alloc, session)?))
+    fn make(&self, alloc: Global, session: Session) -> Result<Output, Memory> {
+        Ok(Output::Text(Ending::Ended, print_upgraded(alloc, &session)?))
     }
 }
 
 impl SessionCommand for Check {
     ghost makes = { λ _ s. checked s };
 
-    fn make(&self, alloc: Global, session: &Session) -> Result<Output, Memory> {
-        match base_violation(alloc, session)? {
-            Some(violated) => Ok(Output::Refused(
-                Refusal::BaseViolates,
-                base_line(alloc, &session.schema, &violated)?,
-            )),
-            None => Ok(Output::Text(Ending::Ended, count_line(alloc, session)?)),
+    fn make(&self, alloc: Global, session: Session) -> Result<Output, Memory> {
+        match base_violation(alloc, &session)? {
+            Some(violated) => base_refusal(alloc, &session.schema, &violated),
+            None => Ok(Output::Text(Ending::Ended, count_line(alloc, &session)?)),
         }
     }
 }

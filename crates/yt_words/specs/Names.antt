@@ -1,26 +1,34 @@
 -- The names of commands and of kinds of dependencies.
-use Rattle.std.specs.Prelude.{Bool, List, [], ◌∷◌, codes}
+use Rattle.std.specs.Prelude.{Bool, false, List, [], ◌∷◌, codes}
 use Rattle.std.specs.List.{list_any}
 use Rattle.std.specs.Str.{bytes_eq}
 use Rattle.clap.specs.Words.{Text}
 use Rattle.yt_words.specs.declared.names.CommandName.{CommandName}
-use Rattle.yt_words.specs.declared.names.CommandName.TheVariants.{Format, Check, Upgrade}
+use Rattle.yt_words.specs.declared.names.CommandName.TheVariants.{Run, Serial, Format, Check, Save, Upgrade}
 use Rattle.yt_words.specs.declared.names.Deps.{Deps}
 use Rattle.yt_words.specs.declared.names.Deps.TheVariants.{Coarse, Precise}
 
 -- the word of each command
 abbrev pub command_text : CommandName → Text
+command_text Run = codes "run"
+command_text Serial = codes "serial"
 command_text Format = codes "format"
 command_text Check = codes "check"
+command_text Save = codes "save"
 command_text Upgrade = codes "upgrade"
 
 -- the commands that there are
 abbrev pub commands : List CommandName
-commands = Format ∷ Check ∷ Upgrade ∷ []
+commands = Run ∷ Serial ∷ Format ∷ Check ∷ Save ∷ Upgrade ∷ []
 
 -- whether the text is the word of a command
 abbrev pub is_command : Text → Bool
 is_command text = list_any (λ command. bytes_eq text (command_text command)) commands
+
+-- whether a command with or without the flag `trace` is a run that is to print its trace
+abbrev pub is_traced_run : CommandName → Bool → Bool
+is_traced_run Run trace = trace
+is_traced_run _ trace = false
 
 -- the word of each kind of dependencies
 abbrev pub deps_text : Deps → Text

@@ -11,22 +11,27 @@ mappings while several curators update it.
 Usage: youtopia COMMAND [OPTIONS] < SESSION
 
 Commands:
+  run       run the updates; print how each ended, and the repository they left
+  serial    the same, one update after the other, as run does too so far
   format    print the session in its own format
   check     check the session and its base, and count its parts
+  save      run the updates, and print what they left as a session
   upgrade   print the session in the newest format
 
 Options:
+  --steps N     how many steps an update may take, 1 to 300 [100]
+  -h, --help    print this text
+  -V, --version print the version
+
+Options that are read and change nothing so far:
   --workers N   how many workers run updates, 1 to 16 [4]
   --deps KIND   which writes a read depends on, coarse or precise [precise]
-  --steps N     how many steps an update may take, 1 to 300 [100]
   --retries N   how often an update is tried again, 0 to 4 [3]
   --tuple FACT  the tuple to explain
   --query TEXT  the query to answer
   --count N     how many updates are generated, 1 to 1000 [60]
   --seed N      the seed of the generator, 0 to 4294967295 [1]
-  --trace       print the trace after the result
-  -h, --help    print this text
-  -V, --version print the version
+  --trace       print the trace after the result; run refuses it so far
 
 Statuses:
   0 done   1 stuck at a question   2 words refused   3 session refused
@@ -34,5 +39,5 @@ Statuses:
   7 out of memory   8 input too long   9 result too large
 
 Example:
-  youtopia format < travel.session
+  youtopia run --steps 50 < travel.session
 ";

@@ -7,10 +7,16 @@ ghost use Rattle.yt_words.specs.Names.{command_text, deps_text, is_command, is_d
 /// and in `command_named`.
 #[derive(Clone, Copy, Debug, PartialEq, Eq)]
 pub enum CommandName {
+    /// Runs a session with several workers.
+    Run,
+    /// Runs a session update by update.
+    Serial,
     /// Prints a session.
     Format,
     /// Checks a session and its base.
     Check,
+    /// Runs a session update by update, and prints what is left as a session.
+    Save,
     /// Prints a session in the newest format.
     Upgrade,
 }
@@ -29,11 +35,20 @@ pub(crate) fn command_named(text: &str) -> Option<CommandName>
     ensures some { (command : CommandName) → result ≡ Some command → text.now ≡ command_text command }
     ensures none { result ≡ None → is_command text.now ≡ false }
 {
+    if text == "run" {
+        return Some(CommandName::Run);
+    }
+    if text == "serial" {
+        return Some(CommandName::Serial);
+    }
     if text == "format" {
         return Some(CommandName::Format);
     }
     if text == "check" {
         return Some(CommandName::Check);
+    }
+    if text == "save" {
+        return Some(CommandName::Save);
     }
     if text == "upgrade" {
         return Some(CommandName::Upgrade);

@@ -42,26 +42,28 @@ fn asked(alloc: Global, line: &str) -> Result<String, AllocError> {
 #[test]
 fn words_name_a_command_and_its_options(rt: HostRuntime) -> Result<(), Fail> {
     let cases = [
-        ("format", "Format 4 Precise 100 3 60 1 - - false"),
-        ("check --steps=003", "Check 4 Precise 3 3 60 1 - - false"),
-        ("check --steps +3", "Check 4 Precise 3 3 60 1 - - false"),
+        ("run", "Run 4 Precise 100 3 60 1 - - false"),
+        ("serial --steps=003", "Serial 4 Precise 3 3 60 1 - - false"),
+        ("serial --steps +3", "Serial 4 Precise 3 3 60 1 - - false"),
+        ("serial --trace", "Serial 4 Precise 100 3 60 1 - - true"),
+        (
+            "run --workers 8 --deps coarse --steps 300",
+            "Run 8 Coarse 300 3 60 1 - - false",
+        ),
         (
             "check --trace --workers 16 --deps coarse",
             "Check 16 Coarse 100 3 60 1 - - true",
         ),
         (
-            "upgrade --tuple x --query y",
-            "Upgrade 4 Precise 100 3 60 1 x y false",
+            "save --tuple x --query y",
+            "Save 4 Precise 100 3 60 1 x y false",
         ),
         (
             "--seed=4294967295 upgrade --count 1000 --retries 0",
             "Upgrade 4 Precise 100 0 1000 4294967295 - - false",
         ),
         ("-- format", "Format 4 Precise 100 3 60 1 - - false"),
-        (
-            "format --tuple=-x",
-            "Format 4 Precise 100 3 60 1 -x - false",
-        ),
+        ("run --tuple=-x", "Run 4 Precise 100 3 60 1 -x - false"),
     ];
     for (line, wanted) in cases {
         let told = asked(rt.alloc(), line)?;
@@ -76,24 +78,26 @@ fn other_words_are_refused_or_ask_for_help(rt: HostRuntime) -> Result<(), Fail> 
         ("", "usage"),
         ("dance", "usage"),
         ("explain --tuple A(1)", "usage"),
-        ("format format", "usage"),
+        ("run run", "usage"),
         ("format --workers 17", "usage"),
-        ("format --steps 0", "usage"),
-        ("format --deps fast", "usage"),
-        ("format --steps", "usage"),
-        ("format --trace=1", "usage"),
-        ("format --steps 3 --steps 4", "usage"),
-        ("format --tuple -x", "usage"),
+        ("run --steps 0", "usage"),
+        ("run --deps fast", "usage"),
+        ("run --steps", "usage"),
+        ("run --trace=1", "usage"),
+        ("run --workers 1 --trace", "usage"),
+        ("save --steps 301", "usage"),
+        ("run --steps 3 --steps 4", "usage"),
+        ("run --tuple -x", "usage"),
         ("--bogus --help", "usage"),
         ("--workers 17 --help", "usage"),
         ("--help=1", "usage"),
         ("--help", "help"),
         ("--help --bogus", "help"),
         ("--help -V", "help"),
-        ("format -h", "help"),
+        ("run -h", "help"),
         ("dance --help", "help"),
         ("-V", "version"),
-        ("format --version", "version"),
+        ("run --version", "version"),
     ];
     for (line, wanted) in cases {
         let told = asked(rt.alloc(), line)?;
@@ -107,7 +111,7 @@ fn help_is_80_columns_wide_and_names_every_command(rt: HostRuntime) {
     for line in HELP.lines() {
         assert!(rt; line.len() <= 80);
     }
-    for command in ["format", "check", "upgrade"] {
+    for command in ["run", "serial", "format", "check", "save", "upgrade"] {
         assert!(rt; HELP.contains(command));
     }
 }

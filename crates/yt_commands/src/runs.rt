@@ -1,0 +1,99 @@
+//! The commands that run a session's updates: `run` and `serial`, which print the result, and `save`, which prints what
+//! is left as a session.
+ghost use Rattle.std.specs.Prelude.{◌≡◌, IfOk};
+ghost use Rattle.yt_command.specs.Outputs.{view_of};
+ghost use Rattle.yt_program.specs.Results.{result_of};
+ghost use Rattle.yt_session.specs.Meanings.{session_of};
+ghost use Rattle.yt_commands.specs.Runs.{ending_by, kept, ran, result_output, saved_output, too_large_line};
+
+use crate::base::{base_refusal, base_violation};
+use crate::budget::Budget;
+use crate::reading::SessionCommand;
+use std::alloc::Global;
+use yt_base::Memory;
+use yt_command::{Ending, Output, Refusal};
+use yt_print::print_session;
+use yt_program::SessionResult;
+use yt_report::{SaveRefusal, result_text, saved};
+use yt_serial::serial;
+use yt_session::Session;
+
+/// `run` and `serial`: the updates taken whole, one after the other; how each ended, where they stopped, if they did, and
+/// the repository that they left.
+#[derive(Clone, Copy, Debug)]
+pub struct Serial {
+    /// How many steps an update may take.
+    pub budget: Budget,
+}
+
+/// `save`: the updates taken whole, one after the other; the session that begins with what they left.
+#[derive(Clone, Copy, Debug)]
+pub struct Save {
+    /// How many steps an update may take.
+    pub budget: Budget,
+}
+
+// How a command ends whose run told this.
+fn ending_by(told: &SessionResult) -> Ending
+    ensures { result ≡ ending_by (result_of told.now).stop }
+{
+    match told.stop {
+        None => Ending::Ended,
+        Some(_) => Ending::Stuck,
+    }
+}
+
+// What is printed of a run.
+fn result_output(alloc: Global, session: &Session, told: &SessionResult) -> Result<Output, Memory>
+    ensures { IfOk result (λ output. view_of output ≡ result_output (session_of session.now) (result_of told.now)) }
+{
+    let text = result_text(alloc, session, told)?;
+    Ok(Output::Text(ending_by(told), text))
+}
+
+// The line that tells that a session is too large.
+fn too_large_line(alloc: Global) -> Result<Vec<u8>, Memory>
+    ensures { IfOk result (λ line. line.items ≡ too_large_line) }
+{
+    let mut line = Vec::new(alloc);
+    line.extend_from_slice(b"youtopia: output too large\n")?;
+    Ok(line)
+}
+
+// What is saved of a run.
+fn saved_output(alloc: Global, session: Session, told: &SessionResult) -> Result<Output, Memory>
+    ensures { IfOk result (λ output. view_of output ≡ saved_output (session_of session) (result_of told.now)) }
+{
+    match saved(alloc, session, told) {
+        Ok(begun) => Ok(Output::Text(ending_by(told), print_session(alloc, &begun)?)),
+        Err(SaveRefusal::TooLarge { .. }) => Ok(Output::Refused(
+            Refusal::TooLarge,
+            too_large_line(alloc)?,
+        )),
+        Err(SaveRefusal::Memory) => Err(Memory),
+    }
+}
+
+impl SessionCommand for Serial {
+    ghost makes = { λ c s. ran c.budget s };
+
+    fn make(&self, alloc: Global, session: Session) -> Result<Output, Memory> {
+        if let Some(violated) = base_violation(alloc, &session)? {
+            return base_refusal(alloc, &session.schema, &violated);
+        }
+        let told = serial(alloc, &session, self.budget.steps())?;
+        result_output(alloc, &session, &told)
+    }
+}
+
+impl SessionCommand for Save {
+    ghost makes = { λ c s. kept c.budget s };
+
+    fn make(&self, alloc: Global, session: Session) -> Result<Output, Memory> {
+        if let Some(violated) = base_violation(alloc, &session)? {
+            return base_refusal(alloc, &session.schema, &violated);
+        }
+        let told = serial(alloc, &session, self.budget.steps())?;
+        saved_output(alloc, session, &told)
+    }
+}
