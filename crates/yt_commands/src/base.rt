@@ -1,6 +1,5 @@
 //! Whether the base of a session meets the mappings that are in force from the start.
 ghost use Rattle.std.specs.Prelude.{◌≡◌, ◌++◌, ◌∷◌, [], flat_map, false, map, option_map, IfOk, OnOk};
-ghost use Rattle.yt_model.specs.Repository.{IsRepository};
 ghost use Rattle.yt_base.specs.Meanings.{fact_of};
 ghost use Rattle.yt_command.specs.Outputs.{Refused, view_of};
 ghost use Rattle.yt_schema.specs.Meanings.{session_mapping_of};
@@ -13,7 +12,7 @@ ghost use Rattle.yt_commands.specs.Violations.{violated_of};
 use std::alloc::Global;
 use yt_base::{Facts, Mapping, Memory, Tuple, TupleList};
 use yt_command::{Output, Refusal};
-use yt_facts::{IndexedFacts, PlainFacts};
+use yt_facts::IndexedFacts;
 use yt_schema::{Schema, print_tuple};
 use yt_session::Session;
 use yt_violation::{Scope, first_violation};
@@ -61,17 +60,16 @@ fn first_violated<'a, F: Facts>(
     Ok(None)
 }
 
-/// The first violation of the session's base.
+/// The first violation of the session's base, which is given as a set of tuples.
 pub(crate) fn base_violation<'a>(
     alloc: Global,
     session: &'a Session,
+    base: &IndexedFacts,
 ) -> Result<Option<Violated<'a>>, Memory>
-    requires { IsRepository (map fact_of session.now.base.items) }
+    requires { base.now ≡ (session_of session.now).base }
     ensures { IfOk result (λ found. option_map violated_of found ≡ base_violation (session_of session.now)) }
 {
-    let base = PlainFacts::of_list(alloc, &session.base)?;
-    let base = IndexedFacts::of(alloc, base)?;
-    first_violated(alloc, &base, session.mappings.as_slice())
+    first_violated(alloc, base, session.mappings.as_slice())
 }
 
 // Adds tuples, each behind a comma and a space.

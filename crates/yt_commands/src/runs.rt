@@ -15,7 +15,7 @@ use yt_command::{Ending, Output, Refusal};
 use yt_print::print_session;
 use yt_program::SessionResult;
 use yt_report::{SaveRefusal, result_text, saved};
-use yt_serial::serial;
+use yt_serial::{base_of, serial_over};
 use yt_session::Session;
 
 /// `run` and `serial`: the updates taken whole, one after the other; how each ended, where they stopped, if they did, and
@@ -78,10 +78,11 @@ impl SessionCommand for Serial {
     ghost makes = { λ c s. ran c.budget s };
 
     fn make(&self, alloc: Global, session: Session) -> Result<Output, Memory> {
-        if let Some(violated) = base_violation(alloc, &session)? {
+        let base = base_of(alloc, &session)?;
+        if let Some(violated) = base_violation(alloc, &session, &base)? {
             return base_refusal(alloc, &session.schema, &violated);
         }
-        let told = serial(alloc, &session, self.budget.steps())?;
+        let told = serial_over(alloc, &session, base, self.budget.steps())?;
         result_output(alloc, &session, &told)
     }
 }
@@ -90,10 +91,11 @@ impl SessionCommand for Save {
     ghost makes = { λ c s. kept c.budget s };
 
     fn make(&self, alloc: Global, session: Session) -> Result<Output, Memory> {
-        if let Some(violated) = base_violation(alloc, &session)? {
+        let base = base_of(alloc, &session)?;
+        if let Some(violated) = base_violation(alloc, &session, &base)? {
             return base_refusal(alloc, &session.schema, &violated);
         }
-        let told = serial(alloc, &session, self.budget.steps())?;
+        let told = serial_over(alloc, &session, base, self.budget.steps())?;
         saved_output(alloc, session, &told)
     }
 }

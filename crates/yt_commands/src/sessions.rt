@@ -12,6 +12,7 @@ use std::alloc::Global;
 use yt_base::Memory;
 use yt_command::{Ending, Output};
 use yt_print::{print_session, print_upgraded};
+use yt_serial::base_of;
 use yt_session::Session;
 
 /// `format`: the session's printed form.
@@ -46,7 +47,8 @@ impl SessionCommand for Check {
     ghost makes = { λ _ s. checked s };
 
     fn make(&self, alloc: Global, session: Session) -> Result<Output, Memory> {
-        match base_violation(alloc, &session)? {
+        let base = base_of(alloc, &session)?;
+        match base_violation(alloc, &session, &base)? {
             Some(violated) => base_refusal(alloc, &session.schema, &violated),
             None => Ok(Output::Text(Ending::Ended, count_line(alloc, &session)?)),
         }

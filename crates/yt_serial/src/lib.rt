@@ -9,4 +9,4 @@ mod stepping;
 mod turns;
 mod wholes;
 
-pub use crate::runs::serial;
+pub use crate::runs::{base_of, serial, serial_over};

@@ -22,6 +22,15 @@ use yt_program::{FinishList, SessionResult, Stop};
 use yt_session::{Session, SessionUpdate, base_holds, sessions_suit_the_chase};
 use yt_steps::laws::serial_scopes_agree;
 
+/// The base of a session as the set of tuples that its run begins with. It is refused only for want of memory.
+pub fn base_of(alloc: Global, session: &Session) -> Result<IndexedFacts, Memory>
+    requires sorted { IsRepository (session_of session.now).base }
+    ensures same { IfOk result (λ base. base ≡ (session_of session.now).base) }
+{
+    let base = PlainFacts::of_list(alloc, &session.base)?;
+    IndexedFacts::of(alloc, base)
+}
+
 /// The serial run of a session: its updates taken whole, one after the other in the order of their numbers, up to the
 /// first that stops at a question. Refused only for want of memory.
 pub fn serial(alloc: Global, session: &Session, steps: u32) -> Result<SessionResult, Memory>
@@ -31,11 +40,28 @@ pub fn serial(alloc: Global, session: &Session, steps: u32) -> Result<SessionRes
     requires most { steps ≤ 300 }
     ensures told { IfOk result (λ told. result_of told ≡ result_in (serial_result (rules_of (session_of session.now).mappings) steps (session_of session.now).base (requests_in (session_of session.now)))) }
 {
+    let base = base_of(alloc, session)?;
+    serial_over(alloc, session, base, steps)
+}
+
+/// The serial run of a session over its base, which is handed over as a set of tuples (`base_of`). Refused only for want
+/// of memory.
+pub fn serial_over(
+    alloc: Global,
+    session: &Session,
+    base: IndexedFacts,
+    steps: u32,
+) -> Result<SessionResult, Memory>
+    requires valid { IsSession (session_of session.now) }
+    requires met { base_violation (session_of session.now) ≡ None }
+    requires base { base ≡ (session_of session.now).base }
+    requires some { 1 ≤ steps }
+    requires most { steps ≤ 300 }
+    ensures told { IfOk result (λ told. result_of told ≡ result_in (serial_result (rules_of (session_of session.now).mappings) steps (session_of session.now).base (requests_in (session_of session.now)))) }
+{
     sessions_suit_the_chase();
     base_holds();
     serial_scopes_agree();
-    let base = PlainFacts::of_list(alloc, &session.base)?;
-    let base = IndexedFacts::of(alloc, base)?;
     let updates = session.updates.as_slice();
     run(alloc, base, updates, &session.mappings, steps)
 }

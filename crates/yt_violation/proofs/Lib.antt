@@ -3,3 +3,4 @@ pub mod Merging
 pub mod Seeding
 pub mod Causing
 pub mod Firsts
+pub mod Apart

@@ -1,6 +1,6 @@
 use Rattle.std.proofs.Common.{◌≡◌, ◌∙◌, subst, map, Result, Ok, Err, IfOk}
 use Rattle.std.proofs.lemmas.Simd.{map-map}
-use Rattle.yt_base.specs.Meanings.{fact_of, rule_of}
+use Rattle.yt_base.specs.Meanings.{rule_of}
 use Rattle.yt_grammar.specs.Sessions.{SessionMapping}
 use Rattle.yt_grammar.specs.Checks.{rules_of}
 use Rattle.yt_schema.specs.Meanings.{session_mapping_of}
@@ -9,7 +9,7 @@ use Rattle.yt_program.specs.Conditions.{AreWithin}
 use Rattle.yt_serial.specs.Runs.{told_from}
 use Rattle.yt_serial.proofs.Limits.{session_within}
 use Rattle.yt_serial.proofs.Onward.{told_whole}
-use Rattle.yt_serial.proofs.runs.serial.Goals as goal
+use Rattle.yt_serial.proofs.runs.serial_over.Goals as goal
 
 if_ok_weaker : {T E : Type 0} {P Q : T → Type 0} (r : Result T E) → ((x : T) → P x → Q x) → IfOk r P → IfOk r Q
 if_ok_weaker (Ok x) f h = f x h
@@ -24,9 +24,8 @@ pub returns : goal.returns
 returns c =
     let s = session_of c.args.session.now in
     let ms : rules_of s.mappings ≡ map rule_of c.args.session.now.mappings.items = map-map (λ (m : SessionMapping). m.rule) session_mapping_of c.args.session.now.mappings.items in
-    let base : c.in_ok-base.base ≡ map fact_of c.args.session.now.base.items = c.in_ok-base.ensures.same c.requires.valid.base_order in
-    let same : c.in_ok-base-2.base ≡ c.in_ok-base.base = c.in_ok-base-2.ensures.same in
+    let base : c.args.base ≡ s.base = c.requires.base in
     let updates = c.as_slice-updates.ensures.items in
     let whole = told_whole s c.args.steps c.sessions_suit_the_chase.ensures c.base_holds.ensures c.serial_scopes_agree.ensures c.requires.valid c.requires.met c.requires.some in
-    let here : told_from (map rule_of c.args.session.now.mappings.items) c.args.steps c.in_ok-base-2.base 1 (map request_of (map update_of c.as_slice-updates.result.now)) ≡ told_from (rules_of s.mappings) c.args.steps s.base 1 (requests_in s) = cc in
+    let here : told_from (map rule_of c.args.session.now.mappings.items) c.args.steps c.args.base 1 (map request_of (map update_of c.as_slice-updates.result.now)) ≡ told_from (rules_of s.mappings) c.args.steps s.base 1 (requests_in s) = cc in
     record { told = if_ok_weaker c.run.result (λ told e. e ∙ (here ∙ whole)) c.run.ensures.told }
