@@ -1,7 +1,8 @@
 //! The commands on a session: what each makes of its input.
 //!
 //! `specs/Commands.antt` says it in the terms of the language of sessions: `of_session makes input` is what a command
-//! makes of the session that the input spells, or the refusal of an input that spells none.
+//! makes of the session that the input spells, or the refusal of an input that spells none. `specs/Runs.antt` says it of
+//! those that run the updates, in the terms of the serial machine.
 #![tactic(auto)]
 
 mod base;

@@ -7,15 +7,15 @@ ghost use Rattle.yt_words.specs.Names.{command_text, deps_text, is_command, is_d
 /// and in `command_named`.
 #[derive(Clone, Copy, Debug, PartialEq, Eq)]
 pub enum CommandName {
-    /// Runs a session with several workers.
+    /// Runs a session's updates.
     Run,
-    /// Runs a session update by update.
+    /// Runs a session's updates one after the other.
     Serial,
     /// Prints a session.
     Format,
     /// Checks a session and its base.
     Check,
-    /// Runs a session update by update, and prints what is left as a session.
+    /// Runs a session's updates one after the other, and prints what they left as a session.
     Save,
     /// Prints a session in the newest format.
     Upgrade,
