@@ -28,7 +28,7 @@ pub fn base_of(alloc: Global, session: &Session) -> Result<IndexedFacts, Memory>
     ensures same { IfOk result (λ base. base ≡ (session_of session.now).base) }
 {
     let base = PlainFacts::of_list(alloc, &session.base)?;
-    IndexedFacts::of(alloc, base)
+    Ok(IndexedFacts::of(alloc, base)?)
 }
 
 /// The serial run of a session: its updates taken whole, one after the other in the order of their numbers, up to the
