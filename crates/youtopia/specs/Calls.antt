@@ -15,7 +15,7 @@ use Rattle.yt_commands.specs.Commands.{of_session, formatted, upgraded_text, che
 use Rattle.yt_commands.specs.Runs.{ran, kept}
 use Rattle.yt_grammar.specs.Sessions.{SessionData}
 use Rattle.yt_words.specs.Meaning.{Answers, is_refused}
-use Rattle.yt_words.specs.declared.help.TheConstants.{HELP, VERSION}
+use Rattle.yt_words.specs.declared.help.TheConstants.{HELP, VERSION_LINE}
 use Rattle.yt_words.specs.declared.names.CommandName.{CommandName}
 use Rattle.yt_words.specs.declared.names.CommandName.TheVariants.{Run, Serial, Format, Check, Save, Upgrade}
 use Rattle.yt_words.specs.declared.reading.Options.{Options}
@@ -47,7 +47,7 @@ Unread source = Keeps source.bytes source.bytes_after × (source.faults ≡ sour
 abbrev pub Performs : Request → Status → Change → Change → Change → Type 0
 Performs (Command options) status source out err = Row status (meaning_of options) source out err
 Performs Help status source out err = Row status (telling HELP.now) no_input out err × Unread source
-Performs Version status source out err = Row status (telling VERSION.now) no_input out err × Unread source
+Performs Version status source out err = Row status (telling VERSION_LINE.now) no_input out err × Unread source
 
 -- nothing was done for this reason, which `err` was told: the source was not read, and `out` took nothing
 abbrev pub DoesNothing : Failure → Change → Change → Change → Type 0

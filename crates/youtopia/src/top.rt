@@ -10,7 +10,7 @@ use std::alloc::Global;
 use yt_command::{Failure, Status, fail, perform, perform_alone};
 use yt_commands::{Budget, Check, Format, OnSession, Save, Serial, Upgrade};
 use yt_text::{Sink, Source};
-use yt_words::{CommandName, HELP, Options, Request, VERSION, WordsRefusal, read_words};
+use yt_words::{CommandName, HELP, Options, Request, VERSION_LINE, WordsRefusal, read_words};
 
 // Does the command between the devices.
 fn command<S: Source, O: Sink, E: Sink>(
@@ -55,7 +55,7 @@ fn attend<S: Source, O: Sink, E: Sink>(
     match request {
         Request::Command(options) => command(alloc, &options, source, out, err),
         Request::Help => perform_alone(alloc, &Telling { text: HELP }, out, err),
-        Request::Version => perform_alone(alloc, &Telling { text: VERSION }, out, err),
+        Request::Version => perform_alone(alloc, &Telling { text: VERSION_LINE }, out, err),
     }
 }
 

@@ -1,7 +1,10 @@
 //! The texts that tell how the program is called.
 
-/// The version that `--version` tells.
-pub const VERSION: &str = "0.1.0";
+/// The number of the version.
+pub(crate) const VERSION: &str = "0.1.0";
+
+/// The line that `--version` tells.
+pub const VERSION_LINE: &str = "youtopia 0.1.0\n";
 
 /// The text that `--help` tells: at most 80 columns wide.
 pub const HELP: &str = "\

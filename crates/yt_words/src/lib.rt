@@ -7,7 +7,7 @@ mod laws;
 mod names;
 mod reading;
 
-pub use help::{HELP, VERSION};
+pub use help::{HELP, VERSION_LINE};
 pub use laws::{words_are_answered_or_refused, words_have_one_fault};
 pub use names::{CommandName, Deps};
 pub use reading::{Options, Request, WordsRefusal, read_words};
