@@ -14,8 +14,16 @@ pub fn order<T: Ord>(items: &[T], others: &[T]) -> Ordering
     if items.len() < LONG || others.len() < LONG {
         order_in_turn(items, others)
     } else {
-        items.cmp(&others)
+        order_of_long(items, others)
     }
+}
+
+// The order of two long slices. Never inlined, so that short ones save no registers for it.
+#[inline(never)]
+fn order_of_long<T: Ord>(items: &[T], others: &[T]) -> Ordering
+    ensures order { result ≡ slice_cmp T.cmp items.now others.now }
+{
+    items.cmp(&others)
 }
 
 // The order of two slices, item by item.
