@@ -1,18 +1,21 @@
 -- A cursor that goes on from tuple to tuple goes over all that come after it.
-use Rattle.std.proofs.Common.{◌≡◌, ℕ, suc, length, ap, refl, sym, ◌∙◌, List, ◌∷◌, Bool, true, false, ◌&&◌, cond, Option, Some, None, []}
-use Rattle.std.specs.Ordering.{is_lt}
+use Rattle.std.proofs.Common.{◌≡◌, ℕ, suc, ◌<◌, length, ap, refl, sym, ◌∙◌, List, ◌∷◌, Bool, true, false, ◌&&◌, cond, Option, Some, None, [], inl, inr}
+use Rattle.std.specs.Cmp.Lexicographic.{slice_cmp}
+use Rattle.std.specs.Ordering.{is_lt, nat_cmp, ordering_then, MatchOrdering}
+use Rattle.std.specs.declared.cmp.Ordering.{Ordering}
+use Rattle.std.specs.declared.cmp.Ordering.TheVariants.{Less, Equal, Greater}
 use Rattle.std.specs.Prelude.{find, filter, ◌==◌}
-use Rattle.std.proofs.lemmas.Bool.{and_parts}
-use Rattle.yt_model.specs.Values.{Datum, Fact, fact_cmp}
+use Rattle.std.proofs.lemmas.Bool.{and_parts, cases_eq, ne_eqb}
+use Rattle.std.proofs.lemmas.Cmp.{ranked}
+use Rattle.yt_model.specs.Values.{Datum, Fact, datum_cmp, fact_cmp}
 use Rattle.yt_model.specs.Repository.{IsRepository}
 use Rattle.yt_model.specs.Cursors.{is_of, is_past, is_beyond, has_at, is_scanned, first_of, next_of, scan_of}
-use Rattle.yt_model.proofs.Bools.{differ}
+use Rattle.yt_model.proofs.Bools.{differ, and-true, and-false}
 use Rattle.yt_model.proofs.Cursors.{found_begins, is_of-is}
 use Rattle.yt_model.proofs.Order.{fact_total}
-use Rattle.yt_model.proofs.Searches.{find_filter, filter_as, none_passes, found_passes}
-use Rattle.yt_model.proofs.Scans.{start_of}
+use Rattle.yt_model.proofs.Searches.{find_filter, find_same, filter_as, none_passes, found_passes}
 use Rattle.yt_base.specs.Meanings.{datum_of}
-use Rattle.yt_facts.specs.Courses.{ahead, comes_after}
+use Rattle.yt_facts.specs.Courses.{ahead, is_ahead, comes_after}
 use Rattle.yt_facts.specs.declared.overlay.Course.{Course}
 use Rattle.yt_facts.specs.declared.overlay.Course.TheVariants.{All, Relation, Column}
 use Rattle.yt_facts.proofs.Unions.{lt_less}
@@ -111,38 +114,67 @@ course_follows All t = beyond_follows (Some t)
 course_follows Relation t = past_follows t
 course_follows (Column r c v) t = scanned_follows r c (datum_of v.now) (Some t)
 
--- ---- where a scan begins
+-- ---- what is ahead in a relation
 
--- What a scan that begins where `start_of` says has ahead finds what the whole set finds.
-pub scan_begins : (r c : ℕ) (d : Datum) (past : Option Fact) (D : List Fact) (o : Option Fact) → IsRepository D → o ≡ start_of D r past → find (is_scanned r c d past) (ahead is_past D o) ≡ scan_of D r c d past
-scan_begins r c d past D o s e = by past e
+pub ahead_follows : (r : ℕ) (past : Option Fact) → Follows (is_ahead r past) is_past
+ahead_follows r past v u e =
+    let parts = and_parts (is_of r v) (is_beyond past v) e in
+    by (is_of r u) (is_beyond past u) (is_lt (fact_cmp v u)) (beyond past parts.1) ∙ relation_follows r v u parts.0
   where
-    of_relation : (a x : Bool) → (a && x) ≡ true → a ≡ true
-    of_relation true x f = refl
-    of_relation false x f = differ f
+    beyond : (past : Option Fact) → is_beyond past v ≡ true → is_lt (fact_cmp v u) ≡ true → is_beyond past u ≡ true
+    beyond None f h = refl
+    beyond (Some t) f h = through t v u f h
 
-    from_first : (past : Option Fact) → o ≡ first_of D r → find (is_scanned r c d past) (ahead is_past D o) ≡ scan_of D r c d past
-    from_first past h =
-        ap (find (is_scanned r c d past)) (all_ahead (is_of r) is_past D (relation_follows r) s o h)
-        ∙ find_filter (is_scanned r c d past) (is_of r) (λ u. of_relation (is_of r u) (is_beyond past u && has_at c d u)) D
+    by : (a b c : Bool) → (c ≡ true → b ≡ true) → ((a && b) && c) ≡ (a && c)
+    by false b c h = refl
+    by true b true h = ap (λ x. x && true) (h refl)
+    by true b false h = and-false b
 
-    from_past : (t : Fact) → is_of r t ≡ true → o ≡ next_of D t → find (is_scanned r c d (Some t)) (ahead is_past D o) ≡ scan_of D r c d (Some t)
-    from_past t f h =
-        ap (find (is_scanned r c d (Some t))) (all_ahead (is_past t) is_past D (past_follows t) s o h)
-        ∙ find_filter (is_scanned r c d (Some t)) (is_past t) (λ u g. ap (λ b. b && is_lt (fact_cmp t u)) (sym (same_relation r t u f)) ∙ both_of (is_of r u) (is_lt (fact_cmp t u)) (has_at c d u) g) D
-      where
-        both_of : (a b x : Bool) → (a && (b && x)) ≡ true → (a && b) ≡ true
-        both_of true true x g = refl
-        both_of true false x g = differ g
-        both_of false b x g = differ g
+-- What a scan that begins at the first that is ahead has ahead finds what the whole set finds.
+pub scan_begins : (r c : ℕ) (d : Datum) (past : Option Fact) (D : List Fact) (o : Option Fact) → IsRepository D → o ≡ find (is_ahead r past) D → find (is_scanned r c d past) (ahead is_past D o) ≡ scan_of D r c d past
+scan_begins r c d past D o s e =
+    ap (find (is_scanned r c d past)) (all_ahead (is_ahead r past) is_past D (ahead_follows r past) s o e)
+    ∙ find_filter (is_scanned r c d past) (is_ahead r past) (λ u. both_of (is_of r u) (is_beyond past u) (has_at c d u)) D
+  where
+    both_of : (a b x : Bool) → (a && (b && x)) ≡ true → (a && b) ≡ true
+    both_of true true x g = refl
+    both_of true false x g = differ g
+    both_of false b x g = differ g
 
-    by : (past : Option Fact) → o ≡ start_of D r past → find (is_scanned r c d past) (ahead is_past D o) ≡ scan_of D r c d past
-    by None h = from_first None h
-    by (Some t) h = at (is_of r t) refl h
-      where
-        at : (b : Bool) → is_of r t ≡ b → o ≡ cond b (next_of D t) (first_of D r) → find (is_scanned r c d (Some t)) (ahead is_past D o) ≡ scan_of D r c d (Some t)
-        at true f g = from_past t f g
-        at false f g = from_first (Some t) g
+-- Where none is given, the first of the relation is ahead.
+pub ahead_of_none : (r : ℕ) (D : List Fact) → first_of D r ≡ find (is_ahead r None) D
+ahead_of_none r D = find_same (is_of r) (is_ahead r None) (λ u. sym (and-true (is_of r u))) D
+
+module _ (r : ℕ) (t : Fact) where
+  -- How t stands to the tuples of the relation is how its relation does.
+  stands : (o : Ordering) → nat_cmp t.relation r ≡ o → (u : Fact) → u.relation ≡ r → fact_cmp t u ≡ ordering_then o (slice_cmp datum_cmp t.values u.values)
+  stands o e u f = ap (λ p. ordering_then p (slice_cmp datum_cmp t.values u.values)) (ap (nat_cmp t.relation) f ∙ e)
+
+  -- A tuple of a lesser relation comes before the first of the relation.
+  pub ahead_of_lesser : nat_cmp t.relation r ≡ Less → (D : List Fact) → first_of D r ≡ find (is_ahead r (Some t)) D
+  ahead_of_lesser e D = find_same (is_of r) (is_ahead r (Some t)) (λ u. elim (cases_eq u.relation r) [
+    | inl f ↦ sym (ap (λ b. is_of r u && b) (ap is_lt (stands Less e u f)) ∙ and-true (is_of r u))
+    | inr n ↦ ne_eqb u.relation r n ∙ sym (ap (λ b. b && is_lt (fact_cmp t u)) (ne_eqb u.relation r n))
+  ]) D
+
+  pub ahead_of_same : nat_cmp t.relation r ≡ Equal → (D : List Fact) → next_of D t ≡ find (is_ahead r (Some t)) D
+  ahead_of_same e D = ap (λ (n : ℕ). find (is_ahead n (Some t)) D) (by (nat_cmp t.relation r) (ranked t.relation r _ refl) e)
+    where
+      by : (o : Ordering) → MatchOrdering o (t.relation < r) (t.relation ≡ r) (r < t.relation) → o ≡ Equal → t.relation ≡ r
+      by Less m f = cc
+      by Equal m f = m
+      by Greater m f = cc
+
+  -- A tuple of a greater relation has none of the relation ahead.
+  pub ahead_of_greater : nat_cmp t.relation r ≡ Greater → (D : List Fact) → None ≡ find (is_ahead r (Some t)) D
+  ahead_of_greater e D = sym (find_same (is_ahead r (Some t)) (λ u. false) (λ u. elim (cases_eq u.relation r) [
+    | inl f ↦ ap (λ b. is_of r u && b) (ap is_lt (stands Greater e u f)) ∙ and-false (is_of r u)
+    | inr n ↦ ap (λ b. b && is_lt (fact_cmp t u)) (ne_eqb u.relation r n)
+  ]) D ∙ none D)
+    where
+      none : (D : List Fact) → find (λ (u : Fact). false) D ≡ None
+      none [] = refl
+      none (u ∷ D) = none D
 
 -- A search among what passes is a search for what passes both.
 pub find_among : (p q : Fact → Bool) (D : List Fact) → find q (filter p D) ≡ find (λ u. p u && q u) D

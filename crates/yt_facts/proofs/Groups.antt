@@ -1,28 +1,20 @@
--- What a write of one group leaves of the others, and of the other columns.
-use Rattle.std.proofs.Common.{◌≡◌, ℕ, zero, suc, ◌<◌, length, arith, ap, refl, sym, ◌∙◌, List, [], ◌∷◌, ◌++◌, Bool, true, false, cond, Option, Some, None}
-use Rattle.std.proofs.Math.ListN.{set}
+-- What a write of one group makes of its column.
+use Rattle.std.proofs.Common.{◌≡◌, ap, refl, sym, ◌∙◌, subst, List, [], Bool, true, false, ◌&&◌, ◌||◌, not, cond, Option, Some, None}
 use Rattle.std.specs.BTreeMap.{BTreeMap, get}
 use Rattle.std.specs.Cmp.{Equal-is}
 use Rattle.std.specs.Ordering.{is_eq, on}
-use Rattle.std.specs.Prelude.{unwrap_or, slice_get}
+use Rattle.std.specs.Prelude.{unwrap_or, Result, Ok, Err, OnOk, OnErr}
 use Rattle.std.specs.declared.cmp.Ordering.{Ordering}
 use Rattle.yt_model.specs.Values.{Datum, Number, Text, Unknown, Fact, same_fact, same_datum, datum_cmp}
-use Rattle.yt_model.specs.Repository.{has, change, Insert}
-use Rattle.yt_model.proofs.Bools.{differ, some_same, or_left, or_right}
+use Rattle.yt_model.specs.Repository.{has, change, Insert, Delete}
+use Rattle.yt_model.proofs.Bools.{and-true}
 use Rattle.yt_model.proofs.Order.{datum_exact}
-use Rattle.yt_model.proofs.Sets.{has-insert, same_itself}
+use Rattle.yt_model.proofs.Sets.{has-insert, has-delete}
+use Rattle.yt_model.proofs.Unified.{swapped}
 use Rattle.yt_base.specs.Meanings.{datum_of}
 use Rattle.yt_base.specs.declared.values.Value.{Value}
 use Rattle.yt_base.specs.declared.values.Value.TheVariants.{Int, Word, Null}
-use Rattle.yt_facts.specs.Indexes.{group_in, group_at, Keeps, KeepsAll}
-
-pub put_keeps : (D E : List Fact) (t u : Fact) → E ≡ change D (Insert t) → has D u ≡ true → has E u ≡ true
-put_keeps D E t u e h = ap (λ (F : List Fact). has F u) e ∙ has-insert D t u ∙ or_right (same_fact u t) (has D u) h
-
-pub put_has : (D E : List Fact) (t : Fact) → E ≡ change D (Insert t) → has E t ≡ true
-put_has D E t e = ap (λ (F : List Fact). has F t) e ∙ has-insert D t t ∙ or_left (same_fact t t) (has D t) (same_itself t)
-
--- ---- one column
+use Rattle.yt_facts.specs.Indexes.{group_in, Adds, Drops}
 
 -- The order of values, by what they mean.
 abbrev pub value_cmp : Value → Value → Ordering
@@ -34,55 +26,100 @@ value_for (Number i) = (Int i, refl)
 value_for (Text w) = (Word (record { items = w; spare = 0 }), refl)
 value_for (Unknown n) = (Null (record { update = n.update; attempt = n.attempt; place = n.place }), refl)
 
--- The group at a value, as the map looks it up.
-pub looked_up : (m : BTreeMap Value (List Fact)) (q : Value) → unwrap_or (get value_cmp m q) [] ≡ group_in m (datum_of q)
-looked_up m q = refl
-
 pub same_exact : (x y : Datum) → same_datum x y ≡ true → x ≡ y
 same_exact x y e = datum_exact x y ((Equal-is (datum_cmp x y)).0 e)
 
--- A write of the group at one value keeps what that group keeps, and the other groups.
-pub others_keep : (p : Fact → Bool) (m n : BTreeMap Value (List Fact)) (v : Value) (o : Option (List Fact)) → ((q : Value) → get value_cmp n q ≡ cond (is_eq (value_cmp v q)) o (get value_cmp m q))
-    → ((u : Fact) → p u ≡ true → has (unwrap_or (get value_cmp m v) []) u ≡ true → has (unwrap_or o []) u ≡ true) → Keeps p m n
-others_keep p m n v o g k d u a h =
+-- ---- results
+
+pub where_ok : {T E P Q : Type 0} (r : Result T E) → (P → Q) → OnOk r P → OnOk r Q
+where_ok (Ok x) f p = f p
+where_ok (Err x) f p = tt
+
+pub where_err : {T E P Q : Type 0} (r : Result T E) → (P → Q) → OnErr r P → OnErr r Q
+where_err (Ok x) f p = tt
+where_err (Err x) f p = f p
+
+pub held_err : {T E P : Type 0} (r : Result T E) → P → OnErr r P
+held_err (Ok x) p = tt
+held_err (Err x) p = p
+
+-- ---- the group that is written
+
+-- Where the group at one value becomes what f makes of it and of being the tuple, the column becomes what f makes of it and of being the tuple at the value.
+pub group_changes : (f : Bool → Bool → Bool) → ((a : Bool) → f a false ≡ a) → (m n : BTreeMap Value (List Fact)) (v : Value) (o : Option (List Fact)) (t : Fact) → ((q : Value) → get value_cmp n q ≡ cond (is_eq (value_cmp v q)) o (get value_cmp m q))
+    → ((u : Fact) → has (unwrap_or o []) u ≡ f (has (group_in m (datum_of v)) u) (same_fact u t)) → (d : Datum) (u : Fact) → has (group_in n d) u ≡ f (has (group_in m d) u) (same_datum d (datum_of v) && same_fact u t)
+group_changes f idle m n v o t g k d u =
     let q = (value_for d).0 in
     let e : datum_of q ≡ d = (value_for d).1 in
-    ap (λ (x : Datum). has (group_in n x) u) (sym e) ∙ ap (λ (x : Option (List Fact)). has (unwrap_or x []) u) (g q)
-    ∙ by q (is_eq (value_cmp v q)) refl (ap (λ (x : Datum). has (group_in m x) u) e ∙ h)
+    subst (λ (x : Datum). has (group_in n x) u ≡ f (has (group_in m x) u) (same_datum x (datum_of v) && same_fact u t)) e
+    (ap (λ (x : Option (List Fact)). has (unwrap_or x []) u) (g q) ∙ by q (is_eq (value_cmp v q)) refl ∙ ap (λ b. f (has (group_in m (datum_of q)) u) (b && same_fact u t)) (swapped (datum_of v) (datum_of q)))
   where
-    by : (q : Value) (b : Bool) → is_eq (value_cmp v q) ≡ b → has (unwrap_or (get value_cmp m q) []) u ≡ true → has (unwrap_or (cond b o (get value_cmp m q)) []) u ≡ true
-    by q true e f = k u a (ap (λ (x : Datum). has (group_in m x) u) (same_exact (datum_of v) (datum_of q) e) ∙ f)
-    by q false e f = f
+    by : (q : Value) (b : Bool) → is_eq (value_cmp v q) ≡ b → has (unwrap_or (cond b o (get value_cmp m q)) []) u ≡ f (has (group_in m (datum_of q)) u) (b && same_fact u t)
+    by q true e = k u ∙ ap (λ (x : Datum). f (has (group_in m x) u) (same_fact u t)) (same_exact (datum_of v) (datum_of q) e)
+    by q false e = sym (idle (has (group_in m (datum_of q)) u))
 
--- Nothing is in no group.
-pub none_kept : (p : Fact → Bool) (m : BTreeMap Value (List Fact)) (v : Value) (w : List Fact) → None ≡ get value_cmp m v → (u : Fact) → p u ≡ true → has (unwrap_or (get value_cmp m v) []) u ≡ true → has w u ≡ true
-none_kept p m v w e u a h = differ (ap (λ (o : Option (List Fact)). has (unwrap_or o []) u) e ∙ h)
+-- Where the group at one value becomes what it is, the column stays the same.
+pub group_stays : (m n : BTreeMap Value (List Fact)) (v : Value) (w : List Fact) → ((q : Value) → get value_cmp n q ≡ cond (is_eq (value_cmp v q)) (Some w) (get value_cmp m q)) → Some w ≡ get value_cmp m v → (d : Datum) → group_in n d ≡ group_in m d
+group_stays m n v w g k d =
+    let q = (value_for d).0 in
+    let e : datum_of q ≡ d = (value_for d).1 in
+    subst (λ (x : Datum). group_in n x ≡ group_in m x) e (ap (λ (x : Option (List Fact)). unwrap_or x []) (g q) ∙ by q (is_eq (value_cmp v q)) refl)
+  where
+    by : (q : Value) (b : Bool) → is_eq (value_cmp v q) ≡ b → unwrap_or (cond b (Some w) (get value_cmp m q)) [] ≡ group_in m (datum_of q)
+    by q true e = ap (λ (x : Option (List Fact)). unwrap_or x []) k ∙ ap (group_in m) (same_exact (datum_of v) (datum_of q) e)
+    by q false e = refl
 
-pub some_kept : (p : Fact → Bool) (m : BTreeMap Value (List Fact)) (v : Value) (D w : List Fact) → Some D ≡ get value_cmp m v → ((u : Fact) → p u ≡ true → has D u ≡ true → has w u ≡ true)
-    → (u : Fact) → p u ≡ true → has (unwrap_or (get value_cmp m v) []) u ≡ true → has w u ≡ true
-some_kept p m v D w e k u a h = k u a (ap (λ (o : Option (List Fact)). has (unwrap_or o []) u) e ∙ h)
+-- ---- a tuple more
 
--- ---- all columns
+pub or-false : (a : Bool) → (a || false) ≡ a
+or-false true = refl
+or-false false = refl
 
-pub kept_on : (p : Fact → Bool) (ks ms ns : List (BTreeMap Value (List Fact))) → KeepsAll p ks ms → KeepsAll p ms ns → KeepsAll p ks ns
-kept_on p ks ms ns a b c d u e h = b c d u e (a c d u e h)
+-- What the group at the value becomes where the tuple is put in.
+pub more_in_group : (m : BTreeMap Value (List Fact)) (v : Datum) (D E : List Fact) (t u : Fact) → D ≡ group_in m v → E ≡ change D (Insert t) → has E u ≡ (has (group_in m v) u || same_fact u t)
+more_in_group m v D E t u e f = ap (λ (F : List Fact). has F u) f ∙ has-insert D t u ∙ swap (same_fact u t) (has D u) ∙ ap (λ (F : List Fact). has F u || same_fact u t) e
+  where
+    swap : (a b : Bool) → (a || b) ≡ (b || a)
+    swap true true = refl
+    swap true false = refl
+    swap false true = refl
+    swap false false = refl
 
--- Further columns keep what was kept.
-pub appended : (p : Fact → Bool) (ms ns : List (BTreeMap Value (List Fact))) → KeepsAll p ms (ms ++ ns)
-appended p [] ns c d u a h = differ h
-appended p (m ∷ ms) ns zero d u a h = h
-appended p (m ∷ ms) ns (suc c) d u a h = appended p ms ns c d u a h
+-- A write of the group at one value that adds the tuple there adds it in the column.
+pub group_adds : (m n : BTreeMap Value (List Fact)) (v : Value) (w : List Fact) (t : Fact) → ((q : Value) → get value_cmp n q ≡ cond (is_eq (value_cmp v q)) (Some w) (get value_cmp m q))
+    → ((u : Fact) → has w u ≡ (has (group_in m (datum_of v)) u || same_fact u t)) → Adds (datum_of v) t m n
+group_adds m n v w t = group_changes (λ a b. a || b) or-false m n v (Some w) t
 
--- A write of one column keeps what that column keeps, and the other columns.
-pub set_keeps : (p : Fact → Bool) (ms : List (BTreeMap Value (List Fact))) (i : ℕ) (m n : BTreeMap Value (List Fact)) → slice_get ms i ≡ Some m → Keeps p m n → KeepsAll p ms (set ms i n)
-set_keeps p [] i m n e k c d u a h = differ h
-set_keeps p (x ∷ ms) zero m n e k zero d u a h = k d u a (sym (ap (λ (y : BTreeMap Value (List Fact)). has (group_in y d) u) (some_same x m e)) ∙ h)
-set_keeps p (x ∷ ms) zero m n e k (suc c) d u a h = h
-set_keeps p (x ∷ ms) (suc i) m n e k zero d u a h = h
-set_keeps p (x ∷ ms) (suc i) m n e k (suc c) d u a h = set_keeps p ms i m n e k c d u a h
+-- ---- a tuple less
 
--- What was written is there.
-pub set_there : (ms : List (BTreeMap Value (List Fact))) (i : ℕ) (n : BTreeMap Value (List Fact)) (d : Datum) → i < length ms → group_at (set ms i n) i d ≡ group_in n d
-set_there [] i n d h = absurd (omega arith)
-set_there (x ∷ ms) zero n d h = refl
-set_there (x ∷ ms) (suc i) n d h = set_there ms i n d (omega arith)
+-- A write of the group at one value that drops the tuple there drops it in the column.
+pub group_drops : (m n : BTreeMap Value (List Fact)) (v : Value) (o : Option (List Fact)) (t : Fact) → ((q : Value) → get value_cmp n q ≡ cond (is_eq (value_cmp v q)) o (get value_cmp m q))
+    → ((u : Fact) → has (unwrap_or o []) u ≡ (has (group_in m (datum_of v)) u && not (same_fact u t))) → Drops (datum_of v) t m n
+group_drops = group_changes (λ a b. a && not b) and-true
+
+-- What the group at the value becomes where the tuple is taken away.
+pub left_in_group : (m : BTreeMap Value (List Fact)) (v : Value) (D E : List Fact) (t u : Fact) → Some D ≡ get value_cmp m v → E ≡ change D (Delete t) → has E u ≡ (has (group_in m (datum_of v)) u && not (same_fact u t))
+left_in_group m v D E t u e f = ap (λ (F : List Fact). has F u) f ∙ has-delete D t u ∙ ap (λ (o : Option (List Fact)). has (unwrap_or o []) u && not (same_fact u t)) e
+
+-- Where there is no group at the value nothing has to go.
+pub nothing_drops : (m : BTreeMap Value (List Fact)) (v : Value) (t : Fact) → None ≡ get value_cmp m v → Drops (datum_of v) t m m
+nothing_drops m v t e d u = by (same_datum d (datum_of v)) refl
+  where
+    nothing : same_datum d (datum_of v) ≡ true → has (group_in m d) u ≡ false
+    nothing f = ap (λ (x : Datum). has (group_in m x) u) (same_exact d (datum_of v) f) ∙ ap (λ (o : Option (List Fact)). has (unwrap_or o []) u) (sym e)
+
+    by : (b : Bool) → same_datum d (datum_of v) ≡ b → has (group_in m d) u ≡ (has (group_in m d) u && not (b && same_fact u t))
+    by true f = nothing f ∙ sym (ap (λ b. b && not (same_fact u t)) (nothing f))
+    by false f = sym (and-true (has (group_in m d) u))
+
+-- Where the group at the value is empty, it may go.
+pub vacant_drops : (m n : BTreeMap Value (List Fact)) (v : Value) (t : Fact) → ((q : Value) → get value_cmp n q ≡ cond (is_eq (value_cmp v q)) None (get value_cmp m q)) → Some [] ≡ get value_cmp m v → Drops (datum_of v) t m n
+vacant_drops m n v t g e = group_drops m n v None t g (λ u. ap (λ (o : Option (List Fact)). has (unwrap_or o []) u && not (same_fact u t)) e)
+
+pub drops_twice : (v : Datum) (t : Fact) (l m n : BTreeMap Value (List Fact)) → Drops v t l m → Drops v t m n → Drops v t l n
+drops_twice v t l m n h k d u = k d u ∙ ap (λ b. b && not (same_datum d v && same_fact u t)) (h d u) ∙ once (has (group_in l d) u) (not (same_datum d v && same_fact u t))
+  where
+    once : (a b : Bool) → ((a && b) && b) ≡ (a && b)
+    once true true = refl
+    once true false = refl
+    once false b = refl

@@ -6,4 +6,4 @@ pub mod Overlays
 pub mod Groups
 pub mod Indexing
 pub mod Taking
-pub mod Sweeping
+pub mod Changing

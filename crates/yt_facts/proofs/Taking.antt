@@ -1,35 +1,37 @@
--- The set into which the tuples of a list are put one by one.
-use Rattle.std.proofs.Common.{arith, ◌≡◌, ap, refl, sym, ◌∙◌, List, [], ◌∷◌, ◌++◌, map, ℕ, suc, ◌+◌, ◌<◌, length, take, slice_index_or, Bool, true, false, ◌||◌}
-use Rattle.std.proofs.Math.Seq.{take-suc}
-use Rattle.yt_model.specs.Values.{Fact, same_fact}
-use Rattle.yt_model.specs.Repository.{Insert, change, has}
-use Rattle.yt_model.proofs.Sets.{has-insert}
-use Rattle.yt_base.specs.Meanings.{fact_of}
+-- The set that is made of a list of tuples.
+use Rattle.std.proofs.Common.{◌≡◌, ap, refl, sym, ◌∙◌, subst, List, [], ◌∷◌, map}
+use Rattle.std.specs.List.{list_any}
+use Rattle.std.specs.Ordering.{is_eq}
+use Rattle.std.specs.Prelude.{Result, Ok, Err, IfOk}
+use Rattle.yt_model.specs.Values.{Datum, Fact}
+use Rattle.yt_model.specs.Repository.{has, IsRepository}
+use Rattle.yt_model.proofs.Sets.{same_repository}
+use Rattle.yt_base.specs.Meanings.{fact_of, datum_of}
 use Rattle.yt_base.specs.declared.tuples.Tuple.{Tuple}
+use Rattle.yt_base.specs.declared.values.Value.{Value}
+use Rattle.yt_facts.proofs.Groups.{value_for}
+use Rattle.yt_facts.proofs.Held.{tuple_cmp, contains_mapped}
 
-has_mapped_append : (xs ys : List Tuple) (s : Fact) → has (map fact_of (xs ++ ys)) s ≡ (has (map fact_of xs) s || has (map fact_of ys) s)
-has_mapped_append [] ys s = refl
-has_mapped_append (x ∷ xs) ys s = ap (λ b. same_fact s (fact_of x) || b) (has_mapped_append xs ys s) ∙ assoc (same_fact s (fact_of x)) (has (map fact_of xs) s) (has (map fact_of ys) s)
-  where
-    assoc : (a b c : Bool) → (a || (b || c)) ≡ ((a || b) || c)
-    assoc true b c = refl
-    assoc false b c = refl
+values_for : (ds : List Datum) → (xs : List Value) × (map datum_of xs ≡ ds)
+values_for [] = ([], refl)
+values_for (d ∷ ds) = let first = value_for d in let others = values_for ds in (first.0 ∷ others.0, λ i. first.1 i ∷ others.1 i)
 
--- What the set has once the tuple at place i is put in, where it had what stands before that place.
-pub put_next : (ts : List Tuple) (i : ℕ) (x : Tuple) (t : Fact) (D E : List Fact) → i < length ts → x ≡ slice_index_or ts i x → t ≡ fact_of x
-    → E ≡ change D (Insert t) → ((s : Fact) → has D s ≡ has (map fact_of (take i ts)) s) → (s : Fact) → has E s ≡ has (map fact_of (take (i + 1) ts)) s
-put_next ts i x t D E l is same put before s =
-    let next : suc i ≡ i + 1 = omega arith in
-    ap (λ (G : List Fact). has G s) put ∙ has-insert D t s ∙ ap (λ b. same_fact s t || b) (before s)
-    ∙ ap (λ (u : Fact). same_fact s u || has (map fact_of (take i ts)) s) same
-    ∙ swap (same_fact s (fact_of x)) (has (map fact_of (take i ts)) s)
-    ∙ sym (has_mapped_append (take i ts) (x ∷ []) s)
-    ∙ ap (λ (y : Tuple). has (map fact_of (take i ts ++ y ∷ [])) s) is
-    ∙ ap (λ (xs : List Tuple). has (map fact_of xs) s) (sym (take-suc ts i x l))
-    ∙ ap (λ (n : ℕ). has (map fact_of (take n ts)) s) next
-  where
-    swap : (a b : Bool) → (a || b) ≡ (b || (a || false))
-    swap true true = refl
-    swap true false = refl
-    swap false true = refl
-    swap false false = refl
+-- A tuple that means t.
+pub tuple_for : (t : Fact) → (q : Tuple) × (fact_of q ≡ t)
+tuple_for t = let row = values_for t.values in (record { relation = t.relation; values = record { items = row.0; spare = 0 } }, λ i. record { relation = t.relation; values = row.1 i })
+
+-- Lists of which each tuple says alike whether it is there mean lists of the same members.
+pub same_members : (ks xs : List Tuple) → ((q : Tuple) → list_any (λ k. is_eq (tuple_cmp q k)) ks ≡ list_any (λ k. is_eq (tuple_cmp q k)) xs) → (t : Fact) → has (map fact_of ks) t ≡ has (map fact_of xs) t
+same_members ks xs h t =
+    let q = (tuple_for t).0 in
+    let e : fact_of q ≡ t = (tuple_for t).1 in
+    subst (λ (u : Fact). has (map fact_of ks) u ≡ has (map fact_of xs) u) e (sym (contains_mapped q ks) ∙ h q ∙ contains_mapped q xs)
+
+-- What has the members of a list in order is that list.
+pub same_listed : {E : Type 0} (r : Result (List Fact) E) (D L : List Fact) → IfOk r (λ F. (t : Fact) → has F t ≡ has L t) → IfOk r IsRepository → L ≡ D → IfOk r (λ F. IsRepository D → F ≡ D)
+same_listed (Ok F) D L m s e = λ i. same_repository F D s i (λ t. m t ∙ ap (λ (l : List Fact). has l t) e)
+same_listed (Err x) D L m s e = tt
+
+pub same_in_order : {E : Type 0} (r : Result (List Fact) E) (D : List Fact) → IfOk r (λ F. IsRepository D → F ≡ D) → IsRepository D → IfOk r (λ F. F ≡ D)
+same_in_order (Ok F) D h i = h i
+same_in_order (Err x) D h i = tt

@@ -1,10 +1,14 @@
 -- Going over some tuples of a set: which comes after which, and what is still ahead.
-use Rattle.std.specs.Prelude.{Bool, List, [], ◌∷◌, filter, Option, Some, None}
+use Rattle.std.specs.Prelude.{ℕ, Bool, ◌&&◌, List, [], ◌∷◌, filter, Option, Some, None}
 use Rattle.yt_model.specs.Values.{Fact}
-use Rattle.yt_model.specs.Cursors.{is_past, is_beyond, is_scanned}
+use Rattle.yt_model.specs.Cursors.{is_of, is_past, is_beyond, is_scanned}
 use Rattle.yt_base.specs.Meanings.{datum_of}
 use Rattle.yt_facts.specs.declared.overlay.Course.{Course}
 use Rattle.yt_facts.specs.declared.overlay.Course.TheVariants.{All, Relation, Column}
+
+-- The tuple is of the relation, beyond the given one.
+abbrev pub is_ahead : ℕ → Option Fact → Fact → Bool
+is_ahead r past u = is_of r u && is_beyond past u
 
 -- The tuple u comes after t on the course: among all, in the same relation, or among those of a relation with a value in a column.
 abbrev pub comes_after : Course → Fact → Fact → Bool

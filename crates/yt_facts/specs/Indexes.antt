@@ -1,7 +1,7 @@
 -- The index of a set: for each column, the tuples by their value in it.
 use Rattle.std.specs.BTreeMap.{BTreeMap}
 use Rattle.std.specs.Map.{lookup}
-use Rattle.std.specs.Prelude.{◌≡◌, ℕ, not, ◌&&◌, Bool, true, List, [], unwrap_or, slice_get, Option, Some, None}
+use Rattle.std.specs.Prelude.{◌≡◌, ℕ, not, ◌&&◌, ◌||◌, List, [], unwrap_or, slice_get, Option, Some, None}
 use Rattle.yt_model.specs.Values.{Datum, Fact, same_datum, same_fact}
 use Rattle.yt_model.specs.Repository.{has}
 use Rattle.yt_model.specs.Cursors.{has_at}
@@ -20,21 +20,25 @@ group_at ms c d = at (slice_get ms c)
     at None = []
     at (Some m) = group_in m d
 
--- Each tuple of the set is kept in each of its columns at its value there. There may be more.
+-- Each column keeps at a value exactly the tuples of the set that have it there.
 abbrev pub IsIndex : List Fact → List (BTreeMap Value (List Fact)) → Type 0
-IsIndex D ms = (t : Fact) (c : ℕ) (d : Datum) → has D t ≡ true → has_at c d t ≡ true → has (group_at ms c d) t ≡ true
+IsIndex D ms = (c : ℕ) (d : Datum) (u : Fact) → has (group_at ms c d) u ≡ (has D u && has_at c d u)
 
--- What one column kept of the tuples that pass, it keeps.
-abbrev pub Keeps : (Fact → Bool) → BTreeMap Value (List Fact) → BTreeMap Value (List Fact) → Type 0
-Keeps p m n = (d : Datum) (u : Fact) → p u ≡ true → has (group_in m d) u ≡ true → has (group_in n d) u ≡ true
+-- The columns keep what they kept.
+abbrev pub AreSame : List (BTreeMap Value (List Fact)) → List (BTreeMap Value (List Fact)) → Type 0
+AreSame ms ns = (c : ℕ) (d : Datum) → group_at ns c d ≡ group_at ms c d
 
--- What the columns kept of the tuples that pass, they keep.
-abbrev pub KeepsAll : (Fact → Bool) → List (BTreeMap Value (List Fact)) → List (BTreeMap Value (List Fact)) → Type 0
-KeepsAll p ms ns = (c : ℕ) (d : Datum) (u : Fact) → p u ≡ true → has (group_at ms c d) u ≡ true → has (group_at ns c d) u ≡ true
+-- The columns keep what they kept, but for this tuple where it has its values.
+abbrev pub AreSameBut : Fact → List (BTreeMap Value (List Fact)) → List (BTreeMap Value (List Fact)) → Type 0
+AreSameBut t ms ns = (c : ℕ) (d : Datum) (u : Fact) → (has (group_at ns c d) u && not (has_at c d t && same_fact u t)) ≡ (has (group_at ms c d) u && not (has_at c d t && same_fact u t))
 
--- Any tuple passes.
-abbrev pub any_tuple : Fact → Bool
-any_tuple u = true
+-- To what one column kept exactly this tuple, at this value, is added.
+abbrev pub Adds : Datum → Fact → BTreeMap Value (List Fact) → BTreeMap Value (List Fact) → Type 0
+Adds v t m n = (d : Datum) (u : Fact) → has (group_in n d) u ≡ (has (group_in m d) u || (same_datum d v && same_fact u t))
+
+-- To what the columns kept exactly this tuple, where it has its values, is added.
+abbrev pub AddsAll : Fact → List (BTreeMap Value (List Fact)) → List (BTreeMap Value (List Fact)) → Type 0
+AddsAll t ms ns = (c : ℕ) (d : Datum) (u : Fact) → has (group_at ns c d) u ≡ (has (group_at ms c d) u || (has_at c d t && same_fact u t))
 
 -- Of what one column kept exactly this tuple, at this value, is gone.
 abbrev pub Drops : Datum → Fact → BTreeMap Value (List Fact) → BTreeMap Value (List Fact) → Type 0

@@ -1,12 +1,11 @@
 //! The index of a set: for each column, the tuples by their value in it. Each column holds its own copies.
 ghost use Rattle.std.specs.Map.{lookup};
-ghost use Rattle.std.specs.Prelude.{◌≡◌, ◌↔◌, ℕ, true, not, ◌&&◌, ◌<◌, length, unwrap_or, [], Some, IsTrue, IfSome, OnOk};
+ghost use Rattle.std.specs.Prelude.{◌≡◌, ◌↔◌, ℕ, not, ◌&&◌, ◌||◌, ◌<◌, length, unwrap_or, [], Some, IsTrue, IfSome, OnOk, OnErr};
 ghost use Rattle.std.specs.Option.{option_copied};
 ghost use Rattle.yt_model.specs.Values.{Datum, Fact, same_datum, same_fact};
-ghost use Rattle.yt_model.specs.Repository.{has, IsRepository};
-ghost use Rattle.yt_model.specs.Cursors.{has_at};
+ghost use Rattle.yt_model.specs.Repository.{has, change, Insert};
 ghost use Rattle.yt_base.specs.Meanings.{fact_of, datum_of};
-ghost use Rattle.yt_facts.specs.Indexes.{group_in, group_at, IsIndex, Keeps, KeepsAll, Drops, DropsAll, any_tuple};
+ghost use Rattle.yt_facts.specs.Indexes.{group_in, group_at, AreSame, AreSameBut, Adds, AddsAll, Drops, DropsAll};
 
 use crate::plain::PlainFacts;
 use std::alloc::Global;
@@ -26,15 +25,15 @@ pub fn group<'a>(columns: &'a Vec<Groups>, column: usize, value: &Value) -> Opti
     }
 }
 
-/// Keeps a copy of the tuple in each of its columns. What was kept is kept, also where memory is wanting.
+/// Keeps a copy of the tuple in each of its columns, at its value there. It is refused only for want of memory; some of
+/// its columns may then keep it, and what else is kept is as before.
 pub fn index(columns: &mut Vec<Groups>, alloc: Global, tuple: &Tuple) -> Result<(), Memory>
-    ensures kept { KeepsAll any_tuple columns.old.items columns.new.items }
-    ensures put { OnOk result ((c : ℕ) (d : Datum) → has_at c d (fact_of tuple.now) ≡ true → has (group_at columns.new.items c d) (fact_of tuple.now) ≡ true) }
+    ensures ok { OnOk result (AddsAll (fact_of tuple.now) columns.old.items columns.new.items) }
+    ensures err { OnErr result (AreSameBut (fact_of tuple.now) columns.old.items columns.new.items) }
 {
     let values = tuple.values.as_slice();
     for column in 0..values.len() {
-        let value = values[column].copy(alloc)?;
-        add_at(columns, alloc, column, value, tuple.copy(alloc)?)?;
+        add_at(columns, alloc, column, &values[column], tuple)?;
     }
     Ok(())
 }
@@ -49,16 +48,18 @@ pub fn sweep(columns: &mut Vec<Groups>, tuple: &Tuple)
     }
 }
 
-// Keeps the tuple in this column, at its value there.
+// Keeps a copy of the tuple in this column, at the value. It is refused only for want of memory; the columns then keep
+// what they kept.
 fn add_at(
     columns: &mut Vec<Groups>,
     alloc: Global,
     column: usize,
-    value: Value,
-    tuple: Tuple,
+    value: &Value,
+    tuple: &Tuple,
 ) -> Result<(), Memory>
-    ensures kept { KeepsAll any_tuple columns.old.items columns.new.items }
-    ensures put { OnOk result (has (group_at columns.new.items column (datum_of value)) (fact_of tuple) ≡ true) }
+    ensures ok { OnOk result ((d : Datum) (u : Fact) → has (group_at columns.new.items column d) u ≡ (has (group_at columns.old.items column d) u || (same_datum d (datum_of value.now) && same_fact u (fact_of tuple.now)))) }
+    ensures others { (c : ℕ) (d : Datum) → (c ≡ column → ⊥) → group_at columns.new.items c d ≡ group_at columns.old.items c d }
+    ensures err { OnErr result (AreSame columns.old.items columns.new.items) }
 {
     reach(columns, alloc, column)?;
     add(&mut columns[column], alloc, value, tuple)
@@ -66,7 +67,7 @@ fn add_at(
 
 // Makes the columns up to this one, where they are not there yet.
 fn reach(columns: &mut Vec<Groups>, alloc: Global, column: usize) -> Result<(), Memory>
-    ensures kept { KeepsAll any_tuple columns.old.items columns.new.items }
+    ensures same { AreSame columns.old.items columns.new.items }
     ensures there { OnOk result (column < length columns.new.items) }
 {
     while columns.len() <= column {
@@ -75,32 +76,30 @@ fn reach(columns: &mut Vec<Groups>, alloc: Global, column: usize) -> Result<(), 
     Ok(())
 }
 
-// Keeps the tuple at the value.
-fn add(groups: &mut Groups, alloc: Global, value: Value, tuple: Tuple) -> Result<(), Memory>
-    ensures kept { Keeps any_tuple groups.old groups.new }
-    ensures put { OnOk result (has (group_in groups.new (datum_of value)) (fact_of tuple) ≡ true) }
+// Keeps a copy of the tuple at the value.
+fn add(groups: &mut Groups, alloc: Global, value: &Value, tuple: &Tuple) -> Result<(), Memory>
+    ensures ok { OnOk result (Adds (datum_of value.now) (fact_of tuple.now) groups.old groups.new) }
+    ensures err { OnErr result ((d : Datum) → group_in groups.new d ≡ group_in groups.old d) }
 {
-    match groups.get_mut(&value) {
-        Some(group) => return put(group, tuple),
+    match groups.get_mut(value) {
+        Some(group) => return put(group, alloc, tuple),
         None => {}
     }
     let mut group = PlainFacts::new(alloc);
-    put(&mut group, tuple)?;
-    match groups.insert(value, group) {
+    put(&mut group, alloc, tuple)?;
+    match groups.insert(value.copy(alloc)?, group) {
         Ok(_) => Ok(()),
         Err(_) => Err(Memory),
     }
 }
 
-// Puts the tuple into the group.
-fn put(group: &mut PlainFacts, tuple: Tuple) -> Result<(), Memory>
-    ensures kept { (u : Fact) → has group.old u ≡ true → has group.new u ≡ true }
-    ensures put { OnOk result (has group.new (fact_of tuple) ≡ true) }
+// Puts a copy of the tuple into the group.
+fn put(group: &mut PlainFacts, alloc: Global, tuple: &Tuple) -> Result<(), Memory>
+    ensures ok { OnOk result (group.new ≡ change group.old (Insert (fact_of tuple.now))) }
+    ensures err { OnErr result (group.new ≡ group.old) }
 {
-    match group.insert(tuple) {
-        Ok(_) => return Ok(()),
-        Err(_) => return Err(Memory),
-    }
+    group.insert(tuple.copy(alloc)?)?;
+    Ok(())
 }
 
 // Takes the tuple out of this column, where it has the value.

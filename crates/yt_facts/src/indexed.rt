@@ -10,9 +10,10 @@ use std::alloc::Global;
 use std::marker::Model;
 use yt_base::{Facts, Memory, TryCopy, Tuple, TupleList, Value};
 
-/// A set of tuples with, for each relation and column, its tuples in the order of their values there. So a scan by
-/// column takes steps as many as the logarithm of the set's size, as insertions, deletions and cursors do. Each tuple
-/// is held once more for each of its columns. Contracts see the list of its tuples, in order.
+/// A set of tuples with, for each column and value, exactly its tuples that have the value there. So a scan by column
+/// takes steps as many as the logarithm of the set's size, as insertions, deletions and cursors do. Each tuple is held
+/// once more for each of its columns, and no tuple that is not in the set. Contracts see the list of its tuples, in
+/// order.
 #[derive(Debug, Drop)]
 pub struct IndexedFacts {
     all: PlainFacts,
@@ -157,17 +158,10 @@ impl Facts for IndexedFacts {
         value: &Value,
         past: Option<&Tuple>,
     ) -> Option<&Tuple> {
-        let Some(kept) = group(&self.columns, column as usize, value) else {
-            return None;
-        };
-        let mut cursor = kept.scan(relation, column, value, past);
-        while let Some(found) = cursor {
-            if self.all.contains(found) {
-                return Some(found);
-            }
-            cursor = kept.scan(relation, column, value, Some(found));
+        match group(&self.columns, column as usize, value) {
+            Some(kept) => kept.next(relation, past),
+            None => None,
         }
-        None
     }
 }
 
@@ -177,10 +171,8 @@ fn index_all(alloc: Global, facts: &PlainFacts) -> Result<Vec<Groups>, Memory>
     ensures in_order { IsRepository facts.now }
 {
     let mut columns = Vec::new(alloc);
-    let mut cursor = facts.beyond(None);
-    while let Some(tuple) = cursor {
+    for tuple in facts.iter() {
         index(&mut columns, alloc, tuple)?;
-        cursor = facts.beyond(Some(tuple));
     }
     Ok(columns)
 }

@@ -4,7 +4,6 @@
 
 mod columns;
 mod indexed;
-mod listed;
 mod overlay;
 mod plain;
 mod scanned;

@@ -1,16 +1,19 @@
 //! An ordered set of tuples.
 ghost use Rattle.std.specs.Option.{option_map, option_copied};
-ghost use Rattle.std.specs.Prelude.{◌≡◌, [], not, length, map, IfOk, OnOk, OnErr, IfErr};
+ghost use Rattle.std.specs.Prelude.{◌≡◌, [], not, length, find, IfOk, OnOk, OnErr, IfErr};
 ghost use Rattle.yt_model.specs.Repository.{has, change, Insert, Delete, IsRepository};
-ghost use Rattle.yt_model.proofs.Scans.{start_of};
 ghost use Rattle.yt_base.specs.Meanings.{fact_of};
+ghost use Rattle.yt_facts.specs.Courses.{is_ahead};
 
 use crate::scanned::{is_scanned, of_relation};
 use std::alloc::Global;
+use std::cmp::Ordering;
 use std::collections::BTreeSet;
 use std::marker::Model;
 use std::ops::Bound;
-use yt_base::{Facts, List, Memory, TryCopy, Tuple, TupleList, Value};
+use yt_base::{Facts, List, Memory, TryCopy, Tuple, Value};
+
+mod listed;
 
 /// A set of tuples in a balanced tree: insertions, deletions and cursors take steps as many as the logarithm of its
 /// size. Only a scan by column goes over the relation. Contracts see the list of its tuples, in order.
@@ -74,29 +77,21 @@ impl PlainFacts {
         self.tuples.remove(tuple)
     }
 
-    /// The tuples in order. It is refused only for want of memory.
-    pub fn list(&self, alloc: Global) -> Result<TupleList, Memory>
-        ensures tuples { IfOk result (λ list. map fact_of list.items ≡ self.now) }
+    /// The least tuple of the relation that is above `past`, where that is given; None exactly where there is none.
+    pub(crate) fn next(&self, relation: u16, past: Option<&Tuple>) -> Option<&Tuple>
+        ensures found { option_map fact_of (option_copied result) ≡ find (is_ahead relation (option_map fact_of (option_copied past.entry))) self.now }
+        ensures in_order { IsRepository self.now }
     {
-        let mut list = List::new(alloc);
-        list.reserve(self.tuples.len())?;
-        for tuple in self.tuples.iter() {
-            list.push(tuple.copy(alloc)?)?;
+        // The set tells that it is in order.
+        let _ = &self.tuples;
+        match past {
+            Some(before) => match before.relation.cmp(&relation) {
+                Ordering::Less => self.first(relation),
+                Ordering::Equal => self.after(before),
+                Ordering::Greater => None,
+            },
+            None => self.first(relation),
         }
-        Ok(list)
-    }
-
-    /// The tuples in order, taken out of the set. It is refused only for want of memory.
-    pub fn into_list(self, alloc: Global) -> Result<TupleList, Memory>
-        ensures tuples { IfOk result (λ list. map fact_of list.items ≡ self) }
-    {
-        let PlainFacts { tuples, .. } = self;
-        let mut list = List::new(alloc);
-        list.reserve(tuples.len())?;
-        for tuple in tuples {
-            list.push(tuple)?;
-        }
-        Ok(list)
     }
 }
 
@@ -111,11 +106,7 @@ impl TryCopy for PlainFacts {
     fn copy(&self, alloc: Global) -> Result<PlainFacts, Memory>
         ensures same { IfOk result (λ copy. copy ≡ self.now) }
     {
-        let mut copy = PlainFacts::new(alloc);
-        for tuple in self.tuples.iter() {
-            copy.insert(tuple.copy(alloc)?)?;
-        }
-        Ok(copy)
+        PlainFacts::of_owned(alloc, self.list(alloc)?)
     }
 }
 
@@ -159,7 +150,7 @@ impl Facts for PlainFacts {
         value: &Value,
         past: Option<&Tuple>,
     ) -> Option<&Tuple> {
-        let mut cursor = begin(self, relation, past);
+        let mut cursor = self.next(relation, past);
         while let Some(found) = cursor {
             if is_scanned(found, relation, column, value, past) {
                 return Some(found);
@@ -167,22 +158,5 @@ impl Facts for PlainFacts {
             cursor = self.after(found);
         }
         None
-    }
-}
-
-// The first tuple of the relation, past the given one where that is of the relation.
-fn begin<'a>(facts: &'a PlainFacts, relation: u16, past: Option<&Tuple>) -> Option<&'a Tuple>
-    ensures found { option_map fact_of (option_copied result) ≡ start_of facts.now relation (option_map fact_of (option_copied past.entry)) }
-    ensures in_order { IsRepository facts.now }
-{
-    match past {
-        Some(before) => {
-            if before.relation == relation {
-                facts.after(before)
-            } else {
-                facts.first(relation)
-            }
-        }
-        None => facts.first(relation),
     }
 }

@@ -1,32 +1,35 @@
-use Rattle.std.proofs.Common.{ap, sym, refl, ◌∙◌, map, length, arith, inl, inr}
+use Rattle.std.proofs.Common.{◌∙◌, ap, sym, List, map, length, arith, ◌||◌}
 use Rattle.std.specs.Prelude.{slice_get}
-use Rattle.std.proofs.lemmas.Bool.{cases_eq}
-use Rattle.yt_model.specs.Repository.{has}
+use Rattle.yt_model.specs.Values.{Datum}
 use Rattle.yt_model.specs.Cursors.{is_datum}
 use Rattle.yt_base.specs.Meanings.{fact_of, datum_of}
 use Rattle.yt_base.specs.declared.values.Value.{Value}
-use Rattle.yt_facts.specs.Indexes.{group_at}
-use Rattle.yt_facts.proofs.Indexing.{at_column, within}
+use Rattle.yt_facts.proofs.Groups.{or-false, held_err}
+use Rattle.yt_facts.proofs.Changing.{at_place, none_past, one_more, fewer_same, all_changed, some_added}
 use Rattle.yt_facts.proofs.columns.index.Goals as goal
 
 pub loop-column-preserved : goal.loop-column-preserved
 loop-column-preserved c =
     let t = fact_of c.args.tuple.now in
     let k = c.loop-column.column in
-    let ms = c.add_at.new.columns.items in
+    let ls = c.args.columns.now.items in
+    let ms = c.loop-column.columns.items in
+    let ns = c.add_at.new.columns.items in
+    let i = c.loop-column.invariant in
+    let at = λ (d : Datum). ap (λ (xs : List Value). is_datum d (slice_get (map datum_of xs) k)) (sym c.as_slice-values.ensures.items) ∙ at_place c.as_slice-values.result.now k c.index-values-column.result d c.loop-column-test.true c.index-values-column.is in
     record {
-      kept = λ j d u a h. c.add_at.ensures.kept j d u refl (c.loop-column.invariant.kept j d u a h);
-      put = λ j d h e. elim (cases_eq j k) [
-        | inl f ↦
-            let here = (λ i. is_datum d (slice_get (map datum_of (c.as_slice-values.ensures.items i)) (sym f i))) ∙ e in
-            (λ i. has (group_at ms (f i) (sym (c.in_ok-value.ensures.same ∙ at_column c.as_slice-values.result.now k c.index-values-column.result d c.loop-column-test.true c.index-values-column.is here) i)) (sym c.in_ok-copy.ensures.same i))
-            ∙ c.in_ok-add_at.ensures.put
-        | inr n ↦ c.add_at.ensures.kept j d t refl (c.loop-column.invariant.put j d (omega (arith, h, n)) e)
-      ];
+      added = one_more (λ a b. a || b) t k ls ms i.added i.others ns (datum_of c.index-values-column.result) at c.in_ok-add_at.ensures.ok c.add_at.ensures.others;
+      others = fewer_same (λ a b. a || b) t k ls ms i.added i.others ns c.add_at.ensures.others;
     }
 
-pub returns-clause-put : goal.returns-clause-put
-returns-clause-put c = λ j d e.
-    let x = within c.args.tuple.now.values.items j d e in
+pub returns-in_err-add_at-clause-err : goal.returns-in_err-add_at-clause-err
+returns-in_err-add_at-clause-err c =
+    let i = c.loop-column.invariant in
+    held_err c.from_residual.result (some_added (fact_of c.args.tuple.now) c.loop-column.column c.args.columns.now.items c.loop-column.columns.items c.add_at.new.columns.items i.added i.others c.in_err-add_at.ensures.err)
+
+pub returns-clause-ok : goal.returns-clause-ok
+returns-clause-ok c =
     let long = ap (length {A = Value}) c.as_slice-values.ensures.items in
-    c.loop-column.invariant.put j d (omega (arith, x, long, c.loop-column-test.false)) e
+    let i = c.loop-column.invariant in
+    all_changed (λ a b. a || b) (fact_of c.args.tuple.now) c.loop-column.column c.args.columns.now.items c.loop-column.columns.items i.added i.others or-false
+    (λ j d h. none_past c.args.tuple.now.values.items j d (omega (arith, h, long, c.loop-column-test.false)))

@@ -4,7 +4,7 @@ use Rattle.yt_model.specs.Values.{Fact}
 use Rattle.yt_base.specs.Meanings.{fact_of, datum_of}
 use Rattle.yt_base.specs.declared.values.Value.{Value}
 use Rattle.yt_facts.specs.Indexes.{Drops}
-use Rattle.yt_facts.proofs.Sweeping.{group_drops, left_in_group, nothing_drops}
+use Rattle.yt_facts.proofs.Groups.{group_drops, left_in_group, nothing_drops}
 use Rattle.yt_facts.proofs.columns.remove_from.Goals as goal
 
 pub returns-in-Some : goal.returns-in-Some

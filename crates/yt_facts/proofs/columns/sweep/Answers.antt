@@ -1,10 +1,11 @@
-use Rattle.std.proofs.Common.{◌∙◌, ap, sym, List, map, length, arith}
+use Rattle.std.proofs.Common.{◌∙◌, ap, sym, List, map, length, arith, ◌&&◌, not}
 use Rattle.std.specs.Prelude.{slice_get}
 use Rattle.yt_model.specs.Values.{Datum}
 use Rattle.yt_model.specs.Cursors.{is_datum}
 use Rattle.yt_base.specs.Meanings.{fact_of, datum_of}
 use Rattle.yt_base.specs.declared.values.Value.{Value}
-use Rattle.yt_facts.proofs.Sweeping.{at_place, none_past, one_more, fewer_same, all_dropped}
+use Rattle.yt_facts.proofs.Changing.{at_place, none_past, one_more, fewer_same, all_changed}
+use Rattle.yt_model.proofs.Bools.{and-true}
 use Rattle.yt_facts.proofs.columns.sweep.Goals as goal
 
 pub loop-column-preserved : goal.loop-column-preserved
@@ -17,8 +18,8 @@ loop-column-preserved c =
     let i = c.loop-column.invariant in
     let at = λ (d : Datum). ap (λ (xs : List Value). is_datum d (slice_get (map datum_of xs) k)) (sym c.as_slice-values.ensures.items) ∙ at_place c.as_slice-values.result.now k c.index-values-column.result d c.loop-column-test.true c.index-values-column.is in
     record {
-      dropped = one_more t k ls ms i.dropped i.others ns (datum_of c.index-values-column.result) at c.sweep_at.ensures.dropped c.sweep_at.ensures.others;
-      others = fewer_same t k ls ms i.dropped i.others ns c.sweep_at.ensures.others;
+      dropped = one_more (λ a b. a && not b) t k ls ms i.dropped i.others ns (datum_of c.index-values-column.result) at c.sweep_at.ensures.dropped c.sweep_at.ensures.others;
+      others = fewer_same (λ a b. a && not b) t k ls ms i.dropped i.others ns c.sweep_at.ensures.others;
     }
 
 pub returns : goal.returns
@@ -26,6 +27,6 @@ returns c =
     let t = fact_of c.args.tuple.now in
     let long = ap (length {A = Value}) c.as_slice-values.ensures.items in
     record {
-      dropped = all_dropped t c.loop-column.column c.args.columns.now.items c.loop-column.columns.items c.loop-column.invariant.dropped c.loop-column.invariant.others
+      dropped = all_changed (λ a b. a && not b) t c.loop-column.column c.args.columns.now.items c.loop-column.columns.items c.loop-column.invariant.dropped c.loop-column.invariant.others and-true
           (λ j d h. none_past c.args.tuple.now.values.items j d (omega (arith, h, long, c.loop-column-test.false)));
     }

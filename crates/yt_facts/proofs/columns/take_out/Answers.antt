@@ -1,6 +1,6 @@
 use Rattle.std.proofs.Common.{◌∙◌, refl, sym}
 use Rattle.yt_base.specs.Meanings.{fact_of, datum_of}
-use Rattle.yt_facts.proofs.Sweeping.{vacant_drops, drops_twice}
+use Rattle.yt_facts.proofs.Groups.{vacant_drops, drops_twice}
 use Rattle.yt_facts.proofs.columns.take_out.Goals as goal
 
 pub returns-then-is_vacant-clause-dropped : goal.returns-then-is_vacant-clause-dropped

@@ -5,11 +5,10 @@ use Rattle.yt_model.proofs.Sets.{filter_in_order}
 use Rattle.yt_base.specs.Meanings.{fact_of}
 use Rattle.yt_facts.specs.Indexes.{IsIndex}
 use Rattle.yt_facts.proofs.Indexing.{index_shrinks}
-use Rattle.yt_facts.proofs.Sweeping.{drops_keep}
 use Rattle.yt_facts.proofs.indexed.IndexedFacts.remove.Goals as goal
 
 pub invariant_of-self : goal.invariant_of-self
 invariant_of-self c =
     let t = fact_of c.args.tuple.now in
     subst (λ (D : List Fact). IsRepository D × IsIndex D c.sweep.new.columns.items) (sym c.remove-there.ensures.after)
-    (filter_in_order (λ s. not (same_fact t s)) c.self.inside.all c.self.invariant.0, index_shrinks c.self.inside.all c.self.inside.columns.items c.sweep.new.columns.items t c.self.invariant.1 (drops_keep t c.self.inside.columns.items c.sweep.new.columns.items c.sweep.ensures.dropped))
+    (filter_in_order (λ s. not (same_fact t s)) c.self.inside.all c.self.invariant.0, index_shrinks c.self.inside.all c.self.inside.columns.items c.sweep.new.columns.items t c.self.invariant.1 c.sweep.ensures.dropped)

@@ -8,7 +8,7 @@ use Rattle.yt_facts.proofs.plain.PlainFactsFacts.scan.Goals as goal
 
 pub loop-cursor-init : goal.loop-cursor-init
 loop-cursor-init c =
-    scan_begins c.args.relation c.args.column (datum_of c.args.value.now) (option_map fact_of (option_copied c.args.past)) c.args.self.now (option_map fact_of (option_copied c.begin-cursor.result)) c.begin-cursor.ensures.in_order c.begin-cursor.ensures.found
+    scan_begins c.args.relation c.args.column (datum_of c.args.value.now) (option_map fact_of (option_copied c.args.past)) c.args.self.now (option_map fact_of (option_copied c.next-cursor.result)) c.next-cursor.ensures.in_order c.next-cursor.ensures.found
 
 pub returns-then-is_scanned-clause-found : goal.returns-then-is_scanned-clause-found
 returns-then-is_scanned-clause-found c =
