@@ -84,7 +84,7 @@ impl Draft {
         ensures err { OnErr result (self.new ≡ self.old) }
     {
         let tuple = bounded_fact(alloc, &self.schema, 0, fact)?;
-        if !self.base.contains(&tuple) && most_tuples(self.format) <= self.base.len() {
+        if most_tuples(self.format) <= self.base.len() && !self.base.contains(&tuple) {
             return Err(limit(Which::Base));
         }
         self.base.insert(tuple)?;
