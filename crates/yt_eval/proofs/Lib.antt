@@ -1,2 +1,4 @@
 pub mod Tuples
 pub mod Written
+pub mod OtherRelations
+pub mod Settling

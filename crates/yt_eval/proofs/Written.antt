@@ -6,7 +6,7 @@ use Rattle.yt_base.specs.Meanings.{change_of}
 use Rattle.yt_base.specs.declared.updates.Write.{Write}
 use Rattle.yt_eval.specs.Seen.{Seen, written}
 
-apply_one_more : (D : List Fact) (ws : List Change) (w : Change) → apply D (ws ++ w ∷ []) ≡ change (apply D ws) w
+pub apply_one_more : (D : List Fact) (ws : List Change) (w : Change) → apply D (ws ++ w ∷ []) ≡ change (apply D ws) w
 apply_one_more D [] w = refl
 apply_one_more D (v ∷ ws) w = apply_one_more (change D v) ws w
 

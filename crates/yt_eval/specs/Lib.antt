@@ -1,2 +1,3 @@
 pub mod Seen
 pub mod Counted
+pub mod Watched

@@ -12,6 +12,7 @@ use Rattle.yt_model.specs.Violations.{Direction, Caused}
 use Rattle.yt_model.specs.Updates.{Choice, direction_of}
 use Rattle.yt_model.specs.Mappings.{Rule}
 use Rattle.yt_query.specs.Kinds.{IsOfKind}
+use Rattle.yt_eval.specs.Watched.{Watched}
 use Rattle.yt_steps.specs.Attempts.{Attempt}
 use Rattle.yt_steps.specs.Steps.{Asking, step, moved}
 use Rattle.yt_program.specs.Courses.{Course, Reading, State, coming_to, by_reply, first_asked, course, course_by}
@@ -55,6 +56,12 @@ at_result val ms s e =
 -- An answer of the query's kind is one that is taken.
 pub takes : (ms : List Rule) (w : Wish) (q : Query) (a : Reply) → WishesReply q ≡ w → IsOfKind ms q a → TakesAnswer ms w a
 takes ms w q a e h = subst (λ (v : Wish). TakesAnswer ms v a) e h
+
+-- What the view answers is the value over these mappings, where it is the one that it was.
+pub answers_there : (ms : List Rule) (q : Query) (a : Reply) (v w : Watched) → v ≡ w → w.rules ≡ ms
+    → a ≡ value v.rules q v.below v.own (Caused v.heading) → a ≡ value ms q w.below w.own (Caused w.heading)
+answers_there ms q a v w e r h =
+    h ∙ ap (λ (u : Watched). value u.rules q u.below u.own (Caused u.heading)) e ∙ ap (λ (rs : List Rule). value rs q w.below w.own (Caused w.heading)) r
 
 -- What the step of P comes to, where it is answered from what P sees.
 pub stepped_is : (ms : List Rule) (B : ℕ) (D : List Fact) (P : Attempt) (c : Option Choice) (t : Course) (below : List Fact) (own : List Change) (h : Direction)

@@ -4,8 +4,9 @@ ghost use Rattle.std.specs.Option.{option_map, option_copied};
 ghost use Rattle.yt_machine.specs.Trees.{result_of};
 ghost use Rattle.yt_model.specs.Queries.{value};
 ghost use Rattle.yt_model.specs.Repository.{IsRepository};
+ghost use Rattle.yt_model.specs.Updates.{direction_of};
 ghost use Rattle.yt_model.specs.Violations.{Caused};
-ghost use Rattle.yt_base.specs.Meanings.{change_of, choice_of, heading_of, rule_of};
+ghost use Rattle.yt_base.specs.Meanings.{change_of, choice_of, rule_of};
 ghost use Rattle.yt_steps.specs.Steps.{step};
 ghost use Rattle.yt_program.specs.Conditions.{AreWithin, IsBudget};
 ghost use Rattle.yt_program.specs.Courses.{coming_to, course};
@@ -13,29 +14,31 @@ ghost use Rattle.yt_program.specs.Wishes.{wish};
 ghost use Rattle.yt_serial.specs.Turns.{between, stepped, StepsBy};
 
 use std::alloc::Global;
-use yt_base::{Choice, Direction, MappingList, Memory, WriteList};
-use yt_eval::View;
+use yt_base::{Choice, MappingList, Memory, WriteList};
+use yt_eval::WatchedView;
 use yt_facts::IndexedFacts;
 use yt_program::{Program, Want};
 
 /// One step of the program over the repository that the view is of, with the answer where it is at a question. The view
-/// sees the program's own writes, and then also those of the step. It is refused only for want of memory; the program
-/// may then be within the step.
+/// is of these mappings and in the program's direction. It sees the program's own writes, and then also those of the
+/// step. It is refused only for want of memory; the program may then be within the step.
 pub(crate) fn step(
     alloc: Global,
     program: &mut Program,
-    view: &mut View<'_, IndexedFacts>,
+    view: &mut WatchedView<'_, IndexedFacts>,
     choice: Option<&Choice>,
     mappings: &MappingList,
     budget: u32,
 ) -> Result<(), Memory>
     requires wanted { StepsBy (wish program.old) (option_map choice_of (option_copied choice)) }
+    requires rules { view.old.rules ≡ map rule_of mappings.now.items }
+    requires heading { view.old.heading ≡ direction_of program.old.attempt.operation }
     requires seen { view.old.own ≡ program.old.attempt.own }
     requires sorted { IsRepository view.old.below }
     requires within { AreWithin (map rule_of mappings.now.items) }
     requires budget { IsBudget program.old.attempt.steps budget }
     ensures stepped { OnOk result (program.new ≡ between (stepped (map rule_of mappings.now.items) budget view.old.below program.old.attempt (option_map choice_of (option_copied choice.entry)))) }
-    ensures seen { OnOk result (view.new ≡ record { below = view.old.below; own = program.new.attempt.own }) }
+    ensures seen { OnOk result (view.new ≡ record { rules = view.old.rules; heading = view.old.heading; below = view.old.below; own = program.new.attempt.own }) }
 {
     let seen = program.own().len();
     make(alloc, program, view, choice, mappings, budget)?;
@@ -46,33 +49,35 @@ pub(crate) fn step(
 fn make(
     alloc: Global,
     program: &mut Program,
-    view: &View<'_, IndexedFacts>,
+    view: &mut WatchedView<'_, IndexedFacts>,
     choice: Option<&Choice>,
     mappings: &MappingList,
     budget: u32,
 ) -> Result<(), Memory>
     requires wanted { StepsBy (wish program.old) (option_map choice_of (option_copied choice)) }
-    requires seen { view.now.own ≡ program.old.attempt.own }
-    requires sorted { IsRepository view.now.below }
+    requires rules { view.old.rules ≡ map rule_of mappings.now.items }
+    requires heading { view.old.heading ≡ direction_of program.old.attempt.operation }
+    requires seen { view.old.own ≡ program.old.attempt.own }
+    requires sorted { IsRepository view.old.below }
     requires within { AreWithin (map rule_of mappings.now.items) }
     requires budget { IsBudget program.old.attempt.steps budget }
-    ensures stepped { OnOk result (program.new ≡ between (stepped (map rule_of mappings.now.items) budget view.now.below program.old.attempt (option_map choice_of (option_copied choice.entry)))) }
+    ensures stepped { OnOk result (program.new ≡ between (stepped (map rule_of mappings.now.items) budget view.old.below program.old.attempt (option_map choice_of (option_copied choice.entry)))) }
+    ensures same { OnOk result (view.new ≡ view.old) }
 {
-    let direction = program.direction();
     begin(alloc, program, choice, mappings, budget)?;
-    answer_all(alloc, program, view, direction, mappings)
+    answer_all(alloc, program, view, mappings)
 }
 
 // Lets the view see all of the own writes, of which it has seen so many.
 fn see_all(
     alloc: Global,
-    view: &mut View<'_, IndexedFacts>,
+    view: &mut WatchedView<'_, IndexedFacts>,
     own: &WriteList,
     seen: usize,
 ) -> Result<(), Memory>
     requires some { seen ≤ length own.now.items }
     requires first { take seen (map change_of own.now.items) ≡ view.old.own }
-    ensures seen { OnOk result (view.new ≡ record { below = view.old.below; own = map change_of own.now.items }) }
+    ensures seen { OnOk result (view.new ≡ record { rules = view.old.rules; heading = view.old.heading; below = view.old.below; own = map change_of own.now.items }) }
 {
     view.write_all(alloc, &own.as_slice()[seen..])
 }
@@ -96,24 +101,24 @@ fn begin(
     }
 }
 
-// Answers the queries of the step in hand from the view, up to the step's end. Of violations those count that the own
-// writes caused in the direction.
+// Answers the queries of the step in hand from the view, up to the step's end.
 fn answer_all(
     alloc: Global,
     program: &mut Program,
-    view: &View<'_, IndexedFacts>,
-    direction: Direction,
+    view: &mut WatchedView<'_, IndexedFacts>,
     mappings: &MappingList,
 ) -> Result<(), Memory>
-    requires sorted { IsRepository view.now.below }
+    requires rules { view.old.rules ≡ map rule_of mappings.now.items }
+    requires sorted { IsRepository view.old.below }
     requires within { AreWithin (map rule_of mappings.now.items) }
-    ensures answered { OnOk result (program.new ≡ between (result_of (λ q. value (map rule_of mappings.now.items) q view.now.below view.now.own (Caused (heading_of direction))) (course (map rule_of mappings.now.items) program.old))) }
+    ensures answered { OnOk result (program.new ≡ between (result_of (λ q. value (map rule_of mappings.now.items) q view.old.below view.old.own (Caused view.old.heading)) (course (map rule_of mappings.now.items) program.old))) }
+    ensures same { OnOk result (view.new ≡ view.old) }
 {
     'queries: loop {
         let Want::Read(query) = program.wants() else {
             return Ok(());
         };
-        let answer = view.eval(query, mappings, direction, alloc)?;
+        let answer = view.eval(query, alloc)?;
         program.take(alloc, &answer, mappings)?;
     }
 }

@@ -13,7 +13,7 @@ use crate::stepping::step;
 use crate::turns::{Next, what_next};
 use std::alloc::Global;
 use yt_base::{MappingList, Memory};
-use yt_eval::View;
+use yt_eval::WatchedView;
 use yt_facts::IndexedFacts;
 use yt_program::{Lack, Program};
 use yt_session::SessionUpdate;
@@ -44,7 +44,7 @@ pub(crate) fn take_whole(
     ensures ended { IfOk result (λ rest. is_some (outcome_in rest.program.attempt.phase) ≡ is_none rest.lack) }
 {
     let mut program = Program::start(alloc, &update.update, number, 0)?;
-    let mut view = View::new(alloc, facts);
+    let mut view = WatchedView::new(alloc, facts, mappings, program.direction())?;
     'turns: loop {
         match what_next(&program, &update.answers) {
             Next::Step(choice) => {

@@ -1,6 +1,8 @@
-use Rattle.std.proofs.Common.{◌∙◌, ap, List, map}
+use Rattle.std.proofs.Common.{◌≡◌, ◌∙◌, ap, sym, List, map}
 use Rattle.yt_model.specs.Values.{Fact}
-use Rattle.yt_eval.specs.Seen.{Seen}
+use Rattle.yt_model.specs.Updates.{direction_of}
+use Rattle.yt_program.specs.Courses.{State}
+use Rattle.yt_eval.specs.Watched.{Watched}
 use Rattle.std.specs.Option.{option_map, option_copied}
 use Rattle.yt_base.specs.Meanings.{choice_of, rule_of}
 use Rattle.yt_session.specs.Meanings.{update_of, request_of}
@@ -13,7 +15,9 @@ pub turns-preserved : goal.turns-preserved
 turns-preserved c =
     let ms = map rule_of c.args.mappings.now.items in
     let answers = map choice_of c.args.update.now.answers.items in
-    let below = ap (λ (s : Seen). s.below) c.turns.invariant.seen in
+    let below = ap (λ (v : Watched). v.below) c.turns.invariant.seen in
+    let heading : direction_of c.turns.program.attempt.operation ≡ direction_of c.step.new.program.attempt.operation =
+    sym (ap (λ (s : State). direction_of s.attempt.operation) c.in_ok-step-in-Step.ensures.stepped) in
     let kept = stays_on ms c.args.budget c.args.facts.now answers
     (whole_rest ms c.args.budget c.args.facts.now (turn_of ms c.args.budget c.args.number (request_of (update_of c.args.update.now))))
     c.turns.program c.step.new.program (option_map choice_of (option_copied c.in-Step.choice))
@@ -23,7 +27,10 @@ turns-preserved c =
     ∙ ap (λ (D : List Fact). between (stepped ms c.args.budget D c.turns.program.attempt (option_map choice_of (option_copied c.in-Step.choice)))) below) in
     record {
       between = kept.0;
-      seen = c.in_ok-step-in-Step.ensures.seen ∙ ap (λ (D : List Fact). record { below = D; own = c.step.new.program.attempt.own }) below;
+      seen =
+          c.in_ok-step-in-Step.ensures.seen
+          ∙ ap (λ (v : Watched). record { rules = v.rules; heading = v.heading; below = v.below; own = c.step.new.program.attempt.own }) c.turns.invariant.seen
+          ∙ (λ i. record { rules = ms; heading = heading i; below = c.args.facts.now; own = c.step.new.program.attempt.own });
       left = kept.1;
       together = kept.2;
     }

@@ -1,15 +1,16 @@
 use Rattle.std.proofs.Common.{◌≡◌, ◌-◌, ◌<◌, false, None, is_some, map}
 use Rattle.yt_base.specs.Meanings.{choice_of, rule_of}
+use Rattle.yt_model.specs.Updates.{direction_of}
 use Rattle.yt_session.specs.Meanings.{update_of, request_of}
 use Rattle.yt_steps.specs.Attempts.{outcome_in}
 use Rattle.yt_serial.specs.Turns.{rest_from, turn_of, whole_rest}
 use Rattle.yt_serial.proofs.wholes.take_whole.Given as goal
 
--- Between two steps; the view sees the own writes; from where the attempt comes to the same rest; some steps are left unless it has ended.
+-- Between two steps; the view is of these mappings, in the update's direction, and sees the own writes; from where the attempt comes to the same rest; some steps are left unless it has ended.
 abbrev pub invariant-turns : goal.invariant-turns
 invariant-turns l = record {
   between : l.program.reading ≡ None;
-  seen : l.view ≡ record { below = l.facts; own = l.program.attempt.own };
+  seen : l.view ≡ record { rules = map rule_of l.mappings.items; heading = direction_of l.program.attempt.operation; below = l.facts; own = l.program.attempt.own };
   left : is_some (outcome_in l.program.attempt.phase) ≡ false → l.program.attempt.steps < l.budget;
   together :
       whole_rest (map rule_of l.mappings.items) l.budget l.facts (turn_of (map rule_of l.mappings.items) l.budget l.number (request_of (update_of l.update)))

@@ -1,0 +1,8 @@
+use Rattle.std.proofs.Common.{◌≡◌, map, drop}
+use Rattle.yt_base.specs.Meanings.{change_of}
+use Rattle.yt_eval.specs.Watched.{watched_on}
+use Rattle.yt_eval.proofs.watched.WatchedView.write_all.Given as goal
+
+-- With the writes that are left, what is seen with all of them.
+abbrev pub invariant-loop-write : goal.invariant-loop-write
+invariant-loop-write g l = watched_on l.self (map change_of (drop l.write-index l.writes)) ≡ watched_on l.fn.self (map change_of l.writes)

@@ -1,0 +1,32 @@
+-- What a contract sees of a watched view, which writes may give a mapping a violation, and which mappings have none.
+use Rattle.std.specs.Prelude.{◌≡◌, ℕ, ◌==◌, Bool, true, false, ◌||◌, List, ◌++◌, Option, slice_index_or}
+use Rattle.yt_model.specs.Values.{Fact}
+use Rattle.yt_model.specs.Repository.{Change, Insert, Delete}
+use Rattle.yt_model.specs.Mappings.{Rule, force_relation}
+use Rattle.yt_model.specs.Mentions.{rule_mentions}
+use Rattle.yt_model.specs.Queries.{Violation, Nothing, value}
+use Rattle.yt_model.specs.Violations.{Direction, Caused}
+
+-- The mappings, the direction in which violations are caused, the tuples below the own writes, and the own writes in turn.
+pub record Watched : Type 0 where
+  pub rules : List Rule
+  pub heading : Direction
+  pub below : List Fact
+  pub own : List Change
+
+-- What is seen after these own writes more.
+abbrev pub watched_on : Watched → List Change → Watched
+watched_on w more = record { rules = w.rules; heading = w.heading; below = w.below; own = w.own ++ more }
+
+-- The relation of the tuple that is written.
+abbrev pub relation_in : Change → ℕ
+relation_in (Insert t) = t.relation
+relation_in (Delete t) = t.relation
+
+-- The write may give the mapping a violation: the mapping has an atom of its relation, or it may put a mapping in force.
+abbrev pub stirs : Change → Option Rule → Bool
+stirs w m = (relation_in w == force_relation) || rule_mentions m (relation_in w)
+
+-- Each mapping with a mark has no violation that the own writes caused.
+abbrev pub AreSettled : Watched → List Bool → Type 0
+AreSettled w marks = (n : ℕ) → slice_index_or marks n false ≡ true → value w.rules (Violation n) w.below w.own (Caused w.heading) ≡ Nothing

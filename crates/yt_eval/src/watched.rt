@@ -1,0 +1,119 @@
+//! A set of tuples as one update sees it, that does not look again where nothing can have changed.
+ghost use Rattle.std.specs.Prelude.{◌≡◌, ◌∷◌, [], true, map, IfOk, OnErr, OnOk};
+ghost use Rattle.yt_model.specs.Queries.{value, Nothing};
+ghost use Rattle.yt_model.specs.Violations.{Caused};
+ghost use Rattle.yt_base.specs.Meanings.{rule_of, change_of, heading_of};
+ghost use Rattle.yt_query.specs.Meanings.{query_of, reply_of};
+ghost use Rattle.yt_eval.specs.Watched.{watched_on};
+
+use crate::settled::Settled;
+use crate::view::View;
+use std::alloc::Global;
+use std::marker::Model;
+use yt_base::{Direction, Facts, MappingList, Memory, Write};
+use yt_query::{Answer, Query};
+
+/// A set of tuples as an update sees it that repairs in one direction: with its own writes applied, to which more can
+/// be added. It knows which mappings are settled, and does not search them for violations again. Contracts see the
+/// mappings, the direction, the tuples below the writes, and the writes; what it remembers they do not see.
+#[derive(Drop)]
+pub struct WatchedView<'a, F: Facts> {
+    view: View<'a, F>,
+    mappings: &'a MappingList,
+    direction: Direction,
+    settled: Settled,
+}
+
+impl<'a, F: Facts> Model for WatchedView<'a, F> {
+    ghost use Rattle.std.specs.Prelude.{map};
+    ghost use Rattle.yt_base.specs.Meanings.{rule_of, heading_of};
+    ghost use Rattle.yt_eval.specs.Watched.{Watched, AreSettled};
+
+    ghost Value = { Watched };
+
+    ghost view = { λ v. record { rules = map rule_of v.mappings.now.items; heading = heading_of v.direction; below = v.view.below; own = v.view.own } };
+
+    ghost invariant = { λ v. AreSettled (record { rules = map rule_of v.mappings.now.items; heading = heading_of v.direction; below = v.view.below; own = v.view.own }) v.settled };
+}
+
+impl<'a, F: Facts> WatchedView<'a, F> {
+    /// The set before any own write: no violation is caused yet. It is refused only for want of memory.
+    pub fn new(
+        alloc: Global,
+        below: &'a F,
+        mappings: &'a MappingList,
+        direction: Direction,
+    ) -> Result<WatchedView<'a, F>, Memory>
+        ensures before { IfOk result (λ view. view ≡ record { rules = map rule_of mappings.now.items; heading = heading_of direction; below = F.tuples below.now; own = [] }) }
+    {
+        let settled = Settled::all(alloc, mappings.len())?;
+        Ok(WatchedView {
+            view: View::new(alloc, below),
+            mappings,
+            direction,
+            settled,
+        })
+    }
+
+    /// Adds an own write. It is refused only for want of memory; the view is then the same.
+    pub fn write(&mut self, alloc: Global, write: &Write) -> Result<(), Memory>
+        ensures ok { OnOk result (self.new ≡ watched_on self.old (change_of write.now ∷ [])) }
+        ensures err { OnErr result (self.new ≡ self.old) }
+    {
+        self.settled.stir(self.mappings, write);
+        self.view.write(alloc, write)?;
+        Ok(())
+    }
+
+    /// Adds own writes in turn. It is refused only for want of memory; some of them may then be added.
+    pub fn write_all(&mut self, alloc: Global, writes: &[Write]) -> Result<(), Memory>
+        ensures ok { OnOk result (self.new ≡ watched_on self.old (map change_of writes.now)) }
+    {
+        for write in writes {
+            self.write(alloc, write)?;
+        }
+        Ok(())
+    }
+
+    /// The value of the query, where of violations only those count that the own writes caused in the direction.
+    /// Forward, a mapping that they put in force is looked at whole; one that is not in the list has no violation. It
+    /// is refused only for want of memory.
+    pub fn eval(&mut self, query: &Query, alloc: Global) -> Result<Answer, Memory>
+        ensures value { IfOk result (λ answer. reply_of answer ≡ value self.old.rules (query_of query.now) self.old.below self.old.own (Caused self.old.heading)) }
+        ensures same { self.new ≡ self.old }
+    {
+        if self.is_settled(query) {
+            return Ok(Answer::Nothing);
+        }
+        let answer = self.view.eval(query, self.mappings, self.direction, alloc)?;
+        if matches!(&answer, Answer::Nothing) {
+            self.settle(query);
+        }
+        Ok(answer)
+    }
+
+    // Whether the query asks for the first violation of a settled mapping.
+    fn is_settled(&self, query: &Query) -> bool
+        ensures nothing { result ≡ true → value self.now.rules (query_of query.now) self.now.below self.now.own (Caused self.now.heading) ≡ Nothing }
+    {
+        match query {
+            Query::Violation(number) => self.settled.has(*number),
+            Query::Present(_) => false,
+            Query::Specific(_) => false,
+            Query::Occurs(_, _) => false,
+        }
+    }
+
+    // Settles the mapping whose first violation the query asks for, if there is one.
+    fn settle(&mut self, query: &Query)
+        requires nothing { value self.old.rules (query_of query.now) self.old.below self.old.own (Caused self.old.heading) ≡ Nothing }
+        ensures same { self.new ≡ self.old }
+    {
+        match query {
+            Query::Violation(number) => self.settled.settle(*number),
+            Query::Present(_) => {}
+            Query::Specific(_) => {}
+            Query::Occurs(_, _) => {}
+        }
+    }
+}
