@@ -4,11 +4,11 @@ use Rattle.std.proofs.Common.{refl, sym, ap, ◌∙◌, subst, arith}
 use Rattle.yt_lex.specs.declared.Token.{Token}
 use Rattle.yt_lex.specs.declared.LexRefusal.{LexRefusal}
 use Rattle.yt_lex.specs.declared.LexRefusal.TheVariants.{BadByte, OpenText, WideNumber, LongText, Memory}
-use Rattle.yt_lex.specs.Answers.{◌>>=◌, Refuses}
+use Rattle.yt_lex.specs.Answers.{◌>>=◌, Refuses, place_in}
 use Rattle.yt_lex.specs.Lines.{line_at, line_of, next_line, tokens_at}
-use Rattle.yt_reader.specs.Places.{IsOneLine, place_in}
+use Rattle.yt_reader.specs.Places.{IsOneLine}
 use Rattle.yt_reader.proofs.Cut.{line_of_one}
-use Rattle.yt_reader.proofs.Places.{Within, tokens_within}
+use Rattle.yt_lex.proofs.Places.{Within, tokens_within}
 
 -- the tokens alone
 abbrev pub front : Result (List Token × Option ℕ) LexRefusal → Result (List Token) LexRefusal

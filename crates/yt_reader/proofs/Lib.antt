@@ -2,4 +2,3 @@ pub mod Cut
 pub mod Encoded
 pub mod Lexed
 pub mod Loop
-pub mod Places

@@ -4,11 +4,11 @@ ghost use Rattle.std.specs.Prelude.{◌≡◌, ◌+◌, ◌^◌, ◌<◌, ◌≤
 ghost use Rattle.yt_forms.specs.Views.{word_of as word_meant, words_of as words_meant};
 ghost use Rattle.yt_grammar.specs.Lines.{placed_words};
 ghost use Rattle.yt_grammar.specs.Words.{said, word_of, words_at};
-ghost use Rattle.yt_lex.specs.Answers.{Gives as LexGives, Refuses as LexRefuses};
+ghost use Rattle.yt_lex.specs.Answers.{Gives as LexGives, Refuses as LexRefuses, place_in};
 ghost use Rattle.yt_lex.specs.Lines.{tokens_at};
 ghost use Rattle.yt_lex.specs.Spelling.{IsTokenAt, spells};
 ghost use Rattle.yt_reader.specs.Answers.{Gives, Refuses};
-ghost use Rattle.yt_reader.specs.Places.{IsOneLine, place_in};
+ghost use Rattle.yt_reader.specs.Places.{IsOneLine};
 
 use crate::faults::{FaultKind, LineRefusal};
 use std::alloc::Global;
