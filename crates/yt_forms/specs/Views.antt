@@ -1,10 +1,16 @@
 -- What the words of the program say, and what reading them answers beside what is read by definition.
-use Rattle.std.specs.Prelude.{◌≡◌, List, map, Result, Ok, Err}
-use Rattle.yt_grammar.specs.Words.{Word as WordMeant, name, number, null, text, opens, closes, comma, colon, arrow}
+use Rattle.std.specs.Prelude.{◌≡◌, ℕ, List, [], map, Result, Ok, Err}
+use Rattle.yt_lex.specs.declared.Token.{Token}
+use Rattle.yt_lex.specs.declared.LexRefusal.{LexRefusal}
+use Rattle.yt_lex.specs.Lines.{tokens_from}
+use Rattle.yt_lex.specs.Spelling.{text_of}
+use Rattle.yt_grammar.specs.Words.{Word as WordMeant, word_of as token_says, name, number, null, text, opens, closes, comma, colon, arrow}
 use Rattle.yt_base.specs.Meanings.{datum_of}
 use Rattle.yt_schema.specs.Meanings.{atom_of}
 use Rattle.yt_grammar.specs.Statements.{WrittenFact, WrittenMapping}
 use Rattle.yt_grammar.specs.Faults.{Kind, BadHeader, Expected}
+use Rattle.yt_forms.specs.declared.cursor.Words.{Words}
+use Rattle.yt_forms.specs.declared.words.Quoted.{Quoted}
 use Rattle.yt_forms.specs.declared.words.Word.{Word}
 use Rattle.yt_forms.specs.declared.words.Word.TheVariants.{Name, Number, Null, Text, Open, Close, Comma, Colon, Arrow}
 use Rattle.yt_forms.specs.declared.words.RawFact.{RawFact}
@@ -12,20 +18,34 @@ use Rattle.yt_forms.specs.declared.words.RawMapping.{RawMapping}
 use Rattle.yt_forms.specs.declared.faults.FormRefusal.{FormRefusal}
 use Rattle.yt_forms.specs.declared.faults.FormRefusal.TheVariants as refusal
 
+-- the bytes that a text in quotes stands for
+abbrev pub says : Quoted → List ℕ
+says q = text_of q.spelling.now
+
 -- what a `Word` says
 abbrev pub word_of : Word → WordMeant
-word_of (Name n) = name n.items
+word_of (Name n) = name n.now
 word_of (Number z) = number z
 word_of (Null u k) = null u k
-word_of (Text t) = text t.items
+word_of (Text t) = text (says t)
 word_of Open = opens
 word_of Close = closes
 word_of Comma = comma
 word_of Colon = colon
 word_of Arrow = arrow
 
-abbrev pub words_of : List Word → List WordMeant
-words_of words = map word_of words
+-- the tokens that are found, if any
+abbrev pub found : Result (List Token) LexRefusal → List Token
+found (Ok tokens) = tokens
+found (Err refusal) = []
+
+-- the words of a line from a place on
+abbrev pub words_from : ℕ → List ℕ → List WordMeant
+words_from place line = map (token_says line) (found (tokens_from place line))
+
+-- the words that are still to be read
+unfoldable pub words_of : Words → List WordMeant
+words_of words = words_from words.place words.line.now
 
 -- the fact that a `RawFact` stands for
 abbrev pub fact_of : RawFact → WrittenFact

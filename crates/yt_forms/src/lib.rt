@@ -2,6 +2,7 @@
 //! first word that does not fit.
 #![tactic(auto)]
 
+mod cursor;
 mod faults;
 mod mappings;
 mod parts;
@@ -9,10 +10,11 @@ mod raw;
 mod statements;
 mod words;
 
+pub use crate::cursor::Words;
 pub use crate::faults::FormRefusal;
 pub use crate::raw::{RawChoice, RawOperation, RawStatement, Section};
 pub use crate::statements::{statement_at, whole_fact};
-pub use crate::words::{RawFact, RawFactList, RawMapping, Word, WordList};
+pub use crate::words::{Quoted, RawFact, RawFactList, RawMapping, Word};
 pub use yt_grammar::Wanted;
 
 #[cfg(test)]

@@ -6,6 +6,7 @@ ghost use Rattle.yt_grammar.specs.Parts.{facts_at, last_fact, left_at, left_atom
 ghost use Rattle.yt_schema.specs.Meanings.{atom_of as atom_meant};
 ghost use Rattle.yt_forms.specs.Views.{Gives, fact_of as fact_meant, mapping_of as mapping_meant, words_of};
 
+use crate::cursor::Words;
 use crate::faults::{FormRefusal, wants};
 use crate::parts::{atom_at, colon_at, fact_at, name_at};
 use crate::words::{RawFact, RawFactList, RawMapping, Word};
@@ -16,49 +17,49 @@ use yt_schema::{RawAtom, RawAtomList};
 
 // An atom of the left side, whether a comma stands behind it, and what stands behind that or the arrow.
 #[tactic(auto, unfolding(yt_grammar::specs::Parts::left_atom))]
-fn left_atom(alloc: Global, words: &[Word]) -> Result<(RawAtom, bool, &[Word]), FormRefusal>
-    ensures gives { Gives (λ x. (atom_meant x.0, x.1, words_of x.2.now)) result (left_atom (words_of words.now)) }
-    ensures shorter { IfOk result (λ x. length x.2.now < length words.now) }
+fn left_atom(alloc: Global, words: Words<'_>) -> Result<(RawAtom, bool, Words<'_>), FormRefusal>
+    ensures gives { Gives (λ x. (atom_meant x.0, x.1, words_of x.2)) result (left_atom (words_of words.entry)) }
+    ensures shorter { IfOk result (λ x. length (words_of x.2) < length (words_of words.entry)) }
 {
     let (atom, others) = atom_at(alloc, words)?;
-    match others {
-        [Word::Comma, rest @ ..] => Ok((atom, true, rest)),
-        [Word::Arrow, rest @ ..] => Ok((atom, false, rest)),
+    match others.split_first() {
+        Some((Word::Comma, rest)) => Ok((atom, true, rest)),
+        Some((Word::Arrow, rest)) => Ok((atom, false, rest)),
         _ => Err(wants(Wanted::CommaOrArrow)),
     }
 }
 
 // An atom of the right side, whether a comma stands behind it, and what stands behind that.
 #[tactic(auto, unfolding(yt_grammar::specs::Parts::right_atom))]
-fn right_atom(alloc: Global, words: &[Word]) -> Result<(RawAtom, bool, &[Word]), FormRefusal>
-    ensures gives { Gives (λ x. (atom_meant x.0, x.1, words_of x.2.now)) result (right_atom (words_of words.now)) }
-    ensures shorter { IfOk result (λ x. length x.2.now < length words.now) }
+fn right_atom(alloc: Global, words: Words<'_>) -> Result<(RawAtom, bool, Words<'_>), FormRefusal>
+    ensures gives { Gives (λ x. (atom_meant x.0, x.1, words_of x.2)) result (right_atom (words_of words.entry)) }
+    ensures shorter { IfOk result (λ x. length (words_of x.2) < length (words_of words.entry)) }
 {
     let (atom, others) = atom_at(alloc, words)?;
-    match others {
-        [] => Ok((atom, false, others)),
-        [Word::Comma, rest @ ..] => Ok((atom, true, rest)),
+    match others.split_first() {
+        None => Ok((atom, false, others)),
+        Some((Word::Comma, rest)) => Ok((atom, true, rest)),
         _ => Err(wants(Wanted::CommaOrEnd)),
     }
 }
 
 // A fact of an answer, likewise.
 #[tactic(auto, unfolding(yt_grammar::specs::Parts::last_fact))]
-fn last_fact(alloc: Global, words: &[Word]) -> Result<(RawFact, bool, &[Word]), FormRefusal>
-    ensures gives { Gives (λ x. (fact_meant x.0, x.1, words_of x.2.now)) result (last_fact (words_of words.now)) }
-    ensures shorter { IfOk result (λ x. length x.2.now < length words.now) }
+fn last_fact(alloc: Global, words: Words<'_>) -> Result<(RawFact, bool, Words<'_>), FormRefusal>
+    ensures gives { Gives (λ x. (fact_meant x.0, x.1, words_of x.2)) result (last_fact (words_of words.entry)) }
+    ensures shorter { IfOk result (λ x. length (words_of x.2) < length (words_of words.entry)) }
 {
     let (fact, others) = fact_at(alloc, words)?;
-    match others {
-        [] => Ok((fact, false, others)),
-        [Word::Comma, rest @ ..] => Ok((fact, true, rest)),
+    match others.split_first() {
+        None => Ok((fact, false, others)),
+        Some((Word::Comma, rest)) => Ok((fact, true, rest)),
         _ => Err(wants(Wanted::CommaOrEnd)),
     }
 }
 
-fn left_atoms(alloc: Global, words: &[Word]) -> Result<(RawAtomList, &[Word]), FormRefusal>
-    ensures gives { Gives (λ x. (map atom_meant x.0.items, words_of x.1.now)) result (many (length words.now) left_atom (words_of words.now)) }
-    ensures shorter { IfOk result (λ x. length x.1.now ≤ length words.now) }
+fn left_atoms(alloc: Global, words: Words<'_>) -> Result<(RawAtomList, Words<'_>), FormRefusal>
+    ensures gives { Gives (λ x. (map atom_meant x.0.items, words_of x.1)) result (many (length (words_of words.entry)) left_atom (words_of words.entry)) }
+    ensures shorter { IfOk result (λ x. length (words_of x.1) ≤ length (words_of words.entry)) }
 {
     let mut found = List::new(alloc);
     let mut rest = words;
@@ -72,9 +73,9 @@ fn left_atoms(alloc: Global, words: &[Word]) -> Result<(RawAtomList, &[Word]), F
     }
 }
 
-fn right_atoms(alloc: Global, words: &[Word]) -> Result<(RawAtomList, &[Word]), FormRefusal>
-    ensures gives { Gives (λ x. (map atom_meant x.0.items, words_of x.1.now)) result (many (length words.now) right_atom (words_of words.now)) }
-    ensures shorter { IfOk result (λ x. length x.1.now ≤ length words.now) }
+fn right_atoms(alloc: Global, words: Words<'_>) -> Result<(RawAtomList, Words<'_>), FormRefusal>
+    ensures gives { Gives (λ x. (map atom_meant x.0.items, words_of x.1)) result (many (length (words_of words.entry)) right_atom (words_of words.entry)) }
+    ensures shorter { IfOk result (λ x. length (words_of x.1) ≤ length (words_of words.entry)) }
 {
     let mut found = List::new(alloc);
     let mut rest = words;
@@ -88,9 +89,9 @@ fn right_atoms(alloc: Global, words: &[Word]) -> Result<(RawAtomList, &[Word]), 
     }
 }
 
-fn last_facts(alloc: Global, words: &[Word]) -> Result<(RawFactList, &[Word]), FormRefusal>
-    ensures gives { Gives (λ x. (map fact_meant x.0.items, words_of x.1.now)) result (many (length words.now) last_fact (words_of words.now)) }
-    ensures shorter { IfOk result (λ x. length x.1.now ≤ length words.now) }
+fn last_facts(alloc: Global, words: Words<'_>) -> Result<(RawFactList, Words<'_>), FormRefusal>
+    ensures gives { Gives (λ x. (map fact_meant x.0.items, words_of x.1)) result (many (length (words_of words.entry)) last_fact (words_of words.entry)) }
+    ensures shorter { IfOk result (λ x. length (words_of x.1) ≤ length (words_of words.entry)) }
 {
     let mut found = List::new(alloc);
     let mut rest = words;
@@ -106,24 +107,24 @@ fn last_facts(alloc: Global, words: &[Word]) -> Result<(RawFactList, &[Word]), F
 
 // The atoms of the left side, and what stands behind the arrow.
 #[tactic(auto, unfolding(yt_grammar::specs::Parts::left_at))]
-fn left_at(alloc: Global, words: &[Word]) -> Result<(RawAtomList, &[Word]), FormRefusal>
-    ensures gives { Gives (λ x. (map atom_meant x.0.items, words_of x.1.now)) result (left_at (words_of words.now)) }
+fn left_at(alloc: Global, words: Words<'_>) -> Result<(RawAtomList, Words<'_>), FormRefusal>
+    ensures gives { Gives (λ x. (map atom_meant x.0.items, words_of x.1)) result (left_at (words_of words.entry)) }
 {
-    match words {
-        [Word::Arrow, rest @ ..] => Ok((List::new(alloc), rest)),
-        [Word::Name(_), ..] => left_atoms(alloc, words),
+    match words.split_first() {
+        Some((Word::Arrow, rest)) => Ok((List::new(alloc), rest)),
+        Some((Word::Name(_), _)) => left_atoms(alloc, words),
         _ => Err(wants(Wanted::NameOrArrow)),
     }
 }
 
 // The atoms of the right side, which ends the line.
 #[tactic(auto, unfolding(yt_grammar::specs::Parts::right_at))]
-fn right_at(alloc: Global, words: &[Word]) -> Result<RawAtomList, FormRefusal>
-    ensures gives { Gives (λ x. map atom_meant x.items) result (right_at (words_of words.now)) }
+fn right_at(alloc: Global, words: Words<'_>) -> Result<RawAtomList, FormRefusal>
+    ensures gives { Gives (λ x. map atom_meant x.items) result (right_at (words_of words.entry)) }
 {
-    match words {
-        [] => Ok(List::new(alloc)),
-        [Word::Name(_), ..] => {
+    match words.split_first() {
+        None => Ok(List::new(alloc)),
+        Some((Word::Name(_), _)) => {
             let (found, _rest) = right_atoms(alloc, words)?;
             Ok(found)
         }
@@ -133,8 +134,8 @@ fn right_at(alloc: Global, words: &[Word]) -> Result<RawAtomList, FormRefusal>
 
 /// A mapping behind the word `mapping`, to the end of the line.
 #[tactic(auto, unfolding(yt_grammar::specs::Parts::mapping_at))]
-pub(crate) fn mapping_at(alloc: Global, words: &[Word]) -> Result<RawMapping, FormRefusal>
-    ensures gives { Gives mapping_meant result (mapping_at (words_of words.now)) }
+pub(crate) fn mapping_at(alloc: Global, words: Words<'_>) -> Result<RawMapping, FormRefusal>
+    ensures gives { Gives mapping_meant result (mapping_at (words_of words.entry)) }
 {
     let (name, rest) = name_at(alloc, words)?;
     let rest = colon_at(rest)?;
@@ -145,8 +146,8 @@ pub(crate) fn mapping_at(alloc: Global, words: &[Word]) -> Result<RawMapping, Fo
 
 /// The facts of an answer, to the end of the line.
 #[tactic(auto, unfolding(yt_grammar::specs::Parts::facts_at))]
-pub(crate) fn facts_at(alloc: Global, words: &[Word]) -> Result<RawFactList, FormRefusal>
-    ensures gives { Gives (λ x. map fact_meant x.items) result (facts_at (words_of words.now)) }
+pub(crate) fn facts_at(alloc: Global, words: Words<'_>) -> Result<RawFactList, FormRefusal>
+    ensures gives { Gives (λ x. map fact_meant x.items) result (facts_at (words_of words.entry)) }
 {
     let (found, _rest) = last_facts(alloc, words)?;
     Ok(found)

@@ -8,6 +8,7 @@ ghost use Rattle.yt_grammar.specs.Forms.{answer_at, begins, choice_at, columns_a
 ghost use Rattle.yt_forms.specs.Views.{Gives, fact_of as fact_meant, words_of};
 ghost use Rattle.yt_forms.specs.Statements.{choice_of, operation_of, section_meant, statement_of};
 
+use crate::cursor::Words;
 use crate::faults::{FormRefusal, wants};
 use crate::mappings::{facts_at, mapping_at};
 use crate::parts::{end_at, fact_at, name_at, value_of};
@@ -17,10 +18,10 @@ use std::alloc::Global;
 use yt_base::{Name, Null};
 use yt_grammar::Wanted;
 
-fn same_name(name: &Name, word: &[u8]) -> bool
-    ensures { result ≡ same_name name.now.items word.now }
+fn same_name(name: &[u8], word: &[u8]) -> bool
+    ensures { result ≡ same_name name.now word.now }
 {
-    name.as_slice() == word
+    name == word
 }
 
 // The format of a header's number, if there is one.
@@ -38,37 +39,43 @@ fn format_of(number: i64) -> Option<u8>
 
 // The header.
 #[tactic(auto, unfolding(yt_grammar::specs::Forms::header_at))]
-fn header_at(words: &[Word]) -> Result<RawStatement, FormRefusal>
-    ensures { Gives statement_of result (header_at (words_of words.now)) }
+fn header_at(words: Words<'_>) -> Result<RawStatement, FormRefusal>
+    ensures { Gives statement_of result (header_at (words_of words.entry)) }
 {
-    let [Word::Name(name), Word::Number(number)] = words else {
+    let Some((Word::Name(name), rest)) = words.split_first() else {
         return Err(FormRefusal::BadHeader);
     };
+    let Some((Word::Number(number), rest)) = rest.split_first() else {
+        return Err(FormRefusal::BadHeader);
+    };
+    if rest.split_first().is_some() {
+        return Err(FormRefusal::BadHeader);
+    }
     if !same_name(name, b"youtopia") {
         return Err(FormRefusal::BadHeader);
     }
-    match format_of(*number) {
+    match format_of(number) {
         Some(format) => Ok(RawStatement::Header(format)),
         None => Err(FormRefusal::BadHeader),
     }
 }
 
 // A relation behind its name.
-fn columns_at(name: Name, words: &[Word]) -> Result<RawStatement, FormRefusal>
-    ensures { Gives statement_of result (columns_at name.items (words_of words.now)) }
+fn columns_at(name: Name, words: Words<'_>) -> Result<RawStatement, FormRefusal>
+    ensures { Gives statement_of result (columns_at name.items (words_of words.entry)) }
 {
-    match words {
-        [Word::Number(number), rest @ ..] => {
+    match words.split_first() {
+        Some((Word::Number(number), rest)) => {
             end_at(rest)?;
-            Ok(RawStatement::Relation(name, *number))
+            Ok(RawStatement::Relation(name, number))
         }
         _ => Err(wants(Wanted::Number)),
     }
 }
 
 #[tactic(auto, unfolding(yt_grammar::specs::Forms::relation_at))]
-fn relation_at(alloc: Global, words: &[Word]) -> Result<RawStatement, FormRefusal>
-    ensures { Gives statement_of result (relation_at (words_of words.now)) }
+fn relation_at(alloc: Global, words: Words<'_>) -> Result<RawStatement, FormRefusal>
+    ensures { Gives statement_of result (relation_at (words_of words.entry)) }
 {
     let (name, rest) = name_at(alloc, words)?;
     columns_at(name, rest)
@@ -77,18 +84,18 @@ fn relation_at(alloc: Global, words: &[Word]) -> Result<RawStatement, FormRefusa
 /// A fact to the end of the line. It is refused with what is wanted at the first word that does not
 /// fit.
 #[tactic(auto, unfolding(yt_grammar::specs::Parts::whole))]
-pub fn whole_fact(alloc: Global, words: &[Word]) -> Result<RawFact, FormRefusal>
-    ensures exact { Gives fact_meant result (whole (fact_at (words_of words.now))) }
+pub fn whole_fact(alloc: Global, words: Words<'_>) -> Result<RawFact, FormRefusal>
+    ensures exact { Gives fact_meant result (whole (fact_at (words_of words.entry))) }
 {
     let (fact, rest) = fact_at(alloc, words)?;
     end_at(rest)?;
     Ok(fact)
 }
 
-fn replaced_at(alloc: Global, null: Null, words: &[Word]) -> Result<RawOperation, FormRefusal>
-    ensures { Gives operation_of result (replaced_at (null_of null) (words_of words.now)) }
+fn replaced_at(alloc: Global, null: Null, words: Words<'_>) -> Result<RawOperation, FormRefusal>
+    ensures { Gives operation_of result (replaced_at (null_of null) (words_of words.entry)) }
 {
-    let [word, rest @ ..] = words else {
+    let Some((word, rest)) = words.split_first() else {
         return Err(wants(Wanted::Value));
     };
     let value = value_of(alloc, word)?;
@@ -96,10 +103,10 @@ fn replaced_at(alloc: Global, null: Null, words: &[Word]) -> Result<RawOperation
     Ok(RawOperation::Replace(null, value))
 }
 
-fn with_at(alloc: Global, null: Null, words: &[Word]) -> Result<RawOperation, FormRefusal>
-    ensures { Gives operation_of result (with_at (null_of null) (words_of words.now)) }
+fn with_at(alloc: Global, null: Null, words: Words<'_>) -> Result<RawOperation, FormRefusal>
+    ensures { Gives operation_of result (with_at (null_of null) (words_of words.entry)) }
 {
-    let [Word::Name(name), rest @ ..] = words else {
+    let Some((Word::Name(name), rest)) = words.split_first() else {
         return Err(wants(Wanted::With));
     };
     if !same_name(name, b"with") {
@@ -109,25 +116,25 @@ fn with_at(alloc: Global, null: Null, words: &[Word]) -> Result<RawOperation, Fo
 }
 
 #[tactic(auto, unfolding(yt_grammar::specs::Forms::replace_at))]
-fn replace_at(alloc: Global, words: &[Word]) -> Result<RawOperation, FormRefusal>
-    ensures { Gives operation_of result (replace_at (words_of words.now)) }
+fn replace_at(alloc: Global, words: Words<'_>) -> Result<RawOperation, FormRefusal>
+    ensures { Gives operation_of result (replace_at (words_of words.entry)) }
 {
-    let [Word::Null(update, place), rest @ ..] = words else {
+    let Some((Word::Null(update, place), rest)) = words.split_first() else {
         return Err(wants(Wanted::Null));
     };
     let null = Null {
-        update: *update,
+        update,
         attempt: 0,
-        place: *place,
+        place,
     };
     with_at(alloc, null, rest)
 }
 
 #[tactic(auto, unfolding(yt_grammar::specs::Forms::operation_at))]
-fn operation_at(alloc: Global, format: u8, words: &[Word]) -> Result<RawOperation, FormRefusal>
-    ensures { Gives operation_of result (operation_at format (words_of words.now)) }
+fn operation_at(alloc: Global, format: u8, words: Words<'_>) -> Result<RawOperation, FormRefusal>
+    ensures { Gives operation_of result (operation_at format (words_of words.entry)) }
 {
-    let [Word::Name(name), rest @ ..] = words else {
+    let Some((Word::Name(name), rest)) = words.split_first() else {
         return Err(wants(Wanted::Operation));
     };
     if same_name(name, b"insert") {
@@ -146,8 +153,8 @@ fn operation_at(alloc: Global, format: u8, words: &[Word]) -> Result<RawOperatio
 }
 
 #[tactic(auto, unfolding(yt_grammar::specs::Forms::update_at))]
-fn update_at(alloc: Global, format: u8, words: &[Word]) -> Result<RawStatement, FormRefusal>
-    ensures { Gives statement_of result (update_at format (words_of words.now)) }
+fn update_at(alloc: Global, format: u8, words: Words<'_>) -> Result<RawStatement, FormRefusal>
+    ensures { Gives statement_of result (update_at format (words_of words.entry)) }
 {
     let (label, rest) = name_at(alloc, words)?;
     let (curator, rest) = name_at(alloc, rest)?;
@@ -156,10 +163,10 @@ fn update_at(alloc: Global, format: u8, words: &[Word]) -> Result<RawStatement, 
 }
 
 #[tactic(auto, unfolding(yt_grammar::specs::Forms::choice_at))]
-fn choice_at(alloc: Global, words: &[Word]) -> Result<RawChoice, FormRefusal>
-    ensures { Gives choice_of result (choice_at (words_of words.now)) }
+fn choice_at(alloc: Global, words: Words<'_>) -> Result<RawChoice, FormRefusal>
+    ensures { Gives choice_of result (choice_at (words_of words.entry)) }
 {
-    let [Word::Name(name), rest @ ..] = words else {
+    let Some((Word::Name(name), rest)) = words.split_first() else {
         return Err(wants(Wanted::Choice));
     };
     if same_name(name, b"expand") {
@@ -176,8 +183,8 @@ fn choice_at(alloc: Global, words: &[Word]) -> Result<RawChoice, FormRefusal>
 }
 
 #[tactic(auto, unfolding(yt_grammar::specs::Forms::answer_at))]
-fn answer_at(alloc: Global, words: &[Word]) -> Result<RawStatement, FormRefusal>
-    ensures { Gives statement_of result (answer_at (words_of words.now)) }
+fn answer_at(alloc: Global, words: Words<'_>) -> Result<RawStatement, FormRefusal>
+    ensures { Gives statement_of result (answer_at (words_of words.entry)) }
 {
     let (label, rest) = name_at(alloc, words)?;
     let choice = choice_at(alloc, rest)?;
@@ -198,8 +205,8 @@ fn rank(section: Section) -> u8
 }
 
 // The first word is that of a statement whose section is not over.
-fn begins(section: Section, name: &Name, word: &[u8], own: Section) -> bool
-    ensures { result ≡ begins (section_meant section) name.now.items word.now (section_meant own) }
+fn begins(section: Section, name: &[u8], word: &[u8], own: Section) -> bool
+    ensures { result ≡ begins (section_meant section) name.now word.now (section_meant own) }
 {
     same_name(name, word) && rank(section) <= rank(own)
 }
@@ -210,10 +217,10 @@ fn named_at(
     alloc: Global,
     section: Section,
     format: u8,
-    name: &Name,
-    rest: &[Word],
+    name: &[u8],
+    rest: Words<'_>,
 ) -> Result<RawStatement, FormRefusal>
-    ensures { Gives statement_of result (named_at (section_meant section) format name.now.items (words_of rest.now)) }
+    ensures { Gives statement_of result (named_at (section_meant section) format name.now (words_of rest.entry)) }
 {
     if begins(section, name, b"relation", Section::Relations) {
         return relation_at(alloc, rest);
@@ -245,15 +252,15 @@ pub fn statement_at(
     alloc: Global,
     section: Section,
     format: u8,
-    words: &[Word],
+    words: Words<'_>,
 ) -> Result<RawStatement, FormRefusal>
-    ensures exact { Gives statement_of result (statement_at (section_meant section) format (words_of words.now)) }
+    ensures exact { Gives statement_of result (statement_at (section_meant section) format (words_of words.entry)) }
 {
     if section == Section::Beginning {
         return header_at(words);
     }
-    match words {
-        [Word::Name(name), rest @ ..] => named_at(alloc, section, format, name, rest),
+    match words.split_first() {
+        Some((Word::Name(name), rest)) => named_at(alloc, section, format, name, rest),
         _ => Err(wants(Wanted::Statement)),
     }
 }

@@ -1,34 +1,38 @@
-//! A fact that is a line by itself.
+//! Facts that are lines by themselves.
 use super::*;
-use std::alloc::Global;
 use std::test::Fail;
-use yt_base::{List, Memory, Name};
-
-fn name(alloc: Global, bytes: &[u8]) -> Result<Name, Memory> {
-    Ok(List::from_vec(Vec::from_slice(alloc, bytes)?))
-}
+use yt_base::Memory;
 
 #[test]
 fn a_fact_fills_the_line(rt: HostRuntime) -> Result<(), Fail> {
     let alloc = rt.alloc();
-    let words = vec![in alloc;
-        Word::Name(name(alloc, b"A")?),
-        Word::Open,
-        Word::Null(0, 4),
-        Word::Comma,
-        Word::Number(-3),
-        Word::Close,
-        Word::Comma,
-    ]?;
-    let Ok(fact) = whole_fact(alloc, &words[..6]) else {
+    let Ok(words) = Words::of(b" A(?0.4, -3, \"a\\n\") # a fact") else {
         return Err(Fail::from(Memory));
     };
-    assert_eq!(rt; fact.values.len(), 2);
-    assert!(rt;
-        matches!(
-            whole_fact(alloc, &words),
-            Err(FormRefusal::Expected(Wanted::EndOfLine))
-        )
-    );
+    let Ok(fact) = whole_fact(alloc, words) else {
+        return Err(Fail::from(Memory));
+    };
+    assert_eq!(rt; fact.relation.as_slice(), b"A".as_slice());
+    assert_eq!(rt; fact.values.len(), 3);
+    Ok(())
+}
+
+#[test]
+fn what_is_wanted_is_told(rt: HostRuntime) -> Result<(), Fail> {
+    let lines: [(&[u8], Wanted); 6] = [
+        (b"", Wanted::Name),
+        (b"A 1", Wanted::Open),
+        (b"A(", Wanted::Value),
+        (b"A(x", Wanted::Value),
+        (b"A(1", Wanted::CommaOrClose),
+        (b"A(1),", Wanted::EndOfLine),
+    ];
+    for (line, wanted) in lines {
+        let Ok(words) = Words::of(line) else {
+            return Err(Fail::from(Memory));
+        };
+        let told = whole_fact(rt.alloc(), words).err();
+        assert_eq!(rt; told, Some(FormRefusal::Expected(wanted)));
+    }
     Ok(())
 }

@@ -78,7 +78,7 @@ module _ (start : ℕ) (tokens : List Token) (place : ℕ) (line : List ℕ) (to
       sym (rw (blank, comment, at_front) at one)
 
   pub refuses : (refusal : LexRefusal) → is_blank (get_or line place 0) ≡ false → (get_or line place 0 == 35) ≡ false
-      → Refuses refusal (token_at (start + place) (drop place line)) → Refuses refusal total
+      → token_at (start + place) (drop place line) ≡ Err refusal → Refuses refusal total
   refuses (BadByte p) blank comment found = fault (BadByte p) blank comment found
   refuses (OpenText p) blank comment found = fault (OpenText p) blank comment found
   refuses (WideNumber p) blank comment found = fault (WideNumber p) blank comment found

@@ -1,7 +1,15 @@
 -- What the lexer's functions answer, beside what is read by definition.
-use Rattle.std.specs.Prelude.{◌≡◌, Result, Ok, Err}
+use Rattle.std.specs.Prelude.{◌≡◌, ℕ, Result, Ok, Err}
 use Rattle.yt_lex.specs.declared.LexRefusal.{LexRefusal}
 use Rattle.yt_lex.specs.declared.LexRefusal.TheVariants.{BadByte, OpenText, WideNumber, LongText, Memory}
+
+-- the place that a fault carries
+abbrev pub place_in : LexRefusal → ℕ
+place_in (BadByte place) = place
+place_in (OpenText place) = place
+place_in (WideNumber place) = place
+place_in (LongText place) = place
+place_in Memory = 0
 
 -- a fault is the one that is read; want of memory may come in place of any answer
 abbrev pub Refuses : {Y : Type 0} → LexRefusal → Result Y LexRefusal → Type 0

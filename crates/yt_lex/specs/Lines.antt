@@ -1,5 +1,5 @@
 -- A line and its tokens, from left to right.
-use Rattle.std.specs.Prelude.{ℕ, zero, suc, ◌+◌, ◌-◌, nat_lt, ◌==◌, not, List, [], ◌∷◌, ◌++◌, take, drop, length, Option, Some, None, Result, Ok, if◌then◌else◌}
+use Rattle.std.specs.Prelude.{ℕ, zero, suc, ◌+◌, ◌-◌, nat_lt, ◌==◌, Bool, not, is_ok, List, [], ◌∷◌, ◌++◌, take, drop, length, Option, Some, None, Result, Ok, if◌then◌else◌}
 use Rattle.yt_lex.specs.declared.Token.{Token}
 use Rattle.yt_lex.specs.declared.LexRefusal.{LexRefusal}
 use Rattle.yt_lex.specs.Answers.{◌>>=◌}
@@ -27,6 +27,14 @@ tokens_at place zero (b ∷ rest) =
     if is_blank b then tokens_at (place + 1) zero rest
     else if b == 35 then Ok []
     else token_at place (b ∷ rest) >>= (λ x. with_front (record { kind = x.0; from = place; to = place + x.1 } ∷ []) (tokens_at (place + 1) (x.1 - 1) rest))
+
+-- the tokens of a line from a place on, or its leftmost fault there
+abbrev pub tokens_from : ℕ → List ℕ → Result (List Token) LexRefusal
+tokens_from place line = tokens_at place 0 (drop place line)
+
+-- whether nothing is wrong with a line from a place on
+abbrev pub is_faultless : ℕ → List ℕ → Bool
+is_faultless place line = is_ok (tokens_from place line)
 
 -- the tokens of the line at a place of a text, and the place of the next line
 abbrev pub line_at : ℕ → List ℕ → Result (List Token × Option ℕ) LexRefusal

@@ -6,6 +6,7 @@ mod bytes;
 mod encoding;
 mod lines;
 mod numbers;
+mod steps;
 mod texts;
 mod tokens;
 mod values;
@@ -16,6 +17,7 @@ ghost use Rattle.yt_lex.specs.declared.LexRefusal.TheVariants.{Memory};
 pub use encoding::utf8_end;
 pub use lines::lex_line;
 use std::alloc::{AllocError, AllocFailed};
+pub use steps::{line_fault, next_token};
 pub use values::{null_of, number_of, text_of};
 use yt_base::List;
 

@@ -1,7 +1,11 @@
 //! Lines with their tokens, values and faults, as the format's description says them.
 
-use crate::{LexRefusal, Token, TokenKind, lex_line, null_of, number_of, text_of, utf8_end};
+use crate::{
+    LexRefusal, Token, TokenKind, lex_line, line_fault, next_token, null_of, number_of, text_of,
+    utf8_end,
+};
 use std::test::Fail;
+use yt_base::Memory;
 
 fn token(kind: TokenKind, from: usize, to: usize) -> Token {
     Token { kind, from, to }
@@ -79,6 +83,18 @@ fn the_leftmost_fault_is_told_at_its_place(rt: HostRuntime) {
         let told = lex_line(rt.alloc(), line, 0).err();
         assert_eq!(rt; told, Some(refusal));
     }
+}
+
+#[test]
+fn a_line_is_read_token_by_token(rt: HostRuntime) -> Result<(), Fail> {
+    let line = b" ab,\t-7 # c";
+    let Ok(()) = line_fault(line) else {
+        return Err(Fail::from(Memory));
+    };
+    let first = next_token(line, 0);
+    assert_eq!(rt; first, Some(token(TokenKind::Name, 1, 3)));
+    assert_eq!(rt; line_fault(b"a \"b").err(), Some(LexRefusal::OpenText(2)));
+    Ok(())
 }
 
 #[test]

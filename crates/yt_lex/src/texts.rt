@@ -1,7 +1,6 @@
 //! Texts in quotes.
 
 ghost use Rattle.std.specs.Prelude.{◌≡◌, ◌+◌, ◌^◌, ◌<◌, ◌≤◌, [], IfErr, IfOk, MatchOption, Ok, Err, drop, length};
-ghost use Rattle.yt_lex.specs.Answers.{Gives, itself};
 ghost use Rattle.yt_lex.specs.Texts.{closed, escaped, says, text_at, text_from};
 
 use crate::bytes::behind;
@@ -72,7 +71,7 @@ fn closed(opened: usize, count: usize, width: usize) -> Result<(TokenKind, usize
 /// A text behind its opening quote, which stands at `opened`.
 pub(crate) fn text_at(opened: usize, rest: &[u8]) -> Result<(TokenKind, usize), LexRefusal>
     requires { opened + 1 + length rest.now < 2 ^ 63 }
-    ensures gives { Gives itself result (text_at opened rest.now) }
+    ensures gives { result ≡ text_at opened rest.now }
     ensures within { IfOk result (λ x. (1 ≤ x.1) × (x.1 ≤ 1 + length rest.now)) }
 {
     let mut count = 0;

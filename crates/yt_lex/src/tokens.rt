@@ -1,7 +1,6 @@
 //! The longest token at the front of some bytes.
 
 ghost use Rattle.std.specs.Prelude.{◌≡◌, ◌+◌, ◌^◌, ◌<◌, ◌≤◌, IfOk, length};
-ghost use Rattle.yt_lex.specs.Answers.{Gives, itself};
 ghost use Rattle.yt_lex.specs.Bytes.{digits_of, run, is_digit};
 ghost use Rattle.yt_lex.specs.Tokens.{minus_at, null_at, number_at, point_at, sign, token_at};
 
@@ -18,7 +17,7 @@ fn number_at(
     digits: &[u8],
 ) -> Result<(TokenKind, usize), LexRefusal>
     requires { sign + length digits.now < 2 ^ 63 }
-    ensures gives { Gives itself result (number_at place negative sign digits.now) }
+    ensures gives { result ≡ number_at place negative sign digits.now }
     ensures within { IfOk result (λ x. (1 ≤ x.1) × (x.1 ≤ sign + length digits.now)) }
 {
     let count = digit_run(digits);
@@ -34,7 +33,7 @@ fn number_at(
 #[tactic(auto, unfolding(crate::specs::Tokens::minus_at))]
 fn minus_at(place: usize, rest: &[u8]) -> Result<(TokenKind, usize), LexRefusal>
     requires { 1 + length rest.now < 2 ^ 63 }
-    ensures gives { Gives itself result (minus_at place rest.now) }
+    ensures gives { result ≡ minus_at place rest.now }
     ensures within { IfOk result (λ x. (1 ≤ x.1) × (x.1 ≤ 1 + length rest.now)) }
 {
     match rest {
@@ -47,7 +46,7 @@ fn minus_at(place: usize, rest: &[u8]) -> Result<(TokenKind, usize), LexRefusal>
 #[tactic(auto, unfolding(crate::specs::Tokens::point_at))]
 fn point_at(place: usize, update: &[u8], rest: &[u8]) -> Result<(TokenKind, usize), LexRefusal>
     requires { length update.now + length rest.now < 2 ^ 63 }
-    ensures gives { Gives itself result (point_at place update.now rest.now) }
+    ensures gives { result ≡ point_at place update.now rest.now }
     ensures within { IfOk result (λ x. (1 ≤ x.1) × (x.1 ≤ 1 + length update.now + length rest.now)) }
 {
     let [b'.', digits @ ..] = rest else {
@@ -65,7 +64,7 @@ fn point_at(place: usize, update: &[u8], rest: &[u8]) -> Result<(TokenKind, usiz
 
 #[tactic(auto, unfolding(crate::specs::Tokens::null_at))]
 fn null_at(place: usize, rest: &[u8]) -> Result<(TokenKind, usize), LexRefusal>
-    ensures gives { Gives itself result (null_at place rest.now) }
+    ensures gives { result ≡ null_at place rest.now }
     ensures within { IfOk result (λ x. (1 ≤ x.1) × (x.1 ≤ 1 + length rest.now)) }
 {
     let count = digit_run(rest);
@@ -92,7 +91,7 @@ fn sign(byte: u8) -> Option<TokenKind>
 #[tactic(auto, unfolding(crate::specs::Tokens::token_at))]
 pub(crate) fn token_at(place: usize, bytes: &[u8]) -> Result<(TokenKind, usize), LexRefusal>
     requires { place + length bytes.now < 2 ^ 63 }
-    ensures gives { Gives itself result (token_at place bytes.now) }
+    ensures gives { result ≡ token_at place bytes.now }
     ensures within { IfOk result (λ x. (1 ≤ x.1) × (x.1 ≤ length bytes.now)) }
 {
     let [byte, rest @ ..] = bytes else {

@@ -1,29 +1,14 @@
 -- A text cut at its first line feed.
-use Rattle.std.specs.Prelude.{◌≡◌, ◌<◌, ℕ, not, false, List, [], ◌∷◌, ◌++◌, ◌+◌, length, take, drop}
-use Rattle.std.proofs.Common.{refl, sym, ap, ◌∙◌, arith, take_all, get_or}
+use Rattle.std.specs.Prelude.{◌≡◌, ◌<◌, ℕ, List, ◌∷◌, ◌++◌, ◌+◌, length, take, drop}
+use Rattle.std.proofs.Common.{sym, ap, ◌∙◌, arith, get_or}
 use Rattle.std.proofs.lemmas.Bool.{false_from_ne_true}
 use Rattle.std.proofs.lemmas.Grind.{get_or_default_zero}
 use Rattle.std.proofs.lemmas.List.{drop_more, get_or-take, length-take-le, take-append-drop}
-use Rattle.std.proofs.lemmas.List.Elements.{All-head, All-tail}
 use Rattle.std.proofs.lemmas.List.Splits.{slice_split_at}
 use Rattle.memchr.specs.Find.{Nowhere, Passes, is_byte}
-use Rattle.yt_lex.specs.Bytes.{is_line_feed, run}
-use Rattle.yt_lex.specs.Lines.{line_of}
+use Rattle.yt_lex.specs.Bytes.{is_line_feed}
 use Rattle.yt_grammar.specs.Lines.{lines_of}
 use Rattle.yt_reader.specs.Places.{IsOneLine}
-
-all_run : (line : List ℕ) → IsOneLine line → run (λ b. not (is_line_feed b)) line ≡ length line
-all_run [] h = refl
-all_run (b ∷ rest) h =
-    let no : is_line_feed b ≡ false = All-head (λ c. is_line_feed c ≡ false) b rest h in
-    let more : run (λ c. not (is_line_feed c)) rest ≡ length rest = all_run rest (All-tail (λ c. is_line_feed c ≡ false) b rest h) in
-    rw no (omega (arith, more))
-
--- a line without a line feed is its own first line
-pub line_of_one : (line : List ℕ) → IsOneLine line → line_of line ≡ line
-line_of_one line h =
-    let all : run (λ b. not (is_line_feed b)) line ≡ length line = all_run line h in
-    take_all (run (λ b. not (is_line_feed b)) line) line (omega (arith, all))
 
 -- where no line feed is found there is none
 pub nowhere_one : (text : List ℕ) → Nowhere (Passes (is_byte 10) text) 0 (length text) → IsOneLine text

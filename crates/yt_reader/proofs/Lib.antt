@@ -1,5 +1,3 @@
 pub mod Cut
 pub mod Encoded
-pub mod Lexed
 pub mod Loop
-pub mod Places

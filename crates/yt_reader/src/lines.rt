@@ -8,7 +8,6 @@ ghost use Rattle.yt_grammar.specs.Forms.{section_of};
 ghost use Rattle.yt_grammar.specs.Lines.{begun, closed, line_at, line_in, line_with, lines_from, lines_of, numbered, open_line};
 ghost use Rattle.yt_lex.specs.Bytes.{is_line_feed};
 ghost use Rattle.yt_reader.specs.Answers.{Gives, GivesWhole};
-ghost use Rattle.yt_reader.specs.Places.{IsOneLine};
 ghost use Rattle.yt_reader.specs.States.{state_of};
 
 use crate::faults::{FaultKind, LineRefusal, ReadFailure, SessionFault};
@@ -16,7 +15,7 @@ use crate::split::first_line;
 use crate::words::words_at;
 use std::alloc::Global;
 use yt_checks::Draft;
-use yt_forms::{RawStatement, Section, Word, statement_at};
+use yt_forms::{RawStatement, Section, Words, statement_at};
 
 /// What has been read so far.
 #[derive(Drop)]
@@ -53,8 +52,8 @@ impl Reader {
 
     // A line that is not blank, where `end` has not been.
     #[tactic(auto, unfolding(yt_grammar::specs::Lines::open_line))]
-    fn open_line(&mut self, alloc: Global, words: &[Word]) -> Result<(), LineRefusal>
-        ensures { Gives (λ _. state_of self.new) result (open_line (state_of self.old) (words_meant words.now)) }
+    fn open_line(&mut self, alloc: Global, words: Words<'_>) -> Result<(), LineRefusal>
+        ensures { Gives (λ _. state_of self.new) result (open_line (state_of self.old) (words_meant words.entry)) }
     {
         let statement = statement_at(alloc, self.section, self.draft.format(), words)?;
         let section = section_of(&statement);
@@ -65,28 +64,25 @@ impl Reader {
 
     // A line with these words.
     #[tactic(auto, unfolding(yt_grammar::specs::Lines::line_with))]
-    fn line_with(&mut self, alloc: Global, words: &[Word]) -> Result<(), LineRefusal>
-        ensures { Gives (λ _. state_of self.new) result (line_with (state_of self.old) (words_meant words.now)) }
+    fn line_with(&mut self, alloc: Global, words: Words<'_>) -> Result<(), LineRefusal>
+        ensures { Gives (λ _. state_of self.new) result (line_with (state_of self.old) (words_meant words.entry)) }
     {
-        match words {
-            [] => Ok(()),
-            [_word, ..] => {
-                if self.section == Section::Ended {
-                    return Err(LineRefusal::Fault(FaultKind::AfterEnd));
-                }
-                self.open_line(alloc, words)
-            }
+        if words.split_first().is_none() {
+            return Ok(());
         }
+        if self.section == Section::Ended {
+            return Err(LineRefusal::Fault(FaultKind::AfterEnd));
+        }
+        self.open_line(alloc, words)
     }
 
     // The line that begins at the place.
     fn line_at(&mut self, alloc: Global, start: usize, line: &[u8]) -> Result<(), LineRefusal>
-        requires one_line { IsOneLine line.now }
-        requires place { start + length line.now < 2 ^ 64 }
+        requires { start + length line.now < 2 ^ 64 }
         ensures { Gives (λ _. state_of self.new) result (line_at start (state_of self.old) line.now) }
     {
-        let words = words_at(alloc, start, line)?;
-        self.line_with(alloc, words.as_slice())
+        let words = words_at(start, line)?;
+        self.line_with(alloc, words)
     }
 
     // The line of the number, which begins at the place.
@@ -97,8 +93,7 @@ impl Reader {
         start: usize,
         line: &[u8],
     ) -> Result<(), ReadFailure>
-        requires one_line { IsOneLine line.now }
-        requires place { start + length line.now < 2 ^ 64 }
+        requires { start + length line.now < 2 ^ 64 }
         ensures { GivesWhole (λ _. state_of self.new) result (numbered number (line_at start (state_of self.old) line.now)) }
     {
         match self.line_at(alloc, start, line) {

@@ -7,7 +7,6 @@ ghost use Rattle.yt_grammar.specs.Meaning.{fact_of};
 ghost use Rattle.yt_grammar.specs.Statements.{WrittenFact};
 ghost use Rattle.yt_reader.specs.Answers.{Gives};
 ghost use Rattle.yt_reader.specs.Facts.{Says, SpellsFact, fact_on};
-ghost use Rattle.yt_reader.specs.Places.{IsOneLine};
 
 use crate::faults::LineRefusal;
 use crate::split::is_one_line;
@@ -31,11 +30,10 @@ pub enum TupleText {
 
 // The fact that the words of a line are.
 fn fact_on(alloc: Global, line: &[u8]) -> Result<RawFact, LineRefusal>
-    requires one_line { IsOneLine line.now }
     ensures { Gives fact_meant result (fact_on line.now) }
 {
-    let words = words_at(alloc, 0, line)?;
-    Ok(whole_fact(alloc, words.as_slice())?)
+    let words = words_at(0, line)?;
+    Ok(whole_fact(alloc, words)?)
 }
 
 // The fact that a text spells, if it spells one.

@@ -7,7 +7,7 @@ use Rattle.yt_forms.proofs.Items.{Keeps}
 use Rattle.yt_forms.proofs.mappings.right_atoms.Given as goal
 
 abbrev pub invariant-items : goal.invariant-items
-invariant-items l = Keeps right_atom (map atom_meant l.found.items) (words_of l.rest) (length l.rest) (many (length l.words) right_atom (words_of l.words)) × (length l.rest ≤ length l.words)
+invariant-items l = Keeps right_atom (map atom_meant l.found.items) (words_of l.rest) (length (words_of l.rest)) (many (length (words_of l.words)) right_atom (words_of l.words)) × (length (words_of l.rest) ≤ length (words_of l.words))
 
 abbrev pub decreases-items : goal.decreases-items
-decreases-items l = length l.rest
+decreases-items l = length (words_of l.rest)

@@ -8,7 +8,7 @@ use Rattle.yt_forms.proofs.Items.{Keeps}
 use Rattle.yt_forms.proofs.parts.values_at.Given as goal
 
 abbrev pub invariant-items : goal.invariant-items
-invariant-items l = Keeps (item_at missing.Value value_of) (map datum_of l.found.items) (words_of l.rest) (length l.rest) (many (length l.words) (item_at missing.Value value_of) (words_of l.words)) × (length l.rest ≤ length l.words)
+invariant-items l = Keeps (item_at missing.Value value_of) (map datum_of l.found.items) (words_of l.rest) (length (words_of l.rest)) (many (length (words_of l.words)) (item_at missing.Value value_of) (words_of l.words)) × (length (words_of l.rest) ≤ length (words_of l.words))
 
 abbrev pub decreases-items : goal.decreases-items
-decreases-items l = length l.rest
+decreases-items l = length (words_of l.rest)

@@ -21,13 +21,13 @@ returns-then-byte-eq35-clause-gives c = comments c.args.start _ c.loop-place.pla
 pub returns-in_err-kind-clause-gives : goal.returns-in_err-kind-clause-gives
 returns-in_err-kind-clause-gives c =
     let p = err_from_is_err_and c.from_residual.result c.from_residual.ensures.1 in
-    rw (p.1, p.2) (refuses c.args.start _ c.loop-place.place c.args.line.now _ c.loop-place-test.true c.loop-place.invariant.together c.in_err-kind.field-0.0 (sym c.is_blank.ensures ∙ c.if-is_blank.false) (ne_eqb _ _ c.if-byte-eq35.false) (rw c.behind.ensures at c.in_err-kind.ensures.gives))
+    rw (p.1, p.2) (refuses c.args.start _ c.loop-place.place c.args.line.now _ c.loop-place-test.true c.loop-place.invariant.together c.in_err-kind.field-0.0 (sym c.is_blank.ensures ∙ c.if-is_blank.false) (ne_eqb _ _ c.if-byte-eq35.false) (rw c.behind.ensures at (sym c.in_err-kind.ensures.gives)))
 
 pub loop-place-preserved : goal.loop-place-preserved
 loop-place-preserved c = record {
-  together = rw c.in_ok-push.ensures.items (tokens_on c.args.start _ c.loop-place.place c.args.line.now _ c.loop-place-test.true c.loop-place.invariant.together c.in_ok-kind.kind c.in_ok-kind.width (sym c.is_blank.ensures ∙ c.if-is_blank.false) (ne_eqb _ _ c.if-byte-eq35.false) (rw c.behind.ensures at c.in_ok-kind.ensures.gives) c.in_ok-kind.ensures.within.0 (rw c.behind.ensures at c.in_ok-kind.ensures.within.1));
-  spelled = rw c.in_ok-push.ensures.items (one_more c.args.start c.loop-place.place c.args.line.now _ c.in_ok-kind.kind c.in_ok-kind.width c.loop-place-test.true (rw c.behind.ensures at c.in_ok-kind.ensures.gives) c.in_ok-kind.ensures.within.0 (rw c.behind.ensures at c.in_ok-kind.ensures.within.1) c.loop-place.invariant.spelled);
-  longest = rw c.in_ok-push.ensures.items (longest_more c.args.start c.loop-place.place c.args.line.now _ c.in_ok-kind.kind c.in_ok-kind.width (rw c.behind.ensures at c.in_ok-kind.ensures.gives) c.loop-place.invariant.longest);
+  together = rw c.in_ok-push.ensures.items (tokens_on c.args.start _ c.loop-place.place c.args.line.now _ c.loop-place-test.true c.loop-place.invariant.together c.in_ok-kind.kind c.in_ok-kind.width (sym c.is_blank.ensures ∙ c.if-is_blank.false) (ne_eqb _ _ c.if-byte-eq35.false) (rw c.behind.ensures at (sym c.in_ok-kind.ensures.gives)) c.in_ok-kind.ensures.within.0 (rw c.behind.ensures at c.in_ok-kind.ensures.within.1));
+  spelled = rw c.in_ok-push.ensures.items (one_more c.args.start c.loop-place.place c.args.line.now _ c.in_ok-kind.kind c.in_ok-kind.width c.loop-place-test.true (rw c.behind.ensures at (sym c.in_ok-kind.ensures.gives)) c.in_ok-kind.ensures.within.0 (rw c.behind.ensures at c.in_ok-kind.ensures.within.1) c.loop-place.invariant.spelled);
+  longest = rw c.in_ok-push.ensures.items (longest_more c.args.start c.loop-place.place c.args.line.now _ c.in_ok-kind.kind c.in_ok-kind.width (rw c.behind.ensures at (sym c.in_ok-kind.ensures.gives)) c.loop-place.invariant.longest);
   within = omega (arith, (rw c.behind.ensures at c.in_ok-kind.ensures.within.1), length-drop c.loop-place.place c.args.line.now);
 }
 

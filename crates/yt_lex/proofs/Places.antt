@@ -3,13 +3,12 @@ use Rattle.std.specs.Prelude.{◌≤◌, ℕ, zero, suc, ◌+◌, ◌-◌, nat_l
 use Rattle.std.proofs.Common.{arith}
 use Rattle.yt_lex.specs.declared.TokenKind.{TokenKind}
 use Rattle.yt_lex.specs.declared.LexRefusal.{LexRefusal}
-use Rattle.yt_lex.specs.Answers.{◌>>=◌}
+use Rattle.yt_lex.specs.Answers.{◌>>=◌, place_in}
 use Rattle.yt_lex.specs.Bytes.{begins_name, is_digit, is_blank, run, digits_of}
 use Rattle.yt_lex.specs.Numbers.{is_wide, is_wide_part}
 use Rattle.yt_lex.specs.Texts.{escaped, says, says_escaped, text_from, text_at}
 use Rattle.yt_lex.specs.Tokens.{number_at, minus_at, point_at, null_at, sign, sign_at, token_at}
 use Rattle.yt_lex.specs.Lines.{tokens_at}
-use Rattle.yt_reader.specs.Places.{place_in}
 
 -- a fault, if there is one, stands at no place behind n
 abbrev pub Within : {A : Type 0} → ℕ → Result A LexRefusal → Type 0

@@ -1,0 +1,29 @@
+-- The words of a line from a place on.
+use Rattle.std.proofs.Common.{◌≡◌, ℕ, true, List, [], ◌∷◌, map, refl}
+use Rattle.std.specs.Prelude.{Result, Ok, Err, is_ok}
+use Rattle.yt_lex.specs.declared.Token.{Token}
+use Rattle.yt_lex.specs.declared.LexRefusal.{LexRefusal}
+use Rattle.yt_lex.specs.Answers.{◌>>=◌}
+use Rattle.yt_lex.specs.Lines.{is_faultless, tokens_at, tokens_from, with_front}
+use Rattle.yt_grammar.specs.Words.{word_of, words_at}
+use Rattle.yt_forms.specs.Views.{found, words_from}
+
+-- a line without fault has words
+pub all_words : (line : List ℕ) → is_faultless 0 line ≡ true → words_at line ≡ Ok (words_from 0 line)
+all_words line faultless = by (tokens_at 0 0 line) faultless where
+  by : (read : Result (List Token) LexRefusal) → is_ok read ≡ true → (read >>= (λ tokens. Ok (map (word_of line) tokens))) ≡ Ok (map (word_of line) (found read))
+  by (Ok tokens) e = refl
+  by (Err refusal) e = let f : ⊥ = cc in absurd f
+
+pub fault_told : (line : List ℕ) (refusal : LexRefusal) → tokens_at 0 0 line ≡ Err refusal → words_at line ≡ Err refusal
+fault_told line refusal e = rw e refl
+
+pub no_word : (line : List ℕ) (place : ℕ) → tokens_from place line ≡ Ok [] → words_from place line ≡ []
+no_word line place e = rw e refl
+
+pub one_word : (line : List ℕ) (place : ℕ) (token : Token) → tokens_from place line ≡ with_front (token ∷ []) (tokens_from token.to line) → is_faultless token.to line ≡ true
+    → words_from place line ≡ word_of line token ∷ words_from token.to line
+one_word line place token e faultless = by (tokens_from place line) (tokens_from token.to line) e faultless where
+  by : (whole behind : Result (List Token) LexRefusal) → whole ≡ with_front (token ∷ []) behind → is_ok behind ≡ true → map (word_of line) (found whole) ≡ word_of line token ∷ map (word_of line) (found behind)
+  by whole (Ok tokens) e ok = rw e refl
+  by whole (Err refusal) e ok = let f : ⊥ = cc in absurd f
