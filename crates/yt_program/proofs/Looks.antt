@@ -1,17 +1,18 @@
 -- A look that passes mappings by, and where it ends.
-use Rattle.std.proofs.Common.{◌≡◌, ◌∙◌, ℕ, zero, suc, ◌<◌, ◌≤◌, arith, ap, sym, subst, refl, Bool, true, false, cond, List, [], ◌∷◌, map, drop, length, Option, Some, None}
+use Rattle.std.proofs.Common.{◌≡◌, ◌∙◌, ℕ, zero, suc, ◌<◌, ◌≤◌, arith, ap, sym, refl, Bool, true, false, cond, List, [], ◌∷◌, map, drop, length, Some, None}
 use Rattle.std.specs.Prelude.{◌==◌, nat_lt, slice_get}
 use Rattle.std.specs.Option.{option_map}
 use Rattle.std.proofs.lemmas.Bool.{ne_eqb}
 use Rattle.std.proofs.lemmas.Bool.Decides.{nat_tests}
 use Rattle.yt_model.proofs.Maps.{get_map}
 use Rattle.yt_machine.specs.Trees.{Node}
-use Rattle.yt_model.specs.Queries.{Present}
+use Rattle.yt_model.specs.Queries.{Present, Violation}
 use Rattle.yt_model.specs.Mappings.{Rule, force}
 use Rattle.yt_base.specs.declared.mappings.Mapping.{Mapping}
 use Rattle.yt_base.specs.Meanings.{rule_of}
 use Rattle.yt_steps.specs.Attempts.{Attempt, Ended, Done}
-use Rattle.yt_steps.specs.Steps.{Asking, makes, is_yes, look_at, look_from}
+use Rattle.yt_steps.specs.Steps.{Asking, makes, is_yes, image_in, look_at, look_from}
+use Rattle.yt_program.specs.Rows.{Violating, repaired, row_tree}
 
 -- What stands at a place comes before what stands after it.
 pub here : {A : Type 0} (xs : List A) (k j : ℕ) (x : A) → j ≡ suc k → slice_get xs k ≡ Some x → x ∷ drop j xs ≡ drop k xs
@@ -65,3 +66,10 @@ passes_by P xs k j x e h l =
     let ms = map rule_of xs in
     let found : slice_get ms k ≡ Some (rule_of x) = get_map rule_of xs k ∙ ap (option_map rule_of) (sym h) in
     ap (look_from P k) (sym (here ms k j (rule_of x) e found)) ∙ (skipped P k (rule_of x) (drop j ms) l ∙ ap (λ n. look_from P n (drop j ms)) (sym e))
+
+-- A mapping that is in force from the start is looked at unasked.
+pub looks_at : (P : Attempt) (ms : List Rule) (k : ℕ) (m : Rule) → m.since ≡ 0 → slice_get ms k ≡ Some m → row_tree ms P (Violating k) ≡ look_from P k (m ∷ drop (suc k) ms)
+looks_at P ms k m e h =
+    let rest = look_from P (suc k) (drop (suc k) ms) in
+    (λ i. Node (Violation k) (λ a. repaired P k (h i) (image_in a) rest))
+    ∙ sym (ap (λ n. cond (n == 0) (look_at P k m rest) (cond (nat_lt P.number m.since) rest (Node (Present (force k)) (λ a. cond (is_yes a) (look_at P k m rest) rest)))) e)

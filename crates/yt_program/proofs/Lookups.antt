@@ -1,5 +1,5 @@
 -- The first of the tuples that were found, and what a named null stands for.
-use Rattle.std.proofs.Common.{◌≡◌, ◌∙◌, ap, refl, sym, Bool, true, false, cond, List, [], ◌∷◌, map, find, Option, Some, None, unwrap_or, pos}
+use Rattle.std.proofs.Common.{◌≡◌, ◌∙◌, ap, refl, Bool, true, false, cond, List, [], ◌∷◌, map, find, Option, Some, None, unwrap_or, pos}
 use Rattle.std.specs.Prelude.{slice_get, ◌↔◌, IsTrue}
 use Rattle.std.specs.Option.{option_map}
 use Rattle.yt_model.specs.Values.{NullName, Datum, Number, Text, Unknown, Fact, same_datum}
@@ -7,9 +7,9 @@ use Rattle.yt_base.specs.declared.tuples.Tuple.{Tuple}
 use Rattle.yt_base.specs.declared.values.Value.{Value}
 use Rattle.yt_base.specs.Meanings.{datum_of, fact_of}
 use Rattle.yt_steps.specs.Rewriting.{standing_for}
-use Rattle.yt_steps.specs.Steps.{Holders, null_for, resolve, unless_none, Asking, makes}
+use Rattle.yt_steps.specs.Steps.{Holders, resolve, unless_none, Asking, makes}
 use Rattle.yt_steps.specs.Attempts.{Ended, Refused}
-use Rattle.yt_program.specs.Found.{Found, found_in, is_found, stands_for, settled, first_named, some_of}
+use Rattle.yt_program.specs.Found.{found_in, is_found, settled, first_named, some_of}
 
 -- Tuples that are not none.
 pub some_full : (ts : List Tuple) (b : Bool) → (IsTrue b ↔ (ts ≡ [])) → b ≡ false → Some (map fact_of ts) ≡ some_of (map fact_of ts)

@@ -1,5 +1,5 @@
 -- The look-ups of named nulls, one by one.
-use Rattle.std.proofs.Common.{◌≡◌, ◌∙◌, ℕ, zero, suc, ap, sym, refl, List, [], ◌∷◌, ◌++◌, map, drop, append_assoc, Option, Some, None}
+use Rattle.std.proofs.Common.{◌≡◌, ◌∙◌, ℕ, zero, suc, ap, sym, refl, List, [], ◌∷◌, ◌++◌, map, drop, append_assoc, Some, None}
 use Rattle.std.specs.Prelude.{slice_get, if◌then◌else◌}
 use Rattle.yt_machine.specs.Trees.{Node}
 use Rattle.yt_model.specs.Values.{NullName, Datum, Fact, under}
@@ -11,7 +11,7 @@ use Rattle.yt_base.specs.declared.nulls.Null.{Null}
 use Rattle.yt_base.specs.Meanings.{null_of}
 use Rattle.yt_steps.specs.Attempts.{Attempt, Look}
 use Rattle.yt_steps.specs.Rewriting.{nulls_in, standing_for}
-use Rattle.yt_steps.specs.Steps.{Asking, makes, is_yes, tuples_of, unless_none, find_nulls, start}
+use Rattle.yt_steps.specs.Steps.{makes, is_yes, tuples_of, unless_none, find_nulls, start}
 use Rattle.yt_program.specs.Found.{Found, found_in}
 use Rattle.yt_program.specs.Rows.{Naming, Replacing, row_tree, present, named, replaced}
 use Rattle.yt_program.proofs.Lookups.{settled_is}

@@ -1,5 +1,5 @@
 -- Nulls that stand for the named ones, and their replacement.
-use Rattle.std.proofs.Common.{◌≡◌, ◌∙◌, ap, refl, sym, subst, Bool, true, false, ◌&&◌, ◌||◌, cond, List, [], ◌∷◌, map, find, Option, Some, None, unwrap_or, pos}
+use Rattle.std.proofs.Common.{◌≡◌, ◌∙◌, ap, refl, sym, subst, Bool, true, false, ◌&&◌, ◌||◌, cond, List, [], ◌∷◌, find, Option, Some, None, unwrap_or, pos}
 use Rattle.std.specs.List.{list_any}
 use Rattle.yt_model.specs.Values.{NullName, Datum, Number, Text, Unknown, Fact}
 use Rattle.yt_model.specs.Queries.{Reply, Yes, No, Image, Nothing, Tuples, is_named, holds_null}

@@ -1,5 +1,5 @@
 -- What the named nulls of an operation stand for, as far as they have been looked up.
-use Rattle.std.specs.Prelude.{Bool, List, [], ◌∷◌, map, Option, Some, None, find, unwrap_or, pos}
+use Rattle.std.specs.Prelude.{Bool, List, [], ◌∷◌, Option, Some, None, find, unwrap_or, pos}
 use Rattle.std.specs.Option.{option_map}
 use Rattle.yt_model.specs.Values.{NullName, Datum, Number, Text, Unknown, Fact, same_datum}
 use Rattle.yt_model.specs.Queries.{is_named, Reply}

@@ -1,5 +1,5 @@
 -- What the types that say where a step stands mean.
-use Rattle.std.specs.Prelude.{List, [], map, drop}
+use Rattle.std.specs.Prelude.{[], map, drop}
 use Rattle.yt_model.specs.Values.{NullName, Datum, Unknown, Fact}
 use Rattle.yt_model.specs.Queries.{Query, Present, Violation, Specific, Occurs}
 use Rattle.yt_base.specs.Meanings.{null_of, datum_of, fact_of}

@@ -1,7 +1,7 @@
 -- Where a step in hand stands, as data, and how it goes on by the answer to the query that it asks.
 use Rattle.std.specs.Prelude.{ℕ, suc, Bool, if◌then◌else◌, List, [], ◌∷◌, ◌++◌, map, drop, Option, Some, None}
 use Rattle.std.specs.List.{slice_get}
-use Rattle.yt_machine.specs.Trees.{Tree, Leaf, Node}
+use Rattle.yt_machine.specs.Trees.{Node}
 use Rattle.yt_model.specs.Values.{NullName, Datum, Fact, under}
 use Rattle.yt_model.specs.Repository.{Insert, Delete}
 use Rattle.yt_model.specs.Mappings.{Rule, force}
@@ -9,7 +9,7 @@ use Rattle.yt_model.specs.Queries.{Query, Present, Violation, Occurs, Reply}
 use Rattle.yt_model.specs.Updates.{Operation, Adds, Removes, Replaces, Enacts}
 use Rattle.yt_steps.specs.Attempts.{Phase, Start, Look, Attempt}
 use Rattle.yt_steps.specs.Rewriting.{rewrite, replacing, null_of, standing_for}
-use Rattle.yt_steps.specs.Steps.{Asking, Holders, makes, tuples_of, is_yes, image_in, resolve, unless_none, find_nulls, repair_or, look_at, look_from}
+use Rattle.yt_steps.specs.Steps.{Asking, makes, tuples_of, is_yes, image_in, resolve, unless_none, find_nulls, repair_or, look_at, look_from}
 use Rattle.yt_chase.specs.Repairs.{Repairing, phase_of, tree_in}
 use Rattle.yt_chase.specs.Stands.{wanted, query_in, branch}
 use Rattle.yt_program.specs.Found.{Found, found_in, settled}

@@ -1,5 +1,5 @@
 -- What a `Program` stands for, and what is true of each.
-use Rattle.std.specs.Prelude.{◌≡◌, ℕ, ◌<◌, ◌≤◌, ◌*◌, List, map, Option, Some, None, is_some, true}
+use Rattle.std.specs.Prelude.{◌≡◌, ◌<◌, ◌≤◌, ◌*◌, map, is_some, true}
 use Rattle.std.specs.Option.{option_map}
 use Rattle.yt_base.specs.Meanings.{operation_of, change_of}
 use Rattle.yt_steps.specs.Attempts.{question_in}

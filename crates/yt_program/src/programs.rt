@@ -16,7 +16,7 @@ ghost use Rattle.yt_program.specs.TurnMeanings.{move_of, turn_tree, IsTurnOf};
 
 use crate::answering::answered;
 use crate::ends::{End, Want};
-use crate::looking::look;
+use crate::looking::{look, looks_on};
 use crate::mending::{chosen, generated, mended};
 use crate::moves::Move;
 use crate::points::Point;
@@ -156,6 +156,42 @@ impl Program {
     /// Takes the answer to the query that is asked, and goes on by it up to the next query or the end of the step. While
     /// the step asks, the attempt stays as it was.
     pub fn take(
+        &mut self,
+        alloc: Global,
+        answer: &Answer,
+        mappings: &MappingList,
+    ) -> Result<(), Memory>
+        requires within { AreWithin (map rule_of mappings.now.items) }
+        requires kind { TakesAnswer (map rule_of mappings.now.items) (wish self.old) (reply_of answer.now) }
+        ensures step { OnOk result (course (map rule_of mappings.now.items) self.new ≡ by_reply (course (map rule_of mappings.now.items) self.old) (reply_of answer.now)) }
+        ensures attempt { is_some self.new.reading ≡ true → self.new.attempt ≡ self.old.attempt }
+        ensures err { OnErr result (self.new ≡ self.old) }
+    {
+        if self.looks_on(answer, mappings) {
+            return Ok(());
+        }
+        self.goes_on(alloc, answer, mappings)
+    }
+
+    // Goes on in place in a look that finds no violation of a mapping, where the next one that may be in force is so from
+    // the start, and says so. Else the program stays as it is.
+    fn looks_on(&mut self, answer: &Answer, mappings: &MappingList) -> bool
+        requires within { AreWithin (map rule_of mappings.now.items) }
+        ensures step { result ≡ true → course (map rule_of mappings.now.items) self.new ≡ by_reply (course (map rule_of mappings.now.items) self.old) (reply_of answer.now) }
+        ensures attempt { self.new.attempt ≡ self.old.attempt }
+        ensures stays { result ≡ false → self.new ≡ self.old }
+    {
+        match &mut self.point {
+            Point::Reading(reading) => looks_on(reading, self.number, answer, mappings),
+            Point::Start => false,
+            Point::Look => false,
+            Point::Repair(_) => false,
+            Point::Ended(_) => false,
+        }
+    }
+
+    // Goes on by the answer up to the next query or the end of the step.
+    fn goes_on(
         &mut self,
         alloc: Global,
         answer: &Answer,

@@ -1,4 +1,4 @@
-use Rattle.std.proofs.Common.{◌≡◌, ◌∙◌, ◌+◌, arith, ap, sym, map, Option}
+use Rattle.std.proofs.Common.{◌∙◌, ◌+◌, arith, ap, sym}
 use Rattle.std.specs.Option.{option_map}
 use Rattle.yt_model.proofs.Maps.{get_map}
 use Rattle.yt_base.specs.Meanings.{rule_of}

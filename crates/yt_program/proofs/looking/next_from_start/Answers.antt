@@ -1,0 +1,15 @@
+use Rattle.std.proofs.Common.{◌∙◌, suc, arith, ap, map}
+use Rattle.yt_base.specs.Meanings.{rule_of}
+use Rattle.yt_steps.specs.Steps.{look_from}
+use Rattle.yt_program.proofs.Looks.{here, looks_at}
+use Rattle.yt_program.proofs.looking.next_from_start.Goals as goal
+
+pub returns-then-mapping-eq0 : goal.returns-then-mapping-eq0
+returns-then-mapping-eq0 c =
+    let ms = map rule_of c.args.mappings.now.items in
+    let k = c.in-Some.place in
+    let m = rule_of c.in-Some.mapping.now in
+    record {
+      look = λ P e. looks_at P ms k m c.if-mapping-eq0.true c.in-Some.ensures.found
+          ∙ (ap (look_from P k) (here ms k (suc k) m (omega arith) c.in-Some.ensures.found) ∙ c.in-Some.ensures.passed P e);
+    }
