@@ -5,3 +5,4 @@ pub mod OuterForms
 pub mod Known
 pub mod Images
 pub mod Gathering
+pub mod Turns

@@ -39,6 +39,7 @@ pub mod facts;
 pub mod lists;
 pub mod mappings;
 pub mod nulls;
+mod orders;
 pub mod outer;
 pub mod substitutions;
 pub mod tuples;

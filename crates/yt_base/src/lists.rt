@@ -4,6 +4,7 @@ ghost use Rattle.std.specs.Option.{option_copied};
 ghost use Rattle.std.specs.Cmp.{on_equiv, on_total, on_po, on_per};
 ghost use Rattle.std.specs.Cmp.Lexicographic.{slice_cmp, slice_partial_cmp, pointwise, lists_per, lists_equiv, lists_po, lists_total, lists_agrees, lists_ties};
 
+use crate::orders::order;
 use std::alloc::Global;
 use std::cmp::Ordering;
 use std::marker::Model;
@@ -180,6 +181,6 @@ impl<T: Ord> Ord for List<T> {
     ghost matches_eq = { λ v w. lists_ties T.cmp T.matches_eq v.items w.items };
 
     fn cmp(&self, other: &Self) -> Ordering {
-        self.as_slice().cmp(&other.as_slice())
+        order(self.as_slice(), other.as_slice())
     }
 }
