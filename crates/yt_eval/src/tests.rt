@@ -308,3 +308,59 @@ fn a_single_query_needs_no_view(rt: HostRuntime) -> Result<(), Fail> {
     assert!(rt; caused.is_same(&answer(alloc, FIRST_OVER_BASE[0][1])?));
     Ok(())
 }
+
+const ASKED_OF_BOTH: [Asked; 5] = [
+    Asked::Violation(0),
+    Asked::Violation(1),
+    Asked::Violation(2),
+    Asked::Present((1, &[Int(4)])),
+    Asked::Occurs(2, 1),
+];
+
+// Whether both views have one answer to each of the queries, also where it is asked again.
+fn answer_alike<F: Facts>(
+    alloc: Global,
+    watched: &mut WatchedView<'_, F>,
+    view: &View<'_, F>,
+    direction: Direction,
+) -> Result<bool, Memory> {
+    let mappings = mappings(alloc)?;
+    let mut alike = true;
+    for asked in &ASKED_OF_BOTH {
+        let query = query(alloc, *asked)?;
+        let wanted = view.eval(&query, &mappings, direction, alloc)?;
+        let first = watched.eval(&query, alloc)?;
+        let again = watched.eval(&query, alloc)?;
+        alike = alike && first.is_same(&wanted) && again.is_same(&wanted);
+    }
+    Ok(alike)
+}
+
+// Both views answer alike before and after each of the writes.
+fn stay_alike<F: Facts>(
+    rt: &impl Abort,
+    alloc: Global,
+    base: &F,
+    mappings: &MappingList,
+    direction: Direction,
+) -> Result<(), Fail> {
+    let own = writes(alloc, &EARLIER)?;
+    let mut watched = WatchedView::new(alloc, base, mappings, direction)?;
+    let mut view = View::new(alloc, base);
+    for write in own.as_slice() {
+        assert!(rt; answer_alike(alloc, &mut watched, &view, direction)?);
+        watched.write(alloc, write)?;
+        view.write(alloc, write)?;
+    }
+    assert!(rt; answer_alike(alloc, &mut watched, &view, direction)?);
+    Ok(())
+}
+
+#[test]
+fn a_watched_view_answers_as_a_view(rt: HostRuntime) -> Result<(), Fail> {
+    let alloc = rt.alloc();
+    let base = base(alloc)?;
+    let mappings = mappings(alloc)?;
+    stay_alike(&rt, alloc, &base, &mappings, Direction::Forward)?;
+    stay_alike(&rt, alloc, &base, &mappings, Direction::Backward)
+}
