@@ -15,9 +15,6 @@ all_words line faultless = by (tokens_at 0 0 line) faultless where
   by (Ok tokens) e = refl
   by (Err refusal) e = let f : ⊥ = cc in absurd f
 
-pub fault_told : (line : List ℕ) (refusal : LexRefusal) → tokens_at 0 0 line ≡ Err refusal → words_at line ≡ Err refusal
-fault_told line refusal e = rw e refl
-
 pub no_word : (line : List ℕ) (place : ℕ) → tokens_from place line ≡ Ok [] → words_from place line ≡ []
 no_word line place e = rw e refl
 

@@ -1,6 +1,6 @@
 -- A line, step by step: what stands first from a place on, and the tokens behind it.
 use Rattle.std.proofs.Common.{◌≡◌, ℕ, ◌+◌, ◌-◌, ◌<◌, ◌≤◌, true, false, List, [], ◌∷◌, refl, sym, ap, ap₂, ◌∙◌, arith, take, drop, length, get_or, subst}
-use Rattle.std.specs.Prelude.{Result, Ok, Err, ◌==◌, is_ok}
+use Rattle.std.specs.Prelude.{Result, Ok, Err, ◌==◌}
 use Rattle.std.proofs.lemmas.List.{drop_all, length-drop, drop-drop}
 use Rattle.yt_lex.specs.declared.TokenKind.{TokenKind}
 use Rattle.yt_lex.specs.declared.Token.{Token}
@@ -66,14 +66,6 @@ over place line end = ap (tokens_at place 0) (drop_all place line end)
 abbrev pub checked : Result (List Token) LexRefusal → Result (Unit {0}) LexRefusal
 checked read = read >>= (λ _. Ok tt)
 
-pub checked_front : (front : List Token) (whole behind : Result (List Token) LexRefusal) → whole ≡ with_front front behind → checked behind ≡ checked whole
-checked_front front whole (Ok others) e = sym (ap checked e)
-checked_front front whole (Err refusal) e = sym (ap checked e)
-
-pub checked_ok : (read : Result (List Token) LexRefusal) → checked read ≡ Ok tt → is_ok read ≡ true
-checked_ok (Ok tokens) e = refl
-checked_ok (Err refusal) e = let f : ⊥ = cc in absurd f
-
 pub checked_fault : (refusal : LexRefusal) (read : Result (List Token) LexRefusal) → checked read ≡ Err refusal → read ≡ Err refusal
 checked_fault refusal (Ok tokens) e = let f : ⊥ = cc in absurd f
 checked_fault refusal (Err other) e = let same : other ≡ refusal = cc in ap (λ (r : LexRefusal). let read : Result (List Token) LexRefusal = Err r in read) same
@@ -81,8 +73,3 @@ checked_fault refusal (Err other) e = let same : other ≡ refusal = cc in ap (�
 -- the fault of a line stands in it or at its end
 pub told_within : (refusal : LexRefusal) (line : List ℕ) → tokens_at 0 0 line ≡ Err refusal → place_in refusal ≤ length line
 told_within refusal line e = let found : place_in refusal ≤ 0 + length line = subst (Within (0 + length line)) e (tokens_within 0 0 line) in omega (arith, found)
-
--- what stands behind a token of a line without fault has none either
-pub faultless_behind : (front : List Token) (whole behind : Result (List Token) LexRefusal) → whole ≡ with_front front behind → is_ok whole ≡ true → is_ok behind ≡ true
-faultless_behind front whole (Ok others) e ok = refl
-faultless_behind front whole (Err refusal) e ok = let no : false ≡ true = sym (ap is_ok e) ∙ ok in let f : ⊥ = cc in absurd f

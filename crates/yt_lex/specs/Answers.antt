@@ -24,10 +24,6 @@ abbrev pub Gives : {X Y : Type 0} → (X → Y) → Result X LexRefusal → Resu
 Gives view (Ok x) read = read ≡ Ok (view x)
 Gives view (Err refusal) read = Refuses refusal read
 
--- a value seen as itself
-abbrev pub itself : {X : Type 0} → X → X
-itself x = x
-
 -- what is read, and then what is made of it
 infixl 10 ◌>>=◌
 abbrev pub ◌>>=◌ : {A B : Type 0} → Result A LexRefusal → (A → Result B LexRefusal) → Result B LexRefusal
