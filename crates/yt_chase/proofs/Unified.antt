@@ -33,47 +33,47 @@ by_unifier : (ms : List Rule) (r : Repair) (t c : Fact) (f : Datum → Datum) (n
 by_unifier ms r t c f ns e h = λ i. gather (h i) (λ ts. makes (rewrite (e i) (in_order ts)) (next_atom ms (moved_repair (e i) r)))
 
 -- What the definition says of the answer at a stage.
-abbrev pub said : List Rule → Generation → Stage → Fact → Attempt → Stand
-said ms g stage o P = settled (phase_of (repairing_of g stage)) (step_in ms P (Some (Unify o)) (phase_of (repairing_of g stage)))
+abbrev pub said : List Rule → List Change → Generation → Stage → Fact → Attempt → Stand
+said ms own g stage o P = settled own (phase_of (repairing_of g stage)) (step_in ms P (Some (Unify o)) (phase_of (repairing_of g stage)))
 
-at_question : (ms : List Rule) (g : Generation) (stage : Stage) (q : Question) (m : ℕ) (t : Tuple) (cs : Listed Tuple) (o : Fact) (P : Attempt) → stage ≡ Waiting q → q ≡ Positive m t cs
-    → said ms g stage o P
-    ≡ settled (Asked (PositiveMeant (repair_of g) (fact_of t) (map fact_of cs.items))) (unify ms (repair_of g) (fact_of t) (candidate (fact_of t) (map fact_of cs.items) o))
-at_question ms g stage q m t cs o P is pos = ap (λ k. said ms g k o P) (is ∙ ap Waiting pos)
+at_question : (ms : List Rule) (own : List Change) (g : Generation) (stage : Stage) (q : Question) (m : ℕ) (t : Tuple) (cs : Listed Tuple) (o : Fact) (P : Attempt) → stage ≡ Waiting q → q ≡ Positive m t cs
+    → said ms own g stage o P
+    ≡ settled own (Asked (PositiveMeant (repair_of g) (fact_of t) (map fact_of cs.items))) (unify ms (repair_of g) (fact_of t) (candidate (fact_of t) (map fact_of cs.items) o))
+at_question ms own g stage q m t cs o P is pos = ap (λ k. said ms own g k o P) (is ∙ ap Waiting pos)
 
 no_nulls : (ns : List Null) → length ns ≡ 0 → map null_of ns ≡ []
 no_nulls [] e = refl
 no_nulls (n ∷ ns) e = absurd (omega arith)
 
 -- Where no null moves the step ends at once.
-pub ends_at_once : (ms : List Rule) (g : Generation) (stage : Stage) (q : Question) (m : ℕ) (t : Tuple) (cs : Listed Tuple) (o : Fact) (f : Datum → Datum) (ns : List Null) (es : List Tuple) (ws : List Change) (ph : Phase) → stage ≡ Waiting q → q ≡ Positive m t cs
+pub ends_at_once : (ms : List Rule) (own own' : List Change) (g : Generation) (stage : Stage) (q : Question) (m : ℕ) (t : Tuple) (cs : Listed Tuple) (o : Fact) (f : Datum → Datum) (ns : List Null) (es : List Tuple) (ph : Phase) → stage ≡ Waiting q → q ≡ Positive m t cs
     → f ≡ unifier (fact_of t) (candidate (fact_of t) (map fact_of cs.items) o) → map null_of ns ≡ moved_nulls (fact_of t) (candidate (fact_of t) (map fact_of cs.items) o) → length ns ≡ 0 → es ≡ []
-    → ws ≡ rewrite f (map fact_of es) → ph ≡ next_atom ms (moved_repair f (repair_of g)) → (P : Attempt) → Moved record { writes = ws; phase = ph; drawn = 0 } ≡ said ms g stage o P
-ends_at_once ms g stage q m t cs o f ns es ws ph is pos e h none empty w p P =
+    → own' ≡ own ++ rewrite f (map fact_of es) → ph ≡ next_atom ms (moved_repair f (repair_of g)) → (P : Attempt) → Moved own' ph 0 ≡ said ms own g stage o P
+ends_at_once ms own own' g stage q m t cs o f ns es ph is pos e h none empty w p P =
     let tf : Fact = fact_of t in
     let c : Fact = candidate tf (map fact_of cs.items) o in
-    let written : ws ≡ rewrite f [] = w ∙ ap (λ (l : List Tuple). rewrite f (map fact_of l)) empty in
-    (λ i. Moved record { writes = written i; phase = p i; drawn = 0 })
-    ∙ ap (settled (Asked (PositiveMeant (repair_of g) tf (map fact_of cs.items)))) (by_unifier ms (repair_of g) tf c f [] e (sym (no_nulls ns none) ∙ h))
-    ∙ sym (at_question ms g stage q m t cs o P is pos)
+    let written : own' ≡ own ++ rewrite f [] = w ∙ ap (λ (l : List Tuple). own ++ rewrite f (map fact_of l)) empty in
+    (λ i. Moved (written i) (p i) 0)
+    ∙ ap (settled own (Asked (PositiveMeant (repair_of g) tf (map fact_of cs.items)))) (by_unifier ms (repair_of g) tf c f [] e (sym (no_nulls ns none) ∙ h))
+    ∙ sym (at_question ms own g stage q m t cs o P is pos)
 
-asked_first : (p : Phase) (ms : List Rule) (r : Repair) (images : List (NullName × Datum)) (ns later : List Null) (n : Null) → 0 < length ns → n ≡ get_or ns 0 n → later ≡ remove ns 0
-    → Within p (Node (Occurs n.update n.place) (λ a. gather (map null_of later) (λ ts. unified ms r images (tuples_of a ++ ts)))) ≡ settled p (gather (map null_of ns) (λ ts. unified ms r images ts))
-asked_first p ms r images [] later n l e h = absurd (omega arith)
-asked_first p ms r images (x ∷ xs) later n l e h = λ i. Within p (Node (Occurs (e i).update (e i).place) (λ a. gather (map null_of (h i)) (λ ts. unified ms r images (tuples_of a ++ ts))))
+asked_first : (own : List Change) (p : Phase) (ms : List Rule) (r : Repair) (images : List (NullName × Datum)) (ns later : List Null) (n : Null) → 0 < length ns → n ≡ get_or ns 0 n → later ≡ remove ns 0
+    → Within own p (Node (Occurs n.update n.place) (λ a. gather (map null_of later) (λ ts. unified ms r images (tuples_of a ++ ts)))) ≡ settled own p (gather (map null_of ns) (λ ts. unified ms r images ts))
+asked_first own p ms r images [] later n l e h = absurd (omega arith)
+asked_first own p ms r images (x ∷ xs) later n l e h = λ i. Within own p (Node (Occurs (e i).update (e i).place) (λ a. gather (map null_of (h i)) (λ ts. unified ms r images (tuples_of a ++ ts))))
 
 -- Else the first null that moves is asked for.
-pub asks_first : (ms : List Rule) (g : Generation) (stage after : Stage) (q : Question) (m : ℕ) (t : Tuple) (cs : Listed Tuple) (o : Fact) (images : List (NullName × Datum)) (ns later : List Null) (n : Null) (fs : List (Listed Tuple)) (G : Collected) → stage ≡ Waiting q → q ≡ Positive m t cs
+pub asks_first : (ms : List Rule) (own : List Change) (g : Generation) (stage after : Stage) (q : Question) (m : ℕ) (t : Tuple) (cs : Listed Tuple) (o : Fact) (images : List (NullName × Datum)) (ns later : List Null) (n : Null) (fs : List (Listed Tuple)) (G : Collected) → stage ≡ Waiting q → q ≡ Positive m t cs
     → moved_by (images_of images) ≡ unifier (fact_of t) (candidate (fact_of t) (map fact_of cs.items) o) → map null_of ns ≡ moved_nulls (fact_of t) (candidate (fact_of t) (map fact_of cs.items) o)
     → 0 < length ns → n ≡ get_or ns 0 n → later ≡ remove ns 0 → fs ≡ [] → gathering_of G ≡ record { images = images; query = Occurs n.update n.place; later = map null_of later; found = flat_map (λ l. map fact_of l.items) fs }
-    → after ≡ Unifying q G → (P : Attempt) → Within (phase_of (repairing_of g after)) (tree_in ms (repairing_of g after)) ≡ said ms g stage o P
-asks_first ms g stage after q m t cs o images ns later n fs G is pos e h long first rest none whole on P =
+    → after ≡ Unifying q G → (P : Attempt) → Within own (phase_of (repairing_of g after)) (tree_in ms (repairing_of g after)) ≡ said ms own g stage o P
+asks_first ms own g stage after q m t cs o images ns later n fs G is pos e h long first rest none whole on P =
     let tf : Fact = fact_of t in
     let p : Phase = Asked (PositiveMeant (repair_of g) tf (map fact_of cs.items)) in
     let start : Gathering = record { images = images; query = Occurs n.update n.place; later = map null_of later; found = [] } in
     let begun : gathering_of G ≡ start = whole ∙ ap (λ (l : List (Listed Tuple)). record { images = images; query = Occurs n.update n.place; later = map null_of later; found = flat_map (λ a. map fact_of a.items) l }) none in
-    ap (λ k. Within (phase_of (repairing_of g k)) (tree_in ms (repairing_of g k))) (on ∙ ap (λ k. Unifying k G) pos)
-    ∙ ap (λ (K : Gathering). Within p (tree_in ms (UnifyingMeant (repair_of g) tf (map fact_of cs.items) K))) begun
-    ∙ asked_first p ms (repair_of g) images ns later n long first rest
-    ∙ ap (settled p) (by_unifier ms (repair_of g) tf (candidate tf (map fact_of cs.items) o) (moved_by (images_of images)) (map null_of ns) e h)
-    ∙ sym (at_question ms g stage q m t cs o P is pos)
+    ap (λ k. Within own (phase_of (repairing_of g k)) (tree_in ms (repairing_of g k))) (on ∙ ap (λ k. Unifying k G) pos)
+    ∙ ap (λ (K : Gathering). Within own p (tree_in ms (UnifyingMeant (repair_of g) tf (map fact_of cs.items) K))) begun
+    ∙ asked_first own p ms (repair_of g) images ns later n long first rest
+    ∙ ap (settled own p) (by_unifier ms (repair_of g) tf (candidate tf (map fact_of cs.items) o) (moved_by (images_of images)) (map null_of ns) e h)
+    ∙ sym (at_question ms own g stage q m t cs o P is pos)

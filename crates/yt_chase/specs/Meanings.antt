@@ -1,7 +1,5 @@
 -- What the types of this crate mean, in the terms of the steps of the chase.
-use Rattle.std.specs.Prelude.{◌≡◌, List, map, Option, Some, None}
-use Rattle.yt_model.specs.Repository.{Change}
-use Rattle.yt_base.specs.Meanings.{change_of}
+use Rattle.std.specs.Prelude.{◌≡◌, Bool, true, false}
 use Rattle.yt_query.specs.Meanings.{query_of}
 use Rattle.yt_frontier.specs.Inquiries.{inquiry_of}
 use Rattle.yt_steps.specs.Attempts.{Attempt}
@@ -19,10 +17,10 @@ want_of (Question q) = WantsChoice (inquiry_of q.now)
 want_of NextStep = WantsStep
 want_of Finished = WantsNothing
 
--- The writes of a step that has ended.
-abbrev pub writes_of : Progress → Option (List Change)
-writes_of Asks = None
-writes_of (Ends ws) = Some (map change_of ws.items)
+-- The step asks a query.
+abbrev pub asks_on : Progress → Bool
+asks_on Asks = true
+asks_on Ends = false
 
 -- The attempt draws its next null where the fresh ones begin.
 pub record DrawsFrom (P : Attempt) (f : Fresh) : Type 0 where

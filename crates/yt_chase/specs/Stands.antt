@@ -1,5 +1,5 @@
 -- What a repair wants next, which replies and answers it takes, and what a step has come to.
-use Rattle.std.specs.Prelude.{◌≡◌, ℕ, true, List, [], Option, Some, None}
+use Rattle.std.specs.Prelude.{◌≡◌, ℕ, Bool, true, false, List, [], ◌++◌, Option, Some, None}
 use Rattle.yt_machine.specs.Trees.{Leaf, Node}
 use Rattle.yt_model.specs.Repository.{Change}
 use Rattle.yt_model.specs.Mappings.{Rule}
@@ -8,7 +8,7 @@ use Rattle.yt_model.specs.Updates.{Choice}
 use Rattle.yt_query.specs.Kinds.{IsOfKind}
 use Rattle.yt_frontier.specs.Inquiries.{Inquiry, inquiry_in, fits_inquiry}
 use Rattle.yt_steps.specs.Attempts.{Phase, Attempt}
-use Rattle.yt_steps.specs.Steps.{Move, Asking, step_in}
+use Rattle.yt_steps.specs.Steps.{Asking, step_in}
 use Rattle.yt_chase.specs.Repairs.{Repairing, Generating, Checking, Comparing, Waiting, Unifying, Repaired, phase_of, tree_in}
 
 -- What a repair wants next: the reply to a query, the answer to a question, the next step, or nothing any more.
@@ -58,25 +58,25 @@ abbrev pub branch : Asking → Reply → Asking
 branch (Leaf m) a = Leaf m
 branch (Node q k) a = k a
 
--- What a step has come to: it is within the step of this phase, with this still to be asked and done; or it has made this move.
+-- What a step has come to, with the own writes of its attempt by now: it is within the step of this phase, with this still to be asked and done; or it has left this phase, and drawn so many nulls.
 pub data Stand : Type 0 where
-  Within : Phase → Asking → Stand
-  Moved : Move → Stand
+  Within : List Change → Phase → Asking → Stand
+  Moved : List Change → Phase → ℕ → Stand
 
 -- The move of a look that draws n nulls, writes nothing, and leaves this phase.
 abbrev pub drawing : Phase → ℕ → Asking
 drawing p n = Leaf record { writes = []; phase = p; drawn = n }
 
--- The step of a phase of which this is still to be asked and done.
-abbrev pub settled : Phase → Asking → Stand
-settled p (Leaf m) = Moved m
-settled p (Node q k) = Within p (Node q k)
+-- The step of a phase of which this is still to be asked and done, after these own writes.
+abbrev pub settled : List Change → Phase → Asking → Stand
+settled own p (Leaf m) = Moved (own ++ m.writes) m.phase m.drawn
+settled own p (Node q k) = Within own p (Node q k)
 
--- A step of the repair that asks on, or has ended with these writes.
-abbrev pub stand : List Rule → Option (List Change) → Repairing → Stand
-stand ms None s = Within (phase_of s) (tree_in ms s)
-stand ms (Some ws) s = Moved record { writes = ws; phase = phase_of s; drawn = 0 }
+-- A step of the repair that asks on, or has ended, with these own writes by now.
+abbrev pub stand : List Rule → Bool → List Change → Repairing → Stand
+stand ms true own s = Within own (phase_of s) (tree_in ms s)
+stand ms false own s = Moved own (phase_of s) 0
 
--- By the answer to the question of s the step has come to these writes, if it has ended, and to s'.
-abbrev pub ChosenStep : List Rule → Choice → Repairing → Option (List Change) → Repairing → Type 0
-ChosenStep ms c s ws s' = (P : Attempt) → stand ms ws s' ≡ settled (phase_of s) (step_in ms P (Some c) (phase_of s))
+-- By the answer to the question of s, after these own writes, the step asks on or has ended, has come to these own writes, and to s'.
+abbrev pub ChosenStep : List Rule → Choice → List Change → Repairing → Bool → List Change → Repairing → Type 0
+ChosenStep ms c own s asks own' s' = (P : Attempt) → stand ms asks own' s' ≡ settled own (phase_of s) (step_in ms P (Some c) (phase_of s))

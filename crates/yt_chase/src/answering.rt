@@ -1,11 +1,11 @@
 //! How a step goes on by the answer to its query.
-ghost use Rattle.std.specs.Prelude.{◌≡◌, is_none, map, IfOk, OnErr};
+ghost use Rattle.std.specs.Prelude.{◌≡◌, map, IfOk, OnErr};
 ghost use Rattle.yt_base.specs.declared.tuples.Tuple.{Tuple};
-ghost use Rattle.yt_base.specs.Meanings.{rule_of};
+ghost use Rattle.yt_base.specs.Meanings.{change_of, rule_of};
 ghost use Rattle.yt_query.specs.Meanings.{reply_of};
 ghost use Rattle.yt_chase.specs.Repairs.{phase_of, is_asking, tree_in};
 ghost use Rattle.yt_chase.specs.Stands.{wanted, TakesReply, branch, settled, stand};
-ghost use Rattle.yt_chase.specs.Meanings.{writes_of};
+ghost use Rattle.yt_chase.specs.Meanings.{asks_on};
 ghost use Rattle.yt_chase.specs.Stages.{repairing_of, IsSound};
 
 use crate::answers::{is_yes, tuples_of};
@@ -19,44 +19,44 @@ use std::mem;
 use yt_base::{MappingList, Memory, WriteList};
 use yt_query::{Answer, Query};
 
-/// Goes on by the answer to the query of this stage. It is refused only for want of memory; the repair then stands where
-/// it stood.
+/// Goes on by the answer to the query of this stage. A step that ends puts its writes behind the own ones. It is refused
+/// only for want of memory; the repair then stands where it stood, and the own writes are unchanged.
 pub(crate) fn answered(
     alloc: Global,
     generation: &mut Generation,
     stage: &mut Stage,
+    own: &mut WriteList,
     answer: &Answer,
     mappings: &MappingList,
 ) -> Result<Progress, Memory>
     requires fits { IsSound generation.old stage.old }
     requires reply { TakesReply (map rule_of mappings.now.items) (wanted (repairing_of generation.old stage.old)) (reply_of answer.now) }
-    ensures step { IfOk result (λ progress. stand (map rule_of mappings.now.items) (writes_of progress) (repairing_of generation.new stage.new) ≡ settled (phase_of (repairing_of generation.old stage.old)) (branch (tree_in (map rule_of mappings.now.items) (repairing_of generation.old stage.old)) (reply_of answer.now))) }
-    ensures asks { IfOk result (λ progress. is_asking (repairing_of generation.new stage.new) ≡ is_none (writes_of progress)) }
+    ensures step { IfOk result (λ progress. stand (map rule_of mappings.now.items) (asks_on progress) (map change_of own.new.items) (repairing_of generation.new stage.new) ≡ settled (map change_of own.old.items) (phase_of (repairing_of generation.old stage.old)) (branch (tree_in (map rule_of mappings.now.items) (repairing_of generation.old stage.old)) (reply_of answer.now))) }
+    ensures asks { IfOk result (λ progress. is_asking (repairing_of generation.new stage.new) ≡ asks_on progress) }
     ensures sound { IsSound generation.new stage.new }
     ensures err { OnErr result (repairing_of generation.new stage.new ≡ repairing_of generation.old stage.old) }
+    ensures own { OnErr result (own.new.items ≡ own.old.items) }
 {
     match stage {
         Stage::Querying(Query::Present(_)) => {
             if is_yes(answer) {
                 *stage = go_on(generation, mappings);
-                Ok(Progress::Ends(WriteList::new(alloc)))
+                Ok(Progress::Ends)
             } else {
                 *stage = compare(mem::replace(stage, Stage::Repaired));
                 Ok(Progress::Asks)
             }
         }
         Stage::Querying(Query::Specific(tuple)) => {
-            let (next, writes) = compared(alloc, generation, tuple, tuples_of(answer), mappings)?;
-            *stage = next;
-            Ok(Progress::Ends(writes))
+            *stage = compared(alloc, generation, own, tuple, tuples_of(answer), mappings)?;
+            Ok(Progress::Ends)
         }
         Stage::Unifying(_, gathering) => {
             let tuples = tuples_of(answer);
             if gathering.later.is_empty() {
                 let all = all_found(alloc, gathering, tuples)?;
-                let (next, writes) = unify(alloc, generation, &gathering.sub, &all, mappings)?;
-                *stage = next;
-                Ok(Progress::Ends(writes))
+                *stage = unify(alloc, generation, own, &gathering.sub, &all, mappings)?;
+                Ok(Progress::Ends)
             } else {
                 ask_next(alloc, gathering, tuples)?;
                 Ok(Progress::Asks)

@@ -24,6 +24,7 @@ mod rewriting;
 mod stages;
 mod unifying;
 mod wants;
+mod writes;
 
 pub use crate::fresh::{Fresh, existential};
 pub use crate::nulls::nulls_in;
@@ -31,3 +32,4 @@ pub use crate::ordering::in_order;
 pub use crate::repairs::Repair;
 pub use crate::rewriting::rewrite;
 pub use crate::wants::{Progress, RepairWant};
+pub use crate::writes::append;

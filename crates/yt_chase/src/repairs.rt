@@ -1,5 +1,5 @@
 //! The repair of one violation, which asks queries and questions and takes their answers.
-ghost use Rattle.std.specs.Prelude.{◌≡◌, ◌+◌, ◌<◌, ◌^◌, true, false, None, Some, is_none, List, Option, map, IfOk, OnOk, OnErr};
+ghost use Rattle.std.specs.Prelude.{◌≡◌, ◌+◌, ◌<◌, ◌^◌, true, false, Some, List, Option, map, IfOk, OnOk, OnErr};
 ghost use Rattle.yt_model.specs.Mappings.{Rule};
 ghost use Rattle.yt_model.specs.Updates.{Choice as ChoiceMeant};
 ghost use Rattle.yt_model.specs.Violations.{Forward};
@@ -10,7 +10,7 @@ ghost use Rattle.yt_steps.specs.Rewriting.{in_order as in_order_lem};
 ghost use Rattle.yt_steps.specs.Steps.{makes, repair as repair_row, negative, step_in};
 ghost use Rattle.yt_chase.specs.Repairs.{phase_of, is_asking, tree_in};
 ghost use Rattle.yt_chase.specs.Stands.{wanted, WantsStep, TakesReply, TakesChoice, query_in, first_query, branch, drawing, settled, stand};
-ghost use Rattle.yt_chase.specs.Meanings.{want_of, writes_of, DrawsFrom};
+ghost use Rattle.yt_chase.specs.Meanings.{want_of, asks_on, DrawsFrom};
 
 use crate::answering::answered;
 use crate::choosing::chosen;
@@ -105,45 +105,52 @@ impl Repair {
         Ok(())
     }
 
-    /// Takes the answer to the query that is asked, and goes on by it. It is refused only for want of memory; the repair
-    /// is then unchanged.
+    /// Takes the answer to the query that is asked, and goes on by it. A step that ends puts its writes behind the own
+    /// ones. It is refused only for want of memory; the repair and the own writes are then unchanged.
     pub fn answer(
         &mut self,
         alloc: Global,
+        own: &mut WriteList,
         answer: &Answer,
         mappings: &MappingList,
     ) -> Result<Progress, Memory>
         requires { TakesReply (map rule_of mappings.now.items) (wanted self.old) (reply_of answer.now) }
-        ensures step { IfOk result (λ progress. stand (map rule_of mappings.now.items) (writes_of progress) self.new ≡ settled (phase_of self.old) (branch (tree_in (map rule_of mappings.now.items) self.old) (reply_of answer.now))) }
-        ensures asks { IfOk result (λ progress. is_asking self.new ≡ is_none (writes_of progress)) }
+        ensures step { IfOk result (λ progress. stand (map rule_of mappings.now.items) (asks_on progress) (map change_of own.new.items) self.new ≡ settled (map change_of own.old.items) (phase_of self.old) (branch (tree_in (map rule_of mappings.now.items) self.old) (reply_of answer.now))) }
+        ensures asks { IfOk result (λ progress. is_asking self.new ≡ asks_on progress) }
         ensures err { OnErr result (self.new ≡ self.old) }
+        ensures own { OnErr result (own.new.items ≡ own.old.items) }
     {
         answered(
             alloc,
             &mut self.generation,
             &mut self.stage,
+            own,
             answer,
             mappings,
         )
     }
 
-    /// Takes the answer to the question, which fits it, and makes the step of it up to its first query or its end. It is
-    /// refused only for want of memory; the repair is then unchanged.
+    /// Takes the answer to the question, which fits it, and makes the step of it up to its first query or its end. A step
+    /// that ends puts its writes behind the own ones. It is refused only for want of memory; the repair and the own writes
+    /// are then unchanged.
     pub fn choose(
         &mut self,
         alloc: Global,
+        own: &mut WriteList,
         choice: &Choice,
         mappings: &MappingList,
     ) -> Result<Progress, Memory>
         requires { TakesChoice (wanted self.old) (choice_of choice.now) }
-        ensures step { IfOk result (λ progress. (P : Attempt) → stand (map rule_of mappings.now.items) (writes_of progress) self.new ≡ settled (phase_of self.old) (step_in (map rule_of mappings.now.items) P (Some (choice_of choice.now)) (phase_of self.old))) }
-        ensures asks { IfOk result (λ progress. is_asking self.new ≡ is_none (writes_of progress)) }
+        ensures step { IfOk result (λ progress. (P : Attempt) → stand (map rule_of mappings.now.items) (asks_on progress) (map change_of own.new.items) self.new ≡ settled (map change_of own.old.items) (phase_of self.old) (step_in (map rule_of mappings.now.items) P (Some (choice_of choice.now)) (phase_of self.old))) }
+        ensures asks { IfOk result (λ progress. is_asking self.new ≡ asks_on progress) }
         ensures err { OnErr result (self.new ≡ self.old) }
+        ensures own { OnErr result (own.new.items ≡ own.old.items) }
     {
         chosen(
             alloc,
             &mut self.generation,
             &mut self.stage,
+            own,
             choice,
             mappings,
         )

@@ -4,7 +4,6 @@ ghost use Rattle.std.specs.List.{flat_map};
 ghost use Rattle.yt_base.specs.Meanings.{fact_of, change_of, rule_of};
 ghost use Rattle.yt_base.specs.Maps.{images_of, moved_by};
 ghost use Rattle.yt_steps.specs.Rewriting.{in_order, rewrite as rewrite_lem, next_atom};
-ghost use Rattle.yt_steps.specs.Steps.{makes};
 ghost use Rattle.yt_chase.specs.Repairs.{phase_of, is_asking, moved_repair, asking_next};
 ghost use Rattle.yt_chase.specs.Stages.{repair_of, gathering_of, repairing_of, IsSound};
 
@@ -13,6 +12,7 @@ use crate::generating::go_on;
 use crate::ordering::{listed, put_copies};
 use crate::rewriting::rewrite;
 use crate::stages::{Gathering, Generation, Stage};
+use crate::writes::append;
 use std::alloc::Global;
 use std::collections::BTreeSet;
 use yt_base::{List, MappingList, Memory, Sub, Tuple, TupleList, WriteList};
@@ -52,22 +52,26 @@ pub(crate) fn all_found(
     listed(alloc, set)
 }
 
-/// The end of the step: the unifier goes through the tuples, and through the values of the repair in hand. It is refused
-/// only for want of memory; the repair in hand is then unchanged.
+/// The end of the step: the unifier goes through the tuples, by writes behind the own ones, and through the values of the
+/// repair in hand. It is refused only for want of memory; the repair in hand and the own writes are then unchanged.
 pub(crate) fn unify(
     alloc: Global,
     generation: &mut Generation,
+    own: &mut WriteList,
     sub: &Sub,
     tuples: &TupleList,
     mappings: &MappingList,
-) -> Result<(Stage, WriteList), Memory>
-    ensures writes { IfOk result (λ end. map change_of end.1.items ≡ rewrite_lem (moved_by (images_of sub.now)) (map fact_of tuples.now.items)) }
-    ensures phase { IfOk result (λ end. phase_of (repairing_of generation.new end.0) ≡ next_atom (map rule_of mappings.now.items) (moved_repair (moved_by (images_of sub.now)) (repair_of generation.old))) }
-    ensures rests { IfOk result (λ end. is_asking (repairing_of generation.new end.0) ≡ false) }
-    ensures sound { IfOk result (λ end. IsSound generation.new end.0) }
+) -> Result<Stage, Memory>
+    ensures writes { OnOk result (map change_of own.new.items ≡ map change_of own.old.items ++ rewrite_lem (moved_by (images_of sub.now)) (map fact_of tuples.now.items)) }
+    ensures phase { IfOk result (λ stage. phase_of (repairing_of generation.new stage) ≡ next_atom (map rule_of mappings.now.items) (moved_repair (moved_by (images_of sub.now)) (repair_of generation.old))) }
+    ensures rests { IfOk result (λ stage. is_asking (repairing_of generation.new stage) ≡ false) }
+    ensures sound { IfOk result (λ stage. IsSound generation.new stage) }
     ensures err { OnErr result (generation.new ≡ generation.old) }
+    ensures own { OnErr result (own.new.items ≡ own.old.items) }
 {
     let writes = rewrite(alloc, sub, tuples)?;
-    generation.binding = apply_row(alloc, sub, &generation.binding)?;
-    Ok((go_on(generation, mappings), writes))
+    let binding = apply_row(alloc, sub, &generation.binding)?;
+    append(alloc, own, writes)?;
+    generation.binding = binding;
+    Ok(go_on(generation, mappings))
 }

@@ -1,5 +1,4 @@
 //! What a repair wants next, and what a step of it has come to.
-use yt_base::WriteList;
 use yt_frontier::Question;
 use yt_query::Query;
 
@@ -12,9 +11,9 @@ pub enum RepairWant<'a> {
     Finished,
 }
 
-/// What a step has come to: it asks a query, or it has ended with these writes.
-#[derive(Debug, Drop)]
+/// What a step has come to: it asks a query, or it has ended.
+#[derive(Clone, Copy, Debug)]
 pub enum Progress {
     Asks,
-    Ends(WriteList),
+    Ends,
 }

@@ -1,16 +1,26 @@
--- What a step leaves, count by count.
-use Rattle.std.proofs.Common.{◌≡◌, ℕ, suc, ◌+◌, ◌||◌, List, ◌++◌, ◌∙◌, is_some, nat_lt}
-use Rattle.std.specs.Prelude.{if◌then◌else◌}
+-- What a step leaves that a repair asks on in.
+use Rattle.std.proofs.Common.{◌≡◌, Bool, true, false, List}
+use Rattle.yt_machine.specs.Trees.{Leaf, Node}
+use Rattle.yt_model.specs.Mappings.{Rule}
 use Rattle.yt_model.specs.Repository.{Change}
-use Rattle.yt_steps.specs.Attempts.{Phase, Ended, Spent, Attempt, question_in, outcome_in}
-use Rattle.yt_steps.specs.Steps.{Move, moved}
+use Rattle.yt_steps.specs.Attempts.{Phase, Attempt}
+use Rattle.yt_steps.specs.Steps.{Asking}
+use Rattle.yt_chase.specs.Repairs.{Repairing, phase_of}
+use Rattle.yt_chase.specs.Stands.{settled, stand}
 
-pub landed : (P : Attempt) (B : ℕ) (m : Move) (phase : Phase) (own : List Change) (steps nulls taken : ℕ)
-    → phase ≡ (if is_some (outcome_in m.phase) || nat_lt steps B then m.phase else Ended Spent)
-    → own ≡ P.own ++ m.writes → steps ≡ suc P.steps → nulls ≡ P.nulls + m.drawn
-    → taken ≡ (if is_some (question_in P.phase) then suc P.taken else P.taken)
-    → record { number = P.number; attempt = P.attempt; operation = P.operation; phase = phase; own = own; steps = steps; nulls = nulls; taken = taken } ≡ moved B P m
-landed P B m phase own steps nulls taken e f g h k =
-    let p : phase ≡ (if is_some (outcome_in m.phase) || nat_lt (suc P.steps) B then m.phase else Ended Spent) =
-    e ∙ (λ i. if is_some (outcome_in m.phase) || nat_lt (g i) B then m.phase else Ended Spent) in
-    λ i. record { number = P.number; attempt = P.attempt; operation = P.operation; phase = p i; own = f i; steps = g i; nulls = h i; taken = k i }
+-- The attempt with these own writes, in this phase.
+abbrev pub left_at : Attempt → List Change → Phase → Attempt
+left_at P own phase = record { number = P.number; attempt = P.attempt; operation = P.operation; phase = phase; own = own; steps = P.steps; nulls = P.nulls; taken = P.taken }
+
+-- A repair that asks on has done nothing.
+pub asks_same : (ms : List Rule) (own before : List Change) (r s : Repairing) (tree : Asking) (b : Bool) → b ≡ true → stand ms b own s ≡ settled before (phase_of r) tree → (own ≡ before) × (phase_of s ≡ phase_of r)
+asks_same ms own before r s tree false a e = cc
+asks_same ms own before r s (Leaf m) true a e = cc
+asks_same ms own before r s (Node query k) true a e =
+    let w : own ≡ before = cc in
+    let f : phase_of s ≡ phase_of r = cc in
+    (w, f)
+
+-- So the attempt is the same.
+pub left_same : (P : Attempt) (own : List Change) (p : Phase) → (own ≡ P.own) × (p ≡ P.phase) → left_at P own p ≡ P
+left_same P own p e = λ i. left_at P (e.0 i) (e.1 i)

@@ -1,26 +1,27 @@
--- What a program that wants its next step is not at.
-use Rattle.std.proofs.Common.{◌≡◌, refl, false, is_some, Option, Some, None}
+-- What a program that wants an answer is at.
+use Rattle.std.proofs.Common.{◌≡◌, refl, true, is_some, Option, Some, None}
 use Rattle.yt_model.specs.Queries.{Query}
+use Rattle.yt_model.specs.Updates.{Choice}
 use Rattle.yt_steps.specs.Attempts.{Phase, Start, Look, Generate, Asked, Ended, question_in}
 use Rattle.yt_program.specs.Rows.{asked}
 use Rattle.yt_program.specs.Courses.{Reading, State}
-use Rattle.yt_program.specs.Wishes.{WishesStep, wish_at, wish_asked, wish_by, wish}
+use Rattle.yt_program.specs.Wishes.{Fits, wish_at, wish_asked, wish_by, wish}
 
-at : (p : Phase) → wish_at p ≡ WishesStep → false ≡ is_some (question_in p)
-at Start e = refl
-at Look e = refl
-at (Generate r) e = refl
-at (Asked q) e = cc
-at (Ended o) e = refl
+question_at : (p : Phase) (c : Choice) → Fits (wish_at p) c → true ≡ is_some (question_in p)
+question_at Start c h = absurd h
+question_at Look c h = absurd h
+question_at (Generate r) c h = absurd h
+question_at (Asked q) c h = refl
+question_at (Ended o) c h = absurd h
 
-asking : (p : Phase) (o : Option Query) → wish_asked p o ≡ WishesStep → false ≡ is_some (question_in p)
-asking p None e = at p e
-asking p (Some q) e = cc
+choosing : (p : Phase) (o : Option Query) (c : Choice) → Fits (wish_asked p o) c → true ≡ is_some (question_in p)
+choosing p None c h = question_at p c h
+choosing p (Some q) c h = absurd h
 
-by : (p : Phase) (r : Option Reading) → wish_by p r ≡ WishesStep → false ≡ is_some (question_in p)
-by p None e = at p e
-by p (Some r) e = asking p (asked r.row) e
+fitting : (p : Phase) (r : Option Reading) (c : Choice) → Fits (wish_by p r) c → true ≡ is_some (question_in p)
+fitting p None c h = question_at p c h
+fitting p (Some r) c h = choosing p (asked r.row) c h
 
--- A program that wants its next step is at no question.
-pub next_asks_nothing : (s : State) → wish s ≡ WishesStep → false ≡ is_some (question_in s.attempt.phase)
-next_asks_nothing s e = by s.attempt.phase s.reading e
+-- A program that takes an answer is at a question.
+pub choice_answers : (s : State) (c : Choice) → Fits (wish s) c → true ≡ is_some (question_in s.attempt.phase)
+choice_answers s c h = fitting s.attempt.phase s.reading c h

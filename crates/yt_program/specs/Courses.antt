@@ -1,9 +1,9 @@
 -- What a program is to its callers: an attempt, and the course of the step in hand, as a tree of queries that ends in the attempt after it.
-use Rattle.std.specs.Prelude.{ℕ, Option, Some, None, List}
+use Rattle.std.specs.Prelude.{ℕ, suc, ◌+◌, nat_lt, Bool, ◌||◌, if◌then◌else◌, Option, Some, None, is_some, List}
 use Rattle.yt_machine.specs.Trees.{Tree, Leaf, Node, then_tree}
 use Rattle.yt_model.specs.Mappings.{Rule}
 use Rattle.yt_model.specs.Queries.{Query, Reply}
-use Rattle.yt_steps.specs.Attempts.{Attempt}
+use Rattle.yt_steps.specs.Attempts.{Attempt, Ended, Spent, outcome_in}
 use Rattle.yt_steps.specs.Steps.{Asking, moved}
 use Rattle.yt_program.specs.Rows.{Row, row_tree}
 
@@ -43,3 +43,17 @@ course_by ms P (Some r) = coming_to r.budget P (row_tree ms P r.row)
 -- The course of the step in hand by these mappings; between two steps the attempt itself.
 abbrev pub course : List Rule → State → Course
 course ms s = course_by ms s.attempt s.reading
+
+-- An attempt that its step has left in this phase and with these own writes, once the step is counted: with what it has drawn, and the answer that it took, if it took one. With all B steps made an attempt that has not ended is spent.
+abbrev pub counted : ℕ → Bool → ℕ → Attempt → Attempt
+counted B answers drawn P =
+    record {
+      number = P.number;
+      attempt = P.attempt;
+      operation = P.operation;
+      phase = if is_some (outcome_in P.phase) || nat_lt (suc P.steps) B then P.phase else Ended Spent;
+      own = P.own;
+      steps = suc P.steps;
+      nulls = P.nulls + drawn;
+      taken = if answers then suc P.taken else P.taken;
+    }

@@ -1,19 +1,18 @@
 -- What a step has come to, in the terms of the steps of the chase.
-use Rattle.std.specs.Prelude.{◌≡◌, true, List, map}
+use Rattle.std.specs.Prelude.{◌≡◌, List, map}
 use Rattle.yt_machine.specs.Trees.{Leaf}
 use Rattle.yt_model.specs.Mappings.{Rule}
 use Rattle.yt_model.specs.Updates.{Operation}
 use Rattle.yt_base.specs.Meanings.{change_of}
 use Rattle.yt_steps.specs.Attempts.{Phase, Attempt}
 use Rattle.yt_steps.specs.Steps.{Move as MoveMeant, Asking}
-use Rattle.yt_chase.specs.Repairs.{Repairing, phase_of, is_asking, tree_in}
 use Rattle.yt_chase.specs.Meanings.{DrawsFrom}
 use Rattle.yt_chase.specs.declared.fresh.Fresh.{Fresh}
 use Rattle.yt_program.specs.Rows.{begun_in, row_tree}
 use Rattle.yt_program.specs.PointMeanings.{reading_of, phase_at}
 use Rattle.yt_program.specs.declared.moves.Move.{Move}
 use Rattle.yt_program.specs.declared.turns.Turn.{Turn}
-use Rattle.yt_program.specs.declared.turns.Turn.TheVariants.{Asks, Mends, Moves}
+use Rattle.yt_program.specs.declared.turns.Turn.TheVariants.{Asks, Moves}
 
 -- The move that a `Move` stands for.
 abbrev pub move_of : Move → MoveMeant
@@ -22,18 +21,11 @@ move_of m = record { writes = map change_of m.writes.items; phase = phase_at m.p
 -- What a step of P still asks and does after a `Turn`.
 abbrev pub turn_tree : List Rule → Attempt → Turn → Asking
 turn_tree ms P (Asks r) = row_tree ms P (reading_of r)
-turn_tree ms P (Mends r) = tree_in ms r
 turn_tree ms P (Moves m) = Leaf (move_of m)
-
--- The repair is within a step that began in this phase.
-pub record IsWithin (p : Phase) (r : Repairing) : Type 0 where
-  pub asking : is_asking r ≡ true
-  pub phase : phase_of r ≡ p
 
 -- A step that began in this phase may ask this. What it does may be done by any.
 abbrev pub IsTurnOf : Phase → Turn → Type 0
 IsTurnOf p (Asks r) = begun_in (reading_of r) ≡ p
-IsTurnOf p (Mends r) = IsWithin p r
 IsTurnOf p (Moves m) = Unit {0}
 
 -- The attempt has this operation, and draws its next null where the fresh ones begin.

@@ -13,7 +13,6 @@ mod answering;
 mod ends;
 mod found;
 mod looking;
-mod mending;
 mod moves;
 mod points;
 mod programs;

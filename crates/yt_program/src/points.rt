@@ -1,6 +1,7 @@
 //! Where a program stands.
-ghost use Rattle.std.specs.Prelude.{◌≡◌, IfOk};
-ghost use Rattle.yt_program.specs.PointMeanings.{point_of};
+ghost use Rattle.std.specs.Prelude.{◌≡◌, is_some, IfOk};
+ghost use Rattle.yt_steps.specs.Attempts.{outcome_in};
+ghost use Rattle.yt_program.specs.PointMeanings.{phase_at, point_of};
 
 use crate::ends::End;
 use crate::readings::Reading;
@@ -17,6 +18,21 @@ pub(crate) enum Point {
     Repair(Repair),
     Ended(End),
     Reading(Reading),
+}
+
+impl Point {
+    /// Whether the attempt has ended there.
+    pub(crate) fn has_ended(&self) -> bool
+        ensures ended { result ≡ is_some (outcome_in (phase_at self.now)) }
+    {
+        match self {
+            Point::Ended(_) => true,
+            Point::Start => false,
+            Point::Look => false,
+            Point::Repair(_) => false,
+            Point::Reading(_) => false,
+        }
+    }
 }
 
 impl TryCopy for Point {

@@ -4,29 +4,28 @@ ghost use Rattle.yt_model.specs.Mappings.{Rule};
 ghost use Rattle.yt_base.specs.Meanings.{change_of, choice_of, operation_of, heading_of, rule_of};
 ghost use Rattle.yt_model.specs.Updates.{direction_of};
 ghost use Rattle.yt_query.specs.Meanings.{reply_of};
-ghost use Rattle.yt_steps.specs.Attempts.{begun, question_in, outcome_in, Ended, Spent};
-ghost use Rattle.yt_steps.specs.Steps.{step, moved};
+ghost use Rattle.yt_steps.specs.Attempts.{begun, question_in, outcome_in, Look, Ended, Spent};
+ghost use Rattle.yt_steps.specs.Steps.{step, moved, look_from};
 ghost use Rattle.yt_program.specs.Conditions.{AreWithin, IsBudget};
-ghost use Rattle.yt_program.specs.Courses.{coming_to, course, by_reply, first_asked};
+ghost use Rattle.yt_program.specs.Courses.{coming_to, counted, course, by_reply, first_asked};
 ghost use Rattle.yt_program.specs.Wishes.{wish, wish_of_repair, WishesStep, query_wished, TakesAnswer, Fits};
 ghost use Rattle.yt_chase.specs.Meanings.{DrawsFrom};
-ghost use Rattle.yt_chase.specs.Repairs.{is_asking};
+ghost use Rattle.yt_chase.specs.Repairs.{is_asking, phase_of};
+ghost use Rattle.yt_chase.specs.Stands.{wanted, WantsStep};
 ghost use Rattle.yt_program.specs.PointMeanings.{want_of, phase_at, row_at};
 ghost use Rattle.yt_program.specs.TurnMeanings.{move_of, turn_tree, IsTurnOf};
 
 use crate::answering::answered;
 use crate::ends::{End, Want};
 use crate::looking::{look, looks_on};
-use crate::mending::{chosen, generated, mended};
 use crate::moves::Move;
 use crate::points::Point;
 use crate::starting::start;
 use crate::turns::Turn;
-use crate::writes::append;
 use std::alloc::Global;
 use std::marker::Model;
 use yt_base::{Choice, Direction, MappingList, Memory, Operation, TryCopy, Update, WriteList};
-use yt_chase::{Fresh, Repair, RepairWant};
+use yt_chase::{Fresh, Progress, Repair, RepairWant, append};
 use yt_query::Answer;
 
 // The step in hand: its budget, and whether it takes the answer to a question.
@@ -121,36 +120,41 @@ impl Program {
         ensures attempt { is_some self.new.reading ≡ true → self.new.attempt ≡ self.old.attempt }
         ensures err { OnErr result (self.new ≡ self.old) }
     {
-        let turn = self.begun(alloc, mappings)?;
-        self.follow(
-            alloc,
-            turn,
-            Hand {
-                budget,
-                answers: false,
-            },
-        )
-    }
-
-    // What the next step comes to before any answer.
-    fn begun(&self, alloc: Global, mappings: &MappingList) -> Result<Turn, Memory>
-        requires next { wish self.now ≡ WishesStep }
-        requires within { AreWithin (map rule_of mappings.now.items) }
-        ensures value { IfOk result (λ turn. turn_tree (map rule_of mappings.now.items) self.now.attempt turn ≡ step (map rule_of mappings.now.items) self.now.attempt None) }
-        ensures turn { IfOk result (IsTurnOf self.now.attempt.phase) }
-    {
-        match &self.point {
-            Point::Start => start(alloc, &self.operation),
-            Point::Look => look(alloc, self.number, 0, mappings),
-            Point::Repair(repair) => match repair.wants() {
-                RepairWant::NextStep => generated(alloc, repair, mappings),
-                RepairWant::Finished => look(alloc, self.number, 0, mappings),
-                RepairWant::Query(_) => unreachable!(),
-                RepairWant::Question(_) => unreachable!(),
-            },
+        let hand = Hand {
+            budget,
+            answers: false,
+        };
+        match &mut self.point {
+            Point::Start => {
+                let turn = start(alloc, &self.operation)?;
+                self.follow(alloc, turn, hand)
+            }
+            Point::Look => self.look(alloc, mappings, hand),
+            Point::Repair(repair) => {
+                if !generates(repair) {
+                    return self.look(alloc, mappings, hand);
+                }
+                repair.begin(alloc, mappings)?;
+                self.hand = hand;
+                Ok(())
+            }
             Point::Ended(_) => unreachable!(),
             Point::Reading(_) => unreachable!(),
         }
+    }
+
+    // Begins a look.
+    fn look(&mut self, alloc: Global, mappings: &MappingList, hand: Hand) -> Result<(), Memory>
+        requires within { AreWithin (map rule_of mappings.now.items) }
+        requires budget { IsBudget self.old.attempt.steps hand.budget }
+        requires phase { self.old.attempt.phase ≡ Look }
+        requires answers { hand.answers ≡ false }
+        ensures step { OnOk result (course (map rule_of mappings.now.items) self.new ≡ coming_to hand.budget self.old.attempt (look_from self.old.attempt 0 (map rule_of mappings.now.items))) }
+        ensures attempt { is_some self.new.reading ≡ true → self.new.attempt ≡ self.old.attempt }
+        ensures err { OnErr result (self.new ≡ self.old) }
+    {
+        let turn = look(alloc, self.number, 0, mappings)?;
+        self.follow(alloc, turn, hand)
     }
 
     /// Takes the answer to the query that is asked, and goes on by it up to the next query or the end of the step. While
@@ -203,24 +207,24 @@ impl Program {
         ensures attempt { is_some self.new.reading ≡ true → self.new.attempt ≡ self.old.attempt }
         ensures err { OnErr result (self.new ≡ self.old) }
     {
-        let turn = match &self.point {
+        let hand = self.hand;
+        let fresh = self.fresh();
+        match &mut self.point {
             Point::Reading(reading) => {
-                answered(
-                    alloc,
-                    &self.operation,
-                    self.fresh(),
-                    reading,
-                    answer,
-                    mappings,
-                )?
+                let turn = answered(alloc, &self.operation, fresh, reading, answer, mappings)?;
+                self.follow(alloc, turn, hand)
             }
-            Point::Repair(repair) => mended(alloc, repair, answer, mappings)?,
+            Point::Repair(repair) => {
+                match repair.answer(alloc, &mut self.own, answer, mappings)? {
+                    Progress::Asks => {}
+                    Progress::Ends => self.land(0, hand),
+                }
+                Ok(())
+            }
             Point::Start => unreachable!(),
             Point::Look => unreachable!(),
             Point::Ended(_) => unreachable!(),
-        };
-        let hand = self.hand;
-        self.follow(alloc, turn, hand)
+        }
     }
 
     /// Takes an answer that fits the question, and makes the step of it up to its first query or its end. The budget is
@@ -239,21 +243,23 @@ impl Program {
         ensures attempt { is_some self.new.reading ≡ true → self.new.attempt ≡ self.old.attempt }
         ensures err { OnErr result (self.new ≡ self.old) }
     {
-        let turn = match &self.point {
-            Point::Repair(repair) => chosen(alloc, repair, choice, mappings)?,
+        let hand = Hand {
+            budget,
+            answers: true,
+        };
+        match &mut self.point {
+            Point::Repair(repair) => {
+                match repair.choose(alloc, &mut self.own, choice, mappings)? {
+                    Progress::Asks => self.hand = hand,
+                    Progress::Ends => self.land(0, hand),
+                }
+                Ok(())
+            }
             Point::Start => unreachable!(),
             Point::Look => unreachable!(),
             Point::Ended(_) => unreachable!(),
             Point::Reading(_) => unreachable!(),
-        };
-        self.follow(
-            alloc,
-            turn,
-            Hand {
-                budget,
-                answers: true,
-            },
-        )
+        }
     }
 
     // Goes on to what the step has come to.
@@ -271,28 +277,34 @@ impl Program {
                 self.hand = hand;
                 Ok(())
             }
-            Turn::Mends(repair) => {
-                self.point = Point::Repair(repair);
-                self.hand = hand;
-                Ok(())
-            }
-            Turn::Moves(step) => self.land(alloc, step, hand),
+            Turn::Moves(step) => self.make(alloc, step, hand),
         }
     }
 
     // Does what the step does, and counts it.
-    fn land(&mut self, alloc: Global, step: Move, hand: Hand) -> Result<(), Memory>
+    fn make(&mut self, alloc: Global, step: Move, hand: Hand) -> Result<(), Memory>
         requires budget { IsBudget self.old.attempt.steps hand.budget }
         requires answers { hand.answers ≡ is_some (question_in self.old.attempt.phase) }
         ensures moved { OnOk result (self.new ≡ record { attempt = moved hand.budget self.old.attempt (move_of step); reading = None }) }
         ensures err { OnErr result (self.new ≡ self.old) }
     {
         append(alloc, &mut self.own, step.writes)?;
-        self.steps += 1;
-        self.nulls += step.drawn;
-        self.taken = counted(self.taken, hand.answers);
-        self.point = kept(step.point, self.steps, hand.budget);
+        self.point = step.point;
+        self.land(step.drawn, hand);
         Ok(())
+    }
+
+    // Counts the step that has left the attempt as it is now.
+    fn land(&mut self, drawn: u32, hand: Hand)
+        requires rests { self.old.reading ≡ None }
+        requires few { drawn ≤ 64 }
+        requires budget { IsBudget self.old.attempt.steps hand.budget }
+        ensures counted { self.new ≡ record { attempt = counted hand.budget hand.answers drawn self.old.attempt; reading = None } }
+    {
+        self.steps += 1;
+        self.nulls += drawn;
+        self.taken = taken_after(self.taken, hand.answers);
+        spend(&mut self.point, self.steps, hand.budget);
     }
 
     // From where the attempt draws its nulls.
@@ -346,7 +358,7 @@ impl Program {
 }
 
 // The count of answers after a step that takes one or none.
-fn counted(taken: u32, answers: bool) -> u32
+fn taken_after(taken: u32, answers: bool) -> u32
     requires { taken ≤ 300 }
     ensures value { result ≡ (if answers then suc taken else taken) }
     ensures most { result ≤ taken + 1 }
@@ -354,19 +366,17 @@ fn counted(taken: u32, answers: bool) -> u32
     if answers { taken + 1 } else { taken }
 }
 
-// The point, unless all steps are made and the attempt has not ended there: it is then spent.
-fn kept(point: Point, steps: u32, budget: u32) -> Point
-    requires { row_at point ≡ None }
-    ensures phase { phase_at result ≡ (if is_some (outcome_in (phase_at point)) || nat_lt steps budget then phase_at point else Ended Spent) }
-    ensures rests { row_at result ≡ None }
+// Keeps the point, unless all steps are made and the attempt has not ended there: it is then spent.
+fn spend(point: &mut Point, steps: u32, budget: u32)
+    requires { row_at point.old ≡ None }
+    ensures phase { phase_at point.new ≡ (if is_some (outcome_in (phase_at point.old)) || nat_lt steps budget then phase_at point.old else Ended Spent) }
+    ensures rests { row_at point.new ≡ None }
 {
-    match point {
-        Point::Ended(end) => Point::Ended(end),
-        _ => if steps < budget {
-            point
-        } else {
-            Point::Ended(End::Spent)
-        },
+    if steps < budget {
+        return;
+    }
+    if !point.has_ended() {
+        *point = Point::Ended(End::Spent);
     }
 }
 
@@ -380,6 +390,20 @@ fn want_of_repair(repair: &Repair) -> Want<'_>
         RepairWant::Question(question) => Want::Choice(question),
         RepairWant::NextStep => Want::NextStep,
         RepairWant::Finished => Want::NextStep,
+    }
+}
+
+// Whether the repair's next step is one of its own, and not a look.
+fn generates(repair: &Repair) -> bool
+    requires { wish_of_repair repair.now ≡ WishesStep }
+    ensures generates { result ≡ true → wanted repair.now ≡ WantsStep }
+    ensures looks { result ≡ false → phase_of repair.now ≡ Look }
+{
+    match repair.wants() {
+        RepairWant::NextStep => true,
+        RepairWant::Finished => false,
+        RepairWant::Query(_) => unreachable!(),
+        RepairWant::Question(_) => unreachable!(),
     }
 }
 

@@ -1,4 +1,4 @@
-//! What a step has come to.
+//! What a step of an operation or of a look has come to.
 ghost use Rattle.std.specs.Prelude.{◌≡◌, [], List, map};
 ghost use Rattle.yt_model.specs.Mappings.{Rule};
 ghost use Rattle.yt_base.specs.Meanings.{null_of, change_of};
@@ -12,13 +12,11 @@ use crate::points::Point;
 use crate::readings::Reading;
 use std::alloc::Global;
 use yt_base::{Null, WriteList};
-use yt_chase::Repair;
 
-/// What a step comes to by the answers so far: it asks a query, of its own or of the repair in hand, or it does this.
+/// What a step of an operation or of a look comes to by the answers so far: it asks a query, or it does this.
 #[derive(Debug, Drop)]
 pub(crate) enum Turn {
     Asks(Reading),
-    Mends(Repair),
     Moves(Move),
 }
 
