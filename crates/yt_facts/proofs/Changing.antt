@@ -11,7 +11,7 @@ use Rattle.yt_model.specs.Cursors.{has_at, is_datum}
 use Rattle.yt_model.proofs.Bools.{none_some, some_same}
 use Rattle.yt_base.specs.Meanings.{datum_of}
 use Rattle.yt_base.specs.declared.values.Value.{Value}
-use Rattle.yt_facts.specs.Indexes.{group_in, group_at, AreSame, AreSameBut, AddsAll, DropsAll}
+use Rattle.yt_facts.specs.Indexes.{group_in, group_at, AreSame, AreSameBut}
 
 -- A further column without a group keeps nothing.
 pub appended : (ms : List (BTreeMap Value (List Fact))) (n : BTreeMap Value (List Fact)) → n.entries ≡ [] → AreSame ms (ms ++ n ∷ [])
@@ -95,17 +95,13 @@ module _ (f : Bool → Bool → Bool) (t : Fact) (k : ℕ) (ls ms : List (BTreeM
 
 -- ---- writes that want memory
 
-added_but : (a b : Bool) → ((a || b) && not b) ≡ (a && not b)
+pub added_but : (a b : Bool) → ((a || b) && not b) ≡ (a && not b)
 added_but true true = refl
 added_but true false = refl
 added_but false true = refl
 added_but false false = refl
 
--- Where the tuple is added to all its columns, nothing else changes.
-pub adds_but : (t : Fact) (ls ms : List (BTreeMap Value (List Fact))) → AddsAll t ls ms → AreSameBut t ls ms
-adds_but t ls ms h c d u = ap (λ b. b && not (has_at c d t && same_fact u t)) (h c d u) ∙ added_but (has (group_at ls c d) u) (has_at c d t && same_fact u t)
-
--- Where it is added to some of them, nothing else changes.
+-- Where the tuple is added to some of its columns, nothing else changes.
 pub some_added : (t : Fact) (k : ℕ) (ls ms ns : List (BTreeMap Value (List Fact))) → ChangedBelow (λ a b. a || b) k t ls ms → SameFrom k ls ms → AreSame ms ns → AreSameBut t ls ns
 some_added t k ls ms ns before after same c d u =
     ap (λ (G : List Fact). has G u && not (has_at c d t && same_fact u t)) (same c d)
@@ -113,7 +109,3 @@ some_added t k ls ms ns before after same c d u =
       | inl h ↦ ap (λ b. b && not (has_at c d t && same_fact u t)) (before c d u h) ∙ added_but (has (group_at ls c d) u) (has_at c d t && same_fact u t)
       | inr h ↦ ap (λ (G : List Fact). has G u && not (has_at c d t && same_fact u t)) (after c d h)
     ]
-
--- What is swept after some was added is swept of what was there before.
-pub swept_again : (t : Fact) (ls ms ns : List (BTreeMap Value (List Fact))) → AreSameBut t ls ms → DropsAll t ms ns → DropsAll t ls ns
-swept_again t ls ms ns same drops c d u = drops c d u ∙ same c d u

@@ -1,7 +1,8 @@
 -- The index keeps up with the set.
 use Rattle.std.proofs.Common.{◌≡◌, ℕ, ap, refl, sym, ◌∙◌, List, [], ◌∷◌, Bool, true, false, ◌||◌, ◌&&◌, not, Option}
-use Rattle.std.specs.BTreeMap.{BTreeMap}
 use Rattle.std.specs.BTreeSet.{insert_key}
+use Rattle.std.specs.declared.vec.Vec.{Vec}
+use Rattle.std.specs.declared.alloc.Global.{Global}
 use Rattle.std.specs.Prelude.{filter, find}
 use Rattle.yt_model.specs.Values.{Datum, Fact, fact_cmp, same_fact}
 use Rattle.yt_model.specs.Repository.{Insert, Delete, IsRepository, change, has}
@@ -10,9 +11,7 @@ use Rattle.yt_model.proofs.Bools.{and-true}
 use Rattle.yt_model.proofs.Members.{has-filter}
 use Rattle.yt_model.proofs.Searches.{find_same}
 use Rattle.yt_model.proofs.Sets.{has-insert, has-delete, insert_in_order, filter_in_order, same_exact, same_repository}
-use Rattle.yt_base.specs.declared.values.Value.{Value}
-use Rattle.yt_facts.specs.Courses.{is_ahead}
-use Rattle.yt_facts.specs.Indexes.{group_at, IsIndex, AddsAll, DropsAll}
+use Rattle.yt_facts.specs.Indexes.{Kept, kept_at, is_in, IsIndex, AddsOne, DropsOne}
 use Rattle.yt_facts.proofs.Courses.{find_among}
 use Rattle.yt_facts.proofs.Groups.{or-false}
 
@@ -26,9 +25,9 @@ insert_present D t s h = same_repository D (insert_key fact_cmp D t) s (insert_i
 
 -- ---- one tuple
 
-pub index_grows : (D : List Fact) (ms ns : List (BTreeMap Value (List Fact))) (t : Fact) → IsIndex D ms → AddsAll t ms ns → IsIndex (change D (Insert t)) ns
-index_grows D ms ns t x h c d u =
-    h c d u ∙ ap (λ b. b || (has_at c d t && same_fact u t)) (x c d u) ∙ by (same_fact u t) refl ∙ ap (λ b. b && has_at c d u) (sym (has-insert D t u))
+pub index_grows : (D : List Fact) (ms ns : List (Vec Kept Global)) (t : Fact) → IsIndex D ms → AddsOne t ms ns → IsIndex (change D (Insert t)) ns
+index_grows D ms ns t x h r c d u =
+    h r c d u ∙ ap (λ b. b || (is_in r c d t && same_fact u t)) (x r c d u) ∙ by (same_fact u t) refl ∙ ap (λ b. b && is_in r c d u) (sym (has-insert D t u))
   where
     here : (a b : Bool) → ((a && b) || (b && true)) ≡ b
     here true true = refl
@@ -41,13 +40,13 @@ index_grows D ms ns t x h c d u =
     elsewhere false true = refl
     elsewhere false false = refl
 
-    by : (b : Bool) → same_fact u t ≡ b → ((has D u && has_at c d u) || (has_at c d t && b)) ≡ ((b || has D u) && has_at c d u)
-    by true e = ap (λ (v : Fact). (has D u && has_at c d u) || (has_at c d v && true)) (sym (same_exact u t e)) ∙ here (has D u) (has_at c d u)
-    by false e = elsewhere (has D u && has_at c d u) (has_at c d t)
+    by : (b : Bool) → same_fact u t ≡ b → ((has D u && is_in r c d u) || (is_in r c d t && b)) ≡ ((b || has D u) && is_in r c d u)
+    by true e = ap (λ (v : Fact). (has D u && is_in r c d u) || (is_in r c d v && true)) (sym (same_exact u t e)) ∙ here (has D u) (is_in r c d u)
+    by false e = elsewhere (has D u && is_in r c d u) (is_in r c d t)
 
-pub index_shrinks : (D : List Fact) (ms ns : List (BTreeMap Value (List Fact))) (t : Fact) → IsIndex D ms → DropsAll t ms ns → IsIndex (change D (Delete t)) ns
-index_shrinks D ms ns t x h c d u =
-    h c d u ∙ ap (λ b. b && not (has_at c d t && same_fact u t)) (x c d u) ∙ by (same_fact u t) refl ∙ ap (λ b. b && has_at c d u) (sym (has-delete D t u))
+pub index_shrinks : (D : List Fact) (ms ns : List (Vec Kept Global)) (t : Fact) → IsIndex D ms → DropsOne t ms ns → IsIndex (change D (Delete t)) ns
+index_shrinks D ms ns t x h r c d u =
+    h r c d u ∙ ap (λ b. b && not (is_in r c d t && same_fact u t)) (x r c d u) ∙ by (same_fact u t) refl ∙ ap (λ b. b && is_in r c d u) (sym (has-delete D t u))
   where
     here : (a b : Bool) → ((a && b) && not (b && true)) ≡ ((a && false) && b)
     here true true = refl
@@ -60,13 +59,13 @@ index_shrinks D ms ns t x h c d u =
     elsewhere true false x = refl
     elsewhere false b x = refl
 
-    by : (b : Bool) → same_fact u t ≡ b → ((has D u && has_at c d u) && not (has_at c d t && b)) ≡ ((has D u && not b) && has_at c d u)
-    by true e = ap (λ (v : Fact). (has D u && has_at c d u) && not (has_at c d v && true)) (sym (same_exact u t e)) ∙ here (has D u) (has_at c d u)
-    by false e = elsewhere (has D u) (has_at c d u) (has_at c d t)
+    by : (b : Bool) → same_fact u t ≡ b → ((has D u && is_in r c d u) && not (is_in r c d t && b)) ≡ ((has D u && not b) && is_in r c d u)
+    by true e = ap (λ (v : Fact). (has D u && is_in r c d u) && not (is_in r c d v && true)) (sym (same_exact u t e)) ∙ here (has D u) (is_in r c d u)
+    by false e = elsewhere (has D u) (is_in r c d u) (is_in r c d t)
 
 -- A tuple that is not in the set may be swept.
-pub index_swept : (D : List Fact) (ms ns : List (BTreeMap Value (List Fact))) (t : Fact) → IsIndex D ms → DropsAll t ms ns → has D t ≡ false → IsIndex D ns
-index_swept D ms ns t x h n c d u = index_shrinks D ms ns t x h c d u ∙ ap (λ b. b && has_at c d u) (has-delete D t u ∙ by (same_fact u t) refl)
+pub index_swept : (D : List Fact) (ms ns : List (Vec Kept Global)) (t : Fact) → IsIndex D ms → DropsOne t ms ns → has D t ≡ false → IsIndex D ns
+index_swept D ms ns t x h n r c d u = index_shrinks D ms ns t x h r c d u ∙ ap (λ b. b && is_in r c d u) (has-delete D t u ∙ by (same_fact u t) refl)
   where
     by : (b : Bool) → same_fact u t ≡ b → (has D u && not b) ≡ has D u
     by true e = ap (λ a. a && false) (ap (has D) (same_exact u t e) ∙ n) ∙ sym (ap (has D) (same_exact u t e) ∙ n)
@@ -75,15 +74,15 @@ index_swept D ms ns t x h n c d u = index_shrinks D ms ns t x h c d u ∙ ap (λ
 -- ---- all tuples
 
 -- All tuples that are not left are indexed.
-abbrev pub IsIndexTo : List Fact → List Fact → List (BTreeMap Value (List Fact)) → Type 0
-IsIndexTo D left ms = (c : ℕ) (d : Datum) (u : Fact) → (has (group_at ms c d) u || (has left u && has_at c d u)) ≡ (has D u && has_at c d u)
+abbrev pub IsIndexTo : List Fact → List Fact → List (Vec Kept Global) → Type 0
+IsIndexTo D left ms = (r c : ℕ) (d : Datum) (u : Fact) → (has (kept_at ms r c d) u || (has left u && is_in r c d u)) ≡ (has D u && is_in r c d u)
 
-pub index_begins : (D left : List Fact) (ms : List (BTreeMap Value (List Fact))) → ms ≡ [] → left ≡ D → IsIndexTo D left ms
-index_begins D left ms e f c d u = λ i. has (group_at (e i) c d) u || (has (f i) u && has_at c d u)
+pub index_begins : (D left : List Fact) (ms : List (Vec Kept Global)) → ms ≡ [] → left ≡ D → IsIndexTo D left ms
+index_begins D left ms e f r c d u = λ i. has (kept_at (e i) r c d) u || (has (f i) u && is_in r c d u)
 
-pub index_goes_on : (D left rest : List Fact) (ms ns : List (BTreeMap Value (List Fact))) (t : Fact) → left ≡ t ∷ rest → AddsAll t ms ns → IsIndexTo D left ms → IsIndexTo D rest ns
-index_goes_on D left rest ms ns t e h x c d u =
-    ap (λ b. b || (has rest u && has_at c d u)) (h c d u) ∙ by (same_fact u t) refl ∙ sym (ap (λ (l : List Fact). has (group_at ms c d) u || (has l u && has_at c d u)) e) ∙ x c d u
+pub index_goes_on : (D left rest : List Fact) (ms ns : List (Vec Kept Global)) (t : Fact) → left ≡ t ∷ rest → AddsOne t ms ns → IsIndexTo D left ms → IsIndexTo D rest ns
+index_goes_on D left rest ms ns t e h x r c d u =
+    ap (λ b. b || (has rest u && is_in r c d u)) (h r c d u) ∙ by (same_fact u t) refl ∙ sym (ap (λ (l : List Fact). has (kept_at ms r c d) u || (has l u && is_in r c d u)) e) ∙ x r c d u
   where
     here : (a b r : Bool) → ((a || (b && true)) || (r && b)) ≡ (a || b)
     here true b r = refl
@@ -96,28 +95,27 @@ index_goes_on D left rest ms ns t e h x c d u =
     elsewhere false true y = refl
     elsewhere false false y = refl
 
-    by : (b : Bool) → same_fact u t ≡ b → ((has (group_at ms c d) u || (has_at c d t && b)) || (has rest u && has_at c d u)) ≡ (has (group_at ms c d) u || ((b || has rest u) && has_at c d u))
-    by true f = ap (λ (v : Fact). (has (group_at ms c d) u || (has_at c d v && true)) || (has rest u && has_at c d u)) (sym (same_exact u t f)) ∙ here (has (group_at ms c d) u) (has_at c d u) (has rest u)
-    by false f = elsewhere (has (group_at ms c d) u) (has_at c d t) (has rest u && has_at c d u)
+    by : (b : Bool) → same_fact u t ≡ b → ((has (kept_at ms r c d) u || (is_in r c d t && b)) || (has rest u && is_in r c d u)) ≡ (has (kept_at ms r c d) u || ((b || has rest u) && is_in r c d u))
+    by true f = ap (λ (v : Fact). (has (kept_at ms r c d) u || (is_in r c d v && true)) || (has rest u && is_in r c d u)) (sym (same_exact u t f)) ∙ here (has (kept_at ms r c d) u) (is_in r c d u) (has rest u)
+    by false f = elsewhere (has (kept_at ms r c d) u) (is_in r c d t) (has rest u && is_in r c d u)
 
-pub index_ends : (D left : List Fact) (ms : List (BTreeMap Value (List Fact))) → left ≡ [] → IsIndexTo D left ms → IsIndex D ms
-index_ends D left ms e x c d u = sym (or-false (has (group_at ms c d) u)) ∙ sym (ap (λ (l : List Fact). has (group_at ms c d) u || (has l u && has_at c d u)) e) ∙ x c d u
+pub index_ends : (D left : List Fact) (ms : List (Vec Kept Global)) → left ≡ [] → IsIndexTo D left ms → IsIndex D ms
+index_ends D left ms e x r c d u = sym (or-false (has (kept_at ms r c d) u)) ∙ sym (ap (λ (l : List Fact). has (kept_at ms r c d) u || (has l u && is_in r c d u)) e) ∙ x r c d u
 
 -- ---- scans
 
 -- What comes next in the group of a column's value is what a scan of the set finds.
-pub scan_indexed : (D : List Fact) (ms : List (BTreeMap Value (List Fact))) (r c : ℕ) (d : Datum) (past : Option Fact) (G : List Fact) (o : Option Fact) → IsRepository D → IsIndex D ms → G ≡ group_at ms c d → IsRepository G → o ≡ find (is_ahead r past) G
+pub scan_indexed : (D : List Fact) (ms : List (Vec Kept Global)) (r c : ℕ) (d : Datum) (past : Option Fact) (G : List Fact) (o : Option Fact) → IsRepository D → IsIndex D ms → G ≡ kept_at ms r c d → IsRepository G → o ≡ find (is_beyond past) G
     → o ≡ scan_of D r c d past
 scan_indexed D ms r c d past G o s x e t h =
     h
-    ∙ ap (find (is_ahead r past)) (same_repository G (filter (has_at c d) D) t (filter_in_order (has_at c d) D s) (λ u. ap (λ (l : List Fact). has l u) e ∙ x c d u ∙ sym (has-filter (has_at c d) D u)))
-    ∙ find_among (has_at c d) (is_ahead r past) D
-    ∙ find_same (λ u. has_at c d u && is_ahead r past u) (is_scanned r c d past) (λ u. by (has_at c d u) (is_of r u) (is_beyond past u)) D
+    ∙ ap (find (is_beyond past)) (same_repository G (filter (is_in r c d) D) t (filter_in_order (is_in r c d) D s) (λ u. ap (λ (l : List Fact). has l u) e ∙ x r c d u ∙ sym (has-filter (is_in r c d) D u)))
+    ∙ find_among (is_in r c d) (is_beyond past) D
+    ∙ find_same (λ u. is_in r c d u && is_beyond past u) (is_scanned r c d past) (λ u. by (is_of r u) (has_at c d u) (is_beyond past u)) D
   where
-    by : (a b x : Bool) → (a && (b && x)) ≡ (b && (x && a))
+    by : (a b x : Bool) → ((a && b) && x) ≡ (a && (x && b))
     by true true true = refl
     by true true false = refl
-    by true false x = refl
-    by false true true = refl
-    by false true false = refl
-    by false false x = refl
+    by true false true = refl
+    by true false false = refl
+    by false b x = refl

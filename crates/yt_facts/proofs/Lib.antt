@@ -7,3 +7,4 @@ pub mod Groups
 pub mod Indexing
 pub mod Taking
 pub mod Changing
+pub mod Related

@@ -1,12 +1,14 @@
--- The index of a set: for each column, the tuples by their value in it.
+-- The index of a set: for each relation and column, the tuples by their value in it.
 use Rattle.std.specs.BTreeMap.{BTreeMap}
 use Rattle.std.specs.Map.{lookup}
-use Rattle.std.specs.Prelude.{◌≡◌, ℕ, not, ◌&&◌, ◌||◌, List, [], unwrap_or, slice_get, Option, Some, None}
+use Rattle.std.specs.Prelude.{◌≡◌, ℕ, Bool, not, ◌&&◌, ◌||◌, List, [], unwrap_or, slice_get, Option, Some, None}
 use Rattle.yt_model.specs.Values.{Datum, Fact, same_datum, same_fact}
 use Rattle.yt_model.specs.Repository.{has}
-use Rattle.yt_model.specs.Cursors.{has_at}
+use Rattle.yt_model.specs.Cursors.{is_of, has_at}
 use Rattle.yt_base.specs.Meanings.{datum_of}
 use Rattle.yt_base.specs.declared.values.Value.{Value}
+use Rattle.std.specs.declared.vec.Vec.{Vec}
+use Rattle.std.specs.declared.alloc.Global.{Global}
 
 -- The tuples that one column keeps at a value.
 abbrev pub group_in : BTreeMap Value (List Fact) → Datum → List Fact
@@ -19,10 +21,6 @@ group_at ms c d = at (slice_get ms c)
     at : Option (BTreeMap Value (List Fact)) → List Fact
     at None = []
     at (Some m) = group_in m d
-
--- Each column keeps at a value exactly the tuples of the set that have it there.
-abbrev pub IsIndex : List Fact → List (BTreeMap Value (List Fact)) → Type 0
-IsIndex D ms = (c : ℕ) (d : Datum) (u : Fact) → has (group_at ms c d) u ≡ (has D u && has_at c d u)
 
 -- The columns keep what they kept.
 abbrev pub AreSame : List (BTreeMap Value (List Fact)) → List (BTreeMap Value (List Fact)) → Type 0
@@ -47,3 +45,41 @@ Drops v t m n = (d : Datum) (u : Fact) → has (group_in n d) u ≡ (has (group_
 -- Of what the columns kept exactly this tuple, where it has its values, is gone.
 abbrev pub DropsAll : Fact → List (BTreeMap Value (List Fact)) → List (BTreeMap Value (List Fact)) → Type 0
 DropsAll t ms ns = (c : ℕ) (d : Datum) (u : Fact) → has (group_at ns c d) u ≡ (has (group_at ms c d) u && not (has_at c d t && same_fact u t))
+
+-- ---- all relations
+
+-- What one column keeps at each value.
+abbrev pub Kept : Type 0
+Kept = BTreeMap Value (List Fact)
+
+-- The columns of relation r; none past the last relation.
+abbrev pub columns_of : List (Vec Kept Global) → ℕ → List Kept
+columns_of rs r = of (slice_get rs r)
+  where
+    of : Option (Vec Kept Global) → List Kept
+    of None = []
+    of (Some v) = v.items
+
+-- The tuples that relation r keeps at value d of column c.
+abbrev pub kept_at : List (Vec Kept Global) → ℕ → ℕ → Datum → List Fact
+kept_at rs r c d = group_at (columns_of rs r) c d
+
+-- The tuple is of relation r and has d in column c.
+abbrev pub is_in : ℕ → ℕ → Datum → Fact → Bool
+is_in r c d u = is_of r u && has_at c d u
+
+-- Each relation keeps at a value of a column exactly the tuples of the set that have it there.
+abbrev pub IsIndex : List Fact → List (Vec Kept Global) → Type 0
+IsIndex D rs = (r c : ℕ) (d : Datum) (u : Fact) → has (kept_at rs r c d) u ≡ (has D u && is_in r c d u)
+
+-- The relations keep what they kept, but for this tuple where it has its values.
+abbrev pub AreSameButOne : Fact → List (Vec Kept Global) → List (Vec Kept Global) → Type 0
+AreSameButOne t rs ss = (r c : ℕ) (d : Datum) (u : Fact) → (has (kept_at ss r c d) u && not (is_in r c d t && same_fact u t)) ≡ (has (kept_at rs r c d) u && not (is_in r c d t && same_fact u t))
+
+-- To what the relations kept exactly this tuple, where it has its values, is added.
+abbrev pub AddsOne : Fact → List (Vec Kept Global) → List (Vec Kept Global) → Type 0
+AddsOne t rs ss = (r c : ℕ) (d : Datum) (u : Fact) → has (kept_at ss r c d) u ≡ (has (kept_at rs r c d) u || (is_in r c d t && same_fact u t))
+
+-- Of what the relations kept exactly this tuple, where it has its values, is gone.
+abbrev pub DropsOne : Fact → List (Vec Kept Global) → List (Vec Kept Global) → Type 0
+DropsOne t rs ss = (r c : ℕ) (d : Datum) (u : Fact) → has (kept_at ss r c d) u ≡ (has (kept_at rs r c d) u && not (is_in r c d t && same_fact u t))

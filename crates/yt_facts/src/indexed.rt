@@ -4,20 +4,20 @@ ghost use Rattle.yt_model.specs.Repository.{has, change, Insert, Delete, IsRepos
 ghost use Rattle.yt_base.specs.Meanings.{fact_of};
 ghost use Rattle.yt_facts.specs.Indexes.{IsIndex};
 
-use crate::columns::{Groups, group, index, sweep};
 use crate::plain::PlainFacts;
+use crate::relations::{Columns, drop_out, keep, kept};
 use std::alloc::Global;
 use std::marker::Model;
 use yt_base::{Facts, Memory, TryCopy, Tuple, TupleList, Value};
 
-/// A set of tuples with, for each column and value, exactly its tuples that have the value there. So a scan by column
-/// takes steps as many as the logarithm of the set's size, as insertions, deletions and cursors do. Each tuple is held
+/// A set of tuples with, for each relation, column and value, exactly its tuples that have the value there. So a scan
+/// by column takes steps as many as the logarithm of the set's size, as insertions, deletions and cursors do. Each tuple is held
 /// once more for each of its columns, and no tuple that is not in the set. Contracts see the list of its tuples, in
 /// order.
 #[derive(Debug, Drop)]
 pub struct IndexedFacts {
     all: PlainFacts,
-    columns: Vec<Groups>,
+    relations: Vec<Columns>,
     alloc: Global,
 }
 
@@ -32,7 +32,7 @@ impl Model for IndexedFacts {
 
     ghost view = { λ f. f.all };
 
-    ghost invariant = { λ f. IsRepository f.all × IsIndex f.all f.columns.items };
+    ghost invariant = { λ f. IsRepository f.all × IsIndex f.all f.relations.items };
 }
 
 impl IndexedFacts {
@@ -42,7 +42,7 @@ impl IndexedFacts {
     {
         IndexedFacts {
             all: PlainFacts::new(alloc),
-            columns: Vec::new(alloc),
+            relations: Vec::new(alloc),
             alloc,
         }
     }
@@ -53,10 +53,10 @@ impl IndexedFacts {
         ensures given_back { IfErr result (λ refused. refused.0 ≡ facts) }
     {
         match index_all(alloc, &facts) {
-            Ok(columns) => {
+            Ok(relations) => {
                 return Ok(IndexedFacts {
                     all: facts,
-                    columns,
+                    relations,
                     alloc,
                 });
             }
@@ -82,17 +82,17 @@ impl IndexedFacts {
         if self.all.contains(&tuple) {
             return Ok(false);
         }
-        match index(&mut self.columns, self.alloc, &tuple) {
+        match keep(&mut self.relations, self.alloc, &tuple) {
             Ok(()) => {}
             Err(_) => {
-                sweep(&mut self.columns, &tuple);
+                drop_out(&mut self.relations, &tuple);
                 return Err((tuple, Memory));
             }
         }
         match self.all.insert(tuple) {
             Ok(added) => return Ok(added),
             Err(refused) => {
-                sweep(&mut self.columns, &refused.0);
+                drop_out(&mut self.relations, &refused.0);
                 return Err(refused);
             }
         }
@@ -104,7 +104,7 @@ impl IndexedFacts {
         ensures after { self.new ≡ change self.old (Delete (fact_of tuple.now)) }
     {
         let there = self.all.remove(tuple);
-        sweep(&mut self.columns, tuple);
+        drop_out(&mut self.relations, tuple);
         there
     }
 
@@ -158,21 +158,21 @@ impl Facts for IndexedFacts {
         value: &Value,
         past: Option<&Tuple>,
     ) -> Option<&Tuple> {
-        match group(&self.columns, column as usize, value) {
-            Some(kept) => kept.next(relation, past),
+        match kept(&self.relations, relation, column, value) {
+            Some(group) => group.beyond(past),
             None => None,
         }
     }
 }
 
-// The columns of all tuples of the set.
-fn index_all(alloc: Global, facts: &PlainFacts) -> Result<Vec<Groups>, Memory>
-    ensures index { IfOk result (λ columns. IsIndex facts.now columns.items) }
+// The index of all tuples of the set.
+fn index_all(alloc: Global, facts: &PlainFacts) -> Result<Vec<Columns>, Memory>
+    ensures index { IfOk result (λ relations. IsIndex facts.now relations.items) }
     ensures in_order { IsRepository facts.now }
 {
-    let mut columns = Vec::new(alloc);
+    let mut relations = Vec::new(alloc);
     for tuple in facts.iter() {
-        index(&mut columns, alloc, tuple)?;
+        keep(&mut relations, alloc, tuple)?;
     }
-    Ok(columns)
+    Ok(relations)
 }

@@ -6,6 +6,7 @@ mod columns;
 mod indexed;
 mod overlay;
 mod plain;
+mod relations;
 mod scanned;
 
 pub use crate::indexed::IndexedFacts;

@@ -7,5 +7,5 @@ pub loop-tuple-preserved : goal.loop-tuple-preserved
 loop-tuple-preserved c = (
   tt,
   tt,
-  index_goes_on c.args.facts.now (map fact_of c.loop-tuple.tuple-iterator) (map fact_of c.next.new.self) c.loop-tuple.columns.items c.index.new.columns.items (fact_of c.in-Some.tuple.now) (ap (map fact_of) c.in-Some.ensures.steps) c.in_ok-index.ensures.ok c.loop-tuple.invariant.2,
+  index_goes_on c.args.facts.now (map fact_of c.loop-tuple.tuple-iterator) (map fact_of c.next.new.self) c.loop-tuple.relations.items c.keep.new.relations.items (fact_of c.in-Some.tuple.now) (ap (map fact_of) c.in-Some.ensures.steps) c.in_ok-keep.ensures.ok c.loop-tuple.invariant.2,
 )

@@ -8,4 +8,4 @@ abbrev pub invariant-loop-tuple : goal.invariant-loop-tuple
 invariant-loop-tuple l =
     (goal.iterator-loop-tuple).can_next l.tuple-iterator ×
     (goal.iterator-loop-tuple).is_finite l.tuple-iterator ×
-    IsIndexTo l.facts (map fact_of l.tuple-iterator) l.columns.items
+    IsIndexTo l.facts (map fact_of l.tuple-iterator) l.relations.items

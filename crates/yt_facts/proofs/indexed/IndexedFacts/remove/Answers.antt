@@ -10,5 +10,5 @@ use Rattle.yt_facts.proofs.indexed.IndexedFacts.remove.Goals as goal
 pub invariant_of-self : goal.invariant_of-self
 invariant_of-self c =
     let t = fact_of c.args.tuple.now in
-    subst (λ (D : List Fact). IsRepository D × IsIndex D c.sweep.new.columns.items) (sym c.remove-there.ensures.after)
-    (filter_in_order (λ s. not (same_fact t s)) c.self.inside.all c.self.invariant.0, index_shrinks c.self.inside.all c.self.inside.columns.items c.sweep.new.columns.items t c.self.invariant.1 c.sweep.ensures.dropped)
+    subst (λ (D : List Fact). IsRepository D × IsIndex D c.drop_out.new.relations.items) (sym c.remove-there.ensures.after)
+    (filter_in_order (λ s. not (same_fact t s)) c.self.inside.all c.self.invariant.0, index_shrinks c.self.inside.all c.self.inside.relations.items c.drop_out.new.relations.items t c.self.invariant.1 c.drop_out.ensures.dropped)
