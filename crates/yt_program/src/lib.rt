@@ -23,6 +23,7 @@ mod rows;
 mod starting;
 mod turns;
 mod writes;
+mod writing;
 
 pub use crate::ends::{Outcome, Want};
 pub use crate::programs::Program;

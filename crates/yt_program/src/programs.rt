@@ -20,8 +20,9 @@ use crate::ends::{End, Want};
 use crate::looking::{look, looks_on};
 use crate::moves::Move;
 use crate::points::Point;
-use crate::starting::start;
+use crate::starting::{is_yes, start};
 use crate::turns::Turn;
+use crate::writing::{is_writing, write};
 use std::alloc::Global;
 use std::marker::Model;
 use yt_base::{Choice, Direction, MappingList, Memory, Operation, TryCopy, Update, WriteList};
@@ -211,6 +212,12 @@ impl Program {
         let fresh = self.fresh();
         match &mut self.point {
             Point::Reading(reading) => {
+                if is_writing(&reading.row) {
+                    let there = is_yes(answer);
+                    write(&self.operation, &mut self.point, &mut self.own, there)?;
+                    self.land(0, hand);
+                    return Ok(());
+                }
                 let turn = answered(alloc, &self.operation, fresh, reading, answer, mappings)?;
                 self.follow(alloc, turn, hand)
             }
