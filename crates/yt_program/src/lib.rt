@@ -10,13 +10,16 @@
 #![tactic(auto)]
 
 mod answering;
+mod counting;
 mod ends;
 mod found;
 mod looking;
 mod moves;
+mod passing;
 mod points;
 mod programs;
 mod readings;
+mod repairing;
 mod replacing;
 mod results;
 mod rows;
