@@ -1,6 +1,7 @@
 -- What the parts of a `Repair` stand for, and what is true of them.
-use Rattle.std.specs.Prelude.{◌≡◌, ℕ, true, List, map}
+use Rattle.std.specs.Prelude.{◌≡◌, ℕ, true, List, [], map}
 use Rattle.std.specs.List.{list_all, flat_map}
+use Rattle.yt_model.specs.Values.{Fact}
 use Rattle.yt_model.specs.Specific.{more_specific}
 use Rattle.yt_base.specs.Meanings.{null_of, datum_of, fact_of}
 use Rattle.yt_base.specs.declared.tuples.Tuple.{Tuple}
@@ -54,6 +55,34 @@ repairing_of g (Querying q) = querying (repair_of g) q
 repairing_of g (Waiting q) = waiting (repair_of g) q
 repairing_of g (Unifying q u) = unifying (repair_of g) q (gathering_of u)
 repairing_of g Repaired = meant.Repaired
+
+-- The query for tuples that are more specific than one, and that tuple.
+abbrev pub IsSpecific : Query → Type 0
+IsSpecific (Present t) = ⊥
+IsSpecific (Violation n) = ⊥
+IsSpecific (Specific t) = Unit {0}
+IsSpecific (Occurs u k) = ⊥
+
+abbrev pub tuple_asked : Query → Fact
+tuple_asked (Present t) = fact_of t
+tuple_asked (Violation n) = record { relation = 0; values = [] }
+tuple_asked (Specific t) = fact_of t
+tuple_asked (Occurs u k) = record { relation = 0; values = [] }
+
+-- A generation asks for tuples that are more specific than its tuple, and that tuple.
+abbrev pub IsComparing : Stage → Type 0
+IsComparing Generating = ⊥
+IsComparing (Querying q) = IsSpecific q
+IsComparing (Waiting q) = ⊥
+IsComparing (Unifying q u) = ⊥
+IsComparing Repaired = ⊥
+
+abbrev pub tuple_at : Stage → Fact
+tuple_at Generating = record { relation = 0; values = [] }
+tuple_at (Querying q) = tuple_asked q
+tuple_at (Waiting q) = record { relation = 0; values = [] }
+tuple_at (Unifying q u) = record { relation = 0; values = [] }
+tuple_at Repaired = record { relation = 0; values = [] }
 
 -- A generation asks whether its tuple is present, or for more specific ones.
 abbrev pub IsOfGeneration : Query → Type 0

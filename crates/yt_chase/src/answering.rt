@@ -47,8 +47,8 @@ pub(crate) fn answered(
                 Ok(Progress::Asks)
             }
         }
-        Stage::Querying(Query::Specific(tuple)) => {
-            *stage = compared(alloc, generation, own, tuple, tuples_of(answer), mappings)?;
+        Stage::Querying(Query::Specific(_)) => {
+            compared(alloc, generation, stage, own, tuples_of(answer), mappings)?;
             Ok(Progress::Ends)
         }
         Stage::Unifying(_, gathering) => {

@@ -13,6 +13,13 @@ pub fn append(alloc: Global, own: &mut WriteList, writes: WriteList) -> Result<(
     ensures ok { OnOk result (own.new.items ≡ own.old.items ++ writes.items) }
     ensures err { OnErr result (own.new.items ≡ own.old.items) }
 {
+    if own.is_empty() {
+        *own = writes;
+        return Ok(());
+    }
+    if writes.is_empty() {
+        return Ok(());
+    }
     let mut items = mem::replace(own, List::new(alloc)).into_vec();
     let grown = items.append(&mut writes.into_vec());
     *own = List::from_vec(items);

@@ -1,5 +1,6 @@
 -- What is wanted of a program and where it stands, in the terms of the steps of the chase.
-use Rattle.std.specs.Prelude.{Option, Some, None, if◌then◌else◌}
+use Rattle.std.specs.Prelude.{◌≡◌, [], Option, Some, None, if◌then◌else◌}
+use Rattle.yt_model.specs.Values.{Fact}
 use Rattle.yt_base.specs.Meanings.{null_of}
 use Rattle.yt_query.specs.Meanings.{query_of}
 use Rattle.yt_frontier.specs.Inquiries.{inquiry_of}
@@ -8,7 +9,7 @@ use Rattle.yt_chase.specs.Repairs.{phase_of, is_asking}
 use Rattle.yt_program.specs.Rows as rows
 use Rattle.yt_program.specs.Rows.{begun_in}
 use Rattle.yt_program.specs.Wishes.{End as EndTold, IsDone, IsSpent, IsRefused, Wish, WishesReply, WishesChoice, WishesNothing, WishesStep}
-use Rattle.yt_program.specs.RowMeanings.{row_of}
+use Rattle.yt_program.specs.RowMeanings.{row_of, tuple_asked}
 use Rattle.yt_program.specs.declared.ends.Outcome.{Outcome as OutcomeOfProgram}
 use Rattle.yt_program.specs.declared.ends.Outcome.TheVariants.{Done as DoneOutcome, Spent as SpentOutcome, Refused as RefusedOutcome}
 use Rattle.yt_program.specs.declared.ends.Want.{Want}
@@ -16,6 +17,7 @@ use Rattle.yt_program.specs.declared.ends.Want.TheVariants.{Read, Choice, Ended 
 use Rattle.yt_program.specs.declared.ends.End.{End}
 use Rattle.yt_program.specs.declared.ends.End.TheVariants.{Done, Spent, Refused}
 use Rattle.yt_program.specs.declared.readings.Reading.{Reading}
+use Rattle.yt_program.specs.declared.rows.Row.TheVariants.{Writing}
 use Rattle.yt_program.specs.declared.points.Point.{Point}
 use Rattle.yt_program.specs.declared.points.Point.TheVariants.{Start, Look, Repair, Ended, Reading as ReadingPoint}
 
@@ -61,3 +63,19 @@ row_at (ReadingPoint r) = Some (reading_of r)
 -- The phase and the step in hand that a `Point` stands for.
 abbrev pub point_of : Point → Phase × Option rows.Row
 point_of p = (phase_at p, row_at p)
+
+-- It is asked whether the operation's tuple is there.
+abbrev pub IsWriting : Point → Type 0
+IsWriting Start = ⊥
+IsWriting Look = ⊥
+IsWriting (Repair r) = ⊥
+IsWriting (Ended e) = ⊥
+IsWriting (ReadingPoint r) = r.row ≡ Writing
+
+-- The tuple that is asked about.
+abbrev pub tuple_at : Point → Fact
+tuple_at Start = record { relation = 0; values = [] }
+tuple_at Look = record { relation = 0; values = [] }
+tuple_at (Repair r) = record { relation = 0; values = [] }
+tuple_at (Ended e) = record { relation = 0; values = [] }
+tuple_at (ReadingPoint r) = tuple_asked (query_of r.query)

@@ -14,14 +14,15 @@ use crate::looking::{found_force, found_violation};
 use crate::readings::Reading;
 use crate::replacing::{found_replaced, found_replacement};
 use crate::rows::Row;
-use crate::starting::{found_name, is_yes, tuple_found};
+use crate::starting::found_name;
 use crate::turns::Turn;
 use std::alloc::Global;
 use yt_base::{MappingList, Memory, Operation};
 use yt_chase::Fresh;
 use yt_query::Answer;
 
-/// Goes on by the answer to the query that is asked. It is refused only for want of memory.
+/// Goes on by the answer to the query that is asked, which is not whether the operation's tuple is there. It is refused
+/// only for want of memory.
 pub(crate) fn answered(
     alloc: Global,
     operation: &Operation,
@@ -30,6 +31,7 @@ pub(crate) fn answered(
     answer: &Answer,
     mappings: &MappingList,
 ) -> Result<Turn, Memory>
+    requires going { reading.now.row ≡ Row.Writing → ⊥ }
     requires within { AreWithin (map rule_of mappings.now.items) }
     requires room { fresh.drawn + 64 < 4294967296 }
     requires kind { IsOfKind (map rule_of mappings.now.items) (query_of reading.now.query) (reply_of answer.now) }
@@ -38,7 +40,7 @@ pub(crate) fn answered(
 {
     match &reading.row {
         Row::Naming(naming) => found_name(alloc, operation, naming, answer),
-        Row::Writing => tuple_found(alloc, operation, &reading.query, is_yes(answer)),
+        Row::Writing => unreachable!(),
         Row::Replacing(name) => found_replaced(alloc, operation, *name, answer),
         Row::Renaming { name, null, tuples } => {
             found_replacement(alloc, *name, *null, tuples, answer)

@@ -10,19 +10,23 @@
 #![tactic(auto)]
 
 mod answering;
+mod counting;
 mod ends;
 mod found;
 mod looking;
 mod moves;
+mod passing;
 mod points;
 mod programs;
 mod readings;
+mod repairing;
 mod replacing;
 mod results;
 mod rows;
 mod starting;
 mod turns;
 mod writes;
+mod writing;
 
 pub use crate::ends::{Outcome, Want};
 pub use crate::programs::Program;

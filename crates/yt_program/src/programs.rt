@@ -1,31 +1,33 @@
 //! A program: an attempt at an update, step by step.
-ghost use Rattle.std.specs.Prelude.{◌≡◌, ◌+◌, ◌≤◌, ◌||◌, suc, true, false, nat_lt, if◌then◌else◌, None, Some, List, map, is_some, IfOk, OnOk, OnErr};
+ghost use Rattle.std.specs.Prelude.{◌≡◌, ◌≤◌, true, false, None, Some, List, map, is_some, IfOk, OnOk, OnErr};
 ghost use Rattle.yt_model.specs.Mappings.{Rule};
 ghost use Rattle.yt_base.specs.Meanings.{change_of, choice_of, operation_of, heading_of, rule_of};
 ghost use Rattle.yt_model.specs.Updates.{direction_of};
 ghost use Rattle.yt_query.specs.Meanings.{reply_of};
-ghost use Rattle.yt_steps.specs.Attempts.{begun, question_in, outcome_in, Look, Ended, Spent};
+ghost use Rattle.yt_steps.specs.Attempts.{begun, question_in, Look};
 ghost use Rattle.yt_steps.specs.Steps.{step, moved, look_from};
 ghost use Rattle.yt_program.specs.Conditions.{AreWithin, IsBudget};
 ghost use Rattle.yt_program.specs.Courses.{coming_to, counted, course, by_reply, first_asked};
-ghost use Rattle.yt_program.specs.Wishes.{wish, wish_of_repair, WishesStep, query_wished, TakesAnswer, Fits};
+ghost use Rattle.yt_program.specs.Wishes.{wish, WishesStep, query_wished, TakesAnswer, Fits};
 ghost use Rattle.yt_chase.specs.Meanings.{DrawsFrom};
-ghost use Rattle.yt_chase.specs.Repairs.{is_asking, phase_of};
-ghost use Rattle.yt_chase.specs.Stands.{wanted, WantsStep};
-ghost use Rattle.yt_program.specs.PointMeanings.{want_of, phase_at, row_at};
+ghost use Rattle.yt_program.specs.PointMeanings.{want_of};
 ghost use Rattle.yt_program.specs.TurnMeanings.{move_of, turn_tree, IsTurnOf};
 
 use crate::answering::answered;
-use crate::ends::{End, Want};
-use crate::looking::{look, looks_on};
+use crate::counting::{spend, taken_after};
+use crate::ends::Want;
+use crate::looking::look;
 use crate::moves::Move;
+use crate::passing::looks_on;
 use crate::points::Point;
-use crate::starting::start;
+use crate::repairing::{generates, want_of_repair};
+use crate::starting::{is_yes, start};
 use crate::turns::Turn;
+use crate::writing::{is_writing, write};
 use std::alloc::Global;
 use std::marker::Model;
 use yt_base::{Choice, Direction, MappingList, Memory, Operation, TryCopy, Update, WriteList};
-use yt_chase::{Fresh, Progress, Repair, RepairWant, append};
+use yt_chase::{Fresh, Progress, append};
 use yt_query::Answer;
 
 // The step in hand: its budget, and whether it takes the answer to a question.
@@ -211,6 +213,12 @@ impl Program {
         let fresh = self.fresh();
         match &mut self.point {
             Point::Reading(reading) => {
+                if is_writing(&reading.row) {
+                    let there = is_yes(answer);
+                    write(&self.operation, &mut self.point, &mut self.own, there)?;
+                    self.land(0, hand);
+                    return Ok(());
+                }
                 let turn = answered(alloc, &self.operation, fresh, reading, answer, mappings)?;
                 self.follow(alloc, turn, hand)
             }
@@ -354,56 +362,6 @@ impl Program {
         ensures heading { heading_of result ≡ direction_of self.now.attempt.operation }
     {
         self.operation.direction()
-    }
-}
-
-// The count of answers after a step that takes one or none.
-fn taken_after(taken: u32, answers: bool) -> u32
-    requires { taken ≤ 300 }
-    ensures value { result ≡ (if answers then suc taken else taken) }
-    ensures most { result ≤ taken + 1 }
-{
-    if answers { taken + 1 } else { taken }
-}
-
-// Keeps the point, unless all steps are made and the attempt has not ended there: it is then spent.
-fn spend(point: &mut Point, steps: u32, budget: u32)
-    requires { row_at point.old ≡ None }
-    ensures phase { phase_at point.new ≡ (if is_some (outcome_in (phase_at point.old)) || nat_lt steps budget then phase_at point.old else Ended Spent) }
-    ensures rests { row_at point.new ≡ None }
-{
-    if steps < budget {
-        return;
-    }
-    if !point.has_ended() {
-        *point = Point::Ended(End::Spent);
-    }
-}
-
-// What a repair wants, as a program wants it.
-fn want_of_repair(repair: &Repair) -> Want<'_>
-    ensures want { want_of result ≡ wish_of_repair repair.now }
-    ensures rests { query_wished (want_of result) ≡ None → is_asking repair.now ≡ false }
-{
-    match repair.wants() {
-        RepairWant::Query(query) => Want::Read(query),
-        RepairWant::Question(question) => Want::Choice(question),
-        RepairWant::NextStep => Want::NextStep,
-        RepairWant::Finished => Want::NextStep,
-    }
-}
-
-// Whether the repair's next step is one of its own, and not a look.
-fn generates(repair: &Repair) -> bool
-    requires { wish_of_repair repair.now ≡ WishesStep }
-    ensures generates { result ≡ true → wanted repair.now ≡ WantsStep }
-    ensures looks { result ≡ false → phase_of repair.now ≡ Look }
-{
-    match repair.wants() {
-        RepairWant::NextStep => true,
-        RepairWant::Finished => false,
-        RepairWant::Query(_) => unreachable!(),
-        RepairWant::Question(_) => unreachable!(),
     }
 }
 

@@ -2,12 +2,12 @@
 ghost use Rattle.std.specs.Prelude.{◌≡◌, List, [], ◌∷◌, ◌++◌, drop, map, IfOk};
 ghost use Rattle.yt_model.specs.Mappings.{Rule, force as force_lem};
 ghost use Rattle.yt_base.specs.Meanings.{null_of, datum_of, fact_of, operation_of};
-ghost use Rattle.yt_query.specs.Meanings.{query_of, reply_of};
+ghost use Rattle.yt_query.specs.Meanings.{reply_of};
 ghost use Rattle.yt_steps.specs.Attempts.{Attempt, Start};
 ghost use Rattle.yt_steps.specs.Rewriting.{nulls_in as nulls_in_lem};
 ghost use Rattle.yt_steps.specs.Steps.{start as start_lem, is_yes as is_yes_lem};
-ghost use Rattle.yt_program.specs.Rows.{Writing, row_tree, goes_on, named, present as present_lem, written as written_lem};
-ghost use Rattle.yt_program.specs.RowMeanings.{standing_of, naming_of, tuple_asked};
+ghost use Rattle.yt_program.specs.Rows.{Writing, row_tree, goes_on, named, present as present_lem};
+ghost use Rattle.yt_program.specs.RowMeanings.{standing_of, naming_of};
 ghost use Rattle.yt_program.specs.TurnMeanings.{turn_tree, IsTurnOf};
 
 use crate::found::{Standing, StandingList, holders, resolved, standing_for};
@@ -144,55 +144,6 @@ fn with_standing(alloc: Global, naming: &Naming, value: Value) -> Result<Standin
         value,
     })?;
     Ok(found)
-}
-
-/// Goes on by whether the tuple that the query asks for is there. It is refused only for want of memory.
-pub(crate) fn tuple_found(
-    alloc: Global,
-    operation: &Operation,
-    query: &Query,
-    there: bool,
-) -> Result<Turn, Memory>
-    ensures value { IfOk result (λ turn. (ms : List Rule) (P : Attempt) → turn_tree ms P turn ≡ written_lem (operation_of operation.now) (tuple_asked (query_of query.now)) there) }
-    ensures turn { IfOk result (IsTurnOf Start) }
-{
-    match query {
-        Query::Present(tuple) => written(alloc, operation, tuple, there),
-        Query::Specific(tuple) => written(alloc, operation, tuple, there),
-        Query::Violation(_) => written(alloc, operation, &nothing(alloc), there),
-        Query::Occurs(_, _) => written(alloc, operation, &nothing(alloc), there),
-    }
-}
-
-// The tuple without values.
-fn nothing(alloc: Global) -> Tuple
-    ensures value { fact_of result ≡ record { relation = 0; values = [] } }
-{
-    Tuple {
-        relation: 0,
-        values: ValueRow::new(alloc),
-    }
-}
-
-// An insertion writes the tuple where it is not there, a deletion where it is.
-fn written(alloc: Global, operation: &Operation, tuple: &Tuple, there: bool) -> Result<Turn, Memory>
-    ensures value { IfOk result (λ turn. (ms : List Rule) (P : Attempt) → turn_tree ms P turn ≡ written_lem (operation_of operation.now) (fact_of tuple.now) there) }
-    ensures turn { IfOk result (IsTurnOf Start) }
-{
-    match operation {
-        Operation::Insert(_) => if there {
-            Ok(Turn::looks(WriteList::new(alloc)))
-        } else {
-            Ok(Turn::looks(one(alloc, Write::Insert(tuple.copy(alloc)?))?))
-        },
-        Operation::Delete(_) => if there {
-            Ok(Turn::looks(one(alloc, Write::Delete(tuple.copy(alloc)?))?))
-        } else {
-            Ok(Turn::looks(WriteList::new(alloc)))
-        },
-        Operation::Replace(_, _) => Ok(Turn::looks(WriteList::new(alloc))),
-        Operation::Enact(_) => Ok(Turn::looks(WriteList::new(alloc))),
-    }
 }
 
 /// Whether the answer is yes.

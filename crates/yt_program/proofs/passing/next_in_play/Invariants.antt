@@ -2,7 +2,7 @@ use Rattle.std.proofs.Common.{◌≡◌, map, drop}
 use Rattle.yt_base.specs.Meanings.{rule_of}
 use Rattle.yt_steps.specs.Attempts.{Attempt}
 use Rattle.yt_steps.specs.Steps.{look_from}
-use Rattle.yt_program.proofs.looking.next_in_play.Given as goal
+use Rattle.yt_program.proofs.passing.next_in_play.Given as goal
 
 -- The look from here on is that from the start on.
 abbrev pub invariant-loop-place : goal.invariant-loop-place

@@ -3,7 +3,7 @@ use Rattle.std.specs.Option.{option_map}
 use Rattle.yt_model.proofs.Maps.{get_map}
 use Rattle.yt_base.specs.Meanings.{rule_of}
 use Rattle.yt_program.proofs.Looks.{passes_by, passes_end}
-use Rattle.yt_program.proofs.looking.in_play.Goals as goal
+use Rattle.yt_program.proofs.passing.in_play.Goals as goal
 
 pub returns-then-mapping-number-clause-found : goal.returns-then-mapping-number-clause-found
 returns-then-mapping-number-clause-found c = get_map rule_of c.args.mappings.now.items c.args.place ∙ ap (option_map rule_of) (sym c.in-Some.ensures.item)

@@ -1,6 +1,6 @@
 use Rattle.std.proofs.Common.{◌∙◌, arith, sym}
 use Rattle.yt_program.proofs.Looks.{looks_past}
-use Rattle.yt_program.proofs.looking.next_in_play.Goals as goal
+use Rattle.yt_program.proofs.passing.next_in_play.Goals as goal
 
 pub loop-place-preserved : goal.loop-place-preserved
 loop-place-preserved c = λ P e. sym (c.in_default.ensures.passed P e) ∙ c.loop-place.invariant P e

@@ -1,0 +1,30 @@
+//! What the count of a step leaves of an attempt.
+ghost use Rattle.std.specs.Prelude.{◌≡◌, ◌+◌, ◌≤◌, ◌||◌, suc, nat_lt, if◌then◌else◌, None, is_some};
+ghost use Rattle.yt_steps.specs.Attempts.{outcome_in, Ended, Spent};
+ghost use Rattle.yt_program.specs.PointMeanings.{phase_at, row_at};
+
+use crate::ends::End;
+use crate::points::Point;
+
+/// The count of answers after a step that takes one or none.
+pub(crate) fn taken_after(taken: u32, answers: bool) -> u32
+    requires { taken ≤ 300 }
+    ensures value { result ≡ (if answers then suc taken else taken) }
+    ensures most { result ≤ taken + 1 }
+{
+    if answers { taken + 1 } else { taken }
+}
+
+/// Keeps the point, unless all steps are made and the attempt has not ended there: it is then spent.
+pub(crate) fn spend(point: &mut Point, steps: u32, budget: u32)
+    requires { row_at point.old ≡ None }
+    ensures phase { phase_at point.new ≡ (if is_some (outcome_in (phase_at point.old)) || nat_lt steps budget then phase_at point.old else Ended Spent) }
+    ensures rests { row_at point.new ≡ None }
+{
+    if steps < budget {
+        return;
+    }
+    if !point.has_ended() {
+        *point = Point::Ended(End::Spent);
+    }
+}
