@@ -1,4 +1,4 @@
-//! The index of a set: for each column, the tuples by their value in it. Each column holds its own copies.
+//! The columns of one relation: for each, the tuples by their value in it. Each column holds its own copies.
 ghost use Rattle.std.specs.Map.{lookup};
 ghost use Rattle.std.specs.Prelude.{◌≡◌, ◌↔◌, ℕ, not, ◌&&◌, ◌||◌, ◌<◌, length, unwrap_or, [], Some, IsTrue, IfSome, OnOk, OnErr};
 ghost use Rattle.std.specs.Option.{option_copied};
