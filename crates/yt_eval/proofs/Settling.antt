@@ -5,15 +5,14 @@ use Rattle.std.specs.Prelude.{◌==◌}
 use Rattle.std.proofs.lemmas.Bool.{and_parts, not-true, eqb-false}
 use Rattle.yt_model.specs.Values.{Fact}
 use Rattle.yt_model.specs.Repository.{Change, Insert, Delete, apply, inserts}
-use Rattle.yt_model.specs.Mappings.{Pattern, Rule, force, force_relation}
+use Rattle.yt_model.specs.Mappings.{Rule, force, force_relation}
 use Rattle.yt_model.specs.Matching.{Known, nothing_known, learn_all, lists_of, extends}
-use Rattle.yt_model.specs.Mentions.{rule_mentions}
 use Rattle.yt_model.specs.Queries.{Nothing, Violation, image_reply, violation_reply, scope_at, value}
 use Rattle.yt_model.specs.Violations.{Direction, Forward, Backward, Every, Caused, in_scope, violated_at, violates, first_violation}
 use Rattle.yt_model.proofs.Bools.{first_off, and-false}
 use Rattle.yt_model.proofs.Searches.{any_join, find_none}
 use Rattle.yt_eval.specs.Seen.{Seen, written}
-use Rattle.yt_eval.specs.Watched.{Watched, watched_on, relation_in, stirs, AreSettled}
+use Rattle.yt_eval.specs.Watched.{Watched, watched_on, relation_in, touches, stirs, AreSettled}
 use Rattle.yt_eval.proofs.Written.{apply_one_more}
 use Rattle.yt_eval.proofs.OtherRelations.{differ_by_relation, none_stays}
 
@@ -74,11 +73,9 @@ still_nothing v w n h e = by (slice_get v.rules n) h e
         → violation_reply o (scope_at (Caused v.heading) (v.own ++ w ∷ []) n) (v.own ++ w ∷ []) (apply v.below (v.own ++ w ∷ [])) ≡ Nothing
     by None h e = refl
     by (Some m) h e =
-        let force_off = first_off (relation_in w == force_relation) (rule_mentions (Some m) (relation_in w)) h in
-        let sides = first_off (list_any (λ (a : Pattern). a.relation == relation_in w) m.left) (list_any (λ (a : Pattern). a.relation == relation_in w) m.right)
-        (sym (any_join (λ (a : Pattern). a.relation == relation_in w) m.left m.right) ∙ force_off.1) in
+        let force_off = first_off (relation_in w == force_relation) (touches w (Some m)) h in
         (λ i. image_reply (first_violation (same_scope v.heading v.own w n force_off.0 i) (v.own ++ w ∷ []) m (apply_one_more v.below v.own w i)))
-        ∙ ap image_reply (none_stays (scope_at (Caused v.heading) v.own n) v.own w m (apply v.below v.own) sides.0 sides.1 (no_image _ e))
+        ∙ ap image_reply (none_stays (scope_at (Caused v.heading) v.own n) v.own w m (apply v.below v.own) force_off.1 (no_image _ e))
 
 -- The marks that the write leaves.
 abbrev pub Left : List Rule → Change → List Bool → List Bool → Type 0

@@ -1,9 +1,9 @@
 -- What a contract sees of a watched view, which writes may give a mapping a violation, and which mappings have none.
-use Rattle.std.specs.Prelude.{◌≡◌, ℕ, ◌==◌, Bool, true, false, ◌||◌, List, ◌++◌, Option, slice_index_or}
+use Rattle.std.specs.Prelude.{◌≡◌, ℕ, ◌==◌, Bool, true, false, ◌||◌, List, ◌++◌, Option, Some, None, slice_index_or}
+use Rattle.std.specs.List.{list_any}
 use Rattle.yt_model.specs.Values.{Fact}
 use Rattle.yt_model.specs.Repository.{Change, Insert, Delete}
 use Rattle.yt_model.specs.Mappings.{Rule, force_relation}
-use Rattle.yt_model.specs.Mentions.{rule_mentions}
 use Rattle.yt_model.specs.Queries.{Violation, Nothing, value}
 use Rattle.yt_model.specs.Violations.{Direction, Caused}
 
@@ -23,9 +23,15 @@ abbrev pub relation_in : Change → ℕ
 relation_in (Insert t) = t.relation
 relation_in (Delete t) = t.relation
 
--- The write may give the mapping a violation: the mapping has an atom of its relation, or it may put a mapping in force.
+-- The write may give the mapping a violation: an insertion to a mapping with an atom of its relation on the left, a deletion to one with such an atom on the right.
+abbrev pub touches : Change → Option Rule → Bool
+touches w None = false
+touches (Insert t) (Some m) = list_any (λ a. a.relation == t.relation) m.left
+touches (Delete t) (Some m) = list_any (λ a. a.relation == t.relation) m.right
+
+-- The write may give the mapping a violation, or it may put a mapping in force.
 abbrev pub stirs : Change → Option Rule → Bool
-stirs w m = (relation_in w == force_relation) || rule_mentions m (relation_in w)
+stirs w m = (relation_in w == force_relation) || touches w m
 
 -- Each mapping with a mark has no violation that the own writes caused.
 abbrev pub AreSettled : Watched → List Bool → Type 0

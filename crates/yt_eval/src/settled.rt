@@ -2,9 +2,8 @@
 ghost use Rattle.std.specs.Prelude.{◌≡◌, ◌==◌, ℕ, ◌&&◌, true, false, not, slice_index_or, slice_set, replicate, map, IfOk};
 ghost use Rattle.std.specs.List.{list_any, slice_get};
 ghost use Rattle.std.specs.Option.{option_map, option_copied};
-ghost use Rattle.yt_model.specs.Mentions.{rule_mentions};
 ghost use Rattle.yt_base.specs.Meanings.{change_of, pattern_of, rule_of};
-ghost use Rattle.yt_eval.specs.Watched.{relation_in, stirs};
+ghost use Rattle.yt_eval.specs.Watched.{relation_in, stirs, touches as touches_lem};
 
 use crate::scopes::FORCE_RELATION;
 use std::alloc::Global;
@@ -52,25 +51,24 @@ impl Settled {
         }
     }
 
-    /// Stirs the mappings to which the write may give a violation: those with an atom of its relation, and all of them
-    /// where it may put a mapping in force.
+    /// Stirs the mappings to which the write may give a violation: by an insertion those with an atom of its relation on
+    /// the left, by a deletion those with one on the right, and all of them where it may put a mapping in force.
     pub fn stir(&mut self, mappings: &MappingList, write: &Write)
         ensures left { (n : ℕ) → slice_index_or self.new n false ≡ (slice_index_or self.old n false && not (stirs (change_of write.now) (slice_get (map rule_of mappings.now.items) n))) }
     {
-        let relation = relation_of(write);
-        if relation == FORCE_RELATION {
+        if relation_of(write) == FORCE_RELATION {
             self.marks.fill(false);
         } else {
-            self.stir_relation(mappings, relation);
+            self.stir_touched(mappings, write);
         }
     }
 
-    // Stirs the mappings with an atom of the relation.
-    fn stir_relation(&mut self, mappings: &MappingList, relation: u16)
-        ensures left { (n : ℕ) → slice_index_or self.new n false ≡ (slice_index_or self.old n false && not (rule_mentions (slice_get (map rule_of mappings.now.items) n) relation)) }
+    // Stirs the mappings that the write touches.
+    fn stir_touched(&mut self, mappings: &MappingList, write: &Write)
+        ensures left { (n : ℕ) → slice_index_or self.new n false ≡ (slice_index_or self.old n false && not (touches_lem (change_of write.now) (slice_get (map rule_of mappings.now.items) n))) }
     {
         for (number, mark) in self.marks.iter_mut().enumerate() {
-            *mark = *mark && !mentions(mappings.get(number), relation);
+            *mark = *mark && !touches(mappings.get(number), write);
         }
     }
 }
@@ -85,15 +83,15 @@ fn relation_of(write: &Write) -> u16
     }
 }
 
-// Whether the mapping has an atom of the relation.
-fn mentions(mapping: Option<&Mapping>, relation: u16) -> bool
-    ensures answer { result ≡ rule_mentions (option_map rule_of (option_copied mapping.entry)) relation }
+// Whether the mapping has an atom of the write's relation, on the left for an insertion, on the right for a deletion.
+fn touches(mapping: Option<&Mapping>, write: &Write) -> bool
+    ensures answer { result ≡ touches_lem (change_of write.now) (option_map rule_of (option_copied mapping.entry)) }
 {
     match mapping {
-        Some(mapping) => {
-            stands_in(mapping.left.as_slice(), relation)
-                || stands_in(mapping.right.as_slice(), relation)
-        }
+        Some(mapping) => match write {
+            Write::Insert(tuple) => stands_in(mapping.left.as_slice(), tuple.relation),
+            Write::Delete(tuple) => stands_in(mapping.right.as_slice(), tuple.relation),
+        },
         None => false,
     }
 }
