@@ -108,6 +108,14 @@ impl IndexedFacts {
         there
     }
 
+    /// The tuples in order, taken out of the set. It is refused only for want of memory.
+    pub fn into_list(self, alloc: Global) -> Result<TupleList, Memory>
+        ensures tuples { IfOk result (λ list. map fact_of list.items ≡ self) }
+    {
+        let IndexedFacts { all, .. } = self;
+        all.into_list(alloc)
+    }
+
     /// The tuples in order. It is refused only for want of memory.
     pub fn list(&self, alloc: Global) -> Result<TupleList, Memory>
         ensures tuples { IfOk result (λ list. map fact_of list.items ≡ self.now) }

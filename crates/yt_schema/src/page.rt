@@ -58,24 +58,24 @@ impl Page {
     }
 
     /// Adds a number.
-    pub fn number(mut self, alloc: Global, integer: i64) -> Result<Page, Memory>
+    pub fn number(mut self, _alloc: Global, integer: i64) -> Result<Page, Memory>
         ensures word { IfOk result (λ page. page ≡ with_word self (number integer)) }
     {
         push_space(&mut self.text, self.apart)?;
-        push_number(alloc, &mut self.text, integer)?;
+        push_number(&mut self.text, integer)?;
         self.apart = true;
         Ok(self)
     }
 
     /// Adds a value, a null by its outer name.
-    pub fn value(mut self, alloc: Global, value: &Value) -> Result<Page, Memory>
+    pub fn value(mut self, _alloc: Global, value: &Value) -> Result<Page, Memory>
         ensures word { IfOk result (λ page. page ≡ with_word self (value_word (datum_of value.now))) }
     {
         push_space(&mut self.text, self.apart)?;
         match value {
-            Value::Int(number) => push_number(alloc, &mut self.text, *number)?,
+            Value::Int(number) => push_number(&mut self.text, *number)?,
             Value::Word(text) => push_text(&mut self.text, text.as_slice())?,
-            Value::Null(null) => push_null(alloc, &mut self.text, null.update, null.place)?,
+            Value::Null(null) => push_null(&mut self.text, null.update, null.place)?,
         }
         self.apart = true;
         Ok(self)

@@ -9,51 +9,35 @@ use crate::spelling::push_value;
 use std::alloc::{AllocError, Global};
 use yt_base::{Memory, Tuple, Value};
 
-fn push_other(
-    alloc: Global,
-    out: &mut Vec<u8>,
-    inner: bool,
-    value: &Value,
-) -> Result<(), AllocError>
+fn push_other(out: &mut Vec<u8>, inner: bool, value: &Value) -> Result<(), AllocError>
     ensures { OnOk result (out.new.items ≡ out.old.items ++ 44 ∷ 32 ∷ value_text inner (datum_of value.now)) }
 {
     out.extend_from_slice(b", ")?;
-    push_value(alloc, out, inner, value)
+    push_value(out, inner, value)
 }
 
-fn push_others(
-    alloc: Global,
-    out: &mut Vec<u8>,
-    inner: bool,
-    values: &[Value],
-) -> Result<(), AllocError>
+fn push_others(out: &mut Vec<u8>, inner: bool, values: &[Value]) -> Result<(), AllocError>
     ensures { OnOk result (out.new.items ≡ out.old.items ++ flat_map (λ d. 44 ∷ 32 ∷ value_text inner d) (map datum_of values.now)) }
 {
     for value in values {
-        push_other(alloc, out, inner, value)?;
+        push_other(out, inner, value)?;
     }
     Ok(())
 }
 
-fn push_values(
-    alloc: Global,
-    out: &mut Vec<u8>,
-    inner: bool,
-    values: &[Value],
-) -> Result<(), AllocError>
+fn push_values(out: &mut Vec<u8>, inner: bool, values: &[Value]) -> Result<(), AllocError>
     ensures { OnOk result (out.new.items ≡ out.old.items ++ joined_text (value_text inner) (map datum_of values.now)) }
 {
     match values {
         [] => Ok(()),
         [first, others @ ..] => {
-            push_value(alloc, out, inner, first)?;
-            push_others(alloc, out, inner, others)
+            push_value(out, inner, first)?;
+            push_others(out, inner, others)
         }
     }
 }
 
 fn push_tuple(
-    alloc: Global,
     out: &mut Vec<u8>,
     schema: &Schema,
     inner: bool,
@@ -64,11 +48,11 @@ fn push_tuple(
     let values = tuple.values.as_slice();
     if tuple.relation == 65535 {
         out.push(b'*')?;
-        return push_values(alloc, out, inner, values);
+        return push_values(out, inner, values);
     }
     out.extend_from_slice(schema.name(tuple.relation))?;
     out.push(b'(')?;
-    push_values(alloc, out, inner, values)?;
+    push_values(out, inner, values)?;
     out.push(b')')?;
     Ok(())
 }
@@ -86,6 +70,6 @@ pub fn print_tuple(
     ensures printed { IfOk result (λ text. text.items ≡ tuple_text schema.now inner (fact_of tuple.now)) }
 {
     let mut text = Vec::new(alloc);
-    push_tuple(alloc, &mut text, schema, inner, tuple)?;
+    push_tuple(&mut text, schema, inner, tuple)?;
     Ok(text)
 }

@@ -6,46 +6,46 @@ ghost use Rattle.yt_grammar.specs.Layout.{null_text, quoted, written_byte};
 ghost use Rattle.yt_grammar.specs.Printing.{null_name_text, value_text};
 ghost use Rattle.yt_base.specs.Meanings.{datum_of, null_of};
 
-use std::alloc::{AllocError, Global};
+use itoa::Buffer;
+use std::alloc::AllocError;
 use yt_base::{Null, Value};
 
 /// A number in plain decimal.
-pub(crate) fn push_number(alloc: Global, out: &mut Vec<u8>, number: i64) -> Result<(), AllocError>
+pub(crate) fn push_number(out: &mut Vec<u8>, number: i64) -> Result<(), AllocError>
     ensures { OnOk result (out.new.items ≡ out.old.items ++ signed_decimal number) }
 {
-    let digits = format!(in alloc; "{number}")?;
-    out.extend_from_slice(digits.as_bytes())
+    let mut spelled = Buffer::new();
+    out.extend_from_slice(spelled.format(number).as_bytes())
+}
+
+// A number that is not negative in plain decimal.
+fn push_natural(out: &mut Vec<u8>, number: u32) -> Result<(), AllocError>
+    ensures { OnOk result (out.new.items ≡ out.old.items ++ decimal number) }
+{
+    let mut digits = Buffer::new();
+    out.extend_from_slice(digits.format(number).as_bytes())
 }
 
 /// The null of an update and a place.
-pub(crate) fn push_null(
-    alloc: Global,
-    out: &mut Vec<u8>,
-    update: u32,
-    place: u32,
-) -> Result<(), AllocError>
+pub(crate) fn push_null(out: &mut Vec<u8>, update: u32, place: u32) -> Result<(), AllocError>
     ensures { OnOk result (out.new.items ≡ out.old.items ++ null_text update place) }
 {
-    let spelled = format!(in alloc; "?{update}.{place}")?;
-    out.extend_from_slice(spelled.as_bytes())
+    out.push(b'?')?;
+    push_natural(out, update)?;
+    out.push(b'.')?;
+    push_natural(out, place)
 }
 
 // A null by its outer name, or by its inner name with the attempt.
-fn push_null_name(
-    alloc: Global,
-    out: &mut Vec<u8>,
-    inner: bool,
-    null: Null,
-) -> Result<(), AllocError>
+fn push_null_name(out: &mut Vec<u8>, inner: bool, null: Null) -> Result<(), AllocError>
     ensures { OnOk result (out.new.items ≡ out.old.items ++ null_name_text inner (null_of null)) }
 {
-    push_null(alloc, out, null.update, null.place)?;
+    push_null(out, null.update, null.place)?;
     if !inner {
         return Ok(());
     }
-    let attempt = null.attempt;
-    let spelled = format!(in alloc; "@{attempt}")?;
-    out.extend_from_slice(spelled.as_bytes())
+    out.push(b'@')?;
+    push_natural(out, null.attempt)
 }
 
 // A byte of a text.
@@ -85,17 +85,12 @@ pub(crate) fn push_text(out: &mut Vec<u8>, text: &[u8]) -> Result<(), AllocError
 }
 
 /// A value, nulls by their inner names where that is asked for.
-pub(crate) fn push_value(
-    alloc: Global,
-    out: &mut Vec<u8>,
-    inner: bool,
-    value: &Value,
-) -> Result<(), AllocError>
+pub(crate) fn push_value(out: &mut Vec<u8>, inner: bool, value: &Value) -> Result<(), AllocError>
     ensures { OnOk result (out.new.items ≡ out.old.items ++ value_text inner (datum_of value.now)) }
 {
     match value {
-        Value::Int(number) => push_number(alloc, out, *number),
+        Value::Int(number) => push_number(out, *number),
         Value::Word(text) => push_text(out, text.as_slice()),
-        Value::Null(null) => push_null_name(alloc, out, inner, *null),
+        Value::Null(null) => push_null_name(out, inner, *null),
     }
 }

@@ -63,10 +63,10 @@ fn make_one(alloc: Global, facts: &mut IndexedFacts, write: &Write) -> Result<()
 
 /// The tuples of the repository in order, without those that say which mappings are in force. It is refused only for
 /// want of memory.
-pub(crate) fn told(alloc: Global, facts: &IndexedFacts) -> Result<TupleList, Memory>
-    ensures told { IfOk result (λ tuples. map fact_of tuples.items ≡ answered facts.now) }
+pub(crate) fn told(alloc: Global, facts: IndexedFacts) -> Result<TupleList, Memory>
+    ensures told { IfOk result (λ tuples. map fact_of tuples.items ≡ answered facts) }
 {
-    without_force(alloc, facts.list(alloc)?)
+    without_force(alloc, facts.into_list(alloc)?)
 }
 
 // The tuples but for those that say which mappings are in force.

@@ -84,7 +84,7 @@ fn run(
     let mut finishes = FinishList::new(alloc);
     let mut facts = base;
     let stop = take_all(alloc, &mut finishes, &mut facts, updates, mappings, steps)?;
-    let repository = told(alloc, &facts)?;
+    let repository = told(alloc, facts)?;
     Ok(SessionResult {
         finishes,
         stop,
