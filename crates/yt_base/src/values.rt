@@ -55,7 +55,6 @@ impl Ord for Value {
 
     ghost matches_eq = { λ _ _. refl };
 
-    #[inline(always)]
     fn cmp(&self, other: &Value) -> Ordering {
         match (self, other) {
             (Value::Int(i), Value::Int(j)) => i.cmp(j),
