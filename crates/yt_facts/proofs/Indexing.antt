@@ -1,16 +1,20 @@
 -- The index keeps up with the set.
-use Rattle.std.proofs.Common.{◌≡◌, ℕ, ap, refl, sym, ◌∙◌, List, [], ◌∷◌, Bool, true, false, ◌||◌, ◌&&◌, not, Option}
+use Rattle.std.proofs.Common.{◌≡◌, ℕ, ap, refl, sym, ◌∙◌, List, [], ◌∷◌, Bool, true, false, ◌||◌, ◌&&◌, not, Option, Some, map}
 use Rattle.std.specs.BTreeSet.{insert_key}
 use Rattle.std.specs.declared.vec.Vec.{Vec}
 use Rattle.std.specs.declared.alloc.Global.{Global}
-use Rattle.std.specs.Prelude.{filter, find}
-use Rattle.yt_model.specs.Values.{Datum, Fact, fact_cmp, same_fact}
+use Rattle.std.specs.Prelude.{filter, find, slice_get}
+use Rattle.std.proofs.lemmas.Bool.{eq-eqb}
+use Rattle.yt_model.specs.Values.{Datum, Fact, fact_cmp, same_fact, same_datum}
 use Rattle.yt_model.specs.Repository.{Insert, Delete, IsRepository, change, has}
-use Rattle.yt_model.specs.Cursors.{is_of, is_beyond, has_at, is_scanned, scan_of}
-use Rattle.yt_model.proofs.Bools.{and-true}
+use Rattle.yt_model.specs.Cursors.{is_of, is_beyond, has_at, is_datum, is_scanned, scan_of}
+use Rattle.yt_model.proofs.Bools.{and-true, none_some, some_same}
+use Rattle.yt_model.proofs.Learning.{same_datum_itself}
 use Rattle.yt_model.proofs.Members.{has-filter}
 use Rattle.yt_model.proofs.Searches.{find_same}
 use Rattle.yt_model.proofs.Sets.{has-insert, has-delete, insert_in_order, filter_in_order, same_exact, same_repository}
+use Rattle.yt_base.specs.Meanings.{datum_of}
+use Rattle.yt_base.specs.declared.values.Value.{Value}
 use Rattle.yt_facts.specs.Indexes.{Kept, kept_at, is_in, IsIndex, AddsOne, DropsOne}
 use Rattle.yt_facts.proofs.Courses.{find_among}
 use Rattle.yt_facts.proofs.Groups.{or-false}
@@ -101,6 +105,17 @@ index_goes_on D left rest ms ns t e h x r c d u =
 
 pub index_ends : (D left : List Fact) (ms : List (Vec Kept Global)) → left ≡ [] → IsIndexTo D left ms → IsIndex D ms
 index_ends D left ms e x r c d u = sym (or-false (has (kept_at ms r c d) u)) ∙ sym (ap (λ (l : List Fact). has (kept_at ms r c d) u || (has l u && is_in r c d u)) e) ∙ x r c d u
+
+-- ---- single tuples
+
+-- A tuple has its first value in the first column.
+pub has_first : (xs : List Value) (v : Value) → Some v ≡ slice_get xs 0 → is_datum (datum_of v) (slice_get (map datum_of xs) 0) ≡ true
+has_first [] v e = absurd (none_some v (sym e))
+has_first (x ∷ xs) v e = ap (λ (z : Value). same_datum (datum_of v) (datum_of z)) (some_same x v (sym e)) ∙ same_datum_itself (datum_of v)
+
+-- A value that a tuple has in a column keeps it exactly where it is in the set.
+pub kept_there : (D : List Fact) (rs : List (Vec Kept Global)) (c : ℕ) (d : Datum) (t : Fact) → IsIndex D rs → has_at c d t ≡ true → has (kept_at rs t.relation c d) t ≡ has D t
+kept_there D rs c d t x e = x t.relation c d t ∙ ap (λ b. has D t && (b && has_at c d t)) (eq-eqb t.relation t.relation refl) ∙ ap (λ b. has D t && b) e ∙ and-true (has D t)
 
 -- ---- scans
 

@@ -5,15 +5,15 @@ ghost use Rattle.yt_base.specs.Meanings.{fact_of};
 ghost use Rattle.yt_facts.specs.Indexes.{IsIndex};
 
 use crate::plain::PlainFacts;
-use crate::relations::{Columns, drop_out, keep, kept};
+use crate::relations::{Columns, drop_out, keep, keeps, kept};
 use std::alloc::Global;
 use std::marker::Model;
 use yt_base::{Facts, Memory, TryCopy, Tuple, TupleList, Value};
 
 /// A set of tuples with, for each relation, column and value, exactly its tuples that have the value there. So a scan
-/// by column takes steps as many as the logarithm of the set's size, as insertions, deletions and cursors do. Each tuple is held
-/// once more for each of its columns, and no tuple that is not in the set. Contracts see the list of its tuples, in
-/// order.
+/// by column takes steps as many as the logarithm of the set's size, as insertions, deletions and cursors do. Whether a
+/// tuple is there is asked of those with its first value, since they are mostly few. Each tuple is held once more for
+/// each of its columns, and no tuple that is not in the set. Contracts see the list of its tuples, in order.
 #[derive(Debug, Drop)]
 pub struct IndexedFacts {
     all: PlainFacts,
@@ -79,7 +79,7 @@ impl IndexedFacts {
         ensures given_back { IfErr result (λ refused. refused.0 ≡ tuple) }
         ensures err { OnErr result (self.new ≡ self.old) }
     {
-        if self.all.contains(&tuple) {
+        if self.contains(&tuple) {
             return Ok(false);
         }
         match keep(&mut self.relations, self.alloc, &tuple) {
@@ -144,7 +144,10 @@ impl Facts for IndexedFacts {
     ghost tuples = { λ D. D };
 
     fn contains(&self, tuple: &Tuple) -> bool {
-        self.all.contains(tuple)
+        match tuple.values.get(0) {
+            Some(value) => keeps(&self.relations, 0, value, tuple),
+            None => self.all.contains(tuple),
+        }
     }
 
     fn beyond(&self, past: Option<&Tuple>) -> Option<&Tuple> {

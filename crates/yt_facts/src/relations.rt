@@ -1,13 +1,14 @@
 //! The index of a set: for each relation, its columns.
 ghost use Rattle.std.specs.Prelude.{◌≡◌, ℕ, ◌<◌, length, unwrap_or, [], OnOk, OnErr};
 ghost use Rattle.std.specs.Option.{option_copied};
+ghost use Rattle.yt_model.specs.Repository.{has};
 ghost use Rattle.yt_base.specs.Meanings.{fact_of, datum_of};
 ghost use Rattle.yt_facts.specs.Indexes.{columns_of, kept_at, AreSameBut, AddsAll, DropsAll, AreSameButOne, AddsOne, DropsOne};
 
 use crate::columns::{Groups, group, index, sweep};
 use crate::plain::PlainFacts;
 use std::alloc::Global;
-use yt_base::{Memory, Tuple, Value};
+use yt_base::{Facts, Memory, Tuple, Value};
 
 /// The columns of one relation.
 pub type Columns = Vec<Groups>;
@@ -24,6 +25,16 @@ pub fn kept<'a>(
     match relations.get(relation as usize) {
         Some(columns) => group(columns, column as usize, value),
         None => None,
+    }
+}
+
+/// Whether the tuple's relation keeps it at the value of the column.
+pub fn keeps(relations: &Vec<Columns>, column: u16, value: &Value, tuple: &Tuple) -> bool
+    ensures kept { result ≡ has (kept_at relations.now.items tuple.now.relation column (datum_of value.now)) (fact_of tuple.now) }
+{
+    match kept(relations, tuple.relation, column, value) {
+        Some(group) => group.contains(tuple),
+        None => false,
     }
 }
 
