@@ -5,7 +5,7 @@ ghost use Rattle.std.specs.Option.{option_copied};
 ghost use Rattle.yt_model.specs.Values.{Datum, Fact, same_datum, same_fact};
 ghost use Rattle.yt_model.specs.Repository.{has, change, Insert};
 ghost use Rattle.yt_base.specs.Meanings.{fact_of, datum_of};
-ghost use Rattle.yt_facts.specs.Indexes.{group_in, group_at, AreSame, AreSameBut, Adds, AddsAll, Drops, DropsAll};
+ghost use Rattle.yt_facts.specs.Indexes.{group_in, group_at, AreSame, AddsAtMost, Adds, AddsAll, Drops, DropsAll};
 
 use crate::plain::PlainFacts;
 use std::alloc::Global;
@@ -29,7 +29,7 @@ pub fn group<'a>(columns: &'a Vec<Groups>, column: usize, value: &Value) -> Opti
 /// its columns may then keep it, and what else is kept is as before.
 pub fn index(columns: &mut Vec<Groups>, alloc: Global, tuple: &Tuple) -> Result<(), Memory>
     ensures ok { OnOk result (AddsAll (fact_of tuple.now) columns.old.items columns.new.items) }
-    ensures err { OnErr result (AreSameBut (fact_of tuple.now) columns.old.items columns.new.items) }
+    ensures err { OnErr result (AddsAtMost (fact_of tuple.now) columns.old.items columns.new.items) }
 {
     let values = tuple.values.as_slice();
     for column in 0..values.len() {
