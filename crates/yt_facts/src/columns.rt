@@ -76,19 +76,13 @@ fn reach(columns: &mut Vec<Groups>, alloc: Global, column: usize) -> Result<(), 
     Ok(())
 }
 
-// Keeps a copy of the tuple at the value.
+// Keeps a copy of the tuple at the value. The value is copied even where it is there, so that it is looked for once.
 fn add(groups: &mut Groups, alloc: Global, value: &Value, tuple: &Tuple) -> Result<(), Memory>
     ensures ok { OnOk result (Adds (datum_of value.now) (fact_of tuple.now) groups.old groups.new) }
     ensures err { OnErr result ((d : Datum) → group_in groups.new d ≡ group_in groups.old d) }
 {
-    match groups.get_mut(value) {
-        Some(group) => return put(group, alloc, tuple),
-        None => {}
-    }
-    let mut group = PlainFacts::new(alloc);
-    put(&mut group, alloc, tuple)?;
-    match groups.insert(value.copy(alloc)?, group) {
-        Ok(_) => Ok(()),
+    match groups.entry(value.copy(alloc)?) {
+        Ok(entry) => put(entry.or_insert(PlainFacts::new(alloc)), alloc, tuple),
         Err(_) => Err(Memory),
     }
 }
