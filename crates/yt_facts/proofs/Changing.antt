@@ -11,7 +11,7 @@ use Rattle.yt_model.specs.Cursors.{has_at, is_datum}
 use Rattle.yt_model.proofs.Bools.{none_some, some_same}
 use Rattle.yt_base.specs.Meanings.{datum_of}
 use Rattle.yt_base.specs.declared.values.Value.{Value}
-use Rattle.yt_facts.specs.Indexes.{group_in, group_at, AreSame, AreSameBut}
+use Rattle.yt_facts.specs.Indexes.{group_in, group_at, AreSame, AddsAtMost}
 
 -- A further column without a group keeps nothing.
 pub appended : (ms : List (BTreeMap Value (List Fact))) (n : BTreeMap Value (List Fact)) → n.entries ≡ [] → AreSame ms (ms ++ n ∷ [])
@@ -95,17 +95,30 @@ module _ (f : Bool → Bool → Bool) (t : Fact) (k : ℕ) (ls ms : List (BTreeM
 
 -- ---- writes that want memory
 
-pub added_but : (a b : Bool) → ((a || b) && not b) ≡ (a && not b)
-added_but true true = refl
-added_but true false = refl
-added_but false true = refl
-added_but false false = refl
+-- What is added is at most added.
+pub may_add : (a b m : Bool) → m ≡ (a || b) → m ≡ (a || (b && m))
+may_add a b m e = subst (λ (x : Bool). x ≡ (a || (b && x))) (sym e) (by a b)
+  where
+    by : (a b : Bool) → (a || b) ≡ (a || (b && (a || b)))
+    by true b = refl
+    by false true = refl
+    by false false = refl
+
+-- What stays has at most something added.
+pub may_stay : (a b m : Bool) → m ≡ a → m ≡ (a || (b && m))
+may_stay a b m e = subst (λ (x : Bool). x ≡ (a || (b && x))) (sym e) (by a b)
+  where
+    by : (a b : Bool) → a ≡ (a || (b && a))
+    by true b = refl
+    by false true = refl
+    by false false = refl
 
 -- Where the tuple is added to some of its columns, nothing else changes.
-pub some_added : (t : Fact) (k : ℕ) (ls ms ns : List (BTreeMap Value (List Fact))) → ChangedBelow (λ a b. a || b) k t ls ms → SameFrom k ls ms → AreSame ms ns → AreSameBut t ls ns
+pub some_added : (t : Fact) (k : ℕ) (ls ms ns : List (BTreeMap Value (List Fact))) → ChangedBelow (λ a b. a || b) k t ls ms → SameFrom k ls ms → AreSame ms ns → AddsAtMost t ls ns
 some_added t k ls ms ns before after same c d u =
-    ap (λ (G : List Fact). has G u && not (has_at c d t && same_fact u t)) (same c d)
-    ∙ elim (cases_lt c k) [
-      | inl h ↦ ap (λ b. b && not (has_at c d t && same_fact u t)) (before c d u h) ∙ added_but (has (group_at ls c d) u) (has_at c d t && same_fact u t)
-      | inr h ↦ ap (λ (G : List Fact). has G u && not (has_at c d t && same_fact u t)) (after c d h)
-    ]
+    let here = has_at c d t && same_fact u t in
+    subst (λ (G : List Fact). has G u ≡ (has (group_at ls c d) u || (here && has G u))) (sym (same c d))
+    (elim (cases_lt c k) [
+      | inl h ↦ may_add (has (group_at ls c d) u) here (has (group_at ms c d) u) (before c d u h)
+      | inr h ↦ may_stay (has (group_at ls c d) u) here (has (group_at ms c d) u) (ap (λ (G : List Fact). has G u) (after c d h))
+    ])

@@ -59,14 +59,14 @@ group_changes f idle m n v o t g k d u =
     by q false e = sym (idle (has (group_in m (datum_of q)) u))
 
 -- Where the group at one value becomes what it is, the column stays the same.
-pub group_stays : (m n : BTreeMap Value (List Fact)) (v : Value) (w : List Fact) → ((q : Value) → get value_cmp n q ≡ cond (is_eq (value_cmp v q)) (Some w) (get value_cmp m q)) → Some w ≡ get value_cmp m v → (d : Datum) → group_in n d ≡ group_in m d
+pub group_stays : (m n : BTreeMap Value (List Fact)) (v : Value) (w : List Fact) → ((q : Value) → get value_cmp n q ≡ cond (is_eq (value_cmp v q)) (Some w) (get value_cmp m q)) → w ≡ group_in m (datum_of v) → (d : Datum) → group_in n d ≡ group_in m d
 group_stays m n v w g k d =
     let q = (value_for d).0 in
     let e : datum_of q ≡ d = (value_for d).1 in
     subst (λ (x : Datum). group_in n x ≡ group_in m x) e (ap (λ (x : Option (List Fact)). unwrap_or x []) (g q) ∙ by q (is_eq (value_cmp v q)) refl)
   where
     by : (q : Value) (b : Bool) → is_eq (value_cmp v q) ≡ b → unwrap_or (cond b (Some w) (get value_cmp m q)) [] ≡ group_in m (datum_of q)
-    by q true e = ap (λ (x : Option (List Fact)). unwrap_or x []) k ∙ ap (group_in m) (same_exact (datum_of v) (datum_of q) e)
+    by q true e = k ∙ ap (group_in m) (same_exact (datum_of v) (datum_of q) e)
     by q false e = refl
 
 -- ---- a tuple more

@@ -1,27 +1,22 @@
 -- The index keeps up with the set.
-use Rattle.std.proofs.Common.{◌≡◌, ℕ, ap, refl, sym, ◌∙◌, List, [], ◌∷◌, Bool, true, false, ◌||◌, ◌&&◌, not, Option}
-use Rattle.std.specs.BTreeSet.{insert_key}
+use Rattle.std.proofs.Common.{◌≡◌, ℕ, ap, refl, sym, ◌∙◌, List, [], ◌∷◌, Bool, true, false, ◌||◌, ◌&&◌, not, Option, Some, map}
 use Rattle.std.specs.declared.vec.Vec.{Vec}
 use Rattle.std.specs.declared.alloc.Global.{Global}
-use Rattle.std.specs.Prelude.{filter, find}
-use Rattle.yt_model.specs.Values.{Datum, Fact, fact_cmp, same_fact}
+use Rattle.std.specs.Prelude.{filter, find, slice_get}
+use Rattle.std.proofs.lemmas.Bool.{eq-eqb}
+use Rattle.yt_model.specs.Values.{Datum, Fact, same_fact, same_datum}
 use Rattle.yt_model.specs.Repository.{Insert, Delete, IsRepository, change, has}
-use Rattle.yt_model.specs.Cursors.{is_of, is_beyond, has_at, is_scanned, scan_of}
-use Rattle.yt_model.proofs.Bools.{and-true}
+use Rattle.yt_model.specs.Cursors.{is_of, is_beyond, has_at, is_datum, is_scanned, scan_of}
+use Rattle.yt_model.proofs.Bools.{and-true, none_some, some_same}
+use Rattle.yt_model.proofs.Learning.{same_datum_itself}
 use Rattle.yt_model.proofs.Members.{has-filter}
 use Rattle.yt_model.proofs.Searches.{find_same}
-use Rattle.yt_model.proofs.Sets.{has-insert, has-delete, insert_in_order, filter_in_order, same_exact, same_repository}
-use Rattle.yt_facts.specs.Indexes.{Kept, kept_at, is_in, IsIndex, AddsOne, DropsOne}
+use Rattle.yt_model.proofs.Sets.{has-insert, has-delete, filter_in_order, same_exact, same_repository}
+use Rattle.yt_base.specs.Meanings.{datum_of}
+use Rattle.yt_base.specs.declared.values.Value.{Value}
+use Rattle.yt_facts.specs.Indexes.{Kept, kept_at, is_in, IsIndex, IsIndexBut, AddsAtMostOne, AddsOne, DropsOne}
 use Rattle.yt_facts.proofs.Courses.{find_among}
 use Rattle.yt_facts.proofs.Groups.{or-false}
-
--- An insertion of what is there leaves the set as it is.
-pub insert_present : (D : List Fact) (t : Fact) → IsRepository D → has D t ≡ true → D ≡ insert_key fact_cmp D t
-insert_present D t s h = same_repository D (insert_key fact_cmp D t) s (insert_in_order D t s) (λ u. by u (same_fact u t) refl ∙ sym (has-insert D t u))
-  where
-    by : (u : Fact) (b : Bool) → same_fact u t ≡ b → has D u ≡ (b || has D u)
-    by u true e = ap (has D) (same_exact u t e) ∙ h
-    by u false e = refl
 
 -- ---- one tuple
 
@@ -63,13 +58,52 @@ index_shrinks D ms ns t x h r c d u =
     by true e = ap (λ (v : Fact). (has D u && is_in r c d u) && not (is_in r c d v && true)) (sym (same_exact u t e)) ∙ here (has D u) (is_in r c d u)
     by false e = elsewhere (has D u) (is_in r c d u) (is_in r c d t)
 
--- A tuple that is not in the set may be swept.
-pub index_swept : (D : List Fact) (ms ns : List (Vec Kept Global)) (t : Fact) → IsIndex D ms → DropsOne t ms ns → has D t ≡ false → IsIndex D ns
-index_swept D ms ns t x h n r c d u = index_shrinks D ms ns t x h r c d u ∙ ap (λ b. b && is_in r c d u) (has-delete D t u ∙ by (same_fact u t) refl)
+-- ---- a tuple that some columns may keep
+
+-- What has at most the tuple added is an index but for it.
+pub index_but : (D : List Fact) (ls ms : List (Vec Kept Global)) (t : Fact) → IsIndex D ls → AddsAtMostOne t ls ms → IsIndexBut D t ms
+index_but D ls ms t x h r c d u = h r c d u ∙ ap (λ b. b || ((is_in r c d t && same_fact u t) && has (kept_at ms r c d) u)) (x r c d u)
+
+-- A tuple of the set is no more than the index has to keep.
+pub index_stays : (D : List Fact) (ms : List (Vec Kept Global)) (t : Fact) → IsIndexBut D t ms → has D t ≡ true → IsIndex D ms
+index_stays D ms t x e r c d u = x r c d u ∙ by (same_fact u t) refl (has (kept_at ms r c d) u)
   where
-    by : (b : Bool) → same_fact u t ≡ b → (has D u && not b) ≡ has D u
-    by true e = ap (λ a. a && false) (ap (has D) (same_exact u t e) ∙ n) ∙ sym (ap (has D) (same_exact u t e) ∙ n)
-    by false e = and-true (has D u)
+    here : (w m : Bool) → ((true && w) || ((w && true) && m)) ≡ (true && w)
+    here true m = refl
+    here false m = refl
+
+    elsewhere : (a w m : Bool) → (a || ((w && false) && m)) ≡ a
+    elsewhere true w m = refl
+    elsewhere false true m = refl
+    elsewhere false false m = refl
+
+    by : (b : Bool) → same_fact u t ≡ b → (m : Bool) → ((has D u && is_in r c d u) || ((is_in r c d t && b) && m)) ≡ (has D u && is_in r c d u)
+    by true f m =
+        let there : has D u ≡ true = ap (has D) (same_exact u t f) ∙ e in
+        (λ i. (there i && is_in r c d u) || ((is_in r c d (sym (same_exact u t f) i) && true) && m)) ∙ here (is_in r c d u) m ∙ ap (λ b. b && is_in r c d u) (sym there)
+    by false f m = elsewhere (has D u && is_in r c d u) (is_in r c d t) m
+
+-- A tuple that is not in the set may be swept.
+pub index_swept : (D : List Fact) (ms ns : List (Vec Kept Global)) (t : Fact) → IsIndexBut D t ms → DropsOne t ms ns → has D t ≡ false → IsIndex D ns
+index_swept D ms ns t x h n r c d u =
+    h r c d u ∙ ap (λ b. b && not (is_in r c d t && same_fact u t)) (x r c d u) ∙ swept (has D u && is_in r c d u) (is_in r c d t && same_fact u t) (has (kept_at ms r c d) u) ∙ by (same_fact u t) refl
+  where
+    swept : (a b m : Bool) → ((a || (b && m)) && not b) ≡ (a && not b)
+    swept true b m = refl
+    swept false true true = refl
+    swept false true false = refl
+    swept false false m = refl
+
+    elsewhere : (a w : Bool) → (a && not (w && false)) ≡ a
+    elsewhere true true = refl
+    elsewhere true false = refl
+    elsewhere false w = refl
+
+    by : (b : Bool) → same_fact u t ≡ b → ((has D u && is_in r c d u) && not (is_in r c d t && b)) ≡ (has D u && is_in r c d u)
+    by true e =
+        let absent : has D u ≡ false = ap (has D) (same_exact u t e) ∙ n in
+        ap (λ a. (a && is_in r c d u) && not (is_in r c d t && true)) absent ∙ ap (λ a. a && is_in r c d u) (sym absent)
+    by false e = elsewhere (has D u && is_in r c d u) (is_in r c d t)
 
 -- ---- all tuples
 
@@ -101,6 +135,17 @@ index_goes_on D left rest ms ns t e h x r c d u =
 
 pub index_ends : (D left : List Fact) (ms : List (Vec Kept Global)) → left ≡ [] → IsIndexTo D left ms → IsIndex D ms
 index_ends D left ms e x r c d u = sym (or-false (has (kept_at ms r c d) u)) ∙ sym (ap (λ (l : List Fact). has (kept_at ms r c d) u || (has l u && is_in r c d u)) e) ∙ x r c d u
+
+-- ---- single tuples
+
+-- A tuple has its first value in the first column.
+pub has_first : (xs : List Value) (v : Value) → Some v ≡ slice_get xs 0 → is_datum (datum_of v) (slice_get (map datum_of xs) 0) ≡ true
+has_first [] v e = absurd (none_some v (sym e))
+has_first (x ∷ xs) v e = ap (λ (z : Value). same_datum (datum_of v) (datum_of z)) (some_same x v (sym e)) ∙ same_datum_itself (datum_of v)
+
+-- A value that a tuple has in a column keeps it exactly where it is in the set.
+pub kept_there : (D : List Fact) (rs : List (Vec Kept Global)) (c : ℕ) (d : Datum) (t : Fact) → IsIndex D rs → has_at c d t ≡ true → has (kept_at rs t.relation c d) t ≡ has D t
+kept_there D rs c d t x e = x t.relation c d t ∙ ap (λ b. has D t && (b && has_at c d t)) (eq-eqb t.relation t.relation refl) ∙ ap (λ b. has D t && b) e ∙ and-true (has D t)
 
 -- ---- scans
 

@@ -54,24 +54,9 @@ module _ (D gone added : List Fact) (t : Fact) (s : IsRepository D) where
   deleted : (E : List Fact) (u : Fact) → has (change E (Delete t)) u ≡ (has E u && not (same_fact u t))
   deleted E u = has-delete E t u
 
-  -- An insertion of what the set has: it is no longer gone.
-  pub insert_there : (g : List Fact) → g ≡ change gone (Delete t) → has D t ≡ true → overlaid D g added ≡ change (overlaid D gone added) (Insert t)
-  insert_there g k e =
-      ap (λ (x : List Fact). overlaid D x added) k
-      ∙ same_repository (overlaid D (change gone (Delete t)) added) (change (overlaid D gone added) (Insert t)) (overlaid_in_order D (change gone (Delete t)) added s) (insert_in_order (overlaid D gone added) t (overlaid_in_order D gone added s))
-      (λ u. has-overlaid D (change gone (Delete t)) added u ∙ ap (λ b. (has D u && not b) || has added u) (deleted gone u) ∙ by (has D u) (has gone u) (has added u) (same_fact u t) (there true e u)
-      ∙ ap (λ b. same_fact u t || b) (sym (has-overlaid D gone added u)) ∙ sym (has-insert (overlaid D gone added) t u))
-    where
-      by : (b g a c : Bool) → (c ≡ true → b ≡ true) → ((b && not (g && not c)) || a) ≡ (c || ((b && not g) || a))
-      by true true a true h = refl
-      by true false a true h = refl
-      by false g a true h = differ (h refl)
-      by b true a false h = refl
-      by b false a false h = refl
-
-  -- An insertion of what the set lacks: it is added.
-  pub insert_new : (m : List Fact) → m ≡ change added (Insert t) → overlaid D gone m ≡ change (overlaid D gone added) (Insert t)
-  insert_new m l =
+  -- An insertion: the tuple is added, whether the set has it or not.
+  pub insert_added : (m : List Fact) → m ≡ change added (Insert t) → overlaid D gone m ≡ change (overlaid D gone added) (Insert t)
+  insert_added m l =
       ap (λ (x : List Fact). overlaid D gone x) l
       ∙ same_repository (overlaid D gone (change added (Insert t))) (change (overlaid D gone added) (Insert t)) (overlaid_in_order D gone (change added (Insert t)) s) (insert_in_order (overlaid D gone added) t (overlaid_in_order D gone added s))
       (λ u. has-overlaid D gone (change added (Insert t)) u ∙ ap (λ b. (has D u && not (has gone u)) || b) (has-insert added t u) ∙ by (has D u && not (has gone u)) (has added u) (same_fact u t)

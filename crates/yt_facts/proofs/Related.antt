@@ -9,8 +9,8 @@ use Rattle.yt_model.specs.Values.{Datum, Fact, same_fact}
 use Rattle.yt_model.specs.Repository.{has}
 use Rattle.yt_model.specs.Cursors.{has_at}
 use Rattle.yt_model.proofs.Bools.{and-true, none_some, some_same}
-use Rattle.yt_facts.specs.Indexes.{Kept, group_at, columns_of, kept_at, is_in, AreSameBut, AddsAll, DropsAll, AreSameButOne, AddsOne, DropsOne}
-use Rattle.yt_facts.proofs.Changing.{added_but}
+use Rattle.yt_facts.specs.Indexes.{Kept, group_at, columns_of, kept_at, is_in, AddsAtMost, AddsAll, DropsAll, AddsAtMostOne, AddsOne, DropsOne}
+use Rattle.yt_facts.proofs.Changing.{may_add, may_stay}
 use Rattle.yt_facts.proofs.Groups.{or-false}
 
 -- A further relation without columns keeps nothing.
@@ -65,21 +65,17 @@ module _ (t : Fact) (rs ss : List (Vec Kept Global)) (others : (r : ℕ) → (r 
   pub relation_drops : DropsAll t (columns_of rs t.relation) (columns_of ss t.relation) → DropsOne t rs ss
   relation_drops here = relation_changes (λ a b. a && not b) and-true here
 
-  pub relation_same : AreSameBut t (columns_of rs t.relation) (columns_of ss t.relation) → AreSameButOne t rs ss
-  relation_same here r c d u =
+  pub relation_adds_at_most : AddsAtMost t (columns_of rs t.relation) (columns_of ss t.relation) → AddsAtMostOne t rs ss
+  relation_adds_at_most here r c d u =
       elim (cases_eq r t.relation) [
         | inl e ↦
-            subst (λ (j : ℕ). (has (kept_at ss j c d) u && not (is_in j c d t && same_fact u t)) ≡ (has (kept_at rs j c d) u && not (is_in j c d t && same_fact u t))) (sym e)
-            (subst (λ (b : Bool). (has (kept_at ss t.relation c d) u && not ((b && has_at c d t) && same_fact u t)) ≡ (has (kept_at rs t.relation c d) u && not ((b && has_at c d t) && same_fact u t))) (sym (eq-eqb t.relation t.relation refl)) (here c d u))
-        | inr n ↦ ap (λ (ms : List Kept). has (group_at ms c d) u && not (is_in r c d t && same_fact u t)) (others r n)
+            subst (λ (j : ℕ). has (kept_at ss j c d) u ≡ (has (kept_at rs j c d) u || ((is_in j c d t && same_fact u t) && has (kept_at ss j c d) u))) (sym e)
+            (subst (λ (b : Bool). has (kept_at ss t.relation c d) u ≡ (has (kept_at rs t.relation c d) u || (((b && has_at c d t) && same_fact u t) && has (kept_at ss t.relation c d) u))) (sym (eq-eqb t.relation t.relation refl)) (here c d u))
+        | inr n ↦ may_stay (has (kept_at rs r c d) u) (is_in r c d t && same_fact u t) (has (kept_at ss r c d) u) (ap (λ (ms : List Kept). has (group_at ms c d) u) (others r n))
       ]
 
 -- ---- writes that want memory
 
--- Where the tuple is added where it has its values, nothing else changes.
-pub adds_but : (t : Fact) (rs ss : List (Vec Kept Global)) → AddsOne t rs ss → AreSameButOne t rs ss
-adds_but t rs ss h r c d u = ap (λ b. b && not (is_in r c d t && same_fact u t)) (h r c d u) ∙ added_but (has (kept_at rs r c d) u) (is_in r c d t && same_fact u t)
-
--- What is swept after some was added is swept of what was there before.
-pub swept_again : (t : Fact) (ls ms ns : List (Vec Kept Global)) → AreSameButOne t ls ms → DropsOne t ms ns → DropsOne t ls ns
-swept_again t ls ms ns same drops r c d u = drops r c d u ∙ same r c d u
+-- Where the tuple is added where it has its values, nothing else is.
+pub adds_at_most : (t : Fact) (rs ss : List (Vec Kept Global)) → AddsOne t rs ss → AddsAtMostOne t rs ss
+adds_at_most t rs ss h r c d u = may_add (has (kept_at rs r c d) u) (is_in r c d t && same_fact u t) (has (kept_at ss r c d) u) (h r c d u)

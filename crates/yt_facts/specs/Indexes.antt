@@ -26,9 +26,9 @@ group_at ms c d = at (slice_get ms c)
 abbrev pub AreSame : List (BTreeMap Value (List Fact)) → List (BTreeMap Value (List Fact)) → Type 0
 AreSame ms ns = (c : ℕ) (d : Datum) → group_at ns c d ≡ group_at ms c d
 
--- The columns keep what they kept, but for this tuple where it has its values.
-abbrev pub AreSameBut : Fact → List (BTreeMap Value (List Fact)) → List (BTreeMap Value (List Fact)) → Type 0
-AreSameBut t ms ns = (c : ℕ) (d : Datum) (u : Fact) → (has (group_at ns c d) u && not (has_at c d t && same_fact u t)) ≡ (has (group_at ms c d) u && not (has_at c d t && same_fact u t))
+-- To what the columns kept at most this tuple, where it has its values, is added.
+abbrev pub AddsAtMost : Fact → List (BTreeMap Value (List Fact)) → List (BTreeMap Value (List Fact)) → Type 0
+AddsAtMost t ms ns = (c : ℕ) (d : Datum) (u : Fact) → has (group_at ns c d) u ≡ (has (group_at ms c d) u || ((has_at c d t && same_fact u t) && has (group_at ns c d) u))
 
 -- To what one column kept exactly this tuple, at this value, is added.
 abbrev pub Adds : Datum → Fact → BTreeMap Value (List Fact) → BTreeMap Value (List Fact) → Type 0
@@ -72,9 +72,13 @@ is_in r c d u = is_of r u && has_at c d u
 abbrev pub IsIndex : List Fact → List (Vec Kept Global) → Type 0
 IsIndex D rs = (r c : ℕ) (d : Datum) (u : Fact) → has (kept_at rs r c d) u ≡ (has D u && is_in r c d u)
 
--- The relations keep what they kept, but for this tuple where it has its values.
-abbrev pub AreSameButOne : Fact → List (Vec Kept Global) → List (Vec Kept Global) → Type 0
-AreSameButOne t rs ss = (r c : ℕ) (d : Datum) (u : Fact) → (has (kept_at ss r c d) u && not (is_in r c d t && same_fact u t)) ≡ (has (kept_at rs r c d) u && not (is_in r c d t && same_fact u t))
+-- So they do, but for this tuple, which some columns may keep too where it has its values.
+abbrev pub IsIndexBut : List Fact → Fact → List (Vec Kept Global) → Type 0
+IsIndexBut D t rs = (r c : ℕ) (d : Datum) (u : Fact) → has (kept_at rs r c d) u ≡ ((has D u && is_in r c d u) || ((is_in r c d t && same_fact u t) && has (kept_at rs r c d) u))
+
+-- To what the relations kept at most this tuple, where it has its values, is added.
+abbrev pub AddsAtMostOne : Fact → List (Vec Kept Global) → List (Vec Kept Global) → Type 0
+AddsAtMostOne t rs ss = (r c : ℕ) (d : Datum) (u : Fact) → has (kept_at ss r c d) u ≡ (has (kept_at rs r c d) u || ((is_in r c d t && same_fact u t) && has (kept_at ss r c d) u))
 
 -- To what the relations kept exactly this tuple, where it has its values, is added.
 abbrev pub AddsOne : Fact → List (Vec Kept Global) → List (Vec Kept Global) → Type 0

@@ -5,7 +5,7 @@ ghost use Rattle.std.specs.Option.{option_copied};
 ghost use Rattle.yt_model.specs.Values.{Datum, Fact, same_datum, same_fact};
 ghost use Rattle.yt_model.specs.Repository.{has, change, Insert};
 ghost use Rattle.yt_base.specs.Meanings.{fact_of, datum_of};
-ghost use Rattle.yt_facts.specs.Indexes.{group_in, group_at, AreSame, AreSameBut, Adds, AddsAll, Drops, DropsAll};
+ghost use Rattle.yt_facts.specs.Indexes.{group_in, group_at, AreSame, AddsAtMost, Adds, AddsAll, Drops, DropsAll};
 
 use crate::plain::PlainFacts;
 use std::alloc::Global;
@@ -29,7 +29,7 @@ pub fn group<'a>(columns: &'a Vec<Groups>, column: usize, value: &Value) -> Opti
 /// its columns may then keep it, and what else is kept is as before.
 pub fn index(columns: &mut Vec<Groups>, alloc: Global, tuple: &Tuple) -> Result<(), Memory>
     ensures ok { OnOk result (AddsAll (fact_of tuple.now) columns.old.items columns.new.items) }
-    ensures err { OnErr result (AreSameBut (fact_of tuple.now) columns.old.items columns.new.items) }
+    ensures err { OnErr result (AddsAtMost (fact_of tuple.now) columns.old.items columns.new.items) }
 {
     let values = tuple.values.as_slice();
     for column in 0..values.len() {
@@ -76,19 +76,13 @@ fn reach(columns: &mut Vec<Groups>, alloc: Global, column: usize) -> Result<(), 
     Ok(())
 }
 
-// Keeps a copy of the tuple at the value.
+// Keeps a copy of the tuple at the value. The value is copied even where it is there, so that it is looked for once.
 fn add(groups: &mut Groups, alloc: Global, value: &Value, tuple: &Tuple) -> Result<(), Memory>
     ensures ok { OnOk result (Adds (datum_of value.now) (fact_of tuple.now) groups.old groups.new) }
     ensures err { OnErr result ((d : Datum) → group_in groups.new d ≡ group_in groups.old d) }
 {
-    match groups.get_mut(value) {
-        Some(group) => return put(group, alloc, tuple),
-        None => {}
-    }
-    let mut group = PlainFacts::new(alloc);
-    put(&mut group, alloc, tuple)?;
-    match groups.insert(value.copy(alloc)?, group) {
-        Ok(_) => Ok(()),
+    match groups.entry(value.copy(alloc)?) {
+        Ok(entry) => put(entry.or_insert(PlainFacts::new(alloc)), alloc, tuple),
         Err(_) => Err(Memory),
     }
 }

@@ -2,18 +2,18 @@
 ghost use Rattle.std.specs.Prelude.{◌≡◌, [], not, length, map, IfOk, OnOk, OnErr, IfErr};
 ghost use Rattle.yt_model.specs.Repository.{has, change, Insert, Delete, IsRepository};
 ghost use Rattle.yt_base.specs.Meanings.{fact_of};
-ghost use Rattle.yt_facts.specs.Indexes.{IsIndex};
+ghost use Rattle.yt_facts.specs.Indexes.{IsIndex, IsIndexBut};
 
 use crate::plain::PlainFacts;
-use crate::relations::{Columns, drop_out, keep, kept};
+use crate::relations::{Columns, drop_out, keep, keeps, kept};
 use std::alloc::Global;
 use std::marker::Model;
 use yt_base::{Facts, Memory, TryCopy, Tuple, TupleList, Value};
 
 /// A set of tuples with, for each relation, column and value, exactly its tuples that have the value there. So a scan
-/// by column takes steps as many as the logarithm of the set's size, as insertions, deletions and cursors do. Each tuple is held
-/// once more for each of its columns, and no tuple that is not in the set. Contracts see the list of its tuples, in
-/// order.
+/// by column takes steps as many as the logarithm of the set's size, as insertions, deletions and cursors do. Whether a
+/// tuple is there is asked of those with its first value, since they are mostly few. Each tuple is held once more for
+/// each of its columns, and no tuple that is not in the set. Contracts see the list of its tuples, in order.
 #[derive(Debug, Drop)]
 pub struct IndexedFacts {
     all: PlainFacts,
@@ -79,20 +79,17 @@ impl IndexedFacts {
         ensures given_back { IfErr result (λ refused. refused.0 ≡ tuple) }
         ensures err { OnErr result (self.new ≡ self.old) }
     {
-        if self.all.contains(&tuple) {
-            return Ok(false);
-        }
         match keep(&mut self.relations, self.alloc, &tuple) {
             Ok(()) => {}
             Err(_) => {
-                drop_out(&mut self.relations, &tuple);
+                take_back(&mut self.relations, &self.all, &tuple);
                 return Err((tuple, Memory));
             }
         }
         match self.all.insert(tuple) {
             Ok(added) => return Ok(added),
             Err(refused) => {
-                drop_out(&mut self.relations, &refused.0);
+                take_back(&mut self.relations, &self.all, &refused.0);
                 return Err(refused);
             }
         }
@@ -144,7 +141,10 @@ impl Facts for IndexedFacts {
     ghost tuples = { λ D. D };
 
     fn contains(&self, tuple: &Tuple) -> bool {
-        self.all.contains(tuple)
+        match tuple.values.get(0) {
+            Some(value) => keeps(&self.relations, 0, value, tuple),
+            None => self.all.contains(tuple),
+        }
     }
 
     fn beyond(&self, past: Option<&Tuple>) -> Option<&Tuple> {
@@ -183,4 +183,14 @@ fn index_all(alloc: Global, facts: &PlainFacts) -> Result<Vec<Columns>, Memory>
         keep(&mut relations, alloc, tuple)?;
     }
     Ok(relations)
+}
+
+// Makes an index of all tuples again, where at most this one was added to it. It takes no memory.
+fn take_back(relations: &mut Vec<Columns>, all: &PlainFacts, tuple: &Tuple)
+    requires { IsIndexBut all.now (fact_of tuple.now) relations.old.items }
+    ensures index { IsIndex all.now relations.new.items }
+{
+    if !all.contains(tuple) {
+        drop_out(relations, tuple);
+    }
 }

@@ -29,6 +29,10 @@ impl<'a, F: Facts> Model for Overlay<'a, F> {
     ghost use Rattle.yt_facts.specs.Overlaid.{overlaid};
 
     ghost view = { λ o. overlaid (F.tuples o.facts.now) o.gone o.added };
+
+    ghost use Rattle.yt_model.specs.Repository.{IsRepository};
+
+    ghost invariant = { λ o. IsRepository (F.tuples o.facts.now) };
 }
 
 impl<'a, F: Facts> Overlay<'a, F> {
@@ -36,6 +40,8 @@ impl<'a, F: Facts> Overlay<'a, F> {
     pub fn new(alloc: Global, facts: &'a F) -> Overlay<'a, F>
         ensures same { result ≡ F.tuples facts.now }
     {
+        // The set tells that it is in order.
+        let _ = facts.beyond(None);
         Overlay {
             facts,
             gone: PlainFacts::new(alloc),
@@ -54,16 +60,12 @@ impl<'a, F: Facts> Overlay<'a, F> {
         }
     }
 
-    // Puts a tuple in: what the set has is no longer gone, and what it lacks is added.
+    // Puts a tuple in. The set is not asked: what it has may be added too.
     fn insert(&mut self, alloc: Global, tuple: &Tuple) -> Result<(), Memory>
         ensures ok { OnOk result (self.new ≡ change self.old (Insert (fact_of tuple.now))) }
         ensures err { OnErr result (self.new ≡ self.old) }
     {
-        if self.facts.contains(tuple) {
-            self.gone.remove(tuple);
-        } else {
-            self.added.insert(tuple.copy(alloc)?)?;
-        }
+        self.added.insert(tuple.copy(alloc)?)?;
         Ok(())
     }
 

@@ -1,7 +1,8 @@
 //! An ordered set of tuples.
 ghost use Rattle.std.specs.Option.{option_map, option_copied};
-ghost use Rattle.std.specs.Prelude.{◌≡◌, [], not, length, find, IfOk, OnOk, OnErr, IfErr};
+ghost use Rattle.std.specs.Prelude.{◌≡◌, [], not, length, find, None, IsTrue, IfOk, OnOk, OnErr, IfErr};
 ghost use Rattle.yt_model.specs.Repository.{has, change, Insert, Delete, IsRepository};
+ghost use Rattle.yt_model.specs.Cursors.{first_of};
 ghost use Rattle.yt_base.specs.Meanings.{fact_of};
 ghost use Rattle.yt_facts.specs.Courses.{is_ahead};
 
@@ -77,6 +78,17 @@ impl PlainFacts {
         self.tuples.remove(tuple)
     }
 
+    // Whether the set ends before the relation: it is empty, or its last tuple is of a lesser one.
+    fn ends_before(&self, relation: u16) -> bool
+        ensures none { IsTrue result → first_of self.now relation ≡ None }
+        ensures in_order { IsRepository self.now }
+    {
+        match self.tuples.last() {
+            Some(last) => last.relation < relation,
+            None => true,
+        }
+    }
+
     /// The least tuple of the relation that is above `past`, where that is given; None exactly where there is none.
     pub(crate) fn next(&self, relation: u16, past: Option<&Tuple>) -> Option<&Tuple>
         ensures found { option_map fact_of (option_copied result) ≡ find (is_ahead relation (option_map fact_of (option_copied past.entry))) self.now }
@@ -128,6 +140,9 @@ impl Facts for PlainFacts {
     }
 
     fn first(&self, relation: u16) -> Option<&Tuple> {
+        if self.ends_before(relation) {
+            return None;
+        }
         let least = Tuple {
             relation,
             values: List::new(self.alloc),

@@ -1,13 +1,14 @@
 //! The index of a set: for each relation, its columns.
 ghost use Rattle.std.specs.Prelude.{◌≡◌, ℕ, ◌<◌, length, unwrap_or, [], OnOk, OnErr};
 ghost use Rattle.std.specs.Option.{option_copied};
+ghost use Rattle.yt_model.specs.Repository.{has};
 ghost use Rattle.yt_base.specs.Meanings.{fact_of, datum_of};
-ghost use Rattle.yt_facts.specs.Indexes.{columns_of, kept_at, AreSameBut, AddsAll, DropsAll, AreSameButOne, AddsOne, DropsOne};
+ghost use Rattle.yt_facts.specs.Indexes.{columns_of, kept_at, AddsAtMost, AddsAll, DropsAll, AddsAtMostOne, AddsOne, DropsOne};
 
 use crate::columns::{Groups, group, index, sweep};
 use crate::plain::PlainFacts;
 use std::alloc::Global;
-use yt_base::{Memory, Tuple, Value};
+use yt_base::{Facts, Memory, Tuple, Value};
 
 /// The columns of one relation.
 pub type Columns = Vec<Groups>;
@@ -27,11 +28,21 @@ pub fn kept<'a>(
     }
 }
 
+/// Whether the tuple's relation keeps it at the value of the column.
+pub fn keeps(relations: &Vec<Columns>, column: u16, value: &Value, tuple: &Tuple) -> bool
+    ensures kept { result ≡ has (kept_at relations.now.items tuple.now.relation column (datum_of value.now)) (fact_of tuple.now) }
+{
+    match kept(relations, tuple.relation, column, value) {
+        Some(group) => group.contains(tuple),
+        None => false,
+    }
+}
+
 /// Keeps a copy of the tuple in each column of its relation. It is refused only for want of memory; some of its columns
 /// may then keep it, and what else is kept is as before.
 pub fn keep(relations: &mut Vec<Columns>, alloc: Global, tuple: &Tuple) -> Result<(), Memory>
     ensures ok { OnOk result (AddsOne (fact_of tuple.now) relations.old.items relations.new.items) }
-    ensures err { OnErr result (AreSameButOne (fact_of tuple.now) relations.old.items relations.new.items) }
+    ensures err { OnErr result (AddsAtMostOne (fact_of tuple.now) relations.old.items relations.new.items) }
 {
     keep_at(relations, alloc, tuple.relation as usize, tuple)
 }
@@ -51,7 +62,7 @@ fn keep_at(
     tuple: &Tuple,
 ) -> Result<(), Memory>
     ensures ok { OnOk result (AddsAll (fact_of tuple.now) (columns_of relations.old.items relation) (columns_of relations.new.items relation)) }
-    ensures err { OnErr result (AreSameBut (fact_of tuple.now) (columns_of relations.old.items relation) (columns_of relations.new.items relation)) }
+    ensures err { OnErr result (AddsAtMost (fact_of tuple.now) (columns_of relations.old.items relation) (columns_of relations.new.items relation)) }
     ensures others { (r : ℕ) → (r ≡ relation → ⊥) → columns_of relations.new.items r ≡ columns_of relations.old.items r }
 {
     reach(relations, alloc, relation)?;
