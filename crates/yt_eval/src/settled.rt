@@ -35,6 +35,13 @@ impl Settled {
         }
     }
 
+    /// A mark for each mapping by number.
+    pub fn marks(&self) -> &[bool]
+        ensures marks { result.now ≡ self.now }
+    {
+        &self.marks
+    }
+
     /// Whether the mapping of this number is settled. One that is not in the list is not.
     pub fn has(&self, number: u16) -> bool
         ensures mark { result ≡ slice_index_or self.now number false }
