@@ -23,6 +23,7 @@ mod repairing;
 mod replacing;
 mod results;
 mod rows;
+mod settled;
 mod starting;
 mod turns;
 mod writes;

@@ -1,6 +1,7 @@
 //! A program: an attempt at an update, step by step.
 ghost use Rattle.std.specs.Prelude.{◌≡◌, ◌≤◌, true, false, None, Some, List, map, is_some, IfOk, OnOk, OnErr};
 ghost use Rattle.yt_model.specs.Mappings.{Rule};
+ghost use Rattle.yt_model.specs.Queries.{Query as QueryMeant, Reply};
 ghost use Rattle.yt_base.specs.Meanings.{change_of, choice_of, operation_of, heading_of, rule_of};
 ghost use Rattle.yt_model.specs.Updates.{direction_of};
 ghost use Rattle.yt_query.specs.Meanings.{reply_of};
@@ -12,6 +13,7 @@ ghost use Rattle.yt_program.specs.Wishes.{wish, WishesStep, query_wished, TakesA
 ghost use Rattle.yt_chase.specs.Meanings.{DrawsFrom};
 ghost use Rattle.yt_program.specs.PointMeanings.{want_of};
 ghost use Rattle.yt_program.specs.TurnMeanings.{move_of, turn_tree, IsTurnOf};
+ghost use Rattle.yt_program.specs.Settled.{FindsNone, IsShorter};
 
 use crate::answering::answered;
 use crate::counting::{spend, taken_after};
@@ -21,6 +23,7 @@ use crate::moves::Move;
 use crate::passing::looks_on;
 use crate::points::Point;
 use crate::repairing::{generates, want_of_repair};
+use crate::settled::pass;
 use crate::starting::{is_yes, start};
 use crate::turns::Turn;
 use crate::writing::{is_writing, write};
@@ -179,6 +182,19 @@ impl Program {
         self.goes_on(alloc, answer, mappings)
     }
 
+    /// Passes, in a look, over mappings that are settled: `settled[n]` says that the mapping of number n has no violation
+    /// that counts. What is asked for then is the first violation of one that is not settled, or of a settled one that no
+    /// other comes after unasked. It takes no memory.
+    pub fn pass(&mut self, settled: &[bool], mappings: &MappingList)
+        requires within { AreWithin (map rule_of mappings.now.items) }
+        ensures passed { (val : QueryMeant → Reply) → FindsNone val settled.now → IsShorter val (course (map rule_of mappings.now.items) self.old) (course (map rule_of mappings.now.items) self.new) }
+        ensures attempt { self.new.attempt ≡ self.old.attempt }
+    {
+        if let Point::Reading(reading) = &mut self.point {
+            pass(reading, self.number, settled, mappings);
+        }
+    }
+
     // Goes on in place in a look that finds no violation of a mapping, where the next one that may be in force is so from
     // the start, and says so. Else the program stays as it is.
     fn looks_on(&mut self, answer: &Answer, mappings: &MappingList) -> bool
@@ -332,6 +348,13 @@ impl Program {
         ensures own { map change_of result.now.items ≡ self.now.attempt.own }
     {
         &self.own
+    }
+
+    /// The writes that the attempt has made, in order, for which it is given up. It takes no memory.
+    pub fn into_own(self) -> WriteList
+        ensures own { map change_of result.items ≡ self.attempt.own }
+    {
+        self.own
     }
 
     /// How many steps it has made.
