@@ -10,6 +10,7 @@
 #![tactic(auto)]
 
 mod answering;
+mod attempts;
 mod counting;
 mod ends;
 mod found;
