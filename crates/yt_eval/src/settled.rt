@@ -1,7 +1,6 @@
 //! Which mappings are settled: nothing that was written since they were last looked at can have given them a violation.
-ghost use Rattle.std.specs.Prelude.{◌≡◌, ◌==◌, ℕ, ◌&&◌, true, false, not, slice_index_or, slice_set, replicate, map, IfOk};
+ghost use Rattle.std.specs.Prelude.{◌≡◌, ◌==◌, ℕ, ◌&&◌, true, false, Some, not, slice_index_or, slice_set, replicate, map, IfOk};
 ghost use Rattle.std.specs.List.{list_any, slice_get};
-ghost use Rattle.std.specs.Option.{option_map, option_copied};
 ghost use Rattle.yt_base.specs.Meanings.{change_of, pattern_of, rule_of};
 ghost use Rattle.yt_eval.specs.Watched.{relation_in, stirs, touches as touches_lem};
 
@@ -33,6 +32,13 @@ impl Settled {
             Ok(marks) => Ok(Settled { marks }),
             Err(_) => Err(Memory),
         }
+    }
+
+    /// A mark for each mapping by number.
+    pub fn marks(&self) -> &[bool]
+        ensures marks { result.now ≡ self.now }
+    {
+        &self.marks
     }
 
     /// Whether the mapping of this number is settled. One that is not in the list is not.
@@ -67,8 +73,27 @@ impl Settled {
     fn stir_touched(&mut self, mappings: &MappingList, write: &Write)
         ensures left { (n : ℕ) → slice_index_or self.new n false ≡ (slice_index_or self.old n false && not (touches_lem (change_of write.now) (slice_get (map rule_of mappings.now.items) n))) }
     {
-        for (number, mark) in self.marks.iter_mut().enumerate() {
-            *mark = *mark && !touches(mappings.get(number), write);
+        for (number, mapping) in mappings.as_slice().iter().enumerate() {
+            self.stir_one(number, mapping, write);
+        }
+    }
+
+    // Stirs the mapping, of this number, if the write touches it.
+    fn stir_one(&mut self, number: usize, mapping: &Mapping, write: &Write)
+        ensures mark { slice_index_or self.new number false ≡ (slice_index_or self.old number false && not (touches_lem (change_of write.now) (Some (rule_of mapping.now)))) }
+        ensures others { (n : ℕ) → (n ≡ number → ⊥) → slice_index_or self.new n false ≡ slice_index_or self.old n false }
+    {
+        if touches(mapping, write) {
+            self.unsettle(number);
+        }
+    }
+
+    // Takes the mark of the mapping of this number away, if it is in the list.
+    fn unsettle(&mut self, number: usize)
+        ensures set { self.new ≡ slice_set self.old number false }
+    {
+        if let Some(mark) = self.marks.get_mut(number) {
+            *mark = false;
         }
     }
 }
@@ -84,15 +109,12 @@ fn relation_of(write: &Write) -> u16
 }
 
 // Whether the mapping has an atom of the write's relation, on the left for an insertion, on the right for a deletion.
-fn touches(mapping: Option<&Mapping>, write: &Write) -> bool
-    ensures answer { result ≡ touches_lem (change_of write.now) (option_map rule_of (option_copied mapping.entry)) }
+fn touches(mapping: &Mapping, write: &Write) -> bool
+    ensures answer { result ≡ touches_lem (change_of write.now) (Some (rule_of mapping.now)) }
 {
-    match mapping {
-        Some(mapping) => match write {
-            Write::Insert(tuple) => stands_in(mapping.left.as_slice(), tuple.relation),
-            Write::Delete(tuple) => stands_in(mapping.right.as_slice(), tuple.relation),
-        },
-        None => false,
+    match write {
+        Write::Insert(tuple) => stands_in(mapping.left.as_slice(), tuple.relation),
+        Write::Delete(tuple) => stands_in(mapping.right.as_slice(), tuple.relation),
     }
 }
 

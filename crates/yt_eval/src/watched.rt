@@ -4,7 +4,7 @@ ghost use Rattle.yt_model.specs.Queries.{value, Nothing};
 ghost use Rattle.yt_model.specs.Violations.{Caused};
 ghost use Rattle.yt_base.specs.Meanings.{rule_of, change_of, heading_of};
 ghost use Rattle.yt_query.specs.Meanings.{query_of, reply_of};
-ghost use Rattle.yt_eval.specs.Watched.{watched_on};
+ghost use Rattle.yt_eval.specs.Watched.{watched_on, AreSettled};
 
 use crate::settled::Settled;
 use crate::view::View;
@@ -90,6 +90,13 @@ impl<'a, F: Facts> WatchedView<'a, F> {
             self.settle(query);
         }
         Ok(answer)
+    }
+
+    /// A mark for each mapping by number that is settled: it has no violation that counts. It takes no memory.
+    pub fn settled(&self) -> &[bool]
+        ensures nothing { AreSettled self.now result.now }
+    {
+        self.settled.marks()
     }
 
     // Whether the query asks for the first violation of a settled mapping.

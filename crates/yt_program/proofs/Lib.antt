@@ -5,3 +5,5 @@ pub mod Standings
 pub mod Wanting
 pub mod Landing
 pub mod Repairs
+pub mod Shorter
+pub mod Passed

@@ -8,3 +8,4 @@ pub mod PointMeanings
 pub mod TurnMeanings
 pub mod Views
 pub mod Results
+pub mod Settled

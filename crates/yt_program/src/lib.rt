@@ -10,6 +10,7 @@
 #![tactic(auto)]
 
 mod answering;
+mod attempts;
 mod counting;
 mod ends;
 mod found;
@@ -23,6 +24,7 @@ mod repairing;
 mod replacing;
 mod results;
 mod rows;
+mod settled;
 mod starting;
 mod turns;
 mod writes;

@@ -52,10 +52,11 @@ fn next_looked_at(row: &Row, number: u32, answer: &Answer, mappings: &MappingLis
     }
 }
 
-// The place of the next mapping from place `from` on that may be in force for an update of this number, if it is in force
-// from the start.
-fn next_from_start(number: u32, from: usize, mappings: &MappingList) -> Option<u16>
+/// The place of the next mapping from place `from` on that may be in force for an update of this number, if it is in
+/// force from the start.
+pub(crate) fn next_from_start(number: u32, from: usize, mappings: &MappingList) -> Option<u16>
     requires { length mappings.now.items ≤ 65536 }
+    ensures after { IfSome result (λ next. from ≤ next) }
     ensures look { IfSome result (λ next. (P : Attempt) → P.number ≡ number → row_tree (map rule_of mappings.now.items) P (Violating next) ≡ look_from P from (drop from (map rule_of mappings.now.items))) }
 {
     match next_in_play(number, from, mappings) {
@@ -75,6 +76,7 @@ pub(crate) fn next_in_play(
     mappings: &MappingList,
 ) -> Option<(u16, &Mapping)>
     requires { length mappings.now.items ≤ 65536 }
+    ensures after { IfSome result (λ next. from ≤ next.0) }
     ensures found { IfSome result (λ next. slice_get (map rule_of mappings.now.items) next.0 ≡ Some (rule_of next.1.now)) }
     ensures since { IfSome result (λ next. next.1.now.since ≤ number) }
     ensures passed { IfSome result (λ next. (P : Attempt) → P.number ≡ number → look_from P next.0 (drop next.0 (map rule_of mappings.now.items)) ≡ look_from P from (drop from (map rule_of mappings.now.items))) }

@@ -1,8 +1,7 @@
 //! A program: an attempt at an update, step by step.
 ghost use Rattle.std.specs.Prelude.{◌≡◌, ◌≤◌, true, false, None, Some, List, map, is_some, IfOk, OnOk, OnErr};
 ghost use Rattle.yt_model.specs.Mappings.{Rule};
-ghost use Rattle.yt_base.specs.Meanings.{change_of, choice_of, operation_of, heading_of, rule_of};
-ghost use Rattle.yt_model.specs.Updates.{direction_of};
+ghost use Rattle.yt_base.specs.Meanings.{choice_of, operation_of, rule_of};
 ghost use Rattle.yt_query.specs.Meanings.{reply_of};
 ghost use Rattle.yt_steps.specs.Attempts.{begun, question_in, Look};
 ghost use Rattle.yt_steps.specs.Steps.{step, moved, look_from};
@@ -26,30 +25,30 @@ use crate::turns::Turn;
 use crate::writing::{is_writing, write};
 use std::alloc::Global;
 use std::marker::Model;
-use yt_base::{Choice, Direction, MappingList, Memory, Operation, TryCopy, Update, WriteList};
+use yt_base::{Choice, MappingList, Memory, Operation, TryCopy, Update, WriteList};
 use yt_chase::{Fresh, Progress, append};
 use yt_query::Answer;
 
-// The step in hand: its budget, and whether it takes the answer to a question.
+/// The step in hand: its budget, and whether it takes the answer to a question.
 #[derive(Clone, Copy, Debug)]
-struct Hand {
-    budget: u32,
-    answers: bool,
+pub(crate) struct Hand {
+    pub(crate) budget: u32,
+    pub(crate) answers: bool,
 }
 
 /// An attempt at an update, which asks queries and questions, takes their answers, and makes the steps of the chase.
 /// Contracts see it as its attempt and the step in hand.
 #[derive(Debug, Drop)]
 pub struct Program {
-    number: u32,
-    attempt: u32,
-    operation: Operation,
-    own: WriteList,
-    steps: u32,
-    nulls: u32,
-    taken: u32,
-    hand: Hand,
-    point: Point,
+    pub(crate) number: u32,
+    pub(crate) attempt: u32,
+    pub(crate) operation: Operation,
+    pub(crate) own: WriteList,
+    pub(crate) steps: u32,
+    pub(crate) nulls: u32,
+    pub(crate) taken: u32,
+    pub(crate) hand: Hand,
+    pub(crate) point: Point,
 }
 
 impl Model for Program {
@@ -325,66 +324,5 @@ impl Program {
             attempt: self.attempt,
             drawn: self.nulls,
         }
-    }
-
-    /// The writes that the attempt has made, in order.
-    pub fn own(&self) -> &WriteList
-        ensures own { map change_of result.now.items ≡ self.now.attempt.own }
-    {
-        &self.own
-    }
-
-    /// How many steps it has made.
-    pub fn steps(&self) -> u32
-        ensures steps { result ≡ self.now.attempt.steps }
-        ensures most { result ≤ 300 }
-    {
-        self.steps
-    }
-
-    /// How many nulls it has drawn.
-    pub fn nulls(&self) -> u32
-        ensures nulls { result ≡ self.now.attempt.nulls }
-    {
-        self.nulls
-    }
-
-    /// How many answers to questions it has taken.
-    pub fn taken(&self) -> u32
-        ensures taken { result ≡ self.now.attempt.taken }
-        ensures most { result ≤ self.now.attempt.steps }
-    {
-        self.taken
-    }
-
-    /// The direction of its repairs.
-    pub fn direction(&self) -> Direction
-        ensures heading { heading_of result ≡ direction_of self.now.attempt.operation }
-    {
-        self.operation.direction()
-    }
-}
-
-impl TryCopy for Program {
-    ghost use Rattle.yt_program.specs.Courses.{State};
-
-    ghost Meaning = { State };
-
-    ghost meaning = { λ s. s };
-
-    fn copy(&self, alloc: Global) -> Result<Program, Memory>
-        ensures same { IfOk result (λ copy. copy ≡ self.now) }
-    {
-        Ok(Program {
-            number: self.number,
-            attempt: self.attempt,
-            operation: self.operation.copy(alloc)?,
-            own: self.own.copy(alloc)?,
-            steps: self.steps,
-            nulls: self.nulls,
-            taken: self.taken,
-            hand: self.hand,
-            point: self.point.copy(alloc)?,
-        })
     }
 }

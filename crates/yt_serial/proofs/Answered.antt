@@ -1,9 +1,9 @@
 -- Steps whose queries are answered by a function: what they come to, and that the queries grow fewer.
-use Rattle.std.proofs.Common.{◌≡◌, ◌∙◌, ap, refl, sym, subst, ℕ, zero, suc, ◌+◌, ◌-◌, ◌<◌, ◌≤◌, Option, Some, None, List, [], ◌∷◌, ◌++◌, length, take, drop, map, arith}
+use Rattle.std.proofs.Common.{◌≡◌, ◌∙◌, ap, refl, sym, subst, Bool, ℕ, zero, suc, ◌+◌, ◌-◌, ◌<◌, ◌≤◌, Option, Some, None, List, [], ◌∷◌, ◌++◌, length, take, drop, map, arith}
 use Rattle.std.proofs.Math.Seq.{take-append_seam, take-length}
 use Rattle.std.proofs.lemmas.List.{length-append, length-drop}
 use Rattle.yt_machine.specs.Trees.{Leaf, Node, result_of, log_of}
-use Rattle.yt_model.specs.Queries.{Query, Reply, value}
+use Rattle.yt_model.specs.Queries.{Query, Reply, Violation, Nothing, value}
 use Rattle.yt_base.specs.Meanings.{change_of}
 use Rattle.yt_base.specs.declared.updates.Write.{Write}
 use Rattle.yt_model.specs.Values.{Fact}
@@ -12,10 +12,11 @@ use Rattle.yt_model.specs.Violations.{Direction, Caused}
 use Rattle.yt_model.specs.Updates.{Choice, direction_of}
 use Rattle.yt_model.specs.Mappings.{Rule}
 use Rattle.yt_query.specs.Kinds.{IsOfKind}
-use Rattle.yt_eval.specs.Watched.{Watched}
+use Rattle.yt_eval.specs.Watched.{Watched, AreSettled}
 use Rattle.yt_steps.specs.Attempts.{Attempt}
 use Rattle.yt_steps.specs.Steps.{Asking, step, moved}
 use Rattle.yt_program.specs.Courses.{Course, Reading, State, coming_to, by_reply, first_asked, course, course_by}
+use Rattle.yt_program.specs.Settled.{FindsNone, IsShorter}
 use Rattle.yt_program.specs.Wishes.{Wish, WishesReply, TakesAnswer}
 use Rattle.yt_serial.specs.Turns.{between, stepped}
 
@@ -35,13 +36,16 @@ by_fewer val (Node p k) q a e h =
     let left : length (log_of val (k a)) ≡ length (log_of val (k (val p))) = ap (λ r. length (log_of val (k r))) (h ∙ ap val (sym same)) in
     omega (arith, left)
 
--- The answer to the first query leads to the same result.
-pub answered_same : (val : Query → Reply) (t u : Course) (q : Query) (a : Reply) → first_asked t ≡ Some q → a ≡ val q → u ≡ by_reply t a → result_of val u ≡ result_of val t
-answered_same val t u q a e h f = ap (result_of val) f ∙ by_same val t q a e h
+-- Where s comes to the same as t with no more queries, the answer to its first query leads to the same result.
+pub answered_same : (val : Query → Reply) (t s u : Course) (q : Query) (a : Reply) → IsShorter val t s → first_asked s ≡ Some q → a ≡ val q → u ≡ by_reply s a → result_of val u ≡ result_of val t
+answered_same val t s u q a p e h f = ap (result_of val) f ∙ (by_same val s q a e h ∙ p.same)
 
--- One query fewer is left after it.
-pub answered_fewer : (val : Query → Reply) (t u : Course) (q : Query) (a : Reply) → first_asked t ≡ Some q → a ≡ val q → u ≡ by_reply t a → length (log_of val u) < length (log_of val t)
-answered_fewer val t u q a e h f = subst (λ (v : Course). length (log_of val v) < length (log_of val t)) (sym f) (by_fewer val t q a e h)
+-- At least one query fewer is left after it.
+pub answered_fewer : (val : Query → Reply) (t s u : Course) (q : Query) (a : Reply) → IsShorter val t s → first_asked s ≡ Some q → a ≡ val q → u ≡ by_reply s a → length (log_of val u) < length (log_of val t)
+answered_fewer val t s u q a p e h f =
+    let less : length (log_of val u) < length (log_of val s) = subst (λ (v : Course). length (log_of val v) < length (log_of val s)) (sym f) (by_fewer val s q a e h) in
+    let fewer = p.fewer in
+    omega (arith, less, fewer)
 
 -- A step of P leads to P moved by what it comes to.
 pub comes_to : (val : Query → Reply) (B : ℕ) (P : Attempt) (t : Asking) → result_of val (coming_to B P t) ≡ moved B P (result_of val t)
@@ -62,6 +66,10 @@ pub answers_there : (ms : List Rule) (q : Query) (a : Reply) (v w : Watched) →
     → a ≡ value v.rules q v.below v.own (Caused v.heading) → a ≡ value ms q w.below w.own (Caused w.heading)
 answers_there ms q a v w e r h =
     h ∙ ap (λ (u : Watched). value u.rules q u.below u.own (Caused u.heading)) e ∙ ap (λ (rs : List Rule). value rs q w.below w.own (Caused w.heading)) r
+
+-- What the view says is settled has no violation over them.
+pub settled_there : (ms : List Rule) (marks : List Bool) (v w : Watched) → v ≡ w → w.rules ≡ ms → AreSettled v marks → FindsNone (λ q. value ms q w.below w.own (Caused w.heading)) marks
+settled_there ms marks v w e r a n m = sym (answers_there ms (Violation n) Nothing v w e r (sym (a n m)))
 
 -- What the step of P comes to, where it is answered from what P sees.
 pub stepped_is : (ms : List Rule) (B : ℕ) (D : List Fact) (P : Attempt) (c : Option Choice) (t : Course) (below : List Fact) (own : List Change) (h : Direction)

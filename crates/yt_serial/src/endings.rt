@@ -66,18 +66,17 @@ pub(crate) fn stop(
 
 /// Tells the finish of an update that has ended, and keeps its writes. It is refused only for want of memory.
 pub(crate) fn end(
-    alloc: Global,
     finishes: &mut FinishList,
     facts: &mut IndexedFacts,
-    program: &Program,
+    program: Program,
 ) -> Result<(), Memory>
-    requires between { program.now.reading ≡ None }
-    requires ended { is_some (outcome_in program.now.attempt.phase) ≡ true }
-    ensures told { OnOk result ((n : ℕ) → HasFinished n program.now.attempt (map finish_of finishes.old.items) (map finish_of finishes.new.items)) }
-    ensures kept { OnOk result ((ms : List Rule) (B : ℕ) → facts.new ≡ apply facts.old (shown (caused_chase ms B) program.now.attempt)) }
+    requires between { program.reading ≡ None }
+    requires ended { is_some (outcome_in program.attempt.phase) ≡ true }
+    ensures told { OnOk result ((n : ℕ) → HasFinished n program.attempt (map finish_of finishes.old.items) (map finish_of finishes.new.items)) }
+    ensures kept { OnOk result ((ms : List Rule) (B : ℕ) → facts.new ≡ apply facts.old (shown (caused_chase ms B) program.attempt)) }
 {
-    let finish = finish(program);
-    keep(alloc, facts, program, finish.outcome)?;
+    let finish = finish(&program);
+    keep(facts, program.into_own(), finish.outcome)?;
     finishes.push(finish)?;
     Ok(())
 }

@@ -5,16 +5,16 @@ ghost use Rattle.yt_machine.specs.Updates.{shown};
 ghost use Rattle.yt_model.specs.Mappings.{Rule};
 ghost use Rattle.yt_model.specs.Repository.{apply, change};
 ghost use Rattle.yt_base.specs.Meanings.{change_of, fact_of};
-ghost use Rattle.yt_steps.specs.Attempts.{outcome_in};
+ghost use Rattle.yt_steps.specs.Attempts.{Attempt, outcome_in};
 ghost use Rattle.yt_steps.specs.Chase.{caused_chase};
 ghost use Rattle.yt_steps.specs.Serial.{answered};
 ghost use Rattle.yt_program.specs.PointMeanings.{end_of};
 ghost use Rattle.yt_program.specs.Wishes.{end_in};
 
 use std::alloc::Global;
-use yt_base::{Memory, TryCopy, TupleList, Write};
+use yt_base::{Memory, TupleList, Write, WriteList};
 use yt_facts::IndexedFacts;
-use yt_program::{Outcome, Program};
+use yt_program::Outcome;
 
 // The relation of the tuples that say which mappings are in force.
 const FORCE_RELATION: u16 = 65535;
@@ -22,40 +22,38 @@ const FORCE_RELATION: u16 = 65535;
 /// Makes the writes of an update that has ended so: where it is done those that it made, and else none. It is refused
 /// only for want of memory.
 pub(crate) fn keep(
-    alloc: Global,
     facts: &mut IndexedFacts,
-    program: &Program,
+    writes: WriteList,
     outcome: Outcome,
 ) -> Result<(), Memory>
-    requires outcome { option_map end_in (outcome_in program.now.attempt.phase) ≡ Some (end_of outcome) }
-    ensures kept { OnOk result ((ms : List Rule) (B : ℕ) → facts.new ≡ apply facts.old (shown (caused_chase ms B) program.now.attempt)) }
+    ensures kept { OnOk result ((ms : List Rule) (B : ℕ) (P : Attempt) → map change_of writes.items ≡ P.own → option_map end_in (outcome_in P.phase) ≡ Some (end_of outcome) → facts.new ≡ apply facts.old (shown (caused_chase ms B) P)) }
 {
     match outcome {
-        Outcome::Done => make(alloc, facts, program.own().as_slice()),
+        Outcome::Done => make(facts, writes),
         Outcome::Spent => Ok(()),
         Outcome::Refused { .. } => Ok(()),
     }
 }
 
 // Makes the writes in turn.
-fn make(alloc: Global, facts: &mut IndexedFacts, writes: &[Write]) -> Result<(), Memory>
-    ensures made { OnOk result (facts.new ≡ apply facts.old (map change_of writes.now)) }
+fn make(facts: &mut IndexedFacts, writes: WriteList) -> Result<(), Memory>
+    ensures made { OnOk result (facts.new ≡ apply facts.old (map change_of writes.items)) }
 {
-    for write in writes {
-        make_one(alloc, facts, write)?;
+    for write in writes.into_vec() {
+        make_one(facts, write)?;
     }
     Ok(())
 }
 
-fn make_one(alloc: Global, facts: &mut IndexedFacts, write: &Write) -> Result<(), Memory>
-    ensures made { OnOk result (facts.new ≡ change facts.old (change_of write.now)) }
+fn make_one(facts: &mut IndexedFacts, write: Write) -> Result<(), Memory>
+    ensures made { OnOk result (facts.new ≡ change facts.old (change_of write)) }
 {
     match write {
         Write::Insert(tuple) => {
-            facts.insert(tuple.copy(alloc)?)?;
+            facts.insert(tuple)?;
         }
         Write::Delete(tuple) => {
-            facts.remove(tuple);
+            facts.remove(&tuple);
         }
     }
     Ok(())

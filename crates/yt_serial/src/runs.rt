@@ -141,7 +141,7 @@ fn turn(
     match rest.lack {
         Some(lack) => Ok(Some(stop(alloc, &rest.program, number, lack)?)),
         None => {
-            end(alloc, finishes, facts, &rest.program)?;
+            end(finishes, facts, rest.program)?;
             Ok(None)
         }
     }

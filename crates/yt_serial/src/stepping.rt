@@ -115,6 +115,7 @@ fn answer_all(
     ensures same { OnOk result (view.new ≡ view.old) }
 {
     'queries: loop {
+        program.pass(view.settled(), mappings);
         let Want::Read(query) = program.wants() else {
             return Ok(());
         };

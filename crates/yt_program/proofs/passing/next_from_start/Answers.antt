@@ -4,12 +4,10 @@ use Rattle.yt_steps.specs.Steps.{look_from}
 use Rattle.yt_program.proofs.Looks.{here, looks_at}
 use Rattle.yt_program.proofs.passing.next_from_start.Goals as goal
 
-pub returns-then-mapping-eq0 : goal.returns-then-mapping-eq0
-returns-then-mapping-eq0 c =
+pub returns-then-mapping-eq0-clause-look : goal.returns-then-mapping-eq0-clause-look
+returns-then-mapping-eq0-clause-look c =
     let ms = map rule_of c.args.mappings.now.items in
     let k = c.in-Some.place in
     let m = rule_of c.in-Some.mapping.now in
-    record {
-      look = λ P e. looks_at P ms k m c.if-mapping-eq0.true c.in-Some.ensures.found
-          ∙ (ap (look_from P k) (here ms k (suc k) m (omega arith) c.in-Some.ensures.found) ∙ c.in-Some.ensures.passed P e);
-    }
+    λ P e. looks_at P ms k m c.if-mapping-eq0.true c.in-Some.ensures.found
+    ∙ (ap (look_from P k) (here ms k (suc k) m (omega arith) c.in-Some.ensures.found) ∙ c.in-Some.ensures.passed P e)

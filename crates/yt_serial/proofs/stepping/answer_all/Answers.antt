@@ -1,5 +1,5 @@
 use Rattle.std.proofs.Common.{◌∙◌, map, sym, subst}
-use Rattle.yt_model.specs.Queries.{value}
+use Rattle.yt_model.specs.Queries.{Query, Reply, value}
 use Rattle.yt_model.specs.Violations.{Caused}
 use Rattle.yt_base.specs.Meanings.{rule_of}
 use Rattle.yt_query.specs.Kinds.{IsOfKind}
@@ -7,61 +7,82 @@ use Rattle.yt_query.specs.Meanings.{query_of, reply_of}
 use Rattle.yt_query.proofs.OfKind.{values_are_of_kind}
 use Rattle.yt_program.specs.Courses.{course}
 use Rattle.yt_program.specs.Wishes.{wish}
-use Rattle.yt_serial.proofs.Answered.{answers_there, answered_same, answered_fewer, takes}
+use Rattle.yt_serial.proofs.Answered.{answers_there, answered_same, answered_fewer, settled_there, takes}
 use Rattle.yt_serial.proofs.stepping.answer_all.Goals as goal
 
 pub take-requires-clause-kind : goal.take-requires-clause-kind
 take-requires-clause-kind c =
     let ms = map rule_of c.args.mappings.now.items in
     let q = query_of c.in-Read.query.now in
-    takes ms (wish c.queries.program) q (reply_of c.in_ok-answer.answer) c.in-Read.ensures.want
-    (subst (IsOfKind ms q) (sym (answers_there (map rule_of c.args.mappings.now.items) (query_of c.in-Read.query.now) (reply_of c.in_ok-answer.answer) c.queries.view c.args.view.now c.queries.invariant.same c.requires.rules c.in_ok-answer.ensures.value))
+    takes ms (wish c.pass.new.self) q (reply_of c.in_ok-answer.answer) c.in-Read.ensures.want
+    (subst (IsOfKind ms q) (sym (answers_there ms q (reply_of c.in_ok-answer.answer) c.queries.view c.args.view.now c.queries.invariant.same c.requires.rules c.in_ok-answer.ensures.value))
     (values_are_of_kind ms q c.args.view.now.below c.args.view.now.own (Caused c.args.view.now.heading) c.requires.sorted))
 
 pub queries-smaller-in_ok-take : goal.queries-smaller-in_ok-take
 queries-smaller-in_ok-take c =
-    answered_fewer (λ q. value (map rule_of c.args.mappings.now.items) q c.args.view.now.below c.args.view.now.own (Caused c.args.view.now.heading)) (course (map rule_of c.args.mappings.now.items) c.queries.program) (course (map rule_of c.args.mappings.now.items) c.take.new.self) (query_of c.in-Read.query.now) (reply_of c.in_ok-answer.answer)
-    (c.in-Read.ensures.first (map rule_of c.args.mappings.now.items))
-    (answers_there (map rule_of c.args.mappings.now.items) (query_of c.in-Read.query.now) (reply_of c.in_ok-answer.answer) c.queries.view c.args.view.now c.queries.invariant.same c.requires.rules c.in_ok-answer.ensures.value) c.in_ok-take.ensures.step
+    let ms = map rule_of c.args.mappings.now.items in
+    let val : Query → Reply = λ q. value ms q c.args.view.now.below c.args.view.now.own (Caused c.args.view.now.heading) in
+    answered_fewer val (course ms c.queries.program) (course ms c.pass.new.self) (course ms c.take.new.self) (query_of c.in-Read.query.now) (reply_of c.in_ok-answer.answer)
+    (c.pass.ensures.passed val (settled_there ms c.settled.result.now c.queries.view c.args.view.now c.queries.invariant.same c.requires.rules c.settled.ensures.nothing))
+    (c.in-Read.ensures.first ms)
+    (answers_there ms (query_of c.in-Read.query.now) (reply_of c.in_ok-answer.answer) c.queries.view c.args.view.now c.queries.invariant.same c.requires.rules c.in_ok-answer.ensures.value) c.in_ok-take.ensures.step
 
 pub queries-preserved-in_ok-take : goal.queries-preserved-in_ok-take
-queries-preserved-in_ok-take c = record {
-  same = cc;
-  together =
-      answered_same (λ q. value (map rule_of c.args.mappings.now.items) q c.args.view.now.below c.args.view.now.own (Caused c.args.view.now.heading)) (course (map rule_of c.args.mappings.now.items) c.queries.program) (course (map rule_of c.args.mappings.now.items) c.take.new.self) (query_of c.in-Read.query.now) (reply_of c.in_ok-answer.answer)
-      (c.in-Read.ensures.first (map rule_of c.args.mappings.now.items))
-      (answers_there (map rule_of c.args.mappings.now.items) (query_of c.in-Read.query.now) (reply_of c.in_ok-answer.answer) c.queries.view c.args.view.now c.queries.invariant.same c.requires.rules c.in_ok-answer.ensures.value) c.in_ok-take.ensures.step
-      ∙ c.queries.invariant.together;
-}
+queries-preserved-in_ok-take c =
+    let ms = map rule_of c.args.mappings.now.items in
+    let val : Query → Reply = λ q. value ms q c.args.view.now.below c.args.view.now.own (Caused c.args.view.now.heading) in
+    record {
+      same = cc;
+      together =
+          answered_same val (course ms c.queries.program) (course ms c.pass.new.self) (course ms c.take.new.self) (query_of c.in-Read.query.now) (reply_of c.in_ok-answer.answer)
+          (c.pass.ensures.passed val (settled_there ms c.settled.result.now c.queries.view c.args.view.now c.queries.invariant.same c.requires.rules c.settled.ensures.nothing))
+          (c.in-Read.ensures.first ms)
+          (answers_there ms (query_of c.in-Read.query.now) (reply_of c.in_ok-answer.answer) c.queries.view c.args.view.now c.queries.invariant.same c.requires.rules c.in_ok-answer.ensures.value) c.in_ok-take.ensures.step
+          ∙ c.queries.invariant.together;
+    }
 
 pub queries-smaller-in_ok-take-2 : goal.queries-smaller-in_ok-take-2
 queries-smaller-in_ok-take-2 c =
-    answered_fewer (λ q. value (map rule_of c.args.mappings.now.items) q c.args.view.now.below c.args.view.now.own (Caused c.args.view.now.heading)) (course (map rule_of c.args.mappings.now.items) c.queries.program) (course (map rule_of c.args.mappings.now.items) c.take.new.self) (query_of c.in-Read.query.now) (reply_of c.in_ok-answer.answer)
-    (c.in-Read.ensures.first (map rule_of c.args.mappings.now.items))
-    (answers_there (map rule_of c.args.mappings.now.items) (query_of c.in-Read.query.now) (reply_of c.in_ok-answer.answer) c.queries.view c.args.view.now c.queries.invariant.same c.requires.rules c.in_ok-answer.ensures.value) c.in_ok-take.ensures.step
+    let ms = map rule_of c.args.mappings.now.items in
+    let val : Query → Reply = λ q. value ms q c.args.view.now.below c.args.view.now.own (Caused c.args.view.now.heading) in
+    answered_fewer val (course ms c.queries.program) (course ms c.pass.new.self) (course ms c.take.new.self) (query_of c.in-Read.query.now) (reply_of c.in_ok-answer.answer)
+    (c.pass.ensures.passed val (settled_there ms c.settled.result.now c.queries.view c.args.view.now c.queries.invariant.same c.requires.rules c.settled.ensures.nothing))
+    (c.in-Read.ensures.first ms)
+    (answers_there ms (query_of c.in-Read.query.now) (reply_of c.in_ok-answer.answer) c.queries.view c.args.view.now c.queries.invariant.same c.requires.rules c.in_ok-answer.ensures.value) c.in_ok-take.ensures.step
 
 pub queries-preserved-in_ok-take-2 : goal.queries-preserved-in_ok-take-2
-queries-preserved-in_ok-take-2 c = record {
-  same = cc;
-  together =
-      answered_same (λ q. value (map rule_of c.args.mappings.now.items) q c.args.view.now.below c.args.view.now.own (Caused c.args.view.now.heading)) (course (map rule_of c.args.mappings.now.items) c.queries.program) (course (map rule_of c.args.mappings.now.items) c.take.new.self) (query_of c.in-Read.query.now) (reply_of c.in_ok-answer.answer)
-      (c.in-Read.ensures.first (map rule_of c.args.mappings.now.items))
-      (answers_there (map rule_of c.args.mappings.now.items) (query_of c.in-Read.query.now) (reply_of c.in_ok-answer.answer) c.queries.view c.args.view.now c.queries.invariant.same c.requires.rules c.in_ok-answer.ensures.value) c.in_ok-take.ensures.step
-      ∙ c.queries.invariant.together;
-}
+queries-preserved-in_ok-take-2 c =
+    let ms = map rule_of c.args.mappings.now.items in
+    let val : Query → Reply = λ q. value ms q c.args.view.now.below c.args.view.now.own (Caused c.args.view.now.heading) in
+    record {
+      same = cc;
+      together =
+          answered_same val (course ms c.queries.program) (course ms c.pass.new.self) (course ms c.take.new.self) (query_of c.in-Read.query.now) (reply_of c.in_ok-answer.answer)
+          (c.pass.ensures.passed val (settled_there ms c.settled.result.now c.queries.view c.args.view.now c.queries.invariant.same c.requires.rules c.settled.ensures.nothing))
+          (c.in-Read.ensures.first ms)
+          (answers_there ms (query_of c.in-Read.query.now) (reply_of c.in_ok-answer.answer) c.queries.view c.args.view.now c.queries.invariant.same c.requires.rules c.in_ok-answer.ensures.value) c.in_ok-take.ensures.step
+          ∙ c.queries.invariant.together;
+    }
 
 pub queries-smaller : goal.queries-smaller
 queries-smaller c =
-    answered_fewer (λ q. value (map rule_of c.args.mappings.now.items) q c.args.view.now.below c.args.view.now.own (Caused c.args.view.now.heading)) (course (map rule_of c.args.mappings.now.items) c.queries.program) (course (map rule_of c.args.mappings.now.items) c.take.new.self) (query_of c.in-Read.query.now) (reply_of c.in_ok-answer.answer)
-    (c.in-Read.ensures.first (map rule_of c.args.mappings.now.items))
-    (answers_there (map rule_of c.args.mappings.now.items) (query_of c.in-Read.query.now) (reply_of c.in_ok-answer.answer) c.queries.view c.args.view.now c.queries.invariant.same c.requires.rules c.in_ok-answer.ensures.value) c.in_ok-take.ensures.step
+    let ms = map rule_of c.args.mappings.now.items in
+    let val : Query → Reply = λ q. value ms q c.args.view.now.below c.args.view.now.own (Caused c.args.view.now.heading) in
+    answered_fewer val (course ms c.queries.program) (course ms c.pass.new.self) (course ms c.take.new.self) (query_of c.in-Read.query.now) (reply_of c.in_ok-answer.answer)
+    (c.pass.ensures.passed val (settled_there ms c.settled.result.now c.queries.view c.args.view.now c.queries.invariant.same c.requires.rules c.settled.ensures.nothing))
+    (c.in-Read.ensures.first ms)
+    (answers_there ms (query_of c.in-Read.query.now) (reply_of c.in_ok-answer.answer) c.queries.view c.args.view.now c.queries.invariant.same c.requires.rules c.in_ok-answer.ensures.value) c.in_ok-take.ensures.step
 
 pub queries-preserved : goal.queries-preserved
-queries-preserved c = record {
-  same = cc;
-  together =
-      answered_same (λ q. value (map rule_of c.args.mappings.now.items) q c.args.view.now.below c.args.view.now.own (Caused c.args.view.now.heading)) (course (map rule_of c.args.mappings.now.items) c.queries.program) (course (map rule_of c.args.mappings.now.items) c.take.new.self) (query_of c.in-Read.query.now) (reply_of c.in_ok-answer.answer)
-      (c.in-Read.ensures.first (map rule_of c.args.mappings.now.items))
-      (answers_there (map rule_of c.args.mappings.now.items) (query_of c.in-Read.query.now) (reply_of c.in_ok-answer.answer) c.queries.view c.args.view.now c.queries.invariant.same c.requires.rules c.in_ok-answer.ensures.value) c.in_ok-take.ensures.step
-      ∙ c.queries.invariant.together;
-}
+queries-preserved c =
+    let ms = map rule_of c.args.mappings.now.items in
+    let val : Query → Reply = λ q. value ms q c.args.view.now.below c.args.view.now.own (Caused c.args.view.now.heading) in
+    record {
+      same = cc;
+      together =
+          answered_same val (course ms c.queries.program) (course ms c.pass.new.self) (course ms c.take.new.self) (query_of c.in-Read.query.now) (reply_of c.in_ok-answer.answer)
+          (c.pass.ensures.passed val (settled_there ms c.settled.result.now c.queries.view c.args.view.now c.queries.invariant.same c.requires.rules c.settled.ensures.nothing))
+          (c.in-Read.ensures.first ms)
+          (answers_there ms (query_of c.in-Read.query.now) (reply_of c.in_ok-answer.answer) c.queries.view c.args.view.now c.queries.invariant.same c.requires.rules c.in_ok-answer.ensures.value) c.in_ok-take.ensures.step
+          ∙ c.queries.invariant.together;
+    }

@@ -7,6 +7,6 @@ use Rattle.yt_eval.proofs.settled.Settled.stir_touched.Given as goal
 -- The marks that were passed are stirred, and the others are as they were.
 abbrev pub invariant-loop-number : goal.invariant-loop-number
 invariant-loop-number l = record {
-  passed : (n : ℕ) → n < l.number → slice_index_or l.mark-items n false ≡ (slice_index_or l.fn.self n false && not (touches (change_of l.write) (slice_get (map rule_of l.mappings.items) n)));
-  others : (n : ℕ) → l.number ≤ n → slice_index_or l.mark-items n false ≡ slice_index_or l.fn.self n false;
+  passed : (n : ℕ) → n < l.number → slice_index_or l.self n false ≡ (slice_index_or l.fn.self n false && not (touches (change_of l.write) (slice_get (map rule_of l.mappings.items) n)));
+  others : (n : ℕ) → l.number ≤ n → slice_index_or l.self n false ≡ slice_index_or l.fn.self n false;
 }

@@ -1,0 +1,78 @@
+//! What a program tells of its attempt, and a copy of it.
+ghost use Rattle.std.specs.Prelude.{◌≡◌, ◌≤◌, map, IfOk};
+ghost use Rattle.yt_model.specs.Updates.{direction_of};
+ghost use Rattle.yt_base.specs.Meanings.{change_of, heading_of};
+
+use crate::programs::Program;
+use std::alloc::Global;
+use yt_base::{Direction, Memory, TryCopy, WriteList};
+
+impl Program {
+    /// The writes that the attempt has made, in order.
+    pub fn own(&self) -> &WriteList
+        ensures own { map change_of result.now.items ≡ self.now.attempt.own }
+    {
+        &self.own
+    }
+
+    /// The writes that the attempt has made, in order, for which it is given up. It takes no memory.
+    pub fn into_own(self) -> WriteList
+        ensures own { map change_of result.items ≡ self.attempt.own }
+    {
+        self.own
+    }
+
+    /// How many steps it has made.
+    pub fn steps(&self) -> u32
+        ensures steps { result ≡ self.now.attempt.steps }
+        ensures most { result ≤ 300 }
+    {
+        self.steps
+    }
+
+    /// How many nulls it has drawn.
+    pub fn nulls(&self) -> u32
+        ensures nulls { result ≡ self.now.attempt.nulls }
+    {
+        self.nulls
+    }
+
+    /// How many answers to questions it has taken.
+    pub fn taken(&self) -> u32
+        ensures taken { result ≡ self.now.attempt.taken }
+        ensures most { result ≤ self.now.attempt.steps }
+    {
+        self.taken
+    }
+
+    /// The direction of its repairs.
+    pub fn direction(&self) -> Direction
+        ensures heading { heading_of result ≡ direction_of self.now.attempt.operation }
+    {
+        self.operation.direction()
+    }
+}
+
+impl TryCopy for Program {
+    ghost use Rattle.yt_program.specs.Courses.{State};
+
+    ghost Meaning = { State };
+
+    ghost meaning = { λ s. s };
+
+    fn copy(&self, alloc: Global) -> Result<Program, Memory>
+        ensures same { IfOk result (λ copy. copy ≡ self.now) }
+    {
+        Ok(Program {
+            number: self.number,
+            attempt: self.attempt,
+            operation: self.operation.copy(alloc)?,
+            own: self.own.copy(alloc)?,
+            steps: self.steps,
+            nulls: self.nulls,
+            taken: self.taken,
+            hand: self.hand,
+            point: self.point.copy(alloc)?,
+        })
+    }
+}

@@ -1,0 +1,68 @@
+//! A look that passes over mappings that are settled.
+ghost use Rattle.std.specs.Prelude.{◌≡◌, ◌≤◌, false, map, length, slice_index_or};
+ghost use Rattle.yt_model.specs.Queries.{Query as QueryMeant, Reply};
+ghost use Rattle.yt_base.specs.Meanings.{rule_of};
+ghost use Rattle.yt_steps.specs.Attempts.{Attempt};
+ghost use Rattle.yt_program.specs.Conditions.{AreWithin};
+ghost use Rattle.yt_program.specs.Courses.{course};
+ghost use Rattle.yt_program.specs.Rows.{Violating, begun_in, row_tree};
+ghost use Rattle.yt_program.specs.PointMeanings.{reading_of};
+ghost use Rattle.yt_program.specs.Settled.{FindsNone, IsShorter};
+
+use crate::passing::{next_from_start, violation_asked};
+use crate::points::Point;
+use crate::programs::Program;
+use crate::readings::Reading;
+use crate::rows::Row;
+use yt_base::MappingList;
+
+impl Program {
+    /// Passes, in a look, over mappings that are settled: `settled[n]` says that the mapping of number n has no violation
+    /// that counts. What is asked for then is the first violation of one that is not settled, or of a settled one that no
+    /// other comes after unasked. It takes no memory.
+    pub fn pass(&mut self, settled: &[bool], mappings: &MappingList)
+        requires within { AreWithin (map rule_of mappings.now.items) }
+        ensures passed { (val : QueryMeant → Reply) → FindsNone val settled.now → IsShorter val (course (map rule_of mappings.now.items) self.old) (course (map rule_of mappings.now.items) self.new) }
+        ensures attempt { self.new.attempt ≡ self.old.attempt }
+    {
+        if let Point::Reading(reading) = &mut self.point {
+            pass(reading, self.number, settled, mappings);
+        }
+    }
+}
+
+// Where the first violation of a mapping with a mark is asked for, passes on to the next mapping without a mark, or to
+// the last before one that may be in force, but is not so from the start.
+fn pass(reading: &mut Reading, number: u32, marks: &[bool], mappings: &MappingList)
+    requires { length mappings.now.items ≤ 65536 }
+    ensures passed { (val : QueryMeant → Reply) (P : Attempt) → FindsNone val marks.now → P.number ≡ number → IsShorter val (row_tree (map rule_of mappings.now.items) P (reading_of reading.old)) (row_tree (map rule_of mappings.now.items) P (reading_of reading.new)) }
+    ensures phase { begun_in (reading_of reading.new) ≡ begun_in (reading_of reading.old) }
+{
+    if let Row::Violating(place) = &reading.row {
+        let unmarked = first_unmarked(*place, number, marks, mappings);
+        *reading = violation_asked(unmarked);
+    }
+}
+
+// The first place from `from` on without a mark, if all mappings up to it that may be in force are so from the start;
+// else the last before one that is not, or before the end.
+fn first_unmarked(from: u16, number: u32, marks: &[bool], mappings: &MappingList) -> u16
+    requires { length mappings.now.items ≤ 65536 }
+    ensures passed { (val : QueryMeant → Reply) (P : Attempt) → FindsNone val marks.now → P.number ≡ number → IsShorter val (row_tree (map rule_of mappings.now.items) P (Violating from)) (row_tree (map rule_of mappings.now.items) P (Violating result)) }
+{
+    let mut place = from;
+    'places: while is_marked(marks, place) {
+        match next_from_start(number, place as usize + 1, mappings) {
+            Some(next) => place = next,
+            None => return place,
+        }
+    }
+    place
+}
+
+// Whether there is a mark at the place.
+fn is_marked(marks: &[bool], place: u16) -> bool
+    ensures mark { result ≡ slice_index_or marks.now place false }
+{
+    marks.get(place as usize).copied().unwrap_or(false)
+}
