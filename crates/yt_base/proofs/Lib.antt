@@ -6,3 +6,4 @@ pub mod Known
 pub mod Images
 pub mod Gathering
 pub mod Turns
+pub mod NextCandidates

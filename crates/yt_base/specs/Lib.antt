@@ -1,3 +1,4 @@
 pub mod Listed
 pub mod Meanings
 pub mod Maps
+pub mod Candidates

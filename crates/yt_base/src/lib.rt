@@ -30,10 +30,12 @@
 //! **Copies.** Each type that holds a list is `TryCopy`: `copy` gives a value with the same meaning.
 //!
 //! **Sets of tuples** are taken as `F: Facts`: a clause speaks of the list `F.tuples facts.now`, which each call tells
-//! to be in order.
+//! to be in order. `next_candidate` goes over the tuples of a relation, or over those of them with a value in a
+//! `Column`, whose meaning is `column_of` of `specs/Candidates.antt`.
 #![tactic(auto)]
 
 pub mod bindings;
+pub mod candidates;
 pub mod copying;
 pub mod facts;
 pub mod lists;
@@ -47,6 +49,7 @@ pub mod updates;
 pub mod values;
 
 pub use crate::bindings::Binding;
+pub use crate::candidates::{Column, next_candidate};
 pub use crate::copying::TryCopy;
 pub use crate::facts::Facts;
 pub use crate::lists::{List, Name, NameList, NumberList, Word};

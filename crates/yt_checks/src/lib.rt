@@ -11,7 +11,6 @@ mod draft;
 mod facts;
 mod limits;
 mod mappings;
-mod names;
 mod refusals;
 mod relations;
 mod updates;

@@ -8,10 +8,10 @@ ghost use Rattle.yt_grammar.specs.Checks.{curators_full, with_answer};
 ghost use Rattle.yt_session.specs.Meanings.{update_of};
 ghost use Rattle.yt_checks.specs.Additions.{unanswered};
 
-use crate::names::Names;
 use std::alloc::Global;
 use std::marker::Model;
 use yt_base::{Choice, List, Memory, Name, Update};
+use yt_schema::Names;
 use yt_session::{SessionUpdate, SessionUpdates};
 
 /// The updates of a session, at most 1,000. Contracts see them as a list.

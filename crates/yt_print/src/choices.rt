@@ -7,33 +7,22 @@ ghost use Rattle.yt_grammar.specs.Printing.{written_choice, written_fact};
 ghost use Rattle.yt_schema.specs.Pages.{with_words};
 
 use crate::worded::{Worded, with_separated};
-use std::alloc::Global;
 use yt_base::{Choice, Memory, TupleList};
 use yt_schema::{Page, Schema};
 
-fn with_facts(
-    alloc: Global,
-    page: Page,
-    schema: &Schema,
-    tuples: &TupleList,
-) -> Result<Page, Memory>
+fn with_facts(page: Page, schema: &Schema, tuples: &TupleList) -> Result<Page, Memory>
     ensures { IfOk result (λ p. p ≡ with_words page (separated fact_words (map (written_fact schema.now) (map fact_of tuples.now.items)))) }
 {
-    with_separated(alloc, page, schema, tuples.as_slice())
+    with_separated(page, schema, tuples.as_slice())
 }
 
 /// Adds an answer as a session spells it behind the label. It is refused only for want of memory.
-pub fn with_choice(
-    alloc: Global,
-    page: Page,
-    schema: &Schema,
-    choice: &Choice,
-) -> Result<Page, Memory>
+pub fn with_choice(page: Page, schema: &Schema, choice: &Choice) -> Result<Page, Memory>
     ensures words { IfOk result (λ p. p ≡ with_words page (choice_words (written_choice schema.now (choice_of choice.now)))) }
 {
     match choice {
         Choice::Expand => page.name(b"expand"),
-        Choice::Unify(tuple) => tuple.write(alloc, page.name(b"unify")?, schema),
-        Choice::Delete(tuples) => with_facts(alloc, page.name(b"delete")?, schema, tuples),
+        Choice::Unify(tuple) => tuple.write(page.name(b"unify")?, schema),
+        Choice::Delete(tuples) => with_facts(page.name(b"delete")?, schema, tuples),
     }
 }

@@ -12,13 +12,12 @@ ghost use Rattle.yt_print.specs.Lines.{answer_statements, base_statements, mappi
 use crate::choices::with_choice;
 use crate::operations::with_operation;
 use crate::worded::Worded;
-use std::alloc::Global;
 use yt_base::{Choice, Mapping, Memory, Name, Tuple};
 use yt_schema::{Page, Schema, with_mapping};
 use yt_session::{Session, SessionUpdate};
 
 // The relation of a number.
-fn with_relation(alloc: Global, page: Page, schema: &Schema, number: u16) -> Result<Page, Memory>
+fn with_relation(page: Page, schema: &Schema, number: u16) -> Result<Page, Memory>
     requires { number < length schema.now }
     ensures { (r : RelationSchema) → slice_get schema.now number ≡ Some r → IfOk result (λ p. p ≡ with_line page (statement_words (relation_statement r))) }
 {
@@ -27,31 +26,26 @@ fn with_relation(alloc: Global, page: Page, schema: &Schema, number: u16) -> Res
     };
     page.name(b"relation")?
         .name(schema.name(number))?
-        .number(alloc, arity as i64)?
+        .number(arity as i64)?
         .end_line()
 }
 
 /// Adds the relations.
-pub(crate) fn with_relations(alloc: Global, mut page: Page, schema: &Schema) -> Result<Page, Memory>
+pub(crate) fn with_relations(mut page: Page, schema: &Schema) -> Result<Page, Memory>
     ensures { IfOk result (λ p. p ≡ with_lines statement_words page (map relation_statement schema.now)) }
 {
     for number in 0..schema.len() {
-        page = with_relation(alloc, page, schema, number)?;
+        page = with_relation(page, schema, number)?;
     }
     Ok(page)
 }
 
 // A mapping, where no update adds it.
-fn with_initial(
-    alloc: Global,
-    page: Page,
-    schema: &Schema,
-    mapping: &Mapping,
-) -> Result<Page, Memory>
+fn with_initial(page: Page, schema: &Schema, mapping: &Mapping) -> Result<Page, Memory>
     ensures { IfOk result (λ p. p ≡ with_lines statement_words page (mapping_statements schema.now (session_mapping_of mapping.now ∷ []))) }
 {
     if mapping.since == 0 {
-        return with_mapping(alloc, page, schema, mapping)?.end_line();
+        return with_mapping(page, schema, mapping)?.end_line();
     }
     Ok(page)
 }
@@ -59,7 +53,6 @@ fn with_initial(
 /// Adds the mappings that no update adds.
 #[tactic(auto, using(crate::proofs::Onward::filtered_more))]
 pub(crate) fn with_mappings(
-    alloc: Global,
     mut page: Page,
     schema: &Schema,
     mappings: &[Mapping],
@@ -67,23 +60,18 @@ pub(crate) fn with_mappings(
     ensures { IfOk result (λ p. p ≡ with_lines statement_words page (mapping_statements schema.now (map session_mapping_of mappings.now))) }
 {
     for mapping in mappings {
-        page = with_initial(alloc, page, schema, mapping)?;
+        page = with_initial(page, schema, mapping)?;
     }
     Ok(page)
 }
 
 /// Adds the tuples of the base.
 #[tactic(auto, using(crate::proofs::Onward::mapped_more))]
-pub(crate) fn with_base(
-    alloc: Global,
-    mut page: Page,
-    schema: &Schema,
-    tuples: &[Tuple],
-) -> Result<Page, Memory>
+pub(crate) fn with_base(mut page: Page, schema: &Schema, tuples: &[Tuple]) -> Result<Page, Memory>
     ensures { IfOk result (λ p. p ≡ with_lines statement_words page (base_statements schema.now (map fact_of tuples.now))) }
 {
     for tuple in tuples {
-        page = tuple.write(alloc, page.name(b"base")?, schema)?.end_line()?;
+        page = tuple.write(page.name(b"base")?, schema)?.end_line()?;
     }
     Ok(page)
 }
@@ -91,7 +79,6 @@ pub(crate) fn with_base(
 // The answers to the update of a label.
 #[tactic(auto, using(crate::proofs::Onward::mapped_more))]
 fn with_answers(
-    alloc: Global,
     mut page: Page,
     schema: &Schema,
     label: &Name,
@@ -101,18 +88,13 @@ fn with_answers(
 {
     for answer in answers {
         let named = page.name(b"answer")?.name(label.as_slice())?;
-        page = with_choice(alloc, named, schema, answer)?.end_line()?;
+        page = with_choice(named, schema, answer)?.end_line()?;
     }
     Ok(page)
 }
 
 // An update and its answers.
-fn with_update(
-    alloc: Global,
-    page: Page,
-    session: &Session,
-    update: &SessionUpdate,
-) -> Result<Page, Memory>
+fn with_update(page: Page, session: &Session, update: &SessionUpdate) -> Result<Page, Memory>
     ensures { IfOk result (λ p. p ≡ with_lines statement_words page (update_statements (session_of session.now) (update_of update.now))) }
 {
     let label = &update.update.label;
@@ -120,23 +102,17 @@ fn with_update(
         .name(b"update")?
         .name(label.as_slice())?
         .name(update.update.curator.as_slice())?;
-    let told = with_operation(alloc, named, session, &update.update.operation)?.end_line()?;
-    with_answers(
-        alloc,
-        told,
-        &session.schema,
-        label,
-        update.answers.as_slice(),
-    )
+    let told = with_operation(named, session, &update.update.operation)?.end_line()?;
+    with_answers(told, &session.schema, label, update.answers.as_slice())
 }
 
 /// Adds the updates, each with its answers.
 #[tactic(auto, using(crate::proofs::Onward::pieces_more))]
-pub(crate) fn with_updates(alloc: Global, mut page: Page, session: &Session) -> Result<Page, Memory>
+pub(crate) fn with_updates(mut page: Page, session: &Session) -> Result<Page, Memory>
     ensures { IfOk result (λ p. p ≡ with_lines statement_words page (flat_map (update_statements (session_of session.now)) (session_of session.now).updates)) }
 {
     for update in session.updates.as_slice() {
-        page = with_update(alloc, page, session, update)?;
+        page = with_update(page, session, update)?;
     }
     Ok(page)
 }

@@ -11,7 +11,6 @@ ghost use Rattle.yt_schema.specs.Pages.{with_words};
 ghost use Rattle.yt_session.specs.Meanings.{session_of};
 
 use crate::worded::Worded;
-use std::alloc::Global;
 use yt_base::{MappingList, Memory, Operation, Value};
 use yt_schema::{Page, Schema, with_mapping};
 use yt_session::Session;
@@ -25,7 +24,6 @@ fn with_no_mapping(page: Page) -> Result<Page, Memory>
 
 // The mapping of a number.
 fn with_added_mapping(
-    alloc: Global,
     page: Page,
     schema: &Schema,
     mappings: &MappingList,
@@ -34,14 +32,13 @@ fn with_added_mapping(
     ensures { IfOk result (λ p. p ≡ with_words page (operation_words (AddMapping (written_mapping schema.now (slice_index_or (map session_mapping_of mappings.now.items) number no_mapping))))) }
 {
     match mappings.get(number as usize) {
-        Some(mapping) => with_mapping(alloc, page, schema, mapping),
+        Some(mapping) => with_mapping(page, schema, mapping),
         None => with_no_mapping(page),
     }
 }
 
 /// Adds an operation as a session spells it behind the curator.
 pub(crate) fn with_operation(
-    alloc: Global,
     page: Page,
     session: &Session,
     operation: &Operation,
@@ -50,15 +47,13 @@ pub(crate) fn with_operation(
 {
     let schema = &session.schema;
     match operation {
-        Operation::Insert(tuple) => tuple.write(alloc, page.name(b"insert")?, schema),
-        Operation::Delete(tuple) => tuple.write(alloc, page.name(b"delete")?, schema),
+        Operation::Insert(tuple) => tuple.write(page.name(b"insert")?, schema),
+        Operation::Delete(tuple) => tuple.write(page.name(b"delete")?, schema),
         Operation::Replace(null, value) => page
             .name(b"replace")?
-            .value(alloc, &Value::Null(*null))?
+            .value(&Value::Null(*null))?
             .name(b"with")?
-            .value(alloc, value),
-        Operation::Enact(number) => {
-            with_added_mapping(alloc, page, schema, &session.mappings, *number)
-        }
+            .value(value),
+        Operation::Enact(number) => with_added_mapping(page, schema, &session.mappings, *number),
     }
 }

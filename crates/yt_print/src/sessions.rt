@@ -17,12 +17,10 @@ use yt_grammar::sessions_are_read_again;
 use yt_schema::Page;
 use yt_session::Session;
 
-fn with_header(alloc: Global, page: Page, format: u8) -> Result<Page, Memory>
+fn with_header(page: Page, format: u8) -> Result<Page, Memory>
     ensures { IfOk result (λ p. p ≡ with_line page (statement_words (Header format))) }
 {
-    page.name(b"youtopia")?
-        .number(alloc, format as i64)?
-        .end_line()
+    page.name(b"youtopia")?.number(format as i64)?.end_line()
 }
 
 fn with_end(page: Page) -> Result<Page, Memory>
@@ -36,11 +34,11 @@ fn print_as(alloc: Global, format: u8, session: &Session) -> Result<Vec<u8>, Mem
     ensures { IfOk result (λ text. text.items ≡ printed (record (session_of session.now) { format = format })) }
 {
     let schema = &session.schema;
-    let header = with_header(alloc, Page::new(alloc), format)?;
-    let relations = with_relations(alloc, header, schema)?;
-    let mappings = with_mappings(alloc, relations, schema, session.mappings.as_slice())?;
-    let base = with_base(alloc, mappings, schema, session.base.as_slice())?;
-    let updates = with_updates(alloc, base, session)?;
+    let header = with_header(Page::new(alloc), format)?;
+    let relations = with_relations(header, schema)?;
+    let mappings = with_mappings(relations, schema, session.mappings.as_slice())?;
+    let base = with_base(mappings, schema, session.base.as_slice())?;
+    let updates = with_updates(base, session)?;
     let whole = with_end(updates)?;
     Ok(whole.into_text())
 }

@@ -8,7 +8,6 @@ ghost use Rattle.yt_grammar.specs.Sessions.{RelationSchema};
 ghost use Rattle.yt_base.specs.Meanings.{datum_of, fact_of};
 ghost use Rattle.yt_schema.specs.Pages.{with_words};
 
-use std::alloc::Global;
 use yt_base::{Memory, Tuple, Value};
 use yt_schema::{Page, Schema};
 
@@ -17,45 +16,39 @@ pub trait Worded {
     ghost words: { List RelationSchema → Self → List Word };
 
     /// Adds the words. It is refused only for want of memory.
-    fn write(&self, alloc: Global, page: Page, schema: &Schema) -> Result<Page, Memory>
+    fn write(&self, page: Page, schema: &Schema) -> Result<Page, Memory>
         ensures written { IfOk result (λ p. p ≡ with_words page (words schema.now self.now)) };
 }
 
 impl Worded for Value {
     ghost words = { λ _ v. value_word (datum_of v) ∷ [] };
 
-    fn write(&self, alloc: Global, page: Page, _schema: &Schema) -> Result<Page, Memory> {
-        page.value(alloc, self)
+    fn write(&self, page: Page, _schema: &Schema) -> Result<Page, Memory> {
+        page.value(self)
     }
 }
 
 impl Worded for Tuple {
     ghost words = { λ relations t. fact_words (written_fact relations (fact_of t)) };
 
-    fn write(&self, alloc: Global, page: Page, schema: &Schema) -> Result<Page, Memory> {
+    fn write(&self, page: Page, schema: &Schema) -> Result<Page, Memory> {
         let inside = page.name(schema.name(self.relation))?.open()?;
-        with_values(alloc, inside, schema, self.values.as_slice())?.close()
+        with_values(inside, schema, self.values.as_slice())?.close()
     }
 }
 
 // Each item behind a comma.
 #[tactic(auto, using(yt_schema::proofs::Noted::fold_more))]
-fn with_others<T: Worded>(
-    alloc: Global,
-    mut page: Page,
-    schema: &Schema,
-    items: &[T],
-) -> Result<Page, Memory>
+fn with_others<T: Worded>(mut page: Page, schema: &Schema, items: &[T]) -> Result<Page, Memory>
     ensures { IfOk result (λ p. p ≡ with_words page (flat_map (λ x. comma ∷ T.words schema.now x) items.now)) }
 {
     for item in items {
-        page = item.write(alloc, page.comma()?, schema)?;
+        page = item.write(page.comma()?, schema)?;
     }
     Ok(page)
 }
 
 fn with_some<T: Worded>(
-    alloc: Global,
     page: Page,
     schema: &Schema,
     first: &T,
@@ -63,27 +56,22 @@ fn with_some<T: Worded>(
 ) -> Result<Page, Memory>
     ensures { IfOk result (λ p. p ≡ with_words page (separated (T.words schema.now) (first.now ∷ others.now))) }
 {
-    let page = first.write(alloc, page, schema)?;
-    with_others(alloc, page, schema, others)
+    let page = first.write(page, schema)?;
+    with_others(page, schema, others)
 }
 
 /// Adds the words of each item, with commas between. It is refused only for want of memory.
-pub fn with_separated<T: Worded>(
-    alloc: Global,
-    page: Page,
-    schema: &Schema,
-    items: &[T],
-) -> Result<Page, Memory>
+pub fn with_separated<T: Worded>(page: Page, schema: &Schema, items: &[T]) -> Result<Page, Memory>
     ensures words { IfOk result (λ p. p ≡ with_words page (separated (T.words schema.now) items.now)) }
 {
     match items {
         [] => Ok(page),
-        [first, others @ ..] => with_some(alloc, page, schema, first, others),
+        [first, others @ ..] => with_some(page, schema, first, others),
     }
 }
 
-fn with_values(alloc: Global, page: Page, schema: &Schema, values: &[Value]) -> Result<Page, Memory>
+fn with_values(page: Page, schema: &Schema, values: &[Value]) -> Result<Page, Memory>
     ensures { IfOk result (λ p. p ≡ with_words page (separated (one_word value_word) (map datum_of values.now))) }
 {
-    with_separated(alloc, page, schema, values)
+    with_separated(page, schema, values)
 }

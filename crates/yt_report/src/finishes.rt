@@ -9,14 +9,13 @@ ghost use Rattle.yt_program.specs.declared.results.Finish.{Finish};
 ghost use Rattle.yt_report.specs.Results.{end_words, finish_lines, finish_words};
 
 use crate::named::with_update;
-use std::alloc::Global;
 use yt_base::{Memory, Null, Value};
 use yt_program::{Finish, Outcome};
 use yt_schema::Page;
 use yt_session::SessionUpdates;
 
 // How the update ended.
-fn with_end(alloc: Global, page: Page, finish: &Finish) -> Result<Page, Memory>
+fn with_end(page: Page, finish: &Finish) -> Result<Page, Memory>
     ensures { IfOk result (λ p. p ≡ with_words page (end_words (finish_of finish.now).outcome)) }
 {
     match finish.outcome {
@@ -28,14 +27,13 @@ fn with_end(alloc: Global, page: Page, finish: &Finish) -> Result<Page, Memory>
                 attempt: 0,
                 place,
             };
-            page.name(b"refused")?.value(alloc, &Value::Null(null))
+            page.name(b"refused")?.value(&Value::Null(null))
         }
     }
 }
 
 // The update of a number.
 fn with_finish(
-    alloc: Global,
     page: Page,
     updates: &SessionUpdates,
     number: usize,
@@ -44,18 +42,17 @@ fn with_finish(
     requires { number < 2 ^ 63 }
     ensures { IfOk result (λ p. p ≡ with_line page (finish_words (map update_of updates.now.items) number (finish_of finish.now))) }
 {
-    let named = with_update(alloc, page.name(b"update")?, updates, number)?;
-    with_end(alloc, named, finish)?
+    let named = with_update(page.name(b"update")?, updates, number)?;
+    with_end(named, finish)?
         .name(b"steps")?
-        .number(alloc, finish.steps as i64)?
+        .number(finish.steps as i64)?
         .name(b"nulls")?
-        .number(alloc, finish.nulls as i64)?
+        .number(finish.nulls as i64)?
         .end_line()
 }
 
 // The update that came to its end at a place, counted from 0.
 fn with_finish_at(
-    alloc: Global,
     page: Page,
     updates: &SessionUpdates,
     finishes: &[Finish],
@@ -67,12 +64,11 @@ fn with_finish_at(
     let Some(finish) = finishes.get(place) else {
         unreachable!()
     };
-    with_finish(alloc, page, updates, place + 1, finish)
+    with_finish(page, updates, place + 1, finish)
 }
 
 /// Adds the updates that came to their ends, the first of them number 1.
 pub(crate) fn with_finishes(
-    alloc: Global,
     mut page: Page,
     updates: &SessionUpdates,
     finishes: &[Finish],
@@ -80,7 +76,7 @@ pub(crate) fn with_finishes(
     ensures { IfOk result (λ p. p ≡ with_lines (λ words. words) page (finish_lines (map update_of updates.now.items) 1 (map finish_of finishes.now))) }
 {
     for place in 0..finishes.len() {
-        page = with_finish_at(alloc, page, updates, finishes, place)?;
+        page = with_finish_at(page, updates, finishes, place)?;
     }
     Ok(page)
 }

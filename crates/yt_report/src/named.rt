@@ -9,30 +9,20 @@ ghost use Rattle.yt_schema.specs.Pages.{with_words};
 ghost use Rattle.yt_session.specs.Meanings.{update_of};
 ghost use Rattle.yt_report.specs.Results.{update_words};
 
-use std::alloc::Global;
 use yt_base::{MappingList, Memory};
 use yt_schema::Page;
 use yt_session::SessionUpdates;
 
 // A number and two names.
-fn with_names(
-    alloc: Global,
-    page: Page,
-    number: usize,
-    label: &[u8],
-    curator: &[u8],
-) -> Result<Page, Memory>
+fn with_names(page: Page, number: usize, label: &[u8], curator: &[u8]) -> Result<Page, Memory>
     requires { number < 2 ^ 63 }
     ensures { IfOk result (λ p. p ≡ with_words page (word_of.number (pos number) ∷ word_of.name label.now ∷ word_of.name curator.now ∷ [])) }
 {
-    page.number(alloc, number as i64)?
-        .name(label)?
-        .name(curator)
+    page.number(number as i64)?.name(label)?.name(curator)
 }
 
 /// Adds an update by its number, label and curator.
 pub(crate) fn with_update(
-    alloc: Global,
     page: Page,
     updates: &SessionUpdates,
     number: usize,
@@ -44,14 +34,13 @@ pub(crate) fn with_update(
         Some(named) => {
             let update = &named.update;
             with_names(
-                alloc,
                 page,
                 number,
                 update.label.as_slice(),
                 update.curator.as_slice(),
             )
         }
-        None => with_names(alloc, page, number, &[], &[]),
+        None => with_names(page, number, &[], &[]),
     }
 }
 

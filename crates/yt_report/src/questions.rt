@@ -11,7 +11,6 @@ ghost use Rattle.yt_program.specs.Results.{lack_of, stop_of};
 ghost use Rattle.yt_report.specs.Results.{candidate_lines, lack_name, question_lines, stop_lines, stop_lines_in, tuple_words};
 
 use crate::named::{mapping_name, with_update};
-use std::alloc::Global;
 use yt_base::{Memory, Tuple};
 use yt_frontier::Question;
 use yt_print::Worded;
@@ -20,25 +19,17 @@ use yt_schema::{Page, Schema};
 use yt_session::Session;
 
 #[tactic(auto, using(yt_print::proofs::Onward::mapped_more))]
-fn with_candidates(
-    alloc: Global,
-    mut page: Page,
-    schema: &Schema,
-    tuples: &[Tuple],
-) -> Result<Page, Memory>
+fn with_candidates(mut page: Page, schema: &Schema, tuples: &[Tuple]) -> Result<Page, Memory>
     ensures { IfOk result (λ p. p ≡ with_lines (λ words. words) page (candidate_lines schema.now (map fact_of tuples.now))) }
 {
     for tuple in tuples {
-        page = tuple
-            .write(alloc, page.name(b"candidate")?, schema)?
-            .end_line()?;
+        page = tuple.write(page.name(b"candidate")?, schema)?.end_line()?;
     }
     Ok(page)
 }
 
 // A positive question by the name of its mapping.
 fn with_positive(
-    alloc: Global,
     page: Page,
     schema: &Schema,
     called: &[u8],
@@ -50,13 +41,12 @@ fn with_positive(
         ∷ candidate_lines schema.now (map fact_of candidates.now))) }
 {
     let named = page.name(b"question")?.name(b"positive")?.name(called)?;
-    let told = tuple.write(alloc, named, schema)?.end_line()?;
-    with_candidates(alloc, told, schema, candidates)
+    let told = tuple.write(named, schema)?.end_line()?;
+    with_candidates(told, schema, candidates)
 }
 
 // A negative question by the name of its mapping.
 fn with_negative(
-    alloc: Global,
     page: Page,
     schema: &Schema,
     called: &[u8],
@@ -71,12 +61,11 @@ fn with_negative(
         .name(b"negative")?
         .name(called)?
         .end_line()?;
-    with_candidates(alloc, told, schema, tuples)
+    with_candidates(told, schema, tuples)
 }
 
 /// Adds a question, and then its candidates, or the tuples of which some have to go.
 pub(crate) fn with_question(
-    alloc: Global,
     page: Page,
     session: &Session,
     question: &Question,
@@ -91,11 +80,11 @@ pub(crate) fn with_question(
             candidates,
         } => {
             let called = mapping_name(&session.mappings, *mapping);
-            with_positive(alloc, page, schema, called, tuple, candidates.as_slice())
+            with_positive(page, schema, called, tuple, candidates.as_slice())
         }
         Question::Negative { mapping, tuples } => {
             let called = mapping_name(&session.mappings, *mapping);
-            with_negative(alloc, page, schema, called, tuples.as_slice())
+            with_negative(page, schema, called, tuples.as_slice())
         }
     }
 }
@@ -110,23 +99,17 @@ fn lack_name(lack: Lack) -> &'static [u8]
 }
 
 /// Adds the update that stopped, and its question.
-pub(crate) fn with_stop(
-    alloc: Global,
-    page: Page,
-    session: &Session,
-    stop: &Stop,
-) -> Result<Page, Memory>
+pub(crate) fn with_stop(page: Page, session: &Session, stop: &Stop) -> Result<Page, Memory>
     ensures { IfOk result (λ p. p ≡ with_lines (λ words. words) page (stop_lines (session_of session.now) (stop_of stop.now))) }
 {
     let stuck = page.name(b"stuck")?;
-    let named = with_update(alloc, stuck, &session.updates, stop.update as usize)?;
+    let named = with_update(stuck, &session.updates, stop.update as usize)?;
     let told = named.name(lack_name(stop.lack))?.end_line()?;
-    with_question(alloc, told, session, &stop.question)
+    with_question(told, session, &stop.question)
 }
 
 /// Adds the stop, where there is one.
 pub(crate) fn with_stop_in(
-    alloc: Global,
     page: Page,
     session: &Session,
     stop: &Option<Stop>,
@@ -135,6 +118,6 @@ pub(crate) fn with_stop_in(
 {
     match stop {
         None => Ok(page),
-        Some(stopped) => with_stop(alloc, page, session, stopped),
+        Some(stopped) => with_stop(page, session, stopped),
     }
 }

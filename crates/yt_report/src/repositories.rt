@@ -8,7 +8,6 @@ ghost use Rattle.yt_program.specs.Results.{finish_of};
 ghost use Rattle.yt_session.specs.Meanings.{update_of};
 ghost use Rattle.yt_report.specs.Results.{repository_lines, tuple_words};
 
-use std::alloc::Global;
 use yt_base::{Memory, Tuple};
 use yt_print::Worded;
 use yt_program::Finish;
@@ -16,37 +15,26 @@ use yt_schema::{Page, Schema};
 use yt_session::SessionUpdate;
 
 #[tactic(auto, using(yt_print::proofs::Onward::mapped_more))]
-fn with_tuples(
-    alloc: Global,
-    mut page: Page,
-    schema: &Schema,
-    tuples: &[Tuple],
-) -> Result<Page, Memory>
+fn with_tuples(mut page: Page, schema: &Schema, tuples: &[Tuple]) -> Result<Page, Memory>
     ensures { IfOk result (λ p. p ≡ with_lines (λ words. words) page (map (tuple_words schema.now) (map fact_of tuples.now))) }
 {
     for tuple in tuples {
-        page = tuple.write(alloc, page, schema)?.end_line()?;
+        page = tuple.write(page, schema)?.end_line()?;
     }
     Ok(page)
 }
 
 /// Adds the number of the tuples and the tuples.
-pub(crate) fn with_repository(
-    alloc: Global,
-    page: Page,
-    schema: &Schema,
-    tuples: &[Tuple],
-) -> Result<Page, Memory>
+pub(crate) fn with_repository(page: Page, schema: &Schema, tuples: &[Tuple]) -> Result<Page, Memory>
     ensures { IfOk result (λ p. p ≡ with_lines (λ words. words) page (repository_lines schema.now (map fact_of tuples.now))) }
 {
     let count = tuples.len() as i64;
-    let counted = page.name(b"repository")?.number(alloc, count)?.end_line()?;
-    with_tuples(alloc, counted, schema, tuples)
+    let counted = page.name(b"repository")?.number(count)?.end_line()?;
+    with_tuples(counted, schema, tuples)
 }
 
 /// Adds how many of the updates came to their ends.
 pub(crate) fn with_committed(
-    alloc: Global,
     page: Page,
     finishes: &[Finish],
     updates: &[SessionUpdate],
@@ -56,8 +44,8 @@ pub(crate) fn with_committed(
     let ended = finishes.len() as i64;
     let all = updates.len() as i64;
     page.name(b"committed")?
-        .number(alloc, ended)?
+        .number(ended)?
         .name(b"of")?
-        .number(alloc, all)?
+        .number(all)?
         .end_line()
 }

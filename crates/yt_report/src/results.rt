@@ -18,12 +18,12 @@ use yt_program::{SessionResult, Stop};
 use yt_schema::Page;
 use yt_session::Session;
 
-fn with_title(alloc: Global, page: Page) -> Result<Page, Memory>
+fn with_title(page: Page) -> Result<Page, Memory>
     ensures { IfOk result (λ p. p ≡ with_line page (word_of.name (codes "youtopia") ∷ word_of.name (codes "result") ∷ word_of.number (pos 1) ∷ [])) }
 {
     page.name(b"youtopia")?
         .name(b"result")?
-        .number(alloc, 1)?
+        .number(1)?
         .end_line()
 }
 
@@ -38,12 +38,12 @@ pub fn result_text(
     ensures text { IfOk result (λ text. text.items ≡ result_text (session_of session.now) (result_of told.now)) }
 {
     let finishes = told.finishes.as_slice();
-    let title = with_title(alloc, Page::new(alloc))?;
-    let finished = with_finishes(alloc, title, &session.updates, finishes)?;
-    let stopped = with_stop_in(alloc, finished, session, &told.stop)?;
+    let title = with_title(Page::new(alloc))?;
+    let finished = with_finishes(title, &session.updates, finishes)?;
+    let stopped = with_stop_in(finished, session, &told.stop)?;
     let tuples = told.repository.as_slice();
-    let held = with_repository(alloc, stopped, &session.schema, tuples)?;
-    let whole = with_committed(alloc, held, finishes, session.updates.as_slice())?;
+    let held = with_repository(stopped, &session.schema, tuples)?;
+    let whole = with_committed(held, finishes, session.updates.as_slice())?;
     Ok(whole.into_text())
 }
 
@@ -52,7 +52,7 @@ pub fn result_text(
 pub fn question_text(alloc: Global, session: &Session, stop: &Stop) -> Result<Vec<u8>, Memory>
     ensures text { IfOk result (λ text. text.items ≡ question_text (session_of session.now) (stop_of stop.now)) }
 {
-    let page = with_stop(alloc, Page::new(alloc), session, stop)?;
+    let page = with_stop(Page::new(alloc), session, stop)?;
     Ok(page.into_text())
 }
 
@@ -64,6 +64,6 @@ pub fn question_lines(
 ) -> Result<Vec<u8>, Memory>
     ensures text { IfOk result (λ text. text.items ≡ lines_text (lines_of_question (session_of session.now) (inquiry_of question.now))) }
 {
-    let page = with_question(alloc, Page::new(alloc), session, question)?;
+    let page = with_question(Page::new(alloc), session, question)?;
     Ok(page.into_text())
 }

@@ -1,5 +1,5 @@
-//! The relations of a session by name, the checks of a mapping against them, and the printed form of
-//! tuples and mappings.
+//! The relations of a session by name, the checks of a mapping against them, the printed form of tuples
+//! and mappings, and names that are found by their hash.
 //!
 //! A `Schema` is seen as the list of its relations, in the order of their numbers. Each call says what
 //! it answers by the definitions of `yt_grammar`, which speak of such a list: `Gives view result read`
@@ -9,6 +9,7 @@
 #![tactic(auto)]
 
 mod mappings;
+mod names;
 mod page;
 mod printing;
 mod refusals;
@@ -19,6 +20,7 @@ mod variables;
 mod written;
 
 pub use crate::mappings::{check_added_mapping, check_mapping};
+pub use crate::names::Names;
 pub use crate::page::Page;
 pub use crate::printing::print_tuple;
 pub use crate::refusals::SchemaRefusal;

@@ -58,7 +58,7 @@ impl Page {
     }
 
     /// Adds a number.
-    pub fn number(mut self, _alloc: Global, integer: i64) -> Result<Page, Memory>
+    pub fn number(mut self, integer: i64) -> Result<Page, Memory>
         ensures word { IfOk result (λ page. page ≡ with_word self (number integer)) }
     {
         push_space(&mut self.text, self.apart)?;
@@ -68,7 +68,7 @@ impl Page {
     }
 
     /// Adds a value, a null by its outer name.
-    pub fn value(mut self, _alloc: Global, value: &Value) -> Result<Page, Memory>
+    pub fn value(mut self, value: &Value) -> Result<Page, Memory>
         ensures word { IfOk result (λ page. page ≡ with_word self (value_word (datum_of value.now))) }
     {
         push_space(&mut self.text, self.apart)?;

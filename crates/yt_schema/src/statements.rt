@@ -24,32 +24,26 @@ fn name_of(names: &[Name], variable: u16) -> &[u8]
     }
 }
 
-fn with_term(alloc: Global, page: Page, names: &[Name], term: &Term) -> Result<Page, Memory>
+fn with_term(page: Page, names: &[Name], term: &Term) -> Result<Page, Memory>
     ensures { IfOk result (λ p. p ≡ with_word page (term_word (written_term (map (λ n. n.items) names.now) (slot_of term.now)))) }
 {
     match term {
         Term::Var(variable) => page.name(name_of(names, *variable)),
-        Term::Const(value) => page.value(alloc, value),
+        Term::Const(value) => page.value(value),
     }
 }
 
 #[tactic(auto, using(crate::proofs::Noted::fold_more))]
-fn with_other_terms(
-    alloc: Global,
-    mut page: Page,
-    names: &[Name],
-    terms: &[Term],
-) -> Result<Page, Memory>
+fn with_other_terms(mut page: Page, names: &[Name], terms: &[Term]) -> Result<Page, Memory>
     ensures { IfOk result (λ p. p ≡ with_words page (flat_map (λ t. comma ∷ one_word term_word t) (map (written_term (map (λ n. n.items) names.now)) (map slot_of terms.now)))) }
 {
     for term in terms {
-        page = with_term(alloc, page.comma()?, names, term)?;
+        page = with_term(page.comma()?, names, term)?;
     }
     Ok(page)
 }
 
 fn with_some_terms(
-    alloc: Global,
     page: Page,
     names: &[Name],
     first: &Term,
@@ -57,35 +51,28 @@ fn with_some_terms(
 ) -> Result<Page, Memory>
     ensures { IfOk result (λ p. p ≡ with_words page (separated (one_word term_word) (map (written_term (map (λ n. n.items) names.now)) (slot_of first.now ∷ map slot_of others.now)))) }
 {
-    let page = with_term(alloc, page, names, first)?;
-    with_other_terms(alloc, page, names, others)
+    let page = with_term(page, names, first)?;
+    with_other_terms(page, names, others)
 }
 
-fn with_terms(alloc: Global, page: Page, names: &[Name], terms: &[Term]) -> Result<Page, Memory>
+fn with_terms(page: Page, names: &[Name], terms: &[Term]) -> Result<Page, Memory>
     ensures { IfOk result (λ p. p ≡ with_words page (separated (one_word term_word) (map (written_term (map (λ n. n.items) names.now)) (map slot_of terms.now)))) }
 {
     match terms {
         [] => Ok(page),
-        [first, others @ ..] => with_some_terms(alloc, page, names, first, others),
+        [first, others @ ..] => with_some_terms(page, names, first, others),
     }
 }
 
-fn with_atom(
-    alloc: Global,
-    page: Page,
-    schema: &Schema,
-    names: &[Name],
-    atom: &Atom,
-) -> Result<Page, Memory>
+fn with_atom(page: Page, schema: &Schema, names: &[Name], atom: &Atom) -> Result<Page, Memory>
     ensures { IfOk result (λ p. p ≡ with_words page (atom_words (written_atom schema.now (map (λ n. n.items) names.now) (pattern_of atom.now)))) }
 {
     let page = page.name(schema.name(atom.relation))?.open()?;
-    with_terms(alloc, page, names, atom.terms.as_slice())?.close()
+    with_terms(page, names, atom.terms.as_slice())?.close()
 }
 
 #[tactic(auto, using(crate::proofs::Noted::fold_more))]
 fn with_other_atoms(
-    alloc: Global,
     mut page: Page,
     schema: &Schema,
     names: &[Name],
@@ -94,13 +81,12 @@ fn with_other_atoms(
     ensures { IfOk result (λ p. p ≡ with_words page (flat_map (λ a. comma ∷ atom_words a) (map (written_atom schema.now (map (λ n. n.items) names.now)) (map pattern_of atoms.now)))) }
 {
     for atom in atoms {
-        page = with_atom(alloc, page.comma()?, schema, names, atom)?;
+        page = with_atom(page.comma()?, schema, names, atom)?;
     }
     Ok(page)
 }
 
 fn with_some_atoms(
-    alloc: Global,
     page: Page,
     schema: &Schema,
     names: &[Name],
@@ -109,28 +95,21 @@ fn with_some_atoms(
 ) -> Result<Page, Memory>
     ensures { IfOk result (λ p. p ≡ with_words page (separated atom_words (map (written_atom schema.now (map (λ n. n.items) names.now)) (pattern_of first.now ∷ map pattern_of others.now)))) }
 {
-    let page = with_atom(alloc, page, schema, names, first)?;
-    with_other_atoms(alloc, page, schema, names, others)
+    let page = with_atom(page, schema, names, first)?;
+    with_other_atoms(page, schema, names, others)
 }
 
-fn with_atoms(
-    alloc: Global,
-    page: Page,
-    schema: &Schema,
-    names: &[Name],
-    atoms: &[Atom],
-) -> Result<Page, Memory>
+fn with_atoms(page: Page, schema: &Schema, names: &[Name], atoms: &[Atom]) -> Result<Page, Memory>
     ensures { IfOk result (λ p. p ≡ with_words page (separated atom_words (map (written_atom schema.now (map (λ n. n.items) names.now)) (map pattern_of atoms.now)))) }
 {
     match atoms {
         [] => Ok(page),
-        [first, others @ ..] => with_some_atoms(alloc, page, schema, names, first, others),
+        [first, others @ ..] => with_some_atoms(page, schema, names, first, others),
     }
 }
 
 // Both sides with the arrow between.
 fn with_sides(
-    alloc: Global,
     page: Page,
     schema: &Schema,
     names: &[Name],
@@ -141,17 +120,12 @@ fn with_sides(
         (separated atom_words (map (written_atom schema.now (map (λ n. n.items) names.now)) (map pattern_of left.now))
         ++ arrow ∷ separated atom_words (map (written_atom schema.now (map (λ n. n.items) names.now)) (map pattern_of right.now)))) }
 {
-    let behind = with_atoms(alloc, page, schema, names, left)?.arrow()?;
-    with_atoms(alloc, behind, schema, names, right)
+    let behind = with_atoms(page, schema, names, left)?.arrow()?;
+    with_atoms(behind, schema, names, right)
 }
 
 /// Adds the words of a mapping, from the word `mapping` on.
-pub fn with_mapping(
-    alloc: Global,
-    page: Page,
-    schema: &Schema,
-    mapping: &Mapping,
-) -> Result<Page, Memory>
+pub fn with_mapping(page: Page, schema: &Schema, mapping: &Mapping) -> Result<Page, Memory>
     ensures words { IfOk result (λ p. p ≡ with_words page (statement_words (MappingStatement (written_mapping schema.now (session_mapping_of mapping.now))))) }
 {
     let names = mapping.names.as_slice();
@@ -161,7 +135,7 @@ pub fn with_mapping(
         .name(b"mapping")?
         .name(mapping.name.as_slice())?
         .colon()?;
-    with_sides(alloc, named, schema, names, left, right)
+    with_sides(named, schema, names, left, right)
 }
 
 /// The printed form of a mapping: `mapping NAME: LEFT -> RIGHT`, as a session spells it. It is refused
@@ -169,6 +143,6 @@ pub fn with_mapping(
 pub fn print_mapping(alloc: Global, schema: &Schema, mapping: &Mapping) -> Result<Vec<u8>, Memory>
     ensures printed { IfOk result (λ text. text.items ≡ mapping_text schema.now (session_mapping_of mapping.now)) }
 {
-    let page = with_mapping(alloc, Page::new(alloc), schema, mapping)?;
+    let page = with_mapping(Page::new(alloc), schema, mapping)?;
     Ok(page.into_text())
 }

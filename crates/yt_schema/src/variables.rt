@@ -6,24 +6,24 @@ ghost use Rattle.yt_grammar.specs.Meaning.{slot_of, variable_of, variables_in};
 ghost use Rattle.yt_base.specs.Meanings.{slot_of as slot_meant};
 ghost use Rattle.yt_schema.specs.Meanings.{atom_of, term_of};
 
+use crate::names::Names;
 use crate::written::{RawAtom, RawTerm};
-use indexmap::IndexSet;
 use std::alloc::Global;
 use std::marker::Model;
-use yt_base::{List, Memory, NameList, Term, TermRow, TryCopy};
+use yt_base::{List, Memory, Name, NameList, Term, TermRow, TryCopy};
 
 /// Names, each once, numbered from 0 in the order in which they came. Contracts see them as a list.
 #[derive(Drop)]
 pub(crate) struct Variables {
-    names: IndexSet<Vec<u8>>,
+    names: Names,
 }
 
 impl Model for Variables {
-    ghost use Rattle.std.specs.Prelude.{ℕ, List, map};
+    ghost use Rattle.std.specs.Prelude.{ℕ, List};
 
     ghost Value = { List (List ℕ) };
 
-    ghost view = { λ v. map (λ n. n.items) v.names.keys };
+    ghost view = { λ v. v.names.items };
 }
 
 impl Variables {
@@ -32,7 +32,7 @@ impl Variables {
         ensures { result ≡ [] }
     {
         Variables {
-            names: IndexSet::new(alloc),
+            names: Names::new(alloc),
         }
     }
 
@@ -44,28 +44,27 @@ impl Variables {
     }
 
     // The number of a name, or how many there are where it is none of them.
-    fn place_of(&self, name: &[u8]) -> usize
-        ensures { result ≡ place_of self.now name.now }
+    fn place_of(&self, name: &Name) -> usize
+        ensures { result ≡ place_of self.now name.now.items }
     {
-        match self.names.get_index_of(name) {
-            Some(index) => index,
+        match self.names.find(name) {
+            Some(place) => place,
             None => self.names.len(),
         }
     }
 
     // Adds a name, unless it is there.
-    fn note(&mut self, alloc: Global, name: &[u8]) -> Result<(), Memory>
-        ensures noted { OnOk result (self.new ≡ with_new same_name self.old name.now) }
+    fn note(&mut self, alloc: Global, name: &Name) -> Result<(), Memory>
+        ensures noted { OnOk result (self.new ≡ with_new same_name self.old name.now.items) }
     {
-        self.names.insert(Vec::from_slice(alloc, name)?)?;
-        Ok(())
+        self.names.note(Vec::from_slice(alloc, name.as_slice())?)
     }
 
     fn note_term(&mut self, alloc: Global, term: &RawTerm) -> Result<(), Memory>
         ensures noted { OnOk result (self.new ≡ fold (with_new same_name) self.old (variable_of (term_of term.now))) }
     {
         match term {
-            RawTerm::Var(name) => self.note(alloc, name.as_slice()),
+            RawTerm::Var(name) => self.note(alloc, name),
             RawTerm::Const(_) => Ok(()),
         }
     }
@@ -97,7 +96,7 @@ impl Variables {
         ensures { IfOk result (λ t. slot_meant t ≡ slot_of self.now (term_of term.now)) }
     {
         match term {
-            RawTerm::Var(name) => match u16::try_from(self.place_of(name.as_slice())) {
+            RawTerm::Var(name) => match u16::try_from(self.place_of(name)) {
                 Ok(number) => Ok(Term::Var(number)),
                 Err(_) => Err(Memory),
             },
@@ -120,10 +119,6 @@ impl Variables {
     pub(crate) fn list(&self, alloc: Global) -> Result<NameList, Memory>
         ensures { IfOk result (λ names. map (λ n. n.items) names.items ≡ self.now) }
     {
-        let mut names = List::new(alloc);
-        for name in self.names.as_slice() {
-            names.push(List::from_vec(Vec::from_slice(alloc, name)?))?;
-        }
-        Ok(names)
+        self.names.list(alloc)
     }
 }

@@ -1,3 +1,3 @@
 pub mod Graphs
 pub mod Moves
-pub mod Candidates
+pub mod Columns

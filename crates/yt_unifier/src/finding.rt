@@ -3,10 +3,10 @@ ghost use Rattle.std.specs.Prelude.{◌≡◌, map, filter, IfOk};
 ghost use Rattle.yt_model.specs.Specific.{more_specific};
 ghost use Rattle.yt_base.specs.Meanings.{fact_of};
 
-use crate::columns::{constant_column, next_candidate};
+use crate::columns::constant_column;
 use crate::specific::is_more_specific;
 use std::alloc::Global;
-use yt_base::{Facts, List, Memory, TryCopy, Tuple, TupleList};
+use yt_base::{Facts, List, Memory, TryCopy, Tuple, TupleList, next_candidate};
 
 /// All tuples of the set that are more specific than the tuple, in order. It is refused only for want of memory.
 /// Where the tuple has a constant only the tuples with that constant in its column are looked at, else those of the

@@ -1,5 +1,5 @@
 use Rattle.std.proofs.Common.{arith, ◌+◌, ap, refl, sym, ◌∙◌, drop, ℕ}
-use Rattle.std.specs.Ordering.{ordering_then, is_ne}
+use Rattle.std.specs.Ordering.{ordering_then}
 use Rattle.std.specs.Cmp.Lexicographic.{slice_cmp}
 use Rattle.std.proofs.cmp.SliceLoops.{begun, ended}
 use Rattle.yt_base.proofs.Turns.{decides, defers}

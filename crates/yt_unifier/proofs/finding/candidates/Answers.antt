@@ -6,12 +6,13 @@ use Rattle.yt_model.specs.Values.{Fact}
 use Rattle.yt_model.specs.Specific.{more_specific}
 use Rattle.yt_model.proofs.Searches.{found_passes}
 use Rattle.yt_model.proofs.Cursors.{rest_of, fewer_left}
+use Rattle.yt_base.specs.Candidates.{column_of, is_candidate}
 use Rattle.yt_base.specs.Listed.{Listed}
 use Rattle.yt_base.specs.Meanings.{fact_of}
 use Rattle.yt_base.specs.declared.tuples.Tuple.{Tuple}
-use Rattle.yt_unifier.specs.Candidates.{column_of, is_candidate}
 use Rattle.yt_base.proofs.Gathering.{none_left, all_left, one_kept, one_passed, none_more}
-use Rattle.yt_unifier.proofs.Going.{begins_at, candidate_of, past_candidate, is_among}
+use Rattle.yt_base.proofs.NextCandidates.{begins_at, candidate_of, past_candidate}
+use Rattle.yt_unifier.proofs.Going.{is_among}
 use Rattle.yt_unifier.proofs.finding.candidates.Goals as goal
 use Rattle.yt_unifier.proofs.finding.candidates.Goals.{then-is_more_specific+in_ok-copy+in_ok-push, else-is_more_specific}
 

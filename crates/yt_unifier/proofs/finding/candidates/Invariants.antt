@@ -5,7 +5,7 @@ use Rattle.yt_model.specs.Values.{Fact}
 use Rattle.yt_model.specs.Specific.{more_specific}
 use Rattle.yt_model.proofs.Cursors.{rest_of}
 use Rattle.yt_base.specs.Meanings.{fact_of}
-use Rattle.yt_unifier.specs.Candidates.{column_of, is_candidate}
+use Rattle.yt_base.specs.Candidates.{column_of, is_candidate}
 use Rattle.yt_unifier.proofs.finding.candidates.Given as goal
 
 -- The candidate passes, and what was found with what is left is the whole.

@@ -1,17 +1,17 @@
 //! Names, each once, that are found by their hash.
 
-ghost use Rattle.std.specs.Prelude.{◌≡◌, ◌<◌, ◌≤◌, [], length, position, IfSome, IsOk, OnOk, OnErr};
+ghost use Rattle.std.specs.Prelude.{◌≡◌, ◌<◌, ◌≤◌, [], length, map, position, IfOk, IfSome, IsOk, OnOk, OnErr};
 ghost use Rattle.yt_grammar.specs.Names.{is_one_of, same_name, with_new};
 
 use indexmap::IndexSet;
 use std::alloc::Global;
 use std::marker::Model;
-use yt_base::{Memory, Name};
+use yt_base::{List, Memory, Name, NameList};
 
 /// Names, each once, in the order in which they came. Contracts see them as a list, with how many more it
 /// takes before it asks for memory.
 #[derive(Drop)]
-pub(crate) struct Names {
+pub struct Names {
     names: IndexSet<Vec<u8>>,
 }
 
@@ -27,7 +27,7 @@ impl Model for Names {
 
 impl Names {
     /// No name. It takes no memory.
-    pub(crate) fn new(alloc: Global) -> Names
+    pub fn new(alloc: Global) -> Names
         ensures empty { result.items ≡ [] }
     {
         Names {
@@ -36,14 +36,14 @@ impl Names {
     }
 
     /// How many names there are.
-    pub(crate) fn len(&self) -> usize
+    pub fn len(&self) -> usize
         ensures length { result ≡ length self.now.items }
     {
         self.names.len()
     }
 
     /// The place of a name, counted from 0; None exactly where it is none of them. It takes no memory.
-    pub(crate) fn find(&self, name: &Name) -> Option<usize>
+    pub fn find(&self, name: &Name) -> Option<usize>
         ensures place { result ≡ position (same_name name.now.items) self.now.items }
         ensures within { IfSome result (λ place. place < length self.now.items) }
     {
@@ -51,14 +51,14 @@ impl Names {
     }
 
     /// Whether a name is one of them. It takes no memory.
-    pub(crate) fn has(&self, name: &Name) -> bool
+    pub fn has(&self, name: &Name) -> bool
         ensures one { result ≡ is_one_of self.now.items name.now.items }
     {
         self.find(name).is_some()
     }
 
     /// Makes room for one more name. It is refused only for want of memory. The names stay as they are.
-    pub(crate) fn reserve(&mut self) -> Result<(), Memory>
+    pub fn reserve(&mut self) -> Result<(), Memory>
         ensures room { OnOk result (1 ≤ self.new.spare) }
         ensures same { self.new.items ≡ self.old.items }
     {
@@ -68,12 +68,23 @@ impl Names {
 
     /// Adds a name at the end, unless it is there. It is refused only for want of memory, never where
     /// `spare` is at least 1; the names then stay as they are.
-    pub(crate) fn note(&mut self, name: Vec<u8>) -> Result<(), Memory>
+    pub fn note(&mut self, name: Vec<u8>) -> Result<(), Memory>
         ensures ok { OnOk result (self.new.items ≡ with_new same_name self.old.items name.items) }
         ensures err { OnErr result (self.new.items ≡ self.old.items) }
         ensures room { 1 ≤ self.old.spare → IsOk result }
     {
         self.names.insert(name)?;
         Ok(())
+    }
+
+    /// The names in the order in which they came. It is refused only for want of memory.
+    pub fn list(&self, alloc: Global) -> Result<NameList, Memory>
+        ensures same { IfOk result (λ names. map (λ n. n.items) names.items ≡ self.now.items) }
+    {
+        let mut names = List::new(alloc);
+        for name in self.names.as_slice() {
+            names.push(List::from_vec(Vec::from_slice(alloc, name)?))?;
+        }
+        Ok(names)
     }
 }
