@@ -29,3 +29,4 @@ pub mod Backward
 pub mod Forward
 pub mod Rewritings
 pub mod Scopes
+pub mod Replies
