@@ -1,33 +1,14 @@
--- Which mappings are in force: the tuples that say so, and what writes, substitutions and shifts do to them.
-use Rattle.std.proofs.Common.{◌≡◌, ℕ, zero, suc, ◌+◌, ap, refl, sym, ◌∙◌, subst, List, [], ◌∷◌, map, Bool, true, false, not, ◌||◌, ◌&&◌, Some, inl, inr, arith, pos}
+-- Which mappings are in force after writes, and that each of them holds.
+use Rattle.std.proofs.Common.{◌≡◌, ℕ, zero, suc, ◌+◌, ap, refl, sym, ◌∙◌, subst, List, [], ◌∷◌, Bool, true, false, not, ◌||◌, ◌&&◌, Some, inl, inr, arith}
 use Rattle.std.specs.List.{list_any, list_all, slice_get}
-use Rattle.std.specs.Prelude.{◌==◌, pos}
+use Rattle.std.specs.Prelude.{◌==◌}
 use Rattle.std.proofs.lemmas.Bool.{or_cases}
-use Rattle.yt_model.specs.Values.{Datum, Number, Fact, same_fact, under}
+use Rattle.yt_model.specs.Values.{Fact, same_fact}
 use Rattle.yt_model.specs.Repository.{Change, Insert, Delete, has, apply, inserted_after, inserts}
 use Rattle.yt_model.specs.Mappings.{Rule, force, in_force, Holds, HoldFrom, AllHold}
-use Rattle.yt_model.specs.Shifts.{shift_fact}
-use Rattle.yt_model.specs.Caused.{KeepsConstants, Carried, is_delete}
-use Rattle.yt_model.proofs.Bools.{differ, none_some, some_same, or_left, or_right}
+use Rattle.yt_model.specs.Caused.{is_delete}
+use Rattle.yt_model.proofs.Bools.{differ, none_some, some_same, or_left}
 use Rattle.yt_model.proofs.Sets.{has-apply}
-use Rattle.yt_model.proofs.Shifted.{has_shifts}
-
--- ---- the tuple that puts a mapping in force
-
--- A substitution that moves nulls alone leaves it.
-pub force_under : (f : Datum → Datum) → KeepsConstants f → (n : ℕ) → under f (force n) ≡ force n
-force_under f c n = ap (λ d. record { relation = (force n).relation; values = d ∷ [] }) (c.0 (pos n))
-
--- So does a shift of attempt numbers.
-pub force_shifts : (n : ℕ → ℕ) (i : ℕ) → shift_fact n (force i) ≡ force i
-force_shifts n i = refl
-
--- Different mappings have different tuples.
-pub force_one : (m n : ℕ) → force m ≡ force n → m ≡ n
-force_one m n e = let v : Number (pos m) ∷ [] ≡ Number (pos n) ∷ [] = ap (λ (t : Fact). t.values) e in cc
-
-pub in_force_shifts : (n : ℕ → ℕ) (i : ℕ) (m : Rule) (D : List Fact) → in_force i m (map (shift_fact n) D) ≡ in_force i m D
-in_force_shifts n i m D = ap (λ b. (m.since == 0) || b) (has_shifts n D (force i))
 
 -- ---- after writes
 
@@ -64,14 +45,6 @@ deletes_insert_none t [] h = refl
 deletes_insert_none t (Insert s ∷ ws) h = differ h
 deletes_insert_none t (Delete s ∷ ws) h = deletes_insert_none t ws h
 
--- What is carried through the writes stays in force.
-pub force_carried : (n : ℕ) (m : Rule) (D : List Fact) (own : List Change) → Carried D own → in_force n m D ≡ true → in_force n m (apply D own) ≡ true
-force_carried n m D own c h =
-    elim (or_cases (m.since == 0) (has D (force n)) h) [
-      | inl e ↦ or_left (m.since == 0) (has (apply D own) (force n)) e
-      | inr e ↦ or_right (m.since == 0) (has (apply D own) (force n)) (ap (has (apply D own)) (sym (force_under c.by c.constants n)) ∙ c.carries (force n) e)
-    ]
-
 -- ---- all mappings in force hold
 
 module _ (D : List Fact) where
@@ -80,15 +53,6 @@ module _ (D : List Fact) where
   hold_at k (l ∷ ms) h zero m e f = subst (λ (l : Rule). in_force k l D ≡ true → Holds l D) (some_same l m e) h.0 (let same : k ≡ zero + k = omega arith in ap (λ i. in_force i m D) same ∙ f)
   hold_at k (l ∷ ms) h (suc n) m e f = hold_at (suc k) ms h.1 n m e (let same : n + suc k ≡ suc n + k = omega arith in ap (λ i. in_force i m D) same ∙ f)
 
-  hold_each : (k : ℕ) (ms : List Rule) → ((n : ℕ) (m : Rule) → slice_get ms n ≡ Some m → in_force (n + k) m D ≡ true → Holds m D) → HoldFrom k ms D
-  hold_each k [] h = tt
-  hold_each k (l ∷ ms) h =
-      (λ f. h zero l refl (let same : zero + k ≡ k = omega arith in ap (λ i. in_force i l D) same ∙ f), hold_each (suc k) ms (λ n m e f. h (suc n) m e (let same : suc n + k ≡ n + suc k = omega arith in ap (λ i. in_force i m D) same ∙ f)))
-
   -- Each mapping that is in force holds.
   pub holds_at : (ms : List Rule) → AllHold ms D → (n : ℕ) (m : Rule) → slice_get ms n ≡ Some m → in_force n m D ≡ true → Holds m D
   holds_at ms h n m e f = hold_at zero ms h n m e (let same : n + zero ≡ n = omega arith in ap (λ i. in_force i m D) same ∙ f)
-
-  -- If each mapping that is in force holds, all do.
-  pub all_hold : (ms : List Rule) → ((n : ℕ) (m : Rule) → slice_get ms n ≡ Some m → in_force n m D ≡ true → Holds m D) → AllHold ms D
-  all_hold ms h = hold_each zero ms (λ n m e f. h n m e (let same : n ≡ n + zero = omega arith in ap (λ i. in_force i m D) same ∙ f))

@@ -11,7 +11,6 @@ pub mod Substitutions
 pub mod Atoms
 pub mod Cursors
 pub mod Ranges
-pub mod Scans
 pub mod Matches
 pub mod Violations
 pub mod Images
@@ -30,3 +29,4 @@ pub mod Backward
 pub mod Forward
 pub mod Rewritings
 pub mod Scopes
+pub mod Replies

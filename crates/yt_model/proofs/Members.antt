@@ -8,8 +8,8 @@ use Rattle.std.proofs.lemmas.Bool.{or_cases}
 use Rattle.yt_model.specs.Values.{Fact, fact_cmp, same_fact}
 use Rattle.yt_model.specs.Repository.{IsRepository, has}
 use Rattle.yt_model.proofs.Bools.{differ, or_left, or_right}
-use Rattle.yt_model.proofs.Sets.{same_exact, same_itself, same_repository, filter_in_order}
-use Rattle.yt_model.proofs.Searches.{all_weaker, head, find_head}
+use Rattle.yt_model.proofs.Sets.{same_exact, same_itself}
+use Rattle.yt_model.proofs.Searches.{all_weaker}
 
 pub one_in : (q : Fact → Bool) (D : List Fact) → list_any q D ≡ true → (t : Fact) × (has D t ≡ true) × (q t ≡ true)
 one_in q [] e = differ e
@@ -49,23 +49,6 @@ has-filter q (u ∷ D) s = by (q u) refl (same_fact s u) refl (has-filter q D s)
     by true e false f h = ap (λ b. b || has (filter q D) s) f ∙ h
     by false e true f h = h ∙ gone (has D s) (q s) (ap q (same_exact s u f) ∙ e)
     by false e false f h = h
-
--- A set that has all that passes, and is asked of what D has, finds what D finds. So an index may hold more than the repository.
-pub find_in : (q : Fact → Bool) (D G : List Fact) → IsRepository D → IsRepository G → ((u : Fact) → q u ≡ true → has D u ≡ true → has G u ≡ true) → find (λ u. q u && has D u) G ≡ find q D
-find_in q D G s t h =
-    find_head (λ u. q u && has D u) G
-    ∙ ap head (same_repository (filter (λ u. q u && has D u) G) (filter q D) (filter_in_order (λ u. q u && has D u) G t) (filter_in_order q D s)
-    (λ u. has-filter (λ v. q v && has D v) G u ∙ by (q u) (has D u) (has G u) (h u) ∙ sym (has-filter q D u)))
-    ∙ sym (find_head q D)
-  where
-    by : (a b c : Bool) → (a ≡ true → b ≡ true → c ≡ true) → (c && (a && b)) ≡ (b && a)
-    by true true c k = ap (λ d. d && true) (k refl refl)
-    by true false true k = refl
-    by true false false k = refl
-    by false true true k = refl
-    by false true false k = refl
-    by false false true k = refl
-    by false false false k = refl
 
 pub above_all : (u t : Fact) (E : List Fact) → AllByRecursion (λ v. fact_cmp u v ≡ Less) E → has E t ≡ true → fact_cmp u t ≡ Less
 above_all u t [] a h = differ h

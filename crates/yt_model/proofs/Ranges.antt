@@ -1,5 +1,5 @@
 -- What a range from a bound on begins with, as the first tuple of a relation that passes.
-use Rattle.std.proofs.Common.{◌≡◌, ℕ, ◌<◌, ◌≤◌, ap, refl, sym, ◌∙◌, List, [], ◌∷◌, Bool, true, false, ◌&&◌, cond, Some, None, Option, arith, inl, inr}
+use Rattle.std.proofs.Common.{◌≡◌, ℕ, ◌<◌, ◌≤◌, ap, refl, sym, ◌∙◌, List, [], ◌∷◌, Bool, true, false, ◌&&◌, cond, Some, None, arith, inl, inr}
 use Rattle.std.specs.Cmp.Lexicographic.{slice_cmp}
 use Rattle.std.specs.List.{AllByRecursion}
 use Rattle.std.specs.List.Sorted.{IsStrictlySortedBy}
@@ -11,7 +11,7 @@ use Rattle.std.proofs.lemmas.Bool.{eq-eqb, ne_eqb, cases_eq}
 use Rattle.std.proofs.lemmas.Cmp.{ranked}
 use Rattle.yt_model.specs.Values.{Datum, Fact, datum_cmp, fact_cmp}
 use Rattle.yt_model.specs.Repository.{IsRepository}
-use Rattle.yt_model.specs.Cursors.{is_scanned, is_beyond, has_at, is_of, is_past, kept_if, first_of, next_of}
+use Rattle.yt_model.specs.Cursors.{is_of, is_past, kept_if, first_of, next_of}
 use Rattle.yt_model.proofs.Bools.{differ, and-true}
 use Rattle.yt_model.proofs.Searches.{find_same}
 
@@ -101,11 +101,3 @@ pub first_from : (r : ℕ) (D : List Fact) → IsRepository D → kept_if (is_of
 first_from r D s =
     find_first (is_of r) (from_least r) (late_of r (from_least r) (λ u e. relation_le (least r) u (sym (and-true (is_le (fact_cmp (least r) u))) ∙ e))) D s
     ∙ find_same (λ u. is_of r u && from_least r u) (is_of r) (from_least_of r) D
-
--- A scanned tuple is from the least one of the relation on.
-pub scanned_from : (r c : ℕ) (d : Datum) (past : Option Fact) (u : Fact) → is_scanned r c d past u ≡ true → from_least r u ≡ true
-scanned_from r c d past u e = by (is_of r u) (from_least r u) (is_beyond past u && has_at c d u) (from_least_of r u) e
-  where
-    by : (a b x : Bool) → (a && b) ≡ a → (a && x) ≡ true → b ≡ true
-    by true b x h f = h
-    by false b x h f = cc

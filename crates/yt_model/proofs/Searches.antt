@@ -91,19 +91,6 @@ find_filter p q h (x ∷ xs) = by (q x) refl (p x) refl (find_filter p q h xs)
     by false e true f r = differ (sym e ∙ h x f)
     by false e false f r = r
 
--- The first item.
-abbrev pub head : {K : Type 0} → List K → Option K
-head [] = None
-head (x ∷ xs) = Some x
-
-pub find_head : {K : Type 0} (p : K → Bool) (xs : List K) → find p xs ≡ head (filter p xs)
-find_head p [] = refl
-find_head p (x ∷ xs) = by (p x) (find_head p xs)
-  where
-    by : (b : Bool) → find p xs ≡ head (filter p xs) → cond b (Some x) (find p xs) ≡ head (cond b (x ∷ filter p xs) (filter p xs))
-    by true h = refl
-    by false h = h
-
 -- ---- the first answer
 
 -- The first answer of f along the list.

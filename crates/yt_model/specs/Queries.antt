@@ -1,7 +1,8 @@
 -- The queries that a chase step asks, and their values over a repository with an update's own writes.
-use Rattle.std.specs.Prelude.{ℕ, ◌==◌, Bool, false, ◌&&◌, if◌then◌else◌, List, filter, Option, Some, None}
+use Rattle.std.specs.Prelude.{ℕ, ◌==◌, Bool, true, false, ◌&&◌, if◌then◌else◌, List, filter, Option, Some, None}
 use Rattle.std.specs.List.{list_any, slice_get}
-use Rattle.yt_model.specs.Values.{Datum, Number, Text, Unknown, Fact}
+use Rattle.std.specs.Cmp.Lexicographic.{pointwise}
+use Rattle.yt_model.specs.Values.{Datum, Number, Text, Unknown, Fact, same_fact}
 use Rattle.yt_model.specs.Repository.{Change, has, apply, inserts}
 use Rattle.yt_model.specs.Mappings.{Rule, force}
 use Rattle.yt_model.specs.Specific.{more_specific}
@@ -21,6 +22,15 @@ pub data Reply : Type 0 where
   Image : List Fact → Reply
   Nothing : Reply
   Tuples : List Fact → Reply
+
+-- The two replies are the same.
+abbrev pub same_reply : Reply → Reply → Bool
+same_reply Yes Yes = true
+same_reply No No = true
+same_reply (Image xs) (Image ys) = pointwise same_fact xs ys
+same_reply Nothing Nothing = true
+same_reply (Tuples xs) (Tuples ys) = pointwise same_fact xs ys
+same_reply _ _ = false
 
 -- The value is a null whose outer name is `?u.k`.
 abbrev pub is_named : ℕ → ℕ → Datum → Bool

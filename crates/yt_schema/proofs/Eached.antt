@@ -17,10 +17,6 @@ same_bytes xs ys e = sym (map-id xs) ∙ e ∙ map-id ys
 abbrev pub behind : {A : Type 0} → List A → Result (List A) Kind → Result (List A) Kind
 behind done read = read >>= (λ ys. Ok (done ++ ys))
 
-pub none_before : {A : Type 0} (done : List A) (read : Result (List A) Kind) → done ≡ [] → behind done read ≡ read
-none_before done (Ok ys) e = rw e refl
-none_before done (Err k) e = refl
-
 -- the item at a place, and those behind it
 pub element : {A B : Type 0} (f : A → B) (xs : List A) (i : ℕ) (x : A) → i < length xs → x ≡ get_or xs i x → map f (drop i xs) ≡ f x ∷ map f (drop (i + 1) xs)
 element {A} {B} f xs i x lt is =

@@ -3,50 +3,23 @@ use Rattle.std.proofs.Common.{◌≡◌, ℕ, suc, ◌≤◌, ◌<◌, ap, refl,
 use Rattle.std.specs.Prelude.{nat_lt, if◌then◌else◌, is_some, filter}
 use Rattle.std.specs.Option.{option_map}
 use Rattle.std.specs.List.{AllByRecursion}
-use Rattle.std.specs.Cmp.Lexicographic.{pointwise}
-use Rattle.std.proofs.lemmas.Bool.{and_parts, both_ways, ltb-true}
+use Rattle.std.proofs.lemmas.Bool.{both_ways, ltb-true}
 use Rattle.yt_machine.specs.Machine.{Laws}
 use Rattle.yt_model.specs.Values.{Fact, same_fact}
 use Rattle.yt_model.specs.Repository.{Change, Insert, Delete, has, apply, inserted_after}
 use Rattle.yt_model.specs.Mappings.{Rule}
 use Rattle.yt_model.specs.Violations.{Scope}
-use Rattle.yt_model.specs.Queries.{Query, Reply, Yes, No, Image, Nothing, Tuples, value}
+use Rattle.yt_model.specs.Queries.{Query, value}
 use Rattle.yt_model.specs.Mentions.{mentions}
 use Rattle.yt_model.specs.Updates.{Operation}
-use Rattle.yt_model.proofs.Bools.{both, none_some, not_both}
-use Rattle.yt_model.proofs.Sets.{has-apply, apply_in_order, filter_in_order, same_exact, same_itself, same_repository}
+use Rattle.yt_model.proofs.Bools.{none_some, not_both}
+use Rattle.yt_model.proofs.Sets.{has-apply, apply_in_order, filter_in_order, same_exact, same_repository}
 use Rattle.yt_model.proofs.Members.{has-filter}
 use Rattle.yt_model.proofs.Coarse.{coarse_law}
+use Rattle.yt_model.proofs.Replies.{reply_is, reply_itself}
 use Rattle.yt_steps.specs.Attempts.{Outcome, Phase, Ended, Spent, outcome_in}
-use Rattle.yt_steps.specs.Chase.{same_reply, relation_of, AgreeOn, ending, chase}
+use Rattle.yt_steps.specs.Chase.{relation_of, AgreeOn, ending, chase}
 use Rattle.yt_steps.proofs.Steady.{apply_join}
-
--- ---- replies
-
-same_facts : (xs ys : List Fact) → pointwise same_fact xs ys ≡ true → xs ≡ ys
-same_facts [] [] h = refl
-same_facts [] (y ∷ ys) h = absurd (both_ways false refl h)
-same_facts (x ∷ xs) [] h = absurd (both_ways false refl h)
-same_facts (x ∷ xs) (y ∷ ys) h = let p = and_parts (same_fact x y) (pointwise same_fact xs ys) h in λ i. same_exact x y p.0 i ∷ same_facts xs ys p.1 i
-
-facts_same : (xs : List Fact) → pointwise same_fact xs xs ≡ true
-facts_same [] = refl
-facts_same (x ∷ xs) = both (same_fact x x) (pointwise same_fact xs xs) (same_itself x) (facts_same xs)
-
-reply_is : (a b : Reply) → same_reply a b ≡ true → a ≡ b
-reply_is Yes Yes h = refl
-reply_is No No h = refl
-reply_is (Image xs) (Image ys) h = ap Image (same_facts xs ys h)
-reply_is Nothing Nothing h = refl
-reply_is (Tuples xs) (Tuples ys) h = ap Tuples (same_facts xs ys h)
-reply_is _ _ h = absurd (both_ways false refl h)
-
-reply_itself : (a : Reply) → same_reply a a ≡ true
-reply_itself Yes = refl
-reply_itself No = refl
-reply_itself (Image xs) = facts_same xs
-reply_itself Nothing = refl
-reply_itself (Tuples xs) = facts_same xs
 
 -- ---- the budget
 

@@ -1,27 +1,17 @@
 -- The chase as a machine: its updates work in the steps of this crate, over repositories of tuples.
-use Rattle.std.specs.Prelude.{◌≡◌, ℕ, Bool, true, false, List}
+use Rattle.std.specs.Prelude.{◌≡◌, ℕ, Bool, true, List}
 use Rattle.std.specs.Option.{option_map}
-use Rattle.std.specs.Cmp.Lexicographic.{pointwise}
 use Rattle.yt_machine.specs.Machine.{Machine}
-use Rattle.yt_model.specs.Values.{Fact, same_fact}
+use Rattle.yt_model.specs.Values.{Fact}
 use Rattle.yt_model.specs.Repository.{Change, Insert, Delete, IsRepository, has, apply}
 use Rattle.yt_model.specs.Mappings.{Rule}
 use Rattle.yt_model.specs.Violations.{Scope, Every, Caused}
-use Rattle.yt_model.specs.Queries.{Query, Reply, Yes, No, Image, Nothing, Tuples, value}
+use Rattle.yt_model.specs.Queries.{Query, Reply, same_reply, value}
 use Rattle.yt_model.specs.Mentions.{mentions}
 use Rattle.yt_model.specs.Updates.{Operation, direction_of, Choice}
 use Rattle.yt_steps.specs.Attempts.{Outcome, Done, Spent, Refused, Question, Attempt, begun, question_in, outcome_in}
 use Rattle.yt_steps.specs.Questions.{fits}
 use Rattle.yt_steps.specs.Steps.{Move, step, moved}
-
--- The two replies are the same.
-abbrev pub same_reply : Reply → Reply → Bool
-same_reply Yes Yes = true
-same_reply No No = true
-same_reply (Image xs) (Image ys) = pointwise same_fact xs ys
-same_reply Nothing Nothing = true
-same_reply (Tuples xs) (Tuples ys) = pointwise same_fact xs ys
-same_reply _ _ = false
 
 -- The relation of the tuple that is written.
 abbrev pub relation_of : Change → ℕ
