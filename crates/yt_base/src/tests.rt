@@ -157,7 +157,7 @@ fn bindings_and_substitutions_replace_what_they_had(rt: HostRuntime) -> Result<(
 }
 
 #[test]
-fn copies_are_spelled_alike(rt: HostRuntime) -> Result<(), Fail> {
+fn a_copied_mapping_is_spelled_alike(rt: HostRuntime) -> Result<(), Fail> {
     let alloc = rt.alloc();
     let mapping = Mapping {
         name: word(alloc, b"m")?,
@@ -177,6 +177,12 @@ fn copies_are_spelled_alike(rt: HostRuntime) -> Result<(), Fail> {
         format!(in alloc; "{copy:?}")?,
         format!(in alloc; "{mapping:?}")?
     );
+    Ok(())
+}
+
+#[test]
+fn a_copied_update_is_spelled_alike(rt: HostRuntime) -> Result<(), Fail> {
+    let alloc = rt.alloc();
     for operation in [
         Operation::Insert(tuple(alloc, 0, 1)?),
         Operation::Delete(tuple(alloc, 0, 1)?),
@@ -206,6 +212,12 @@ fn copies_are_spelled_alike(rt: HostRuntime) -> Result<(), Fail> {
             format!(in alloc; "{update:?}")?
         );
     }
+    Ok(())
+}
+
+#[test]
+fn copied_choices_and_writes_are_spelled_alike(rt: HostRuntime) -> Result<(), Fail> {
+    let alloc = rt.alloc();
     for choice in [
         Choice::Expand,
         Choice::Unify(tuple(alloc, 0, 1)?),

@@ -43,17 +43,13 @@ fn sink(alloc: Global, failing: u64) -> Result<MemSink, AllocError> {
 fn each_status_has_its_row(rt: HostRuntime) -> Result<(), Fail> {
     let alloc = rt.alloc();
     let none = b"".as_slice();
+    let long = b"a text longer than twenty".as_slice();
+    let read_fault = b"youtopia: read fault\n".as_slice();
+    let write_fault = b"youtopia: write fault\n".as_slice();
+    let line = b"Session line of more than twenty\n".as_slice();
     let rows = [
-        (b"".as_slice(), 0, 0, 0, 0, none, none),
-        (
-            b"a text longer than twenty",
-            0,
-            0,
-            0,
-            0,
-            b"a text longer than twenty",
-            none,
-        ),
+        (none, 0, 0, 0, 0, none, none),
+        (long, 0, 0, 0, 0, long, none),
         (b"stuck", 0, 0, 0, 1, b"stuck", none),
         (b"refuted", 0, 0, 0, 10, b"refuted", none),
         (b"Session\n", 0, 0, 0, 3, none, b"Session\n"),
@@ -61,35 +57,11 @@ fn each_status_has_its_row(rt: HostRuntime) -> Result<(), Fail> {
         (b"Large\n", 0, 0, 0, 9, none, b"Large\n"),
         (b"Query\n", 0, 0, 0, 11, none, b"Query\n"),
         (b"Damaged\n", 0, 0, 0, 12, none, b"Damaged\n"),
-        (b"a text", 1, 0, 0, 5, none, b"youtopia: read fault\n"),
-        (
-            b"a text longer than twenty",
-            4,
-            0,
-            0,
-            5,
-            none,
-            b"youtopia: read fault\n",
-        ),
-        (b"a text", 0, 1, 0, 6, none, b"youtopia: write fault\n"),
-        (
-            b"a text longer than twenty",
-            0,
-            2,
-            0,
-            6,
-            b"a text longer than t",
-            b"youtopia: write fault\n",
-        ),
-        (
-            b"Session line of more than twenty\n",
-            0,
-            0,
-            2,
-            3,
-            none,
-            b"Session line of more",
-        ),
+        (b"a text", 1, 0, 0, 5, none, read_fault),
+        (long, 4, 0, 0, 5, none, read_fault),
+        (b"a text", 0, 1, 0, 6, none, write_fault),
+        (long, 0, 2, 0, 6, &long[..20], write_fault),
+        (line, 0, 0, 2, 3, none, &line[..20]),
         (b"a text", 0, 1, 1, 6, none, none),
     ];
     for (input, reading, writing, telling, number, text, line) in rows {

@@ -13,8 +13,32 @@ fn tuple(alloc: Global, relation: u16, numbers: &[i64]) -> Result<Tuple, Memory>
     Ok(Tuple { relation, values })
 }
 
+// A tuple of the relation, where numbers are given.
+fn any_tuple(
+    alloc: Global,
+    relation: u16,
+    numbers: Option<&[i64]>,
+) -> Result<Option<Tuple>, Memory> {
+    match numbers {
+        Some(numbers) => Ok(Some(tuple(alloc, relation, numbers)?)),
+        None => Ok(None),
+    }
+}
+
 // What each way to make the set must give: 1(1), 1(2), 1(3), 2(1, 5), 2(2, 5), 2(2, 7), 3(5).
 fn holds_the_seven<F: Facts>(
+    rt: &impl Abort,
+    alloc: Global,
+    facts: &F,
+    way: &str,
+) -> Result<(), Fail> {
+    has_the_seven(rt, alloc, facts, way)?;
+    begins_as_the_seven(rt, alloc, facts, way)?;
+    goes_on_as_the_seven(rt, alloc, facts, way)?;
+    scans_as_the_seven(rt, alloc, facts, way)
+}
+
+fn has_the_seven<F: Facts>(
     rt: &impl Abort,
     alloc: Global,
     facts: &F,
@@ -26,26 +50,39 @@ fn holds_the_seven<F: Facts>(
         (2, [2, 7].as_slice(), true),
         (2, [1, 7].as_slice(), false),
         (3, [5].as_slice(), true),
+        (3, [].as_slice(), false),
     ] {
         let asked = tuple(alloc, relation, numbers)?;
         assert_eq!(rt; facts.contains(&asked), there, "{way}: {asked:?}");
     }
+    Ok(())
+}
+
+fn begins_as_the_seven<F: Facts>(
+    rt: &impl Abort,
+    alloc: Global,
+    facts: &F,
+    way: &str,
+) -> Result<(), Fail> {
     for (relation, least) in [
         (0, None),
         (1, Some([1].as_slice())),
         (2, Some([1, 5].as_slice())),
         (4, None),
     ] {
-        let least = match least {
-            Some(numbers) => Some(tuple(alloc, relation, numbers)?),
-            None => None,
-        };
-        assert_eq!(rt;
-            facts.first(relation),
-            least.as_ref(),
-            "{way}: first of {relation}"
-        );
+        let least = any_tuple(alloc, relation, least)?;
+        let first = facts.first(relation);
+        assert_eq!(rt; first, least.as_ref(), "{way}: first of {relation}");
     }
+    Ok(())
+}
+
+fn goes_on_as_the_seven<F: Facts>(
+    rt: &impl Abort,
+    alloc: Global,
+    facts: &F,
+    way: &str,
+) -> Result<(), Fail> {
     for (relation, numbers, next) in [
         (1, [0].as_slice(), Some([1].as_slice())),
         (1, [1].as_slice(), Some([2].as_slice())),
@@ -54,30 +91,30 @@ fn holds_the_seven<F: Facts>(
         (3, [5].as_slice(), None),
     ] {
         let from = tuple(alloc, relation, numbers)?;
-        let next = match next {
-            Some(numbers) => Some(tuple(alloc, relation, numbers)?),
-            None => None,
-        };
+        let next = any_tuple(alloc, relation, next)?;
         assert_eq!(rt; facts.after(&from), next.as_ref(), "{way}: after {from:?}");
     }
-    for (column, number, past, next) in [
-        (1, 5, None, Some([1, 5].as_slice())),
-        (1, 5, Some((2, [1, 5].as_slice())), Some([2, 5].as_slice())),
-        (1, 5, Some((2, [2, 5].as_slice())), None),
-        (0, 2, Some((2, [2, 5].as_slice())), Some([2, 7].as_slice())),
-        (0, 2, Some((1, [9].as_slice())), Some([2, 5].as_slice())),
-        (0, 2, Some((3, [0].as_slice())), None),
-        (0, 5, None, None),
-        (2, 5, None, None),
+    Ok(())
+}
+
+fn scans_as_the_seven<F: Facts>(
+    rt: &impl Abort,
+    alloc: Global,
+    facts: &F,
+    way: &str,
+) -> Result<(), Fail> {
+    for (column, number, relation, past, next) in [
+        (1, 5, 2, None, Some([1, 5].as_slice())),
+        (1, 5, 2, Some([1, 5].as_slice()), Some([2, 5].as_slice())),
+        (1, 5, 2, Some([2, 5].as_slice()), None),
+        (0, 2, 2, Some([2, 5].as_slice()), Some([2, 7].as_slice())),
+        (0, 2, 1, Some([9].as_slice()), Some([2, 5].as_slice())),
+        (0, 2, 3, Some([0].as_slice()), None),
+        (0, 5, 2, None, None),
+        (2, 5, 2, None, None),
     ] {
-        let past = match past {
-            Some((relation, numbers)) => Some(tuple(alloc, relation, numbers)?),
-            None => None,
-        };
-        let next = match next {
-            Some(numbers) => Some(tuple(alloc, 2, numbers)?),
-            None => None,
-        };
+        let past = any_tuple(alloc, relation, past)?;
+        let next = any_tuple(alloc, 2, next)?;
         let found = facts.scan(2, column, &Value::Int(number), past.as_ref());
         assert_eq!(rt;
             found,
