@@ -5,6 +5,7 @@ pub mod Courses
 pub mod Overlays
 pub mod Groups
 pub mod Indexing
+pub mod Refusals
 pub mod Taking
 pub mod Changing
 pub mod Related

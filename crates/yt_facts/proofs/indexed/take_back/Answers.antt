@@ -1,6 +1,6 @@
 use Rattle.std.proofs.Common.{sym}
 use Rattle.yt_base.specs.Meanings.{fact_of}
-use Rattle.yt_facts.proofs.Indexing.{index_stays, index_swept}
+use Rattle.yt_facts.proofs.Refusals.{index_stays, index_swept}
 use Rattle.yt_facts.proofs.indexed.take_back.Goals as goal
 
 pub returns-then-not-contains : goal.returns-then-not-contains

@@ -5,7 +5,8 @@ use Rattle.yt_model.proofs.Sets.{insert_in_order}
 use Rattle.yt_base.specs.Meanings.{fact_of}
 use Rattle.yt_base.specs.declared.tuples.Tuple.{Tuple}
 use Rattle.yt_facts.specs.Indexes.{IsIndex, IsIndexBut}
-use Rattle.yt_facts.proofs.Indexing.{index_but, index_grows}
+use Rattle.yt_facts.proofs.Indexing.{index_grows}
+use Rattle.yt_facts.proofs.Refusals.{index_but}
 use Rattle.yt_facts.proofs.Related.{adds_at_most}
 use Rattle.yt_facts.proofs.indexed.IndexedFacts.insert.Goals as goal
 
