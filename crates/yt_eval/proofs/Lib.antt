@@ -2,3 +2,4 @@ pub mod Tuples
 pub mod Written
 pub mod OtherRelations
 pub mod Settling
+pub mod Forces

@@ -51,7 +51,7 @@ no_image : (o : Option (List Fact)) → image_reply o ≡ Nothing → o ≡ None
 no_image None e = refl
 no_image (Some x) e = cc
 
-no_force : (n : ℕ) (w : Change) → (relation_in w == force_relation) ≡ false → inserts (force n) w ≡ false
+pub no_force : (n : ℕ) (w : Change) → (relation_in w == force_relation) ≡ false → inserts (force n) w ≡ false
 no_force n (Insert t) h = differ_by_relation (force n) t (λ e. eqb-false t.relation force_relation h (sym e))
 no_force n (Delete t) h = refl
 

@@ -10,7 +10,7 @@ pub apply_one_more : (D : List Fact) (ws : List Change) (w : Change) → apply D
 apply_one_more D [] w = refl
 apply_one_more D (v ∷ ws) w = apply_one_more (change D v) ws w
 
-map_one_more : (ws : List Write) (w : Write) → map change_of (ws ++ w ∷ []) ≡ map change_of ws ++ change_of w ∷ []
+pub map_one_more : (ws : List Write) (w : Write) → map change_of (ws ++ w ∷ []) ≡ map change_of ws ++ change_of w ∷ []
 map_one_more [] w = refl
 map_one_more (v ∷ ws) w = ap (λ (vs : List Change). change_of v ∷ vs) (map_one_more ws w)
 

@@ -29,9 +29,17 @@ touches w None = false
 touches (Insert t) (Some m) = list_any (λ a. a.relation == t.relation) m.left
 touches (Delete t) (Some m) = list_any (λ a. a.relation == t.relation) m.right
 
+-- The write may put a mapping in force.
+abbrev pub may_enact : Change → Bool
+may_enact w = relation_in w == force_relation
+
 -- The write may give the mapping a violation, or it may put a mapping in force.
 abbrev pub stirs : Change → Option Rule → Bool
-stirs w m = (relation_in w == force_relation) || touches w m
+stirs w m = may_enact w || touches w m
+
+-- With no mark none of the own writes may put a mapping in force.
+abbrev pub AreForceless : Bool → List Change → Type 0
+AreForceless mark own = mark ≡ false → list_any may_enact own ≡ false
 
 -- Each mapping with a mark has no violation that the own writes caused.
 abbrev pub AreSettled : Watched → List Bool → Type 0

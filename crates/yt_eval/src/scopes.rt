@@ -1,5 +1,5 @@
 //! Which violations count at a query, and the first of them.
-ghost use Rattle.std.specs.Prelude.{◌≡◌, [], ◌∷◌, List, map, pos, IfOk};
+ghost use Rattle.std.specs.Prelude.{◌≡◌, ◌||◌, [], ◌∷◌, List, map, pos, IfOk};
 ghost use Rattle.std.specs.Bool.{Decides};
 ghost use Rattle.std.specs.List.{list_any};
 ghost use Rattle.std.specs.Option.{option_map, option_copied};
@@ -12,6 +12,7 @@ ghost use Rattle.yt_base.specs.Meanings.{datum_of, fact_of, change_of, rule_of};
 ghost use Rattle.yt_query.specs.Meanings.{reply_of};
 ghost use Rattle.yt_violation.specs.Scopes.{scope_of, own_of};
 ghost use Rattle.yt_eval.specs.Counted.{scope_meant};
+ghost use Rattle.yt_eval.specs.Watched.{AreForceless, may_enact, relation_in};
 
 use std::alloc::Global;
 use yt_base::{Direction, Facts, Mapping, Memory, Tuple, Value, Write, WriteList};
@@ -28,14 +29,33 @@ pub(crate) enum Counted {
     Caused(Direction),
 }
 
+/// The relation of the tuple that is written.
+pub(crate) fn relation_of(write: &Write) -> u16
+    ensures relation { result ≡ relation_in (change_of write.now) }
+{
+    match write {
+        Write::Insert(tuple) => tuple.relation,
+        Write::Delete(tuple) => tuple.relation,
+    }
+}
+
+/// Whether, with this write, an own write may put a mapping in force.
+pub(crate) fn enacts_with(enacts: bool, write: &Write) -> bool
+    ensures either { result ≡ (enacts || may_enact (change_of write.now)) }
+{
+    enacts || relation_of(write) == FORCE_RELATION
+}
+
 /// Which violations of the mapping of this number count: forward, every one where the own writes put it in force.
-pub(crate) fn scope_at(counted: Counted, own: &WriteList, number: u16) -> Scope<'_>
+/// `enacts` says whether one of them may put any mapping in force.
+pub(crate) fn scope_at(counted: Counted, own: &WriteList, enacts: bool, number: u16) -> Scope<'_>
+    requires { AreForceless enacts (map change_of own.now.items) }
     ensures same { (m : Rule) (E : List Fact) → first_violation_lem (scope_of result) (own_of result) m E ≡ first_violation_lem (scope_at_lem (scope_meant counted) (map change_of own.now.items) number) (map change_of own.now.items) m E }
 {
     match counted {
         Counted::Every => Scope::All,
         Counted::Caused(Direction::Forward) => {
-            if puts_in_force(own, number) {
+            if is_put_in_force(own, enacts, number) {
                 Scope::All
             } else {
                 Scope::Forward(own)
@@ -43,6 +63,14 @@ pub(crate) fn scope_at(counted: Counted, own: &WriteList, number: u16) -> Scope<
         }
         Counted::Caused(Direction::Backward) => Scope::Backward(own),
     }
+}
+
+// Whether a write puts the mapping of this number in force. Only where one may put any in force are they gone over.
+fn is_put_in_force(writes: &WriteList, enacts: bool, number: u16) -> bool
+    requires { AreForceless enacts (map change_of writes.now.items) }
+    ensures answer { result ≡ list_any (inserts (force number)) (map change_of writes.now.items) }
+{
+    enacts && puts_in_force(writes, number)
 }
 
 // Whether a write puts the mapping of this number in force.

@@ -2,9 +2,9 @@
 ghost use Rattle.std.specs.Prelude.{◌≡◌, ◌==◌, ℕ, ◌&&◌, true, false, Some, not, slice_index_or, slice_set, replicate, map, IfOk};
 ghost use Rattle.std.specs.List.{list_any, slice_get};
 ghost use Rattle.yt_base.specs.Meanings.{change_of, pattern_of, rule_of};
-ghost use Rattle.yt_eval.specs.Watched.{relation_in, stirs, touches as touches_lem};
+ghost use Rattle.yt_eval.specs.Watched.{stirs, touches as touches_lem};
 
-use crate::scopes::FORCE_RELATION;
+use crate::scopes::{FORCE_RELATION, relation_of};
 use std::alloc::Global;
 use std::marker::Model;
 use yt_base::{Atom, Mapping, MappingList, Memory, Write};
@@ -95,16 +95,6 @@ impl Settled {
         if let Some(mark) = self.marks.get_mut(number) {
             *mark = false;
         }
-    }
-}
-
-// The relation of the tuple that is written.
-fn relation_of(write: &Write) -> u16
-    ensures relation { result ≡ relation_in (change_of write.now) }
-{
-    match write {
-        Write::Insert(tuple) => tuple.relation,
-        Write::Delete(tuple) => tuple.relation,
     }
 }
 

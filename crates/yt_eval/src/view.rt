@@ -9,7 +9,7 @@ ghost use Rattle.yt_eval.specs.Counted.{scope_meant};
 ghost use Rattle.yt_eval.specs.Seen.{written};
 
 use crate::occurrences::occurrences;
-use crate::scopes::{Counted, first_image, scope_at};
+use crate::scopes::{Counted, enacts_with, first_image, scope_at};
 use std::alloc::Global;
 use std::marker::Model;
 use yt_base::{Direction, Facts, MappingList, Memory, TryCopy, Tuple, Write, WriteList};
@@ -24,6 +24,8 @@ pub struct View<'a, F: Facts> {
     // The set without the writes, of which contracts speak.
     below: &'a F,
     own: WriteList,
+    // Whether an own write may put a mapping in force.
+    enacts: bool,
     overlay: Overlay<'a, F>,
 }
 
@@ -32,12 +34,13 @@ impl<'a, F: Facts> Model for View<'a, F> {
     ghost use Rattle.yt_model.specs.Repository.{apply};
     ghost use Rattle.yt_base.specs.Meanings.{change_of};
     ghost use Rattle.yt_eval.specs.Seen.{Seen};
+    ghost use Rattle.yt_eval.specs.Watched.{AreForceless};
 
     ghost Value = { Seen };
 
     ghost view = { λ v. record { below = F.tuples v.below.now; own = map change_of v.own.items } };
 
-    ghost invariant = { λ v. v.overlay ≡ apply (F.tuples v.below.now) (map change_of v.own.items) };
+    ghost invariant = { λ v. (v.overlay ≡ apply (F.tuples v.below.now) (map change_of v.own.items)) × AreForceless v.enacts (map change_of v.own.items) };
 }
 
 impl<'a, F: Facts> View<'a, F> {
@@ -48,6 +51,7 @@ impl<'a, F: Facts> View<'a, F> {
         View {
             below,
             own: WriteList::new(alloc),
+            enacts: false,
             overlay: Overlay::new(alloc, below),
         }
     }
@@ -61,6 +65,7 @@ impl<'a, F: Facts> View<'a, F> {
         self.own.reserve(1)?;
         self.overlay.write(alloc, write)?;
         self.own.push(copy)?;
+        self.enacts = enacts_with(self.enacts, write);
         Ok(())
     }
 
@@ -116,7 +121,7 @@ impl<'a, F: Facts> View<'a, F> {
         match query {
             Query::Present(tuple) => Ok(presence(tuple, &self.overlay)),
             Query::Violation(number) => {
-                let scope = scope_at(counted, &self.own, *number);
+                let scope = scope_at(counted, &self.own, self.enacts, *number);
                 first_image(alloc, mappings.get(*number as usize), &self.overlay, scope)
             }
             Query::Specific(tuple) => {
