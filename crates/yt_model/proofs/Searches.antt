@@ -91,6 +91,11 @@ find_filter p q h (x ∷ xs) = by (q x) refl (p x) refl (find_filter p q h xs)
     by false e true f r = differ (sym e ∙ h x f)
     by false e false f r = r
 
+-- The first item.
+abbrev pub head : {K : Type 0} → List K → Option K
+head [] = None
+head (x ∷ xs) = Some x
+
 -- ---- the first answer
 
 -- The first answer of f along the list.
