@@ -364,3 +364,39 @@ fn a_watched_view_answers_as_a_view(rt: HostRuntime) -> Result<(), Fail> {
     stay_alike(&rt, alloc, &base, &mappings, Direction::Forward)?;
     stay_alike(&rt, alloc, &base, &mappings, Direction::Backward)
 }
+
+// Each of the two mappings, once asked for its first violation, is settled just where it has none.
+fn settles<F: Facts>(
+    rt: &impl Abort,
+    alloc: Global,
+    watched: &mut WatchedView<'_, F>,
+) -> Result<(), Fail> {
+    for number in 0..2 {
+        let answer = watched.eval(&Query::Violation(number), alloc)?;
+        let settled = watched.settled().get(number as usize) == Some(&true);
+        assert!(rt; settled == answer.is_same(&Answer::Nothing));
+    }
+    Ok(())
+}
+
+// So before the writes and after them.
+fn stay_settled<F: Facts>(
+    rt: &impl Abort,
+    alloc: Global,
+    base: &F,
+    mappings: &MappingList,
+) -> Result<(), Fail> {
+    let own = writes(alloc, &EARLIER)?;
+    let mut watched = WatchedView::new(alloc, base, mappings, Direction::Forward)?;
+    settles(rt, alloc, &mut watched)?;
+    watched.write_all(alloc, own.as_slice())?;
+    settles(rt, alloc, &mut watched)
+}
+
+#[test]
+fn a_mapping_without_a_violation_is_settled(rt: HostRuntime) -> Result<(), Fail> {
+    let alloc = rt.alloc();
+    let base = base(alloc)?;
+    let mappings = mappings(alloc)?;
+    stay_settled(&rt, alloc, &base, &mappings)
+}
