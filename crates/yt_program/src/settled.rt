@@ -18,8 +18,9 @@ use yt_base::MappingList;
 
 impl Program {
     /// Passes, in a look, over mappings that are settled: `settled[n]` says that the mapping of number n has no violation
-    /// that counts. What is asked for then is the first violation of one that is not settled, or of a settled one that no
-    /// other comes after unasked. It takes no memory.
+    /// that counts. The step then asks for the first violation of the next mapping that is not settled; but of the last
+    /// settled one where the look would end behind it, or where it has to be asked whether the next one is in force. What
+    /// the step comes to is the same, and it asks no more than before. It takes no memory.
     pub fn pass(&mut self, settled: &[bool], mappings: &MappingList)
         requires within { AreWithin (map rule_of mappings.now.items) }
         ensures passed { (val : QueryMeant → Reply) → FindsNone val settled.now → IsShorter val (course (map rule_of mappings.now.items) self.old) (course (map rule_of mappings.now.items) self.new) }
