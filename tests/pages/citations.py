@@ -2,6 +2,8 @@
 """Checks docs/PROOFS.md against the contracts: each crate has a section, each item of a section cites a contract, and
 each contract that is cited is there.
 
+With the word `uncited` it tells instead the laws (public functions without arguments) that no item cites.
+
 A citation is `function`, `function: clause, ..`, `Type::function: clause, ..`, or `Type: word, ..` for what a type says
 of itself, of the crate that the section is on; `crate::` in front names another one. `File.name` is a definition in specs/.
 """
@@ -113,9 +115,19 @@ def offences(page):
             yield f"there is no section on {crate}"
 
 
+def uncited(page):
+    """The laws of each crate that the page names nowhere."""
+    text = page.read_text()
+    for crate in CRATES:
+        for file in sorted((ROOT / "crates" / crate / "src").rglob("*.rt")):
+            for law in re.findall(r"^pub fn (\w+)\(\)\s*\n\s*ensures", file.read_text(), re.M):
+                if not re.search(rf"`{law}[`:]", text):
+                    yield f"{crate} has a law {law}"
+
+
 if __name__ == "__main__":
     page = ROOT / "docs" / "PROOFS.md"
-    found = list(offences(page))
+    found = list(uncited(page) if sys.argv[1:] == ["uncited"] else offences(page))
     for offence in found:
         print(f"{page.relative_to(ROOT)}: {offence}")
     sys.exit(bool(found))
