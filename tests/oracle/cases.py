@@ -56,8 +56,9 @@ def of_session(rng, maker, text):
 
 
 def of_trace(rng, maker, text):
-    """A run whose trace is wanted, on one worker, so that there is one history."""
-    return ["run", "--trace", "--workers", "1", "--steps", str(maker.steps)] + option(rng, "deps", rng.choice(["coarse", "precise"])), text
+    """A run whose trace is wanted. On one worker there is one history; on several it is any legal one."""
+    words = ["run", "--trace", "--workers", str(rng.choice([1, 1, 2, 8])), "--steps", str(maker.steps)]
+    return words + option(rng, "deps", rng.choice(["coarse", "precise"])), text
 
 
 def of_spelling(rng, maker, text):
