@@ -15,7 +15,11 @@ pub enum Cause {
         new: Answer,
     },
     /// The reader's read depends on what the aborted update `on` wrote.
-    Depends { reader: u32, read: u64, on: u32 },
+    Depends {
+        reader: u32,
+        read: u64,
+        on: u32,
+    },
 }
 
 /// The causes of an event: the conflicts in number order, and then the dependences in number order.

@@ -8,7 +8,9 @@ use yt_base::{Choice, List, WriteList};
 #[derive(Debug, Drop)]
 pub enum Entry {
     /// The update was admitted.
-    Admitted { update: u32 },
+    Admitted {
+        update: u32,
+    },
     /// The update made a step by this attempt, which shows these writes.
     Stepped {
         update: u32,
@@ -19,7 +21,10 @@ pub enum Entry {
         committed: u32,
     },
     /// The update's first recorded answer was delivered.
-    Delivered { update: u32, standing: Standing },
+    Delivered {
+        update: u32,
+        standing: Standing,
+    },
     /// A person answered the update's question.
     Answered {
         update: u32,
