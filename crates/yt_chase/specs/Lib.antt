@@ -3,3 +3,5 @@ pub mod Stands
 pub mod Meanings
 pub mod Stages
 pub mod Nulls
+pub mod Bound
+pub mod BoundMeanings

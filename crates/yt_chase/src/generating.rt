@@ -52,8 +52,8 @@ fn right_atoms(mappings: &MappingList, number: u16) -> &[Atom]
     }
 }
 
-// The tuple that the atom is under the values.
-fn tuple_under(alloc: Global, binding: &Row, atom: &Atom) -> Result<Tuple, Memory>
+/// The tuple that the atom is under the values. It is refused only for want of memory.
+pub(crate) fn tuple_under(alloc: Global, binding: &Row, atom: &Atom) -> Result<Tuple, Memory>
     ensures value { IfOk result (λ tuple. fact_of tuple ≡ fact_under (listed_lem (map datum_of binding.now.items)) (pattern_of atom.now)) }
 {
     Ok(Tuple {

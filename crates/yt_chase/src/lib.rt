@@ -16,6 +16,7 @@ mod comparing;
 mod copying;
 mod fresh;
 mod generating;
+mod in_hand;
 mod looking;
 mod nulls;
 mod ordering;
@@ -28,6 +29,7 @@ mod wants;
 mod writes;
 
 pub use crate::fresh::{Fresh, existential};
+pub use crate::in_hand::{Bound, image};
 pub use crate::nulls::nulls_in;
 pub use crate::ordering::in_order;
 pub use crate::repairs::Repair;

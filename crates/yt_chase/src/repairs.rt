@@ -30,8 +30,8 @@ use yt_query::{Answer, Query};
 /// which tuples to delete. Contracts see where it stands.
 #[derive(Debug, Drop)]
 pub struct Repair {
-    generation: Generation,
-    stage: Stage,
+    pub(crate) generation: Generation,
+    pub(crate) stage: Stage,
 }
 
 impl Model for Repair {

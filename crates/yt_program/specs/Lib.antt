@@ -9,3 +9,4 @@ pub mod TurnMeanings
 pub mod Views
 pub mod Results
 pub mod Settled
+pub mod Starting

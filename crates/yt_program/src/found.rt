@@ -67,7 +67,7 @@ fn some_of(tuples: &TupleList) -> Option<&TupleList>
 
 /// What the named null stands for: the value of that outer name which stands first in the first of the tuples. It is
 /// the number 0 where none does. It is refused only for want of memory.
-pub(crate) fn standing_for(alloc: Global, name: Null, tuples: &TupleList) -> Result<Value, Memory>
+pub fn standing_for(alloc: Global, name: Null, tuples: &TupleList) -> Result<Value, Memory>
     ensures value { IfOk result (λ value. datum_of value ≡ standing_for_lem (null_of name) (map fact_of tuples.now.items)) }
 {
     match tuples.get(0) {

@@ -15,6 +15,7 @@ mod attempts;
 mod counting;
 mod ends;
 mod found;
+mod in_hand;
 mod looking;
 mod moves;
 mod passing;
@@ -32,5 +33,6 @@ mod writes;
 mod writing;
 
 pub use crate::ends::{Outcome, Want};
+pub use crate::found::standing_for;
 pub use crate::programs::Program;
 pub use crate::results::{Finish, FinishList, Lack, SessionResult, Stop};
