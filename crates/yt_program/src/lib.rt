@@ -22,6 +22,7 @@ mod passing;
 mod points;
 mod programs;
 mod readings;
+mod renewals;
 mod repairing;
 mod replacing;
 mod results;
