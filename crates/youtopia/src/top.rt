@@ -8,7 +8,8 @@ ghost use Rattle.youtopia.specs.Calls.{Calls, Performs, meaning_of};
 use crate::telling::Telling;
 use std::alloc::Global;
 use yt_command::{Failure, Status, fail, perform, perform_alone};
-use yt_commands::{Budget, Check, Format, OnSession, Save, Serial, Upgrade};
+use yt_commands::{Check, Format, OnSession, Save, Serial, Upgrade};
+use yt_limits::Budget;
 use yt_text::{Sink, Source};
 use yt_words::{CommandName, HELP, Options, Request, VERSION_LINE, WordsRefusal, read_words};
 

@@ -16,7 +16,8 @@ use crate::unifying::{all_found, ask_next, unify};
 use crate::wants::Progress;
 use std::alloc::Global;
 use std::mem;
-use yt_base::{MappingList, Memory, WriteList};
+use yt_base::{Memory, WriteList};
+use yt_limits::Mappings;
 use yt_query::{Answer, Query};
 
 /// Goes on by the answer to the query of this stage. A step that ends puts its writes behind the own ones. It is refused
@@ -27,11 +28,11 @@ pub(crate) fn answered(
     stage: &mut Stage,
     own: &mut WriteList,
     answer: &Answer,
-    mappings: &MappingList,
+    mappings: &Mappings<'_>,
 ) -> Result<Progress, Memory>
     requires fits { IsSound generation.old stage.old }
-    requires reply { TakesReply (map rule_of mappings.now.items) (wanted (repairing_of generation.old stage.old)) (reply_of answer.now) }
-    ensures step { IfOk result (λ progress. stand (map rule_of mappings.now.items) (asks_on progress) (map change_of own.new.items) (repairing_of generation.new stage.new) ≡ settled (map change_of own.old.items) (phase_of (repairing_of generation.old stage.old)) (branch (tree_in (map rule_of mappings.now.items) (repairing_of generation.old stage.old)) (reply_of answer.now))) }
+    requires reply { TakesReply mappings.now (wanted (repairing_of generation.old stage.old)) (reply_of answer.now) }
+    ensures step { IfOk result (λ progress. stand mappings.now (asks_on progress) (map change_of own.new.items) (repairing_of generation.new stage.new) ≡ settled (map change_of own.old.items) (phase_of (repairing_of generation.old stage.old)) (branch (tree_in mappings.now (repairing_of generation.old stage.old)) (reply_of answer.now))) }
     ensures asks { IfOk result (λ progress. is_asking (repairing_of generation.new stage.new) ≡ asks_on progress) }
     ensures sound { IsSound generation.new stage.new }
     ensures err { OnErr result (repairing_of generation.new stage.new ≡ repairing_of generation.old stage.old) }

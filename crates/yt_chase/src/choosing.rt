@@ -17,8 +17,9 @@ use crate::wants::Progress;
 use crate::writes::{append, insert};
 use std::alloc::Global;
 use std::mem;
-use yt_base::{Choice, List, MappingList, Memory, Tuple, TupleList, WriteList};
+use yt_base::{Choice, List, Memory, Tuple, TupleList, WriteList};
 use yt_frontier::{Question, named_tuples};
+use yt_limits::Mappings;
 use yt_query::Query;
 
 /// Makes the step of the answer, which fits the question of this stage, up to its first query or its end. A step that ends
@@ -30,11 +31,11 @@ pub(crate) fn chosen(
     stage: &mut Stage,
     own: &mut WriteList,
     choice: &Choice,
-    mappings: &MappingList,
+    mappings: &Mappings<'_>,
 ) -> Result<Progress, Memory>
     requires fits { IsSound generation.old stage.old }
     requires choice { TakesChoice (wanted (repairing_of generation.old stage.old)) (choice_of choice.now) }
-    ensures step { IfOk result (λ progress. ChosenStep (map rule_of mappings.now.items) (choice_of choice.now) (map change_of own.old.items) (repairing_of generation.old stage.old) (asks_on progress) (map change_of own.new.items) (repairing_of generation.new stage.new)) }
+    ensures step { IfOk result (λ progress. ChosenStep mappings.now (choice_of choice.now) (map change_of own.old.items) (repairing_of generation.old stage.old) (asks_on progress) (map change_of own.new.items) (repairing_of generation.new stage.new)) }
     ensures asks { IfOk result (λ progress. is_asking (repairing_of generation.new stage.new) ≡ asks_on progress) }
     ensures sound { IsSound generation.new stage.new }
     ensures err { OnErr result (repairing_of generation.new stage.new ≡ repairing_of generation.old stage.old) }
@@ -53,11 +54,11 @@ fn expand(
     generation: &mut Generation,
     stage: &mut Stage,
     own: &mut WriteList,
-    mappings: &MappingList,
+    mappings: &Mappings<'_>,
 ) -> Result<Progress, Memory>
     requires fits { IsSound generation.old stage.old }
     requires choice { TakesChoice (wanted (repairing_of generation.old stage.old)) Expand }
-    ensures step { IfOk result (λ progress. ChosenStep (map rule_of mappings.now.items) Expand (map change_of own.old.items) (repairing_of generation.old stage.old) (asks_on progress) (map change_of own.new.items) (repairing_of generation.new stage.new)) }
+    ensures step { IfOk result (λ progress. ChosenStep mappings.now Expand (map change_of own.old.items) (repairing_of generation.old stage.old) (asks_on progress) (map change_of own.new.items) (repairing_of generation.new stage.new)) }
     ensures asks { IfOk result (λ progress. is_asking (repairing_of generation.new stage.new) ≡ asks_on progress) }
     ensures sound { IsSound generation.new stage.new }
     ensures err { OnErr result (repairing_of generation.new stage.new ≡ repairing_of generation.old stage.old) }
@@ -78,11 +79,11 @@ fn begin_unifying(
     stage: &mut Stage,
     own: &mut WriteList,
     form: &Tuple,
-    mappings: &MappingList,
+    mappings: &Mappings<'_>,
 ) -> Result<Progress, Memory>
     requires fits { IsSound generation.old stage.old }
     requires choice { TakesChoice (wanted (repairing_of generation.old stage.old)) (Unify (fact_of form.now)) }
-    ensures step { IfOk result (λ progress. ChosenStep (map rule_of mappings.now.items) (Unify (fact_of form.now)) (map change_of own.old.items) (repairing_of generation.old stage.old) (asks_on progress) (map change_of own.new.items) (repairing_of generation.new stage.new)) }
+    ensures step { IfOk result (λ progress. ChosenStep mappings.now (Unify (fact_of form.now)) (map change_of own.old.items) (repairing_of generation.old stage.old) (asks_on progress) (map change_of own.new.items) (repairing_of generation.new stage.new)) }
     ensures asks { IfOk result (λ progress. is_asking (repairing_of generation.new stage.new) ≡ asks_on progress) }
     ensures sound { IsSound generation.new stage.new }
     ensures err { OnErr result (repairing_of generation.new stage.new ≡ repairing_of generation.old stage.old) }
@@ -135,11 +136,11 @@ fn delete(
     stage: &mut Stage,
     own: &mut WriteList,
     forms: &TupleList,
-    mappings: &MappingList,
+    mappings: &Mappings<'_>,
 ) -> Result<Progress, Memory>
     requires fits { IsSound generation.old stage.old }
     requires choice { TakesChoice (wanted (repairing_of generation.old stage.old)) (DropThese (map fact_of forms.now.items)) }
-    ensures step { IfOk result (λ progress. ChosenStep (map rule_of mappings.now.items) (DropThese (map fact_of forms.now.items)) (map change_of own.old.items) (repairing_of generation.old stage.old) (asks_on progress) (map change_of own.new.items) (repairing_of generation.new stage.new)) }
+    ensures step { IfOk result (λ progress. ChosenStep mappings.now (DropThese (map fact_of forms.now.items)) (map change_of own.old.items) (repairing_of generation.old stage.old) (asks_on progress) (map change_of own.new.items) (repairing_of generation.new stage.new)) }
     ensures asks { IfOk result (λ progress. is_asking (repairing_of generation.new stage.new) ≡ asks_on progress) }
     ensures sound { IsSound generation.new stage.new }
     ensures err { OnErr result (repairing_of generation.new stage.new ≡ repairing_of generation.old stage.old) }

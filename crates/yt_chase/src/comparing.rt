@@ -14,8 +14,9 @@ use crate::generating::go_on;
 use crate::stages::{Generation, Stage};
 use std::alloc::Global;
 use std::mem;
-use yt_base::{MappingList, Memory, Tuple, Write, WriteList};
+use yt_base::{Memory, Tuple, Write, WriteList};
 use yt_frontier::Question;
+use yt_limits::Mappings;
 use yt_query::Query;
 
 /// The end of the step, by these more specific tuples: with none of them the generated tuple is inserted, else a person
@@ -27,11 +28,11 @@ pub(crate) fn compared(
     stage: &mut Stage,
     own: &mut WriteList,
     candidates: &[Tuple],
-    mappings: &MappingList,
+    mappings: &Mappings<'_>,
 ) -> Result<(), Memory>
     requires comparing { IsComparing stage.old }
     requires specific { list_all (λ s. more_specific s (tuple_at stage.old)) (map fact_of candidates.now) ≡ true }
-    ensures step { OnOk result (stand (map rule_of mappings.now.items) false (map change_of own.new.items) (repairing_of generation.new stage.new) ≡ settled (map change_of own.old.items) (Generate (repair_of generation.old)) (compared_lem (map rule_of mappings.now.items) (repair_of generation.old) (tuple_at stage.old) (map fact_of candidates.now))) }
+    ensures step { OnOk result (stand mappings.now false (map change_of own.new.items) (repairing_of generation.new stage.new) ≡ settled (map change_of own.old.items) (Generate (repair_of generation.old)) (compared_lem mappings.now (repair_of generation.old) (tuple_at stage.old) (map fact_of candidates.now))) }
     ensures rests { OnOk result (is_asking (repairing_of generation.new stage.new) ≡ false) }
     ensures sound { OnOk result (IsSound generation.new stage.new) }
     ensures generation { OnErr result (generation.new ≡ generation.old) }

@@ -8,15 +8,16 @@ ghost use Rattle.yt_chase.specs.Stages.{repair_of, repairing_of, IsSound};
 
 use crate::stages::{Generation, Stage};
 use std::alloc::Global;
-use yt_base::{Atom, List, MappingList, Memory, Row, Term, TermRow, TryCopy, Tuple, Value};
+use yt_base::{Atom, List, Memory, Row, Term, TermRow, TryCopy, Tuple, Value};
+use yt_limits::Mappings;
 
 /// The tuple that the repair generates next. It is refused only for want of memory.
 pub(crate) fn generated(
     alloc: Global,
     generation: &Generation,
-    mappings: &MappingList,
+    mappings: &Mappings<'_>,
 ) -> Result<Tuple, Memory>
-    ensures value { IfOk result (λ tuple. fact_of tuple ≡ generated_lem (map rule_of mappings.now.items) (repair_of generation.now)) }
+    ensures value { IfOk result (λ tuple. fact_of tuple ≡ generated_lem mappings.now (repair_of generation.now)) }
 {
     match right_atoms(mappings, generation.mapping).get(generation.atom) {
         Some(atom) => tuple_under(alloc, &generation.binding, atom),
@@ -28,8 +29,8 @@ pub(crate) fn generated(
 }
 
 /// The stage after a right atom: the next one is to be generated, or the repair is at its end. It takes no memory.
-pub(crate) fn go_on(generation: &mut Generation, mappings: &MappingList) -> Stage
-    ensures phase { phase_of (repairing_of generation.new result) ≡ next_atom (map rule_of mappings.now.items) (repair_of generation.old) }
+pub(crate) fn go_on(generation: &mut Generation, mappings: &Mappings<'_>) -> Stage
+    ensures phase { phase_of (repairing_of generation.new result) ≡ next_atom mappings.now (repair_of generation.old) }
     ensures rests { is_asking (repairing_of generation.new result) ≡ false }
     ensures sound { IsSound generation.new result }
 {
@@ -43,8 +44,8 @@ pub(crate) fn go_on(generation: &mut Generation, mappings: &MappingList) -> Stag
 }
 
 // The right atoms of the mapping of this number; none where there is no such mapping.
-fn right_atoms(mappings: &MappingList, number: u16) -> &[Atom]
-    ensures atoms { map pattern_of result.now ≡ right_atoms_lem (slice_get (map rule_of mappings.now.items) number) }
+fn right_atoms<'a>(mappings: &Mappings<'a>, number: u16) -> &'a [Atom]
+    ensures atoms { map pattern_of result.now ≡ right_atoms_lem (slice_get mappings.now number) }
 {
     match mappings.get(number as usize) {
         Some(mapping) => mapping.right.as_slice(),

@@ -23,7 +23,8 @@ use crate::stages::{Generation, Stage};
 use crate::wants::{Progress, RepairWant};
 use std::alloc::Global;
 use std::marker::Model;
-use yt_base::{Choice, Mapping, MappingList, Memory, Row, TryCopy, TupleList, WriteList};
+use yt_base::{Choice, Mapping, Memory, Row, TryCopy, TupleList, WriteList};
+use yt_limits::Mappings;
 use yt_query::{Answer, Query};
 
 /// The repair of one violation, as a value. A forward repair generates the right atoms in turn; a backward one asks
@@ -93,9 +94,9 @@ impl Repair {
     }
 
     /// Begins the step that is next. It then asks. It is refused only for want of memory; the repair is then unchanged.
-    pub fn begin(&mut self, alloc: Global, mappings: &MappingList) -> Result<(), Memory>
+    pub fn begin(&mut self, alloc: Global, mappings: &Mappings<'_>) -> Result<(), Memory>
         requires { wanted self.old ≡ WantsStep }
-        ensures step { OnOk result ((P : Attempt) (c : Option ChoiceMeant) → tree_in (map rule_of mappings.now.items) self.new ≡ step_in (map rule_of mappings.now.items) P c (phase_of self.old)) }
+        ensures step { OnOk result ((P : Attempt) (c : Option ChoiceMeant) → tree_in mappings.now self.new ≡ step_in mappings.now P c (phase_of self.old)) }
         ensures asks { OnOk result (is_asking self.new ≡ true) }
         ensures phase { phase_of self.new ≡ phase_of self.old }
         ensures err { OnErr result (self.new ≡ self.old) }
@@ -112,10 +113,10 @@ impl Repair {
         alloc: Global,
         own: &mut WriteList,
         answer: &Answer,
-        mappings: &MappingList,
+        mappings: &Mappings<'_>,
     ) -> Result<Progress, Memory>
-        requires { TakesReply (map rule_of mappings.now.items) (wanted self.old) (reply_of answer.now) }
-        ensures step { IfOk result (λ progress. stand (map rule_of mappings.now.items) (asks_on progress) (map change_of own.new.items) self.new ≡ settled (map change_of own.old.items) (phase_of self.old) (branch (tree_in (map rule_of mappings.now.items) self.old) (reply_of answer.now))) }
+        requires { TakesReply mappings.now (wanted self.old) (reply_of answer.now) }
+        ensures step { IfOk result (λ progress. stand mappings.now (asks_on progress) (map change_of own.new.items) self.new ≡ settled (map change_of own.old.items) (phase_of self.old) (branch (tree_in mappings.now self.old) (reply_of answer.now))) }
         ensures asks { IfOk result (λ progress. is_asking self.new ≡ asks_on progress) }
         ensures err { OnErr result (self.new ≡ self.old) }
         ensures own { OnErr result (own.new.items ≡ own.old.items) }
@@ -138,10 +139,10 @@ impl Repair {
         alloc: Global,
         own: &mut WriteList,
         choice: &Choice,
-        mappings: &MappingList,
+        mappings: &Mappings<'_>,
     ) -> Result<Progress, Memory>
         requires { TakesChoice (wanted self.old) (choice_of choice.now) }
-        ensures step { IfOk result (λ progress. (P : Attempt) → stand (map rule_of mappings.now.items) (asks_on progress) (map change_of own.new.items) self.new ≡ settled (map change_of own.old.items) (phase_of self.old) (step_in (map rule_of mappings.now.items) P (Some (choice_of choice.now)) (phase_of self.old))) }
+        ensures step { IfOk result (λ progress. (P : Attempt) → stand mappings.now (asks_on progress) (map change_of own.new.items) self.new ≡ settled (map change_of own.old.items) (phase_of self.old) (step_in mappings.now P (Some (choice_of choice.now)) (phase_of self.old))) }
         ensures asks { IfOk result (λ progress. is_asking self.new ≡ asks_on progress) }
         ensures err { OnErr result (self.new ≡ self.old) }
         ensures own { OnErr result (own.new.items ≡ own.old.items) }

@@ -15,7 +15,8 @@ use crate::stages::{Gathering, Generation, Stage};
 use crate::writes::append;
 use std::alloc::Global;
 use std::collections::BTreeSet;
-use yt_base::{List, MappingList, Memory, Sub, Tuple, TupleList, WriteList};
+use yt_base::{List, Memory, Sub, Tuple, TupleList, WriteList};
+use yt_limits::Mappings;
 use yt_query::Query;
 use yt_unifier::apply_row;
 
@@ -60,10 +61,10 @@ pub(crate) fn unify(
     own: &mut WriteList,
     sub: &Sub,
     tuples: &TupleList,
-    mappings: &MappingList,
+    mappings: &Mappings<'_>,
 ) -> Result<Stage, Memory>
     ensures writes { OnOk result (map change_of own.new.items ≡ map change_of own.old.items ++ rewrite_lem (moved_by (images_of sub.now)) (map fact_of tuples.now.items)) }
-    ensures phase { IfOk result (λ stage. phase_of (repairing_of generation.new stage) ≡ next_atom (map rule_of mappings.now.items) (moved_repair (moved_by (images_of sub.now)) (repair_of generation.old))) }
+    ensures phase { IfOk result (λ stage. phase_of (repairing_of generation.new stage) ≡ next_atom mappings.now (moved_repair (moved_by (images_of sub.now)) (repair_of generation.old))) }
     ensures rests { IfOk result (λ stage. is_asking (repairing_of generation.new stage) ≡ false) }
     ensures sound { IfOk result (λ stage. IsSound generation.new stage) }
     ensures err { OnErr result (generation.new ≡ generation.old) }

@@ -6,13 +6,11 @@
 #![tactic(auto)]
 
 mod base;
-mod budget;
 mod counts;
 mod reading;
 mod runs;
 mod sessions;
 
-pub use crate::budget::Budget;
 pub use crate::reading::{OnSession, SessionCommand};
 pub use crate::runs::{Save, Serial};
 pub use crate::sessions::{Check, Format, Upgrade};

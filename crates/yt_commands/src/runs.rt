@@ -7,11 +7,11 @@ ghost use Rattle.yt_session.specs.Meanings.{session_of};
 ghost use Rattle.yt_commands.specs.Runs.{ending_by, kept, ran, result_output, saved_output, too_large_line};
 
 use crate::base::{base_refusal, base_violation};
-use crate::budget::Budget;
 use crate::reading::SessionCommand;
 use std::alloc::Global;
 use yt_base::Memory;
 use yt_command::{Ending, Output, Refusal};
+use yt_limits::Budget;
 use yt_print::print_session;
 use yt_program::SessionResult;
 use yt_report::{SaveRefusal, result_text, saved};
@@ -82,7 +82,7 @@ impl SessionCommand for Serial {
         if let Some(violated) = base_violation(alloc, &session, &base)? {
             return base_refusal(alloc, &session.schema, &violated);
         }
-        let told = serial_over(alloc, &session, base, self.budget.steps())?;
+        let told = serial_over(alloc, &session, base, self.budget)?;
         result_output(alloc, &session, &told)
     }
 }
@@ -95,7 +95,7 @@ impl SessionCommand for Save {
         if let Some(violated) = base_violation(alloc, &session, &base)? {
             return base_refusal(alloc, &session.schema, &violated);
         }
-        let told = serial_over(alloc, &session, base, self.budget.steps())?;
+        let told = serial_over(alloc, &session, base, self.budget)?;
         saved_output(alloc, session, &told)
     }
 }

@@ -17,6 +17,10 @@ pub record State : Type 0 where
   pub attempt : Attempt
   pub reading : Option Reading
 
+-- An attempt between two steps.
+abbrev pub between : Attempt → State
+between P = record { attempt = P; reading = None }
+
 -- The queries that are asked, in turn by their answers, up to the attempt after the step.
 abbrev pub Course : Type 0
 Course = Tree Query Reply Attempt

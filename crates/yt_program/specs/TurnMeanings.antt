@@ -1,5 +1,5 @@
 -- What a step has come to, in the terms of the steps of the chase.
-use Rattle.std.specs.Prelude.{◌≡◌, List, map}
+use Rattle.std.specs.Prelude.{◌≡◌, ℕ, List, map}
 use Rattle.yt_machine.specs.Trees.{Leaf}
 use Rattle.yt_model.specs.Mappings.{Rule}
 use Rattle.yt_model.specs.Updates.{Operation}
@@ -9,6 +9,7 @@ use Rattle.yt_steps.specs.Steps.{Move as MoveMeant, Asking}
 use Rattle.yt_chase.specs.Meanings.{DrawsFrom}
 use Rattle.yt_chase.specs.declared.fresh.Fresh.{Fresh}
 use Rattle.yt_program.specs.Rows.{begun_in, row_tree}
+use Rattle.yt_program.specs.Courses.{State, coming_to, course}
 use Rattle.yt_program.specs.PointMeanings.{reading_of, phase_at}
 use Rattle.yt_program.specs.declared.moves.Move.{Move}
 use Rattle.yt_program.specs.declared.turns.Turn.{Turn}
@@ -27,6 +28,10 @@ turn_tree ms P (Moves m) = Leaf (move_of m)
 abbrev pub IsTurnOf : Phase → Turn → Type 0
 IsTurnOf p (Asks r) = begun_in (reading_of r) ≡ p
 IsTurnOf p (Moves m) = Unit {0}
+
+-- The step in hand goes on to what the `Turn` has come to, within this budget.
+abbrev pub HasFollowed : ℕ → Turn → State → State → Type 0
+HasFollowed B turn s s' = (ms : List Rule) → course ms s' ≡ coming_to B s.attempt (turn_tree ms s.attempt turn)
 
 -- The attempt has this operation, and draws its next null where the fresh ones begin.
 pub record IsOf (P : Attempt) (f : Fresh) (op : Operation) : Type 0 where

@@ -7,7 +7,6 @@ ghost use Rattle.yt_query.specs.Meanings.{reply_of};
 ghost use Rattle.yt_steps.specs.Attempts.{Attempt, Look};
 ghost use Rattle.yt_steps.specs.Steps.{repair as repair_lem, look_from};
 ghost use Rattle.yt_chase.specs.Meanings.{DrawsFrom};
-ghost use Rattle.yt_program.specs.Conditions.{AreWithin};
 ghost use Rattle.yt_program.specs.Rows.{Forcing, Violating, row_tree, goes_on};
 ghost use Rattle.yt_program.specs.TurnMeanings.{turn_tree, IsTurnOf, IsOf};
 
@@ -19,8 +18,9 @@ use crate::rows::Row;
 use crate::starting::{force, is_yes};
 use crate::turns::Turn;
 use std::alloc::Global;
-use yt_base::{Direction, Mapping, MappingList, Memory, Operation, TupleList, WriteList};
+use yt_base::{Direction, Mapping, Memory, Operation, TupleList, WriteList};
 use yt_chase::{Fresh, Repair, existential};
+use yt_limits::Mappings;
 use yt_query::{Answer, Query};
 
 /// Looks at the mappings from place `from` on, up to the next one that may be in force for an update of this number. It
@@ -29,10 +29,9 @@ pub(crate) fn look(
     alloc: Global,
     number: u32,
     from: usize,
-    mappings: &MappingList,
+    mappings: &Mappings<'_>,
 ) -> Result<Turn, Memory>
-    requires { length mappings.now.items ≤ 65536 }
-    ensures value { IfOk result (λ turn. (P : Attempt) → P.number ≡ number → turn_tree (map rule_of mappings.now.items) P turn ≡ look_from P from (drop from (map rule_of mappings.now.items))) }
+    ensures value { IfOk result (λ turn. (P : Attempt) → P.number ≡ number → turn_tree mappings.now P turn ≡ look_from P from (drop from mappings.now)) }
     ensures turn { IfOk result (IsTurnOf Look) }
 {
     match next_in_play(number, from, mappings) {
@@ -79,10 +78,9 @@ pub(crate) fn found_force(
     number: u32,
     place: u16,
     answer: &Answer,
-    mappings: &MappingList,
+    mappings: &Mappings<'_>,
 ) -> Result<Turn, Memory>
-    requires { length mappings.now.items ≤ 65536 }
-    ensures value { IfOk result (λ turn. (P : Attempt) → P.number ≡ number → turn_tree (map rule_of mappings.now.items) P turn ≡ goes_on (map rule_of mappings.now.items) P (Forcing place) (reply_of answer.now)) }
+    ensures value { IfOk result (λ turn. (P : Attempt) → P.number ≡ number → turn_tree mappings.now P turn ≡ goes_on mappings.now P (Forcing place) (reply_of answer.now)) }
     ensures turn { IfOk result (IsTurnOf Look) }
 {
     if is_yes(answer) && (place as usize) < mappings.len() {
@@ -100,11 +98,10 @@ pub(crate) fn found_violation(
     fresh: Fresh,
     place: u16,
     answer: &Answer,
-    mappings: &MappingList,
+    mappings: &Mappings<'_>,
 ) -> Result<Turn, Memory>
-    requires within { AreWithin (map rule_of mappings.now.items) }
     requires room { fresh.drawn + 64 < 4294967296 }
-    ensures value { IfOk result (λ turn. (P : Attempt) → IsOf P fresh (operation_of operation.now) → turn_tree (map rule_of mappings.now.items) P turn ≡ goes_on (map rule_of mappings.now.items) P (Violating place) (reply_of answer.now)) }
+    ensures value { IfOk result (λ turn. (P : Attempt) → IsOf P fresh (operation_of operation.now) → turn_tree mappings.now P turn ≡ goes_on mappings.now P (Violating place) (reply_of answer.now)) }
     ensures turn { IfOk result (IsTurnOf Look) }
 {
     match answer {

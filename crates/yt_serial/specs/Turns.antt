@@ -12,12 +12,7 @@ use Rattle.yt_steps.specs.Attempts.{Attempt}
 use Rattle.yt_steps.specs.Steps.{step, moved}
 use Rattle.yt_steps.specs.Chase.{caused, caused_chase}
 use Rattle.yt_steps.specs.Serial.{Request, at_rest}
-use Rattle.yt_program.specs.Courses.{State}
 use Rattle.yt_program.specs.Wishes.{Wish, WishesReply, WishesChoice, WishesNothing, WishesStep, Fits}
-
--- A program whose attempt is between two steps.
-abbrev pub between : Attempt → State
-between P = record { attempt = P; reading = None }
 
 -- What an attempt does next: a step, with this answer where it is at a question; or it rests, at its end or for what is lacking.
 pub data Next : Type 0 where

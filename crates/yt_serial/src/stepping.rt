@@ -8,15 +8,15 @@ ghost use Rattle.yt_model.specs.Updates.{direction_of};
 ghost use Rattle.yt_model.specs.Violations.{Caused};
 ghost use Rattle.yt_base.specs.Meanings.{change_of, choice_of, rule_of};
 ghost use Rattle.yt_steps.specs.Steps.{step};
-ghost use Rattle.yt_program.specs.Conditions.{AreWithin, IsBudget};
-ghost use Rattle.yt_program.specs.Courses.{coming_to, course};
+ghost use Rattle.yt_program.specs.Courses.{between, coming_to, course};
 ghost use Rattle.yt_program.specs.Wishes.{wish};
-ghost use Rattle.yt_serial.specs.Turns.{between, stepped, StepsBy};
+ghost use Rattle.yt_serial.specs.Turns.{stepped, StepsBy};
 
 use std::alloc::Global;
-use yt_base::{Choice, MappingList, Memory, WriteList};
+use yt_base::{Choice, Memory, WriteList};
 use yt_eval::WatchedView;
 use yt_facts::IndexedFacts;
+use yt_limits::{Budget, Mappings};
 use yt_program::{Program, Want};
 
 /// One step of the program over the repository that the view is of, with the answer where it is at a question. The view
@@ -27,17 +27,16 @@ pub(crate) fn step(
     program: &mut Program,
     view: &mut WatchedView<'_, IndexedFacts>,
     choice: Option<&Choice>,
-    mappings: &MappingList,
-    budget: u32,
+    mappings: &Mappings<'_>,
+    budget: Budget,
 ) -> Result<(), Memory>
     requires wanted { StepsBy (wish program.old) (option_map choice_of (option_copied choice)) }
-    requires rules { view.old.rules ≡ map rule_of mappings.now.items }
+    requires rules { view.old.rules ≡ mappings.now }
     requires heading { view.old.heading ≡ direction_of program.old.attempt.operation }
     requires seen { view.old.own ≡ program.old.attempt.own }
     requires sorted { IsRepository view.old.below }
-    requires within { AreWithin (map rule_of mappings.now.items) }
-    requires budget { IsBudget program.old.attempt.steps budget }
-    ensures stepped { OnOk result (program.new ≡ between (stepped (map rule_of mappings.now.items) budget view.old.below program.old.attempt (option_map choice_of (option_copied choice.entry)))) }
+    requires left { program.old.attempt.steps < budget }
+    ensures stepped { OnOk result (program.new ≡ between (stepped mappings.now budget view.old.below program.old.attempt (option_map choice_of (option_copied choice.entry)))) }
     ensures seen { OnOk result (view.new ≡ record { rules = view.old.rules; heading = view.old.heading; below = view.old.below; own = program.new.attempt.own }) }
 {
     let seen = program.own().len();
@@ -51,17 +50,16 @@ fn make(
     program: &mut Program,
     view: &mut WatchedView<'_, IndexedFacts>,
     choice: Option<&Choice>,
-    mappings: &MappingList,
-    budget: u32,
+    mappings: &Mappings<'_>,
+    budget: Budget,
 ) -> Result<(), Memory>
     requires wanted { StepsBy (wish program.old) (option_map choice_of (option_copied choice)) }
-    requires rules { view.old.rules ≡ map rule_of mappings.now.items }
+    requires rules { view.old.rules ≡ mappings.now }
     requires heading { view.old.heading ≡ direction_of program.old.attempt.operation }
     requires seen { view.old.own ≡ program.old.attempt.own }
     requires sorted { IsRepository view.old.below }
-    requires within { AreWithin (map rule_of mappings.now.items) }
-    requires budget { IsBudget program.old.attempt.steps budget }
-    ensures stepped { OnOk result (program.new ≡ between (stepped (map rule_of mappings.now.items) budget view.old.below program.old.attempt (option_map choice_of (option_copied choice.entry)))) }
+    requires left { program.old.attempt.steps < budget }
+    ensures stepped { OnOk result (program.new ≡ between (stepped mappings.now budget view.old.below program.old.attempt (option_map choice_of (option_copied choice.entry)))) }
     ensures same { OnOk result (view.new ≡ view.old) }
 {
     begin(alloc, program, choice, mappings, budget)?;
@@ -87,13 +85,12 @@ fn begin(
     alloc: Global,
     program: &mut Program,
     choice: Option<&Choice>,
-    mappings: &MappingList,
-    budget: u32,
+    mappings: &Mappings<'_>,
+    budget: Budget,
 ) -> Result<(), Memory>
     requires wanted { StepsBy (wish program.old) (option_map choice_of (option_copied choice)) }
-    requires within { AreWithin (map rule_of mappings.now.items) }
-    requires budget { IsBudget program.old.attempt.steps budget }
-    ensures step { OnOk result (course (map rule_of mappings.now.items) program.new ≡ coming_to budget program.old.attempt (step (map rule_of mappings.now.items) program.old.attempt (option_map choice_of (option_copied choice.entry)))) }
+    requires left { program.old.attempt.steps < budget }
+    ensures step { OnOk result (course mappings.now program.new ≡ coming_to budget program.old.attempt (step mappings.now program.old.attempt (option_map choice_of (option_copied choice.entry)))) }
 {
     match choice {
         Some(choice) => program.choose(alloc, choice, mappings, budget),
@@ -106,12 +103,11 @@ fn answer_all(
     alloc: Global,
     program: &mut Program,
     view: &mut WatchedView<'_, IndexedFacts>,
-    mappings: &MappingList,
+    mappings: &Mappings<'_>,
 ) -> Result<(), Memory>
-    requires rules { view.old.rules ≡ map rule_of mappings.now.items }
+    requires rules { view.old.rules ≡ mappings.now }
     requires sorted { IsRepository view.old.below }
-    requires within { AreWithin (map rule_of mappings.now.items) }
-    ensures answered { OnOk result (program.new ≡ between (result_of (λ q. value (map rule_of mappings.now.items) q view.old.below view.old.own (Caused view.old.heading)) (course (map rule_of mappings.now.items) program.old))) }
+    ensures answered { OnOk result (program.new ≡ between (result_of (λ q. value mappings.now q view.old.below view.old.own (Caused view.old.heading)) (course mappings.now program.old))) }
     ensures same { OnOk result (view.new ≡ view.old) }
 {
     'queries: loop {

@@ -7,7 +7,7 @@ use Rattle.yt_program.proofs.looking.look.Goals as goal
 
 pub returns-in-Some-clause-value : goal.returns-in-Some-clause-value
 returns-in-Some-clause-value c =
-    let ms = map rule_of c.args.mappings.now.items in
+    let ms = c.args.mappings.now in
     let k = c.in-Some.place in
     let m = rule_of c.in-Some.mapping.now in
     IfOk-weaker c.look_at.result _ _

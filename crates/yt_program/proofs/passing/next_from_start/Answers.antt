@@ -6,7 +6,7 @@ use Rattle.yt_program.proofs.passing.next_from_start.Goals as goal
 
 pub returns-then-mapping-eq0-clause-look : goal.returns-then-mapping-eq0-clause-look
 returns-then-mapping-eq0-clause-look c =
-    let ms = map rule_of c.args.mappings.now.items in
+    let ms = c.args.mappings.now in
     let k = c.in-Some.place in
     let m = rule_of c.in-Some.mapping.now in
     λ P e. looks_at P ms k m c.if-mapping-eq0.true c.in-Some.ensures.found

@@ -1,5 +1,5 @@
--- How many mappings, existential variables and steps a program can have to do with.
-use Rattle.std.specs.Prelude.{◌≡◌, ℕ, ◌<◌, ◌≤◌, List, Some, length}
+-- The limits of a session's mappings.
+use Rattle.std.specs.Prelude.{◌≡◌, ℕ, ◌≤◌, List, Some, length}
 use Rattle.std.specs.List.{slice_get}
 use Rattle.yt_model.specs.Mappings.{Rule}
 
@@ -7,8 +7,3 @@ use Rattle.yt_model.specs.Mappings.{Rule}
 pub record AreWithin (ms : List Rule) : Type 0 where
   pub count : length ms ≤ 65536
   pub each : (n : ℕ) (m : Rule) → slice_get ms n ≡ Some m → m.existential ≤ 64
-
--- The budget is from 1 to 300, and above the steps made.
-pub record IsBudget (steps B : ℕ) : Type 0 where
-  pub above : steps < B
-  pub most : B ≤ 300
