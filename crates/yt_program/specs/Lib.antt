@@ -8,4 +8,5 @@ pub mod TurnMeanings
 pub mod Views
 pub mod Results
 pub mod Settled
+pub mod Looks
 pub mod Transitions

@@ -2,7 +2,11 @@
 use Rattle.std.specs.Prelude.{◌≡◌, ℕ, Bool, true, is_some, List, Some, None}
 use Rattle.yt_model.specs.Mappings.{Rule}
 use Rattle.yt_model.specs.Queries.{Query, Reply}
-use Rattle.yt_model.specs.Updates.{Operation, Choice}
+use Rattle.yt_model.specs.Updates.{Operation}
+use Rattle.yt_base.specs.declared.updates.Choice.{Choice}
+use Rattle.yt_base.specs.Meanings.{choice_of}
+use Rattle.yt_query.specs.declared.answers.Answer.{Answer}
+use Rattle.yt_query.specs.Meanings.{reply_of}
 use Rattle.yt_steps.specs.Attempts.{Attempt, begun}
 use Rattle.yt_steps.specs.Steps.{step, look_from}
 use Rattle.yt_program.specs.Courses.{State, between, coming_to, course, by_reply}
@@ -17,12 +21,12 @@ abbrev pub HasBegun : List Rule → ℕ → State → State → Type 0
 HasBegun ms B s s' = course ms s' ≡ coming_to B s.attempt (step ms s.attempt None)
 
 -- The step in hand has gone on by the answer to its query.
-abbrev pub HasAnswered : List Rule → Reply → State → State → Type 0
-HasAnswered ms a s s' = course ms s' ≡ by_reply (course ms s) a
+abbrev pub HasAnswered : List Rule → Answer → State → State → Type 0
+HasAnswered ms a s s' = course ms s' ≡ by_reply (course ms s) (reply_of a)
 
 -- The step of the answer to the question has begun, within this budget.
 abbrev pub HasChosen : List Rule → ℕ → Choice → State → State → Type 0
-HasChosen ms B c s s' = course ms s' ≡ coming_to B s.attempt (step ms s.attempt (Some c))
+HasChosen ms B c s s' = course ms s' ≡ coming_to B s.attempt (step ms s.attempt (Some (choice_of c)))
 
 -- A look has begun, within this budget.
 abbrev pub HasLooked : List Rule → ℕ → State → State → Type 0

@@ -3,6 +3,7 @@ ghost use Rattle.std.specs.Prelude.{◌≡◌, map, find, IfOk};
 ghost use Rattle.std.specs.Option.{option_map, option_copied};
 ghost use Rattle.yt_model.specs.Queries.{is_named as is_named_lem};
 ghost use Rattle.yt_model.specs.Values.{under};
+ghost use Rattle.yt_base.specs.Contents.{facts_of};
 ghost use Rattle.yt_base.specs.Meanings.{null_of, datum_of, fact_of};
 ghost use Rattle.yt_query.specs.Meanings.{reply_of};
 ghost use Rattle.yt_steps.specs.Rewriting.{standing_for as standing_for_lem};
@@ -43,7 +44,7 @@ pub(crate) type StandingList = List<Standing>;
 
 /// The tuples of an answer to `Occurs`; None exactly where there are none.
 pub(crate) fn holders(answer: &Answer) -> Option<&TupleList>
-    ensures found { option_map (λ l. map fact_of l.items) (option_copied result) ≡ holders_in (reply_of answer.now) }
+    ensures found { option_map facts_of (option_copied result) ≡ holders_in (reply_of answer.now) }
 {
     match answer {
         Answer::Tuples(tuples) => some_of(tuples),
@@ -56,7 +57,7 @@ pub(crate) fn holders(answer: &Answer) -> Option<&TupleList>
 
 // The tuples, if there are any.
 fn some_of(tuples: &TupleList) -> Option<&TupleList>
-    ensures found { option_map (λ l. map fact_of l.items) (option_copied result) ≡ some_of_lem (map fact_of tuples.now.items) }
+    ensures found { option_map facts_of (option_copied result) ≡ some_of_lem (facts_of tuples.now) }
 {
     if tuples.is_empty() {
         None
@@ -68,7 +69,7 @@ fn some_of(tuples: &TupleList) -> Option<&TupleList>
 /// What the named null stands for: the value of that outer name which stands first in the first of the tuples. It is
 /// the number 0 where none does. It is refused only for want of memory.
 pub(crate) fn standing_for(alloc: Global, name: Null, tuples: &TupleList) -> Result<Value, Memory>
-    ensures value { IfOk result (λ value. datum_of value ≡ standing_for_lem (null_of name) (map fact_of tuples.now.items)) }
+    ensures value { IfOk result (λ value. datum_of value ≡ standing_for_lem (null_of name) (facts_of tuples.now)) }
 {
     match tuples.get(0) {
         Some(tuple) => first_named(alloc, name, tuple.values.as_slice()),

@@ -1,12 +1,12 @@
 //! The mapping that a look comes to next, and a look that goes on to it in place.
-ghost use Rattle.std.specs.Prelude.{◌≡◌, ◌+◌, ◌≤◌, true, false, [], Some, drop, map, length, IfSome, IfNone};
+ghost use Rattle.std.specs.Prelude.{◌≡◌, ◌+◌, ◌≤◌, true, false, Some, IfSome, IfNone};
 ghost use Rattle.std.specs.List.{slice_get};
 ghost use Rattle.yt_model.specs.Queries.{Query as QueryMeant};
 ghost use Rattle.yt_base.specs.Meanings.{rule_of};
 ghost use Rattle.yt_query.specs.Meanings.{reply_of};
-ghost use Rattle.yt_steps.specs.Attempts.{Attempt, Look, Ended, Done};
-ghost use Rattle.yt_steps.specs.Steps.{makes, look_from};
-ghost use Rattle.yt_program.specs.Rows.{Violating, begun_in, row_tree, goes_on};
+ghost use Rattle.yt_steps.specs.Attempts.{Look};
+ghost use Rattle.yt_program.specs.Looks.{AsksNext, EndsFrom, LooksOn, SameLook};
+ghost use Rattle.yt_program.specs.Rows.{Violating, begun_in};
 ghost use Rattle.yt_program.specs.RowMeanings.{row_of};
 ghost use Rattle.yt_program.specs.PointMeanings.{reading_of};
 
@@ -24,7 +24,8 @@ pub(crate) fn looks_on(
     answer: &Answer,
     mappings: &Mappings<'_>,
 ) -> bool
-    ensures goes { result ≡ true → (P : Attempt) → P.number ≡ number → row_tree mappings.now P (reading_of reading.new) ≡ goes_on mappings.now P (reading_of reading.old) (reply_of answer.now) }
+    ensures goes { result ≡ true →
+        LooksOn mappings.now number (reading_of reading.old) (reply_of answer.now) (reading_of reading.new) }
     ensures phase { begun_in (reading_of reading.new) ≡ begun_in (reading_of reading.old) }
     ensures stays { result ≡ false → reading_of reading.new ≡ reading_of reading.old }
 {
@@ -40,7 +41,8 @@ pub(crate) fn looks_on(
 // The place of the mapping that is next in force from the start, where the answer finds no violation at the place of this
 // row, and no mapping between may be in force.
 fn next_looked_at(row: &Row, number: u32, answer: &Answer, mappings: &Mappings<'_>) -> Option<u16>
-    ensures goes { IfSome result (λ next. (q : QueryMeant) (P : Attempt) → P.number ≡ number → row_tree mappings.now P (Violating next) ≡ goes_on mappings.now P (row_of row.now q) (reply_of answer.now)) }
+    ensures goes { IfSome result (λ next.
+        (q : QueryMeant) → LooksOn mappings.now number (row_of row.now q) (reply_of answer.now) (Violating next)) }
     ensures phase { IfSome result (λ next. (q : QueryMeant) → begun_in (row_of row.now q) ≡ Look) }
 {
     match (row, answer) {
@@ -55,7 +57,7 @@ fn next_looked_at(row: &Row, number: u32, answer: &Answer, mappings: &Mappings<'
 /// force from the start.
 pub(crate) fn next_from_start(number: u32, from: usize, mappings: &Mappings<'_>) -> Option<u16>
     ensures after { IfSome result (λ next. from ≤ next) }
-    ensures look { IfSome result (λ next. (P : Attempt) → P.number ≡ number → row_tree mappings.now P (Violating next) ≡ look_from P from (drop from mappings.now)) }
+    ensures look { IfSome result (AsksNext mappings.now number from) }
 {
     match next_in_play(number, from, mappings) {
         Some((place, mapping)) => if mapping.since == 0 {
@@ -74,10 +76,10 @@ pub(crate) fn next_in_play<'a>(
     mappings: &Mappings<'a>,
 ) -> Option<(u16, &'a Mapping)>
     ensures after { IfSome result (λ next. from ≤ next.0) }
-    ensures found { IfSome result (λ next. slice_get mappings.now next.0 ≡ Some (rule_of next.1.now)) }
+    ensures found { IfSome result (λ at. slice_get mappings.now at.0 ≡ Some (rule_of at.1.now)) }
     ensures since { IfSome result (λ next. next.1.now.since ≤ number) }
-    ensures passed { IfSome result (λ next. (P : Attempt) → P.number ≡ number → look_from P next.0 (drop next.0 mappings.now) ≡ look_from P from (drop from mappings.now)) }
-    ensures ends { IfNone result ((P : Attempt) → P.number ≡ number → makes [] (Ended Done) ≡ look_from P from (drop from mappings.now)) }
+    ensures passed { IfSome result (λ at. SameLook mappings.now number at.0 from) }
+    ensures ends { IfNone result (EndsFrom mappings.now number from) }
 {
     for place in from..mappings.len() {
         if let Some(mapping) = in_play(number, place, mappings) {
@@ -89,8 +91,8 @@ pub(crate) fn next_in_play<'a>(
 
 // The mapping at the place, if it may be in force for an update of this number.
 fn in_play<'a>(number: u32, place: usize, mappings: &Mappings<'a>) -> Option<&'a Mapping>
-    ensures passed { IfNone result ((P : Attempt) → P.number ≡ number → look_from P place (drop place mappings.now) ≡ look_from P (place + 1) (drop (place + 1) mappings.now)) }
-    ensures found { IfSome result (λ mapping. slice_get mappings.now place ≡ Some (rule_of mapping.now)) }
+    ensures passed { IfNone result (SameLook mappings.now number place (place + 1)) }
+    ensures found { IfSome result (λ m. slice_get mappings.now place ≡ Some (rule_of m.now)) }
     ensures since { IfSome result (λ mapping. mapping.now.since ≤ number) }
 {
     match mappings.get(place) {

@@ -166,7 +166,7 @@ impl Program {
         mappings: &Mappings<'_>,
     ) -> Result<(), Memory>
         requires kind { TakesAnswer mappings.now (wish self.old) (reply_of answer.now) }
-        ensures step { OnOk result (HasAnswered mappings.now (reply_of answer.now) self.old self.new) }
+        ensures step { OnOk result (HasAnswered mappings.now answer.now self.old self.new) }
         ensures attempt { StaysWhileAsking self.old self.new }
         ensures err { OnErr result (self.new ≡ self.old) }
     {
@@ -179,7 +179,7 @@ impl Program {
     // Goes on in place in a look that finds no violation of a mapping, where the next one that may be in force is so from
     // the start, and says so. Else the program stays as it is.
     fn looks_on(&mut self, answer: &Answer, mappings: &Mappings<'_>) -> bool
-        ensures step { result ≡ true → HasAnswered mappings.now (reply_of answer.now) self.old self.new }
+        ensures step { result ≡ true → HasAnswered mappings.now answer.now self.old self.new }
         ensures attempt { self.new.attempt ≡ self.old.attempt }
         ensures stays { result ≡ false → self.new ≡ self.old }
     {
@@ -200,7 +200,7 @@ impl Program {
         mappings: &Mappings<'_>,
     ) -> Result<(), Memory>
         requires kind { TakesAnswer mappings.now (wish self.old) (reply_of answer.now) }
-        ensures step { OnOk result (HasAnswered mappings.now (reply_of answer.now) self.old self.new) }
+        ensures step { OnOk result (HasAnswered mappings.now answer.now self.old self.new) }
         ensures attempt { StaysWhileAsking self.old self.new }
         ensures err { OnErr result (self.new ≡ self.old) }
     {
@@ -241,7 +241,7 @@ impl Program {
     ) -> Result<(), Memory>
         requires fits { Fits (wish self.old) (choice_of choice.now) }
         requires left { self.old.attempt.steps < budget }
-        ensures step { OnOk result (HasChosen mappings.now budget (choice_of choice.now) self.old self.new) }
+        ensures step { OnOk result (HasChosen mappings.now budget choice.now self.old self.new) }
         ensures attempt { StaysWhileAsking self.old self.new }
         ensures err { OnErr result (self.new ≡ self.old) }
     {

@@ -1,11 +1,8 @@
 //! A look that passes over mappings that are settled.
-ghost use Rattle.std.specs.Prelude.{◌≡◌, ◌≤◌, false, map, length, slice_index_or};
-ghost use Rattle.yt_model.specs.Queries.{Query as QueryMeant, Reply};
-ghost use Rattle.yt_base.specs.Meanings.{rule_of};
-ghost use Rattle.yt_steps.specs.Attempts.{Attempt};
-ghost use Rattle.yt_program.specs.Rows.{Violating, begun_in, row_tree};
+ghost use Rattle.std.specs.Prelude.{◌≡◌, false, slice_index_or};
+ghost use Rattle.yt_program.specs.Looks.{Passes};
+ghost use Rattle.yt_program.specs.Rows.{Violating, begun_in};
 ghost use Rattle.yt_program.specs.PointMeanings.{reading_of};
-ghost use Rattle.yt_program.specs.Settled.{FindsNone, IsShorter};
 ghost use Rattle.yt_program.specs.Transitions.{HasPassed};
 
 use crate::passing::{next_from_start, violation_asked};
@@ -33,7 +30,8 @@ impl Program {
 // Where the first violation of a mapping with a mark is asked for, passes on to the next mapping without a mark, or to
 // the last before one that may be in force, but is not so from the start.
 fn pass(reading: &mut Reading, number: u32, marks: &[bool], mappings: &Mappings<'_>)
-    ensures passed { (val : QueryMeant → Reply) (P : Attempt) → FindsNone val marks.now → P.number ≡ number → IsShorter val (row_tree mappings.now P (reading_of reading.old)) (row_tree mappings.now P (reading_of reading.new)) }
+    ensures passed {
+        Passes mappings.now marks.now number (reading_of reading.old) (reading_of reading.new) }
     ensures phase { begun_in (reading_of reading.new) ≡ begun_in (reading_of reading.old) }
 {
     if let Row::Violating(place) = &reading.row {
@@ -45,7 +43,7 @@ fn pass(reading: &mut Reading, number: u32, marks: &[bool], mappings: &Mappings<
 // The first place from `from` on without a mark, if all mappings up to it that may be in force are so from the start;
 // else the last before one that is not, or before the end.
 fn first_unmarked(from: u16, number: u32, marks: &[bool], mappings: &Mappings<'_>) -> u16
-    ensures passed { (val : QueryMeant → Reply) (P : Attempt) → FindsNone val marks.now → P.number ≡ number → IsShorter val (row_tree mappings.now P (Violating from)) (row_tree mappings.now P (Violating result)) }
+    ensures passed { Passes mappings.now marks.now number (Violating from) (Violating result) }
 {
     let mut place = from;
     'places: while is_marked(marks, place) {

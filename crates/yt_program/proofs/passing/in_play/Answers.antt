@@ -1,6 +1,6 @@
 use Rattle.std.proofs.Common.{◌+◌, arith, sym}
 use Rattle.yt_base.specs.Meanings.{rule_of}
-use Rattle.yt_program.proofs.Looks.{passes_by, passes_end}
+use Rattle.yt_program.proofs.PassedBy.{passes_by, passes_end}
 use Rattle.yt_program.proofs.passing.in_play.Goals as goal
 
 pub returns-else-mapping-number-clause-passed : goal.returns-else-mapping-number-clause-passed

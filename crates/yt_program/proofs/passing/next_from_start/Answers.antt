@@ -1,7 +1,7 @@
 use Rattle.std.proofs.Common.{◌∙◌, suc, arith, ap, map}
 use Rattle.yt_base.specs.Meanings.{rule_of}
 use Rattle.yt_steps.specs.Steps.{look_from}
-use Rattle.yt_program.proofs.Looks.{here, looks_at}
+use Rattle.yt_program.proofs.PassedBy.{here, looks_at}
 use Rattle.yt_program.proofs.passing.next_from_start.Goals as goal
 
 pub returns-then-mapping-eq0-clause-look : goal.returns-then-mapping-eq0-clause-look

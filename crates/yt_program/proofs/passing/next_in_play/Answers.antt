@@ -1,5 +1,5 @@
 use Rattle.std.proofs.Common.{◌∙◌, arith, sym}
-use Rattle.yt_program.proofs.Looks.{looks_past}
+use Rattle.yt_program.proofs.PassedBy.{looks_past}
 use Rattle.yt_program.proofs.passing.next_in_play.Goals as goal
 
 pub loop-place-preserved : goal.loop-place-preserved
