@@ -1,12 +1,10 @@
 //! How a step goes on by the answer to its query.
-ghost use Rattle.std.specs.Prelude.{◌≡◌, map, IfOk, OnErr};
+ghost use Rattle.std.specs.Prelude.{◌≡◌, IfOk, OnErr};
 ghost use Rattle.yt_base.specs.declared.tuples.Tuple.{Tuple};
-ghost use Rattle.yt_base.specs.Meanings.{change_of, rule_of};
 ghost use Rattle.yt_query.specs.Meanings.{reply_of};
-ghost use Rattle.yt_chase.specs.Repairs.{phase_of, is_asking, tree_in};
-ghost use Rattle.yt_chase.specs.Stands.{wanted, TakesReply, branch, settled, stand};
-ghost use Rattle.yt_chase.specs.Meanings.{asks_on};
-ghost use Rattle.yt_chase.specs.Stages.{repairing_of, IsSound};
+ghost use Rattle.yt_chase.specs.Stands.{wanted, TakesReply};
+ghost use Rattle.yt_chase.specs.Stages.{repairing_of, IsSound, SameRepair};
+ghost use Rattle.yt_chase.specs.Transitions.{AsksAs, HasAnswered};
 
 use crate::answers::{is_yes, tuples_of};
 use crate::comparing::compared;
@@ -31,11 +29,13 @@ pub(crate) fn answered(
     mappings: &Mappings<'_>,
 ) -> Result<Progress, Memory>
     requires fits { IsSound generation.old stage.old }
-    requires reply { TakesReply mappings.now (wanted (repairing_of generation.old stage.old)) (reply_of answer.now) }
-    ensures step { IfOk result (λ progress. stand mappings.now (asks_on progress) (map change_of own.new.items) (repairing_of generation.new stage.new) ≡ settled (map change_of own.old.items) (phase_of (repairing_of generation.old stage.old)) (branch (tree_in mappings.now (repairing_of generation.old stage.old)) (reply_of answer.now))) }
-    ensures asks { IfOk result (λ progress. is_asking (repairing_of generation.new stage.new) ≡ asks_on progress) }
+    requires reply { TakesReply mappings.now
+        (wanted (repairing_of generation.old stage.old)) (reply_of answer.now) }
+    ensures step { IfOk result (HasAnswered mappings.now answer.now
+        own.old (repairing_of generation.old stage.old) own.new (repairing_of generation.new stage.new)) }
+    ensures asks { IfOk result (AsksAs (repairing_of generation.new stage.new)) }
     ensures sound { IsSound generation.new stage.new }
-    ensures err { OnErr result (repairing_of generation.new stage.new ≡ repairing_of generation.old stage.old) }
+    ensures err { OnErr result (SameRepair generation.old stage.old generation.new stage.new) }
     ensures own { OnErr result (own.new.items ≡ own.old.items) }
 {
     match stage {

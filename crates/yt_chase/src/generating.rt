@@ -1,7 +1,8 @@
 //! The right atoms of a repair in hand: the tuple that is generated for one, and which one comes next.
 ghost use Rattle.std.specs.Prelude.{◌≡◌, false, pos, map, slice_get, IfOk};
 ghost use Rattle.yt_model.specs.Mappings.{value_under, fact_under, listed as listed_lem};
-ghost use Rattle.yt_base.specs.Meanings.{datum_of, fact_of, slot_of, pattern_of, rule_of};
+ghost use Rattle.yt_base.specs.Contents.{data_of};
+ghost use Rattle.yt_base.specs.Meanings.{datum_of, fact_of, slot_of, pattern_of};
 ghost use Rattle.yt_steps.specs.Rewriting.{right_atoms as right_atoms_lem, generated as generated_lem, next_atom};
 ghost use Rattle.yt_chase.specs.Repairs.{phase_of, is_asking};
 ghost use Rattle.yt_chase.specs.Stages.{repair_of, repairing_of, IsSound};
@@ -55,7 +56,8 @@ fn right_atoms<'a>(mappings: &Mappings<'a>, number: u16) -> &'a [Atom]
 
 // The tuple that the atom is under the values.
 fn tuple_under(alloc: Global, binding: &Row, atom: &Atom) -> Result<Tuple, Memory>
-    ensures value { IfOk result (λ tuple. fact_of tuple ≡ fact_under (listed_lem (map datum_of binding.now.items)) (pattern_of atom.now)) }
+    ensures value { IfOk result (λ tuple.
+        fact_of tuple ≡ fact_under (listed_lem (data_of binding.now)) (pattern_of atom.now)) }
 {
     Ok(Tuple {
         relation: atom.relation,
@@ -65,7 +67,8 @@ fn tuple_under(alloc: Global, binding: &Row, atom: &Atom) -> Result<Tuple, Memor
 
 // The values of the terms under the values of the variables.
 fn values_under(alloc: Global, binding: &Row, terms: &TermRow) -> Result<Row, Memory>
-    ensures value { IfOk result (λ values. map datum_of values.items ≡ map (value_under (listed_lem (map datum_of binding.now.items))) (map slot_of terms.now.items)) }
+    ensures value { IfOk result (λ values.
+        data_of values ≡ map (value_under (listed_lem (data_of binding.now))) (map slot_of terms.now.items)) }
 {
     let mut values = List::new(alloc);
     values.reserve(terms.len())?;
@@ -77,7 +80,8 @@ fn values_under(alloc: Global, binding: &Row, terms: &TermRow) -> Result<Row, Me
 
 // The value of the term; the number 0 for a variable that has none.
 fn value_of(alloc: Global, binding: &Row, term: &Term) -> Result<Value, Memory>
-    ensures value { IfOk result (λ value. datum_of value ≡ value_under (listed_lem (map datum_of binding.now.items)) (slot_of term.now)) }
+    ensures value { IfOk result (λ value.
+        datum_of value ≡ value_under (listed_lem (data_of binding.now)) (slot_of term.now)) }
 {
     match term {
         Term::Const(value) => value.copy(alloc),

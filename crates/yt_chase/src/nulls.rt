@@ -4,7 +4,7 @@ ghost use Rattle.std.specs.List.{list_any};
 ghost use Rattle.yt_base.specs.Meanings.{null_of, datum_of, fact_of};
 ghost use Rattle.yt_base.specs.Maps.{images_of, moved_by};
 ghost use Rattle.yt_steps.specs.Rewriting.{nulls_in as nulls_in_lem, same_null, sorted_nulls};
-ghost use Rattle.yt_chase.specs.Nulls.{with_null, with_null_of, moves as moves_lem};
+ghost use Rattle.yt_chase.specs.Nulls.{with_null, with_null_of, moved_among as moved_among_lem, moves as moves_lem};
 
 use crate::ordering::listed;
 use std::alloc::Global;
@@ -24,7 +24,8 @@ pub fn nulls_in(alloc: Global, values: &[Value]) -> Result<List<Null>, Memory>
 
 /// The nulls of the tuple that the substitution moves, in their order. It is refused only for want of memory.
 pub(crate) fn moved_nulls(alloc: Global, sub: &Sub, tuple: &Tuple) -> Result<List<Null>, Memory>
-    ensures value { IfOk result (λ nulls. map null_of nulls.items ≡ filter (moves_lem (moved_by (images_of sub.now))) (sorted_nulls (nulls_in_lem (fact_of tuple.now).values))) }
+    ensures value { IfOk result (λ nulls.
+        map null_of nulls.items ≡ moved_among_lem sub.now (sorted_nulls (nulls_in_lem (fact_of tuple.now).values))) }
 {
     let all = nulls_in(alloc, tuple.values.as_slice())?;
     let sorted = listed(alloc, sorted(alloc, all.as_slice())?)?;
@@ -75,7 +76,8 @@ fn sorted(alloc: Global, nulls: &[Null]) -> Result<BTreeSet<Null>, Memory>
 
 // Those of the nulls that the substitution moves.
 fn moved_among(alloc: Global, sub: &Sub, nulls: &[Null]) -> Result<List<Null>, Memory>
-    ensures value { IfOk result (λ moved. map null_of moved.items ≡ filter (moves_lem (moved_by (images_of sub.now))) (map null_of nulls.now)) }
+    ensures value { IfOk result (λ moved.
+        map null_of moved.items ≡ moved_among_lem sub.now (map null_of nulls.now)) }
 {
     let mut moved = List::new(alloc);
     for null in nulls {

@@ -98,7 +98,7 @@ pub(crate) fn found_violation(
     mappings: &Mappings<'_>,
 ) -> Result<Turn, Memory>
     requires room { fresh.drawn + 64 < 4294967296 }
-    ensures value { IfOk result 
+    ensures value { IfOk result
         (HasGoneOnAs mappings.now fresh (operation_of operation.now) (Violating place) (reply_of answer.now)) }
     ensures turn { IfOk result (IsTurnOf Look) }
 {
@@ -125,7 +125,7 @@ fn repair(
 ) -> Result<Turn, Memory>
     requires few { (rule_of mapping.now).existential ≤ 64 }
     requires room { fresh.drawn + 64 < 4294967296 }
-    ensures value { IfOk result 
+    ensures value { IfOk result
         (Repairs fresh (heading_of direction) place (rule_of mapping.now) (facts_of image.now)) }
     ensures turn { IfOk result (IsTurnOf Look) }
 {

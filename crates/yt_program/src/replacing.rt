@@ -29,7 +29,7 @@ pub(crate) fn found_replaced(
     answer: &Answer,
 ) -> Result<Turn, Memory>
     requires { (ms : List Rule) → IsOfKind ms (Occurs name.update name.place) (reply_of answer.now) }
-    ensures value { IfOk result 
+    ensures value { IfOk result
         (HasGoneOnFor (operation_of operation.now) (Replacing (null_of name)) (reply_of answer.now)) }
     ensures turn { IfOk result (IsTurnOf Start) }
 {
@@ -50,7 +50,7 @@ fn replaced(
     null: Null,
     tuples: &TupleList,
 ) -> Result<Turn, Memory>
-    ensures value { IfOk result 
+    ensures value { IfOk result
         (Replaces (operation_of operation.now) (Unknown (null_of null)) (facts_of tuples.now)) }
     ensures turn { IfOk result (IsTurnOf Start) }
 {
@@ -82,7 +82,7 @@ pub(crate) fn found_replacement(
     tuples: &TupleList,
     answer: &Answer,
 ) -> Result<Turn, Memory>
-    ensures value { IfOk result 
+    ensures value { IfOk result
         (HasGoneOn (renaming name null tuples.now) (reply_of answer.now)) }
     ensures turn { IfOk result (IsTurnOf Start) }
 {
@@ -97,7 +97,7 @@ pub(crate) fn found_replacement(
 
 // Rewrites the tuples with the value in place of the null.
 fn rewritten(alloc: Global, null: Null, value: Value, tuples: &TupleList) -> Result<Turn, Memory>
-    ensures value { IfOk result 
+    ensures value { IfOk result
         (AlwaysComesTo (rewriting (Unknown (null_of null)) (datum_of value) (facts_of tuples.now))) }
     ensures turn { IfOk result (IsTurnOf Start) }
 {

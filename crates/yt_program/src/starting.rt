@@ -22,7 +22,7 @@ use yt_query::{Answer, Query};
 
 /// Begins the step of the operation. It is refused only for want of memory.
 pub(crate) fn start(alloc: Global, operation: &Operation) -> Result<Turn, Memory>
-    ensures value { IfOk result 
+    ensures value { IfOk result
         (ComesTo (operation_of operation.now) (start_lem (operation_of operation.now))) }
     ensures turn { IfOk result (IsTurnOf Start) }
 {
@@ -42,7 +42,7 @@ pub(crate) fn start(alloc: Global, operation: &Operation) -> Result<Turn, Memory
 
 // Begins to look up the named nulls of the operation's tuple.
 fn look_up(alloc: Global, operation: &Operation, tuple: &Tuple) -> Result<Turn, Memory>
-    ensures value { IfOk result 
+    ensures value { IfOk result
         (LooksUp (operation_of operation.now) [] (nulls_in_lem (fact_of tuple.now).values)) }
     ensures turn { IfOk result (IsTurnOf Start) }
 {
@@ -71,7 +71,7 @@ fn next_name(
     names: NullList,
     next: usize,
 ) -> Result<Turn, Memory>
-    ensures value { IfOk result 
+    ensures value { IfOk result
         (LooksUp (operation_of operation.now) (map standing_of found.items) (map null_of (drop next names.items))) }
     ensures turn { IfOk result (IsTurnOf Start) }
 {
@@ -94,7 +94,7 @@ fn next_name(
 
 // Asks whether the operation's tuple, with the named nulls resolved, is there.
 fn present(alloc: Global, operation: &Operation, found: &[Standing]) -> Result<Turn, Memory>
-    ensures value { IfOk result 
+    ensures value { IfOk result
         (AsksPresent (operation_of operation.now) (map standing_of found.now)) }
     ensures turn { IfOk result (IsTurnOf Start) }
 {
@@ -124,7 +124,7 @@ pub(crate) fn found_name(
     naming: &Naming,
     answer: &Answer,
 ) -> Result<Turn, Memory>
-    ensures value { IfOk result 
+    ensures value { IfOk result
         (HasGoneOnFor (operation_of operation.now) (naming_of naming.now) (reply_of answer.now)) }
     ensures turn { IfOk result (IsTurnOf Start) }
 {
@@ -142,7 +142,7 @@ pub(crate) fn found_name(
 // The pairs found before, and that of the named null with the value.
 fn with_standing(alloc: Global, naming: &Naming, value: Value) -> Result<StandingList, Memory>
     ensures value { IfOk result (λ found.
-        map standing_of found.items ≡ found_with naming.now (datum_of value))  }
+        map standing_of found.items ≡ found_with naming.now (datum_of value)) }
 {
     let mut found = naming.found.copy(alloc)?;
     found.push(Standing {

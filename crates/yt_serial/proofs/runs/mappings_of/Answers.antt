@@ -12,7 +12,7 @@ of-requires c =
     record {
       within =
           subst AreWithin (map-map (λ (m : SessionMapping). m.rule) session_mapping_of c.args.session.now.mappings.items)
-          (session_within (session_of c.args.session.now) c.requires.valid)
+          (session_within (session_of c.args.session.now) c.requires.valid);
     }
 
 pub returns : goal.returns
