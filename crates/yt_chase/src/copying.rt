@@ -1,5 +1,5 @@
 //! Copies of a repair.
-ghost use Rattle.std.specs.Prelude.{◌≡◌, map, IfOk};
+ghost use Rattle.std.specs.Prelude.{◌≡◌, IfOk};
 ghost use Rattle.yt_steps.specs.Attempts.{Repair as RepairMeant};
 ghost use Rattle.yt_chase.specs.Repairs.{Gathering as GatheringMeant};
 ghost use Rattle.yt_chase.specs.Stages.{repair_of, gathering_of, repairing_of, IsSound};

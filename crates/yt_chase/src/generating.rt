@@ -1,5 +1,5 @@
 //! The right atoms of a repair in hand: the tuple that is generated for one, and which one comes next.
-ghost use Rattle.std.specs.Prelude.{◌≡◌, false, pos, map, slice_get, IfOk};
+ghost use Rattle.std.specs.Prelude.{◌≡◌, false, map, slice_get, IfOk};
 ghost use Rattle.yt_model.specs.Mappings.{value_under, fact_under, listed as listed_lem};
 ghost use Rattle.yt_base.specs.Contents.{data_of};
 ghost use Rattle.yt_base.specs.Meanings.{datum_of, fact_of, slot_of, pattern_of};

@@ -1,5 +1,5 @@
 //! The nulls of tuples, and those that a substitution moves.
-ghost use Rattle.std.specs.Prelude.{◌≡◌, map, filter, IfOk, OnOk};
+ghost use Rattle.std.specs.Prelude.{◌≡◌, map, IfOk, OnOk};
 ghost use Rattle.std.specs.List.{list_any};
 ghost use Rattle.yt_base.specs.Meanings.{null_of, datum_of, fact_of};
 ghost use Rattle.yt_base.specs.Maps.{images_of, moved_by};

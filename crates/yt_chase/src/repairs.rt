@@ -1,5 +1,5 @@
 //! The repair of one violation, which asks queries and questions and takes their answers.
-ghost use Rattle.std.specs.Prelude.{◌≡◌, ◌+◌, ◌<◌, ◌^◌, true, false, Some, List, Option, map, IfOk, OnOk, OnErr};
+ghost use Rattle.std.specs.Prelude.{◌≡◌, ◌+◌, ◌<◌, ◌^◌, true, false, List, IfOk, OnOk, OnErr};
 ghost use Rattle.yt_model.specs.Mappings.{Rule};
 ghost use Rattle.yt_base.specs.Contents.{facts_of};
 ghost use Rattle.yt_base.specs.Meanings.{choice_of, rule_of};

@@ -1,6 +1,5 @@
 //! The step of an answer `Unify`: the tuples that hold the nulls which move, and their rewriting by the unifier.
 ghost use Rattle.std.specs.Prelude.{◌≡◌, ◌<◌, ◌++◌, false, length, map, IfOk, OnOk, OnErr};
-ghost use Rattle.std.specs.List.{flat_map};
 ghost use Rattle.yt_base.specs.Contents.{changes_of, facts_of};
 ghost use Rattle.yt_base.specs.Meanings.{fact_of};
 ghost use Rattle.yt_base.specs.Maps.{images_of, moved_by};

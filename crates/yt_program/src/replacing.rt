@@ -1,5 +1,5 @@
 //! The step of a replacement: the tuples that hold the null are rewritten.
-ghost use Rattle.std.specs.Prelude.{◌≡◌, List, IfOk};
+ghost use Rattle.std.specs.Prelude.{List, IfOk};
 ghost use Rattle.yt_model.specs.Values.{Unknown};
 ghost use Rattle.yt_model.specs.Mappings.{Rule};
 ghost use Rattle.yt_model.specs.Queries.{Occurs};

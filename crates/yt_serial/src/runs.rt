@@ -1,15 +1,13 @@
 //! The serial run of a session: its updates taken whole in turn, up to the first that stops.
-ghost use Rattle.std.specs.Prelude.{◌≡◌, ◌≤◌, ◌+◌, ℕ, List, [], ◌∷◌, map, length, None, IfOk, OnOk};
-ghost use Rattle.std.specs.Option.{option_map};
+ghost use Rattle.std.specs.Prelude.{◌≡◌, ◌≤◌, ◌+◌, length, None, IfOk, OnOk};
 ghost use Rattle.yt_grammar.specs.Checks.{rules_of};
 ghost use Rattle.yt_grammar.specs.Validity.{IsSession};
 ghost use Rattle.yt_model.specs.Repository.{IsRepository};
-ghost use Rattle.yt_program.specs.Results.{finish_of, result_of, stop_of};
+ghost use Rattle.yt_program.specs.Results.{result_of};
 ghost use Rattle.yt_session.specs.Base.{base_violation};
-ghost use Rattle.yt_session.specs.Meanings.{request_of, session_of, update_of};
-ghost use Rattle.yt_steps.specs.Serial.{Request};
-ghost use Rattle.yt_serial.specs.Meanings.{IsSerialRun};
-ghost use Rattle.yt_serial.specs.Runs.{behind, told_after, told_at, told_from};
+ghost use Rattle.yt_session.specs.Meanings.{session_of};
+ghost use Rattle.yt_serial.specs.Meanings.{HasTaken, HasTakenAll, IsSerialRun, requests_of};
+ghost use Rattle.yt_serial.specs.Runs.{told_from};
 
 use crate::endings::{end, stop};
 use crate::repositories::told;
@@ -82,7 +80,8 @@ fn run(
 ) -> Result<SessionResult, Memory>
     requires sorted { IsRepository base }
     requires few { length updates.now ≤ 1000 }
-    ensures told { IfOk result (λ told. result_of told ≡ told_from mappings.now budget base 1 (map request_of (map update_of updates.now))) }
+    ensures told { IfOk result (λ told.
+        result_of told ≡ told_from mappings.now budget base 1 (requests_of updates.now)) }
 {
     let mut finishes = FinishList::new(alloc);
     let mut facts = base;
@@ -107,7 +106,8 @@ fn take_all(
 ) -> Result<Option<Stop>, Memory>
     requires sorted { IsRepository facts.old }
     requires few { length updates.now ≤ 1000 }
-    ensures told { IfOk result (λ stop. behind (map finish_of finishes.old.items) (told_from mappings.now budget facts.old 1 (map request_of (map update_of updates.now))) ≡ told_at (map finish_of finishes.new.items) (option_map stop_of stop) facts.new) }
+    ensures told { IfOk result (HasTakenAll mappings.now budget updates.now
+        finishes.old facts.old finishes.new facts.new) }
 {
     let mut number = 1;
     for update in updates {
@@ -132,7 +132,8 @@ fn turn(
 ) -> Result<Option<Stop>, Memory>
     requires sorted { IsRepository facts.old }
     ensures sorted { OnOk result (IsRepository facts.new) }
-    ensures told { IfOk result (λ stop. (rs : List Request) → behind (map finish_of finishes.old.items) (told_from mappings.now budget facts.old number (request_of (update_of update.now) ∷ rs)) ≡ behind (map finish_of finishes.new.items) (told_after mappings.now budget facts.new (number + 1) rs (option_map stop_of stop))) }
+    ensures told { IfOk result (HasTaken mappings.now budget number update.now
+        finishes.old facts.old finishes.new facts.new) }
 {
     let rest = take_whole(alloc, number, update, facts, mappings, budget)?;
     match rest.lack {

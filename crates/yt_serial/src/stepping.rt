@@ -1,16 +1,13 @@
 //! One step of a program over the repository below it.
-ghost use Rattle.std.specs.Prelude.{◌≡◌, ◌≤◌, length, map, take, OnOk};
+ghost use Rattle.std.specs.Prelude.{◌≡◌, ◌≤◌, length, take, OnOk};
 ghost use Rattle.std.specs.Option.{option_map, option_copied};
-ghost use Rattle.yt_machine.specs.Trees.{result_of};
-ghost use Rattle.yt_model.specs.Queries.{value};
 ghost use Rattle.yt_model.specs.Repository.{IsRepository};
 ghost use Rattle.yt_model.specs.Updates.{direction_of};
-ghost use Rattle.yt_model.specs.Violations.{Caused};
-ghost use Rattle.yt_base.specs.Meanings.{change_of, choice_of, rule_of};
+ghost use Rattle.yt_base.specs.Meanings.{choice_of};
 ghost use Rattle.yt_steps.specs.Steps.{step};
-ghost use Rattle.yt_program.specs.Courses.{between, coming_to, course};
 ghost use Rattle.yt_program.specs.Wishes.{wish};
-ghost use Rattle.yt_serial.specs.Turns.{stepped, StepsBy};
+ghost use Rattle.yt_serial.specs.Turns.{StepsBy, HasBegunBy, HasStepped, ended_in, seen_with};
+ghost use Rattle.yt_base.specs.Contents.{changes_of};
 
 use std::alloc::Global;
 use yt_base::{Choice, Memory, WriteList};
@@ -36,8 +33,9 @@ pub(crate) fn step(
     requires seen { view.old.own ≡ program.old.attempt.own }
     requires sorted { IsRepository view.old.below }
     requires left { program.old.attempt.steps < budget }
-    ensures stepped { OnOk result (program.new ≡ between (stepped mappings.now budget view.old.below program.old.attempt (option_map choice_of (option_copied choice.entry)))) }
-    ensures seen { OnOk result (view.new ≡ record { rules = view.old.rules; heading = view.old.heading; below = view.old.below; own = program.new.attempt.own }) }
+    ensures stepped { OnOk result (HasStepped mappings.now budget view.old.below
+        (option_map choice_of (option_copied choice.entry)) program.old program.new) }
+    ensures seen { OnOk result (view.new ≡ seen_with view.old program.new.attempt.own) }
 {
     let seen = program.own().len();
     make(alloc, program, view, choice, mappings, budget)?;
@@ -59,7 +57,8 @@ fn make(
     requires seen { view.old.own ≡ program.old.attempt.own }
     requires sorted { IsRepository view.old.below }
     requires left { program.old.attempt.steps < budget }
-    ensures stepped { OnOk result (program.new ≡ between (stepped mappings.now budget view.old.below program.old.attempt (option_map choice_of (option_copied choice.entry)))) }
+    ensures stepped { OnOk result (HasStepped mappings.now budget view.old.below
+        (option_map choice_of (option_copied choice.entry)) program.old program.new) }
     ensures same { OnOk result (view.new ≡ view.old) }
 {
     begin(alloc, program, choice, mappings, budget)?;
@@ -74,8 +73,8 @@ fn see_all(
     seen: usize,
 ) -> Result<(), Memory>
     requires some { seen ≤ length own.now.items }
-    requires first { take seen (map change_of own.now.items) ≡ view.old.own }
-    ensures seen { OnOk result (view.new ≡ record { rules = view.old.rules; heading = view.old.heading; below = view.old.below; own = map change_of own.now.items }) }
+    requires first { take seen (changes_of own.now) ≡ view.old.own }
+    ensures seen { OnOk result (view.new ≡ seen_with view.old (changes_of own.now)) }
 {
     view.write_all(alloc, &own.as_slice()[seen..])
 }
@@ -90,7 +89,8 @@ fn begin(
 ) -> Result<(), Memory>
     requires wanted { StepsBy (wish program.old) (option_map choice_of (option_copied choice)) }
     requires left { program.old.attempt.steps < budget }
-    ensures step { OnOk result (course mappings.now program.new ≡ coming_to budget program.old.attempt (step mappings.now program.old.attempt (option_map choice_of (option_copied choice.entry)))) }
+    ensures step { OnOk result (HasBegunBy mappings.now budget
+        (option_map choice_of (option_copied choice.entry)) program.old program.new) }
 {
     match choice {
         Some(choice) => program.choose(alloc, choice, mappings, budget),
@@ -107,7 +107,7 @@ fn answer_all(
 ) -> Result<(), Memory>
     requires rules { view.old.rules ≡ mappings.now }
     requires sorted { IsRepository view.old.below }
-    ensures answered { OnOk result (program.new ≡ between (result_of (λ q. value mappings.now q view.old.below view.old.own (Caused view.old.heading)) (course mappings.now program.old))) }
+    ensures answered { OnOk result (program.new ≡ ended_in mappings.now view.old program.old) }
     ensures same { OnOk result (view.new ≡ view.old) }
 {
     'queries: loop {
