@@ -62,6 +62,3 @@ pub use crate::updates::{
 };
 pub use crate::values::Value;
 pub use yt_memory::Memory;
-
-#[cfg(test)]
-mod tests;

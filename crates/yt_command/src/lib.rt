@@ -13,6 +13,3 @@ pub use outputs::{Command, Ending, Output, Refusal};
 pub use performing::{INPUT_LIMIT, deliver, fail, perform, perform_alone};
 pub use statuses::Status;
 pub use yt_memory::Memory;
-
-#[cfg(test)]
-mod tests;

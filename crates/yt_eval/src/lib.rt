@@ -15,6 +15,3 @@ mod watched;
 pub use crate::values::{eval, eval_all};
 pub use crate::view::View;
 pub use crate::watched::WatchedView;
-
-#[cfg(test)]
-mod tests;

@@ -12,6 +12,3 @@ mod scanned;
 pub use crate::indexed::IndexedFacts;
 pub use crate::overlay::Overlay;
 pub use crate::plain::PlainFacts;
-
-#[cfg(test)]
-mod tests;

@@ -16,6 +16,3 @@ pub use crate::raw::{RawChoice, RawOperation, RawStatement, Section};
 pub use crate::statements::{statement_at, whole_fact};
 pub use crate::words::{Quoted, RawFact, RawFactList, RawMapping, Word};
 pub use yt_grammar::Wanted;
-
-#[cfg(test)]
-mod tests;

@@ -8,6 +8,3 @@ pub mod questions;
 pub use crate::named::{candidate, is_named, named_tuples};
 pub use crate::outer_forms::{has_outer_form, is_outer_form};
 pub use crate::questions::{Question, fits};
-
-#[cfg(test)]
-mod tests;

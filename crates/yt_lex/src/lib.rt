@@ -106,6 +106,3 @@ impl<T: Drop> From<AllocFailed<T>> for LexRefusal {
         LexRefusal::Memory
     }
 }
-
-#[cfg(test)]
-mod tests;

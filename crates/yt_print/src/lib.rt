@@ -14,6 +14,3 @@ mod worded;
 pub use crate::choices::with_choice;
 pub use crate::sessions::{print_session, print_upgraded};
 pub use crate::worded::{Worded, with_separated};
-
-#[cfg(test)]
-mod tests;

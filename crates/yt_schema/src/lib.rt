@@ -28,6 +28,3 @@ pub use crate::schema::Schema;
 pub use crate::statements::{print_mapping, with_mapping};
 pub use crate::written::{RawAtom, RawAtomList, RawAtoms, RawTerm, RawTermList};
 pub use yt_grammar::Which;
-
-#[cfg(test)]
-mod tests;

@@ -10,6 +10,3 @@ mod sessions;
 
 pub use crate::laws::{base_holds, sessions_suit_the_chase};
 pub use crate::sessions::{Session, SessionUpdate, SessionUpdates};
-
-#[cfg(test)]
-mod tests;

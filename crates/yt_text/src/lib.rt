@@ -16,6 +16,3 @@ pub use mem_sink::MemSink;
 pub use mem_source::MemSource;
 pub use whole::{ReadRefusal, WriteFault, read_all, write_all};
 pub use yt_memory::Memory;
-
-#[cfg(test)]
-mod tests;

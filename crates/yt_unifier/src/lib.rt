@@ -19,6 +19,3 @@ pub use crate::applying::{apply, apply_row};
 pub use crate::finding::candidates;
 pub use crate::specific::{is_more_specific, specific_by};
 pub use crate::unifying::unifier;
-
-#[cfg(test)]
-mod tests;

@@ -11,6 +11,3 @@ pub use help::{HELP, VERSION_LINE};
 pub use laws::{words_are_answered_or_refused, words_have_one_fault};
 pub use names::{CommandName, Deps};
 pub use reading::{Options, Request, WordsRefusal, read_words};
-
-#[cfg(test)]
-mod tests;
