@@ -1,12 +1,12 @@
 //! The result text, and the text of a question.
 
-ghost use Rattle.std.specs.Prelude.{◌≡◌, pos, [], ◌∷◌, IfOk, codes};
+ghost use Rattle.std.specs.Prelude.{◌≡◌, IfOk};
 ghost use Rattle.yt_frontier.specs.Inquiries.{inquiry_of};
 ghost use Rattle.yt_grammar.specs.Words as word_of;
-ghost use Rattle.yt_print.specs.Lines.{with_line};
 ghost use Rattle.yt_program.specs.Results.{result_of, stop_of};
 ghost use Rattle.yt_session.specs.Meanings.{session_of};
-ghost use Rattle.yt_report.specs.Results.{lines_text, question_lines as lines_of_question, question_text, result_text};
+ghost use Rattle.yt_report.specs.Results.{lines_text, question_lines as lines_of_question, question_text, result_text, title_words};
+ghost use Rattle.yt_report.specs.Pages.{HasLine};
 
 use crate::finishes::with_finishes;
 use crate::questions::{with_question, with_stop, with_stop_in};
@@ -19,7 +19,7 @@ use yt_schema::Page;
 use yt_session::Session;
 
 fn with_title(page: Page) -> Result<Page, Memory>
-    ensures { IfOk result (λ p. p ≡ with_line page (word_of.name (codes "youtopia") ∷ word_of.name (codes "result") ∷ word_of.number (pos 1) ∷ [])) }
+    ensures { IfOk result (HasLine page title_words) }
 {
     page.name(b"youtopia")?
         .name(b"result")?
@@ -62,7 +62,8 @@ pub fn question_lines(
     session: &Session,
     question: &Question,
 ) -> Result<Vec<u8>, Memory>
-    ensures text { IfOk result (λ text. text.items ≡ lines_text (lines_of_question (session_of session.now) (inquiry_of question.now))) }
+    ensures text { IfOk result (λ text.
+        text.items ≡ lines_text (lines_of_question (session_of session.now) (inquiry_of question.now))) }
 {
     let page = with_question(Page::new(alloc), session, question)?;
     Ok(page.into_text())

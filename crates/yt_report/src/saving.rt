@@ -8,6 +8,7 @@ ghost use Rattle.yt_program.specs.Results.{finish_of, result_of};
 ghost use Rattle.yt_report.specs.Saved.{from_start, is_done_in, is_too_large, saved, saved_mappings, stays_in_force};
 ghost use Rattle.yt_report.specs.Refusals.{Refuses};
 ghost use Rattle.yt_report.specs.declared.saving.SaveRefusal.TheVariants.{Memory as WantOfMemory};
+ghost use Rattle.yt_report.specs.Pages.{mappings_of};
 
 use crate::renaming::saved_base;
 use std::alloc::Global;
@@ -76,7 +77,8 @@ fn keep(
     finishes: &[Finish],
     mapping: &Mapping,
 ) -> Result<(), Memory>
-    ensures { OnOk result (map session_mapping_of kept.new.items ≡ map session_mapping_of kept.old.items ++ saved_mappings (map finish_of finishes.now) (session_mapping_of mapping.now ∷ [])) }
+    ensures { OnOk result (mappings_of kept.new ≡ mappings_of kept.old ++
+        saved_mappings (map finish_of finishes.now) (session_mapping_of mapping.now ∷ [])) }
 {
     if !stays_in_force(finishes, mapping) {
         return Ok(());
@@ -90,7 +92,8 @@ fn saved_mappings(
     finishes: &[Finish],
     mappings: &[Mapping],
 ) -> Result<MappingList, Memory>
-    ensures { IfOk result (λ kept. map session_mapping_of kept.items ≡ saved_mappings (map finish_of finishes.now) (map session_mapping_of mappings.now)) }
+    ensures { IfOk result (λ kept.
+        mappings_of kept ≡ saved_mappings (map finish_of finishes.now) (map session_mapping_of mappings.now)) }
 {
     let mut kept = List::new(alloc);
     for mapping in mappings {
