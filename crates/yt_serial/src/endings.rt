@@ -1,5 +1,5 @@
 //! What is told of an update that has come to rest.
-ghost use Rattle.std.specs.Prelude.{◌≡◌, [], ◌∷◌, true, map, is_some, None, Some, IfOk, OnOk};
+ghost use Rattle.std.specs.Prelude.{◌≡◌, ℕ, [], ◌∷◌, true, map, is_some, None, Some, IfOk, OnOk};
 ghost use Rattle.std.specs.Option.{option_map};
 ghost use Rattle.yt_steps.specs.Attempts.{question_in, outcome_in};
 ghost use Rattle.yt_steps.specs.Serial.{finished, stopped};
