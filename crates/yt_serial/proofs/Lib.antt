@@ -1,5 +1,4 @@
 pub mod Answered
 pub mod Running
-pub mod Telling
 pub mod Limits
 pub mod Onward
