@@ -1,11 +1,10 @@
 #!/usr/bin/env python3
-"""Checks docs/PROOFS.md against the contracts: each crate has a section, each item of a section cites a contract, and
-each contract that is cited is there.
-
-With the word `uncited` it tells instead the laws (public functions without arguments) that no item cites.
+"""Checks docs/PROOFS.md against the contracts: each item of a section on a crate cites a contract, and each contract that
+is cited is there. With the word `uncited` it tells instead the crates that have no section, and the laws (public functions
+without arguments) that no item cites.
 
 A citation is `function`, `function: clause, ..`, `Type::function: clause, ..`, or `Type: word, ..` for what a type says
-of itself, of the crate that the section is on; `crate::` in front names another one. `File.name` is a definition in specs/.
+of itself, of the crate that the section is on; `crate::` in front names another one. `File.name` or `name` may be a definition.
 """
 import re
 import sys
@@ -23,12 +22,14 @@ MEMBER = re.compile(r"^\s+ghost (\w+)\s*[:=]")
 
 
 def owner_of(kind, rest):
-    """The type that an impl is for, or the name of a trait, struct or enum."""
+    """The type that an impl is for, or the name of a trait, struct or enum; nothing for a type without a name."""
     if kind == "impl":
-        while "<" in rest:
-            rest = re.sub(r"<[^<>]*>", "", rest)
+        shorter = None
+        while shorter != rest:
+            shorter, rest = rest, re.sub(r"<[^<>]*>", "", rest)
         rest = rest.split(" for ")[-1]
-    return re.match(r"\W*(\w+)", rest)[1]
+    name = re.match(r"\W*(\w+)", rest)
+    return name and name[1]
 
 
 def contracts_of(crate):
@@ -53,20 +54,24 @@ def contracts_of(crate):
 CONTRACTS = {crate: contracts_of(crate) for crate in CRATES}
 
 
+def defines(crate, files, name):
+    """Whether the name stands in one of these files of definitions."""
+    return any(re.search(rf"\b{name}\b", file.read_text()) for file in (ROOT / "crates" / crate / "specs").glob(files))
+
+
 def is_there(crate, cited):
     """Whether the crate has what is cited: a definition, a type's words, or a function with these clauses."""
     name, _, listed = cited.partition(": ")
     wanted = set(filter(None, listed.split(", ")))
     if "." in name:
         file, _, definition = name.partition(".")
-        text = ROOT / "crates" / crate / "specs" / f"{file}.antt"
-        return text.exists() and re.search(rf"\b{definition}\b", text.read_text()) is not None
+        return defines(crate, f"{file}.antt", definition)
     clauses, words = CONTRACTS[crate]
     if name[:1].isupper() and "::" not in name:
         return bool(wanted) and wanted <= words.get(name, set())
     owner, _, function = name.rpartition("::")
     found = clauses.get((owner or None, function))
-    return bool(found) and wanted <= found
+    return bool(found) and wanted <= found or not (owner or wanted) and defines(crate, "*.antt", name)
 
 
 def items_of(lines):
@@ -94,12 +99,10 @@ def sections_of(page):
 
 
 def offences(page):
-    named = set()
     for heading, lines in sections_of(page):
         crate = heading if heading in CRATES else None
-        if not crate and heading != "The whole program":
+        if not crate and heading not in ("The whole program", "The formats"):
             continue
-        named.add(crate)
         for number, item in items_of(lines):
             tokens = [token for token in re.findall(r"`([^`]+)`", item) if token not in PLAIN and token not in LISTED and "/" not in token]
             if not tokens:
@@ -110,15 +113,14 @@ def offences(page):
                 cited = token[len(prefix[0]):] if prefix and prefix[1] in CRATES else token
                 if inside is None or not is_there(inside, cited):
                     yield f"{number}: `{token}` is not there"
-    for crate in CRATES:
-        if crate not in named:
-            yield f"there is no section on {crate}"
 
 
 def uncited(page):
-    """The laws of each crate that the page names nowhere."""
+    """The crates and the laws that the page names nowhere."""
     text = page.read_text()
     for crate in CRATES:
+        if not re.search(rf"^#+ `{crate}`$", text, re.M):
+            yield f"{crate} has no section"
         for file in sorted((ROOT / "crates" / crate / "src").rglob("*.rt")):
             for law in re.findall(r"^pub fn (\w+)\(\)\s*\n\s*ensures", file.read_text(), re.M):
                 if not re.search(rf"`{law}[`:]", text):

@@ -1,5 +1,5 @@
 #!/usr/bin/env python3
-"""Tells each link of the pages that leads nowhere: to no file, or to no heading of a page."""
+"""Tells each link of the pages that leads nowhere, to no file or to no heading of a page, and each file that they name and is not there."""
 import re
 import subprocess
 import sys
@@ -7,6 +7,7 @@ from pathlib import Path
 
 ROOT = Path(__file__).resolve().parent.parent.parent
 LINK = re.compile(r"\]\(([^)\s]+)\)")
+NAMED = re.compile(r"`((?:crates|tests|docs|share|bench|examples)/[\w./-]+)`")
 
 
 def without_blocks(text):
@@ -29,10 +30,12 @@ def main():
     listed = subprocess.run(["git", "ls-files", "-co", "--exclude-standard", "*.md"], cwd=ROOT, text=True, stdout=subprocess.PIPE, check=True)
     failed = False
     for page in sorted(ROOT / name for name in listed.stdout.splitlines()):
-        for link in LINK.findall(without_blocks(page.read_text())):
-            if "://" not in link and leads_nowhere(page, link):
-                failed = True
-                print(f"{page.relative_to(ROOT)}: {link}")
+        text = without_blocks(page.read_text())
+        lost = [link for link in LINK.findall(text) if "://" not in link and leads_nowhere(page, link)]
+        lost += [name for name in NAMED.findall(text) if "NAME" not in name and not (ROOT / name).exists()]
+        for name in lost:
+            failed = True
+            print(f"{page.relative_to(ROOT)}: {name}")
     sys.exit(failed)
 
 
