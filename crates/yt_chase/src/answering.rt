@@ -73,7 +73,8 @@ pub(crate) fn answered(
 
 // The stage that asks for more specific tuples, after the one that asks whether the tuple is present.
 fn compare(stage: Stage) -> Stage
-    ensures { (t : Tuple) → stage ≡ Stage.Querying (Query.Present t) → result ≡ Stage.Querying (Query.Specific t) }
+    ensures { (t : Tuple) → stage ≡ Stage.Querying (Query.Present t) →
+        result ≡ Stage.Querying (Query.Specific t) }
 {
     match stage {
         Stage::Querying(Query::Present(tuple)) => Stage::Querying(Query::Specific(tuple)),

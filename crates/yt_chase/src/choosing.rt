@@ -126,7 +126,8 @@ fn begin_unifying(
 
 // The stage within the step of `Unify`, after the one that waits at the question.
 fn unifying(stage: Stage, gathering: Gathering) -> Stage
-    ensures { (q : QuestionOfProgram) → stage ≡ Stage.Waiting q → result ≡ Stage.Unifying q gathering }
+    ensures { (q : QuestionOfProgram) → stage ≡ Stage.Waiting q →
+        result ≡ Stage.Unifying q gathering }
 {
     match stage {
         Stage::Waiting(question) => Stage::Unifying(question, gathering),

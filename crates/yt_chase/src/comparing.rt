@@ -28,7 +28,8 @@ pub(crate) fn compared(
     mappings: &Mappings<'_>,
 ) -> Result<(), Memory>
     requires comparing { IsComparing stage.old }
-    requires specific { list_all (λ s. more_specific s (tuple_at stage.old)) (map fact_of candidates.now) ≡ true }
+    requires specific { list_all (λ s. more_specific s (tuple_at stage.old))
+        (map fact_of candidates.now) ≡ true }
     ensures step { OnOk result (HasCompared mappings.now (map fact_of candidates.now)
         own.old generation.old (tuple_at stage.old) own.new (repairing_of generation.new stage.new)) }
     ensures rests { OnOk result (is_asking (repairing_of generation.new stage.new) ≡ false) }

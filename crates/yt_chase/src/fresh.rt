@@ -78,7 +78,8 @@ fn known_value<'a>(
     partial: &PartialMatch<'a>,
     variable: u16,
 ) -> Result<Value, Memory>
-    ensures value { IfOk result (λ value. datum_of value ≡ unwrap_or (known_at partial.now variable) (Number (pos 0))) }
+    ensures value { IfOk result (λ value. datum_of value ≡
+        unwrap_or (known_at partial.now variable) (Number (pos 0))) }
 {
     match partial.get(variable) {
         Some(value) => value.copy(alloc),

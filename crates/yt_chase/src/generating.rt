@@ -18,7 +18,8 @@ pub(crate) fn generated(
     generation: &Generation,
     mappings: &Mappings<'_>,
 ) -> Result<Tuple, Memory>
-    ensures value { IfOk result (λ tuple. fact_of tuple ≡ generated_lem mappings.now (repair_of generation.now)) }
+    ensures value { IfOk result (λ tuple. fact_of tuple ≡
+        generated_lem mappings.now (repair_of generation.now)) }
 {
     match right_atoms(mappings, generation.mapping).get(generation.atom) {
         Some(atom) => tuple_under(alloc, &generation.binding, atom),
@@ -31,7 +32,8 @@ pub(crate) fn generated(
 
 /// The stage after a right atom: the next one is to be generated, or the repair is at its end. It takes no memory.
 pub(crate) fn go_on(generation: &mut Generation, mappings: &Mappings<'_>) -> Stage
-    ensures phase { phase_of (repairing_of generation.new result) ≡ next_atom mappings.now (repair_of generation.old) }
+    ensures phase { phase_of (repairing_of generation.new result) ≡
+        next_atom mappings.now (repair_of generation.old) }
     ensures rests { is_asking (repairing_of generation.new result) ≡ false }
     ensures sound { IsSound generation.new result }
 {

@@ -13,7 +13,8 @@ use yt_base::{List, Memory, Null, Sub, Tuple, Value};
 
 /// The distinct nulls among the values, in order of first position. It is refused only for want of memory.
 pub fn nulls_in(alloc: Global, values: &[Value]) -> Result<List<Null>, Memory>
-    ensures value { IfOk result (λ nulls. map null_of nulls.items ≡ nulls_in_lem (map datum_of values.now)) }
+    ensures value { IfOk result (λ nulls. map null_of nulls.items ≡
+        nulls_in_lem (map datum_of values.now)) }
 {
     let mut nulls = List::new(alloc);
     for value in values {
@@ -34,7 +35,8 @@ pub(crate) fn moved_nulls(alloc: Global, sub: &Sub, tuple: &Tuple) -> Result<Lis
 
 // Adds the null that the value is, if it is one that is not there.
 fn add_null_of(nulls: &mut List<Null>, value: &Value) -> Result<(), Memory>
-    ensures ok { OnOk result (map null_of nulls.new.items ≡ with_null_of (map null_of nulls.old.items) (datum_of value.now)) }
+    ensures ok { OnOk result (map null_of nulls.new.items ≡
+        with_null_of (map null_of nulls.old.items) (datum_of value.now)) }
 {
     match value {
         Value::Null(null) => add_null(nulls, *null),
@@ -45,7 +47,8 @@ fn add_null_of(nulls: &mut List<Null>, value: &Value) -> Result<(), Memory>
 
 // Adds the null, if it is not there.
 fn add_null(nulls: &mut List<Null>, null: Null) -> Result<(), Memory>
-    ensures ok { OnOk result (map null_of nulls.new.items ≡ with_null (map null_of nulls.old.items) (null_of null)) }
+    ensures ok { OnOk result (map null_of nulls.new.items ≡
+        with_null (map null_of nulls.old.items) (null_of null)) }
 {
     if !is_among(nulls.as_slice(), null) {
         nulls.push(null)?;
@@ -62,7 +65,8 @@ fn is_among(nulls: &[Null], null: Null) -> bool
 
 // The set of the nulls.
 fn sorted(alloc: Global, nulls: &[Null]) -> Result<BTreeSet<Null>, Memory>
-    ensures value { IfOk result (λ set. map null_of set.keys ≡ sorted_nulls (map null_of nulls.now)) }
+    ensures value { IfOk result (λ set. map null_of set.keys ≡
+        sorted_nulls (map null_of nulls.now)) }
 {
     match nulls {
         [] => Ok(BTreeSet::new(alloc)),

@@ -22,7 +22,8 @@ pub(crate) fn plan(
     candidates: &TupleList,
     form: &Tuple,
 ) -> Result<(Sub, Vec<Null>), Memory>
-    requires specific { list_all (λ s. more_specific s (fact_of tuple.now)) (facts_of candidates.now) ≡ true }
+    requires specific { list_all (λ s. more_specific s (fact_of tuple.now))
+        (facts_of candidates.now) ≡ true }
     requires fits { is_outer_of (facts_of candidates.now) (fact_of form.now) ≡ true }
     ensures unifier { IfOk result (λ plan.
         moved_by (images_of plan.0) ≡ unifier_with tuple.now candidates.now form.now) }

@@ -57,7 +57,8 @@ impl Repair {
         fresh: Fresh,
     ) -> Result<Repair, Memory>
         requires { fresh.drawn + (rule_of mapping.now).existential < 2 ^ 32 }
-        ensures look { IfOk result (IsForward fresh number (rule_of mapping.now) (facts_of image.now)) }
+        ensures look { IfOk result
+            (IsForward fresh number (rule_of mapping.now) (facts_of image.now)) }
         ensures rests { IfOk result (λ made. wanted made ≡ WantsStep) }
     {
         Ok(Repair {
@@ -157,7 +158,8 @@ impl Repair {
     /// What is wanted next. A query is what the step under way asks first. It takes no memory.
     pub fn wants(&self) -> RepairWant<'_>
         ensures want { want_of result ≡ wanted self.now }
-        ensures query { (ms : List Rule) → first_query (tree_in ms self.now) ≡ query_in (want_of result) }
+        ensures query { (ms : List Rule) →
+            first_query (tree_in ms self.now) ≡ query_in (want_of result) }
     {
         match &self.stage {
             Stage::Generating => RepairWant::NextStep,

@@ -45,7 +45,8 @@ fn ending_by(told: &SessionResult) -> Ending
 
 // What is printed of a run.
 fn result_output(alloc: Global, session: &Session, told: &SessionResult) -> Result<Output, Memory>
-    ensures { IfOk result (λ output. view_of output ≡ result_output (session_of session.now) (result_of told.now)) }
+    ensures { IfOk result (λ output. view_of output ≡
+        result_output (session_of session.now) (result_of told.now)) }
 {
     let text = result_text(alloc, session, told)?;
     Ok(Output::Text(ending_by(told), text))
@@ -62,7 +63,8 @@ fn too_large_line(alloc: Global) -> Result<Vec<u8>, Memory>
 
 // What is saved of a run.
 fn saved_output(alloc: Global, session: Session, told: &SessionResult) -> Result<Output, Memory>
-    ensures { IfOk result (λ output. view_of output ≡ saved_output (session_of session) (result_of told.now)) }
+    ensures { IfOk result (λ output. view_of output ≡
+        saved_output (session_of session) (result_of told.now)) }
 {
     match saved(alloc, session, told) {
         Ok(begun) => Ok(Output::Text(ending_by(told), print_session(alloc, &begun)?)),

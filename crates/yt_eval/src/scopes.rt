@@ -49,7 +49,8 @@ pub(crate) fn enacts_with(enacts: bool, write: &Write) -> bool
 /// `enacts` says whether one of them may put any mapping in force.
 pub(crate) fn scope_at(counted: Counted, own: &WriteList, enacts: bool, number: u16) -> Scope<'_>
     requires { AreForceless enacts (changes_of own.now) }
-    ensures same { CountsAs (scope_at_lem (scope_meant counted) (changes_of own.now) number) (changes_of own.now) result }
+    ensures same { CountsAs (scope_at_lem (scope_meant counted) (changes_of own.now) number)
+        (changes_of own.now) result }
 {
     match counted {
         Counted::Every => Scope::All,

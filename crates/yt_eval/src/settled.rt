@@ -61,7 +61,8 @@ impl Settled {
     /// Stirs the mappings to which the write may give a violation: by an insertion those with an atom of its relation on
     /// the left, by a deletion those with one on the right, and all of them where it may put a mapping in force.
     pub fn stir(&mut self, mappings: &MappingList, write: &Write)
-        ensures left { LoseMarks (stirs (change_of write.now)) (rules_in mappings.now) self.old self.new }
+        ensures left { LoseMarks (stirs (change_of write.now))
+            (rules_in mappings.now) self.old self.new }
     {
         if relation_of(write) == FORCE_RELATION {
             self.marks.fill(false);
@@ -72,7 +73,8 @@ impl Settled {
 
     // Stirs the mappings that the write touches.
     fn stir_touched(&mut self, mappings: &MappingList, write: &Write)
-        ensures left { LoseMarks (touches_lem (change_of write.now)) (rules_in mappings.now) self.old self.new }
+        ensures left { LoseMarks (touches_lem (change_of write.now))
+            (rules_in mappings.now) self.old self.new }
     {
         for (number, mapping) in mappings.as_slice().iter().enumerate() {
             self.stir_one(number, mapping, write);
@@ -81,8 +83,10 @@ impl Settled {
 
     // Stirs the mapping, of this number, if the write touches it.
     fn stir_one(&mut self, number: usize, mapping: &Mapping, write: &Write)
-        ensures mark { LosesMark (touches_lem (change_of write.now) (Some (rule_of mapping.now))) number self.old self.new }
-        ensures others { (n : ℕ) → (n ≡ number → ⊥) → slice_index_or self.new n false ≡ slice_index_or self.old n false }
+        ensures mark { LosesMark (touches_lem (change_of write.now)
+            (Some (rule_of mapping.now))) number self.old self.new }
+        ensures others { (n : ℕ) → (n ≡ number → ⊥) →
+            slice_index_or self.new n false ≡ slice_index_or self.old n false }
     {
         if touches(mapping, write) {
             self.unsettle(number);

@@ -142,7 +142,8 @@ impl<'a, F: Facts> View<'a, F> {
 
 // Whether the tuple is in the set.
 fn presence<F: Facts>(tuple: &Tuple, facts: &F) -> Answer
-    ensures answer { reply_of result ≡ (if has (F.tuples facts.now) (fact_of tuple.now) then Yes else No) }
+    ensures answer { reply_of result ≡ (if has (F.tuples facts.now)
+        (fact_of tuple.now) then Yes else No) }
 {
     if facts.contains(tuple) {
         Answer::Yes

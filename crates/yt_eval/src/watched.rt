@@ -80,7 +80,8 @@ impl<'a, F: Facts> WatchedView<'a, F> {
     /// Forward, a mapping that they put in force is looked at whole; one that is not in the list has no violation. It
     /// is refused only for want of memory.
     pub fn eval(&mut self, query: &Query, alloc: Global) -> Result<Answer, Memory>
-        ensures value { IfOk result (λ answer. reply_of answer ≡ value_in self.old (query_of query.now)) }
+        ensures value { IfOk result (λ answer. reply_of answer ≡
+            value_in self.old (query_of query.now)) }
         ensures same { self.new ≡ self.old }
     {
         if self.is_settled(query) {

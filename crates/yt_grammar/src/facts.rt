@@ -11,7 +11,8 @@ ghost use Rattle.yt_grammar.specs.Validity.{IsSession};
 /// A tuple of a session's relations is read again from its printed form, which is one line of text,
 /// whatever updates its nulls are of.
 pub fn tuples_are_read_again()
-    ensures { (s : SessionData) (t : Fact) → IsSession s → IsTuple s.relations t → IsReadAgain s.relations t }
+    ensures { (s : SessionData) (t : Fact) → IsSession s → IsTuple s.relations t →
+        IsReadAgain s.relations t }
 {}
 
 /// A line of text that says a fact of some relations says a tuple of theirs.

@@ -38,7 +38,8 @@ pub fn saved_sessions_are_sessions()
 /// Every mapping that is in force at the end of a run holds in the repository that the run leaves, where the base of the
 /// session meets the mappings: those in force from the start, and those that an update which is done has put in force.
 pub fn mappings_hold_in_what_is_left()
-    ensures { (budget : ℕ) (s : SessionData) → IsRunnable budget s → InForceHold s (serial_told budget s) }
+    ensures { (budget : ℕ) (s : SessionData) → IsRunnable budget s →
+        InForceHold s (serial_told budget s) }
 {}
 
 /// The base of what is saved is the repository under other names for its nulls, which keep their order and tell them apart.
@@ -55,12 +56,14 @@ pub fn bases_meet_their_mappings()
 /// A mapping without a null among its constants holds under other names for the nulls where it holds. Under such names a
 /// repository is one.
 pub fn names_keep_mappings()
-    ensures hold { (m : Rule) (D E : List Fact) → HasNoNull m → IsRenamed D E → Holds m D → Holds m E }
+    ensures hold { (m : Rule) (D E : List Fact) → HasNoNull m → IsRenamed D E → Holds m D →
+        Holds m E }
     ensures in_order { (D E : List Fact) → IsRenamed D E → IsRepository D → IsRepository E }
 {}
 
 /// The same session in format 2 is a session too, and the serial machine tells the same of it.
 pub fn upgrades_tell_the_same()
     ensures session { (s : SessionData) → IsSession s → IsSession (upgraded s) }
-    ensures told { (budget : ℕ) (s : SessionData) → serial_told budget (upgraded s) ≡ serial_told budget s }
+    ensures told { (budget : ℕ) (s : SessionData) →
+        serial_told budget (upgraded s) ≡ serial_told budget s }
 {}

@@ -77,7 +77,8 @@ pub(crate) fn found_force(
     answer: &Answer,
     mappings: &Mappings<'_>,
 ) -> Result<Turn, Memory>
-    ensures value { IfOk result (HasLookedOn mappings.now number (Forcing place) (reply_of answer.now)) }
+    ensures value { IfOk result
+        (HasLookedOn mappings.now number (Forcing place) (reply_of answer.now)) }
     ensures turn { IfOk result (IsTurnOf Look) }
 {
     if is_yes(answer) && (place as usize) < mappings.len() {

@@ -95,7 +95,8 @@ impl Program {
     /// the attempt between two steps wants. It takes no memory.
     pub fn wants(&self) -> Want<'_>
         ensures want { want_of result ≡ wish self.now }
-        ensures first { (ms : List Rule) → first_asked (course ms self.now) ≡ query_wished (want_of result) }
+        ensures first { (ms : List Rule) →
+            first_asked (course ms self.now) ≡ query_wished (want_of result) }
         ensures rests { query_wished (want_of result) ≡ None → self.now.reading ≡ None }
     {
         match &self.point {
@@ -287,7 +288,8 @@ impl Program {
     fn make(&mut self, alloc: Global, step: Move, hand: Hand) -> Result<(), Memory>
         requires left { self.old.attempt.steps < hand.budget }
         requires answers { hand.answers ≡ is_some (question_in self.old.attempt.phase) }
-        ensures moved { OnOk result (self.new ≡ between (moved hand.budget self.old.attempt (move_of step))) }
+        ensures moved { OnOk result (self.new ≡
+            between (moved hand.budget self.old.attempt (move_of step))) }
         ensures err { OnErr result (self.new ≡ self.old) }
     {
         append(alloc, &mut self.own, step.writes)?;
@@ -301,7 +303,8 @@ impl Program {
         requires rests { self.old.reading ≡ None }
         requires few { drawn ≤ 64 }
         requires left { self.old.attempt.steps < hand.budget }
-        ensures counted { self.new ≡ between (counted hand.budget hand.answers drawn self.old.attempt) }
+        ensures counted { self.new ≡
+            between (counted hand.budget hand.answers drawn self.old.attempt) }
     {
         hand.budget.is_within();
         self.steps += 1;

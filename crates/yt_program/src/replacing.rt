@@ -28,7 +28,8 @@ pub(crate) fn found_replaced(
     name: Null,
     answer: &Answer,
 ) -> Result<Turn, Memory>
-    requires { (ms : List Rule) → IsOfKind ms (Occurs name.update name.place) (reply_of answer.now) }
+    requires { (ms : List Rule) → IsOfKind ms (Occurs name.update name.place)
+        (reply_of answer.now) }
     ensures value { IfOk result
         (HasGoneOnFor (operation_of operation.now) (Replacing (null_of name)) (reply_of answer.now)) }
     ensures turn { IfOk result (IsTurnOf Start) }

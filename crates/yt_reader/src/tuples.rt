@@ -38,8 +38,10 @@ fn fact_on(alloc: Global, line: &[u8]) -> Result<RawFact, LineRefusal>
 
 // The fact that a text spells, if it spells one.
 fn spelled_fact(alloc: Global, text: &[u8]) -> Result<Option<RawFact>, Memory>
-    ensures some { IfOk result (λ found. IfSome found (λ fact. SpellsFact text.now (fact_meant fact))) }
-    ensures none { IfOk result (λ found. IfNone found ((fact : WrittenFact) → SpellsFact text.now fact → ⊥)) }
+    ensures some { IfOk result (λ found. IfSome found (λ fact.
+        SpellsFact text.now (fact_meant fact))) }
+    ensures none { IfOk result (λ found. IfNone found ((fact : WrittenFact) →
+        SpellsFact text.now fact → ⊥)) }
 {
     if utf8_end(text).is_some() {
         return Ok(None);

@@ -38,7 +38,8 @@ fn with_finish(
     finish: &Finish,
 ) -> Result<Page, Memory>
     requires { number < 2 ^ 63 }
-    ensures { IfOk result (HasLine page (finish_words (updates_of updates.now) number (finish_of finish.now))) }
+    ensures { IfOk result (HasLine page
+        (finish_words (updates_of updates.now) number (finish_of finish.now))) }
 {
     let named = with_update(page.name(b"update")?, updates, number)?;
     with_end(named, finish)?
@@ -72,7 +73,8 @@ pub(crate) fn with_finishes(
     updates: &SessionUpdates,
     finishes: &[Finish],
 ) -> Result<Page, Memory>
-    ensures { IfOk result (HasLines page (finish_lines (updates_of updates.now) 1 (map finish_of finishes.now))) }
+    ensures { IfOk result (HasLines page
+        (finish_lines (updates_of updates.now) 1 (map finish_of finishes.now))) }
 {
     for place in 0..finishes.len() {
         page = with_finish_at(page, updates, finishes, place)?;

@@ -14,7 +14,8 @@ use yt_session::SessionUpdates;
 // A number and two names.
 fn with_names(page: Page, number: usize, label: &[u8], curator: &[u8]) -> Result<Page, Memory>
     requires { number < 2 ^ 63 }
-    ensures { IfOk result (HasWords page (word_of.number (pos number) ∷ word_of.name label.now ∷ word_of.name curator.now ∷ [])) }
+    ensures { IfOk result (HasWords page (word_of.number (pos number) ∷ word_of.name label.now ∷
+        word_of.name curator.now ∷ [])) }
 {
     page.number(number as i64)?.name(label)?.name(curator)
 }

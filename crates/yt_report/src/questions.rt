@@ -68,7 +68,8 @@ pub(crate) fn with_question(
     session: &Session,
     question: &Question,
 ) -> Result<Page, Memory>
-    ensures { IfOk result (HasLines page (question_lines (session_of session.now) (inquiry_of question.now))) }
+    ensures { IfOk result (HasLines page
+        (question_lines (session_of session.now) (inquiry_of question.now))) }
 {
     let schema = &session.schema;
     match question {
@@ -112,7 +113,8 @@ pub(crate) fn with_stop_in(
     session: &Session,
     stop: &Option<Stop>,
 ) -> Result<Page, Memory>
-    ensures { IfOk result (HasLines page (stop_lines_in (session_of session.now) (option_map stop_of stop.now))) }
+    ensures { IfOk result (HasLines page
+        (stop_lines_in (session_of session.now) (option_map stop_of stop.now))) }
 {
     match stop {
         None => Ok(page),

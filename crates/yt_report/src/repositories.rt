@@ -39,7 +39,8 @@ pub(crate) fn with_committed(
     finishes: &[Finish],
     updates: &[SessionUpdate],
 ) -> Result<Page, Memory>
-    ensures { IfOk result (HasLine page (committed_words (map finish_of finishes.now) (map update_of updates.now))) }
+    ensures { IfOk result (HasLine page
+        (committed_words (map finish_of finishes.now) (map update_of updates.now))) }
 {
     let ended = finishes.len() as i64;
     let all = updates.len() as i64;

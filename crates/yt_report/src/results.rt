@@ -35,7 +35,8 @@ pub fn result_text(
     session: &Session,
     told: &SessionResult,
 ) -> Result<Vec<u8>, Memory>
-    ensures text { IfOk result (λ text. text.items ≡ result_text (session_of session.now) (result_of told.now)) }
+    ensures text { IfOk result (λ text. text.items ≡
+        result_text (session_of session.now) (result_of told.now)) }
 {
     let finishes = told.finishes.as_slice();
     let title = with_title(Page::new(alloc))?;
@@ -50,7 +51,8 @@ pub fn result_text(
 /// The lines of an update that stopped: which it is and what lacks, its question, and the candidates or the tuples of
 /// which some have to go. It is refused only for want of memory.
 pub fn question_text(alloc: Global, session: &Session, stop: &Stop) -> Result<Vec<u8>, Memory>
-    ensures text { IfOk result (λ text. text.items ≡ question_text (session_of session.now) (stop_of stop.now)) }
+    ensures text { IfOk result (λ text. text.items ≡
+        question_text (session_of session.now) (stop_of stop.now)) }
 {
     let page = with_stop(Page::new(alloc), session, stop)?;
     Ok(page.into_text())

@@ -18,8 +18,10 @@ use yt_program::{Finish, FinishList, Lack, Program, Stop, Want};
 fn finish(program: &Program) -> Finish
     requires between { program.now.reading ≡ None }
     requires ended { is_some (outcome_in program.now.attempt.phase) ≡ true }
-    ensures told { (n : ℕ) → map finish_in (finished n program.now.attempt) ≡ finish_of result ∷ [] }
-    ensures outcome { option_map end_in (outcome_in program.now.attempt.phase) ≡ Some (end_of result.outcome) }
+    ensures told { (n : ℕ) → map finish_in (finished n program.now.attempt) ≡
+        finish_of result ∷ [] }
+    ensures outcome { option_map end_in (outcome_in program.now.attempt.phase) ≡
+        Some (end_of result.outcome) }
 {
     match program.wants() {
         Want::Ended(outcome) => Finish {

@@ -22,7 +22,8 @@ pub(crate) enum Next<'a> {
 
 /// What comes next, where these are all answers. It takes no memory.
 pub(crate) fn what_next<'a>(program: &Program, answers: &'a ChoiceList) -> Next<'a>
-    ensures next { next_of result ≡ next_by (wish program.now) program.now.attempt.taken (choices_of answers.now) }
+    ensures next { next_of result ≡ next_by (wish program.now) program.now.attempt.taken
+        (choices_of answers.now) }
 {
     match program.wants() {
         Want::Read(_) => Next::Step(None),
@@ -34,7 +35,8 @@ pub(crate) fn what_next<'a>(program: &Program, answers: &'a ChoiceList) -> Next<
 
 // What comes next at the question, with the next answer if there is one.
 fn answered<'a>(question: &Question, choice: Option<&'a Choice>) -> Next<'a>
-    ensures next { next_of result ≡ at_question (inquiry_of question.now) (option_map choice_of (option_copied choice.entry)) }
+    ensures next { next_of result ≡ at_question (inquiry_of question.now)
+        (option_map choice_of (option_copied choice.entry)) }
 {
     match choice {
         Some(choice) => if fits(question, choice) {

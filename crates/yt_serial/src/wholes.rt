@@ -33,8 +33,10 @@ pub(crate) fn take_whole(
     requires sorted { IsRepository facts.now }
     ensures rest { IfOk result (RestsWhole mappings.now budget facts.now number update.now) }
     ensures between { IfOk result (λ rest. rest.program.reading ≡ None) }
-    ensures asked { IfOk result (λ r. is_some (question_in r.program.attempt.phase) ≡ is_some r.lack) }
-    ensures ended { IfOk result (λ r. is_some (outcome_in r.program.attempt.phase) ≡ is_none r.lack) }
+    ensures asked { IfOk result (λ r. is_some (question_in r.program.attempt.phase) ≡
+        is_some r.lack) }
+    ensures ended { IfOk result (λ r. is_some (outcome_in r.program.attempt.phase) ≡
+        is_none r.lack) }
 {
     budget.is_within();
     let mut program = Program::start(alloc, &update.update, number, 0)?;

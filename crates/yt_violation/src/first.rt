@@ -44,7 +44,8 @@ fn first_in_scope<'a, F: Facts>(
 ) -> Result<Option<PartialMatch<'a>>, Memory>
     ensures image { IfOk result (λ found. option_map (λ q. q.image) found ≡
         first_in scope.entry (rule_of mapping.now) (F.tuples facts.now)) }
-    ensures known { IfOk result (λ found. IfSome found (Knows (rule_of mapping.now).left nothing_known)) }
+    ensures known { IfOk result (λ found.
+        IfSome found (Knows (rule_of mapping.now).left nothing_known)) }
 {
     match scope {
         Scope::All => first_unmet(PartialMatch::new(alloc), mapping, facts),
@@ -55,7 +56,8 @@ fn first_in_scope<'a, F: Facts>(
 
 /// Whether the mapping holds in the facts: it has no violation there. It is refused only for want of memory.
 pub fn holds<F: Facts>(alloc: Global, mapping: &Mapping, facts: &F) -> Result<bool, Memory>
-    ensures decides { IfOk result (λ answer. Decides answer (Holds (rule_of mapping.now) (F.tuples facts.now))) }
+    ensures decides { IfOk result (λ answer.
+        Decides answer (Holds (rule_of mapping.now) (F.tuples facts.now))) }
 {
     let first = first_in_scope(alloc, mapping, facts, Scope::All)?;
     Ok(first.is_none())
