@@ -5,7 +5,7 @@ ghost use Rattle.yt_command.specs.Rows.{Row};
 ghost use Rattle.yt_words.specs.Meaning.{HasBudget};
 ghost use Rattle.youtopia.specs.Calls.{Calls, Performs, meaning_of};
 ghost use Rattle.yt_command.specs.Completeness.{IsComplete};
-ghost use Rattle.youtopia.specs.Completeness.{Comes, ComesToItsEnd};
+ghost use Rattle.youtopia.specs.Completeness.{Comes, ComesToItsEnd, RunsToRest};
 
 use crate::telling::Telling;
 use std::alloc::Global;
@@ -70,7 +70,8 @@ fn attend<S: Source, O: Sink, E: Sink>(
 
 /// Does what the words after the program's name ask for, from the source to the two sinks, and answers the status with
 /// which the program ends. Each status has its row, which says what was read, what `out` took and what `err` was told.
-/// Where the words are not refused and nothing fails, the status is that of the command's output, or of want of memory.
+/// Where the words are not refused and nothing fails, the status is that of the command's output, or of want of memory;
+/// so `run` and `serial` end with 0 or 1, or 7, on a session whose base meets its mappings.
 pub fn youtopia<S: Source, O: Sink, E: Sink>(
     alloc: Global,
     words: &[String],
@@ -83,6 +84,9 @@ pub fn youtopia<S: Source, O: Sink, E: Sink>(
         (change O.taken O.fault_count out.old out.new)
         (change E.taken E.fault_count err.old err.new) }
     ensures complete { ComesToItsEnd (map string_bytes words.now) result
+        (change S.left S.fault_count source.old source.new)
+        (change O.taken O.fault_count out.old out.new) }
+    ensures rests { RunsToRest (map string_bytes words.now) result
         (change S.left S.fault_count source.old source.new)
         (change O.taken O.fault_count out.old out.new) }
 {
