@@ -37,7 +37,7 @@ pub fn saved_sessions_are_sessions()
 
 /// Every mapping that is in force at the end of a run holds in the repository that the run leaves, where the base of the
 /// session meets the mappings: those in force from the start, and those that an update which is done has put in force.
-pub fn mappings_hold_in_what_is_left()
+pub fn runs_meet_their_mappings()
     ensures { (budget : ℕ) (s : SessionData) → IsRunnable budget s →
         InForceHold s (serial_told budget s) }
 {}

@@ -12,7 +12,7 @@ pub returns-clause-written : goal.returns-clause-written
 returns-clause-written c = λ steps s v.
     record {
       written = ap (unless_violated s (result_output s (serial_told steps s))) v.met;
-      hold = c.mappings_hold_in_what_is_left.ensures steps s v;
+      hold = c.runs_meet_their_mappings.ensures steps s v;
     }
 
 -- A run ends or stops.
