@@ -47,6 +47,10 @@ pub goes : (ts us : List Fact) → Some us ≡ some_of ts → ts ≡ us
 goes [] us e = cc
 goes (t ∷ ts) us e = cc
 
+pub goes_on_with : (n : NullName) (ts us : List Fact) (rest : Asking) → Some us ≡ some_of ts → unless_none n ts rest ≡ rest
+goes_on_with n [] us rest e = cc
+goes_on_with n (t ∷ ts) us rest e = refl
+
 -- Where there is none, the null is refused.
 pub refuses : (n : NullName) (ts : List Fact) (rest : Asking) → None ≡ some_of ts → makes [] (Ended (Refused n)) ≡ unless_none n ts rest
 refuses n [] rest e = refl
