@@ -32,7 +32,8 @@ pub(crate) fn answered(
     requires reply { TakesReply mappings.now
         (wanted (repairing_of generation.old stage.old)) (reply_of answer.now) }
     ensures step { IfOk result (HasAnswered mappings.now answer.now
-        own.old (repairing_of generation.old stage.old) own.new (repairing_of generation.new stage.new)) }
+        own.old (repairing_of generation.old stage.old)
+        own.new (repairing_of generation.new stage.new)) }
     ensures asks { IfOk result (AsksAs (repairing_of generation.new stage.new)) }
     ensures sound { IsSound generation.new stage.new }
     ensures err { OnErr result (SameRepair generation.old stage.old generation.new stage.new) }

@@ -37,7 +37,8 @@ pub(crate) fn chosen(
     requires choice { TakesChoice
         (wanted (repairing_of generation.old stage.old)) (choice_of choice.now) }
     ensures step { IfOk result (HasChosen mappings.now choice.now
-        own.old (repairing_of generation.old stage.old) own.new (repairing_of generation.new stage.new)) }
+        own.old (repairing_of generation.old stage.old)
+        own.new (repairing_of generation.new stage.new)) }
     ensures asks { IfOk result (AsksAs (repairing_of generation.new stage.new)) }
     ensures sound { IsSound generation.new stage.new }
     ensures err { OnErr result (SameRepair generation.old stage.old generation.new stage.new) }
@@ -61,7 +62,8 @@ fn expand(
     requires fits { IsSound generation.old stage.old }
     requires choice { TakesChoice (wanted (repairing_of generation.old stage.old)) Expand }
     ensures step { IfOk result (HasChosen mappings.now Choice.Expand
-        own.old (repairing_of generation.old stage.old) own.new (repairing_of generation.new stage.new)) }
+        own.old (repairing_of generation.old stage.old)
+        own.new (repairing_of generation.new stage.new)) }
     ensures asks { IfOk result (AsksAs (repairing_of generation.new stage.new)) }
     ensures sound { IsSound generation.new stage.new }
     ensures err { OnErr result (SameRepair generation.old stage.old generation.new stage.new) }
@@ -88,7 +90,8 @@ fn begin_unifying(
     requires choice { TakesChoice
         (wanted (repairing_of generation.old stage.old)) (Unify (fact_of form.now)) }
     ensures step { IfOk result (HasChosen mappings.now (Choice.Unify form.now)
-        own.old (repairing_of generation.old stage.old) own.new (repairing_of generation.new stage.new)) }
+        own.old (repairing_of generation.old stage.old)
+        own.new (repairing_of generation.new stage.new)) }
     ensures asks { IfOk result (AsksAs (repairing_of generation.new stage.new)) }
     ensures sound { IsSound generation.new stage.new }
     ensures err { OnErr result (SameRepair generation.old stage.old generation.new stage.new) }
@@ -148,7 +151,8 @@ fn delete(
     requires choice { TakesChoice
         (wanted (repairing_of generation.old stage.old)) (DropThese (facts_of forms.now)) }
     ensures step { IfOk result (HasChosen mappings.now (Choice.Delete forms.now)
-        own.old (repairing_of generation.old stage.old) own.new (repairing_of generation.new stage.new)) }
+        own.old (repairing_of generation.old stage.old)
+        own.new (repairing_of generation.new stage.new)) }
     ensures asks { IfOk result (AsksAs (repairing_of generation.new stage.new)) }
     ensures sound { IsSound generation.new stage.new }
     ensures err { OnErr result (SameRepair generation.old stage.old generation.new stage.new) }

@@ -31,7 +31,8 @@ pub(crate) fn compared(
     requires specific { list_all (λ s. more_specific s (tuple_at stage.old))
         (map fact_of candidates.now) ≡ true }
     ensures step { OnOk result (HasCompared mappings.now (map fact_of candidates.now)
-        own.old generation.old (tuple_at stage.old) own.new (repairing_of generation.new stage.new)) }
+        own.old generation.old (tuple_at stage.old)
+        own.new (repairing_of generation.new stage.new)) }
     ensures rests { OnOk result (is_asking (repairing_of generation.new stage.new) ≡ false) }
     ensures sound { OnOk result (IsSound generation.new stage.new) }
     ensures generation { OnErr result (generation.new ≡ generation.old) }

@@ -63,7 +63,8 @@ fn universal_values(alloc: Global, mapping: &Mapping, image: &TupleList) -> Resu
 // The values of the first variables, as far as they are known.
 fn known_values<'a>(alloc: Global, partial: &PartialMatch<'a>, count: u16) -> Result<Row, Memory>
     ensures value { IfOk result (λ values.
-        data_of values ≡ map (λ v. unwrap_or (known_at partial.now v) (Number (pos 0))) (range_with_len 0 count)) }
+        data_of values ≡ map (λ v. unwrap_or (known_at partial.now v) (Number (pos 0)))
+        (range_with_len 0 count)) }
 {
     let mut values = List::new(alloc);
     for variable in 0..count {

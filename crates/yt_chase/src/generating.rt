@@ -70,7 +70,8 @@ fn tuple_under(alloc: Global, binding: &Row, atom: &Atom) -> Result<Tuple, Memor
 // The values of the terms under the values of the variables.
 fn values_under(alloc: Global, binding: &Row, terms: &TermRow) -> Result<Row, Memory>
     ensures value { IfOk result (λ values.
-        data_of values ≡ map (value_under (listed_lem (data_of binding.now))) (map slot_of terms.now.items)) }
+        data_of values ≡ map (value_under (listed_lem (data_of binding.now)))
+        (map slot_of terms.now.items)) }
 {
     let mut values = List::new(alloc);
     values.reserve(terms.len())?;

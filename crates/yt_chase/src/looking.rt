@@ -20,7 +20,8 @@ pub(crate) fn look_back(
     tuples: TupleList,
 ) -> Result<(Stage, WriteList), Memory>
     ensures look { IfOk result (λ end. (g : Generation) →
-        makes (changes_of end.1) (phase_of (repairing_of g end.0)) ≡ negative number (facts_of tuples)) }
+        makes (changes_of end.1) (phase_of (repairing_of g end.0)) ≡
+        negative number (facts_of tuples)) }
     ensures rests { IfOk result (λ end. (g : Generation) →
         is_asking (repairing_of g end.0) ≡ false) }
     ensures sound { IfOk result (λ end. (g : Generation) → IsSound g end.0) }

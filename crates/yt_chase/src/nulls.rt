@@ -26,7 +26,8 @@ pub fn nulls_in(alloc: Global, values: &[Value]) -> Result<List<Null>, Memory>
 /// The nulls of the tuple that the substitution moves, in their order. It is refused only for want of memory.
 pub(crate) fn moved_nulls(alloc: Global, sub: &Sub, tuple: &Tuple) -> Result<List<Null>, Memory>
     ensures value { IfOk result (λ nulls.
-        map null_of nulls.items ≡ moved_among_lem sub.now (sorted_nulls (nulls_in_lem (fact_of tuple.now).values))) }
+        map null_of nulls.items ≡ moved_among_lem sub.now
+        (sorted_nulls (nulls_in_lem (fact_of tuple.now).values))) }
 {
     let all = nulls_in(alloc, tuple.values.as_slice())?;
     let sorted = listed(alloc, sorted(alloc, all.as_slice())?)?;

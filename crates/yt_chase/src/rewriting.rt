@@ -40,7 +40,8 @@ pub(crate) fn deletions(alloc: Global, tuples: TupleList) -> Result<WriteList, M
 // The set of the substituted tuples.
 fn moved_in_order(alloc: Global, sub: &Sub, tuples: &[Tuple]) -> Result<BTreeSet<Tuple>, Memory>
     ensures value { IfOk result (λ set.
-        map fact_of set.keys ≡ in_order_lem (map (under (moved_by (images_of sub.now))) (map fact_of tuples.now))) }
+        map fact_of set.keys ≡
+        in_order_lem (map (under (moved_by (images_of sub.now))) (map fact_of tuples.now))) }
 {
     let mut set = BTreeSet::new(alloc);
     for tuple in tuples {

@@ -65,9 +65,11 @@ pub(crate) fn unify(
     mappings: &Mappings<'_>,
 ) -> Result<Stage, Memory>
     ensures writes { OnOk result (
-        changes_of own.new ≡ changes_of own.old ++ rewrite_lem (moved_by (images_of sub.now)) (facts_of tuples.now)) }
+        changes_of own.new ≡ changes_of own.old ++
+        rewrite_lem (moved_by (images_of sub.now)) (facts_of tuples.now)) }
     ensures phase { IfOk result (λ stage. phase_of (repairing_of generation.new stage) ≡
-        next_atom mappings.now (moved_repair (moved_by (images_of sub.now)) (repair_of generation.old))) }
+        next_atom mappings.now
+        (moved_repair (moved_by (images_of sub.now)) (repair_of generation.old))) }
     ensures rests { IfOk result (λ stage. is_asking (repairing_of generation.new stage) ≡ false) }
     ensures sound { IfOk result (λ stage. IsSound generation.new stage) }
     ensures err { OnErr result (generation.new ≡ generation.old) }

@@ -117,7 +117,8 @@ pub(crate) fn first_image<F: Facts>(
     scope: Scope<'_>,
 ) -> Result<Answer, Memory>
     ensures value { IfOk result (λ answer. reply_of answer ≡
-        reply_in scope.entry (option_map rule_of (option_copied mapping.entry)) (F.tuples facts.now)) }
+        reply_in scope.entry (option_map rule_of (option_copied mapping.entry))
+        (F.tuples facts.now)) }
 {
     let Some(mapping) = mapping else {
         return Ok(Answer::Nothing);

@@ -22,7 +22,8 @@ pub fn eval<F: Facts>(
     own: &WriteList,
     direction: Direction,
 ) -> Result<Answer, Memory>
-    ensures value { IfOk result (λ answer. reply_of answer ≡ value (rules_in mappings.now) (query_of query.now)
+    ensures value { IfOk result (λ answer. reply_of answer ≡
+        value (rules_in mappings.now) (query_of query.now)
         (F.tuples facts.now) (changes_of own.now) (Caused (heading_of direction))) }
 {
     let mut view = View::new(alloc, facts);
@@ -39,7 +40,8 @@ pub fn eval_all<F: Facts>(
     facts: &F,
     own: &WriteList,
 ) -> Result<Answer, Memory>
-    ensures value { IfOk result (λ answer. reply_of answer ≡ value (rules_in mappings.now) (query_of query.now)
+    ensures value { IfOk result (λ answer. reply_of answer ≡
+        value (rules_in mappings.now) (query_of query.now)
         (F.tuples facts.now) (changes_of own.now) Every) }
 {
     let mut view = View::new(alloc, facts);

@@ -92,7 +92,8 @@ impl<'a, F: Facts> View<'a, F> {
         alloc: Global,
     ) -> Result<Answer, Memory>
         ensures value { IfOk result (λ answer. reply_of answer ≡
-            value_seen (rules_in mappings.now) (query_of query.now) self.now (Caused (heading_of direction))) }
+            value_seen (rules_in mappings.now) (query_of query.now) self.now
+            (Caused (heading_of direction))) }
     {
         self.value(query, mappings, Counted::Caused(direction), alloc)
     }
@@ -120,7 +121,8 @@ impl<'a, F: Facts> View<'a, F> {
         alloc: Global,
     ) -> Result<Answer, Memory>
         ensures value { IfOk result (λ answer. reply_of answer ≡
-            value_seen (rules_in mappings.now) (query_of query.now) self.now (scope_meant counted)) }
+            value_seen (rules_in mappings.now) (query_of query.now) self.now
+            (scope_meant counted)) }
     {
         match query {
             Query::Present(tuple) => Ok(presence(tuple, &self.overlay)),

@@ -33,7 +33,8 @@ pub(crate) fn answered(
     requires room { fresh.drawn + 64 < 4294967296 }
     requires kind { IsOfKind mappings.now (query_of reading.now.query) (reply_of answer.now) }
     ensures value { IfOk result
-        (HasGoneOnAs mappings.now fresh (operation_of operation.now) (reading_of reading.now) (reply_of answer.now)) }
+        (HasGoneOnAs mappings.now fresh (operation_of operation.now) (reading_of reading.now)
+        (reply_of answer.now)) }
     ensures turn { IfOk result (IsTurnOf (begun_in (reading_of reading.now))) }
 {
     match &reading.row {

@@ -100,7 +100,8 @@ pub(crate) fn found_violation(
 ) -> Result<Turn, Memory>
     requires room { fresh.drawn + 64 < 4294967296 }
     ensures value { IfOk result
-        (HasGoneOnAs mappings.now fresh (operation_of operation.now) (Violating place) (reply_of answer.now)) }
+        (HasGoneOnAs mappings.now fresh (operation_of operation.now) (Violating place)
+        (reply_of answer.now)) }
     ensures turn { IfOk result (IsTurnOf Look) }
 {
     match answer {

@@ -25,7 +25,8 @@ pub(crate) fn looks_on(
     mappings: &Mappings<'_>,
 ) -> bool
     ensures goes { result ≡ true →
-        LooksOn mappings.now number (reading_of reading.old) (reply_of answer.now) (reading_of reading.new) }
+        LooksOn mappings.now number (reading_of reading.old) (reply_of answer.now)
+        (reading_of reading.new) }
     ensures phase { begun_in (reading_of reading.new) ≡ begun_in (reading_of reading.old) }
     ensures stays { result ≡ false → reading_of reading.new ≡ reading_of reading.old }
 {
@@ -42,7 +43,8 @@ pub(crate) fn looks_on(
 // row, and no mapping between may be in force.
 fn next_looked_at(row: &Row, number: u32, answer: &Answer, mappings: &Mappings<'_>) -> Option<u16>
     ensures goes { IfSome result (λ next.
-        (q : QueryMeant) → LooksOn mappings.now number (row_of row.now q) (reply_of answer.now) (Violating next)) }
+        (q : QueryMeant) → LooksOn mappings.now number (row_of row.now q) (reply_of answer.now)
+        (Violating next)) }
     ensures phase { IfSome result (λ next. (q : QueryMeant) → begun_in (row_of row.now q) ≡ Look) }
 {
     match (row, answer) {

@@ -31,7 +31,8 @@ pub(crate) fn found_replaced(
     requires { (ms : List Rule) → IsOfKind ms (Occurs name.update name.place)
         (reply_of answer.now) }
     ensures value { IfOk result
-        (HasGoneOnFor (operation_of operation.now) (Replacing (null_of name)) (reply_of answer.now)) }
+        (HasGoneOnFor (operation_of operation.now) (Replacing (null_of name))
+        (reply_of answer.now)) }
     ensures turn { IfOk result (IsTurnOf Start) }
 {
     match holders(answer) {
@@ -99,7 +100,8 @@ pub(crate) fn found_replacement(
 // Rewrites the tuples with the value in place of the null.
 fn rewritten(alloc: Global, null: Null, value: Value, tuples: &TupleList) -> Result<Turn, Memory>
     ensures value { IfOk result
-        (AlwaysComesTo (rewriting (Unknown (null_of null)) (datum_of value) (facts_of tuples.now))) }
+        (AlwaysComesTo (rewriting (Unknown (null_of null)) (datum_of value)
+        (facts_of tuples.now))) }
     ensures turn { IfOk result (IsTurnOf Start) }
 {
     let mut sub = Sub::new(alloc);

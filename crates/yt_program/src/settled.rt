@@ -30,7 +30,8 @@ impl Program {
 // Where the first violation of a mapping with a mark is asked for, passes on to the next mapping without a mark, or to
 // the last before one that may be in force, but is not so from the start.
 fn pass(reading: &mut Reading, number: u32, marks: &[bool], mappings: &Mappings<'_>)
-    ensures passed { Passes mappings.now marks.now number (reading_of reading.old) (reading_of reading.new) }
+    ensures passed { Passes mappings.now marks.now number (reading_of reading.old)
+        (reading_of reading.new) }
     ensures phase { begun_in (reading_of reading.new) ≡ begun_in (reading_of reading.old) }
 {
     if let Row::Violating(place) = &reading.row {

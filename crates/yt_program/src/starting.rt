@@ -72,7 +72,8 @@ fn next_name(
     next: usize,
 ) -> Result<Turn, Memory>
     ensures value { IfOk result
-        (LooksUp (operation_of operation.now) (map standing_of found.items) (map null_of (drop next names.items))) }
+        (LooksUp (operation_of operation.now) (map standing_of found.items)
+        (map null_of (drop next names.items))) }
     ensures turn { IfOk result (IsTurnOf Start) }
 {
     match names.get(next) {

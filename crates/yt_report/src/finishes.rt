@@ -59,7 +59,8 @@ fn with_finish_at(
 ) -> Result<Page, Memory>
     requires { place < length finishes.now }
     ensures { (f : Finish) → slice_get finishes.now place ≡ Some f →
-        IfOk result (HasLine page (finish_words (updates_of updates.now) (place + 1) (finish_of f))) }
+        IfOk result (HasLine page (finish_words (updates_of updates.now) (place + 1)
+        (finish_of f))) }
 {
     let Some(finish) = finishes.get(place) else {
         unreachable!()

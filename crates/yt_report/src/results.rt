@@ -65,7 +65,8 @@ pub fn question_lines(
     question: &Question,
 ) -> Result<Vec<u8>, Memory>
     ensures text { IfOk result (λ text.
-        text.items ≡ lines_text (lines_of_question (session_of session.now) (inquiry_of question.now))) }
+        text.items ≡ lines_text (lines_of_question (session_of session.now)
+        (inquiry_of question.now))) }
 {
     let page = with_question(Page::new(alloc), session, question)?;
     Ok(page.into_text())

@@ -95,7 +95,8 @@ fn saved_mappings(
     mappings: &[Mapping],
 ) -> Result<MappingList, Memory>
     ensures { IfOk result (λ kept.
-        mappings_of kept ≡ saved_mappings (map finish_of finishes.now) (map session_mapping_of mappings.now)) }
+        mappings_of kept ≡ saved_mappings (map finish_of finishes.now)
+        (map session_mapping_of mappings.now)) }
 {
     let mut kept = List::new(alloc);
     for mapping in mappings {

@@ -133,8 +133,11 @@ fn with_sides(
     right: &[Atom],
 ) -> Result<Page, Memory>
     ensures { IfOk result (λ p. p ≡ with_words page
-        (separated atom_words (map (written_atom schema.now (map (λ n. n.items) names.now)) (map pattern_of left.now))
-        ++ arrow ∷ separated atom_words (map (written_atom schema.now (map (λ n. n.items) names.now)) (map pattern_of right.now)))) }
+        (separated atom_words (map (written_atom schema.now (map (λ n. n.items) names.now))
+        (map pattern_of left.now))
+        ++ arrow ∷ separated atom_words
+        (map (written_atom schema.now (map (λ n. n.items) names.now))
+        (map pattern_of right.now)))) }
 {
     let behind = with_atoms(page, schema, names, left)?.arrow()?;
     with_atoms(behind, schema, names, right)

@@ -46,7 +46,8 @@ pub(crate) fn stop(
     requires between { program.now.reading ≡ None }
     requires asked { is_some (question_in program.now.attempt.phase) ≡ true }
     ensures told { IfOk result (λ stop.
-        option_map stop_in (stopped number program.now.attempt (lack_of lack)) ≡ Some (stop_of stop)) }
+        option_map stop_in (stopped number program.now.attempt (lack_of lack)) ≡
+        Some (stop_of stop)) }
 {
     match program.wants() {
         Want::Choice(question) => {

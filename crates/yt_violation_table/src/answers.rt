@@ -28,11 +28,14 @@ impl Answers {
         facts: &F,
     ) -> Result<Answers, Memory>
         ensures all { IfOk result (λ answers. option_map facts_of answers.all ≡
-            first_violation_lem Every (changes_of own.now) (rule_of mapping.now) (F.tuples facts.now)) }
+            first_violation_lem Every (changes_of own.now) (rule_of mapping.now)
+            (F.tuples facts.now)) }
         ensures forward { IfOk result (λ answers. option_map facts_of answers.forward ≡
-            first_violation_lem (Caused Forward) (changes_of own.now) (rule_of mapping.now) (F.tuples facts.now)) }
+            first_violation_lem (Caused Forward) (changes_of own.now) (rule_of mapping.now)
+            (F.tuples facts.now)) }
         ensures backward { IfOk result (λ answers. option_map facts_of answers.backward ≡
-            first_violation_lem (Caused Backward) (changes_of own.now) (rule_of mapping.now) (F.tuples facts.now)) }
+            first_violation_lem (Caused Backward) (changes_of own.now) (rule_of mapping.now)
+            (F.tuples facts.now)) }
     {
         let all = first_image(alloc, mapping, facts, Scope::All)?;
         let forward = first_image(alloc, mapping, facts, Scope::Forward(own))?;
