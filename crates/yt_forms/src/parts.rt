@@ -101,7 +101,8 @@ fn term_of(alloc: Global, word: Word<'_>) -> Result<RawTerm, FormRefusal>
 // A value, whether a comma stands behind it, and what stands behind that or behind the parenthesis.
 #[tactic(auto, unfolding(yt_grammar::specs::Parts::item_at))]
 fn value_at(alloc: Global, words: Words<'_>) -> Result<(Value, bool, Words<'_>), FormRefusal>
-    ensures gives { Gives (λ x. (datum_of x.0, x.1, words_of x.2)) result (item_at missing.Value value_of (words_of words.entry)) }
+    ensures gives { Gives (λ x. (datum_of x.0, x.1, words_of x.2)) result
+        (item_at missing.Value value_of (words_of words.entry)) }
     ensures shorter { IfOk result (λ x. length (words_of x.2) < length (words_of words.entry)) }
 {
     let Some((word, others)) = words.split_first() else {
@@ -118,7 +119,8 @@ fn value_at(alloc: Global, words: Words<'_>) -> Result<(Value, bool, Words<'_>),
 // A term, likewise.
 #[tactic(auto, unfolding(yt_grammar::specs::Parts::item_at))]
 fn term_at(alloc: Global, words: Words<'_>) -> Result<(RawTerm, bool, Words<'_>), FormRefusal>
-    ensures gives { Gives (λ x. (term_meant x.0, x.1, words_of x.2)) result (item_at missing.Term term_of (words_of words.entry)) }
+    ensures gives { Gives (λ x. (term_meant x.0, x.1, words_of x.2)) result
+        (item_at missing.Term term_of (words_of words.entry)) }
     ensures shorter { IfOk result (λ x. length (words_of x.2) < length (words_of words.entry)) }
 {
     let Some((word, others)) = words.split_first() else {
@@ -133,7 +135,9 @@ fn term_at(alloc: Global, words: Words<'_>) -> Result<(RawTerm, bool, Words<'_>)
 }
 
 fn values_at(alloc: Global, words: Words<'_>) -> Result<(Row, Words<'_>), FormRefusal>
-    ensures gives { Gives (λ x. (map datum_of x.0.items, words_of x.1)) result (many (length (words_of words.entry)) (item_at missing.Value value_of) (words_of words.entry)) }
+    ensures gives { Gives (λ x. (map datum_of x.0.items, words_of x.1)) result
+        (many (length (words_of words.entry)) (item_at missing.Value value_of)
+        (words_of words.entry)) }
     ensures shorter { IfOk result (λ x. length (words_of x.1) ≤ length (words_of words.entry)) }
 {
     let mut found = List::new(alloc);
@@ -149,7 +153,9 @@ fn values_at(alloc: Global, words: Words<'_>) -> Result<(Row, Words<'_>), FormRe
 }
 
 fn terms_at(alloc: Global, words: Words<'_>) -> Result<(RawTermList, Words<'_>), FormRefusal>
-    ensures gives { Gives (λ x. (map term_meant x.0.items, words_of x.1)) result (many (length (words_of words.entry)) (item_at missing.Term term_of) (words_of words.entry)) }
+    ensures gives { Gives (λ x. (map term_meant x.0.items, words_of x.1)) result
+        (many (length (words_of words.entry)) (item_at missing.Term term_of)
+        (words_of words.entry)) }
     ensures shorter { IfOk result (λ x. length (words_of x.1) ≤ length (words_of words.entry)) }
 {
     let mut found = List::new(alloc);
@@ -167,7 +173,8 @@ fn terms_at(alloc: Global, words: Words<'_>) -> Result<(RawTermList, Words<'_>),
 /// A fact, and what stands behind it.
 #[tactic(auto, unfolding(yt_grammar::specs::Parts::fact_at, yt_grammar::specs::Parts::items_at))]
 pub(crate) fn fact_at(alloc: Global, words: Words<'_>) -> Result<(RawFact, Words<'_>), FormRefusal>
-    ensures gives { Gives (λ x. (fact_meant x.0, words_of x.1)) result (fact_at (words_of words.entry)) }
+    ensures gives { Gives (λ x. (fact_meant x.0, words_of x.1)) result
+        (fact_at (words_of words.entry)) }
     ensures shorter { IfOk result (λ x. length (words_of x.1) < length (words_of words.entry)) }
 {
     let (relation, rest) = name_at(alloc, words)?;
@@ -179,7 +186,8 @@ pub(crate) fn fact_at(alloc: Global, words: Words<'_>) -> Result<(RawFact, Words
 /// An atom, and what stands behind it.
 #[tactic(auto, unfolding(yt_grammar::specs::Parts::atom_at, yt_grammar::specs::Parts::items_at))]
 pub(crate) fn atom_at(alloc: Global, words: Words<'_>) -> Result<(RawAtom, Words<'_>), FormRefusal>
-    ensures gives { Gives (λ x. (atom_meant x.0, words_of x.1)) result (atom_at (words_of words.entry)) }
+    ensures gives { Gives (λ x. (atom_meant x.0, words_of x.1)) result
+        (atom_at (words_of words.entry)) }
     ensures shorter { IfOk result (λ x. length (words_of x.1) < length (words_of words.entry)) }
 {
     let (relation, rest) = name_at(alloc, words)?;

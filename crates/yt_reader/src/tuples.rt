@@ -40,8 +40,10 @@ fn fact_on(alloc: Global, line: &[u8]) -> Result<RawFact, LineRefusal>
 /// The fact that a text spells, if it spells one. Blanks and a comment may stand around the fact; a line feed may stand
 /// nowhere. It is refused only for want of memory.
 pub fn read_fact(alloc: Global, text: &[u8]) -> Result<Option<RawFact>, Memory>
-    ensures some { IfOk result (λ found. IfSome found (λ fact. SpellsFact text.now (fact_meant fact))) }
-    ensures none { IfOk result (λ found. IfNone found ((fact : WrittenFact) → SpellsFact text.now fact → ⊥)) }
+    ensures some { IfOk result (λ found. IfSome found (λ fact.
+        SpellsFact text.now (fact_meant fact))) }
+    ensures none { IfOk result (λ found. IfNone found ((fact : WrittenFact) →
+        SpellsFact text.now fact → ⊥)) }
 {
     if utf8_end(text).is_some() {
         return Ok(None);

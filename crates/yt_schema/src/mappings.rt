@@ -76,7 +76,8 @@ fn atoms_of(
     variables: &Variables,
     atoms: &[RawAtom],
 ) -> Result<AtomList, SchemaRefusal>
-    ensures { Gives (λ l. map pattern_meant l.items) result (each (pattern_of schema.now variables.now) (map atom_of atoms.now)) }
+    ensures { Gives (λ l. map pattern_meant l.items) result
+        (each (pattern_of schema.now variables.now) (map atom_of atoms.now)) }
 {
     let mut found = List::new(alloc);
     for atom in atoms {
@@ -111,7 +112,8 @@ fn mapping_over(
     left: &RawAtoms,
     right: &RawAtoms,
 ) -> Result<Mapping, SchemaRefusal>
-    ensures { Gives session_mapping_of result (mapping_over schema.now since (mapping_written left.now right.now)) }
+    ensures { Gives session_mapping_of result
+        (mapping_over schema.now since (mapping_written left.now right.now)) }
 {
     let mut variables = Variables::new(alloc);
     variables.note_atoms(alloc, left.atoms.as_slice())?;
@@ -145,7 +147,8 @@ pub fn check_added_mapping(
     right: &RawAtoms,
 ) -> Result<Mapping, SchemaRefusal>
     requires one_name { left.now.name.items ≡ right.now.name.items }
-    ensures checked { Gives session_mapping_of result (mapping_of schema.now since (mapping_written left.now right.now)) }
+    ensures checked { Gives session_mapping_of result
+        (mapping_of schema.now since (mapping_written left.now right.now)) }
 {
     sides_fit(left, right)?;
     atoms_fit(alloc, schema, left.atoms.as_slice())?;
@@ -161,7 +164,8 @@ pub fn check_mapping(
     right: &RawAtoms,
 ) -> Result<Mapping, SchemaRefusal>
     requires one_name { left.now.name.items ≡ right.now.name.items }
-    ensures checked { Gives session_mapping_of result (mapping_of schema.now 0 (mapping_written left.now right.now)) }
+    ensures checked { Gives session_mapping_of result
+        (mapping_of schema.now 0 (mapping_written left.now right.now)) }
 {
     check_added_mapping(alloc, schema, 0, left, right)
 }
