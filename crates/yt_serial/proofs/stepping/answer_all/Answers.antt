@@ -10,13 +10,15 @@ use Rattle.yt_program.specs.Wishes.{wish}
 use Rattle.yt_serial.proofs.Answered.{answers_there, answered_same, answered_fewer, settled_there, takes}
 use Rattle.yt_serial.proofs.stepping.answer_all.Goals as goal
 
-pub take-requires-clause-kind : goal.take-requires-clause-kind
-take-requires-clause-kind c =
+pub take-requires : goal.take-requires
+take-requires c =
     let ms = c.args.mappings.now in
     let q = query_of c.in-Read.query.now in
-    takes ms (wish c.pass.new.self) q (reply_of c.in_ok-answer.answer) c.in-Read.ensures.want
-    (subst (IsOfKind ms q) (sym (answers_there ms q (reply_of c.in_ok-answer.answer) c.queries.view c.args.view.now c.queries.invariant.same c.requires.rules c.in_ok-answer.ensures.value))
-    (values_are_of_kind ms q c.args.view.now.below c.args.view.now.own (Caused c.args.view.now.heading) c.requires.sorted))
+    record {
+      kind = takes ms (wish c.pass.new.self) q (reply_of c.in_ok-answer.answer) c.in-Read.ensures.want
+          (subst (IsOfKind ms q) (sym (answers_there ms q (reply_of c.in_ok-answer.answer) c.queries.view c.args.view.now c.queries.invariant.same c.requires.rules c.in_ok-answer.ensures.value))
+          (values_are_of_kind ms q c.args.view.now.below c.args.view.now.own (Caused c.args.view.now.heading) c.requires.sorted));
+    }
 
 pub queries-smaller-in_ok-take : goal.queries-smaller-in_ok-take
 queries-smaller-in_ok-take c =
