@@ -7,3 +7,4 @@ pub mod Sessions
 pub mod HistoryWords
 pub mod AbortRows
 pub mod CascadeRows
+pub mod PlainEntries

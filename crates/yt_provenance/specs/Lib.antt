@@ -1,0 +1,5 @@
+pub mod Puts
+pub mod Courses
+pub mod Reasons
+pub mod Notes
+pub mod Laws
