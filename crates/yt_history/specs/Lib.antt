@@ -8,3 +8,5 @@ pub mod HistoryWords
 pub mod AbortRows
 pub mod CascadeRows
 pub mod PlainEntries
+pub mod Cores
+pub mod CoreLaws
