@@ -6,6 +6,7 @@ use crate::points::Point;
 use crate::programs::{Hand, Program};
 use std::alloc::Global;
 use yt_base::{Memory, TryCopy, WriteList};
+use yt_limits::Budget;
 
 impl Program {
     /// The attempt's number. It takes no memory.
@@ -29,7 +30,7 @@ impl Program {
             nulls: 0,
             taken: 0,
             hand: Hand {
-                budget: 0,
+                budget: Budget::new(1),
                 answers: false,
             },
             point: Point::Start,
