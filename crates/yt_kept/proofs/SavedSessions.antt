@@ -11,7 +11,7 @@ use Rattle.yt_model.specs.Repository.{IsRepository, has}
 use Rattle.yt_model.specs.Mappings.{Holds, in_force, force, HoldFrom, AllHold}
 use Rattle.yt_model.specs.Violations.{Every, first_violation}
 use Rattle.yt_model.specs.Laws.{HaveNoNulls}
-use Rattle.yt_model.proofs.Bools.{differ, first_off, or_left, or_right}
+use Rattle.yt_model.proofs.Bools.{differ, first_off, none_some, or_left, or_right}
 use Rattle.yt_model.proofs.Maps.{length_map, get_map}
 use Rattle.yt_model.proofs.Violations.{first_violation_is}
 use Rattle.yt_steps.specs.Attempts.{Outcome, Done, Spent, Refused}
@@ -109,7 +109,7 @@ none_left p R E r order n (m ∷ ms) plain acts hold forced =
 -- Each that is in force holds in what is told of the repository.
 plain_holding : (k : ℕ) (ms : List SessionMapping) (R : List Fact) → HoldFrom k (rules_of ms) R → repairs_plainly (rules_of ms) ≡ true
     → (n : ℕ) (m : SessionMapping) → slice_get ms n ≡ Some m → in_force (k + n) m.rule R ≡ true → Holds m.rule (answered R)
-plain_holding k [] R hold acts n m e f = cc
+plain_holding k [] R hold acts n m e f = absurd (none_some m e)
 plain_holding k (x ∷ ms) R hold acts zero m e f =
     let same : x ≡ m = cc in
     let first : k + 0 ≡ k = omega arith in
