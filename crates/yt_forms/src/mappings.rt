@@ -117,9 +117,9 @@ fn left_at(alloc: Global, words: Words<'_>) -> Result<(RawAtomList, Words<'_>), 
     }
 }
 
-// The atoms of the right side, which ends the line.
+/// The atoms of a right side or of a query's body, to the end of the line.
 #[tactic(auto, unfolding(yt_grammar::specs::Parts::right_at))]
-fn right_at(alloc: Global, words: Words<'_>) -> Result<RawAtomList, FormRefusal>
+pub fn right_at(alloc: Global, words: Words<'_>) -> Result<RawAtomList, FormRefusal>
     ensures gives { Gives (λ x. map atom_meant x.items) result (right_at (words_of words.entry)) }
 {
     match words.split_first() {

@@ -25,7 +25,7 @@ fn copied(alloc: Global, bytes: &[u8]) -> Result<Name, Memory>
 
 /// A name, and what stands behind it.
 #[tactic(auto, unfolding(yt_grammar::specs::Parts::name_at))]
-pub(crate) fn name_at(alloc: Global, words: Words<'_>) -> Result<(Name, Words<'_>), FormRefusal>
+pub fn name_at(alloc: Global, words: Words<'_>) -> Result<(Name, Words<'_>), FormRefusal>
     ensures gives { Gives (λ x. (x.0.items, words_of x.1)) result (name_at (words_of words.entry)) }
     ensures shorter { IfOk result (λ x. length (words_of x.1) < length (words_of words.entry)) }
 {
@@ -35,8 +35,9 @@ pub(crate) fn name_at(alloc: Global, words: Words<'_>) -> Result<(Name, Words<'_
     }
 }
 
+/// What stands behind `(`.
 #[tactic(auto, unfolding(yt_grammar::specs::Parts::open_at))]
-fn open_at(words: Words<'_>) -> Result<Words<'_>, FormRefusal>
+pub fn open_at(words: Words<'_>) -> Result<Words<'_>, FormRefusal>
     ensures gives { Gives (λ x. words_of x) result (open_at (words_of words.entry)) }
     ensures shorter { IfOk result (λ x. length (words_of x) < length (words_of words.entry)) }
 {
@@ -46,8 +47,9 @@ fn open_at(words: Words<'_>) -> Result<Words<'_>, FormRefusal>
     }
 }
 
+/// What stands behind `:`.
 #[tactic(auto, unfolding(yt_grammar::specs::Parts::colon_at))]
-pub(crate) fn colon_at(words: Words<'_>) -> Result<Words<'_>, FormRefusal>
+pub fn colon_at(words: Words<'_>) -> Result<Words<'_>, FormRefusal>
     ensures gives { Gives (λ x. words_of x) result (colon_at (words_of words.entry)) }
     ensures shorter { IfOk result (λ x. length (words_of x) < length (words_of words.entry)) }
 {

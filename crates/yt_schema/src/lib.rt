@@ -19,7 +19,7 @@ mod statements;
 mod variables;
 mod written;
 
-pub use crate::mappings::{check_added_mapping, check_mapping};
+pub use crate::mappings::{check_added_mapping, check_mapping, numbered_atoms};
 pub use crate::names::Names;
 pub use crate::page::Page;
 pub use crate::printing::print_tuple;

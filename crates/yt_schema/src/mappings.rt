@@ -6,8 +6,9 @@ ghost use Rattle.yt_grammar.specs.Reading.{each};
 ghost use Rattle.yt_grammar.specs.Meaning.{few_atoms, mapping_of, pattern_of, some_atoms};
 ghost use Rattle.yt_schema.specs.Answers.{Gives};
 ghost use Rattle.yt_schema.specs.Meanings.{atom_of, mapping_written, session_mapping_of};
-ghost use Rattle.yt_schema.specs.Relations.{atoms_fit, mapping_over, sides_fit};
+ghost use Rattle.yt_schema.specs.Relations.{atoms_fit, mapping_over, numbered_atoms, sides_fit};
 
+use crate::names::Names;
 use crate::refusals::SchemaRefusal;
 use crate::schema::Schema;
 use crate::variables::Variables;
@@ -82,6 +83,23 @@ fn atoms_of(
         found.push(atom_of(alloc, schema, variables, atom)?)?;
     }
     Ok(found)
+}
+
+/// Atoms with relations and variables by number, and the names of the variables in the order of their numbers.
+/// Variables are numbered by first occurrence. The atoms are refused at the first from the left whose relation is not
+/// known or has another number of columns.
+#[tactic(auto, unfolding(crate::specs::Relations::numbered_atoms))]
+pub fn numbered_atoms(
+    alloc: Global,
+    schema: &Schema,
+    atoms: &[RawAtom],
+) -> Result<(AtomList, Names), SchemaRefusal>
+    ensures numbered { Gives (λ x. (map pattern_meant x.0.items, x.1.items)) result (numbered_atoms schema.now (map atom_of atoms.now)) }
+{
+    let mut variables = Variables::new(alloc);
+    variables.note_atoms(alloc, atoms)?;
+    let found = atoms_of(alloc, schema, &variables, atoms)?;
+    Ok((found, variables.into_names()))
 }
 
 // A mapping whose sides have been found to fit.

@@ -121,4 +121,11 @@ impl Variables {
     {
         self.names.list(alloc)
     }
+    /// The names. It takes no memory.
+    pub(crate) fn into_names(self) -> Names
+        ensures { result.items ≡ self }
+    {
+        let Variables { names } = self;
+        names
+    }
 }

@@ -1,0 +1,5 @@
+pub mod Cursors
+pub mod Further
+pub mod Settled
+pub mod Heads
+pub mod Gathered
