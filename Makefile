@@ -3,8 +3,17 @@ PREFIX ?= /usr/local
 NAME = youtopia
 PROGRAM = crates/$(NAME)/out/$(NAME)
 EXAMPLE ?= examples/first.session
+SEED ?= 1
+COUNT ?= 1000
 
-.PHONY: help run build install test
+# Where each file that is installed goes.
+BIN = $(DESTDIR)$(PREFIX)/bin/$(NAME)
+MAN = $(DESTDIR)$(PREFIX)/share/man/man1/$(NAME).1
+BASH = $(DESTDIR)$(PREFIX)/share/bash-completion/completions/$(NAME)
+ZSH = $(DESTDIR)$(PREFIX)/share/zsh/site-functions/_$(NAME)
+FISH = $(DESTDIR)$(PREFIX)/share/fish/vendor_completions.d/$(NAME).fish
+
+.PHONY: help run build install uninstall share quick checks differential test
 
 help:
 	@echo 'make run               run the first example, by the program as proved, or by the quick run without proof'
@@ -12,24 +21,51 @@ help:
 	@echo '                       run another session'
 	@echo 'make build             prove and build the program'
 	@echo 'make install PREFIX=/usr/local'
-	@echo '                       put the built program into PREFIX/bin'
-	@echo 'make test              prove every crate, try every must-fail edit, run every program and stored row'
+	@echo '                       put the built program, its man page and the completions of bash, zsh and fish below PREFIX'
+	@echo 'make uninstall         take them away'
+	@echo 'make quick             build without proof and run every stored row, in less than three minutes'
+	@echo 'make checks            what needs no prover: pages, figures, stored rows and tables of the built program'
+	@echo 'make differential SEED=1 COUNT=1000'
+	@echo '                       compare the built program with the reference in Python on random sessions'
+	@echo 'make share             make the man page and the completions from share/words.tsv'
+	@echo 'make test              the gate: prove every crate, try every must-fail edit, run every test, program and check'
 
 run:
 	@if [ -x $(PROGRAM) ]; then \
 	  echo '$(NAME) run, as it was proved and built:'; $(PROGRAM) run < $(EXAMPLE); \
 	else \
-	  echo '$(NAME) run, by the quick run without proof (make build proves it):'; cd crates/$(NAME) && rt try -- run < ../../$(EXAMPLE) 2>/dev/null; \
+	  echo '$(NAME) run, by the quick run without proof (make build proves it):'; told=$$(mktemp); \
+	  (cd crates/$(NAME) && rt try -- run < ../../$(EXAMPLE)) 2> $$told; status=$$?; \
+	  grep -vE '^(checked: |run=)' $$told >&2; rm -f $$told; exit $$status; \
 	fi
 
 build:
 	cd crates/$(NAME) && rt run -- run < ../../$(EXAMPLE)
 
 install: $(PROGRAM)
-	install -D -m 755 $(PROGRAM) $(DESTDIR)$(PREFIX)/bin/$(NAME)
+	install -D -m 755 $(PROGRAM) $(BIN)
+	install -D -m 644 share/$(NAME).1 $(MAN)
+	install -D -m 644 share/$(NAME).bash $(BASH)
+	install -D -m 644 share/_$(NAME) $(ZSH)
+	install -D -m 644 share/$(NAME).fish $(FISH)
+
+uninstall:
+	rm -f $(BIN) $(MAN) $(BASH) $(ZSH) $(FISH)
 
 $(PROGRAM):
 	$(MAKE) build
+
+share:
+	share/write
+
+quick:
+	tests/quick
+
+checks: $(PROGRAM)
+	tests/run
+
+differential: $(PROGRAM)
+	tests/differential $(SEED) $(COUNT)
 
 test:
 	.ci/run

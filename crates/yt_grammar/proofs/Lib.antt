@@ -27,3 +27,4 @@ mod Kept
 mod Held
 mod Once
 mod Direct
+mod Alone

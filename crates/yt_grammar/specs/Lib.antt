@@ -16,3 +16,4 @@ pub mod Layout
 pub mod Printing
 pub mod Validity
 pub mod Texts
+pub mod Lone

@@ -3,9 +3,11 @@
 //! the programs that read and print cite them in their contracts.
 #![tactic(auto)]
 
+mod facts;
 mod laws;
 mod rows;
 
+pub use facts::{lines_say_tuples, tuples_are_read_again};
 pub use laws::{
     bytes_are_text_first, closure_decides, every_input_has_one_answer, format_2_has_more_relations,
     nothing_else_is_read, sessions_are_read_again, spelled_sessions_are_valid,

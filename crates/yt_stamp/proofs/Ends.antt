@@ -2,15 +2,14 @@
 use Rattle.std.proofs.Common.{◌≡◌, inl, ⊎_elim, ℕ, zero, suc, ◌+◌, ◌<◌, List, [], ◌∷◌, length, sym, refl, ap, ◌∙◌, subst, arith, add-one, Some}
 use Rattle.std.specs.declared.option.Option as rattle
 use mathlib.Core.Option.{Option, none, some, some-injective, some-ne-none}
-use mathlib.Core.List.{IsPrefix}
 use lib.ListN.{get_elem?}
 use Rattle.yt_stamp.specs.declared.history.Made.{Made}
 use Rattle.yt_stamp.specs.declared.view.View.{View}
 use Rattle.yt_stamp.specs.declared.view.Stage.TheVariants.{Resting, Opened}
 use Rattle.atomic_table.specs.Table.{State, Final, Seen, opening}
-use Rattle.yt_stamp.specs.Rule.{first_view, Fits, KeptOf, Kept}
+use Rattle.yt_stamp.specs.Rule.{first_view, FollowsAmong, Fits, KeptOf, Kept}
 use Rattle.yt_stamp.proofs.Lists.{within, there_is, at_end}
-use Rattle.yt_stamp.proofs.Histories.{follows_self, follows_prefix}
+use Rattle.yt_stamp.proofs.Histories.{follows_self}
 use Rattle.yt_stamp.proofs.Views.{IsOpened}
 
 module _ {E V : Type 0} (entries : V → List (Made E)) where
@@ -48,11 +47,11 @@ module _ {E V : Type 0} (entries : V → List (Made E)) where
       let same : u ≡ sp.0 = some-injective u sp.0 (sym e ∙ here) in
       subst IsOpened (sym opened ∙ (ap (λ (z : View E). z.stage) same ∙ sp.2)) tt
 
-  -- once the dealer has gathered every seat, the value is at home, and begins with what each has seen
-  abbrev pub Ends : View E → V → Type 0
-  Ends v x = IsPrefix v.seen (entries x) × ((k : ℕ) (xs : List (Made E)) → get_elem? v.joined k ≡ some xs → IsPrefix xs (entries x))
+  -- once the dealer has gathered every seat, the value is at home, begins with what each has seen, and goes on by entries of the others
+  abbrev pub Ends : ℕ → View E → V → Type 0
+  Ends n v x = FollowsAmong n 0 v.seen (entries x) × ((k : ℕ) (xs : List (Made E)) → get_elem? v.joined k ≡ some xs → FollowsAmong n (k + 1) xs (entries x))
 
-  pub ends : (id : ℕ) (v : View E) (ws : List ℕ) (xs : List (rattle.Option V)) → v.stage ≡ Resting → 0 < v.dealt → v.dealt ≡ length v.joined + 1 → Final (Seen Rule id v) ws xs → (x : V) × (get_elem? xs 0 ≡ some (Some x)) × Ends v x
+  pub ends : (id : ℕ) (v : View E) (ws : List ℕ) (xs : List (rattle.Option V)) → v.stage ≡ Resting → 0 < v.dealt → v.dealt ≡ length v.joined + 1 → Final (Seen Rule id v) ws xs → (x : V) × (get_elem? xs 0 ≡ some (Some x)) × Ends v.dealt v x
   ends id v ws xs stage some_dealt all f =
       let s = f.0 in let r : KeptOf entries s.words s.homes s.views = f.1.0 in let at : get_elem? s.views id ≡ some v = f.1.1 in
       let q = r.dealer id v at some_dealt in
@@ -62,8 +61,8 @@ module _ {E V : Type 0} (entries : V → List (Made E)) where
         h.0,
         f.4 0 (Some h.0) (ap (λ (l : List (Option (rattle.Option V))). get_elem? l 0) h.1),
         (
-          subst (λ (ys : List (Made E)). IsPrefix v.seen ys) (sym h.2) (follows_prefix (length s.views) id v.seen r.current mine.1),
-          λ k ys e. subst (λ (zs : List (Made E)). IsPrefix ys zs) (sym h.2) (r.gathered id v at k ys e).0,
+          subst (λ (y : ℕ × ℕ × List (Made E)). FollowsAmong y.0 y.1 v.seen y.2) (λ i. (sym q.1 i, q.0 i, sym h.2 i)) mine.1,
+          λ k ys e. subst (λ (y : ℕ × List (Made E)). FollowsAmong y.0 (k + 1) ys y.1) (λ i. (sym q.1 i, sym h.2 i)) (r.gathered id v at k ys e).0,
         ),
       ))
       (λ (h : (s.homes ≡ none ∷ []) × ((j : ℕ) × (u : View E) × (get_elem? s.views j ≡ some u) × (u.stage ≡ Opened r.passed))).

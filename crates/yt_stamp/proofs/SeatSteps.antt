@@ -1,9 +1,7 @@
 -- Splitting a seat off the first, and joining one to it, keep the rule.
 use Rattle.std.proofs.Common.{◌≡◌, inl, inr, ⊎_elim, ℕ, ◌+◌, ◌<◌, List, [], ◌∷◌, ◌++◌, length, set, sym, refl, ap, ◌∙◌, subst, arith, length-set, length-append}
-use Rattle.std.proofs.lemmas.List.{append-nil}
 use Rattle.std.specs.declared.option.Option as rattle
 use mathlib.Core.Option.{Option, none, some, some-ne-none}
-use mathlib.Core.List.{IsPrefix}
 use lib.ListN.{get_elem?}
 use Rattle.yt_stamp.specs.declared.history.Made.{Made}
 use Rattle.yt_stamp.specs.declared.view.View.{View}
@@ -11,11 +9,11 @@ use Rattle.yt_stamp.specs.declared.view.Stage.{Stage}
 use Rattle.yt_stamp.specs.declared.view.Stage.TheVariants.{Resting, Waiting, Opened, Spent}
 use Rattle.atomic_table.specs.Table.{State, Splits, Joins}
 use Rattle.atomic_table.proofs.Lists.{set_here, set_else, at_longer}
-use Rattle.yt_stamp.specs.Rule.{HasTurn, turns_in, IsSpent, Fits, KeptOf, Kept}
+use Rattle.yt_stamp.specs.Rule.{HasTurn, turns_in, FollowsAmong, IsSpent, Fits, KeptOf, Kept}
 use Rattle.yt_stamp.specs.Steps.{dealer, dealt, both_of, spent_view}
 use Rattle.yt_stamp.proofs.Lists.{within, at_end, set_comm, all_set}
 use Rattle.yt_stamp.proofs.Totals.{total_set, total_snoc}
-use Rattle.yt_stamp.proofs.Histories.{follows_prefix, follows_dealt, follows_new}
+use Rattle.yt_stamp.proofs.Histories.{follows_dealt, follows_new}
 use Rattle.yt_stamp.proofs.Views.{IsLive, IsOpened, spent_stays, changed, slot_stays}
 
 module _ {E V : Type 0} (entries : V → List (Made E)) where
@@ -77,13 +75,14 @@ module _ {E V : Type 0} (entries : V → List (Made E)) where
             (λ j d other e some. absurd (other ((r.dealer j d e some).0 ∙ sym q.0))) j d h some)
             (λ (h : (j ≡ length vs) × (b ≡ d)). absurd (let z : 0 < b.dealt = subst (λ (z : View E). 0 < z.dealt) (sym h.1) some in omega arith))
             (at_end vs b d j e);
-        gathered = λ j d e k xs there. ⊎_elim
-            (λ h. all_set (λ j d. (k : ℕ) (xs : List (Made E)) → get_elem? d.joined k ≡ some xs → IsPrefix xs r.current × IsSpent (vs ++ b ∷ []) (k + 1)) s.views id l
-            (λ k xs there. let m = r.gathered id v at k xs there in (m.0, spent_longer vs b (k + 1) (spent_stays s.views id v l (k + 1) at (subst IsLive (sym stage) tt) m.1)))
-            (λ j d other e k xs there. let m = r.gathered j d e k xs there in (m.0, spent_longer vs b (k + 1) (spent_stays s.views id v l (k + 1) at (subst IsLive (sym stage) tt) m.1)))
+        gathered = subst (λ (m : ℕ). (j : ℕ) (d : View E) → get_elem? (vs ++ b ∷ []) j ≡ some d → (k : ℕ) (xs : List (Made E)) → get_elem? d.joined k ≡ some xs → FollowsAmong m (k + 1) xs r.current × IsSpent (vs ++ b ∷ []) (k + 1)) (sym many)
+            (λ j d e k xs there. ⊎_elim
+            (λ h. all_set (λ j d. (k : ℕ) (xs : List (Made E)) → get_elem? d.joined k ≡ some xs → FollowsAmong (n + 1) (k + 1) xs r.current × IsSpent (vs ++ b ∷ []) (k + 1)) s.views id l
+            (λ k xs there. let m = r.gathered id v at k xs there in (follows_dealt n (k + 1) xs r.current m.0, spent_longer vs b (k + 1) (spent_stays s.views id v l (k + 1) at (subst IsLive (sym stage) tt) m.1)))
+            (λ j d other e k xs there. let m = r.gathered j d e k xs there in (follows_dealt n (k + 1) xs r.current m.0, spent_longer vs b (k + 1) (spent_stays s.views id v l (k + 1) at (subst IsLive (sym stage) tt) m.1)))
             j d h k xs there)
             (λ (h : (j ≡ length vs) × (b ≡ d)). absurd (some-ne-none xs (sym (ap (λ (z : View E). get_elem? z.joined k) h.1 ∙ there))))
-            (at_end vs b d j e);
+            (at_end vs b d j e));
         slot = ⊎_elim (λ h. inl h)
             (λ (h : (s.homes ≡ none ∷ []) × ((j : ℕ) × (u : View E) × (get_elem? vs j ≡ some u) × (u.stage ≡ Opened p))). inr (h.0, (h.1.0, h.1.1, at_longer vs (b ∷ []) h.1.0 h.1.1 h.1.2, h.1.3)))
             (slot_stays entries r.current p s.homes s.views id v l at (λ is. subst IsOpened (sym (sym stage ∙ is)) tt) r.slot);
@@ -100,7 +99,7 @@ module _ {E V : Type 0} (entries : V → List (Made E)) where
       let first : KeptOf entries s.words s.homes (set s.views other z) = changed entries s.words s.homes s.views r other w z there (subst IsLive (sym w_stage) tt) s.words s.homes r.current g p r.words_are (omega arith) tt
       (λ j d _ e f. f)
       (λ k u t _ e has had. absurd has)
-      ([], append-nil r.current)
+      (λ j xs _ f. f)
       (slot_stays entries r.current p s.homes s.views other w z there (λ is. subst IsOpened (sym (sym w_stage ∙ is)) tt) r.slot)
       (λ some. absurd (omega arith))
       (λ k xs e. absurd (some-ne-none xs (sym e))) in
@@ -112,14 +111,14 @@ module _ {E V : Type 0} (entries : V → List (Made E)) where
       (subst (Fits entries first.given first.passed first.current s.homes (length m) id v) stage (first.each id v at')))
       (λ j d _ e f. f)
       (λ k u t other' e has had. other' (first.apart k u e id v t at' had has))
-      ([], append-nil first.current)
+      (λ j xs _ f. f)
       (slot_stays entries first.current first.passed s.homes m id v b at' (λ is. subst IsOpened (sym (sym stage ∙ is)) tt) first.slot)
       (λ some. first.dealer id v at' some)
       (λ k xs e. ⊎_elim
       (λ h. let q = first.gathered id v at' k xs h in (q.0, spent_stays m id v b (k + 1) at' (subst IsLive (sym stage) tt) q.1))
       (λ (h : (k ≡ length v.joined) × (w.seen ≡ xs)).
       let place : other ≡ k + 1 = sym its.0 ∙ (next ∙ ap (λ (n : ℕ). n + 1) (sym h.0)) in (
-        subst (λ (ys : List (Made E)). IsPrefix ys r.current) h.1 (follows_prefix (length s.views) other w.seen r.current its.1),
+        subst (λ (y : ℕ × ℕ × List (Made E)). FollowsAmong y.0 y.1 y.2 r.current) (λ i. (sym (length-set s.views other z) i, place i, h.1 i)) its.1,
         spent_stays m id v b (k + 1) at' (subst IsLive (sym stage) tt) (subst (IsSpent m) place (z, set_here s.views other z (within s.views other w there), refl)),
       ))
       (at_end v.joined w.seen xs k e)) in

@@ -1,7 +1,6 @@
 -- The four steps of a turn keep the rule: taking a number, looking, counting and passing.
 use Rattle.std.proofs.Common.{◌≡◌, ◌≢◌, inl, inr, ⊎_elim, ℕ, ◌+◌, ◌%◌, ◌^◌, ◌<◌, ◌≤◌, eqb, Bool, List, [], ◌∷◌, length, get_or, set, sym, refl, ap, ◌∙◌, subst, arith, eq-eqb, ne_eqb, Some, MatchBool}
 use Rattle.std.proofs.Math.Nat.{mod-add-mod}
-use Rattle.std.proofs.lemmas.List.{append-nil}
 use Rattle.std.specs.declared.option.Option as rattle
 use mathlib.Core.Option.{Option, none, some, some-injective}
 use native.Mathlib.Decide.{ℕ_discrete}
@@ -20,7 +19,7 @@ use Rattle.yt_stamp.specs.Rule.{wrap, HasTurn, turns_in, FollowsAmong, Fits, Kep
 use Rattle.yt_stamp.specs.Steps.{in_stage, having_seen, takes, passes, Serves, looks, counts}
 use Rattle.yt_stamp.proofs.Lists.{within}
 use Rattle.yt_stamp.proofs.Totals.{total_bound}
-use Rattle.yt_stamp.proofs.Histories.{follows_self, follows_plain, follows_more, extends_is_prefix}
+use Rattle.yt_stamp.proofs.Histories.{follows_self, follows_plain, follows_more}
 use Rattle.yt_stamp.proofs.Views.{IsLive, IsOpened, turn_within, other_fits, moved, slot_stays, alone}
 
 module _ {E V : Type 0} (entries : V → List (Made E)) where
@@ -44,7 +43,7 @@ module _ {E V : Type 0} (entries : V → List (Made E)) where
             (mine.0, mine.1, omega arith, omega arith)
             (λ j d other e f. other_fits entries g p r.current s.homes (g + 1) p r.current s.homes (length s.views) j d d.stage (λ xs x. x) (λ t h a b. (a, omega arith)) (λ t is. (refl, refl, refl)) f)
             (λ k d t other e has had. let w = turn_within entries g p r.current s.homes (length s.views) k d t d.stage (r.each k d e) had in let l = w.1 in absurd (omega arith))
-            ([], append-nil r.current)
+            (λ j xs apart f. f)
             (slot_stays entries r.current p s.homes s.views id v (in_stage v (Waiting g)) at (λ is. subst IsOpened (sym (sym still ∙ is)) tt) r.slot),
         (g, sym (ap (λ (l : List ℕ). get_or l 0 0) r.words_are), refl),
       )
@@ -84,7 +83,7 @@ module _ {E V : Type 0} (entries : V → List (Made E)) where
             (λ j d other e f. other_fits entries g p r.current s.homes g p r.current (set s.homes 0 none) (length s.views) j d d.stage (λ xs x. x) (λ u has a b. (a, b))
             (λ u opened. absurd (other (r.apart j d e id v t at (subst (HasTurn t) (sym opened) (sym is ∙ sym (subst (λ (st : Stage). Fits entries g p r.current s.homes (length s.views) j d st) opened f).2)) (subst (HasTurn t) (sym stage) refl)))) f)
             (λ k d u other e has had. other (r.apart k d e id v u at had (subst (HasTurn u) (sym stage) has)))
-            ([], append-nil r.current)
+            (λ j xs apart f. f)
             (inr (out, (id, w, set_here s.views id w (within s.views id v at), ap Opened (sym is)))),
         (λ u again. let same_turn : t ≡ u = waited t u (sym stage ∙ again) in
             hit (get_or s.words 1 0) u (same ∙ ap wrap same_turn) (Serves entries me u (w, (0, Some x) ∷ me.1)) ((w, (0, Some x) ∷ me.1) ≡ me) (
@@ -130,7 +129,7 @@ module _ {E V : Type 0} (entries : V → List (Made E)) where
             (λ u has a b. (a, b))
             (λ u opened. absurd (alone entries s.words s.homes s.views r id t v at stage mine.2 j d u other e opened)) f)
             (λ k d u other e has had. other (r.apart k d e id v u at had has))
-            (extends_is_prefix id r.current (entries x) longer)
+            (λ j xs other f. follows_more (length s.views) j id xs r.current (entries x) other (within s.views id v at) f longer)
             (inr (mine.4, (id, w, set_here s.views id w (within s.views id v at), stage ∙ ap Opened mine.2))),
         (λ y same. ap (λ (z : List (Made E)). (having_seen v z, me.1)) (ap entries (cc same))),
       )
@@ -158,7 +157,7 @@ module _ {E V : Type 0} (entries : V → List (Made E)) where
             (omega arith, b))
             (λ u opened. absurd (alone entries s.words s.homes s.views r id t v at stage mine.2 j d u other e opened)) f)
             (λ k d u other e has had. absurd has)
-            ([], append-nil r.current)
+            (λ j xs apart f. f)
             (inl (x, back, sym seen ∙ mine.1)),
         refl,
       )

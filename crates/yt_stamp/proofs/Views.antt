@@ -2,7 +2,6 @@
 use Rattle.std.proofs.Common.{◌≡◌, ◌≢◌, ◌⊎◌, inl, inr, ℕ, ◌+◌, ◌<◌, ◌≤◌, List, [], ◌∷◌, length, set, sym, refl, ap, ◌∙◌, subst, arith, length-set, Some}
 use Rattle.std.specs.declared.option.Option as rattle
 use mathlib.Core.Option.{Option, none, some, some-injective}
-use mathlib.Core.List.{IsPrefix}
 use native.Mathlib.Decide.{ℕ_discrete}
 use mathlib.Core.Logic.{dite}
 use lib.ListN.{get_elem?}
@@ -14,7 +13,6 @@ use Rattle.atomic_table.proofs.Lists.{set_else}
 use Rattle.yt_stamp.specs.Rule.{wrap, HasTurn, turns_in, FollowsAmong, total, IsSpent, Fits, KeptOf}
 use Rattle.yt_stamp.proofs.Lists.{all_set}
 use Rattle.yt_stamp.proofs.Totals.{total_set}
-use Rattle.yt_stamp.proofs.Histories.{prefix_trans}
 
 abbrev pub IsLive : Stage → Type 0
 IsLive Spent = ⊥
@@ -30,6 +28,11 @@ IsOpened (Opened t) = Unit {0}
 IsOpened _ = ⊥
 
 module _ {E : Type 0} where
+  -- a seat that was joined is none that still acts
+  pub spent_apart : (vs : List (View E)) (id : ℕ) (v : View E) (k : ℕ) → get_elem? vs id ≡ some v → IsLive v.stage → IsSpent vs k → k ≢ id
+  spent_apart vs id v k at live sp same =
+      not_spent v.stage live (ap (λ (u : View E). u.stage) (some-injective v sp.0 (sym at ∙ (ap (get_elem? vs) (sym same) ∙ sp.1))) ∙ sp.2)
+
   -- a seat that was joined stays so, whatever another does
   pub spent_stays : (vs : List (View E)) (id : ℕ) (v w : View E) (k : ℕ) → get_elem? vs id ≡ some v → IsLive v.stage → IsSpent vs k → IsSpent (set vs id w) k
   spent_stays vs id v w k at live sp = dite (ℕ_discrete k id)
@@ -69,10 +72,10 @@ module _ {E V : Type 0} (entries : V → List (Made E)) where
       → Fits entries given' passed' current' homes' (length views) id w w.stage
       → ((j : ℕ) (d : View E) → j ≢ id → get_elem? views j ≡ some d → Fits entries r.given r.passed r.current homes (length views) j d d.stage → Fits entries given' passed' current' homes' (length views) j d d.stage)
       → ((k : ℕ) (d : View E) (t : ℕ) → k ≢ id → get_elem? views k ≡ some d → HasTurn t w.stage → HasTurn t d.stage → ⊥)
-      → IsPrefix r.current current'
+      → ((j : ℕ) (xs : List (Made E)) → j ≢ id → FollowsAmong (length views) j xs r.current → FollowsAmong (length views) j xs current')
       → Slot current' passed' homes' (set views id w)
       → (0 < w.dealt → (id ≡ 0) × (w.dealt ≡ length views))
-      → ((k : ℕ) (xs : List (Made E)) → get_elem? w.joined k ≡ some xs → IsPrefix xs current' × IsSpent (set views id w) (k + 1))
+      → ((k : ℕ) (xs : List (Made E)) → get_elem? w.joined k ≡ some xs → FollowsAmong (length views) (k + 1) xs current' × IsSpent (set views id w) (k + 1))
       → KeptOf entries words' homes' (set views id w)
   changed words homes views r id v w at live words' homes' current' given' passed' words_are counted mine others turns grown slot deals gathers =
       let n : length (set views id w) ≡ length views = length-set views id w in
@@ -91,9 +94,10 @@ module _ {E V : Type 0} (entries : V → List (Made E)) where
         dealer = all_set (λ j d. 0 < d.dealt → (j ≡ 0) × (d.dealt ≡ length (set views id w))) views id w
             (λ some. let q = deals some in (q.0, q.1 ∙ sym n))
             (λ j d _ e some. let q = r.dealer j d e some in (q.0, q.1 ∙ sym n));
-        gathered = all_set (λ j d. (k : ℕ) (xs : List (Made E)) → get_elem? d.joined k ≡ some xs → IsPrefix xs current' × IsSpent (set views id w) (k + 1)) views id w
+        gathered = subst (λ (m : ℕ). (j : ℕ) (d : View E) → get_elem? (set views id w) j ≡ some d → (k : ℕ) (xs : List (Made E)) → get_elem? d.joined k ≡ some xs → FollowsAmong m (k + 1) xs current' × IsSpent (set views id w) (k + 1)) (sym n)
+            (all_set (λ j d. (k : ℕ) (xs : List (Made E)) → get_elem? d.joined k ≡ some xs → FollowsAmong (length views) (k + 1) xs current' × IsSpent (set views id w) (k + 1)) views id w
             gathers
-            (λ j d _ e' k xs e. let q = r.gathered j d e' k xs e in (prefix_trans xs r.current current' q.0 grown, spent_stays views id v w (k + 1) at live q.1));
+            (λ j d _ e' k xs e. let q = r.gathered j d e' k xs e in (grown (k + 1) xs (spent_apart views id v (k + 1) at live q.1) q.0, spent_stays views id v w (k + 1) at live q.1)));
         slot = slot;
       }
 
@@ -106,13 +110,13 @@ module _ {E V : Type 0} (entries : V → List (Made E)) where
       → Fits entries given' passed' current' homes' (length views) id w w.stage
       → ((j : ℕ) (d : View E) → j ≢ id → get_elem? views j ≡ some d → Fits entries r.given r.passed r.current homes (length views) j d d.stage → Fits entries given' passed' current' homes' (length views) j d d.stage)
       → ((k : ℕ) (d : View E) (t : ℕ) → k ≢ id → get_elem? views k ≡ some d → HasTurn t w.stage → HasTurn t d.stage → ⊥)
-      → IsPrefix r.current current'
+      → ((j : ℕ) (xs : List (Made E)) → j ≢ id → FollowsAmong (length views) j xs r.current → FollowsAmong (length views) j xs current')
       → Slot current' passed' homes' (set views id w)
       → KeptOf entries words' homes' (set views id w)
   moved words homes views r id v w at live same_dealt same_joined words' homes' current' given' passed' words_are counted mine others turns grown slot =
       changed words homes views r id v w at live words' homes' current' given' passed' words_are counted mine others turns grown slot
       (λ some. let q = r.dealer id v at (omega arith) in (q.0, same_dealt ∙ q.1))
-      (λ k xs e. let q = r.gathered id v at k xs (ap (λ (l : List (List (Made E))). get_elem? l k) (sym same_joined) ∙ e) in (prefix_trans xs r.current current' q.0 grown, spent_stays views id v w (k + 1) at live q.1))
+      (λ k xs e. let q = r.gathered id v at k xs (ap (λ (l : List (List (Made E))). get_elem? l k) (sym same_joined) ∙ e) in (grown (k + 1) xs (spent_apart views id v (k + 1) at live q.1) q.0, spent_stays views id v w (k + 1) at live q.1))
 
   pub slot_stays : (current : List (Made E)) (passed : ℕ) (homes : List (Option (rattle.Option V))) (views : List (View E)) (id : ℕ) (v w : View E) → get_elem? views id ≡ some v → (v.stage ≡ Opened passed → ⊥)
       → Slot current passed homes views → Slot current passed homes (set views id w)

@@ -2,7 +2,6 @@
 use Rattle.std.specs.Prelude.{◌≡◌, ℕ, ◌+◌, ◌%◌, ◌^◌, ◌<◌, ◌≤◌, ◌⊎◌, List, [], ◌∷◌, ◌++◌, length, Some}
 use Rattle.std.specs.declared.option.Option as rattle
 use mathlib.Core.Option.{Option, none, some}
-use mathlib.Core.List.{IsPrefix}
 use lib.ListN.{get_elem?}
 use Rattle.atomic_table.specs.Table.{State}
 use Rattle.yt_stamp.specs.declared.history.Made.{Made}
@@ -71,7 +70,7 @@ module _ {E : Type 0} where
       pub each : (j : ℕ) (v : View E) → get_elem? views j ≡ some v → Fits given passed current homes (length views) j v v.stage
       pub apart : (j : ℕ) (v : View E) → get_elem? views j ≡ some v → (k : ℕ) (w : View E) (t : ℕ) → get_elem? views k ≡ some w → HasTurn t v.stage → HasTurn t w.stage → j ≡ k
       pub dealer : (j : ℕ) (v : View E) → get_elem? views j ≡ some v → 0 < v.dealt → (j ≡ 0) × (v.dealt ≡ length views)
-      pub gathered : (j : ℕ) (v : View E) → get_elem? views j ≡ some v → (k : ℕ) (xs : List (Made E)) → get_elem? v.joined k ≡ some xs → IsPrefix xs current × IsSpent views (k + 1)
+      pub gathered : (j : ℕ) (v : View E) → get_elem? views j ≡ some v → (k : ℕ) (xs : List (Made E)) → get_elem? v.joined k ≡ some xs → FollowsAmong (length views) (k + 1) xs current × IsSpent views (k + 1)
       pub slot : ((x : V) × (homes ≡ some (Some x) ∷ []) × (entries x ≡ current)) ⊎ ((homes ≡ none ∷ []) × ((j : ℕ) × (v : View E) × (get_elem? views j ≡ some v) × (v.stage ≡ Opened passed)))
 
     -- the rule of the lock's table

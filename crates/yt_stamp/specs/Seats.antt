@@ -1,13 +1,13 @@
 -- What contracts see of seats and turns.
 use Rattle.std.specs.Prelude.{◌≡◌, ℕ, List, [], ◌∷◌, length, None, zero, suc}
 use mathlib.Core.Option.{some}
-use mathlib.Core.List.{IsPrefix}
 use lib.ListN.{get_elem?}
 use Rattle.atomic_table.specs.Seated.{TableId}
 use Rattle.yt_stamp.specs.declared.history.Made.{Made}
 use Rattle.yt_stamp.specs.declared.view.Stage.TheVariants.{Resting, Opened}
 use Rattle.yt_stamp.specs.declared.seat.Seat.{Seat}
 use Rattle.yt_stamp.specs.declared.seat.Turn.{Turn}
+use Rattle.yt_stamp.specs.Rule.{FollowsAmong}
 
 -- A seat's place, which no call changes: its lock and its number.
 -- It also says how many seats the lock has and how many were joined at its end. Only the first seat keeps these two; at any other they are 0.
@@ -54,6 +54,6 @@ module _ {V E : Type 0} where
   abbrev pub AllSaw : List (Made E) → List (Seat V E) → Type 0
   AllSaw xs seats = (k : ℕ) (s : Seat V E) → get_elem? seats k ≡ some s → seen_of s ≡ xs
 
-  -- what each of the seats has seen is a prefix of this history
-  abbrev pub AllWithin : List (Made E) → List (Seat V E) → Type 0
-  AllWithin xs seats = (k : ℕ) (s : Seat V E) → get_elem? seats k ≡ some s → IsPrefix (seen_of s) xs
+  -- This history begins with what each of the n seats has seen, and goes on by entries of the others.
+  abbrev pub AllWithin : ℕ → List (Made E) → List (Seat V E) → Type 0
+  AllWithin n xs seats = (k : ℕ) (s : Seat V E) → get_elem? seats k ≡ some s → FollowsAmong n k (seen_of s) xs

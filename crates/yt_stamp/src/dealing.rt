@@ -96,11 +96,11 @@ impl<V: Grows> StampLock<V> {
         }
     }
 
-    /// Ends the lock and gives the value. The seats are those that `new` gave, each once and in order of their numbers, and none holds a turn. What each has seen is a prefix of the value's history.
+    /// Ends the lock and gives the value. The seats are those that `new` gave, each once and in order of their numbers, and none holds a turn. The value's history begins with what each has seen, and goes on by entries of the others.
     pub fn into_value(self, mut seats: Vec<Seat<V>>) -> V
         requires some { 0 < length seats.items }
         requires seats { AreSeats (lock_id self) (length seats.items) seats.items }
-        ensures within { AllWithin (V.entries result) seats.items }
+        ensures within { AllWithin (length seats.items) (V.entries result) seats.items }
     {
         let mut first = seats.remove(0);
         self.gather(&mut first, seats);

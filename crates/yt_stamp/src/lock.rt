@@ -70,9 +70,29 @@ impl<V: Grows> StampLock<V> {
             if serving == number {
                 return;
             }
-            pause.pass(number.wrapping_sub(serving));
+            if !pause.lets_look(number.wrapping_sub(serving)) {
+                self.sleep(rt, &mut pause, serving);
+            }
         }
         unreachable!()
+    }
+
+    // Sleeps until the turn is passed, or for a while. A seat that a pass woke in vain wakes the one that slept next to it first, so that the wake gets to the seat that is served.
+    fn sleep<R: Wait>(&self, rt: &R, pause: &mut Pause, serving: u64) {
+        if pause.slept_past(serving) {
+            self.table.shared.wake_one(PASSED);
+        }
+        let low = (serving % (1 << 32)) as u32;
+        self.table
+            .shared
+            .park_timeout(rt, PASSED, low, Pause::nap());
+    }
+
+    // Wakes a seat that sleeps, if one waits for a turn after those passed.
+    fn wake(&self, passed: u64) {
+        if self.table.shared.peek(GIVEN) != passed {
+            self.table.shared.wake_one(PASSED);
+        }
     }
 
     /// Puts the value back and passes the turn. The value's history has to go on from the one at `open` by entries of this seat alone.
@@ -92,6 +112,7 @@ impl<V: Grows> StampLock<V> {
             .compare_exchange_with::<Count>(&mut seat.at, LENGTH, length, longer, &home);
         let found = self.table.shared.exchange(&mut seat.at, HOME, home);
         let None = found else { unreachable!() };
-        self.table.shared.fetch_add::<Pass>(&mut seat.at, PASSED, 1);
+        let served = self.table.shared.fetch_add::<Pass>(&mut seat.at, PASSED, 1);
+        self.wake(served.wrapping_add(1));
     }
 }

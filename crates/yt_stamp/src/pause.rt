@@ -1,28 +1,57 @@
 // How a seat passes the time between two looks.
 
+use std::time::Duration;
 use std::{hint, thread};
 
-// How often the seat that is next in line looks before it yields.
+// How often the seat that is next in line looks in vain before it yields the processor.
 const LOOKS: u32 = 32;
 
-// A wait for a turn, with the looks that may still be made without yielding.
+// How often a seat yields the processor before it sleeps.
+const YIELDS: u32 = 4;
+
+// The longest sleep. A pass of the turn ends it before, so this only bounds what a wake that comes late can cost.
+const NAP_MILLIS: u64 = 4;
+
+// A wait for a turn: what may still be done before the seat sleeps, and which turn was served when it last fell asleep.
 #[derive(Drop)]
 pub(crate) struct Pause {
     looks: u32,
+    yields: u32,
+    slept_at: Option<u64>,
 }
 
 impl Pause {
     pub(crate) fn new() -> Pause {
-        Pause { looks: LOOKS }
+        Pause {
+            looks: LOOKS,
+            yields: YIELDS,
+            slept_at: None,
+        }
     }
 
-    // Lets a moment go by. A seat that is next in line tries for a short while to catch the end of the turn before; any other lets another thread run at once.
-    pub(crate) fn pass(&mut self, ahead: u64) {
+    // Lets a moment go by, if the seat may still look again without a sleep. One that is next in line tries for a short while to catch the end of the turn before.
+    pub(crate) fn lets_look(&mut self, ahead: u64) -> bool {
         if ahead == 1 && self.looks > 0 {
             self.looks -= 1;
             hint::spin_loop();
-        } else {
-            thread::yield_now();
+            return true;
         }
+        if self.yields > 0 {
+            self.yields -= 1;
+            thread::yield_now();
+            return true;
+        }
+        false
+    }
+
+    // Notes that the seat falls asleep while this turn is served. Whether it has slept through a pass of the turn, whose wake then was for another.
+    pub(crate) fn slept_past(&mut self, serving: u64) -> bool {
+        self.slept_at
+            .replace(serving)
+            .is_some_and(|at| at != serving)
+    }
+
+    pub(crate) fn nap() -> Duration {
+        Duration::from_millis(NAP_MILLIS)
     }
 }

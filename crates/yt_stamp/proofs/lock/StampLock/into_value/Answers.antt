@@ -1,4 +1,4 @@
-use Rattle.std.proofs.Common.{◌≡◌, ap, subst, ◌∙◌}
+use Rattle.std.proofs.Common.{◌≡◌, ap, subst, ◌∙◌, length}
 use Rattle.yt_stamp.specs.Seats.{Place, AllWithin}
 use Rattle.yt_stamp.proofs.SeatLists.{split_first, parted}
 use Rattle.yt_stamp.proofs.Finishes.{finishes}
@@ -40,4 +40,4 @@ returns g c =
     let e = split_first _ _ _ c.requires.some c.remove-first.ensures.value c.remove-first.ensures.by_index.2 in
     let h = finishes g.V.Grows.entries _ _ _ _ _ _ _ _ _ e c.requires.seats (ap (λ z. z.me.0) c.into_inner-at.ensures ∙ ap (λ m. m.0) c.gather.ensures.gathered) c.close_with-closed.ensures.values.2 c.take-found.ensures.value in
     let same : h.0 ≡ c.in-Some.value = cc (h.1, c.in-Some.is) in
-    record { within = subst (λ x. AllWithin (g.V.Grows.entries x) c.args.seats.items) same h.2 }
+    record { within = subst (λ x. AllWithin (length c.args.seats.items) (g.V.Grows.entries x) c.args.seats.items) same h.2 }

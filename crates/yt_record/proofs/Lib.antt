@@ -1,0 +1,15 @@
+mod Follows
+mod Lowest
+mod Resting
+mod Marking
+mod Answering
+mod Staying
+mod Legality
+mod Calling
+mod Beginning
+mod Ending
+mod Told
+mod Parting
+mod Closed
+mod Holding
+mod Giving

@@ -1,0 +1,5 @@
+pub mod Sides
+pub mod Changes
+pub mod Keeping
+pub mod Passing
+pub mod Lengths

@@ -1,0 +1,211 @@
+//! Binary trees of entries, whose nodes may be shared with other trees. Nothing is claimed of their balance.
+ghost use Rattle.std.specs.Prelude.{◌≡◌, ◌-◌, [], ◌∷◌, ◌++◌, vec_len, IfOk, OnOk, IfErr};
+ghost use Rattle.std.specs.Option.{option_copied};
+ghost use Rattle.yt_tree.specs.Nodes.{entries_at};
+ghost use Rattle.yt_tree.specs.Orders.{IsOrdered, entry_at, first_reached, first_sought};
+
+use crate::cuts::Cut;
+use crate::searches::Search;
+use crate::shares::Share;
+use std::alloc::{AllocError, Global};
+use std::cmp::Ordering;
+use std::marker::Model;
+use std::sync::Arc;
+
+/// A tree. Contracts see the list of its entries.
+#[cycle(branch)]
+#[derive(Drop)]
+pub struct Branch<K, V> {
+    pub(crate) node: Option<Arc<Node<K, V>>>,
+}
+
+// A node: what comes before its entry, the entry, and what comes after it.
+#[cycle(branch)]
+#[derive(Drop)]
+pub(crate) struct Node<K, V> {
+    pub(crate) left: Branch<K, V>,
+    pub(crate) entry: (K, V),
+    pub(crate) right: Branch<K, V>,
+    pub(crate) height: u8,
+}
+
+impl<K, V> Model for Branch<K, V> {
+    ghost use Rattle.std.specs.Prelude.{List, length};
+
+    ghost Value = { List (K × V) };
+
+    ghost use Rattle.yt_tree.specs.Nodes.{entries_at};
+
+    ghost view = { λ b. entries_at b.node };
+
+    ghost size = { length };
+
+    ghost use Rattle.std.proofs.Common.{arith, length-append};
+
+    ghost size_decreases = { λ a h. Prim.grind (arith, length-append) };
+}
+
+impl<K: Drop, V: Drop> Branch<K, V> {
+    /// The tree of no entries.
+    pub fn new() -> Branch<K, V>
+        ensures empty { result ≡ [] }
+    {
+        Branch { node: None }
+    }
+
+    /// Another handle to the same tree.
+    pub fn share(&self) -> Result<Branch<K, V>, AllocError>
+        ensures same { IfOk result (λ copy. copy ≡ self.now) }
+    {
+        match &self.node {
+            Some(node) => {
+                let node = Arc::try_clone(node)?;
+                Ok(Branch { node: Some(node) })
+            }
+            None => Ok(Branch { node: None }),
+        }
+    }
+
+    // How many nodes lie on the longest way down, as the nodes note it.
+    #[inline]
+    pub(crate) fn height(&self) -> u8 {
+        match &self.node {
+            Some(node) => node.height,
+            None => 0,
+        }
+    }
+
+    // The node at the top.
+    pub(crate) fn into_node(self) -> Option<Arc<Node<K, V>>>
+        ensures same { entries_at result ≡ self }
+    {
+        self.node
+    }
+
+    // The tree of the left side, the entry and the right side.
+    fn joined(
+        alloc: Global,
+        left: Branch<K, V>,
+        entry: (K, V),
+        right: Branch<K, V>,
+    ) -> Result<Branch<K, V>, AllocError>
+        ensures entries { IfOk result (λ b. b ≡ left ++ entry ∷ right) }
+    {
+        let height = left.height().max(right.height()).saturating_add(1);
+        let node = Arc::new(
+            alloc,
+            Node {
+                left,
+                entry,
+                right,
+                height,
+            },
+        )?;
+        Ok(Branch { node: Some(node) })
+    }
+
+    /// The tree of the last entries of the list, `count` of them or all where there are fewer. They are taken out of it.
+    pub fn of_last(
+        alloc: Global,
+        entries: &mut Vec<(K, V)>,
+        count: usize,
+    ) -> Result<Branch<K, V>, AllocError>
+        ensures taken { IfOk result (λ b. entries.old.items ≡ entries.new.items ++ b) }
+        ensures left { OnOk result (vec_len entries.new ≡ vec_len entries.old - count) }
+    {
+        if count == 0 {
+            return Ok(Branch::new());
+        }
+        let after = (count - 1) / 2;
+        let right = Branch::of_last(alloc, entries, after)?;
+        let Some(entry) = entries.pop() else {
+            return Ok(right);
+        };
+        let left = Branch::of_last(alloc, entries, count - 1 - after)?;
+        Branch::joined(alloc, left, entry, right)
+    }
+
+    // The tree of one entry. For want of memory the entry comes back.
+    pub(crate) fn single(alloc: Global, key: K, value: V) -> Result<Branch<K, V>, (K, V)>
+        ensures ok { IfOk result (λ b. b ≡ (key, value) ∷ []) }
+        ensures given_back { IfErr result (λ e. e ≡ (key, value)) }
+    {
+        match Arc::new(
+            alloc,
+            Node {
+                left: Branch { node: None },
+                entry: (key, value),
+                right: Branch { node: None },
+                height: 1,
+            },
+        ) {
+            Ok(node) => Ok(Branch { node: Some(node) }),
+            Err(refused) => {
+                let node = refused.value;
+                Err(node.entry)
+            }
+        }
+    }
+}
+
+impl<K: Ord + Share, V: Share> Branch<K, V> {
+    /// The entry at the key.
+    pub fn get(&self, key: &K) -> Option<&(K, V)>
+        requires { IsOrdered K.cmp self.now }
+        ensures { option_copied result ≡ entry_at K.cmp key.now self.now }
+    {
+        let mut here = self;
+        while let Some(shared) = &here.node {
+            let node: &Node<K, V> = shared;
+            match key.cmp(&node.entry.0) {
+                Ordering::Less => here = &node.left,
+                Ordering::Equal => return Some(&node.entry),
+                Ordering::Greater => here = &node.right,
+            }
+        }
+        None
+    }
+
+    /// The first entry that the cut does not leave behind.
+    pub fn seek<C: Cut<K>>(&self, cut: &C) -> Option<&(K, V)>
+        requires { IsOrdered K.cmp self.now }
+        ensures { option_copied result ≡ first_reached (C.reaches cut.now) self.now }
+    {
+        let mut here = self;
+        let mut best = None;
+        while let Some(shared) = &here.node {
+            let node: &Node<K, V> = shared;
+            if cut.reaches(&node.entry.0) {
+                best = Some(&node.entry);
+                here = &node.left;
+            } else {
+                here = &node.right;
+            }
+        }
+        best
+    }
+
+    /// The first entry that is sought.
+    pub fn find_in<S: Search<K, V>>(&self, search: &S) -> Option<&(K, V)>
+        requires { IsOrdered K.cmp self.now }
+        ensures { option_copied result ≡ first_sought (S.place search.now) (S.passes search.now) self.now }
+    {
+        let Some(shared) = &self.node else {
+            return None;
+        };
+        let node: &Node<K, V> = shared;
+        match search.place(&node.entry.0) {
+            Ordering::Less => node.right.find_in(search),
+            Ordering::Equal => {
+                if let Some(found) = node.left.find_in(search) {
+                    return Some(found);
+                }
+                if search.passes(&node.entry) {
+                    return Some(&node.entry);
+                }
+                node.right.find_in(search)
+            }
+            Ordering::Greater => node.left.find_in(search),
+        }
+    }
+}

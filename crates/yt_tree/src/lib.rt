@@ -1,0 +1,20 @@
+//! Persistent ordered maps and sets: another handle costs nothing, and stays as it is whatever is done to the first.
+#![tactic(auto)]
+
+mod balancing;
+mod branch;
+mod crossing;
+pub mod cursors;
+pub mod cuts;
+mod edits;
+pub mod maps;
+pub mod searches;
+pub mod sets;
+mod shares;
+
+pub use crate::cursors::Cursor;
+pub use crate::cuts::{Above, AtLeast, Cut, Start};
+pub use crate::maps::TreeMap;
+pub use crate::searches::Search;
+pub use crate::sets::TreeSet;
+pub use crate::shares::{Share, Shared};

@@ -1,0 +1,13 @@
+# The pages: what they name is there, and what they show is what the program writes.
+check 'README has at most 120 lines' "$(wc -l < README.md | awk '$1 > 120')"
+check 'the map of the architecture names each crate' \
+  "$(for crate in crates/*/; do grep -q "\`$(basename "$crate")\`" docs/ARCHITECTURE.md || basename "$crate"; done)"
+check 'each link of the pages leads somewhere' "$(tests/pages/links.py 2>&1)"
+check 'each contract that PROOFS cites is there' "$(tests/pages/citations.py 2>&1)"
+check 'each name of the glossary is there' "$(tests/pages/names.py 2>&1)"
+check 'each block of the guide is run, and writes what it shows' "$(tests/pages/blocks.py docs/GUIDE.md "$program" 2>&1)"
+check 'the session of the README is run, and writes what it shows' "$(tests/pages/blocks.py README.md "$program" plain 2>&1)"
+check 'the example of travel data' \
+  "$("$program" run < examples/travel/travel.session 2>&1 | diff examples/travel/travel.result - 2>&1)"
+check 'the must-fail edit that CONTRIBUTING shows is there' \
+  "$(diff <(sed -n '/^file: /,/^```/p' CONTRIBUTING.md | sed '$d') crates/yt_facts/must-fail/drops_the_tuple_where_memory_is_wanting.edit 2>&1)"

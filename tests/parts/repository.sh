@@ -1,0 +1,24 @@
+# What the repository says of itself: its list of crates, its sources, its cases.
+crates=$(cd crates && ls -d */ | tr -d /)
+listed=$(sed -n 's/^\([a-z][a-z0-9_]*\).*:.*/\1/p' crates.txt)
+sources=$(find crates -path '*/out' -prune -o \( -name '*.rt' -o -name '*.antt' \) -print)
+
+check 'the handles are the one line' \
+  "$([ "$(cat HANDLES)" = 'Handles allowed: Threads, Wait.' ] || cat HANDLES)"
+check 'each crate is listed once in crates.txt, and no other' \
+  "$(diff <(printf '%s\n' "$crates" | sort) <(printf '%s\n' "$listed" | sort))"
+check 'each public function has a comment for its reader' \
+  "$(printf '%s\n' "$sources" | grep '/src/.*\.rt$' | while read -r file; do
+       awk -v file="$file" '/^ *(pub fn|pub trait|pub struct|pub enum)/ { if (before !~ /^ *(\/\/\/|#\[)/) print file ": " $0 } { before = $0 }' "$file"
+     done)"
+check 'each source and definition, tests aside, opens with a sentence on its job' \
+  "$(printf '%s\n' "$sources" | grep -v '/proofs/.*/\(Answers\|Invariants\|Proof\)\.antt$' | grep -v '/Lib\.antt$' | grep -v '/src/tests\.rt$' | while read -r file; do
+       head -n 1 "$file" | grep -qE '^(//|--)' || echo "$file"
+     done)"
+
+# The stored cases of violations are those that the brute-force script writes.
+cp crates/yt_violation_table/stdin crates/yt_violation_table/stdout "$stored"
+check 'the brute-force script writes the stored cases of violations' \
+  "$(python3 tests/violation_cases.py 2>&1 > /dev/null
+     for file in stdin stdout; do cmp "$stored/$file" "crates/yt_violation_table/$file" 2>&1; done)"
+cp "$stored"/std* crates/yt_violation_table/

@@ -1,0 +1,22 @@
+# The words of the command line: one table makes the man page and the completions, and says what the program's help says.
+check 'the man page and the completions are those of the table' "$(share/write check 2>&1)"
+check 'the help lists the commands, options and statuses of the table' "$(share/write help "$program" 2>&1)"
+
+# What the completion of bash offers for the last of these words.
+offered() {
+  COMP_WORDS=(youtopia "$@") COMP_CWORD=$# COMPREPLY=()
+  _youtopia
+  echo "${COMPREPLY[*]}"
+}
+. share/youtopia.bash
+check 'the completion of bash offers what fits' \
+  "$(diff <(offered se; offered run --deps ''; offered run --steps ''; offered run --ver) <(printf '%s\n' serial 'coarse precise' '' --version) 2>&1)"
+
+check 'what is installed runs, and is taken away whole' \
+  "$(make -s install DESTDIR="$stored/root" PREFIX=/usr PROGRAM="$program" 2>&1
+     "$stored/root/usr/bin/youtopia" --version | grep -v '^youtopia '
+     find "$stored/root" -type f | wc -l | grep -vx 5
+     make -s uninstall DESTDIR="$stored/root" PREFIX=/usr 2>&1
+     find "$stored/root" -type f)"
+check 'make run shows the line of a fault' \
+  "$(make -s run EXAMPLE=tests/rows/refused-no-end/session PROGRAM="$program" 2>&1 | grep -q '^youtopia: session line 2: fault 25: end is missing$' || echo 'it does not')"
