@@ -3,3 +3,4 @@ pub mod Further
 pub mod Settled
 pub mod Heads
 pub mod Gathered
+pub mod Numbered

@@ -25,7 +25,8 @@ fn push_others(out: &mut Vec<u8>, inner: bool, values: &[Value]) -> Result<(), A
     Ok(())
 }
 
-fn push_values(out: &mut Vec<u8>, inner: bool, values: &[Value]) -> Result<(), AllocError>
+/// Adds values with a comma and a space between, nulls by their inner names where `inner` asks for them.
+pub fn push_values(out: &mut Vec<u8>, inner: bool, values: &[Value]) -> Result<(), AllocError>
     ensures { OnOk result (out.new.items ≡ out.old.items ++ joined_text (value_text inner) (map datum_of values.now)) }
 {
     match values {
