@@ -13,16 +13,21 @@ use std::alloc::Global;
 use yt_base::{List, Memory, Name};
 use yt_schema::{Names, Schema, SchemaRefusal, numbered_atoms};
 
-// The number of a name among the variables, or how many there are where it is none of them. The numbers fit, since at
-// most 8 atoms have at most 64 terms.
-fn place_of(variables: &Names, name: &Name) -> Result<u16, Memory>
-    ensures { IfOk result (λ number. number ≡ place_of variables.now.items name.now.items) }
+// The place of a name among the variables, or how many there are where it is none of them.
+fn place_of(variables: &Names, name: &Name) -> usize
+    ensures { result ≡ place_of variables.now.items name.now.items }
 {
-    let place = match variables.find(name) {
+    match variables.find(name) {
         Some(place) => place,
         None => variables.len(),
-    };
-    match u16::try_from(place) {
+    }
+}
+
+// That place as the number of a variable. Numbers fit, since at most 8 atoms have at most 64 terms.
+fn number_of(variables: &Names, name: &Name) -> Result<u16, Memory>
+    ensures { IfOk result (λ number. number ≡ place_of variables.now.items name.now.items) }
+{
+    match u16::try_from(place_of(variables, name)) {
         Ok(number) => Ok(number),
         Err(_) => Err(Memory),
     }
@@ -34,7 +39,7 @@ fn places_of(alloc: Global, variables: &Names, names: &[Name]) -> Result<VarList
 {
     let mut places = List::new(alloc);
     for name in names {
-        places.push(place_of(variables, name)?)?;
+        places.push(number_of(variables, name)?)?;
     }
     Ok(places)
 }
