@@ -11,24 +11,26 @@ from .traces import trace_text
 
 ON_SESSIONS = ["run"] * 6 + ["serial", "format", "check", "save", "upgrade"] * 2
 
-# Command lines that are refused, taken or ask for help, one a line; an empty pair of quotes is an empty word.
+# Command lines that are refused, taken or ask for help, the first of no words; a pair of quotes is an empty word.
 WORDS = [["" if word == "''" else word for word in line.split()] for line in """
-dance|run --workers 0|run --workers 17|run --workers x|run --workers|run --workers=|run --steps 0|run --steps 301|run --steps -1
-run --retries 5|run --retries=-1|run --deps both|run --deps|run --deps=|run --bogus|run -x|run serial|run --trace=1|run --trace --trace
-run --steps 3 --steps 3|--steps 3|-- --trace|run -- --trace|-- dance|RUN|''|-|run -|run --count 0|run --count 1001|run --seed 4294967296
-run --seed 1.5|run --seed ''|explain|explain --tuple|explain --tuple A(|explain --tuple A(x)|explain --tuple ''|explain --tuple A(1),
-explain --tuple=|explain --tuple A(1) --tuple A(1)|explain --tuple A(99999999999999999999)|ask|ask --query|ask --query q|ask --query q(x):A(y)
-ask --query q(1):A(1)|ask --query q():A(x)|ask --query q(x):A(x),|ask --query q(x):A(?0.1),A(x)|ask --query q(x):A(x)->A(x)
-check --tuple -x|check --tuple --trace|--workers --trace run|run --steps 0x3|--workers --help|-h --bogus|--help|run --help|-V|--version
---bogus --help|run serial --help|--help=1|dance --help|--workers 17 --help|run --steps=+3|run --steps 003|-- run|run --
---workers=1 -- run|--deps=coarse run|run --tuple=|run --tuple ''|run --tuple -|check --trace|format --deps coarse --seed 4294967295
-run --tuple=-x|run --count 1000 --seed 0""".replace("\n", "|").split("|")]
+dance|run --workers 0|run --workers 17|run --workers x|run --workers|run --workers=|run --steps 0|run --steps 301
+run --steps -1|run --retries 5|run --retries=-1|run --deps both|run --deps|run --deps=|run --bogus|run -x|run serial
+run --trace=1|run --trace --trace|run --steps 3 --steps 3|--steps 3|-- --trace|run -- --trace|-- dance|RUN|''|-|run -
+run --count 0|run --count 1001|run --seed 4294967296|run --seed 1.5|run --seed ''|run --steps 0x3
+explain|explain --tuple|explain --tuple A(|explain --tuple A(x)|explain --tuple ''|explain --tuple A(1),|explain --tuple=
+explain --tuple A(1) --tuple A(1)|explain --tuple A(99999999999999999999)|check --tuple -x|check --tuple --trace
+ask|ask --query|ask --query q|ask --query q(x):A(y)|ask --query q(1):A(1)|ask --query q():A(x)|ask --query q(x):A(x),
+ask --query q(x):A(?0.1),A(x)|ask --query q(x):A(x)->A(x)|--workers --trace run|--workers --help|-h --bogus|--help
+run --help|-V|--version|--bogus --help|run serial --help|--help=1|dance --help|--workers 17 --help
+run --steps=+3|run --steps 003|-- run|run --|--workers=1 -- run|--deps=coarse run|run --tuple=|run --tuple ''|run --tuple -
+check --trace|format --deps coarse --seed 4294967295|run --tuple=-x|run --count 1000 --seed 0""".replace("\n", "|").split("|")]
 
 BAD_EVENTS = [b"{}", b"[]", b"", b"null", b"\xff", b'{"event":"stepped","update":1,}', b'{"event":"stepped","update":1}',
               b'{"event":"hop","update":1}', b'{"event":"admitted","update":1}', b'{"event":"stepped","update":1001}',
               b'{"event":"stepped","update":1.0}', b'{"event":"stepped","update":"1"}', b'{"event":"answered","update":1}',
               b'{"choice":"expand","event":"answered","update":1}', b'{"choice":"hop","event":"answered","update":1}',
               b'{"choice":7,"event":"answered","update":1}', b'{"event":"delivered","update":1}', b'{"event":"withdrawn","update":1}']
+BAD_HEADS = [b"trace 0", b"trace 00", b"trace", b"trace  1", b"trace -1", b"Trace 1", b"trace 99999999999999999999"]
 EFFECTS = [(b'"committed":0', b'"committed":1'), (b'"causes":[]', b'"causes":[{}]'), (b'"update":1', b'"update":2'),
            (b'"ready"', b'"done"'), (b'"attempt":0', b'"attempt":1'), (b",", b", ")]
 
@@ -56,8 +58,9 @@ def of_session(rng, maker, text):
 
 
 def of_trace(rng, maker, text):
-    """A run whose trace is wanted, on one worker, so that there is one history."""
-    return ["run", "--trace", "--workers", "1", "--steps", str(maker.steps)] + option(rng, "deps", rng.choice(["coarse", "precise"])), text
+    """A run whose trace is wanted. On one worker there is one history; on several it is any legal one."""
+    words = ["run", "--trace", "--workers", str(rng.choice([1, 1, 2, 8])), "--steps", str(maker.steps)]
+    return words + option(rng, "deps", rng.choice(["coarse", "precise"])), text
 
 
 def of_spelling(rng, maker, text):
@@ -65,7 +68,8 @@ def of_spelling(rng, maker, text):
 
 
 def of_mangled(rng, maker, text):
-    return [rng.choice(["run", "format", "check", "serial"])], mangle(rng, respell(rng, text) if rng.random() < 0.3 else text)
+    text = respell(rng, text) if rng.random() < 0.3 else text
+    return [rng.choice(["run", "format", "check", "serial"])], mangle(rng, text)
 
 
 def of_open_base(rng, maker, text):
@@ -81,7 +85,8 @@ def of_explanation(rng, maker, text):
     pool = serial(maker.session, maker.steps).repository * 2 + [maker.tuple(len(maker.session.updates))]
     fact = tuple_text(maker.session.relations, rng.choice(pool)).decode()
     if rng.random() < 0.1:
-        fact = rng.choice(["Nope(1)", "A(1, 2, 3, 4)", " " + fact + " ", fact.replace("(", " ( "), fact.replace("?", "?0")])
+        spelled = [" " + fact + " ", fact.replace("(", " ( "), fact.replace("?", "?0")]
+        fact = rng.choice(["Nope(1)", "A(1, 2, 3, 4)"] + spelled)
     return ["explain", "--tuple=" + fact, "--steps", str(maker.steps)], text
 
 
@@ -90,7 +95,7 @@ def query(rng, session):
     for _ in range(rng.choice([1, 1, 2, 2, 3])):
         name, columns = rng.choice(session.relations)
         name, columns = rng.choice([(name, columns)] * 24 + [("Nope", columns), (name, columns + 1)])
-        terms = [rng.choice("xyzw") if rng.random() < 0.8 else rng.choice(["1", "2", '"US"', "3"]) for _ in range(columns)]
+        terms = [rng.choice(list("xyzw") * 4 + ["1", "2", '"US"', "3"]) for _ in range(columns)]
         used += [term for term in terms if term in "xyzw"]
         atoms.append("%s(%s)" % (name, ", ".join(terms)))
     head = [rng.choice(used or ["x"]) for _ in range(rng.choice([1, 1, 2, 3]))]
@@ -149,7 +154,7 @@ def bend(rng, trace):
         other = rng.randrange(len(lines))
         lines[at], lines[other] = lines[other], lines[at]
     elif kind == "head":
-        lines[0] = rng.choice([b"trace 0", b"trace 00", b"trace", b"trace  1", b"trace -1", b"Trace 1", b"trace %d" % len(lines), b"trace 99999999999999999999"])
+        lines[0] = rng.choice(BAD_HEADS + [b"trace %d" % len(lines)])
     elif kind == "effect":
         for old, new in rng.sample(EFFECTS, 2):
             lines[at] = lines[at].replace(old, new, 1)
@@ -165,7 +170,8 @@ def of_audit(rng, maker, text):
         trace = bend(rng, trace)
     if rng.random() < 0.3:
         told = result_text(maker.session, serial(maker.session, maker.steps))
-        between = rng.choice([told] * 4 + [told.replace(b"done", b"spent", 1), told[:-1], told + b"\n", told.replace(b"committed", b"committed ")])
+        bent = [told.replace(b"done", b"spent", 1), told[:-1], told + b"\n", told.replace(b"committed", b"committed ")]
+        between = rng.choice([told] * 4 + bent)
     if rng.random() < 0.2:
         text = rng.choice([respell, mangle])(rng, text)
     return ["audit", "--steps", str(maker.steps), "--retries", str(retries), "--deps", deps], text + between + trace
@@ -182,8 +188,9 @@ def of_journal(rng, maker, text):
 
 def odd_commit(rng, body):
     """The payload of a commit as it need not be."""
-    return rng.choice([body[:-1], body + b"\n", body.replace(b"(", b"( ", 1), body + b"+A(1)", body.replace(b"commit ", b"commit 0"),
-                       body.replace(b"+", b" +", 1), b"", body + b"+Nope(1)\n", body + b"+*0\n", b"commit\n"])
+    respelled = [body.replace(b"(", b"( ", 1), body.replace(b"commit ", b"commit 0"), body.replace(b"+", b" +", 1)]
+    ended = [body[:-1], body + b"\n", body + b"+A(1)", body + b"+Nope(1)\n", body + b"+*0\n", b"", b"commit\n"]
+    return rng.choice(respelled + ended)
 
 
 def made_journal(rng, maker):
@@ -192,7 +199,8 @@ def made_journal(rng, maker):
     data = sized(session_text(beginning(session)))
     for _ in range(rng.choice([1, 2, 3])):
         number += rng.choice([1, 1, 1, 1, 2, 0])
-        body = commit_payload(session.relations, number, [(rng.random() < 0.6, maker.tuple(3)) for _ in range(rng.randrange(3))])
+        writes = [(rng.random() < 0.6, maker.tuple(3)) for _ in range(rng.randrange(3))]
+        body = commit_payload(session.relations, number, writes)
         data += b"\1" + sized(odd_commit(rng, body) if rng.random() < 0.25 else body)
     return data + b"\0"
 
@@ -201,8 +209,8 @@ def of_recovery(rng, maker, text):
     data = journal_bytes(maker.session, serial(maker.session, maker.steps))
     at = rng.randrange(len(data) + 1)
     byte = bytes([rng.choice([0, 1, 2, rng.randrange(256)])])
-    bent = [data[:at], data[:at], data[:at] + byte + data[at + 1:], data[:at] + byte + data[at:], data + byte, data, made_journal(rng, maker), made_journal(rng, maker)]
-    return ["recover"], rng.choice(bent)
+    bent = [data[:at], data[:at] + byte + data[at + 1:], data[:at] + byte + data[at:], data + byte]
+    return ["recover"], rng.choice([data, data[:at], *bent, made_journal(rng, maker), made_journal(rng, maker)])
 
 
 # How often each kind comes.

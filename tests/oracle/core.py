@@ -88,6 +88,10 @@ class Core:
 
     # ---- reads that have another value now
 
+    def value(self, query, own, direction):
+        """The value of a query over `facts`, of the violations that the own writes caused."""
+        return evaluate(query, self.facts, self.mappings, own, direction, all_violations=False)
+
     def can_see(self, query, writes):
         """Whether the value of the query can change by these writes."""
         if query[0] == "present":
@@ -107,7 +111,7 @@ class Core:
                 continue
             undo = self.facts.apply(own[made:count]) + undo
             made = count
-            now = evaluate(query, self.facts, self.mappings, own[:count], u.program.direction, all_violations=False)
+            now = self.value(query, own[:count], u.program.direction)
             if now != answer:
                 found = (number, answer, now)
                 break
@@ -136,7 +140,7 @@ class Core:
             read = self.dependence(u, gone) if gone and u.number not in members and self.is_live(u) else None
             if read is not None:
                 query = u.log[read - 1][0]
-                on = next(m for m in sorted(members) if any(mentions(query, self.mappings, t[0]) for _, t in self.update(m).trail()))
+                on = next(m for m in sorted(members) if self.wrote_mentioned(m, query))
                 causes.append(("depends", u.number, read, on))
                 members.add(u.number)
             if u.number in members:
@@ -145,6 +149,10 @@ class Core:
                 undo = self.facts.apply(u.trail()) + undo
         self.facts.apply(undo)
         return causes
+
+    def wrote_mentioned(self, number, query):
+        """Whether the update's trail is of a relation that the query mentions."""
+        return any(mentions(query, self.mappings, t[0]) for _, t in self.update(number).trail())
 
     def dependence(self, u, gone):
         """The number of the first read of u that depends on writes that are gone: by its value, or by their relations."""
@@ -189,8 +197,7 @@ class Core:
         u = self.update(number)
         after, own = u.program.copy(), list(u.program.own)
         undo = self.facts.apply(self.writes_below(number) + own)
-        reads, writes = after.step(lambda q: evaluate(q, self.facts, self.mappings, own, after.direction, all_violations=False),
-                                   u.answers, self.mappings, self.steps)
+        reads, writes = after.step(lambda query: self.value(query, own, after.direction), u.answers, self.mappings, self.steps)
         self.facts.apply(undo)
         self.install(u, after, reads, writes)
 

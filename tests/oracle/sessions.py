@@ -42,10 +42,13 @@ class Maker:
     # ---- mappings and the base
 
     def atoms(self, counts, names):
+        """Atoms over these names, with a constant here and there."""
+        def term():
+            return ("c", (0, self.rng.choice([1, 2]))) if self.often(0.08) else ("v", self.rng.choice(names))
+
         for _ in range(self.rng.choice(counts)):
             relation = self.rng.randrange(len(self.session.relations))
-            columns = self.session.relations[relation][1]
-            yield relation, [("c", (0, self.rng.choice([1, 2]))) if self.often(0.08) else ("v", self.rng.choice(names)) for _ in range(columns)]
+            yield relation, [term() for _ in range(self.session.relations[relation][1])]
 
     def mapping(self, name, since=0):
         left = list(self.atoms([1, 1, 2, 2] if self.dense else [1, 1, 1, 2, 2, 3], "xyz"))
@@ -54,9 +57,11 @@ class Maker:
         right = list(self.atoms([1, 2, 2, 2, 3] if self.dense else [1, 1, 2, 2, 3], right_names or ["v"]))
         names = list(dict.fromkeys(x for _, terms in left + right for kind, x in terms if kind == "v"))
 
-        def numbered(atoms):
-            return tuple((r, tuple((kind, names.index(x)) if kind == "v" else (kind, x) for kind, x in terms)) for r, terms in atoms)
-        return Mapping(name, names, len(used), numbered(left), numbered(right), since)
+        def numbered(terms):
+            return tuple((kind, names.index(x)) if kind == "v" else (kind, x) for kind, x in terms)
+
+        left, right = (tuple((r, numbered(terms)) for r, terms in side) for side in (left, right))
+        return Mapping(name, names, len(used), left, right, since)
 
     def add_mapping(self, name, since=0):
         """Adds a mapping that closes no plain cycle, and answers whether one was found."""
@@ -94,7 +99,8 @@ class Maker:
         if here and self.often(0.4):
             relation, values = self.rng.choice(here)
             at = self.rng.randrange(len(values))
-            return relation, values[:at] + (self.known_null(here, below) if self.often(0.4) else self.constant(),) + values[at + 1:]
+            value = self.known_null(here, below) if self.often(0.4) else self.constant()
+            return relation, values[:at] + (value,) + values[at + 1:]
         if self.session.mappings and self.often(0.85):
             mapping = self.rng.choice(self.session.mappings)
             relation, terms = self.rng.choice(mapping.left * 2 + mapping.right)
@@ -124,7 +130,8 @@ class Maker:
 
     def deletion(self, here, below):
         """Mostly a tuple that is there, and mostly one that several left atoms want."""
-        wanted = [t for t in here if any(len(m.left) > 1 and any(bind(atom, t, {}) is not None for atom in m.right) for m in self.session.mappings)]
+        rights = [atom for m in self.session.mappings if len(m.left) > 1 for atom in m.right]
+        wanted = [t for t in here if any(bind(atom, t, {}) is not None for atom in rights)]
         pool = wanted if wanted and self.often(0.7) else here
         return "delete", self.rng.choice(pool) if pool and self.often(0.85) else self.near(here, below)
 

@@ -177,7 +177,10 @@ def whole(facts, number, operation, answers, mappings, budget, watch=None):
     """
     program, undo = Program(operation, number, 0), []
     while not program.ended() and not program.lack(answers):
-        _, writes = program.step(lambda q: evaluate(q, facts, mappings, program.own, program.direction), answers, mappings, budget)
+        def value(query):
+            return evaluate(query, facts, mappings, program.own, program.direction)
+
+        _, writes = program.step(value, answers, mappings, budget)
         if watch:
             watch(program, writes, facts)
         undo = facts.apply(writes) + undo

@@ -14,12 +14,17 @@ def cause_object(cause):
     return {"kind": kind, "reader": reader, "read": read, "writer" if kind == "conflict" else "on": other}
 
 
+def write_text(relations, write):
+    insertion, t = write
+    return (b"+" if insertion else b"-") + tuple_text(relations, t, inner=True)
+
+
 def entry_line(relations, entry):
     kind = entry["event"]
     line = {"event": kind, "update": entry["update"]}
     if kind == "stepped":
         line["attempt"] = entry["attempt"]
-        line["writes"] = [("+" if insertion else "-") + tuple_text(relations, t, inner=True).decode() for insertion, t in entry["writes"]]
+        line["writes"] = [write_text(relations, write).decode() for write in entry["writes"]]
     if kind in ("stepped", "withdrawn"):
         line["causes"] = [cause_object(cause) for cause in entry["causes"]]
         line["committed"] = entry["committed"]

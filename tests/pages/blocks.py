@@ -2,12 +2,11 @@
 """Runs the fenced blocks of a page: blocks.py PAGE PROGRAM [plain] tells each that is not as it would be.
 
 A block ```session NAME is stored in the file NAME, and one ```session NAME more goes into it before its last line. A
-block ```console has commands, each behind `$ `, and behind each what it writes on both streams. The blocks of a page are run in turn, in one folder, with PROGRAM as `youtopia` and the
-folder `examples` of the repository beside them. Any other block is told as not run, unless `plain` is said, which lets
-blocks without a word (```) and shell blocks (```sh) stand as they are.
+block ```console has commands, each behind `$ `, and behind each what it writes on both streams. The blocks of a page are
+run in turn, in one folder, with PROGRAM as `youtopia` and the folder `examples` of the repository beside them. Any other
+block is told as not run, unless `plain` is said, which lets blocks without a word and shell blocks (```sh) stand as they are.
 """
 import os
-import re
 import subprocess
 import sys
 import tempfile

@@ -104,7 +104,8 @@ def offences(page):
         if not crate and heading not in ("The whole program", "The formats"):
             continue
         for number, item in items_of(lines):
-            tokens = [token for token in re.findall(r"`([^`]+)`", item) if token not in PLAIN and token not in LISTED and "/" not in token]
+            quoted = re.findall(r"`([^`]+)`", item)
+            tokens = [token for token in quoted if token not in PLAIN and token not in LISTED and "/" not in token]
             if not tokens:
                 yield f"{number}: cites no contract"
             for token in tokens:

@@ -1,5 +1,7 @@
 #!/usr/bin/env python3
-"""Tells each link of the pages that leads nowhere, to no file or to no heading of a page, and each file that they name and is not there."""
+"""Tells each link of the pages that leads nowhere, to no file or to no heading of a page, and each file that they name and
+that is not there.
+"""
 import re
 import subprocess
 import sys
@@ -27,9 +29,9 @@ def leads_nowhere(page, link):
 
 
 def main():
-    listed = subprocess.run(["git", "ls-files", "-co", "--exclude-standard", "*.md"], cwd=ROOT, text=True, stdout=subprocess.PIPE, check=True)
+    listed = subprocess.check_output(["git", "ls-files", "-co", "--exclude-standard", "*.md"], cwd=ROOT, text=True)
     failed = False
-    for page in sorted(ROOT / name for name in listed.stdout.splitlines()):
+    for page in sorted(ROOT / name for name in listed.splitlines()):
         text = without_blocks(page.read_text())
         lost = [link for link in LINK.findall(text) if "://" not in link and leads_nowhere(page, link)]
         lost += [name for name in NAMED.findall(text) if "NAME" not in name and not (ROOT / name).exists()]

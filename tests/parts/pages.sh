@@ -7,6 +7,9 @@ check 'each contract that PROOFS cites is there' "$(tests/pages/citations.py 2>&
 check 'each name of the glossary is there' "$(tests/pages/names.py 2>&1)"
 check 'each block of the guide is run, and writes what it shows' "$(tests/pages/blocks.py docs/GUIDE.md "$program" 2>&1)"
 check 'the session of the README is run, and writes what it shows' "$(tests/pages/blocks.py README.md "$program" plain 2>&1)"
+check 'the blocks of FORMATS are run, and write what they show' "$(tests/pages/blocks.py docs/FORMATS.md "$program" plain 2>&1)"
+check 'each example in the tables of faults of FORMATS is told so' "$(tests/pages/faults.py "$program" 2>&1)"
+check 'the blocks of the travel example are run, and write what they show' "$(tests/pages/blocks.py examples/travel/README.md "$program" 2>&1)"
 check 'the example of travel data' \
   "$("$program" run < examples/travel/travel.session 2>&1 | diff examples/travel/travel.result - 2>&1)"
 check 'the must-fail edit that CONTRIBUTING shows is there' \

@@ -2,6 +2,12 @@
 check 'the man page and the completions are those of the table' "$(share/write check 2>&1)"
 check 'the help lists the commands, options and statuses of the table' "$(share/write help "$program" 2>&1)"
 
+check 'README and FORMATS name each command, and FORMATS each option' \
+  "$(grep -P '^command\t' share/words.tsv | cut -f 2 | while read -r name; do
+       for page in README.md docs/FORMATS.md; do grep -q "\`$name\`" "$page" || echo "$page: $name"; done
+     done
+     grep -P '^option\t' share/words.tsv | cut -f 2 | while read -r name; do grep -q -- "--$name" docs/FORMATS.md || echo "docs/FORMATS.md: --$name"; done)"
+
 # What the completion of bash offers for the last of these words.
 offered() {
   COMP_WORDS=(youtopia "$@") COMP_CWORD=$# COMPREPLY=()

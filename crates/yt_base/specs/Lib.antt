@@ -2,3 +2,4 @@ pub mod Listed
 pub mod Meanings
 pub mod Maps
 pub mod Candidates
+pub mod Contents
