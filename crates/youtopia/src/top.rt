@@ -17,8 +17,10 @@ use yt_words::{CommandName, HELP, Options, Request, VERSION_LINE, WordsRefusal, 
 
 // The query that the option spells, if it spells one.
 fn query_of(alloc: Global, options: &Options<'_>) -> Result<Option<RawAsk>, Memory>
-    ensures some { IfOk result (λ found. IfSome found (λ raw. AsksFor options.now (written_of raw))) }
-    ensures none { IfOk result (λ found. IfNone found ((q : WrittenAsk) → AsksFor options.now q → ⊥)) }
+    ensures some { IfOk result
+        (λ found. IfSome found (λ raw. AsksFor options.now (written_of raw))) }
+    ensures none { IfOk result
+        (λ found. IfNone found ((q : WrittenAsk) → AsksFor options.now q → ⊥)) }
 {
     match options.query {
         Some(text) => parse_ask(alloc, text.as_bytes()),

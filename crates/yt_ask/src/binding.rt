@@ -4,7 +4,7 @@ ghost use Rattle.std.specs.Prelude.{◌≡◌, IfOk, map, true};
 ghost use Rattle.yt_grammar.specs.Names.{place_of};
 ghost use Rattle.yt_certain.specs.Naive.{IsSafe};
 ghost use Rattle.yt_ask.specs.Asks.{query_of};
-ghost use Rattle.yt_ask.specs.Bound.{Gives, IsOfAtoms, bound_ask, of_query, written_of};
+ghost use Rattle.yt_ask.specs.Bound.{Gives, IsOfAtoms, bound_ask, names_of, of_query, written_of};
 ghost use Rattle.yt_ask.specs.Written.{is_ask};
 
 use crate::queries::{Ask, RawAsk, VarList};
@@ -35,7 +35,8 @@ fn number_of(variables: &Names, name: &Name) -> Result<u16, Memory>
 
 // The numbers of names among the variables.
 fn places_of(alloc: Global, variables: &Names, names: &[Name]) -> Result<VarList, Memory>
-    ensures { IfOk result (λ places. places.items ≡ map (place_of variables.now.items) (map (λ n. n.items) names.now)) }
+    ensures { IfOk result
+        (λ places. places.items ≡ map (place_of variables.now.items) (names_of names.now)) }
 {
     let mut places = List::new(alloc);
     for name in names {

@@ -28,6 +28,10 @@ abbrev pub asked_over : ResultTold → Result ConjunctiveQuery Kind → OutputVi
 asked_over told (Ok q) = answers_output told q
 asked_over told (Err kind) = Refused QueryRefused (query_line kind)
 
--- `ask` with so many steps for each update: the query is asked over what the serial machine leaves, where the base meets the mappings
+-- the query asked over what the serial machine leaves, with so many steps for each update
+abbrev pub asked_of : ℕ → WrittenAsk → SessionData → OutputView
+asked_of steps q s = asked_over (serial_told steps s) (bound_ask s.relations q)
+
+-- `ask`: that, where the base meets the mappings
 abbrev pub asked : ℕ → WrittenAsk → SessionData → OutputView
-asked steps q s = unless_violated s (asked_over (serial_told steps s) (bound_ask s.relations q)) (base_violation s)
+asked steps q s = unless_violated s (asked_of steps q s) (base_violation s)

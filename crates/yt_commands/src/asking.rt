@@ -1,10 +1,10 @@
 //! The command `ask`: the certain answers to a query over what a session's updates leave.
-ghost use Rattle.std.specs.Prelude.{◌≡◌, None, IfOk, map, true};
+ghost use Rattle.std.specs.Prelude.{◌≡◌, None, IfOk, true};
 ghost use Rattle.yt_ask.specs.Asks.{query_of};
-ghost use Rattle.yt_ask.specs.Bound.{bound_ask, written_of};
+ghost use Rattle.yt_ask.specs.Bound.{written_of};
 ghost use Rattle.yt_ask.specs.Printed.{answers_text as text_of_answers};
 ghost use Rattle.yt_ask.specs.Written.{is_ask};
-ghost use Rattle.yt_base.specs.Meanings.{fact_of};
+ghost use Rattle.yt_base.specs.Contents.{facts_of};
 ghost use Rattle.yt_certain.specs.Naive.{IsSafe, certain_answers};
 ghost use Rattle.yt_command.specs.Outputs.{view_of};
 ghost use Rattle.yt_grammar.specs.Faults.{Arity, UnknownRelation};
@@ -12,10 +12,9 @@ ghost use Rattle.yt_grammar.specs.Validity.{IsSession};
 ghost use Rattle.yt_model.specs.Repository.{has};
 ghost use Rattle.yt_model.specs.Values.{Fact};
 ghost use Rattle.yt_program.specs.Results.{result_of};
-ghost use Rattle.yt_report.specs.Results.{serial_told};
 ghost use Rattle.yt_session.specs.Base.{base_violation};
 ghost use Rattle.yt_session.specs.Meanings.{session_of};
-ghost use Rattle.yt_commands.specs.Asked.{answers_output, asked, asked_over, query_line};
+ghost use Rattle.yt_commands.specs.Asked.{answers_output, asked, asked_of, query_line};
 
 use crate::base::{base_refusal, base_violation};
 use crate::budget::Budget;
@@ -43,7 +42,7 @@ pub struct Ask<'a> {
 
 // The set of the tuples of a list, with an index.
 fn set_of(alloc: Global, tuples: &TupleList) -> Result<IndexedFacts, Memory>
-    ensures { IfOk result (λ facts. (t : Fact) → has facts t ≡ has (map fact_of tuples.now.items) t) }
+    ensures { IfOk result (λ facts. (t : Fact) → has facts t ≡ has (facts_of tuples.now) t) }
 {
     let facts = PlainFacts::of_list(alloc, tuples)?;
     Ok(IndexedFacts::of(alloc, facts)?)
@@ -52,7 +51,8 @@ fn set_of(alloc: Global, tuples: &TupleList) -> Result<IndexedFacts, Memory>
 // The text of the certain answers over the tuples of a list.
 fn answers(alloc: Global, query: &BoundAsk, tuples: &TupleList) -> Result<Vec<u8>, Memory>
     requires { IsSafe (query_of query.now) }
-    ensures { IfOk result (λ text. text.items ≡ text_of_answers (certain_answers (query_of query.now) (map fact_of tuples.now.items))) }
+    ensures { IfOk result (λ text. text.items
+        ≡ text_of_answers (certain_answers (query_of query.now) (facts_of tuples.now))) }
 {
     let facts = set_of(alloc, tuples)?;
     let rows = certain(alloc, query, &facts)?;
@@ -66,7 +66,8 @@ fn answers_output(
     told: &SessionResult,
 ) -> Result<Output, Memory>
     requires { IsSafe (query_of query.now) }
-    ensures { IfOk result (λ output. view_of output ≡ answers_output (result_of told.now) (query_of query.now)) }
+    ensures { IfOk result
+        (λ output. view_of output ≡ answers_output (result_of told.now) (query_of query.now)) }
 {
     let text = answers(alloc, query, &told.repository)?;
     Ok(Output::Text(ending_by(told), text))
@@ -85,7 +86,8 @@ fn unknown_line(alloc: Global, name: &Name) -> Result<Vec<u8>, Memory>
 
 // The line that tells that the relation has other columns.
 fn arity_line(alloc: Global, name: &Name, expected: u16, found: u64) -> Result<Vec<u8>, Memory>
-    ensures { IfOk result (λ line. line.items ≡ query_line (Arity name.now.items expected found)) }
+    ensures { IfOk result
+        (λ line. line.items ≡ query_line (Arity name.now.items expected found)) }
 {
     let mut line = Vec::new(alloc);
     line.extend_from_slice(b"youtopia: query: relation ")?;
@@ -107,7 +109,8 @@ fn over_base(
     requires valid { IsSession (session_of session.now) }
     requires met { base_violation (session_of session.now) ≡ None }
     requires base { base ≡ (session_of session.now).base }
-    ensures { IfOk result (λ output. view_of output ≡ asked_over (serial_told budget (session_of session.now)) (bound_ask (session_of session.now).relations (written_of query.now))) }
+    ensures { IfOk result (λ output. view_of output
+        ≡ asked_of budget (written_of query.now) (session_of session.now)) }
 {
     match bind_ask(alloc, &session.schema, query) {
         Ok(bound) => {
