@@ -7,6 +7,7 @@ check 'the handles are the one line' \
   "$([ "$(cat HANDLES)" = 'Handles allowed: Threads, Wait.' ] || cat HANDLES)"
 check 'each crate is listed once in crates.txt, and no other' \
   "$(diff <(printf '%s\n' "$crates" | sort) <(printf '%s\n' "$listed" | sort))"
+check 'no file has the marks of an open merge' "$(git grep -lE '^(<<<<<<<|>>>>>>>) ' 2>&1)"
 check 'each public function has a comment for its reader' \
   "$(printf '%s\n' "$sources" | grep '/src/.*\.rt$' | while read -r file; do
        awk -v file="$file" '/^ *(pub fn|pub trait|pub struct|pub enum)/ { if (before !~ /^ *(\/\/\/|#\[)/) print file ": " $0 } { before = $0 }' "$file"

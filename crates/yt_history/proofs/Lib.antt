@@ -8,3 +8,4 @@ pub mod Nulls
 pub mod Asking
 pub mod Asked
 pub mod Sessions
+pub mod Keeping

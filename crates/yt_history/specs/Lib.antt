@@ -7,3 +7,6 @@ pub mod Sessions
 pub mod HistoryWords
 pub mod AbortRows
 pub mod CascadeRows
+pub mod PlainEntries
+pub mod Cores
+pub mod CoreLaws

@@ -4,5 +4,6 @@
 #![tactic(auto)]
 
 pub mod any_order;
+pub mod cores;
 pub mod laws;
 pub mod rows;

@@ -21,6 +21,7 @@ mod passing;
 mod points;
 mod programs;
 mod readings;
+mod renewals;
 mod repairing;
 mod replacing;
 mod results;

@@ -1,15 +1,15 @@
-mod Follows
-mod Lowest
-mod Resting
-mod Marking
-mod Answering
-mod Staying
-mod Legality
-mod Calling
-mod Beginning
-mod Ending
-mod Told
-mod Parting
-mod Closed
-mod Holding
-mod Giving
+pub mod Follows
+pub mod Lowest
+pub mod Resting
+pub mod Marking
+pub mod Answering
+pub mod Staying
+pub mod Legality
+pub mod Calling
+pub mod Beginning
+pub mod Ending
+pub mod Told
+pub mod Parting
+pub mod Closed
+pub mod Holding
+pub mod Giving

@@ -1,0 +1,37 @@
+-- Which of an attempt's logged reads have another value now.
+use Rattle.std.specs.Option.{option_map}
+use Rattle.std.specs.Prelude.{ℕ, suc, Bool, not, if◌then◌else◌, List, [], ◌∷◌, take, Option, Some, None}
+use Rattle.yt_model.specs.Values.{Fact}
+use Rattle.yt_model.specs.Repository.{Change}
+use Rattle.yt_model.specs.Mappings.{Rule}
+use Rattle.yt_model.specs.Violations.{Direction, Caused}
+use Rattle.yt_model.specs.Queries.{Reply, same_reply, value}
+use Rattle.yt_query.specs.Meanings.{Read}
+
+-- The value of the read over D, by an attempt in this direction whose own writes are these: those count that were made when it asked.
+abbrev pub value_now : List Rule → Direction → List Fact → List Change → Read → Reply
+value_now ms h D own r = value ms r.query D (take r.own own) (Caused h)
+
+-- It has another value than its logged answer.
+abbrev pub is_changed : List Rule → Direction → List Fact → List Change → Read → Bool
+is_changed ms h D own r = not (same_reply r.reply (value_now ms h D own r))
+
+-- A read with its number in the log.
+pub record Numbered : Type 0 where
+  pub number : ℕ
+  pub read : Read
+
+-- The first read that passes, where the first of the list has number n.
+abbrev pub first_from : (Read → Bool) → ℕ → List Read → Option Numbered
+first_from p n [] = None
+first_from p n (r ∷ rs) = if p r then Some (record { number = n; read = r }) else first_from p (suc n) rs
+
+-- A read that has another value now: its number in the log, the read, and its value now.
+pub record Changed : Type 0 where
+  pub number : ℕ
+  pub read : Read
+  pub now : Reply
+
+-- The first read of the log that has another value over D.
+abbrev pub first_changed : List Rule → Direction → List Fact → List Change → List Read → Option Changed
+first_changed ms h D own log = option_map (λ r. record { number = r.number; read = r.read; now = value_now ms h D own r.read }) (first_from (is_changed ms h D own) 1 log)

@@ -1,0 +1,38 @@
+-- The next step of an attempt over what lies below it: the attempt after it, and its reads.
+use Rattle.std.specs.Prelude.{◌≡◌, ℕ, List, length, map, Option, Some, None}
+use Rattle.yt_machine.specs.Trees.{result_of, log_of}
+use Rattle.yt_model.specs.Values.{Fact}
+use Rattle.yt_model.specs.Mappings.{Rule}
+use Rattle.yt_model.specs.Queries.{Query, Reply, value}
+use Rattle.yt_model.specs.Updates.{Choice, direction_of}
+use Rattle.yt_model.specs.Violations.{Caused}
+use Rattle.yt_query.specs.Meanings.{Read}
+use Rattle.yt_steps.specs.Attempts.{Attempt}
+use Rattle.yt_steps.specs.Steps.{step, moved}
+use Rattle.yt_program.specs.Courses.{State}
+use Rattle.yt_program.specs.Wishes.{Wish, WishesStep, Fits}
+
+-- An attempt between two steps.
+abbrev pub at_rest : Attempt → State
+at_rest P = record { attempt = P; reading = None }
+
+-- A step with this answer is wanted, or one without.
+abbrev pub WantsStep : Wish → Option Choice → Type 0
+WantsStep w None = w ≡ WishesStep
+WantsStep w (Some c) = Fits w c
+
+-- How its queries are answered over D: of violations those count that it caused.
+abbrev pub answers_over : List Rule → List Fact → Attempt → Query → Reply
+answers_over ms D P q = value ms q D P.own (Caused (direction_of P.operation))
+
+-- The attempt after its next step over D, with this answer if it is at a question.
+abbrev pub next_attempt : List Rule → ℕ → List Fact → Attempt → Option Choice → Attempt
+next_attempt ms B D P c = moved B P (result_of (answers_over ms D P) (step ms P c))
+
+-- A query with its answer, as a read by an attempt that had made so many own writes.
+abbrev pub read_after : ℕ → Query × Reply → Read
+read_after n r = record { query = r.0; reply = r.1; own = n }
+
+-- The reads of that step.
+abbrev pub next_reads : List Rule → List Fact → Attempt → Option Choice → List Read
+next_reads ms D P c = map (read_after (length P.own)) (log_of (answers_over ms D P) (step ms P c))

@@ -1,0 +1,6 @@
+//! The next step of an attempt, planned over what lies below it while the attempt stays as it is.
+#![tactic(auto)]
+
+mod plans;
+
+pub use crate::plans::{Plan, plan_step};

@@ -1,0 +1,109 @@
+//! One step of an attempt over a set of tuples, with its reads.
+ghost use Rattle.std.specs.Prelude.{◌≡◌, length, map, IfOk, OnOk};
+ghost use Rattle.std.specs.Option.{option_map, option_copied};
+ghost use Rattle.yt_machine.specs.Trees.{result_of, log_of};
+ghost use Rattle.yt_model.specs.Queries.{value};
+ghost use Rattle.yt_model.specs.Repository.{IsRepository};
+ghost use Rattle.yt_model.specs.Violations.{Caused};
+ghost use Rattle.yt_base.specs.Meanings.{choice_of, heading_of, rule_of};
+ghost use Rattle.yt_query.specs.Meanings.{read_of};
+ghost use Rattle.yt_steps.specs.Steps.{step};
+ghost use Rattle.yt_program.specs.Conditions.{AreWithin, IsBudget};
+ghost use Rattle.yt_program.specs.Courses.{coming_to, course};
+ghost use Rattle.yt_program.specs.Wishes.{wish};
+ghost use Rattle.yt_plan.specs.Planned.{at_rest, WantsStep, next_attempt, next_reads, read_after};
+
+use std::alloc::Global;
+use yt_base::{Choice, Direction, Facts, MappingList, Memory, TryCopy};
+use yt_eval::View;
+use yt_program::{Program, Want};
+use yt_query::{LoggedRead, ReadLog};
+
+/// The next step of an attempt: the attempt after it, and the reads of the step in order.
+#[derive(Drop)]
+pub struct Plan {
+    pub program: Program,
+    pub reads: ReadLog,
+}
+
+/// The next step of the attempt over what lies below it, with the answer where it is at a question. The attempt stays as
+/// it is. It is refused only for want of memory.
+pub fn plan_step<F: Facts>(
+    alloc: Global,
+    program: &Program,
+    choice: Option<&Choice>,
+    mappings: &MappingList,
+    budget: u32,
+    below: &F,
+) -> Result<Plan, Memory>
+    requires wanted { WantsStep (wish program.now) (option_map choice_of (option_copied choice)) }
+    requires within { AreWithin (map rule_of mappings.now.items) }
+    requires budget { IsBudget program.now.attempt.steps budget }
+    ensures program { IfOk result (λ plan. plan.program ≡ at_rest (next_attempt (map rule_of mappings.now.items) budget (F.tuples below.now) program.now.attempt (option_map choice_of (option_copied choice.entry)))) }
+    ensures reads { IfOk result (λ plan. map read_of plan.reads.items ≡ next_reads (map rule_of mappings.now.items) (F.tuples below.now) program.now.attempt (option_map choice_of (option_copied choice.entry))) }
+{
+    // The set tells that it is in order.
+    let _ = below.beyond(None);
+    let own = program.own();
+    let mut view = View::new(alloc, below);
+    view.write_all(alloc, own.as_slice())?;
+    let mut after = program.copy(alloc)?;
+    begin(alloc, &mut after, choice, mappings, budget)?;
+    let made = own.len() as u64;
+    let direction = program.direction();
+    let reads = answer_all(alloc, &mut after, &view, mappings, direction, made)?;
+    Ok(Plan {
+        program: after,
+        reads,
+    })
+}
+
+// Begins the step, up to its first query or its end.
+fn begin(
+    alloc: Global,
+    program: &mut Program,
+    choice: Option<&Choice>,
+    mappings: &MappingList,
+    budget: u32,
+) -> Result<(), Memory>
+    requires wanted { WantsStep (wish program.old) (option_map choice_of (option_copied choice)) }
+    requires within { AreWithin (map rule_of mappings.now.items) }
+    requires budget { IsBudget program.old.attempt.steps budget }
+    ensures step { OnOk result (course (map rule_of mappings.now.items) program.new ≡ coming_to budget program.old.attempt (step (map rule_of mappings.now.items) program.old.attempt (option_map choice_of (option_copied choice.entry)))) }
+{
+    match choice {
+        Some(choice) => program.choose(alloc, choice, mappings, budget),
+        None => program.begin(alloc, mappings, budget),
+    }
+}
+
+// Answers the queries of the step in hand from the view, up to the step's end, and gives the reads. So many own writes had
+// been made before the step.
+fn answer_all<F: Facts>(
+    alloc: Global,
+    program: &mut Program,
+    view: &View<'_, F>,
+    mappings: &MappingList,
+    direction: Direction,
+    made: u64,
+) -> Result<ReadLog, Memory>
+    requires sorted { IsRepository view.now.below }
+    requires within { AreWithin (map rule_of mappings.now.items) }
+    ensures answered { OnOk result (program.new ≡ at_rest (result_of (λ q. value (map rule_of mappings.now.items) q view.now.below view.now.own (Caused (heading_of direction))) (course (map rule_of mappings.now.items) program.old))) }
+    ensures reads { IfOk result (λ reads. map read_of reads.items ≡ map (read_after made) (log_of (λ q. value (map rule_of mappings.now.items) q view.now.below view.now.own (Caused (heading_of direction))) (course (map rule_of mappings.now.items) program.old))) }
+{
+    let mut reads = ReadLog::new(alloc);
+    'queries: loop {
+        let Want::Read(query) = program.wants() else {
+            return Ok(reads);
+        };
+        let query = query.copy(alloc)?;
+        let answer = view.eval(&query, mappings, direction, alloc)?;
+        program.take(alloc, &answer, mappings)?;
+        reads.push(LoggedRead {
+            query,
+            answer,
+            own: made,
+        })?;
+    }
+}

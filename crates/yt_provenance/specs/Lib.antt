@@ -1,0 +1,6 @@
+pub mod Puts
+pub mod Courses
+pub mod Reasons
+pub mod Notes
+pub mod Laws
+pub mod ExplainedRows

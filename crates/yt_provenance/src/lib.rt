@@ -1,0 +1,7 @@
+//! Why-provenance of the tuples that the serial machine leaves: which step put a tuple, from what, and so on back to the
+//! base and to what curators inserted.
+//!
+//! The definitions stand in `specs/`. Each function here is a law: its contract is the statement and its body is empty.
+#![tactic(auto)]
+
+pub mod laws;

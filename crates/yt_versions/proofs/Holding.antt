@@ -1,0 +1,38 @@
+-- A search for one tuple finds its row, which says what is known of it.
+use Rattle.std.proofs.Common.{◌≡◌, ℕ, ap, sym, ◌∙◌, subst, List, Bool, true, find, Option, Some, unwrap_or}
+use Rattle.std.specs.Cmp.{eq_by_cmp_equiv}
+use Rattle.std.specs.Option.{option_map}
+use Rattle.std.specs.Ordering.{is_eq}
+use Rattle.yt_base.specs.Meanings.{fact_of}
+use Rattle.yt_base.specs.declared.tuples.Tuple.{Tuple}
+use Rattle.yt_model.specs.Repository.{has}
+use Rattle.yt_model.specs.Values.{Fact, fact_cmp, same_fact}
+use Rattle.yt_model.proofs.Bools.{and-true}
+use Rattle.yt_model.proofs.Order.{fact_total}
+use Rattle.yt_model.proofs.Sets.{same_exact}
+use Rattle.yt_tree.specs.Orders.{is_sought}
+use Rattle.yt_versions.specs.Chains.{AreRows}
+use Rattle.yt_versions.specs.Marked.{marks_at, no_marks, stands, visible}
+use Rattle.yt_versions.specs.declared.marks.Marks.{Marks}
+use Rattle.yt_versions.proofs.Seeing.{find_same}
+use Rattle.yt_versions.proofs.Seen.{seen_stands}
+use Rattle.yt_versions.proofs.Scanning.{found_passes}
+
+abbrev is_held : Fact → Tuple × Marks → Bool
+is_held t = is_sought (λ k. fact_cmp (fact_of k) t) (λ _. true)
+
+held_same : (t : Fact) (e : Tuple × Marks) → is_held t e ≡ same_fact t (fact_of e.0)
+held_same t e = and-true (is_eq (fact_cmp (fact_of e.0) t)) ∙ (eq_by_cmp_equiv fact_total).symm (fact_of e.0) t
+
+pub held_tuple : (t : Fact) (rows : List (Tuple × Marks)) {e : Tuple × Marks} → Some e ≡ find (is_held t) rows → fact_of e.0 ≡ t
+held_tuple t rows {e} f = sym (same_exact t (fact_of e.0) (sym (held_same t e) ∙ found_passes (is_held t) rows (sym f)))
+
+pub held_marks : (t : Fact) {inside rows : List (Tuple × Marks)} {o : Option (Tuple × Marks)} → inside ≡ rows → o ≡ find (is_held t) inside → unwrap_or (option_map (λ e. e.1) o) no_marks ≡ marks_at rows t
+held_marks t {inside} {rows} {o} seen f =
+    ap (λ p. unwrap_or (option_map (λ e. e.1) p) no_marks) (f ∙ find_same (is_held t) (λ e. same_fact t (fact_of e.0)) (held_same t) inside)
+    ∙ ap (λ es. marks_at es t) seen
+
+-- Whether the tuple is seen is what its row says.
+pub held_stands : (n : ℕ) (t : Fact) {inside rows : List (Tuple × Marks)} {o : Option (Tuple × Marks)} → inside ≡ rows → AreRows inside → o ≡ find (is_held t) inside
+    → stands n (unwrap_or (option_map (λ e. e.1) o) no_marks) ≡ has (visible n rows) t
+held_stands n t {inside} {rows} {o} seen order f = ap (stands n) (held_marks t seen f) ∙ sym (seen_stands n rows (subst AreRows seen order).order t)

@@ -1,0 +1,13 @@
+pub mod Looking
+pub mod Placing
+pub mod Seeing
+pub mod Chained
+pub mod Seen
+pub mod Numbered
+pub mod Standings
+pub mod Setting
+pub mod Scanning
+pub mod Noting
+pub mod Holding
+pub mod Sent
+pub mod Walking

@@ -1,0 +1,96 @@
+-- A search among the marked tuples is one among those that an update sees, which are in order.
+use Rattle.std.proofs.Common.{◌≡◌, ℕ, subst, ap, refl, sym, ◌∙◌, List, [], ◌∷◌, Bool, true, false, ◌&&◌, cond, find, map, filter, Option, Some, None}
+use Rattle.std.specs.List.{AllByRecursion}
+use Rattle.std.specs.List.Sorted.{IsStrictlySortedBy}
+use Rattle.std.specs.Map.{keys_of}
+use Rattle.std.specs.Option.{option_map}
+use Rattle.std.specs.Ordering.{on}
+use Rattle.std.specs.declared.cmp.Ordering.{Ordering}
+use Rattle.std.specs.declared.cmp.Ordering.TheVariants.{Less}
+use Rattle.yt_base.specs.Meanings.{fact_of}
+use Rattle.yt_base.specs.declared.tuples.Tuple.{Tuple}
+use Rattle.yt_model.specs.Values.{Fact, fact_cmp}
+use Rattle.yt_model.specs.Repository.{IsRepository}
+use Rattle.yt_model.specs.Cursors.{is_of, is_past, is_beyond}
+use Rattle.yt_model.proofs.Bools.{and-true}
+use Rattle.yt_tree.specs.Orders.{IsOrdered, is_sought}
+use Rattle.yt_versions.specs.Marked.{stands, visible}
+use Rattle.yt_versions.specs.Zones.{place_beyond, place_of}
+use Rattle.yt_versions.specs.declared.marks.Marks.{Marks}
+use Rattle.yt_versions.proofs.Placing.{beyond_is, zone_is}
+
+-- ---- order
+
+pub below_visible : (n : ℕ) (t : Fact) (es : List (Tuple × Marks)) → AllByRecursion (λ y. fact_cmp t (fact_of y) ≡ Less) (keys_of es) → AllByRecursion (λ y. fact_cmp t y ≡ Less) (visible n es)
+below_visible n t [] a = tt
+below_visible n t (e ∷ es) a = by (stands n e.1) (below_visible n t es a.1)
+  where
+    by : (b : Bool) → AllByRecursion (λ y. fact_cmp t y ≡ Less) (visible n es) → AllByRecursion (λ y. fact_cmp t y ≡ Less) (map (λ f. fact_of f.0) (cond b (e ∷ filter (λ f. stands n f.1) es) (filter (λ f. stands n f.1) es)))
+    by true h = (a.0, h)
+    by false h = h
+
+pub visible_in_order : (n : ℕ) (es : List (Tuple × Marks)) → IsOrdered (on fact_of fact_cmp) es → IsRepository (visible n es)
+unfolding IsStrictlySortedBy
+visible_in_order n [] s = tt
+visible_in_order n (e ∷ es) s = by (stands n e.1) (visible_in_order n es s.1)
+  where
+    by : (b : Bool) → IsRepository (visible n es) → IsStrictlySortedBy fact_cmp (map (λ f. fact_of f.0) (cond b (e ∷ filter (λ f. stands n f.1) es) (filter (λ f. stands n f.1) es)))
+    by true h = (below_visible n (fact_of e.0) es s.0, h)
+    by false h = h
+
+-- ---- searches
+
+module _ (n : ℕ) (q : Fact → Bool) where
+  find_visible : (es : List (Tuple × Marks)) → find q (visible n es) ≡ option_map (λ (e : Tuple × Marks). fact_of e.0) (find (λ e. stands n e.1 && q (fact_of e.0)) es)
+  find_visible [] = refl
+  find_visible (e ∷ es) = by (stands n e.1) (q (fact_of e.0)) refl (find_visible es)
+    where
+      by : (a b : Bool) → q (fact_of e.0) ≡ b → find q (visible n es) ≡ option_map (λ (f : Tuple × Marks). fact_of f.0) (find (λ f. stands n f.1 && q (fact_of f.0)) es)
+          → find q (map (λ f. fact_of f.0) (cond a (e ∷ filter (λ f. stands n f.1) es) (filter (λ f. stands n f.1) es)))
+          ≡ option_map (λ (f : Tuple × Marks). fact_of f.0) (cond (a && b) (Some e) (find (λ f. stands n f.1 && q (fact_of f.0)) es))
+      by true true k h = rw k refl
+      by true false k h = rw k h
+      by false b k h = h
+
+pub find_same : {X : Type 0} (p q : X → Bool) → ((x : X) → p x ≡ q x) → (xs : List X) → find p xs ≡ find q xs
+find_same p q h [] = refl
+find_same p q h (x ∷ xs) = rw (h x) (ap (λ o. cond (q x) (Some x) o) (find_same p q h xs))
+
+-- What was found among the marked tuples, by place and test, is what is found by q among those that are seen.
+pub seen_by : (n : ℕ) (q : Fact → Bool) (place : Tuple → Ordering) (passes : Tuple × Marks → Bool) → ((e : Tuple × Marks) → is_sought place passes e ≡ (stands n e.1 && q (fact_of e.0)))
+    → (es : List (Tuple × Marks)) (found : Option (Tuple × Marks)) (tuple : Option Tuple) → found ≡ find (is_sought place passes) es → tuple ≡ option_map (λ e. e.0) found → option_map fact_of tuple ≡ find q (visible n es)
+seen_by n q place passes same es found tuple f t =
+    ap (option_map fact_of) t ∙ both found ∙ ap (option_map (λ (e : Tuple × Marks). fact_of e.0)) (f ∙ find_same (is_sought place passes) (λ e. stands n e.1 && q (fact_of e.0)) same es) ∙ sym (find_visible n q es)
+  where
+    both : (o : Option (Tuple × Marks)) → option_map fact_of (option_map (λ e. e.0) o) ≡ option_map (λ (e : Tuple × Marks). fact_of e.0) o
+    both None = refl
+    both (Some e) = refl
+
+-- ---- the tests
+
+swap : (a b : Bool) → (a && b) ≡ (b && a)
+swap true true = refl
+swap true false = refl
+swap false true = refl
+swap false false = refl
+
+pub beyond_same : (n : ℕ) (past : Option Fact) (e : Tuple × Marks) → is_sought (λ k. place_beyond past (fact_of k)) (λ f. stands n f.1) e ≡ (stands n e.1 && is_beyond past (fact_of e.0))
+beyond_same n past e = ap (λ b. b && stands n e.1) (beyond_is past (fact_of e.0)) ∙ swap (is_beyond past (fact_of e.0)) (stands n e.1)
+
+zone_same : (n r : ℕ) (past : Option Fact) (e : Tuple × Marks) → is_sought (λ k. place_of r past (fact_of k)) (λ f. stands n f.1) e ≡ (stands n e.1 && (is_of r (fact_of e.0) && is_beyond past (fact_of e.0)))
+zone_same n r past e = ap (λ b. b && stands n e.1) (zone_is r past (fact_of e.0)) ∙ swap (is_of r (fact_of e.0) && is_beyond past (fact_of e.0)) (stands n e.1)
+
+pub first_same : (n r : ℕ) (e : Tuple × Marks) → is_sought (λ k. place_of r None (fact_of k)) (λ f. stands n f.1) e ≡ (stands n e.1 && is_of r (fact_of e.0))
+first_same n r e = zone_same n r None e ∙ ap (λ b. stands n e.1 && b) (and-true (is_of r (fact_of e.0)))
+
+pub after_same : (n : ℕ) (t : Fact) (e : Tuple × Marks) → is_sought (λ k. place_of t.relation (Some t) (fact_of k)) (λ f. stands n f.1) e ≡ (stands n e.1 && is_past t (fact_of e.0))
+after_same n t e = zone_same n t.relation (Some t) e
+
+-- The same of what is kept.
+pub seen_in_order : (n : ℕ) {inside es : List (Tuple × Marks)} → inside ≡ es → IsOrdered (on fact_of fact_cmp) inside → IsRepository (visible n es)
+seen_in_order n {inside} {es} e s = subst (λ d. IsRepository (visible n d)) e (visible_in_order n inside s)
+
+-- Before all keys everything is reached.
+pub all_reached : {X : Type 0} (xs : List X) → filter (λ _. true) xs ≡ xs
+all_reached [] = refl
+all_reached (x ∷ xs) = ap (λ t. x ∷ t) (all_reached xs)

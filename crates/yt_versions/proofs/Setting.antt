@@ -1,0 +1,152 @@
+-- Marks that are set at a tuple and at each of its cells keep the index.
+use Rattle.std.proofs.Common.{◌≡◌, ℕ, ◌+◌, ◌<◌, ap, refl, sym, subst, ◌∙◌, List, [], Bool, true, false, ◌&&◌, ◌||◌, cond, length, arith}
+use Rattle.std.proofs.lemmas.Bool.{lt-ltb, le-ltb}
+use Rattle.std.proofs.lemmas.Cmp.{ranked}
+use Rattle.std.specs.Prelude.{nat_lt}
+use Rattle.std.specs.Cmp.{Equal-is, on_total, tied_then, tied_itself}
+use Rattle.std.specs.Cmp.Lexicographic.{options_total}
+use Rattle.std.specs.Ordering.{is_eq, nat_cmp, on, ordering_then, MatchOrdering}
+use Rattle.std.specs.declared.cmp.Ordering.{Ordering}
+use Rattle.std.specs.declared.cmp.Ordering.TheVariants.{Less, Equal, Greater}
+use Rattle.yt_base.specs.Meanings.{fact_of}
+use Rattle.yt_base.specs.declared.tuples.Tuple.{Tuple}
+use Rattle.yt_model.specs.Values.{Fact, fact_cmp, same_fact}
+use Rattle.yt_model.proofs.Order.{datum_total, fact_total}
+use Rattle.yt_model.proofs.Bools.{and-false}
+use Rattle.yt_model.proofs.Sets.{same_exact}
+use Rattle.yt_versions.specs.Cells.{value_in, values_cmp, cell_cmp, same_cell, cell_total}
+use Rattle.yt_versions.specs.Indexed.{cell_of, cell_marks, IsIndex, CellsHave, set_entry}
+use Rattle.yt_versions.specs.Marked.{marks_at, no_marks}
+use Rattle.yt_versions.specs.declared.cells.Cell.{Cell}
+use Rattle.yt_versions.specs.declared.marks.Marks.{Marks}
+use Rattle.yt_tree.specs.Orders.{IsOrdered}
+use Rattle.yt_versions.specs.Chains.{AreMarks, AllMarked, AreRows}
+use Rattle.yt_versions.proofs.Looking.{marks_set, all_set}
+
+-- ---- cells
+
+same_value : (c i : ℕ) (t s : Fact) → c ≡ i → (is_eq (values_cmp (value_in (c, t)) (value_in (i, s))) && same_fact t s) ≡ same_fact t s
+same_value c i t s e = by (same_fact t s) refl
+  where
+    by : (b : Bool) → same_fact t s ≡ b → (is_eq (values_cmp (value_in (c, t)) (value_in (i, s))) && b) ≡ b
+    by true h =
+        let there : value_in (c, t) ≡ value_in (i, s) = ap (λ k. value_in (k, t)) e ∙ ap (λ u. value_in (i, u)) (same_exact t s h) in
+        ap (λ v. is_eq (values_cmp (value_in (c, t)) v) && true) (sym there) ∙ ap (λ o. is_eq o && true) (tied_itself (options_total datum_total) (value_in (c, t)))
+    by false h = and-false (is_eq (values_cmp (value_in (c, t)) (value_in (i, s))))
+
+-- A cell is that of a column and a tuple where both are the same.
+pub same_cell_is : (c i : ℕ) (t s : Fact) → same_cell (c, t) (i, s) ≡ (same_fact t s && is_eq (nat_cmp c i))
+same_cell_is c i t s =
+    sym (tied_then (nat_cmp c i) (ordering_then (values_cmp (value_in (c, t)) (value_in (i, s))) (fact_cmp t s)))
+    ∙ ap (λ b. is_eq (nat_cmp c i) && b) (sym (tied_then (values_cmp (value_in (c, t)) (value_in (i, s))) (fact_cmp t s)))
+    ∙ by (nat_cmp c i) (ranked c i (nat_cmp c i) refl)
+  where
+    true_last : (b : Bool) → b ≡ (b && true)
+    true_last true = refl
+    true_last false = refl
+
+    by : (o : Ordering) → MatchOrdering o (c < i) (c ≡ i) (i < c) → (is_eq o && (is_eq (values_cmp (value_in (c, t)) (value_in (i, s))) && same_fact t s)) ≡ (same_fact t s && is_eq o)
+    by Less m = sym (and-false (same_fact t s))
+    by Equal m = same_value c i t s m ∙ true_last (same_fact t s)
+    by Greater m = sym (and-false (same_fact t s))
+
+pub cell_exact : (x y : ℕ × Fact) → same_cell x y ≡ true → x ≡ y
+cell_exact x y h = λ k. (column k, tuple k)
+  where
+    first : (a b : Bool) → (a && b) ≡ true → a ≡ true
+    first true b h = refl
+    first false b h = h
+
+    second : (a b : Bool) → (a && b) ≡ true → b ≡ true
+    second true b h = h
+    second false b h = absurd (cc)
+
+    both : (same_fact x.1 y.1 && is_eq (nat_cmp x.0 y.0)) ≡ true
+    both = sym (same_cell_is x.0 y.0 x.1 y.1) ∙ h
+
+    equal : (o : Ordering) → MatchOrdering o (x.0 < y.0) (x.0 ≡ y.0) (y.0 < x.0) → is_eq o ≡ true → x.0 ≡ y.0
+    equal Less m e = absurd (cc)
+    equal Equal m e = m
+    equal Greater m e = absurd (cc)
+
+    column : x.0 ≡ y.0
+    column = equal (nat_cmp x.0 y.0) (ranked x.0 y.0 (nat_cmp x.0 y.0) refl) (second (same_fact x.1 y.1) (is_eq (nat_cmp x.0 y.0)) both)
+
+    tuple : x.1 ≡ y.1
+    tuple = same_exact x.1 y.1 (first (same_fact x.1 y.1) (is_eq (nat_cmp x.0 y.0)) both)
+
+one_cell : (x : ℕ × Fact) (y z : Cell) → same_cell x (cell_of y) ≡ true → same_cell x (cell_of z) ≡ is_eq (cell_cmp (cell_of y) (cell_of z))
+one_cell x y z h = ap is_eq (cell_total.congr x (cell_of y) (cell_of z) ((Equal-is (cell_cmp x (cell_of y))).0 h))
+
+below_next : (c i : ℕ) → nat_lt c (i + 1) ≡ (is_eq (nat_cmp c i) || nat_lt c i)
+below_next c i = by (nat_cmp c i) (ranked c i (nat_cmp c i) refl)
+  where
+    by : (o : Ordering) → MatchOrdering o (c < i) (c ≡ i) (i < c) → nat_lt c (i + 1) ≡ (is_eq o || nat_lt c i)
+    by Less m = lt-ltb c (i + 1) (omega arith) ∙ sym (lt-ltb c i m)
+    by Equal m = lt-ltb c (i + 1) (omega arith)
+    by Greater m = le-ltb c (i + 1) (omega arith) ∙ sym (le-ltb c i (omega arith))
+
+-- No column lies below the first.
+pub have_none : (s : Fact) (m : Marks) (cells : List (Cell × Marks)) → CellsHave s 0 m cells cells
+have_none s m cells c t = ap (λ b. cond b m (cell_marks cells c t)) (sym (ap (λ b. same_fact t s && b) (le-ltb c 0 (omega arith)) ∙ and-false (same_fact t s)))
+
+-- With the marks at one column more.
+pub have_more : (s : Fact) (i : ℕ) (m : Marks) (old mid new : List (Cell × Marks)) (k : Cell) (n : Marks) → CellsHave s i m old mid → new ≡ set_entry (on cell_of cell_cmp) mid k n
+    → k.column ≡ i → fact_of k.tuple ≡ s → n ≡ m → CellsHave s (i + 1) m old new
+have_more s i m old mid new k n had set column tuple marks c t =
+    ap (λ es. cell_marks es c t) set
+    ∙ marks_set (on_total cell_of cell_total) (λ x. same_cell (c, t) (cell_of x)) (λ y z h. one_cell (c, t) y z h) mid k n
+    ∙ ap (λ z. cond (same_cell (c, t) (cell_of k)) z (cell_marks mid c t)) marks
+    ∙ ap (λ b. cond b m (cell_marks mid c t)) (ap (λ z. same_cell (c, t) (z, fact_of k.tuple)) column ∙ ap (λ z. same_cell (c, t) (i, z)) tuple ∙ same_cell_is c i t s)
+    ∙ ap (cond (same_fact t s && is_eq (nat_cmp c i)) m) (had c t)
+    ∙ by (same_fact t s) (is_eq (nat_cmp c i)) (nat_lt c i)
+    ∙ ap (λ b. cond (same_fact t s && b) m (cell_marks old c t)) (sym (below_next c i))
+  where
+    by : (a b e : Bool) → cond (a && b) m (cond (a && e) m (cell_marks old c t)) ≡ cond (a && (b || e)) m (cell_marks old c t)
+    by true true e = refl
+    by true false e = refl
+    by false b e = refl
+
+-- ---- rows
+
+one_row : (t : Fact) (y z : Tuple) → same_fact t (fact_of y) ≡ true → same_fact t (fact_of z) ≡ is_eq (fact_cmp (fact_of y) (fact_of z))
+one_row t y z h = ap (λ u. same_fact u (fact_of z)) (same_exact t (fact_of y) h)
+
+pub row_set : (old new : List (Tuple × Marks)) (k : Tuple) (s : Fact) (m : Marks) → new ≡ set_entry (on fact_of fact_cmp) old k m → fact_of k ≡ s → (t : Fact) → marks_at new t ≡ cond (same_fact t s) m (marks_at old t)
+row_set old new k s m set tuple t =
+    ap (λ es. marks_at es t) set ∙ marks_set (on_total fact_of fact_total) (λ x. same_fact t (fact_of x)) (one_row t) old k m ∙ ap (λ z. cond (same_fact t z) m (marks_at old t)) tuple
+
+-- What is made of the marks of s is made of those of t, where t is s.
+pub at_itself : (f : Marks → Marks) (rows : List (Tuple × Marks)) (s t : Fact) → cond (same_fact t s) (f (marks_at rows s)) (marks_at rows t) ≡ cond (same_fact t s) (f (marks_at rows t)) (marks_at rows t)
+at_itself f rows s t = by (same_fact t s) refl
+  where
+    by : (b : Bool) → same_fact t s ≡ b → cond b (f (marks_at rows s)) (marks_at rows t) ≡ cond b (f (marks_at rows t)) (marks_at rows t)
+    by true e = ap (λ z. f (marks_at rows z)) (sym (same_exact t s e))
+    by false e = refl
+
+pub index_kept : (s : Fact) (m : Marks) (rows more : List (Tuple × Marks)) (cells after : List (Cell × Marks)) → IsIndex rows cells → CellsHave s (length s.values) m cells after
+    → ((t : Fact) → marks_at more t ≡ cond (same_fact t s) m (marks_at rows t)) → IsIndex more after
+index_kept s m rows more cells after index have set c t = have c t ∙ by (same_fact t s) refl
+  where
+    at : (b : Bool) → nat_lt c (length t.values) ≡ b → same_fact t s ≡ true → cond b m (cell_marks cells c t) ≡ cond b (marks_at more t) no_marks
+    at true e h = sym (set t ∙ ap (λ z. cond z m (marks_at rows t)) h)
+    at false e h = index c t ∙ ap (λ z. cond z (marks_at rows t) no_marks) e
+
+    by : (b : Bool) → same_fact t s ≡ b → cond (b && nat_lt c (length s.values)) m (cell_marks cells c t) ≡ cond (nat_lt c (length t.values)) (marks_at more t) no_marks
+    by true h =
+        ap (λ u. cond (nat_lt c (length u.values)) m (cell_marks cells c t)) (sym (same_exact t s h)) ∙ at (nat_lt c (length t.values)) refl h
+    by false h =
+        index c t ∙ ap (λ z. cond (nat_lt c (length t.values)) z no_marks) (sym (set t ∙ ap (λ z. cond z m (marks_at rows t)) h))
+
+-- Nothing is indexed where there is nothing.
+pub index_empty : {rows : List (Tuple × Marks)} {cells : List (Cell × Marks)} → rows ≡ [] → cells ≡ [] → IsIndex rows cells
+index_empty {rows} {cells} e f c t =
+    ap (λ es. cell_marks es c t) f ∙ by (nat_lt c (length t.values)) ∙ ap (λ es. cond (nat_lt c (length t.values)) (marks_at es t) no_marks) (sym e)
+  where
+    by : (b : Bool) → no_marks ≡ cond b no_marks no_marks
+    by true = refl
+    by false = refl
+
+-- Rows stay rows.
+pub rows_set : (old : List (Tuple × Marks)) {new : List (Tuple × Marks)} (k : Tuple) (m : Marks) → new ≡ set_entry (on fact_of fact_cmp) old k m → IsOrdered (on fact_of fact_cmp) new → AllMarked old → AreMarks m → AreRows new
+rows_set old k m set order marks own = record { order = order; marks = subst AllMarked (sym set) (all_set (on fact_of fact_cmp) AreMarks old k m marks own) }

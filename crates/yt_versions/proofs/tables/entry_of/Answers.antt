@@ -1,0 +1,13 @@
+use Rattle.std.proofs.Common.{ap, refl, ◌∙◌}
+use Rattle.yt_base.specs.Meanings.{fact_of}
+use Rattle.yt_versions.proofs.Holding.{held_tuple, held_marks}
+use Rattle.yt_versions.proofs.tables.entry_of.Goals as goal
+
+pub returns-in-Some-clause-tuple : goal.returns-in-Some-clause-tuple
+returns-in-Some-clause-tuple c = ap fact_of c.in_ok-key-in-Some.ensures.same ∙ held_tuple (fact_of c.args.tuple.now) c.args.rows.now c.in-Some.ensures.found
+
+pub returns-in-Some-clause-marks : goal.returns-in-Some-clause-marks
+returns-in-Some-clause-marks c = c.in_ok-marks-in-Some.ensures.same ∙ held_marks (fact_of c.args.tuple.now) refl c.in-Some.ensures.found
+
+pub returns-in-Ok-clause-marks : goal.returns-in-Ok-clause-marks
+returns-in-Ok-clause-marks c = c.new-in-Ok.ensures.none ∙ held_marks (fact_of c.args.tuple.now) refl c.in-None.ensures.found

@@ -1,0 +1,33 @@
+-- An index by cells: each tuple with its marks once more for each of its columns.
+use Rattle.std.specs.Prelude.{◌≡◌, ℕ, ◌&&◌, cond, List, find, length, nat_lt, unwrap_or}
+use Rattle.std.specs.BTreeMap.{insert_entry}
+use Rattle.std.specs.Option.{option_map}
+use Rattle.std.specs.declared.cmp.Ordering.{Ordering}
+use Rattle.yt_base.specs.declared.tuples.Tuple.{Tuple}
+use Rattle.yt_base.specs.Meanings.{fact_of}
+use Rattle.yt_model.specs.Values.{Fact, same_fact}
+use Rattle.yt_tree.specs.Orders.{without}
+use Rattle.yt_versions.specs.Cells.{same_cell}
+use Rattle.yt_versions.specs.Marked.{no_marks, is_nowhere, marks_at}
+use Rattle.yt_versions.specs.declared.cells.Cell.{Cell}
+use Rattle.yt_versions.specs.declared.marks.Marks.{Marks}
+
+-- The column and the tuple of a cell.
+abbrev pub cell_of : Cell → ℕ × Fact
+cell_of c = (c.column, fact_of c.tuple)
+
+-- What is known of tuple t at column c.
+abbrev pub cell_marks : List (Cell × Marks) → ℕ → Fact → Marks
+cell_marks cells c t = unwrap_or (option_map (λ e. e.1) (find (λ e. same_cell (c, t) (cell_of e.0)) cells)) no_marks
+
+-- Each tuple has its marks at each of its columns, and there is nothing else.
+abbrev pub IsIndex : List (Tuple × Marks) → List (Cell × Marks) → Type 0
+IsIndex rows cells = (c : ℕ) (t : Fact) → cell_marks cells c t ≡ cond (nat_lt c (length t.values)) (marks_at rows t) no_marks
+
+-- Tuple s has the marks m at each of its columns below n, and the others have what they had.
+abbrev pub CellsHave : Fact → ℕ → Marks → List (Cell × Marks) → List (Cell × Marks) → Type 0
+CellsHave s n m old new = (c : ℕ) (t : Fact) → cell_marks new c t ≡ cond (same_fact t s && nat_lt c n) m (cell_marks old c t)
+
+-- The entries with m at the key, or without it where m says that the tuple is nowhere.
+abbrev pub set_entry : {K : Type 0} → (K → K → Ordering) → List (K × Marks) → K → Marks → List (K × Marks)
+set_entry R es k m = cond (is_nowhere m) (without R k es) (insert_entry R es k m)

@@ -1,0 +1,11 @@
+pub mod Trails
+pub mod Unders
+pub mod Chains
+pub mod Marked
+pub mod Touches
+pub mod Cells
+pub mod Zones
+pub mod ZoneLaws
+pub mod Indexed
+pub mod Standing
+pub mod Walks

@@ -1,0 +1,28 @@
+-- What marks say of a tuple, and the tuples that an update sees.
+use Rattle.std.specs.Prelude.{ℕ, ◌==◌, Bool, false, not, ◌&&◌, List, [], filter, find, map, unwrap_or, length}
+use Rattle.std.specs.Option.{option_map}
+use Rattle.yt_base.specs.declared.tuples.Tuple.{Tuple}
+use Rattle.yt_base.specs.Meanings.{fact_of}
+use Rattle.yt_model.specs.Values.{Fact, same_fact}
+use Rattle.yt_versions.specs.Unders.{is_under}
+use Rattle.yt_versions.specs.declared.marks.Marks.{Marks}
+
+-- Whether the tuple is there for update n: by the last marker of a lower update, and else by the base.
+abbrev pub stands : ℕ → Marks → Bool
+stands n m = unwrap_or (option_map (λ e. e.1) (find (λ e. is_under n e.0) m.chain)) m.in_base
+
+-- What is known of a tuple that is nowhere.
+abbrev pub no_marks : Marks
+no_marks = record { in_base = false; chain = [] }
+
+-- The tuple is nowhere.
+abbrev pub is_nowhere : Marks → Bool
+is_nowhere m = not m.in_base && (length m.chain == 0)
+
+-- What is known of tuple t.
+abbrev pub marks_at : List (Tuple × Marks) → Fact → Marks
+marks_at rows t = unwrap_or (option_map (λ e. e.1) (find (λ e. same_fact t (fact_of e.0)) rows)) no_marks
+
+-- The tuples that update n sees.
+abbrev pub visible : ℕ → List (Tuple × Marks) → List Fact
+visible n rows = map (λ e. fact_of e.0) (filter (λ e. stands n e.1) rows)

@@ -1,0 +1,91 @@
+-- What versions stand for: a base, and the trail of each update.
+use Rattle.std.specs.Prelude.{◌≡◌, ℕ, suc, ◌==◌, ◌||◌, Bool, true, false, cond, List, [], ◌∷◌, ◌++◌, find, Option, Some, None}
+use Rattle.std.specs.List.{list_any}
+use Rattle.std.specs.Option.{option_map, option_or}
+use Rattle.std.specs.Ordering.{nat_cmp, is_eq}
+use Rattle.yt_base.specs.declared.tuples.Tuple.{Tuple}
+use Rattle.yt_machine.specs.Updates.{Update, trail, below}
+use Rattle.yt_model.specs.Mappings.{Rule}
+use Rattle.yt_model.specs.Repository.{Change, Insert, Delete, IsRepository, has, apply}
+use Rattle.yt_model.specs.Updates.{Operation}
+use Rattle.yt_model.specs.Values.{Fact, same_fact}
+use Rattle.yt_model.specs.Violations.{Scope}
+use Rattle.yt_steps.specs.Chase.{chase}
+use Rattle.yt_tree.specs.Orders.{is_at, value_at}
+use Rattle.yt_versions.specs.Chains.{newest_cmp, AreRows}
+use Rattle.yt_versions.specs.Marked.{marks_at, visible}
+use Rattle.yt_versions.specs.Trails.{SameBut, writes_below, writes_to, numbered}
+use Rattle.yt_versions.specs.declared.marks.Marks.{Marks}
+
+-- What versions keep: tuples with their marks, and for each update the relations that it wrote.
+pub record Kept : Type 0 where
+  pub rows : List (Tuple × Marks)
+  pub wrote : List (ℕ × List ℕ)
+
+-- The tuples that update n sees.
+abbrev pub seen : ℕ → Kept → List Fact
+seen n v = visible n v.rows
+
+-- Whether update n's last write of the tuple was an insertion, where it wrote it.
+abbrev pub mark_in : Marks → ℕ → Option Bool
+mark_in m n = option_map (λ e. e.1) (find (is_at newest_cmp (record { 0 = n })) m.chain)
+
+-- What the write says of tuple t.
+abbrev pub written : Change → Fact → Option Bool
+written (Insert s) t = cond (same_fact t s) (Some true) None
+written (Delete s) t = cond (same_fact t s) (Some false) None
+
+-- What the last of the writes that is of t says; where none is, what was said before.
+abbrev pub last_written : Option Bool → List Change → Fact → Option Bool
+last_written m [] t = m
+last_written m (w ∷ ws) t = last_written (option_or (written w t) m) ws t
+
+-- Relation r is among them.
+abbrev pub is_among : ℕ → Option (List ℕ) → Bool
+is_among r None = false
+is_among r (Some rs) = list_any (λ x. is_eq (nat_cmp r x)) rs
+
+-- Relation r is among those that update n wrote.
+abbrev pub wrote_in : List (ℕ × List ℕ) → ℕ → ℕ → Bool
+wrote_in es n r = is_among r (value_at nat_cmp n es)
+
+-- Update n wrote the relations of these writes too, and the others what they wrote.
+abbrev pub NotesMore : ℕ → List Change → List (ℕ × List ℕ) → List (ℕ × List ℕ) → Type 0
+NotesMore n ws old new = (v r : ℕ) → wrote_in new v r ≡ cond (v == n) (wrote_in old v r || writes_to r ws) (wrote_in old v r)
+
+-- Update n wrote no relation, and the others what they wrote.
+abbrev pub Forgets : ℕ → List (ℕ × List ℕ) → List (ℕ × List ℕ) → Type 0
+Forgets n old new = (v r : ℕ) → wrote_in new v r ≡ cond (v == n) false (wrote_in old v r)
+
+-- The versions have this base and these trails.
+pub record StandFor (v : Kept) (D : List Fact) (trails : ℕ → List Change) : Type 0 where
+  pub rows : AreRows v.rows
+  pub base : (t : Fact) → (marks_at v.rows t).in_base ≡ has D t
+  pub marks : (n : ℕ) (t : Fact) → mark_in (marks_at v.rows t) n ≡ last_written None (trails n) t
+  pub relations : (n r : ℕ) → wrote_in v.wrote n r ≡ writes_to r (trails n)
+
+-- Whatever the versions stood for, update n has these writes more.
+abbrev pub Published : ℕ → List Change → Kept → Kept → Type 0
+Published n ws old new = (D : List Fact) (before after : ℕ → List Change) → StandFor old D before → after n ≡ before n ++ ws → SameBut n before after → StandFor new D after
+
+-- Where these were the writes of update n, it has none.
+abbrev pub Retracted : ℕ → List Change → Kept → Kept → Type 0
+Retracted n ws old new = (D : List Fact) (before after : ℕ → List Change) → StandFor old D before → before n ≡ ws → after n ≡ [] → SameBut n before after → StandFor new D after
+
+-- Where these were the writes of update n, the base has them, and the update has none.
+abbrev pub Folded : ℕ → List Change → Kept → Kept → Type 0
+Folded n ws old new = (D : List Fact) (before after : ℕ → List Change) → StandFor old D before → before n ≡ ws → after n ≡ [] → SameBut n before after → StandFor new (apply D ws) after
+
+-- The answer says whether a write of update n is of relation r.
+abbrev pub Wrote : ℕ → ℕ → Bool → Kept → Type 0
+Wrote n r b v = (D : List Fact) (trails : ℕ → List Change) → StandFor v D trails → b ≡ writes_to r (trails n)
+
+-- Update n sees the base with the writes of the lower updates, in the order of their numbers.
+abbrev pub SeenLaw : Type 0
+SeenLaw = (v : Kept) (D : List Fact) (trails : ℕ → List Change) → IsRepository D → StandFor v D trails → (n : ℕ) → seen n v ≡ apply D (writes_below trails n)
+
+-- In a history of the chase, where item k of the list is update k + 1, this is what lies below it.
+abbrev pub BelowLaw : Type 0
+BelowLaw =
+    (scope : Operation → Scope) (ms : List Rule) (B : ℕ) (v : Kept) (D : List Fact) (us : List (Update (chase scope ms B))) → IsRepository D
+    → StandFor v D (numbered (trail (chase scope ms B)) us) → (k : ℕ) → seen (suc k) v ≡ below (chase scope ms B) D us k

@@ -1,0 +1,57 @@
+//! What an update sees: the base with the writes of lower updates.
+ghost use Rattle.std.specs.Prelude.{◌≡◌, map, IfOk};
+ghost use Rattle.yt_base.specs.Meanings.{fact_of};
+ghost use Rattle.yt_versions.specs.Standing.{seen};
+
+use crate::versions::Versions;
+use std::alloc::Global;
+use yt_base::{Facts, Tuple, TupleList, Value};
+use yt_memory::Memory;
+
+/// The versions as they are for one update.
+#[derive(Drop)]
+pub struct Below<'v> {
+    pub versions: &'v Versions,
+    pub number: u32,
+}
+
+impl<'v> Below<'v> {
+    /// The tuples in order, copied. It is refused only for want of memory.
+    pub fn list(&self, alloc: Global) -> Result<TupleList, Memory>
+        ensures tuples { IfOk result (λ list. map fact_of list.items ≡ seen self.now.number self.now.versions.now) }
+    {
+        self.versions.list(alloc, self.number)
+    }
+}
+
+impl<'v> Facts for Below<'v> {
+    ghost tuples = { λ b. seen b.number b.versions.now };
+
+    fn contains(&self, tuple: &Tuple) -> bool {
+        self.versions.table().contains(self.number, tuple)
+    }
+
+    fn beyond(&self, past: Option<&Tuple>) -> Option<&Tuple> {
+        self.versions.table().beyond(self.number, past)
+    }
+
+    fn first(&self, relation: u16) -> Option<&Tuple> {
+        self.versions.table().first(self.number, relation)
+    }
+
+    fn after(&self, tuple: &Tuple) -> Option<&Tuple> {
+        self.versions.table().after(self.number, tuple)
+    }
+
+    fn scan(
+        &self,
+        relation: u16,
+        column: u16,
+        value: &Value,
+        past: Option<&Tuple>,
+    ) -> Option<&Tuple> {
+        self.versions
+            .table()
+            .scan(self.number, relation, column, value, past)
+    }
+}

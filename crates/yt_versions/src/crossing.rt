@@ -1,0 +1,36 @@
+// Versions, and what an update sees of them, are Send and Sync.
+
+use crate::below::Below;
+use crate::cells::Cell;
+use crate::marks::Marks;
+use crate::notes::Notes;
+use crate::versions::Versions;
+
+fn is_send<T: Send>(_value: &T) {}
+
+fn is_sync<T: Sync>(_value: &T) {}
+
+fn marks_cross(marks: &Marks) {
+    is_send(marks);
+    is_sync(marks);
+}
+
+fn cells_cross(cell: &Cell) {
+    is_send(cell);
+    is_sync(cell);
+}
+
+fn notes_cross(notes: &Notes) {
+    is_send(notes);
+    is_sync(notes);
+}
+
+fn versions_cross(versions: &Versions) {
+    is_send(versions);
+    is_sync(versions);
+}
+
+fn views_cross(below: &Below<'_>) {
+    is_send(below);
+    is_sync(below);
+}

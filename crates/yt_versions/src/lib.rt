@@ -1,0 +1,19 @@
+//! The versions of a repository: a base, and for each tuple which updates put it in or took it out. `README.md` has the
+//! contract, and `specs/Standing.antt` what versions stand for.
+#![tactic(auto)]
+
+mod below;
+mod cells;
+mod crossing;
+mod laws;
+mod marks;
+mod notes;
+mod searches;
+mod tables;
+mod versions;
+mod walks;
+
+pub use crate::below::Below;
+pub use crate::laws::{below_is_seen, seen_is_applied};
+pub use crate::versions::Versions;
+pub use crate::walks::Walk;

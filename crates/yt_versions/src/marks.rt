@@ -1,0 +1,113 @@
+//! What is known of one tuple.
+ghost use Rattle.std.specs.Prelude.{◌≡◌, OnOk};
+ghost use Rattle.yt_versions.specs.Chains.{AreMarks};
+ghost use Rattle.yt_versions.specs.Touches.{touched};
+ghost use Rattle.yt_versions.specs.Marked.{no_marks, is_nowhere as is_nowhere_lem, stands as stands_lem};
+ghost use Rattle.yt_versions.specs.Unders.{is_under, under_rises};
+
+use std::alloc::{AllocError, Global};
+use std::cmp::Reverse;
+use yt_memory::Memory;
+use yt_tree::{Cut, Share, TreeMap};
+
+/// The markers of a tuple by the numbers of their updates, the greatest first: whether the update's last write of it was
+/// an insertion.
+pub type Chain = TreeMap<Reverse<u32>, bool>;
+
+/// Whether the base has the tuple, and its markers.
+#[derive(Drop)]
+pub struct Marks {
+    pub in_base: bool,
+    pub chain: Chain,
+}
+
+/// What is done to the marks of a tuple: an update's marker is put in or taken out, or goes over into the base, or the tuple
+/// is found in the base.
+#[derive(Clone, Copy)]
+pub enum Touch {
+    Mark(u32, bool),
+    Unmark(u32),
+    Settle(u32, bool),
+    Found,
+}
+
+impl Share for Marks {
+    fn share(&self) -> Result<Marks, AllocError> {
+        Ok(Marks {
+            in_base: self.in_base,
+            chain: self.chain.share()?,
+        })
+    }
+}
+
+// The markers of updates with a lower number.
+#[derive(Drop)]
+struct Under(u32);
+
+impl Cut<Reverse<u32>> for Under {
+    ghost reaches = { λ c. is_under c.0 };
+
+    ghost rises = { λ c x y. under_rises c.0 x y };
+
+    fn reaches(&self, key: &Reverse<u32>) -> bool {
+        key.0 < self.0
+    }
+}
+
+impl Marks {
+    /// The marks of a tuple that is nowhere.
+    pub fn new() -> Marks
+        ensures none { result ≡ no_marks }
+        ensures in_order { AreMarks result }
+    {
+        Marks {
+            in_base: false,
+            chain: TreeMap::new(),
+        }
+    }
+
+    /// Touches the marks. It is refused only for want of memory.
+    pub fn touch(&mut self, alloc: Global, touch: Touch) -> Result<(), Memory>
+        ensures ok { OnOk result (self.new ≡ touched touch self.old) }
+        ensures in_order { AreMarks self.old → AreMarks self.new }
+    {
+        match touch {
+            Touch::Mark(number, inserted) => {
+                match self.chain.put(alloc, Reverse(number), inserted) {
+                    Ok(_) => return Ok(()),
+                    Err(_) => return Err(Memory),
+                }
+            }
+            Touch::Unmark(number) => {
+                self.chain.remove(&Reverse(number))?;
+                return Ok(());
+            }
+            Touch::Settle(number, inserted) => {
+                self.chain.remove(&Reverse(number))?;
+                self.in_base = inserted;
+                return Ok(());
+            }
+            Touch::Found => {
+                self.in_base = true;
+                return Ok(());
+            }
+        }
+    }
+
+    /// Whether the tuple is nowhere.
+    pub fn is_nowhere(&self) -> bool
+        ensures { result ≡ is_nowhere_lem self.now }
+    {
+        !self.in_base && self.chain.len() == 0
+    }
+
+    /// Whether the tuple is there for the update.
+    pub fn stands(&self, number: u32) -> bool
+        ensures { result ≡ stands_lem number self.now }
+    {
+        match self.chain.seek(&Under(number)) {
+            Some(entry) => entry.1,
+            None => self.in_base,
+        }
+    }
+}

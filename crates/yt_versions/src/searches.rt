@@ -1,0 +1,170 @@
+//! What is looked for among the marked tuples and their cells.
+ghost use Rattle.std.specs.Prelude.{◌≡◌, Some, true};
+ghost use Rattle.std.specs.Option.{option_map, option_copied};
+ghost use Rattle.yt_model.specs.Values.{fact_cmp};
+ghost use Rattle.yt_base.specs.Meanings.{fact_of, datum_of};
+ghost use Rattle.yt_versions.specs.Indexed.{cell_of};
+ghost use Rattle.yt_versions.specs.Marked.{stands};
+ghost use Rattle.yt_versions.specs.Zones.{place_beyond, place_of, place_in};
+ghost use Rattle.yt_versions.specs.ZoneLaws.{at_before, at_past, beyond_before, beyond_past, of_before, of_past, in_before, in_past, from_rises};
+ghost use Rattle.yt_versions.specs.Walks.{is_from};
+
+use crate::cells::{Cell, values_order};
+use crate::marks::Marks;
+use std::cmp::Ordering;
+use yt_base::{Tuple, Value};
+use yt_tree::{Cut, Search, Shared};
+
+/// The tuple itself, whether or not it is there for an update.
+#[derive(Drop)]
+pub struct Held<'c> {
+    pub tuple: &'c Tuple,
+}
+
+impl<'c> Search<Shared<Tuple>, Marks> for Held<'c> {
+    ghost place = { λ s k. fact_cmp (fact_of k) (fact_of s.tuple.now) };
+
+    ghost passes = { λ _ _. true };
+
+    ghost stays_past = { λ s x y. at_past (fact_of s.tuple.now) (fact_of x) (fact_of y) };
+
+    ghost stays_before = { λ s x y. at_before (fact_of s.tuple.now) (fact_of x) (fact_of y) };
+
+    fn place(&self, key: &Shared<Tuple>) -> Ordering {
+        key.get().cmp(self.tuple)
+    }
+
+    fn passes(&self, _entry: &(Shared<Tuple>, Marks)) -> bool {
+        true
+    }
+}
+
+/// What comes after a tuple, where one is given, and is there for the update.
+#[derive(Drop)]
+pub struct Beyond<'c> {
+    pub number: u32,
+    pub past: Option<&'c Tuple>,
+}
+
+impl<'c> Search<Shared<Tuple>, Marks> for Beyond<'c> {
+    ghost place = { λ s k. place_beyond (option_map fact_of (option_copied s.past)) (fact_of k) };
+
+    ghost passes = { λ s e. stands s.number e.1 };
+
+    ghost stays_past = { λ s x y. beyond_past (option_map fact_of (option_copied s.past)) (fact_of x) (fact_of y) };
+
+    ghost stays_before = { λ s x y. beyond_before (option_map fact_of (option_copied s.past)) (fact_of x) (fact_of y) };
+
+    fn place(&self, key: &Shared<Tuple>) -> Ordering {
+        place_after(self.past, key.get())
+    }
+
+    fn passes(&self, entry: &(Shared<Tuple>, Marks)) -> bool {
+        entry.1.stands(self.number)
+    }
+}
+
+/// What is of the relation, comes after a tuple, where one is given, and is there for the update.
+#[derive(Drop)]
+pub struct Zone<'c> {
+    pub number: u32,
+    pub relation: u16,
+    pub past: Option<&'c Tuple>,
+}
+
+impl<'c> Search<Shared<Tuple>, Marks> for Zone<'c> {
+    ghost place = { λ s k. place_of s.relation (option_map fact_of (option_copied s.past)) (fact_of k) };
+
+    ghost passes = { λ s e. stands s.number e.1 };
+
+    ghost stays_past = { λ s x y. of_past s.relation (option_map fact_of (option_copied s.past)) (fact_of x) (fact_of y) };
+
+    ghost stays_before = { λ s x y. of_before s.relation (option_map fact_of (option_copied s.past)) (fact_of x) (fact_of y) };
+
+    fn place(&self, key: &Shared<Tuple>) -> Ordering {
+        place_in_relation(self.relation, self.past, key.get())
+    }
+
+    fn passes(&self, entry: &(Shared<Tuple>, Marks)) -> bool {
+        entry.1.stands(self.number)
+    }
+}
+
+/// The cells with the value in the column, whose tuple is of the relation, comes after a tuple, where one is given, and
+/// is there for the update.
+#[derive(Drop)]
+pub struct Scan<'c> {
+    pub number: u32,
+    pub relation: u16,
+    pub column: usize,
+    pub value: &'c Value,
+    pub past: Option<&'c Tuple>,
+}
+
+impl<'c> Search<Cell, Marks> for Scan<'c> {
+    ghost place = { λ s k. place_in s.relation s.column (datum_of s.value.now) (option_map fact_of (option_copied s.past)) (cell_of k) };
+
+    ghost passes = { λ s e. stands s.number e.1 };
+
+    ghost stays_past = { λ s x y. in_past s.relation s.column (datum_of s.value.now) (option_map fact_of (option_copied s.past)) (cell_of x) (cell_of y) };
+
+    ghost stays_before = { λ s x y. in_before s.relation s.column (datum_of s.value.now) (option_map fact_of (option_copied s.past)) (cell_of x) (cell_of y) };
+
+    fn place(&self, key: &Cell) -> Ordering {
+        match key.column.cmp(&self.column) {
+            Ordering::Less => Ordering::Less,
+            Ordering::Equal => match values_order(key.value(), Some(self.value)) {
+                Ordering::Less => Ordering::Less,
+                Ordering::Equal => place_in_relation(self.relation, self.past, key.tuple.get()),
+                Ordering::Greater => Ordering::Greater,
+            },
+            Ordering::Greater => Ordering::Greater,
+        }
+    }
+
+    fn passes(&self, entry: &(Cell, Marks)) -> bool {
+        entry.1.stands(self.number)
+    }
+}
+
+/// The tuples of the relation, and of those above it.
+#[derive(Drop)]
+pub struct From {
+    pub relation: u16,
+}
+
+impl Cut<Shared<Tuple>> for From {
+    ghost reaches = { λ c k. is_from c.relation k };
+
+    ghost rises = { λ c x y. from_rises c.relation (fact_of x) (fact_of y) };
+
+    fn reaches(&self, key: &Shared<Tuple>) -> bool {
+        self.relation <= key.get().relation
+    }
+}
+
+// Where the tuple lies to what comes after `past`, where that is given.
+fn place_after(past: Option<&Tuple>, tuple: &Tuple) -> Ordering
+    ensures { result ≡ place_beyond (option_map fact_of (option_copied past.entry)) (fact_of tuple.now) }
+{
+    match past {
+        Some(before) => {
+            if before.cmp(tuple).is_lt() {
+                return Ordering::Equal;
+            }
+            return Ordering::Less;
+        }
+        None => return Ordering::Equal,
+    }
+}
+
+// The same among the tuples of the relation.
+fn place_in_relation(relation: u16, past: Option<&Tuple>, tuple: &Tuple) -> Ordering
+    ensures { result ≡ place_of relation (option_map fact_of (option_copied past.entry)) (fact_of tuple.now) }
+{
+    match tuple.relation.cmp(&relation) {
+        Ordering::Less => Ordering::Less,
+        Ordering::Equal => place_after(past, tuple),
+        Ordering::Greater => Ordering::Greater,
+    }
+}

@@ -1,0 +1,270 @@
+//! Tuples with their marks, and the same by each column.
+ghost use Rattle.std.specs.Prelude.{◌≡◌, [], length, map, IfOk, OnOk};
+ghost use Rattle.yt_base.specs.Meanings.{fact_of};
+ghost use Rattle.yt_tree.specs.Orders.{IsOrdered};
+ghost use Rattle.yt_versions.specs.Chains.{AreMarks, AreRows};
+ghost use Rattle.yt_versions.specs.Indexed.{CellsHave, set_entry};
+ghost use Rattle.yt_versions.specs.Marked.{marks_at};
+ghost use Rattle.std.specs.Option.{option_map, option_copied};
+
+use crate::cells::Cell;
+use crate::marks::{Marks, Touch};
+use crate::searches::{Beyond, From, Held, Scan, Zone};
+use std::alloc::{AllocError, Global};
+use std::marker::Model;
+use yt_base::{List, TryCopy, Tuple, TupleList, Value};
+use yt_memory::Memory;
+use yt_tree::{Cursor, Share, Shared, Start, TreeMap};
+
+/// Tuples with their marks, in order, and an index of them by cells. Contracts see the tuples with their marks.
+#[derive(Drop)]
+pub struct Table {
+    rows: TreeMap<Shared<Tuple>, Marks>,
+    cells: TreeMap<Cell, Marks>,
+}
+
+impl Model for Table {
+    ghost use Rattle.std.specs.Prelude.{List};
+    ghost use Rattle.yt_base.specs.declared.tuples.Tuple.{Tuple};
+    ghost use Rattle.yt_versions.specs.declared.marks.Marks.{Marks};
+
+    ghost Value = { List (Tuple × Marks) };
+
+    ghost use Rattle.yt_versions.specs.Chains.{AreRows};
+    ghost use Rattle.yt_versions.specs.Indexed.{IsIndex};
+
+    ghost view = { λ t. t.rows };
+
+    ghost invariant = { λ t. AreRows t.rows × IsIndex t.rows t.cells };
+}
+
+impl Table {
+    ghost use Rattle.yt_model.specs.Values.{Fact};
+    ghost use Rattle.yt_versions.specs.Touches.{touched_at};
+
+    /// No tuples.
+    pub fn new() -> Table
+        ensures empty { result ≡ [] }
+        ensures in_order { AreRows result }
+    {
+        Table {
+            rows: TreeMap::new(),
+            cells: TreeMap::new(),
+        }
+    }
+
+    /// Another handle to the same table.
+    pub fn share(&self) -> Result<Table, AllocError>
+        ensures same { IfOk result (λ copy. copy ≡ self.now) }
+        ensures in_order { IfOk result AreRows }
+    {
+        Ok(Table {
+            rows: self.rows.share()?,
+            cells: self.cells.share()?,
+        })
+    }
+
+    /// The table with the tuple's marks touched. It is refused only for want of memory.
+    pub fn touched(self, alloc: Global, tuple: &Tuple, touch: Touch) -> Result<Table, Memory>
+        ensures marks { IfOk result (λ table. (t : Fact) → marks_at table t ≡ touched_at touch (fact_of tuple.now) t (marks_at self t)) }
+        ensures in_order { IfOk result AreRows }
+    {
+        let Table {
+            mut rows,
+            mut cells,
+        } = self;
+        let (key, mut marks) = entry_of(&rows, alloc, tuple)?;
+        marks.touch(alloc, touch)?;
+        set_cells(&mut cells, alloc, &key, &marks)?;
+        set(&mut rows, alloc, key, marks)?;
+        Ok(Table { rows, cells })
+    }
+}
+
+// The tuples that an update sees. Only `list` takes memory.
+impl Table {
+    ghost use Rattle.std.specs.Prelude.{find};
+    ghost use Rattle.yt_model.specs.Cursors.{is_beyond, first_of, next_of, scan_of};
+    ghost use Rattle.yt_model.specs.Repository.{has, IsRepository};
+    ghost use Rattle.yt_base.specs.Meanings.{datum_of};
+    ghost use Rattle.std.specs.Ordering.{on};
+    ghost use Rattle.yt_model.specs.Values.{fact_cmp};
+    ghost use Rattle.yt_tree.specs.Orders.{reached};
+    ghost use Rattle.yt_versions.specs.Marked.{visible};
+    ghost use Rattle.yt_versions.specs.Walks.{is_from};
+
+    /// The tuples that it sees, in order, copied. It is refused only for want of memory.
+    pub fn list(&self, alloc: Global, number: u32) -> Result<TupleList, Memory>
+        ensures tuples { IfOk result (λ list. map fact_of list.items ≡ visible number self.now) }
+    {
+        let mut list = List::new(alloc);
+        let mut cursor = self.rows.cursor(&Start);
+        while let Some(row) = cursor.next() {
+            if row.1.stands(number) {
+                list.push(row.0.get().copy(alloc)?)?;
+            }
+        }
+        Ok(list)
+    }
+
+    /// A cursor before the tuples of the relation.
+    pub fn from_relation(&self, relation: u16) -> Cursor<'_, Shared<Tuple>, Marks>
+        ensures rest { result ≡ reached (is_from relation) self.now }
+        ensures in_order { IsOrdered (on fact_of fact_cmp) self.now }
+    {
+        self.rows.cursor(&From { relation })
+    }
+
+    /// Puts the cursor before the tuples of the relation. It costs less than another cursor.
+    pub fn place<'t>(&'t self, cursor: &mut Cursor<'t, Shared<Tuple>, Marks>, relation: u16)
+        ensures rest { cursor.new ≡ reached (is_from relation) self.now }
+        ensures in_order { IsOrdered (on fact_of fact_cmp) self.now }
+    {
+        self.rows.place(cursor, &From { relation });
+    }
+
+    /// Whether the update sees the tuple.
+    pub fn contains(&self, number: u32, tuple: &Tuple) -> bool
+        ensures answer { result ≡ has (visible number self.now) (fact_of tuple.now) }
+        ensures in_order { IsRepository (visible number self.now) }
+    {
+        match self.rows.find_in(&Held { tuple }) {
+            Some(entry) => return entry.1.stands(number),
+            None => return false,
+        }
+    }
+
+    /// The least tuple of any relation that it sees above the given one, or of all where none is given.
+    pub fn beyond(&self, number: u32, past: Option<&Tuple>) -> Option<&Tuple>
+        ensures found { option_map fact_of (option_copied result) ≡ find (is_beyond (option_map fact_of (option_copied past.entry))) (visible number self.now) }
+        ensures in_order { IsRepository (visible number self.now) }
+    {
+        tuple_in(self.rows.find_in(&Beyond { number, past }))
+    }
+
+    /// The least tuple of the relation that it sees.
+    pub fn first(&self, number: u32, relation: u16) -> Option<&Tuple>
+        ensures found { option_map fact_of (option_copied result) ≡ first_of (visible number self.now) relation }
+        ensures in_order { IsRepository (visible number self.now) }
+    {
+        tuple_in(
+            self.rows.find_in(&Zone {
+                number,
+                relation,
+                past: None,
+            }),
+        )
+    }
+
+    /// The least tuple of the same relation that it sees above the given one.
+    pub fn after(&self, number: u32, tuple: &Tuple) -> Option<&Tuple>
+        ensures found { option_map fact_of (option_copied result) ≡ next_of (visible number self.now) (fact_of tuple.now) }
+        ensures in_order { IsRepository (visible number self.now) }
+    {
+        tuple_in(
+            self.rows.find_in(&Zone {
+                number,
+                relation: tuple.relation,
+                past: Some(tuple),
+            }),
+        )
+    }
+
+    /// The least tuple of the relation that it sees with the value in the column, above `past` where that is given.
+    pub fn scan(
+        &self,
+        number: u32,
+        relation: u16,
+        column: u16,
+        value: &Value,
+        past: Option<&Tuple>,
+    ) -> Option<&Tuple>
+        ensures found { option_map fact_of (option_copied result) ≡ scan_of (visible number self.now) relation column (datum_of value.now) (option_map fact_of (option_copied past.entry)) }
+        ensures in_order { IsRepository (visible number self.now) }
+    {
+        let found = self.cells.find_in(&Scan {
+            number,
+            relation,
+            column: column as usize,
+            value,
+            past,
+        });
+        match found {
+            Some(entry) => return Some(entry.0.tuple.get()),
+            None => return None,
+        }
+    }
+}
+
+// A handle of the tuple, with what is known of it.
+fn entry_of(
+    rows: &TreeMap<Shared<Tuple>, Marks>,
+    alloc: Global,
+    tuple: &Tuple,
+) -> Result<(Shared<Tuple>, Marks), Memory>
+    requires { AreRows rows.now }
+    ensures tuple { IfOk result (λ e. fact_of e.0 ≡ fact_of tuple.now) }
+    ensures marks { IfOk result (λ e. e.1 ≡ marks_at rows.now (fact_of tuple.now)) }
+    ensures in_order { IfOk result (λ e. AreMarks e.1) }
+{
+    match rows.find_in(&Held { tuple }) {
+        Some(entry) => {
+            let key = entry.0.share()?;
+            let marks = entry.1.share()?;
+            return Ok((key, marks));
+        }
+        None => match Shared::new(alloc, tuple.copy(alloc)?) {
+            Ok(key) => return Ok((key, Marks::new())),
+            Err(_) => return Err(Memory),
+        },
+    }
+}
+
+// Puts the marks at the key; takes the key out where they say that the tuple is nowhere.
+fn set<K: Ord + Share>(
+    map: &mut TreeMap<K, Marks>,
+    alloc: Global,
+    key: K,
+    marks: Marks,
+) -> Result<(), Memory>
+    ensures ok { OnOk result (map.new ≡ set_entry K.cmp map.old key marks) }
+    ensures in_order { IsOrdered K.cmp map.new }
+{
+    if marks.is_nowhere() {
+        map.remove(&key)?;
+        return Ok(());
+    }
+    match map.put(alloc, key, marks) {
+        Ok(_) => return Ok(()),
+        Err(_) => return Err(Memory),
+    }
+}
+
+// Puts the marks at each cell of the tuple.
+fn set_cells(
+    cells: &mut TreeMap<Cell, Marks>,
+    alloc: Global,
+    tuple: &Shared<Tuple>,
+    marks: &Marks,
+) -> Result<(), Memory>
+    ensures ok { OnOk result (CellsHave (fact_of tuple.now) (length (fact_of tuple.now).values) marks.now cells.old cells.new) }
+{
+    for column in 0..tuple.get().values.len() {
+        let cell = Cell {
+            column,
+            tuple: tuple.share()?,
+        };
+        set(cells, alloc, cell, marks.share()?)?;
+    }
+    Ok(())
+}
+
+// The tuple of a row.
+fn tuple_in(found: Option<&(Shared<Tuple>, Marks)>) -> Option<&Tuple>
+    ensures { option_copied result ≡ option_map (λ e. e.0) (option_copied found.entry) }
+{
+    match found {
+        Some(row) => Some(row.0.get()),
+        None => None,
+    }
+}
