@@ -1,14 +1,17 @@
 //! The top call: the words, and then the command that they name.
-ghost use Rattle.std.specs.Prelude.{◌≡◌, ◌≤◌, map, string_bytes};
+ghost use Rattle.std.specs.Prelude.{◌≤◌, map, string_bytes};
 ghost use Rattle.yt_command.specs.Devices.{change};
 ghost use Rattle.yt_command.specs.Rows.{Row};
 ghost use Rattle.yt_words.specs.Meaning.{HasBudget};
 ghost use Rattle.youtopia.specs.Calls.{Calls, Performs, meaning_of};
+ghost use Rattle.yt_command.specs.Completeness.{IsComplete};
+ghost use Rattle.youtopia.specs.Completeness.{Comes, ComesToItsEnd, RunsToRest};
 
 use crate::telling::Telling;
 use std::alloc::Global;
 use yt_command::{Failure, Status, fail, perform, perform_alone};
-use yt_commands::{Budget, Check, Format, OnSession, Save, Serial, Upgrade};
+use yt_commands::{Check, Format, OnSession, Save, Serial, Upgrade};
+use yt_limits::Budget;
 use yt_text::{Sink, Source};
 use yt_words::{CommandName, HELP, Options, Request, VERSION_LINE, WordsRefusal, read_words};
 
@@ -26,6 +29,9 @@ fn command<S: Source, O: Sink, E: Sink>(
         (change S.left S.fault_count source.old source.new)
         (change O.taken O.fault_count out.old out.new)
         (change E.taken E.fault_count err.old err.new) }
+    ensures complete { IsComplete result (meaning_of options.now)
+        (change S.left S.fault_count source.old source.new)
+        (change O.taken O.fault_count out.old out.new) }
 {
     let budget = Budget::new(options.steps);
     match options.command {
@@ -51,6 +57,9 @@ fn attend<S: Source, O: Sink, E: Sink>(
         (change S.left S.fault_count source.old source.new)
         (change O.taken O.fault_count out.old out.new)
         (change E.taken E.fault_count err.old err.new) }
+    ensures complete { Comes request.entry result
+        (change S.left S.fault_count source.old source.new)
+        (change O.taken O.fault_count out.old out.new) }
 {
     match request {
         Request::Command(options) => command(alloc, &options, source, out, err),
@@ -61,6 +70,8 @@ fn attend<S: Source, O: Sink, E: Sink>(
 
 /// Does what the words after the program's name ask for, from the source to the two sinks, and answers the status with
 /// which the program ends. Each status has its row, which says what was read, what `out` took and what `err` was told.
+/// Where the words are not refused and nothing fails, the status is that of the command's output, or of want of memory;
+/// so `run` and `serial` end with 0 or 1, or 7, on a session whose base meets its mappings.
 pub fn youtopia<S: Source, O: Sink, E: Sink>(
     alloc: Global,
     words: &[String],
@@ -72,6 +83,12 @@ pub fn youtopia<S: Source, O: Sink, E: Sink>(
         (change S.left S.fault_count source.old source.new)
         (change O.taken O.fault_count out.old out.new)
         (change E.taken E.fault_count err.old err.new) }
+    ensures complete { ComesToItsEnd (map string_bytes words.now) result
+        (change S.left S.fault_count source.old source.new)
+        (change O.taken O.fault_count out.old out.new) }
+    ensures rests { RunsToRest (map string_bytes words.now) result
+        (change S.left S.fault_count source.old source.new)
+        (change O.taken O.fault_count out.old out.new) }
 {
     match read_words(alloc, words) {
         Ok(request) => attend(alloc, request, source, out, err),

@@ -5,3 +5,4 @@ pub mod Asking
 pub mod Chosen
 pub mod Unified
 pub mod Copied
+mod InHand

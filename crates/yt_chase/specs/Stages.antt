@@ -1,16 +1,22 @@
 -- What the parts of a `Repair` stand for, and what is true of them.
-use Rattle.std.specs.Prelude.{◌≡◌, ℕ, true, List, [], map}
+use Rattle.std.specs.Prelude.{◌≡◌, ℕ, true, false, List, [], map}
 use Rattle.std.specs.List.{list_all, flat_map}
 use Rattle.yt_model.specs.Values.{Fact}
 use Rattle.yt_model.specs.Specific.{more_specific}
+use Rattle.yt_model.specs.Mappings.{Rule}
+use Rattle.yt_base.specs.Contents.{changes_of}
+use Rattle.yt_base.specs.Listed.{Listed}
 use Rattle.yt_base.specs.Meanings.{null_of, datum_of, fact_of}
+use Rattle.yt_base.specs.declared.updates.Write.{Write}
 use Rattle.yt_base.specs.declared.tuples.Tuple.{Tuple}
 use Rattle.yt_query.specs.Meanings.{query_of}
 use Rattle.yt_query.specs.declared.queries.Query.{Query}
 use Rattle.yt_query.specs.declared.queries.Query.TheVariants.{Present, Violation, Specific, Occurs}
 use Rattle.yt_frontier.specs.declared.questions.Question.{Question}
 use Rattle.yt_frontier.specs.declared.questions.Question.TheVariants.{Positive, Negative}
-use Rattle.yt_steps.specs.Attempts.{Repair, Positive as PositiveMeant, Negative as NegativeMeant}
+use Rattle.yt_steps.specs.Attempts.{Repair, Generate, Positive as PositiveMeant, Negative as NegativeMeant}
+use Rattle.yt_steps.specs.Steps.{compared}
+use Rattle.yt_chase.specs.Stands.{settled, stand}
 use Rattle.yt_chase.specs.declared.stages.Generation.{Generation}
 use Rattle.yt_chase.specs.declared.stages.Gathering.{Gathering}
 use Rattle.yt_chase.specs.declared.stages.Stage.{Stage}
@@ -30,6 +36,10 @@ gathering_of g =
       later = map null_of g.later.items;
       found = flat_map (λ l. map fact_of l.items) g.found.items;
     }
+
+-- It has kept these tuples, and asks for the next null.
+abbrev pub HasKept : Gathering → List Fact → Gathering → Type 0
+HasKept g ts g' = gathering_of g' ≡ meant.asking_next (gathering_of g).later (gathering_of g) ts
 
 -- The step of a generation with this query.
 abbrev pub querying : Repair → Query → meant.Repairing
@@ -56,6 +66,10 @@ repairing_of g (Waiting q) = waiting (repair_of g) q
 repairing_of g (Unifying q u) = unifying (repair_of g) q (gathering_of u)
 repairing_of g Repaired = meant.Repaired
 
+-- The repair stands where it stood.
+abbrev pub SameRepair : Generation → Stage → Generation → Stage → Type 0
+SameRepair g s g' s' = repairing_of g' s' ≡ repairing_of g s
+
 -- The query for tuples that are more specific than one, and that tuple.
 abbrev pub IsSpecific : Query → Type 0
 IsSpecific (Present t) = ⊥
@@ -68,6 +82,11 @@ tuple_asked (Present t) = fact_of t
 tuple_asked (Violation n) = record { relation = 0; values = [] }
 tuple_asked (Specific t) = fact_of t
 tuple_asked (Occurs u k) = record { relation = 0; values = [] }
+
+-- The end of a generation's step, by these more specific tuples, after these own writes.
+abbrev pub HasCompared : List Rule → List Fact → Listed Write → Generation → Fact → Listed Write → meant.Repairing → Type 0
+HasCompared ms candidates own g t own' s' =
+    stand ms false (changes_of own') s' ≡ settled (changes_of own) (Generate (repair_of g)) (compared ms (repair_of g) t candidates)
 
 -- A generation asks for tuples that are more specific than its tuple, and that tuple.
 abbrev pub IsComparing : Stage → Type 0

@@ -7,8 +7,8 @@ use Rattle.yt_model.specs.Queries.{Query, Present, Specific, Reply}
 use Rattle.yt_model.specs.Updates.{Choice}
 use Rattle.yt_query.specs.Kinds.{IsOfKind}
 use Rattle.yt_frontier.specs.Inquiries.{Inquiry, inquiry_in, fits_inquiry}
-use Rattle.yt_steps.specs.Attempts.{Phase, Attempt}
-use Rattle.yt_steps.specs.Steps.{Asking, step_in}
+use Rattle.yt_steps.specs.Attempts.{Phase}
+use Rattle.yt_steps.specs.Steps.{Asking}
 use Rattle.yt_chase.specs.Repairs.{Repairing, Generating, Checking, Comparing, Waiting, Unifying, Repaired, phase_of, tree_in}
 
 -- What a repair wants next: the reply to a query, the answer to a question, the next step, or nothing any more.
@@ -76,7 +76,3 @@ settled own p (Node q k) = Within own p (Node q k)
 abbrev pub stand : List Rule → Bool → List Change → Repairing → Stand
 stand ms true own s = Within own (phase_of s) (tree_in ms s)
 stand ms false own s = Moved own (phase_of s) 0
-
--- By the answer to the question of s, after these own writes, the step asks on or has ended, has come to these own writes, and to s'.
-abbrev pub ChosenStep : List Rule → Choice → List Change → Repairing → Bool → List Change → Repairing → Type 0
-ChosenStep ms c own s asks own' s' = (P : Attempt) → stand ms asks own' s' ≡ settled own (phase_of s) (step_in ms P (Some c) (phase_of s))

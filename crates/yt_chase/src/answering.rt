@@ -1,12 +1,10 @@
 //! How a step goes on by the answer to its query.
-ghost use Rattle.std.specs.Prelude.{◌≡◌, map, IfOk, OnErr};
+ghost use Rattle.std.specs.Prelude.{◌≡◌, IfOk, OnErr};
 ghost use Rattle.yt_base.specs.declared.tuples.Tuple.{Tuple};
-ghost use Rattle.yt_base.specs.Meanings.{change_of, rule_of};
 ghost use Rattle.yt_query.specs.Meanings.{reply_of};
-ghost use Rattle.yt_chase.specs.Repairs.{phase_of, is_asking, tree_in};
-ghost use Rattle.yt_chase.specs.Stands.{wanted, TakesReply, branch, settled, stand};
-ghost use Rattle.yt_chase.specs.Meanings.{asks_on};
-ghost use Rattle.yt_chase.specs.Stages.{repairing_of, IsSound};
+ghost use Rattle.yt_chase.specs.Stands.{wanted, TakesReply};
+ghost use Rattle.yt_chase.specs.Stages.{repairing_of, IsSound, SameRepair};
+ghost use Rattle.yt_chase.specs.Transitions.{AsksAs, HasAnswered};
 
 use crate::answers::{is_yes, tuples_of};
 use crate::comparing::compared;
@@ -16,7 +14,8 @@ use crate::unifying::{all_found, ask_next, unify};
 use crate::wants::Progress;
 use std::alloc::Global;
 use std::mem;
-use yt_base::{MappingList, Memory, WriteList};
+use yt_base::{Memory, WriteList};
+use yt_limits::Mappings;
 use yt_query::{Answer, Query};
 
 /// Goes on by the answer to the query of this stage. A step that ends puts its writes behind the own ones. It is refused
@@ -27,14 +26,17 @@ pub(crate) fn answered(
     stage: &mut Stage,
     own: &mut WriteList,
     answer: &Answer,
-    mappings: &MappingList,
+    mappings: &Mappings<'_>,
 ) -> Result<Progress, Memory>
     requires fits { IsSound generation.old stage.old }
-    requires reply { TakesReply (map rule_of mappings.now.items) (wanted (repairing_of generation.old stage.old)) (reply_of answer.now) }
-    ensures step { IfOk result (λ progress. stand (map rule_of mappings.now.items) (asks_on progress) (map change_of own.new.items) (repairing_of generation.new stage.new) ≡ settled (map change_of own.old.items) (phase_of (repairing_of generation.old stage.old)) (branch (tree_in (map rule_of mappings.now.items) (repairing_of generation.old stage.old)) (reply_of answer.now))) }
-    ensures asks { IfOk result (λ progress. is_asking (repairing_of generation.new stage.new) ≡ asks_on progress) }
+    requires reply { TakesReply mappings.now
+        (wanted (repairing_of generation.old stage.old)) (reply_of answer.now) }
+    ensures step { IfOk result (HasAnswered mappings.now answer.now
+        own.old (repairing_of generation.old stage.old)
+        own.new (repairing_of generation.new stage.new)) }
+    ensures asks { IfOk result (AsksAs (repairing_of generation.new stage.new)) }
     ensures sound { IsSound generation.new stage.new }
-    ensures err { OnErr result (repairing_of generation.new stage.new ≡ repairing_of generation.old stage.old) }
+    ensures err { OnErr result (SameRepair generation.old stage.old generation.new stage.new) }
     ensures own { OnErr result (own.new.items ≡ own.old.items) }
 {
     match stage {
@@ -72,7 +74,8 @@ pub(crate) fn answered(
 
 // The stage that asks for more specific tuples, after the one that asks whether the tuple is present.
 fn compare(stage: Stage) -> Stage
-    ensures { (t : Tuple) → stage ≡ Stage.Querying (Query.Present t) → result ≡ Stage.Querying (Query.Specific t) }
+    ensures { (t : Tuple) → stage ≡ Stage.Querying (Query.Present t) →
+        result ≡ Stage.Querying (Query.Specific t) }
 {
     match stage {
         Stage::Querying(Query::Present(tuple)) => Stage::Querying(Query::Specific(tuple)),

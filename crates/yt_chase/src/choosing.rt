@@ -1,12 +1,12 @@
 //! The step of the answer to a question.
-ghost use Rattle.std.specs.Prelude.{◌≡◌, map, IfOk, OnErr};
+ghost use Rattle.std.specs.Prelude.{◌≡◌, IfOk, OnErr};
 ghost use Rattle.yt_model.specs.Updates.{Expand, Unify, Drop as DropThese};
-ghost use Rattle.yt_base.specs.Meanings.{fact_of, change_of, choice_of, rule_of};
+ghost use Rattle.yt_base.specs.Contents.{facts_of};
+ghost use Rattle.yt_base.specs.Meanings.{fact_of, choice_of};
 ghost use Rattle.yt_frontier.specs.declared.questions.Question.{Question as QuestionOfProgram};
-ghost use Rattle.yt_chase.specs.Repairs.{is_asking};
-ghost use Rattle.yt_chase.specs.Stands.{wanted, TakesChoice, ChosenStep};
-ghost use Rattle.yt_chase.specs.Meanings.{asks_on};
-ghost use Rattle.yt_chase.specs.Stages.{repairing_of, IsSound};
+ghost use Rattle.yt_chase.specs.Stands.{wanted, TakesChoice};
+ghost use Rattle.yt_chase.specs.Stages.{repairing_of, IsSound, SameRepair};
+ghost use Rattle.yt_chase.specs.Transitions.{AsksAs, HasChosen};
 
 use crate::generating::go_on;
 use crate::planning::plan;
@@ -17,8 +17,9 @@ use crate::wants::Progress;
 use crate::writes::{append, insert};
 use std::alloc::Global;
 use std::mem;
-use yt_base::{Choice, List, MappingList, Memory, Tuple, TupleList, WriteList};
+use yt_base::{Choice, List, Memory, Tuple, TupleList, WriteList};
 use yt_frontier::{Question, named_tuples};
+use yt_limits::Mappings;
 use yt_query::Query;
 
 /// Makes the step of the answer, which fits the question of this stage, up to its first query or its end. A step that ends
@@ -30,14 +31,17 @@ pub(crate) fn chosen(
     stage: &mut Stage,
     own: &mut WriteList,
     choice: &Choice,
-    mappings: &MappingList,
+    mappings: &Mappings<'_>,
 ) -> Result<Progress, Memory>
     requires fits { IsSound generation.old stage.old }
-    requires choice { TakesChoice (wanted (repairing_of generation.old stage.old)) (choice_of choice.now) }
-    ensures step { IfOk result (λ progress. ChosenStep (map rule_of mappings.now.items) (choice_of choice.now) (map change_of own.old.items) (repairing_of generation.old stage.old) (asks_on progress) (map change_of own.new.items) (repairing_of generation.new stage.new)) }
-    ensures asks { IfOk result (λ progress. is_asking (repairing_of generation.new stage.new) ≡ asks_on progress) }
+    requires choice { TakesChoice
+        (wanted (repairing_of generation.old stage.old)) (choice_of choice.now) }
+    ensures step { IfOk result (HasChosen mappings.now choice.now
+        own.old (repairing_of generation.old stage.old)
+        own.new (repairing_of generation.new stage.new)) }
+    ensures asks { IfOk result (AsksAs (repairing_of generation.new stage.new)) }
     ensures sound { IsSound generation.new stage.new }
-    ensures err { OnErr result (repairing_of generation.new stage.new ≡ repairing_of generation.old stage.old) }
+    ensures err { OnErr result (SameRepair generation.old stage.old generation.new stage.new) }
     ensures own { OnErr result (own.new.items ≡ own.old.items) }
 {
     match choice {
@@ -53,14 +57,16 @@ fn expand(
     generation: &mut Generation,
     stage: &mut Stage,
     own: &mut WriteList,
-    mappings: &MappingList,
+    mappings: &Mappings<'_>,
 ) -> Result<Progress, Memory>
     requires fits { IsSound generation.old stage.old }
     requires choice { TakesChoice (wanted (repairing_of generation.old stage.old)) Expand }
-    ensures step { IfOk result (λ progress. ChosenStep (map rule_of mappings.now.items) Expand (map change_of own.old.items) (repairing_of generation.old stage.old) (asks_on progress) (map change_of own.new.items) (repairing_of generation.new stage.new)) }
-    ensures asks { IfOk result (λ progress. is_asking (repairing_of generation.new stage.new) ≡ asks_on progress) }
+    ensures step { IfOk result (HasChosen mappings.now Choice.Expand
+        own.old (repairing_of generation.old stage.old)
+        own.new (repairing_of generation.new stage.new)) }
+    ensures asks { IfOk result (AsksAs (repairing_of generation.new stage.new)) }
     ensures sound { IsSound generation.new stage.new }
-    ensures err { OnErr result (repairing_of generation.new stage.new ≡ repairing_of generation.old stage.old) }
+    ensures err { OnErr result (SameRepair generation.old stage.old generation.new stage.new) }
     ensures own { OnErr result (own.new.items ≡ own.old.items) }
 {
     let Stage::Waiting(Question::Positive { tuple, .. }) = &*stage else {
@@ -78,14 +84,17 @@ fn begin_unifying(
     stage: &mut Stage,
     own: &mut WriteList,
     form: &Tuple,
-    mappings: &MappingList,
+    mappings: &Mappings<'_>,
 ) -> Result<Progress, Memory>
     requires fits { IsSound generation.old stage.old }
-    requires choice { TakesChoice (wanted (repairing_of generation.old stage.old)) (Unify (fact_of form.now)) }
-    ensures step { IfOk result (λ progress. ChosenStep (map rule_of mappings.now.items) (Unify (fact_of form.now)) (map change_of own.old.items) (repairing_of generation.old stage.old) (asks_on progress) (map change_of own.new.items) (repairing_of generation.new stage.new)) }
-    ensures asks { IfOk result (λ progress. is_asking (repairing_of generation.new stage.new) ≡ asks_on progress) }
+    requires choice { TakesChoice
+        (wanted (repairing_of generation.old stage.old)) (Unify (fact_of form.now)) }
+    ensures step { IfOk result (HasChosen mappings.now (Choice.Unify form.now)
+        own.old (repairing_of generation.old stage.old)
+        own.new (repairing_of generation.new stage.new)) }
+    ensures asks { IfOk result (AsksAs (repairing_of generation.new stage.new)) }
     ensures sound { IsSound generation.new stage.new }
-    ensures err { OnErr result (repairing_of generation.new stage.new ≡ repairing_of generation.old stage.old) }
+    ensures err { OnErr result (SameRepair generation.old stage.old generation.new stage.new) }
     ensures own { OnErr result (own.new.items ≡ own.old.items) }
 {
     let Stage::Waiting(question) = &*stage else {
@@ -120,7 +129,8 @@ fn begin_unifying(
 
 // The stage within the step of `Unify`, after the one that waits at the question.
 fn unifying(stage: Stage, gathering: Gathering) -> Stage
-    ensures { (q : QuestionOfProgram) → stage ≡ Stage.Waiting q → result ≡ Stage.Unifying q gathering }
+    ensures { (q : QuestionOfProgram) → stage ≡ Stage.Waiting q →
+        result ≡ Stage.Unifying q gathering }
 {
     match stage {
         Stage::Waiting(question) => Stage::Unifying(question, gathering),
@@ -135,14 +145,17 @@ fn delete(
     stage: &mut Stage,
     own: &mut WriteList,
     forms: &TupleList,
-    mappings: &MappingList,
+    mappings: &Mappings<'_>,
 ) -> Result<Progress, Memory>
     requires fits { IsSound generation.old stage.old }
-    requires choice { TakesChoice (wanted (repairing_of generation.old stage.old)) (DropThese (map fact_of forms.now.items)) }
-    ensures step { IfOk result (λ progress. ChosenStep (map rule_of mappings.now.items) (DropThese (map fact_of forms.now.items)) (map change_of own.old.items) (repairing_of generation.old stage.old) (asks_on progress) (map change_of own.new.items) (repairing_of generation.new stage.new)) }
-    ensures asks { IfOk result (λ progress. is_asking (repairing_of generation.new stage.new) ≡ asks_on progress) }
+    requires choice { TakesChoice
+        (wanted (repairing_of generation.old stage.old)) (DropThese (facts_of forms.now)) }
+    ensures step { IfOk result (HasChosen mappings.now (Choice.Delete forms.now)
+        own.old (repairing_of generation.old stage.old)
+        own.new (repairing_of generation.new stage.new)) }
+    ensures asks { IfOk result (AsksAs (repairing_of generation.new stage.new)) }
     ensures sound { IsSound generation.new stage.new }
-    ensures err { OnErr result (repairing_of generation.new stage.new ≡ repairing_of generation.old stage.old) }
+    ensures err { OnErr result (SameRepair generation.old stage.old generation.new stage.new) }
     ensures own { OnErr result (own.new.items ≡ own.old.items) }
 {
     let Stage::Waiting(Question::Negative { tuples, .. }) = &*stage else {

@@ -2,20 +2,18 @@
 ghost use Rattle.std.specs.Prelude.{◌≡◌, true, false, map, OnOk, OnErr};
 ghost use Rattle.std.specs.List.{list_all};
 ghost use Rattle.yt_model.specs.Specific.{more_specific};
-ghost use Rattle.yt_base.specs.Meanings.{fact_of, change_of, rule_of};
-ghost use Rattle.yt_steps.specs.Attempts.{Generate};
-ghost use Rattle.yt_steps.specs.Steps.{compared as compared_lem};
+ghost use Rattle.yt_base.specs.Meanings.{fact_of};
 ghost use Rattle.yt_chase.specs.Repairs.{is_asking};
-ghost use Rattle.yt_chase.specs.Stands.{settled, stand};
-ghost use Rattle.yt_chase.specs.Stages.{repair_of, repairing_of, tuple_at, IsComparing, IsSound};
+ghost use Rattle.yt_chase.specs.Stages.{repairing_of, tuple_at, HasCompared, IsComparing, IsSound};
 
 use crate::answers::copies;
 use crate::generating::go_on;
 use crate::stages::{Generation, Stage};
 use std::alloc::Global;
 use std::mem;
-use yt_base::{MappingList, Memory, Tuple, Write, WriteList};
+use yt_base::{Memory, Tuple, Write, WriteList};
 use yt_frontier::Question;
+use yt_limits::Mappings;
 use yt_query::Query;
 
 /// The end of the step, by these more specific tuples: with none of them the generated tuple is inserted, else a person
@@ -27,11 +25,14 @@ pub(crate) fn compared(
     stage: &mut Stage,
     own: &mut WriteList,
     candidates: &[Tuple],
-    mappings: &MappingList,
+    mappings: &Mappings<'_>,
 ) -> Result<(), Memory>
     requires comparing { IsComparing stage.old }
-    requires specific { list_all (λ s. more_specific s (tuple_at stage.old)) (map fact_of candidates.now) ≡ true }
-    ensures step { OnOk result (stand (map rule_of mappings.now.items) false (map change_of own.new.items) (repairing_of generation.new stage.new) ≡ settled (map change_of own.old.items) (Generate (repair_of generation.old)) (compared_lem (map rule_of mappings.now.items) (repair_of generation.old) (tuple_at stage.old) (map fact_of candidates.now))) }
+    requires specific { list_all (λ s. more_specific s (tuple_at stage.old))
+        (map fact_of candidates.now) ≡ true }
+    ensures step { OnOk result (HasCompared mappings.now (map fact_of candidates.now)
+        own.old generation.old (tuple_at stage.old)
+        own.new (repairing_of generation.new stage.new)) }
     ensures rests { OnOk result (is_asking (repairing_of generation.new stage.new) ≡ false) }
     ensures sound { OnOk result (IsSound generation.new stage.new) }
     ensures generation { OnErr result (generation.new ≡ generation.old) }

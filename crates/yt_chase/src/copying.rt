@@ -1,5 +1,5 @@
 //! Copies of a repair.
-ghost use Rattle.std.specs.Prelude.{◌≡◌, map, IfOk};
+ghost use Rattle.std.specs.Prelude.{◌≡◌, IfOk};
 ghost use Rattle.yt_steps.specs.Attempts.{Repair as RepairMeant};
 ghost use Rattle.yt_chase.specs.Repairs.{Gathering as GatheringMeant};
 ghost use Rattle.yt_chase.specs.Stages.{repair_of, gathering_of, repairing_of, IsSound};
@@ -44,8 +44,10 @@ impl TryCopy for Gathering {
 
 /// A copy of the stage, which stands for the same whatever repair is in hand. It is refused only for want of memory.
 pub(crate) fn copy_stage(alloc: Global, stage: &Stage) -> Result<Stage, Memory>
-    ensures same { IfOk result (λ copy. (g : GenerationOfProgram) → repairing_of g copy ≡ repairing_of g stage.now) }
-    ensures sound { IfOk result (λ copy. (g : GenerationOfProgram) → IsSound g stage.now → IsSound g copy) }
+    ensures same { IfOk result (λ copy. (g : GenerationOfProgram) →
+        repairing_of g copy ≡ repairing_of g stage.now) }
+    ensures sound { IfOk result (λ copy. (g : GenerationOfProgram) → IsSound g stage.now →
+        IsSound g copy) }
 {
     match stage {
         Stage::Generating => Ok(Stage::Generating),

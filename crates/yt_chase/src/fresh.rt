@@ -3,10 +3,11 @@
 ghost use Rattle.std.specs.Prelude.{◌≡◌, ◌+◌, ◌<◌, ◌^◌, ◌++◌, pos, map, unwrap_or, IfOk, OnOk};
 ghost use Rattle.std.specs.List.{range_with_len};
 ghost use Rattle.yt_model.specs.Values.{Number};
-ghost use Rattle.yt_base.specs.Meanings.{datum_of, fact_of, rule_of};
+ghost use Rattle.yt_base.specs.Contents.{data_of, facts_of};
+ghost use Rattle.yt_base.specs.Meanings.{datum_of, rule_of};
 ghost use Rattle.yt_match.specs.Partial.{known_at};
 ghost use Rattle.yt_steps.specs.Rewriting.{binding_of};
-ghost use Rattle.yt_chase.specs.Nulls.{drawn_from};
+ghost use Rattle.yt_chase.specs.Nulls.{drawn_from, values_in};
 
 use std::alloc::Global;
 use yt_base::{List, Mapping, Memory, Null, Row, TryCopy, TupleList, Value};
@@ -38,7 +39,8 @@ pub(crate) fn values_at(
     fresh: Fresh,
 ) -> Result<Row, Memory>
     requires { fresh.drawn + (rule_of mapping.now).existential < 2 ^ 32 }
-    ensures value { IfOk result (λ values. map datum_of values.items ≡ binding_of (rule_of mapping.now) (map fact_of image.now.items) ++ drawn_from fresh (rule_of mapping.now).existential) }
+    ensures value { IfOk result (λ values.
+        data_of values ≡ values_in fresh (rule_of mapping.now) (facts_of image.now)) }
 {
     let mut values = universal_values(alloc, mapping, image)?;
     draw(&mut values, fresh, existential(mapping))?;
@@ -47,7 +49,8 @@ pub(crate) fn values_at(
 
 // The values of the variables on the left at the image.
 fn universal_values(alloc: Global, mapping: &Mapping, image: &TupleList) -> Result<Row, Memory>
-    ensures value { IfOk result (λ values. map datum_of values.items ≡ binding_of (rule_of mapping.now) (map fact_of image.now.items)) }
+    ensures value { IfOk result (λ values.
+        data_of values ≡ binding_of (rule_of mapping.now) (facts_of image.now)) }
 {
     let mut partial = PartialMatch::new(alloc);
     if partial.learn_image(mapping.left.as_slice(), image.as_slice())? {
@@ -59,7 +62,9 @@ fn universal_values(alloc: Global, mapping: &Mapping, image: &TupleList) -> Resu
 
 // The values of the first variables, as far as they are known.
 fn known_values<'a>(alloc: Global, partial: &PartialMatch<'a>, count: u16) -> Result<Row, Memory>
-    ensures value { IfOk result (λ values. map datum_of values.items ≡ map (λ v. unwrap_or (known_at partial.now v) (Number (pos 0))) (range_with_len 0 count)) }
+    ensures value { IfOk result (λ values.
+        data_of values ≡ map (λ v. unwrap_or (known_at partial.now v) (Number (pos 0)))
+        (range_with_len 0 count)) }
 {
     let mut values = List::new(alloc);
     for variable in 0..count {
@@ -74,7 +79,8 @@ fn known_value<'a>(
     partial: &PartialMatch<'a>,
     variable: u16,
 ) -> Result<Value, Memory>
-    ensures value { IfOk result (λ value. datum_of value ≡ unwrap_or (known_at partial.now variable) (Number (pos 0))) }
+    ensures value { IfOk result (λ value. datum_of value ≡
+        unwrap_or (known_at partial.now variable) (Number (pos 0))) }
 {
     match partial.get(variable) {
         Some(value) => value.copy(alloc),
@@ -85,7 +91,7 @@ fn known_value<'a>(
 // Adds so many fresh nulls to the values.
 fn draw(values: &mut Row, fresh: Fresh, count: usize) -> Result<(), Memory>
     requires { fresh.drawn + count < 2 ^ 32 }
-    ensures ok { OnOk result (map datum_of values.new.items ≡ map datum_of values.old.items ++ drawn_from fresh count) }
+    ensures ok { OnOk result (data_of values.new ≡ data_of values.old ++ drawn_from fresh count) }
 {
     for number in 0..count {
         values.push(Value::Null(Null {

@@ -1,22 +1,25 @@
 //! The right atoms of a repair in hand: the tuple that is generated for one, and which one comes next.
-ghost use Rattle.std.specs.Prelude.{◌≡◌, false, pos, map, slice_get, IfOk};
+ghost use Rattle.std.specs.Prelude.{◌≡◌, false, map, slice_get, IfOk};
 ghost use Rattle.yt_model.specs.Mappings.{value_under, fact_under, listed as listed_lem};
-ghost use Rattle.yt_base.specs.Meanings.{datum_of, fact_of, slot_of, pattern_of, rule_of};
+ghost use Rattle.yt_base.specs.Contents.{data_of};
+ghost use Rattle.yt_base.specs.Meanings.{datum_of, fact_of, slot_of, pattern_of};
 ghost use Rattle.yt_steps.specs.Rewriting.{right_atoms as right_atoms_lem, generated as generated_lem, next_atom};
 ghost use Rattle.yt_chase.specs.Repairs.{phase_of, is_asking};
 ghost use Rattle.yt_chase.specs.Stages.{repair_of, repairing_of, IsSound};
 
 use crate::stages::{Generation, Stage};
 use std::alloc::Global;
-use yt_base::{Atom, List, MappingList, Memory, Row, Term, TermRow, TryCopy, Tuple, Value};
+use yt_base::{Atom, List, Memory, Row, Term, TermRow, TryCopy, Tuple, Value};
+use yt_limits::Mappings;
 
 /// The tuple that the repair generates next. It is refused only for want of memory.
 pub(crate) fn generated(
     alloc: Global,
     generation: &Generation,
-    mappings: &MappingList,
+    mappings: &Mappings<'_>,
 ) -> Result<Tuple, Memory>
-    ensures value { IfOk result (λ tuple. fact_of tuple ≡ generated_lem (map rule_of mappings.now.items) (repair_of generation.now)) }
+    ensures value { IfOk result (λ tuple. fact_of tuple ≡
+        generated_lem mappings.now (repair_of generation.now)) }
 {
     match right_atoms(mappings, generation.mapping).get(generation.atom) {
         Some(atom) => tuple_under(alloc, &generation.binding, atom),
@@ -28,8 +31,9 @@ pub(crate) fn generated(
 }
 
 /// The stage after a right atom: the next one is to be generated, or the repair is at its end. It takes no memory.
-pub(crate) fn go_on(generation: &mut Generation, mappings: &MappingList) -> Stage
-    ensures phase { phase_of (repairing_of generation.new result) ≡ next_atom (map rule_of mappings.now.items) (repair_of generation.old) }
+pub(crate) fn go_on(generation: &mut Generation, mappings: &Mappings<'_>) -> Stage
+    ensures phase { phase_of (repairing_of generation.new result) ≡
+        next_atom mappings.now (repair_of generation.old) }
     ensures rests { is_asking (repairing_of generation.new result) ≡ false }
     ensures sound { IsSound generation.new result }
 {
@@ -43,8 +47,8 @@ pub(crate) fn go_on(generation: &mut Generation, mappings: &MappingList) -> Stag
 }
 
 // The right atoms of the mapping of this number; none where there is no such mapping.
-fn right_atoms(mappings: &MappingList, number: u16) -> &[Atom]
-    ensures atoms { map pattern_of result.now ≡ right_atoms_lem (slice_get (map rule_of mappings.now.items) number) }
+fn right_atoms<'a>(mappings: &Mappings<'a>, number: u16) -> &'a [Atom]
+    ensures atoms { map pattern_of result.now ≡ right_atoms_lem (slice_get mappings.now number) }
 {
     match mappings.get(number as usize) {
         Some(mapping) => mapping.right.as_slice(),
@@ -52,9 +56,10 @@ fn right_atoms(mappings: &MappingList, number: u16) -> &[Atom]
     }
 }
 
-// The tuple that the atom is under the values.
-fn tuple_under(alloc: Global, binding: &Row, atom: &Atom) -> Result<Tuple, Memory>
-    ensures value { IfOk result (λ tuple. fact_of tuple ≡ fact_under (listed_lem (map datum_of binding.now.items)) (pattern_of atom.now)) }
+/// The tuple that the atom is under the values. It is refused only for want of memory.
+pub(crate) fn tuple_under(alloc: Global, binding: &Row, atom: &Atom) -> Result<Tuple, Memory>
+    ensures value { IfOk result (λ tuple.
+        fact_of tuple ≡ fact_under (listed_lem (data_of binding.now)) (pattern_of atom.now)) }
 {
     Ok(Tuple {
         relation: atom.relation,
@@ -64,7 +69,9 @@ fn tuple_under(alloc: Global, binding: &Row, atom: &Atom) -> Result<Tuple, Memor
 
 // The values of the terms under the values of the variables.
 fn values_under(alloc: Global, binding: &Row, terms: &TermRow) -> Result<Row, Memory>
-    ensures value { IfOk result (λ values. map datum_of values.items ≡ map (value_under (listed_lem (map datum_of binding.now.items))) (map slot_of terms.now.items)) }
+    ensures value { IfOk result (λ values.
+        data_of values ≡ map (value_under (listed_lem (data_of binding.now)))
+        (map slot_of terms.now.items)) }
 {
     let mut values = List::new(alloc);
     values.reserve(terms.len())?;
@@ -76,7 +83,8 @@ fn values_under(alloc: Global, binding: &Row, terms: &TermRow) -> Result<Row, Me
 
 // The value of the term; the number 0 for a variable that has none.
 fn value_of(alloc: Global, binding: &Row, term: &Term) -> Result<Value, Memory>
-    ensures value { IfOk result (λ value. datum_of value ≡ value_under (listed_lem (map datum_of binding.now.items)) (slot_of term.now)) }
+    ensures value { IfOk result (λ value.
+        datum_of value ≡ value_under (listed_lem (data_of binding.now)) (slot_of term.now)) }
 {
     match term {
         Term::Const(value) => value.copy(alloc),

@@ -3,7 +3,7 @@
 //!
 //! Contracts see a `Repair` as where it stands (`Repairing` of `specs/Repairs.antt`): `phase_of` is its phase, `tree_in`
 //! what the step under way still asks and does. Each call that goes on tells by `stand` what the step has come to, and
-//! that this is what the definition of the step says (`settled`). `ms` is `map rule_of mappings.now.items`. A step that
+//! that this is what the definition of the step says (`settled`). `ms` is `mappings.now`. A step that
 //! ends puts its writes behind those that the attempt has made, which the call is handed as `own`.
 //!
 //! `Err` is want of memory, of which no clause can say when it comes; everything is then unchanged.
@@ -16,6 +16,7 @@ mod comparing;
 mod copying;
 mod fresh;
 mod generating;
+mod in_hand;
 mod looking;
 mod nulls;
 mod ordering;
@@ -28,6 +29,7 @@ mod wants;
 mod writes;
 
 pub use crate::fresh::{Fresh, existential};
+pub use crate::in_hand::{Bound, image};
 pub use crate::nulls::nulls_in;
 pub use crate::ordering::in_order;
 pub use crate::repairs::Repair;

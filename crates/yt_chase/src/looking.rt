@@ -1,6 +1,6 @@
 //! The end of a look that found a violation to be repaired by deletions.
-ghost use Rattle.std.specs.Prelude.{◌≡◌, false, map, IfOk};
-ghost use Rattle.yt_base.specs.Meanings.{fact_of, change_of};
+ghost use Rattle.std.specs.Prelude.{◌≡◌, false, IfOk};
+ghost use Rattle.yt_base.specs.Contents.{changes_of, facts_of};
 ghost use Rattle.yt_steps.specs.Steps.{makes, negative};
 ghost use Rattle.yt_chase.specs.Repairs.{phase_of, is_asking};
 ghost use Rattle.yt_chase.specs.Stages.{repairing_of, IsSound};
@@ -19,8 +19,11 @@ pub(crate) fn look_back(
     number: u16,
     tuples: TupleList,
 ) -> Result<(Stage, WriteList), Memory>
-    ensures look { IfOk result (λ end. (g : Generation) → makes (map change_of end.1.items) (phase_of (repairing_of g end.0)) ≡ negative number (map fact_of tuples.items)) }
-    ensures rests { IfOk result (λ end. (g : Generation) → is_asking (repairing_of g end.0) ≡ false) }
+    ensures look { IfOk result (λ end. (g : Generation) →
+        makes (changes_of end.1) (phase_of (repairing_of g end.0)) ≡
+        negative number (facts_of tuples)) }
+    ensures rests { IfOk result (λ end. (g : Generation) →
+        is_asking (repairing_of g end.0) ≡ false) }
     ensures sound { IfOk result (λ end. (g : Generation) → IsSound g end.0) }
 {
     if tuples.len() > 1 {

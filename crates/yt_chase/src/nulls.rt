@@ -1,10 +1,10 @@
 //! The nulls of tuples, and those that a substitution moves.
-ghost use Rattle.std.specs.Prelude.{◌≡◌, map, filter, IfOk, OnOk};
+ghost use Rattle.std.specs.Prelude.{◌≡◌, map, IfOk, OnOk};
 ghost use Rattle.std.specs.List.{list_any};
 ghost use Rattle.yt_base.specs.Meanings.{null_of, datum_of, fact_of};
 ghost use Rattle.yt_base.specs.Maps.{images_of, moved_by};
 ghost use Rattle.yt_steps.specs.Rewriting.{nulls_in as nulls_in_lem, same_null, sorted_nulls};
-ghost use Rattle.yt_chase.specs.Nulls.{with_null, with_null_of, moves as moves_lem};
+ghost use Rattle.yt_chase.specs.Nulls.{with_null, with_null_of, moved_among as moved_among_lem, moves as moves_lem};
 
 use crate::ordering::listed;
 use std::alloc::Global;
@@ -13,7 +13,8 @@ use yt_base::{List, Memory, Null, Sub, Tuple, Value};
 
 /// The distinct nulls among the values, in order of first position. It is refused only for want of memory.
 pub fn nulls_in(alloc: Global, values: &[Value]) -> Result<List<Null>, Memory>
-    ensures value { IfOk result (λ nulls. map null_of nulls.items ≡ nulls_in_lem (map datum_of values.now)) }
+    ensures value { IfOk result (λ nulls. map null_of nulls.items ≡
+        nulls_in_lem (map datum_of values.now)) }
 {
     let mut nulls = List::new(alloc);
     for value in values {
@@ -24,7 +25,9 @@ pub fn nulls_in(alloc: Global, values: &[Value]) -> Result<List<Null>, Memory>
 
 /// The nulls of the tuple that the substitution moves, in their order. It is refused only for want of memory.
 pub(crate) fn moved_nulls(alloc: Global, sub: &Sub, tuple: &Tuple) -> Result<List<Null>, Memory>
-    ensures value { IfOk result (λ nulls. map null_of nulls.items ≡ filter (moves_lem (moved_by (images_of sub.now))) (sorted_nulls (nulls_in_lem (fact_of tuple.now).values))) }
+    ensures value { IfOk result (λ nulls.
+        map null_of nulls.items ≡ moved_among_lem sub.now
+        (sorted_nulls (nulls_in_lem (fact_of tuple.now).values))) }
 {
     let all = nulls_in(alloc, tuple.values.as_slice())?;
     let sorted = listed(alloc, sorted(alloc, all.as_slice())?)?;
@@ -33,7 +36,8 @@ pub(crate) fn moved_nulls(alloc: Global, sub: &Sub, tuple: &Tuple) -> Result<Lis
 
 // Adds the null that the value is, if it is one that is not there.
 fn add_null_of(nulls: &mut List<Null>, value: &Value) -> Result<(), Memory>
-    ensures ok { OnOk result (map null_of nulls.new.items ≡ with_null_of (map null_of nulls.old.items) (datum_of value.now)) }
+    ensures ok { OnOk result (map null_of nulls.new.items ≡
+        with_null_of (map null_of nulls.old.items) (datum_of value.now)) }
 {
     match value {
         Value::Null(null) => add_null(nulls, *null),
@@ -44,7 +48,8 @@ fn add_null_of(nulls: &mut List<Null>, value: &Value) -> Result<(), Memory>
 
 // Adds the null, if it is not there.
 fn add_null(nulls: &mut List<Null>, null: Null) -> Result<(), Memory>
-    ensures ok { OnOk result (map null_of nulls.new.items ≡ with_null (map null_of nulls.old.items) (null_of null)) }
+    ensures ok { OnOk result (map null_of nulls.new.items ≡
+        with_null (map null_of nulls.old.items) (null_of null)) }
 {
     if !is_among(nulls.as_slice(), null) {
         nulls.push(null)?;
@@ -61,7 +66,8 @@ fn is_among(nulls: &[Null], null: Null) -> bool
 
 // The set of the nulls.
 fn sorted(alloc: Global, nulls: &[Null]) -> Result<BTreeSet<Null>, Memory>
-    ensures value { IfOk result (λ set. map null_of set.keys ≡ sorted_nulls (map null_of nulls.now)) }
+    ensures value { IfOk result (λ set. map null_of set.keys ≡
+        sorted_nulls (map null_of nulls.now)) }
 {
     match nulls {
         [] => Ok(BTreeSet::new(alloc)),
@@ -75,7 +81,8 @@ fn sorted(alloc: Global, nulls: &[Null]) -> Result<BTreeSet<Null>, Memory>
 
 // Those of the nulls that the substitution moves.
 fn moved_among(alloc: Global, sub: &Sub, nulls: &[Null]) -> Result<List<Null>, Memory>
-    ensures value { IfOk result (λ moved. map null_of moved.items ≡ filter (moves_lem (moved_by (images_of sub.now))) (map null_of nulls.now)) }
+    ensures value { IfOk result (λ moved.
+        map null_of moved.items ≡ moved_among_lem sub.now (map null_of nulls.now)) }
 {
     let mut moved = List::new(alloc);
     for null in nulls {

@@ -10,7 +10,8 @@ use yt_base::{List, Memory, TryCopy, Tuple, TupleList};
 
 /// The tuples in order, each once. It is refused only for want of memory.
 pub fn in_order(alloc: Global, tuples: &TupleList) -> Result<TupleList, Memory>
-    ensures value { IfOk result (λ list. map fact_of list.items ≡ in_order_lem (map fact_of tuples.now.items)) }
+    ensures value { IfOk result (λ list. map fact_of list.items ≡
+        in_order_lem (map fact_of tuples.now.items)) }
 {
     let mut set = BTreeSet::new(alloc);
     put_copies(alloc, &mut set, tuples.as_slice())?;
@@ -19,7 +20,8 @@ pub fn in_order(alloc: Global, tuples: &TupleList) -> Result<TupleList, Memory>
 
 /// Puts a tuple into the set. It is refused only for want of memory.
 pub(crate) fn put(set: &mut BTreeSet<Tuple>, tuple: Tuple) -> Result<(), Memory>
-    ensures ok { OnOk result (map fact_of set.new.keys ≡ apply (map fact_of set.old.keys) (Insert (fact_of tuple) ∷ [])) }
+    ensures ok { OnOk result (map fact_of set.new.keys ≡
+        apply (map fact_of set.old.keys) (Insert (fact_of tuple) ∷ [])) }
 {
     match set.insert(tuple) {
         Ok(_added) => Ok(()),
@@ -33,7 +35,8 @@ pub(crate) fn put_copies(
     set: &mut BTreeSet<Tuple>,
     tuples: &[Tuple],
 ) -> Result<(), Memory>
-    ensures ok { OnOk result (map fact_of set.new.keys ≡ apply (map fact_of set.old.keys) (map Insert (map fact_of tuples.now))) }
+    ensures ok { OnOk result (map fact_of set.new.keys ≡
+        apply (map fact_of set.old.keys) (map Insert (map fact_of tuples.now))) }
 {
     for tuple in tuples {
         put(set, tuple.copy(alloc)?)?;

@@ -2,11 +2,11 @@
 ghost use Rattle.std.specs.Prelude.{◌≡◌, true, map, IfOk};
 ghost use Rattle.std.specs.List.{list_all};
 ghost use Rattle.yt_model.specs.Specific.{more_specific};
-ghost use Rattle.yt_model.specs.Unifier.{unifier as unifier_lem};
+ghost use Rattle.yt_base.specs.Contents.{facts_of};
 ghost use Rattle.yt_base.specs.Meanings.{null_of, fact_of};
 ghost use Rattle.yt_base.specs.Maps.{images_of, moved_by};
-ghost use Rattle.yt_steps.specs.Questions.{is_outer_of, candidate as candidate_lem};
-ghost use Rattle.yt_steps.specs.Rewriting.{moved_nulls as moved_nulls_lem};
+ghost use Rattle.yt_steps.specs.Questions.{is_outer_of};
+ghost use Rattle.yt_chase.specs.Unifying.{nulls_moved_with, unifier_with};
 
 use crate::nulls::moved_nulls;
 use std::alloc::Global;
@@ -22,10 +22,13 @@ pub(crate) fn plan(
     candidates: &TupleList,
     form: &Tuple,
 ) -> Result<(Sub, Vec<Null>), Memory>
-    requires specific { list_all (λ s. more_specific s (fact_of tuple.now)) (map fact_of candidates.now.items) ≡ true }
-    requires fits { is_outer_of (map fact_of candidates.now.items) (fact_of form.now) ≡ true }
-    ensures unifier { IfOk result (λ plan. moved_by (images_of plan.0) ≡ unifier_lem (fact_of tuple.now) (candidate_lem (fact_of tuple.now) (map fact_of candidates.now.items) (fact_of form.now))) }
-    ensures nulls { IfOk result (λ plan. map null_of plan.1.items ≡ moved_nulls_lem (fact_of tuple.now) (candidate_lem (fact_of tuple.now) (map fact_of candidates.now.items) (fact_of form.now))) }
+    requires specific { list_all (λ s. more_specific s (fact_of tuple.now))
+        (facts_of candidates.now) ≡ true }
+    requires fits { is_outer_of (facts_of candidates.now) (fact_of form.now) ≡ true }
+    ensures unifier { IfOk result (λ plan.
+        moved_by (images_of plan.0) ≡ unifier_with tuple.now candidates.now form.now) }
+    ensures nulls { IfOk result (λ plan.
+        map null_of plan.1.items ≡ nulls_moved_with tuple.now candidates.now form.now) }
 {
     let Some(candidate) = candidate(candidates, form) else {
         unreachable!()

@@ -1,16 +1,13 @@
 //! The repair of one violation, which asks queries and questions and takes their answers.
-ghost use Rattle.std.specs.Prelude.{◌≡◌, ◌+◌, ◌<◌, ◌^◌, true, false, Some, List, Option, map, IfOk, OnOk, OnErr};
+ghost use Rattle.std.specs.Prelude.{◌≡◌, ◌+◌, ◌<◌, ◌^◌, true, false, List, IfOk, OnOk, OnErr};
 ghost use Rattle.yt_model.specs.Mappings.{Rule};
-ghost use Rattle.yt_model.specs.Updates.{Choice as ChoiceMeant};
-ghost use Rattle.yt_model.specs.Violations.{Forward};
-ghost use Rattle.yt_base.specs.Meanings.{fact_of, change_of, choice_of, rule_of};
+ghost use Rattle.yt_base.specs.Contents.{facts_of};
+ghost use Rattle.yt_base.specs.Meanings.{choice_of, rule_of};
 ghost use Rattle.yt_query.specs.Meanings.{reply_of};
-ghost use Rattle.yt_steps.specs.Attempts.{Attempt};
-ghost use Rattle.yt_steps.specs.Rewriting.{in_order as in_order_lem};
-ghost use Rattle.yt_steps.specs.Steps.{makes, repair as repair_row, negative, step_in};
 ghost use Rattle.yt_chase.specs.Repairs.{phase_of, is_asking, tree_in};
-ghost use Rattle.yt_chase.specs.Stands.{wanted, WantsStep, TakesReply, TakesChoice, query_in, first_query, branch, drawing, settled, stand};
-ghost use Rattle.yt_chase.specs.Meanings.{want_of, asks_on, DrawsFrom};
+ghost use Rattle.yt_chase.specs.Stands.{wanted, WantsStep, TakesReply, TakesChoice, query_in, first_query};
+ghost use Rattle.yt_chase.specs.Meanings.{want_of};
+ghost use Rattle.yt_chase.specs.Transitions.{AsksAs, HasAnswered, HasBegun, HasChosen, IsBackward, IsForward};
 
 use crate::answering::answered;
 use crate::choosing::chosen;
@@ -23,15 +20,16 @@ use crate::stages::{Generation, Stage};
 use crate::wants::{Progress, RepairWant};
 use std::alloc::Global;
 use std::marker::Model;
-use yt_base::{Choice, Mapping, MappingList, Memory, Row, TryCopy, TupleList, WriteList};
+use yt_base::{Choice, Mapping, Memory, Row, TryCopy, TupleList, WriteList};
+use yt_limits::Mappings;
 use yt_query::{Answer, Query};
 
 /// The repair of one violation, as a value. A forward repair generates the right atoms in turn; a backward one asks
 /// which tuples to delete. Contracts see where it stands.
 #[derive(Debug, Drop)]
 pub struct Repair {
-    generation: Generation,
-    stage: Stage,
+    pub(crate) generation: Generation,
+    pub(crate) stage: Stage,
 }
 
 impl Model for Repair {
@@ -59,7 +57,8 @@ impl Repair {
         fresh: Fresh,
     ) -> Result<Repair, Memory>
         requires { fresh.drawn + (rule_of mapping.now).existential < 2 ^ 32 }
-        ensures look { IfOk result (λ made. (P : Attempt) → DrawsFrom P fresh → repair_row P Forward number (rule_of mapping.now) (map fact_of image.now.items) ≡ drawing (phase_of made) (rule_of mapping.now).existential) }
+        ensures look { IfOk result
+            (IsForward fresh number (rule_of mapping.now) (facts_of image.now)) }
         ensures rests { IfOk result (λ made. wanted made ≡ WantsStep) }
     {
         Ok(Repair {
@@ -80,7 +79,7 @@ impl Repair {
         number: u16,
         image: &TupleList,
     ) -> Result<(Repair, WriteList), Memory>
-        ensures look { IfOk result (λ made. makes (map change_of made.1.items) (phase_of made.0) ≡ negative number (in_order_lem (map fact_of image.now.items))) }
+        ensures look { IfOk result (λ made. IsBackward number (facts_of image.now) made.0 made.1) }
         ensures rests { IfOk result (λ made. is_asking made.0 ≡ false) }
     {
         let generation = Generation {
@@ -93,9 +92,9 @@ impl Repair {
     }
 
     /// Begins the step that is next. It then asks. It is refused only for want of memory; the repair is then unchanged.
-    pub fn begin(&mut self, alloc: Global, mappings: &MappingList) -> Result<(), Memory>
+    pub fn begin(&mut self, alloc: Global, mappings: &Mappings<'_>) -> Result<(), Memory>
         requires { wanted self.old ≡ WantsStep }
-        ensures step { OnOk result ((P : Attempt) (c : Option ChoiceMeant) → tree_in (map rule_of mappings.now.items) self.new ≡ step_in (map rule_of mappings.now.items) P c (phase_of self.old)) }
+        ensures step { OnOk result (HasBegun mappings.now self.old self.new) }
         ensures asks { OnOk result (is_asking self.new ≡ true) }
         ensures phase { phase_of self.new ≡ phase_of self.old }
         ensures err { OnErr result (self.new ≡ self.old) }
@@ -112,11 +111,11 @@ impl Repair {
         alloc: Global,
         own: &mut WriteList,
         answer: &Answer,
-        mappings: &MappingList,
+        mappings: &Mappings<'_>,
     ) -> Result<Progress, Memory>
-        requires { TakesReply (map rule_of mappings.now.items) (wanted self.old) (reply_of answer.now) }
-        ensures step { IfOk result (λ progress. stand (map rule_of mappings.now.items) (asks_on progress) (map change_of own.new.items) self.new ≡ settled (map change_of own.old.items) (phase_of self.old) (branch (tree_in (map rule_of mappings.now.items) self.old) (reply_of answer.now))) }
-        ensures asks { IfOk result (λ progress. is_asking self.new ≡ asks_on progress) }
+        requires { TakesReply mappings.now (wanted self.old) (reply_of answer.now) }
+        ensures step { IfOk result (HasAnswered mappings.now answer.now own.old self.old own.new self.new) }
+        ensures asks { IfOk result (AsksAs self.new) }
         ensures err { OnErr result (self.new ≡ self.old) }
         ensures own { OnErr result (own.new.items ≡ own.old.items) }
     {
@@ -138,11 +137,11 @@ impl Repair {
         alloc: Global,
         own: &mut WriteList,
         choice: &Choice,
-        mappings: &MappingList,
+        mappings: &Mappings<'_>,
     ) -> Result<Progress, Memory>
         requires { TakesChoice (wanted self.old) (choice_of choice.now) }
-        ensures step { IfOk result (λ progress. (P : Attempt) → stand (map rule_of mappings.now.items) (asks_on progress) (map change_of own.new.items) self.new ≡ settled (map change_of own.old.items) (phase_of self.old) (step_in (map rule_of mappings.now.items) P (Some (choice_of choice.now)) (phase_of self.old))) }
-        ensures asks { IfOk result (λ progress. is_asking self.new ≡ asks_on progress) }
+        ensures step { IfOk result (HasChosen mappings.now choice.now own.old self.old own.new self.new) }
+        ensures asks { IfOk result (AsksAs self.new) }
         ensures err { OnErr result (self.new ≡ self.old) }
         ensures own { OnErr result (own.new.items ≡ own.old.items) }
     {
@@ -159,7 +158,8 @@ impl Repair {
     /// What is wanted next. A query is what the step under way asks first. It takes no memory.
     pub fn wants(&self) -> RepairWant<'_>
         ensures want { want_of result ≡ wanted self.now }
-        ensures query { (ms : List Rule) → first_query (tree_in ms self.now) ≡ query_in (want_of result) }
+        ensures query { (ms : List Rule) →
+            first_query (tree_in ms self.now) ≡ query_in (want_of result) }
     {
         match &self.stage {
             Stage::Generating => RepairWant::NextStep,

@@ -2,7 +2,8 @@
 ghost use Rattle.std.specs.Prelude.{◌≡◌, ◌++◌, map, IfOk, OnOk};
 ghost use Rattle.yt_model.specs.Repository.{Insert, Delete};
 ghost use Rattle.yt_model.specs.Values.{under};
-ghost use Rattle.yt_base.specs.Meanings.{fact_of, change_of};
+ghost use Rattle.yt_base.specs.Contents.{changes_of, facts_of};
+ghost use Rattle.yt_base.specs.Meanings.{fact_of};
 ghost use Rattle.yt_base.specs.Maps.{images_of, moved_by};
 ghost use Rattle.yt_steps.specs.Rewriting.{in_order as in_order_lem, rewrite as rewrite_lem};
 
@@ -15,7 +16,8 @@ use yt_unifier::apply;
 /// The writes that rewrite the tuples by a substitution: a deletion of each, then an insertion of each distinct
 /// substituted tuple, in order. It is refused only for want of memory.
 pub fn rewrite(alloc: Global, sub: &Sub, tuples: &TupleList) -> Result<WriteList, Memory>
-    ensures value { IfOk result (λ writes. map change_of writes.items ≡ rewrite_lem (moved_by (images_of sub.now)) (map fact_of tuples.now.items)) }
+    ensures value { IfOk result (λ writes.
+        changes_of writes ≡ rewrite_lem (moved_by (images_of sub.now)) (facts_of tuples.now)) }
 {
     let moved = moved_in_order(alloc, sub, tuples.as_slice())?;
     let mut writes = deletions(alloc, tuples.copy(alloc)?)?;
@@ -25,7 +27,7 @@ pub fn rewrite(alloc: Global, sub: &Sub, tuples: &TupleList) -> Result<WriteList
 
 /// The deletions of the tuples, in turn. It is refused only for want of memory.
 pub(crate) fn deletions(alloc: Global, tuples: TupleList) -> Result<WriteList, Memory>
-    ensures value { IfOk result (λ writes. map change_of writes.items ≡ map Delete (map fact_of tuples.items)) }
+    ensures value { IfOk result (λ writes. changes_of writes ≡ map Delete (facts_of tuples)) }
 {
     let mut writes = List::new(alloc);
     writes.reserve(tuples.len())?;
@@ -37,7 +39,9 @@ pub(crate) fn deletions(alloc: Global, tuples: TupleList) -> Result<WriteList, M
 
 // The set of the substituted tuples.
 fn moved_in_order(alloc: Global, sub: &Sub, tuples: &[Tuple]) -> Result<BTreeSet<Tuple>, Memory>
-    ensures value { IfOk result (λ set. map fact_of set.keys ≡ in_order_lem (map (under (moved_by (images_of sub.now))) (map fact_of tuples.now))) }
+    ensures value { IfOk result (λ set.
+        map fact_of set.keys ≡
+        in_order_lem (map (under (moved_by (images_of sub.now))) (map fact_of tuples.now))) }
 {
     let mut set = BTreeSet::new(alloc);
     for tuple in tuples {
@@ -48,7 +52,8 @@ fn moved_in_order(alloc: Global, sub: &Sub, tuples: &[Tuple]) -> Result<BTreeSet
 
 // Adds the insertions of the tuples of the set, in order.
 fn insert_all(writes: &mut WriteList, set: BTreeSet<Tuple>) -> Result<(), Memory>
-    ensures ok { OnOk result (map change_of writes.new.items ≡ map change_of writes.old.items ++ map Insert (map fact_of set.keys)) }
+    ensures ok { OnOk result (
+        changes_of writes.new ≡ changes_of writes.old ++ map Insert (map fact_of set.keys)) }
 {
     let mut left = set;
     while let Some(tuple) = left.pop_first() {

@@ -1,11 +1,11 @@
 //! The step of an answer `Unify`: the tuples that hold the nulls which move, and their rewriting by the unifier.
 ghost use Rattle.std.specs.Prelude.{◌≡◌, ◌<◌, ◌++◌, false, length, map, IfOk, OnOk, OnErr};
-ghost use Rattle.std.specs.List.{flat_map};
-ghost use Rattle.yt_base.specs.Meanings.{fact_of, change_of, rule_of};
+ghost use Rattle.yt_base.specs.Contents.{changes_of, facts_of};
+ghost use Rattle.yt_base.specs.Meanings.{fact_of};
 ghost use Rattle.yt_base.specs.Maps.{images_of, moved_by};
 ghost use Rattle.yt_steps.specs.Rewriting.{in_order, rewrite as rewrite_lem, next_atom};
-ghost use Rattle.yt_chase.specs.Repairs.{phase_of, is_asking, moved_repair, asking_next};
-ghost use Rattle.yt_chase.specs.Stages.{repair_of, gathering_of, repairing_of, IsSound};
+ghost use Rattle.yt_chase.specs.Repairs.{phase_of, is_asking, moved_repair};
+ghost use Rattle.yt_chase.specs.Stages.{repair_of, gathering_of, repairing_of, HasKept, IsSound};
 
 use crate::answers::copies;
 use crate::generating::go_on;
@@ -15,7 +15,8 @@ use crate::stages::{Gathering, Generation, Stage};
 use crate::writes::append;
 use std::alloc::Global;
 use std::collections::BTreeSet;
-use yt_base::{List, MappingList, Memory, Sub, Tuple, TupleList, WriteList};
+use yt_base::{List, Memory, Sub, Tuple, TupleList, WriteList};
+use yt_limits::Mappings;
 use yt_query::Query;
 use yt_unifier::apply_row;
 
@@ -27,7 +28,7 @@ pub(crate) fn ask_next(
     tuples: &[Tuple],
 ) -> Result<(), Memory>
     requires { 0 < length gathering.old.later.items }
-    ensures ok { OnOk result (gathering_of gathering.new ≡ asking_next (gathering_of gathering.old).later (gathering_of gathering.old) (map fact_of tuples.now)) }
+    ensures ok { OnOk result (HasKept gathering.old (map fact_of tuples.now) gathering.new) }
     ensures err { OnErr result (gathering_of gathering.new ≡ gathering_of gathering.old) }
 {
     gathering.found.push(copies(alloc, tuples)?)?;
@@ -42,7 +43,8 @@ pub(crate) fn all_found(
     gathering: &Gathering,
     last: &[Tuple],
 ) -> Result<TupleList, Memory>
-    ensures value { IfOk result (λ list. map fact_of list.items ≡ in_order ((gathering_of gathering.now).found ++ map fact_of last.now)) }
+    ensures value { IfOk result (λ list.
+        facts_of list ≡ in_order ((gathering_of gathering.now).found ++ map fact_of last.now)) }
 {
     let mut set = BTreeSet::new(alloc);
     for tuples in gathering.found.as_slice() {
@@ -60,10 +62,14 @@ pub(crate) fn unify(
     own: &mut WriteList,
     sub: &Sub,
     tuples: &TupleList,
-    mappings: &MappingList,
+    mappings: &Mappings<'_>,
 ) -> Result<Stage, Memory>
-    ensures writes { OnOk result (map change_of own.new.items ≡ map change_of own.old.items ++ rewrite_lem (moved_by (images_of sub.now)) (map fact_of tuples.now.items)) }
-    ensures phase { IfOk result (λ stage. phase_of (repairing_of generation.new stage) ≡ next_atom (map rule_of mappings.now.items) (moved_repair (moved_by (images_of sub.now)) (repair_of generation.old))) }
+    ensures writes { OnOk result (
+        changes_of own.new ≡ changes_of own.old ++
+        rewrite_lem (moved_by (images_of sub.now)) (facts_of tuples.now)) }
+    ensures phase { IfOk result (λ stage. phase_of (repairing_of generation.new stage) ≡
+        next_atom mappings.now
+        (moved_repair (moved_by (images_of sub.now)) (repair_of generation.old))) }
     ensures rests { IfOk result (λ stage. is_asking (repairing_of generation.new stage) ≡ false) }
     ensures sound { IfOk result (λ stage. IsSound generation.new stage) }
     ensures err { OnErr result (generation.new ≡ generation.old) }

@@ -32,7 +32,8 @@ pub fn append(alloc: Global, own: &mut WriteList, writes: WriteList) -> Result<(
 /// Puts the insertion of a copy of the tuple at the end of the own writes. It is refused only for want of memory; they
 /// are then unchanged.
 pub(crate) fn insert(alloc: Global, own: &mut WriteList, tuple: &Tuple) -> Result<(), Memory>
-    ensures ok { OnOk result (map change_of own.new.items ≡ map change_of own.old.items ++ Insert (fact_of tuple.now) ∷ []) }
+    ensures ok { OnOk result (map change_of own.new.items ≡
+        map change_of own.old.items ++ Insert (fact_of tuple.now) ∷ []) }
     ensures err { OnErr result (own.new.items ≡ own.old.items) }
 {
     own.push(Write::Insert(tuple.copy(alloc)?))?;

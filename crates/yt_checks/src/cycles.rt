@@ -45,7 +45,8 @@ fn stands_left(relation: u16, mapping: &Mapping) -> bool
 
 // The set, with the atom's relation where the atom is plain.
 fn with_plain(set: RelationSet, universal: u16, atom: &Atom) -> RelationSet
-    ensures with { (s : ℕ) → s < 128 → among result s ≡ (among set s || ((atom.now.relation == s) && is_plain universal (pattern_of atom.now))) }
+    ensures with { (s : ℕ) → s < 128 → among result s ≡
+        (among set s || ((atom.now.relation == s) && is_plain universal (pattern_of atom.now))) }
 {
     if is_plain(universal, atom) {
         return set.with(atom.relation);
@@ -66,7 +67,9 @@ fn plain_right(mapping: &Mapping) -> RelationSet
 
 // The set, with the relations to which the relation leads by the mapping.
 fn led_by(set: RelationSet, relation: u16, mapping: &Mapping) -> RelationSet
-    ensures led { (s : ℕ) → s < 128 → among result s ≡ (among set s || (stands_left relation (rule_of mapping.now) && stands_plain s (rule_of mapping.now))) }
+    ensures led { (s : ℕ) → s < 128 → among result s ≡
+        (among set s || (stands_left relation (rule_of mapping.now) &&
+        stands_plain s (rule_of mapping.now))) }
 {
     if stands_left(relation, mapping) {
         return set.joined(plain_right(mapping));
@@ -76,7 +79,8 @@ fn led_by(set: RelationSet, relation: u16, mapping: &Mapping) -> RelationSet
 
 // The relations to which the relation leads by the mappings and the last one.
 fn led_to(relation: u16, mappings: &[Mapping], last: &Mapping) -> RelationSet
-    ensures led { (s : ℕ) → s < 128 → among result s ≡ leads (map rule_of mappings.now ++ rule_of last.now ∷ []) relation s }
+    ensures led { (s : ℕ) → s < 128 → among result s ≡
+        leads (map rule_of mappings.now ++ rule_of last.now ∷ []) relation s }
 {
     let mut found = RelationSet::empty();
     for mapping in mappings {
@@ -92,7 +96,8 @@ fn table_of(
     mappings: &[Mapping],
     last: &Mapping,
 ) -> Result<Vec<RelationSet>, Memory>
-    ensures table { IfOk result (λ rows. IsTableOf (leads (map rule_of mappings.now ++ rule_of last.now ∷ [])) rows.items) }
+    ensures table { IfOk result (λ rows. IsTableOf
+        (leads (map rule_of mappings.now ++ rule_of last.now ∷ [])) rows.items) }
     ensures whole { IfOk result (λ rows. length rows.items ≡ relations) }
 {
     let mut rows = Vec::new(alloc);
@@ -117,7 +122,8 @@ fn widened(middle: RelationSet, between: u16, row: RelationSet) -> RelationSet
 fn widen(rows: &mut [RelationSet], between: u16)
     requires few { between < 128 }
     requires there { between < length rows.old }
-    ensures closed { (edge : ℕ → ℕ → Bool) → IsTableOf (through edge between) rows.old → IsTableOf (through edge (suc between)) rows.new }
+    ensures closed { (edge : ℕ → ℕ → Bool) → IsTableOf (through edge between) rows.old →
+        IsTableOf (through edge (suc between)) rows.new }
     ensures length { length rows.new ≡ length rows.old }
 {
     let middle = rows[between as usize];
@@ -129,7 +135,8 @@ fn widen(rows: &mut [RelationSet], between: u16)
 // Some relation is in its own row.
 fn goes_round(rows: &[RelationSet]) -> bool
     requires { length rows.now ≤ 128 }
-    ensures round { (edge : ℕ → ℕ → Bool) → IsTableOf edge rows.now → result ≡ list_any (λ r. edge r r) (range_with_len 0 (length rows.now)) }
+    ensures round { (edge : ℕ → ℕ → Bool) → IsTableOf edge rows.now →
+        result ≡ list_any (λ r. edge r r) (range_with_len 0 (length rows.now)) }
 {
     for place in 0..rows.len() {
         if rows[place].has(place as u16) {
@@ -148,7 +155,9 @@ pub(crate) fn has_plain_cycle(
     last: &Mapping,
 ) -> Result<bool, Memory>
     requires few { relations ≤ 128 }
-    ensures cycle { IfOk result (λ cycle. cycle ≡ has_plain_cycle relations (rules_of (map session_mapping_of mappings.now ++ session_mapping_of last.now ∷ []))) }
+    ensures cycle { IfOk result (λ cycle. cycle ≡
+        has_plain_cycle relations (rules_of (map session_mapping_of mappings.now ++
+        session_mapping_of last.now ∷ []))) }
 {
     let mut rows = table_of(alloc, relations, mappings, last)?;
     for between in 0..relations {

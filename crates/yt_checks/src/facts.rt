@@ -56,7 +56,8 @@ pub(crate) fn nulls_within(most: u32, values: &[Value]) -> Result<(), TakeRefusa
 /// The null of a replacement, and then its value if that is one, come from updates up to the given one.
 #[tactic(auto, unfolding(yt_grammar::specs::Meaning::nulls_within))]
 pub(crate) fn replaced_within(most: u32, null: Null, value: &Value) -> Result<(), TakeRefusal>
-    ensures { Gives (λ u. u) result (nulls_within most (Unknown (null_of null) ∷ datum_of value.now ∷ [])) }
+    ensures { Gives (λ u. u) result (nulls_within most
+        (Unknown (null_of null) ∷ datum_of value.now ∷ [])) }
 {
     null_within(most, null)?;
     match value {
@@ -92,7 +93,8 @@ fn bounded_facts(
     most: u32,
     facts: RawFactList,
 ) -> Result<TupleList, TakeRefusal>
-    ensures { Gives (λ l. map fact_meant l.items) result (each (bounded_fact schema.now most) (map fact_of facts.items)) }
+    ensures { Gives (λ l. map fact_meant l.items) result
+        (each (bounded_fact schema.now most) (map fact_of facts.items)) }
 {
     let mut found = List::new(alloc);
     for fact in facts.into_vec() {

@@ -34,7 +34,8 @@ pub(crate) fn most_answers(format: u8) -> u32
 
 /// The number of columns, if it is one of 1 to 8.
 pub(crate) fn arity_of(columns: i64) -> Option<u16>
-    ensures arity { MatchOption result (is_arity columns ≡ false) (λ a. (is_arity columns ≡ true) × (a ≡ natural columns)) }
+    ensures arity { MatchOption result (is_arity columns ≡ false)
+        (λ a. (is_arity columns ≡ true) × (a ≡ natural columns)) }
 {
     if 1 <= columns && columns <= 8 {
         return Some(columns as u16);

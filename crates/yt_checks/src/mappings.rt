@@ -17,7 +17,8 @@ use yt_schema::{RawAtoms, Schema, check_added_mapping};
 
 /// A mapping has the name. There are at most 64.
 pub(crate) fn has_mapping(mappings: &[Mapping], name: &Name) -> bool
-    ensures one { result ≡ is_one_of (mapping_names (map session_mapping_of mappings.now)) name.now.items }
+    ensures one { result ≡ is_one_of (mapping_names
+        (map session_mapping_of mappings.now)) name.now.items }
 {
     mappings.iter().any(|mapping| *name == mapping.name)
 }
@@ -43,7 +44,8 @@ pub(crate) fn mapping_of(
     since: u32,
     mapping: RawMapping,
 ) -> Result<Mapping, TakeRefusal>
-    ensures checked { Gives session_mapping_of result (mapping_of schema.now since (mapping_written mapping)) }
+    ensures checked { Gives session_mapping_of result
+        (mapping_of schema.now since (mapping_written mapping)) }
 {
     let RawMapping { name, left, right } = mapping;
     let left = RawAtoms {

@@ -57,9 +57,11 @@ impl Updates {
 
     /// The place of the update of a label, counted from 0; None exactly where there is none.
     pub(crate) fn find(&self, label: &Name) -> Option<u32>
-        ensures place { IfSome result (λ place. place ≡ place_of (labels self.now) label.now.items) }
+        ensures place { IfSome result (λ place. place ≡
+            place_of (labels self.now) label.now.items) }
         ensures within { IfSome result (λ place. (place < length self.now) × (place < 1000)) }
-        ensures absent { IfNone result (slice_get self.now (place_of (labels self.now) label.now.items) ≡ None) }
+        ensures absent { IfNone result (slice_get self.now
+            (place_of (labels self.now) label.now.items) ≡ None) }
     {
         match self.label_names.find(label) {
             Some(place) => Some(place as u32),
@@ -114,7 +116,8 @@ impl Updates {
     pub(crate) fn answer(&mut self, place: u32, choice: Choice) -> Result<(), Memory>
         requires there { place < length self.old }
         requires room { answer_count self.old < 20000 }
-        ensures ok { OnOk result ((u : UpdateMeant) → slice_get self.old place ≡ Some u → self.new ≡ slice_set self.old place (with_answer u (choice_of choice))) }
+        ensures ok { OnOk result ((u : UpdateMeant) → slice_get self.old place ≡ Some u →
+            self.new ≡ slice_set self.old place (with_answer u (choice_of choice))) }
         ensures err { OnErr result (self.new ≡ self.old) }
     {
         self.updates[place as usize].answers.push(choice)?;

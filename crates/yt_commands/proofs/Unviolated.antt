@@ -12,9 +12,9 @@ use Rattle.yt_commands.specs.Commands.{unless_violated}
 use Rattle.yt_commands.specs.Violations.{violated_of}
 use Rattle.yt_commands.specs.declared.base.Violated.{Violated}
 
-pub unviolated : {E : Type 0} (s : SessionData) (make : ResultTold → OutputView) (r : Result Output E) (found : Option Violated) (told : ResultTold) (n steps : ℕ)
-    → IfOk r (λ output. view_of output ≡ make told) → told ≡ serial_told n s → n ≡ steps → option_map violated_of found ≡ base_violation s → found ≡ None
+pub unviolated : {E : Type 0} (s : SessionData) (make : ResultTold → OutputView) (r : Result Output E) (found : Option Violated) (told : ResultTold) (steps : ℕ)
+    → IfOk r (λ output. view_of output ≡ make told) → told ≡ serial_told steps s → option_map violated_of found ≡ base_violation s → found ≡ None
     → IfOk r (λ output. view_of output ≡ unless_violated s (make (serial_told steps s)) (base_violation s))
-unviolated s make r found told n steps made ran budget base none =
+unviolated s make r found told steps made ran base none =
     IfOk-weaker r _ _
-    (λ output is. is ∙ (ap make (ran ∙ ap (λ k. serial_told k s) budget) ∙ ap (unless_violated s (make (serial_told steps s))) (sym (ap (option_map violated_of) none) ∙ base))) made
+    (λ output is. is ∙ (ap make ran ∙ ap (unless_violated s (make (serial_told steps s))) (sym (ap (option_map violated_of) none) ∙ base))) made

@@ -2,3 +2,4 @@ pub mod Base
 pub mod Commands
 pub mod Runs
 pub mod Violations
+pub mod Written

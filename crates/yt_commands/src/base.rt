@@ -30,7 +30,8 @@ fn violated_by<'a, F: Facts>(
     base: &F,
     mapping: &'a Mapping,
 ) -> Result<Option<Violated<'a>>, Memory>
-    ensures { IfOk result (λ found. option_map violated_of found ≡ violated_by (F.tuples base.now) (session_mapping_of mapping.now)) }
+    ensures { IfOk result (λ found. option_map violated_of found ≡
+        violated_by (F.tuples base.now) (session_mapping_of mapping.now)) }
 {
     if mapping.since != 0 {
         return Ok(None);
@@ -50,7 +51,8 @@ fn first_violated<'a, F: Facts>(
     base: &F,
     mappings: &'a [Mapping],
 ) -> Result<Option<Violated<'a>>, Memory>
-    ensures { IfOk result (λ found. option_map violated_of found ≡ first_violated (F.tuples base.now) (map session_mapping_of mappings.now)) }
+    ensures { IfOk result (λ found. option_map violated_of found ≡
+        first_violated (F.tuples base.now) (map session_mapping_of mappings.now)) }
 {
     for mapping in mappings {
         if let Some(violated) = violated_by(alloc, base, mapping)? {
@@ -67,7 +69,8 @@ pub(crate) fn base_violation<'a>(
     base: &IndexedFacts,
 ) -> Result<Option<Violated<'a>>, Memory>
     requires { base.now ≡ (session_of session.now).base }
-    ensures { IfOk result (λ found. option_map violated_of found ≡ base_violation (session_of session.now)) }
+    ensures { IfOk result (λ found. option_map violated_of found ≡
+        base_violation (session_of session.now)) }
 {
     first_violated(alloc, base, session.mappings.as_slice())
 }
@@ -79,7 +82,9 @@ fn push_others(
     schema: &Schema,
     tuples: &[Tuple],
 ) -> Result<(), Memory>
-    ensures { OnOk result (line.new.items ≡ line.old.items ++ flat_map (λ t. 44 ∷ 32 ∷ tuple_text schema.now false t) (map fact_of tuples.now)) }
+    ensures { OnOk result (line.new.items ≡
+        line.old.items ++ flat_map (λ t. 44 ∷ 32 ∷ tuple_text schema.now false t)
+        (map fact_of tuples.now)) }
 {
     for tuple in tuples {
         line.extend_from_slice(b", ")?;
@@ -95,7 +100,8 @@ fn push_tuples(
     schema: &Schema,
     tuples: &[Tuple],
 ) -> Result<(), Memory>
-    ensures { OnOk result (line.new.items ≡ line.old.items ++ joined_text (tuple_text schema.now false) (map fact_of tuples.now)) }
+    ensures { OnOk result (line.new.items ≡
+        line.old.items ++ joined_text (tuple_text schema.now false) (map fact_of tuples.now)) }
 {
     match tuples {
         [] => Ok(()),
@@ -125,7 +131,8 @@ pub(crate) fn base_refusal(
     schema: &Schema,
     violated: &Violated<'_>,
 ) -> Result<Output, Memory>
-    ensures { IfOk result (λ output. view_of output ≡ Refused Refusal.BaseViolates (base_line schema.now (violated_of violated.now))) }
+    ensures { IfOk result (λ output. view_of output ≡
+        Refused Refusal.BaseViolates (base_line schema.now (violated_of violated.now))) }
 {
     Ok(Output::Refused(Refusal::BaseViolates, base_line(alloc, schema, violated)?))
 }

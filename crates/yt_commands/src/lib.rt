@@ -6,13 +6,13 @@
 #![tactic(auto)]
 
 mod base;
-mod budget;
 mod counts;
+mod laws;
 mod reading;
 mod runs;
 mod sessions;
 
-pub use crate::budget::Budget;
+pub use crate::laws::runs_write_what_holds;
 pub use crate::reading::{OnSession, SessionCommand};
 pub use crate::runs::{Save, Serial};
 pub use crate::sessions::{Check, Format, Upgrade};

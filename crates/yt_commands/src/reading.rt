@@ -23,7 +23,8 @@ pub trait SessionCommand {
     /// The output for a valid session. Memory for the whole of it is taken here.
     fn make(&self, alloc: Global, session: Session) -> Result<Output, Memory>
         requires valid { IsSession (session_of session) }
-        ensures output { IfOk result (λ output. view_of output ≡ makes self.now (session_of session)) };
+        ensures output { IfOk result (λ output. view_of output ≡
+            makes self.now (session_of session)) };
 }
 
 /// A command on the session that the input spells. An input that spells none is refused with its first fault.

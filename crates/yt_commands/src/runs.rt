@@ -7,11 +7,11 @@ ghost use Rattle.yt_session.specs.Meanings.{session_of};
 ghost use Rattle.yt_commands.specs.Runs.{ending_by, kept, ran, result_output, saved_output, too_large_line};
 
 use crate::base::{base_refusal, base_violation};
-use crate::budget::Budget;
 use crate::reading::SessionCommand;
 use std::alloc::Global;
 use yt_base::Memory;
 use yt_command::{Ending, Output, Refusal};
+use yt_limits::Budget;
 use yt_print::print_session;
 use yt_program::SessionResult;
 use yt_report::{SaveRefusal, result_text, saved};
@@ -45,7 +45,8 @@ fn ending_by(told: &SessionResult) -> Ending
 
 // What is printed of a run.
 fn result_output(alloc: Global, session: &Session, told: &SessionResult) -> Result<Output, Memory>
-    ensures { IfOk result (λ output. view_of output ≡ result_output (session_of session.now) (result_of told.now)) }
+    ensures { IfOk result (λ output. view_of output ≡
+        result_output (session_of session.now) (result_of told.now)) }
 {
     let text = result_text(alloc, session, told)?;
     Ok(Output::Text(ending_by(told), text))
@@ -62,7 +63,8 @@ fn too_large_line(alloc: Global) -> Result<Vec<u8>, Memory>
 
 // What is saved of a run.
 fn saved_output(alloc: Global, session: Session, told: &SessionResult) -> Result<Output, Memory>
-    ensures { IfOk result (λ output. view_of output ≡ saved_output (session_of session) (result_of told.now)) }
+    ensures { IfOk result (λ output. view_of output ≡
+        saved_output (session_of session) (result_of told.now)) }
 {
     match saved(alloc, session, told) {
         Ok(begun) => Ok(Output::Text(ending_by(told), print_session(alloc, &begun)?)),
@@ -82,7 +84,7 @@ impl SessionCommand for Serial {
         if let Some(violated) = base_violation(alloc, &session, &base)? {
             return base_refusal(alloc, &session.schema, &violated);
         }
-        let told = serial_over(alloc, &session, base, self.budget.steps())?;
+        let told = serial_over(alloc, &session, base, self.budget)?;
         result_output(alloc, &session, &told)
     }
 }
@@ -95,7 +97,7 @@ impl SessionCommand for Save {
         if let Some(violated) = base_violation(alloc, &session, &base)? {
             return base_refusal(alloc, &session.schema, &violated);
         }
-        let told = serial_over(alloc, &session, base, self.budget.steps())?;
+        let told = serial_over(alloc, &session, base, self.budget)?;
         saved_output(alloc, session, &told)
     }
 }

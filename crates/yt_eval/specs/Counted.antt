@@ -1,6 +1,13 @@
 -- Which violations count, in the terms of the definitions of the chase.
-use Rattle.yt_model.specs.Violations.{Scope, Every, Caused}
+use Rattle.std.specs.Prelude.{◌≡◌, List, Option}
+use Rattle.yt_model.specs.Values.{Fact}
+use Rattle.yt_model.specs.Repository.{Change}
+use Rattle.yt_model.specs.Mappings.{Rule}
+use Rattle.yt_model.specs.Queries.{Reply, violation_reply}
+use Rattle.yt_model.specs.Violations.{Scope, Every, Caused, first_violation}
 use Rattle.yt_base.specs.Meanings.{heading_of}
+use Rattle.yt_violation.specs.Scopes.{scope_of, own_of}
+use Rattle.yt_violation.specs.declared.scope.Scope.{Scope as ScopeOfProgram}
 use Rattle.yt_eval.specs.declared.scopes.Counted.{Counted}
 use Rattle.yt_eval.specs.declared.scopes.Counted.TheVariants.{Every as EveryOfProgram, Caused as CausedOfProgram}
 
@@ -8,3 +15,12 @@ use Rattle.yt_eval.specs.declared.scopes.Counted.TheVariants.{Every as EveryOfPr
 abbrev pub scope_meant : Counted → Scope
 scope_meant EveryOfProgram = Every
 scope_meant (CausedOfProgram direction) = Caused (heading_of direction)
+
+-- By what counts here, the first violation of a mapping is that in this scope of these own writes.
+abbrev pub CountsAs : Scope → List Change → ScopeOfProgram → Type 0
+CountsAs scope own here =
+    (m : Rule) (E : List Fact) → first_violation (scope_of here) (own_of here) m E ≡ first_violation scope own m E
+
+-- The answer to the query for a first violation, by what counts here.
+abbrev pub reply_in : ScopeOfProgram → Option Rule → List Fact → Reply
+reply_in here m E = violation_reply m (scope_of here) (own_of here) E

@@ -2,6 +2,9 @@
 use Rattle.std.specs.Prelude.{List, ◌++◌}
 use Rattle.yt_model.specs.Values.{Fact}
 use Rattle.yt_model.specs.Repository.{Change}
+use Rattle.yt_model.specs.Mappings.{Rule}
+use Rattle.yt_model.specs.Queries.{Query, Reply, value}
+use Rattle.yt_model.specs.Violations.{Scope}
 
 -- The tuples below the own writes, and the own writes in turn.
 pub record Seen : Type 0 where
@@ -11,3 +14,7 @@ pub record Seen : Type 0 where
 -- What is seen after these own writes more.
 abbrev pub written : Seen → List Change → Seen
 written seen more = record { below = seen.below; own = seen.own ++ more }
+
+-- The value of the query there, where violations of this scope count.
+abbrev pub value_seen : List Rule → Query → Seen → Scope → Reply
+value_seen ms q seen scope = value ms q seen.below seen.own scope

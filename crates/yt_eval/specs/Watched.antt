@@ -1,10 +1,10 @@
 -- What a contract sees of a watched view, which writes may give a mapping a violation, and which mappings have none.
-use Rattle.std.specs.Prelude.{◌≡◌, ℕ, ◌==◌, Bool, true, false, ◌||◌, List, ◌++◌, Option, Some, None, slice_index_or}
-use Rattle.std.specs.List.{list_any}
+use Rattle.std.specs.Prelude.{◌≡◌, ℕ, ◌==◌, Bool, true, false, not, ◌||◌, ◌&&◌, List, [], ◌++◌, Option, Some, None, slice_index_or}
+use Rattle.std.specs.List.{list_any, slice_get}
 use Rattle.yt_model.specs.Values.{Fact}
 use Rattle.yt_model.specs.Repository.{Change, Insert, Delete}
 use Rattle.yt_model.specs.Mappings.{Rule, force_relation}
-use Rattle.yt_model.specs.Queries.{Violation, Nothing, value}
+use Rattle.yt_model.specs.Queries.{Query, Reply, Violation, Nothing, value}
 use Rattle.yt_model.specs.Violations.{Direction, Caused}
 
 -- The mappings, the direction in which violations are caused, the tuples below the own writes, and the own writes in turn.
@@ -18,6 +18,14 @@ pub record Watched : Type 0 where
 abbrev pub watched_on : Watched → List Change → Watched
 watched_on w more = record { rules = w.rules; heading = w.heading; below = w.below; own = w.own ++ more }
 
+-- What is seen before any own write.
+abbrev pub watched_from : List Rule → Direction → List Fact → Watched
+watched_from ms d E = record { rules = ms; heading = d; below = E; own = [] }
+
+-- The value of the query in the view.
+abbrev pub value_in : Watched → Query → Reply
+value_in w q = value w.rules q w.below w.own (Caused w.heading)
+
 -- The relation of the tuple that is written.
 abbrev pub relation_in : Change → ℕ
 relation_in (Insert t) = t.relation
@@ -28,6 +36,14 @@ abbrev pub touches : Change → Option Rule → Bool
 touches w None = false
 touches (Insert t) (Some m) = list_any (λ a. a.relation == t.relation) m.left
 touches (Delete t) (Some m) = list_any (λ a. a.relation == t.relation) m.right
+
+-- The mapping of this number has lost its mark if it is touched.
+abbrev pub LosesMark : Bool → ℕ → List Bool → List Bool → Type 0
+LosesMark touched n marks marks' = slice_index_or marks' n false ≡ (slice_index_or marks n false && not touched)
+
+-- Each mapping that is touched has lost its mark, and no other.
+abbrev pub LoseMarks : (Option Rule → Bool) → List Rule → List Bool → List Bool → Type 0
+LoseMarks touched ms marks marks' = (n : ℕ) → LosesMark (touched (slice_get ms n)) n marks marks'
 
 -- The write may put a mapping in force.
 abbrev pub may_enact : Change → Bool

@@ -14,7 +14,8 @@ pub(crate) fn occurrences<F: Facts>(
     place: u32,
     facts: &F,
 ) -> Result<TupleList, Memory>
-    ensures value { IfOk result (λ found. map fact_of found.items ≡ filter (holds_null_lem update place) (F.tuples facts.now)) }
+    ensures value { IfOk result (λ found. map fact_of found.items ≡
+        filter (holds_null_lem update place) (F.tuples facts.now)) }
 {
     let mut found = List::new(alloc);
     let mut cursor = facts.beyond(None);

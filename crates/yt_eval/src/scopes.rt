@@ -1,18 +1,17 @@
 //! Which violations count at a query, and the first of them.
-ghost use Rattle.std.specs.Prelude.{◌≡◌, ◌||◌, [], ◌∷◌, List, map, pos, IfOk};
+ghost use Rattle.std.specs.Prelude.{◌≡◌, ◌||◌, [], ◌∷◌, map, pos, IfOk};
 ghost use Rattle.std.specs.Bool.{Decides};
 ghost use Rattle.std.specs.List.{list_any};
 ghost use Rattle.std.specs.Option.{option_map, option_copied};
-ghost use Rattle.yt_model.specs.Values.{Fact, Number, same_fact};
+ghost use Rattle.yt_model.specs.Values.{Number, same_fact};
 ghost use Rattle.yt_model.specs.Repository.{inserts};
-ghost use Rattle.yt_model.specs.Mappings.{Rule, force};
-ghost use Rattle.yt_model.specs.Violations.{first_violation as first_violation_lem};
-ghost use Rattle.yt_model.specs.Queries.{scope_at as scope_at_lem, violation_reply};
+ghost use Rattle.yt_model.specs.Mappings.{force};
+ghost use Rattle.yt_model.specs.Queries.{scope_at as scope_at_lem};
 ghost use Rattle.yt_base.specs.Meanings.{datum_of, fact_of, change_of, rule_of};
 ghost use Rattle.yt_query.specs.Meanings.{reply_of};
-ghost use Rattle.yt_violation.specs.Scopes.{scope_of, own_of};
-ghost use Rattle.yt_eval.specs.Counted.{scope_meant};
+ghost use Rattle.yt_eval.specs.Counted.{scope_meant, CountsAs, reply_in};
 ghost use Rattle.yt_eval.specs.Watched.{AreForceless, may_enact, relation_in};
+ghost use Rattle.yt_base.specs.Contents.{changes_of};
 
 use std::alloc::Global;
 use yt_base::{Direction, Facts, Mapping, Memory, Tuple, Value, Write, WriteList};
@@ -49,8 +48,9 @@ pub(crate) fn enacts_with(enacts: bool, write: &Write) -> bool
 /// Which violations of the mapping of this number count: forward, every one where the own writes put it in force.
 /// `enacts` says whether one of them may put any mapping in force.
 pub(crate) fn scope_at(counted: Counted, own: &WriteList, enacts: bool, number: u16) -> Scope<'_>
-    requires { AreForceless enacts (map change_of own.now.items) }
-    ensures same { (m : Rule) (E : List Fact) → first_violation_lem (scope_of result) (own_of result) m E ≡ first_violation_lem (scope_at_lem (scope_meant counted) (map change_of own.now.items) number) (map change_of own.now.items) m E }
+    requires { AreForceless enacts (changes_of own.now) }
+    ensures same { CountsAs (scope_at_lem (scope_meant counted) (changes_of own.now) number)
+        (changes_of own.now) result }
 {
     match counted {
         Counted::Every => Scope::All,
@@ -67,15 +67,15 @@ pub(crate) fn scope_at(counted: Counted, own: &WriteList, enacts: bool, number: 
 
 // Whether a write puts the mapping of this number in force. Only where one may put any in force are they gone over.
 fn is_put_in_force(writes: &WriteList, enacts: bool, number: u16) -> bool
-    requires { AreForceless enacts (map change_of writes.now.items) }
-    ensures answer { result ≡ list_any (inserts (force number)) (map change_of writes.now.items) }
+    requires { AreForceless enacts (changes_of writes.now) }
+    ensures answer { result ≡ list_any (inserts (force number)) (changes_of writes.now) }
 {
     enacts && puts_in_force(writes, number)
 }
 
 // Whether a write puts the mapping of this number in force.
 fn puts_in_force(writes: &WriteList, number: u16) -> bool
-    ensures answer { result ≡ list_any (inserts (force number)) (map change_of writes.now.items) }
+    ensures answer { result ≡ list_any (inserts (force number)) (changes_of writes.now) }
 {
     writes
         .as_slice()
@@ -116,7 +116,9 @@ pub(crate) fn first_image<F: Facts>(
     facts: &F,
     scope: Scope<'_>,
 ) -> Result<Answer, Memory>
-    ensures value { IfOk result (λ answer. reply_of answer ≡ violation_reply (option_map rule_of (option_copied mapping.entry)) (scope_of scope.entry) (own_of scope.entry) (F.tuples facts.now)) }
+    ensures value { IfOk result (λ answer. reply_of answer ≡
+        reply_in scope.entry (option_map rule_of (option_copied mapping.entry))
+        (F.tuples facts.now)) }
 {
     let Some(mapping) = mapping else {
         return Ok(Answer::Nothing);

@@ -1,8 +1,9 @@
 //! Which mappings are settled: nothing that was written since they were last looked at can have given them a violation.
-ghost use Rattle.std.specs.Prelude.{◌≡◌, ◌==◌, ℕ, ◌&&◌, true, false, Some, not, slice_index_or, slice_set, replicate, map, IfOk};
-ghost use Rattle.std.specs.List.{list_any, slice_get};
+ghost use Rattle.std.specs.Prelude.{◌≡◌, ◌==◌, ℕ, true, false, Some, slice_index_or, slice_set, replicate, map, IfOk};
+ghost use Rattle.std.specs.List.{list_any};
 ghost use Rattle.yt_base.specs.Meanings.{change_of, pattern_of, rule_of};
-ghost use Rattle.yt_eval.specs.Watched.{stirs, touches as touches_lem};
+ghost use Rattle.yt_eval.specs.Watched.{stirs, touches as touches_lem, LoseMarks, LosesMark};
+ghost use Rattle.yt_base.specs.Contents.{rules_in};
 
 use crate::scopes::{FORCE_RELATION, relation_of};
 use std::alloc::Global;
@@ -60,7 +61,8 @@ impl Settled {
     /// Stirs the mappings to which the write may give a violation: by an insertion those with an atom of its relation on
     /// the left, by a deletion those with one on the right, and all of them where it may put a mapping in force.
     pub fn stir(&mut self, mappings: &MappingList, write: &Write)
-        ensures left { (n : ℕ) → slice_index_or self.new n false ≡ (slice_index_or self.old n false && not (stirs (change_of write.now) (slice_get (map rule_of mappings.now.items) n))) }
+        ensures left { LoseMarks (stirs (change_of write.now))
+            (rules_in mappings.now) self.old self.new }
     {
         if relation_of(write) == FORCE_RELATION {
             self.marks.fill(false);
@@ -71,7 +73,8 @@ impl Settled {
 
     // Stirs the mappings that the write touches.
     fn stir_touched(&mut self, mappings: &MappingList, write: &Write)
-        ensures left { (n : ℕ) → slice_index_or self.new n false ≡ (slice_index_or self.old n false && not (touches_lem (change_of write.now) (slice_get (map rule_of mappings.now.items) n))) }
+        ensures left { LoseMarks (touches_lem (change_of write.now))
+            (rules_in mappings.now) self.old self.new }
     {
         for (number, mapping) in mappings.as_slice().iter().enumerate() {
             self.stir_one(number, mapping, write);
@@ -80,8 +83,10 @@ impl Settled {
 
     // Stirs the mapping, of this number, if the write touches it.
     fn stir_one(&mut self, number: usize, mapping: &Mapping, write: &Write)
-        ensures mark { slice_index_or self.new number false ≡ (slice_index_or self.old number false && not (touches_lem (change_of write.now) (Some (rule_of mapping.now)))) }
-        ensures others { (n : ℕ) → (n ≡ number → ⊥) → slice_index_or self.new n false ≡ slice_index_or self.old n false }
+        ensures mark { LosesMark (touches_lem (change_of write.now)
+            (Some (rule_of mapping.now))) number self.old self.new }
+        ensures others { (n : ℕ) → (n ≡ number → ⊥) →
+            slice_index_or self.new n false ≡ slice_index_or self.old n false }
     {
         if touches(mapping, write) {
             self.unsettle(number);

@@ -1,9 +1,10 @@
 //! The value of a single query.
-ghost use Rattle.std.specs.Prelude.{◌≡◌, map, IfOk};
+ghost use Rattle.std.specs.Prelude.{◌≡◌, IfOk};
 ghost use Rattle.yt_model.specs.Queries.{value};
 ghost use Rattle.yt_model.specs.Violations.{Every, Caused};
-ghost use Rattle.yt_base.specs.Meanings.{rule_of, change_of, heading_of};
+ghost use Rattle.yt_base.specs.Meanings.{heading_of};
 ghost use Rattle.yt_query.specs.Meanings.{query_of, reply_of};
+ghost use Rattle.yt_base.specs.Contents.{changes_of, rules_in};
 
 use crate::view::View;
 use std::alloc::Global;
@@ -21,7 +22,9 @@ pub fn eval<F: Facts>(
     own: &WriteList,
     direction: Direction,
 ) -> Result<Answer, Memory>
-    ensures value { IfOk result (λ answer. reply_of answer ≡ value (map rule_of mappings.now.items) (query_of query.now) (F.tuples facts.now) (map change_of own.now.items) (Caused (heading_of direction))) }
+    ensures value { IfOk result (λ answer. reply_of answer ≡
+        value (rules_in mappings.now) (query_of query.now)
+        (F.tuples facts.now) (changes_of own.now) (Caused (heading_of direction))) }
 {
     let mut view = View::new(alloc, facts);
     view.write_all(alloc, own.as_slice())?;
@@ -37,7 +40,9 @@ pub fn eval_all<F: Facts>(
     facts: &F,
     own: &WriteList,
 ) -> Result<Answer, Memory>
-    ensures value { IfOk result (λ answer. reply_of answer ≡ value (map rule_of mappings.now.items) (query_of query.now) (F.tuples facts.now) (map change_of own.now.items) Every) }
+    ensures value { IfOk result (λ answer. reply_of answer ≡
+        value (rules_in mappings.now) (query_of query.now)
+        (F.tuples facts.now) (changes_of own.now) Every) }
 {
     let mut view = View::new(alloc, facts);
     view.write_all(alloc, own.as_slice())?;

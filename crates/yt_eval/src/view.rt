@@ -3,10 +3,11 @@ ghost use Rattle.std.specs.Prelude.{◌≡◌, ◌∷◌, [], if◌then◌else�
 ghost use Rattle.yt_model.specs.Queries.{value, Yes, No};
 ghost use Rattle.yt_model.specs.Repository.{has};
 ghost use Rattle.yt_model.specs.Violations.{Every, Caused};
-ghost use Rattle.yt_base.specs.Meanings.{fact_of, rule_of, change_of, heading_of};
+ghost use Rattle.yt_base.specs.Meanings.{fact_of, change_of, heading_of};
 ghost use Rattle.yt_query.specs.Meanings.{query_of, reply_of};
 ghost use Rattle.yt_eval.specs.Counted.{scope_meant};
-ghost use Rattle.yt_eval.specs.Seen.{written};
+ghost use Rattle.yt_eval.specs.Seen.{written, value_seen};
+ghost use Rattle.yt_base.specs.Contents.{rules_in};
 
 use crate::occurrences::occurrences;
 use crate::scopes::{Counted, enacts_with, first_image, scope_at};
@@ -90,7 +91,9 @@ impl<'a, F: Facts> View<'a, F> {
         direction: Direction,
         alloc: Global,
     ) -> Result<Answer, Memory>
-        ensures value { IfOk result (λ answer. reply_of answer ≡ value (map rule_of mappings.now.items) (query_of query.now) self.now.below self.now.own (Caused (heading_of direction))) }
+        ensures value { IfOk result (λ answer. reply_of answer ≡
+            value_seen (rules_in mappings.now) (query_of query.now) self.now
+            (Caused (heading_of direction))) }
     {
         self.value(query, mappings, Counted::Caused(direction), alloc)
     }
@@ -103,7 +106,8 @@ impl<'a, F: Facts> View<'a, F> {
         mappings: &MappingList,
         alloc: Global,
     ) -> Result<Answer, Memory>
-        ensures value { IfOk result (λ answer. reply_of answer ≡ value (map rule_of mappings.now.items) (query_of query.now) self.now.below self.now.own Every) }
+        ensures value { IfOk result (λ answer. reply_of answer ≡
+            value_seen (rules_in mappings.now) (query_of query.now) self.now Every) }
     {
         self.value(query, mappings, Counted::Every, alloc)
     }
@@ -116,7 +120,9 @@ impl<'a, F: Facts> View<'a, F> {
         counted: Counted,
         alloc: Global,
     ) -> Result<Answer, Memory>
-        ensures value { IfOk result (λ answer. reply_of answer ≡ value (map rule_of mappings.now.items) (query_of query.now) self.now.below self.now.own (scope_meant counted)) }
+        ensures value { IfOk result (λ answer. reply_of answer ≡
+            value_seen (rules_in mappings.now) (query_of query.now) self.now
+            (scope_meant counted)) }
     {
         match query {
             Query::Present(tuple) => Ok(presence(tuple, &self.overlay)),
@@ -138,7 +144,8 @@ impl<'a, F: Facts> View<'a, F> {
 
 // Whether the tuple is in the set.
 fn presence<F: Facts>(tuple: &Tuple, facts: &F) -> Answer
-    ensures answer { reply_of result ≡ (if has (F.tuples facts.now) (fact_of tuple.now) then Yes else No) }
+    ensures answer { reply_of result ≡ (if has (F.tuples facts.now)
+        (fact_of tuple.now) then Yes else No) }
 {
     if facts.contains(tuple) {
         Answer::Yes

@@ -1,10 +1,10 @@
 //! A set of tuples as one update sees it, that does not look again where nothing can have changed.
 ghost use Rattle.std.specs.Prelude.{◌≡◌, ◌∷◌, [], true, map, IfOk, OnErr, OnOk};
 ghost use Rattle.yt_model.specs.Queries.{value, Nothing};
-ghost use Rattle.yt_model.specs.Violations.{Caused};
 ghost use Rattle.yt_base.specs.Meanings.{rule_of, change_of, heading_of};
 ghost use Rattle.yt_query.specs.Meanings.{query_of, reply_of};
-ghost use Rattle.yt_eval.specs.Watched.{watched_on, AreSettled};
+ghost use Rattle.yt_eval.specs.Watched.{watched_on, AreSettled, value_in, watched_from};
+ghost use Rattle.yt_base.specs.Contents.{rules_in};
 
 use crate::settled::Settled;
 use crate::view::View;
@@ -44,7 +44,8 @@ impl<'a, F: Facts> WatchedView<'a, F> {
         mappings: &'a MappingList,
         direction: Direction,
     ) -> Result<WatchedView<'a, F>, Memory>
-        ensures before { IfOk result (λ view. view ≡ record { rules = map rule_of mappings.now.items; heading = heading_of direction; below = F.tuples below.now; own = [] }) }
+        ensures before { IfOk result (λ view. view ≡
+            watched_from (rules_in mappings.now) (heading_of direction) (F.tuples below.now)) }
     {
         let settled = Settled::all(alloc, mappings.len())?;
         Ok(WatchedView {
@@ -79,7 +80,8 @@ impl<'a, F: Facts> WatchedView<'a, F> {
     /// Forward, a mapping that they put in force is looked at whole; one that is not in the list has no violation. It
     /// is refused only for want of memory.
     pub fn eval(&mut self, query: &Query, alloc: Global) -> Result<Answer, Memory>
-        ensures value { IfOk result (λ answer. reply_of answer ≡ value self.old.rules (query_of query.now) self.old.below self.old.own (Caused self.old.heading)) }
+        ensures value { IfOk result (λ answer. reply_of answer ≡
+            value_in self.old (query_of query.now)) }
         ensures same { self.new ≡ self.old }
     {
         if self.is_settled(query) {
@@ -101,7 +103,7 @@ impl<'a, F: Facts> WatchedView<'a, F> {
 
     // Whether the query asks for the first violation of a settled mapping.
     fn is_settled(&self, query: &Query) -> bool
-        ensures nothing { result ≡ true → value self.now.rules (query_of query.now) self.now.below self.now.own (Caused self.now.heading) ≡ Nothing }
+        ensures nothing { result ≡ true → value_in self.now (query_of query.now) ≡ Nothing }
     {
         match query {
             Query::Violation(number) => self.settled.has(*number),
@@ -113,7 +115,7 @@ impl<'a, F: Facts> WatchedView<'a, F> {
 
     // Settles the mapping whose first violation the query asks for, if there is one.
     fn settle(&mut self, query: &Query)
-        requires nothing { value self.old.rules (query_of query.now) self.old.below self.old.own (Caused self.old.heading) ≡ Nothing }
+        requires nothing { value_in self.old (query_of query.now) ≡ Nothing }
         ensures same { self.new ≡ self.old }
     {
         match query {

@@ -34,7 +34,8 @@ impl<'a> Words<'a> {
 
     /// The first word, and those behind it; nothing where none is left.
     pub fn split_first(self) -> Option<(Word<'a>, Words<'a>)>
-        ensures { MatchOption result (words_of self.entry ≡ []) (λ x. words_of self.entry ≡ word_of x.0 ∷ words_of x.1) }
+        ensures { MatchOption result (words_of self.entry ≡ [])
+            (λ x. words_of self.entry ≡ word_of x.0 ∷ words_of x.1) }
     {
         let Some(token) = next_token(self.line, self.place) else {
             return None;

@@ -18,7 +18,8 @@ use yt_schema::{RawAtom, RawAtomList};
 // An atom of the left side, whether a comma stands behind it, and what stands behind that or the arrow.
 #[tactic(auto, unfolding(yt_grammar::specs::Parts::left_atom))]
 fn left_atom(alloc: Global, words: Words<'_>) -> Result<(RawAtom, bool, Words<'_>), FormRefusal>
-    ensures gives { Gives (λ x. (atom_meant x.0, x.1, words_of x.2)) result (left_atom (words_of words.entry)) }
+    ensures gives { Gives (λ x. (atom_meant x.0, x.1, words_of x.2)) result
+        (left_atom (words_of words.entry)) }
     ensures shorter { IfOk result (λ x. length (words_of x.2) < length (words_of words.entry)) }
 {
     let (atom, others) = atom_at(alloc, words)?;
@@ -32,7 +33,8 @@ fn left_atom(alloc: Global, words: Words<'_>) -> Result<(RawAtom, bool, Words<'_
 // An atom of the right side, whether a comma stands behind it, and what stands behind that.
 #[tactic(auto, unfolding(yt_grammar::specs::Parts::right_atom))]
 fn right_atom(alloc: Global, words: Words<'_>) -> Result<(RawAtom, bool, Words<'_>), FormRefusal>
-    ensures gives { Gives (λ x. (atom_meant x.0, x.1, words_of x.2)) result (right_atom (words_of words.entry)) }
+    ensures gives { Gives (λ x. (atom_meant x.0, x.1, words_of x.2)) result
+        (right_atom (words_of words.entry)) }
     ensures shorter { IfOk result (λ x. length (words_of x.2) < length (words_of words.entry)) }
 {
     let (atom, others) = atom_at(alloc, words)?;
@@ -46,7 +48,8 @@ fn right_atom(alloc: Global, words: Words<'_>) -> Result<(RawAtom, bool, Words<'
 // A fact of an answer, likewise.
 #[tactic(auto, unfolding(yt_grammar::specs::Parts::last_fact))]
 fn last_fact(alloc: Global, words: Words<'_>) -> Result<(RawFact, bool, Words<'_>), FormRefusal>
-    ensures gives { Gives (λ x. (fact_meant x.0, x.1, words_of x.2)) result (last_fact (words_of words.entry)) }
+    ensures gives { Gives (λ x. (fact_meant x.0, x.1, words_of x.2)) result
+        (last_fact (words_of words.entry)) }
     ensures shorter { IfOk result (λ x. length (words_of x.2) < length (words_of words.entry)) }
 {
     let (fact, others) = fact_at(alloc, words)?;
@@ -58,7 +61,8 @@ fn last_fact(alloc: Global, words: Words<'_>) -> Result<(RawFact, bool, Words<'_
 }
 
 fn left_atoms(alloc: Global, words: Words<'_>) -> Result<(RawAtomList, Words<'_>), FormRefusal>
-    ensures gives { Gives (λ x. (map atom_meant x.0.items, words_of x.1)) result (many (length (words_of words.entry)) left_atom (words_of words.entry)) }
+    ensures gives { Gives (λ x. (map atom_meant x.0.items, words_of x.1)) result
+        (many (length (words_of words.entry)) left_atom (words_of words.entry)) }
     ensures shorter { IfOk result (λ x. length (words_of x.1) ≤ length (words_of words.entry)) }
 {
     let mut found = List::new(alloc);
@@ -74,7 +78,8 @@ fn left_atoms(alloc: Global, words: Words<'_>) -> Result<(RawAtomList, Words<'_>
 }
 
 fn right_atoms(alloc: Global, words: Words<'_>) -> Result<(RawAtomList, Words<'_>), FormRefusal>
-    ensures gives { Gives (λ x. (map atom_meant x.0.items, words_of x.1)) result (many (length (words_of words.entry)) right_atom (words_of words.entry)) }
+    ensures gives { Gives (λ x. (map atom_meant x.0.items, words_of x.1)) result
+        (many (length (words_of words.entry)) right_atom (words_of words.entry)) }
     ensures shorter { IfOk result (λ x. length (words_of x.1) ≤ length (words_of words.entry)) }
 {
     let mut found = List::new(alloc);
@@ -90,7 +95,8 @@ fn right_atoms(alloc: Global, words: Words<'_>) -> Result<(RawAtomList, Words<'_
 }
 
 fn last_facts(alloc: Global, words: Words<'_>) -> Result<(RawFactList, Words<'_>), FormRefusal>
-    ensures gives { Gives (λ x. (map fact_meant x.0.items, words_of x.1)) result (many (length (words_of words.entry)) last_fact (words_of words.entry)) }
+    ensures gives { Gives (λ x. (map fact_meant x.0.items, words_of x.1)) result
+        (many (length (words_of words.entry)) last_fact (words_of words.entry)) }
     ensures shorter { IfOk result (λ x. length (words_of x.1) ≤ length (words_of words.entry)) }
 {
     let mut found = List::new(alloc);
@@ -108,7 +114,8 @@ fn last_facts(alloc: Global, words: Words<'_>) -> Result<(RawFactList, Words<'_>
 // The atoms of the left side, and what stands behind the arrow.
 #[tactic(auto, unfolding(yt_grammar::specs::Parts::left_at))]
 fn left_at(alloc: Global, words: Words<'_>) -> Result<(RawAtomList, Words<'_>), FormRefusal>
-    ensures gives { Gives (λ x. (map atom_meant x.0.items, words_of x.1)) result (left_at (words_of words.entry)) }
+    ensures gives { Gives (λ x. (map atom_meant x.0.items, words_of x.1)) result
+        (left_at (words_of words.entry)) }
 {
     match words.split_first() {
         Some((Word::Arrow, rest)) => Ok((List::new(alloc), rest)),
@@ -117,9 +124,9 @@ fn left_at(alloc: Global, words: Words<'_>) -> Result<(RawAtomList, Words<'_>), 
     }
 }
 
-// The atoms of the right side, which ends the line.
+/// The atoms of a right side or of a query's body, to the end of the line.
 #[tactic(auto, unfolding(yt_grammar::specs::Parts::right_at))]
-fn right_at(alloc: Global, words: Words<'_>) -> Result<RawAtomList, FormRefusal>
+pub fn right_at(alloc: Global, words: Words<'_>) -> Result<RawAtomList, FormRefusal>
     ensures gives { Gives (λ x. map atom_meant x.items) result (right_at (words_of words.entry)) }
 {
     match words.split_first() {

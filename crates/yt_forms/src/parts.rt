@@ -25,7 +25,7 @@ fn copied(alloc: Global, bytes: &[u8]) -> Result<Name, Memory>
 
 /// A name, and what stands behind it.
 #[tactic(auto, unfolding(yt_grammar::specs::Parts::name_at))]
-pub(crate) fn name_at(alloc: Global, words: Words<'_>) -> Result<(Name, Words<'_>), FormRefusal>
+pub fn name_at(alloc: Global, words: Words<'_>) -> Result<(Name, Words<'_>), FormRefusal>
     ensures gives { Gives (λ x. (x.0.items, words_of x.1)) result (name_at (words_of words.entry)) }
     ensures shorter { IfOk result (λ x. length (words_of x.1) < length (words_of words.entry)) }
 {
@@ -35,8 +35,9 @@ pub(crate) fn name_at(alloc: Global, words: Words<'_>) -> Result<(Name, Words<'_
     }
 }
 
+/// What stands behind `(`.
 #[tactic(auto, unfolding(yt_grammar::specs::Parts::open_at))]
-fn open_at(words: Words<'_>) -> Result<Words<'_>, FormRefusal>
+pub fn open_at(words: Words<'_>) -> Result<Words<'_>, FormRefusal>
     ensures gives { Gives (λ x. words_of x) result (open_at (words_of words.entry)) }
     ensures shorter { IfOk result (λ x. length (words_of x) < length (words_of words.entry)) }
 {
@@ -46,8 +47,9 @@ fn open_at(words: Words<'_>) -> Result<Words<'_>, FormRefusal>
     }
 }
 
+/// What stands behind `:`.
 #[tactic(auto, unfolding(yt_grammar::specs::Parts::colon_at))]
-pub(crate) fn colon_at(words: Words<'_>) -> Result<Words<'_>, FormRefusal>
+pub fn colon_at(words: Words<'_>) -> Result<Words<'_>, FormRefusal>
     ensures gives { Gives (λ x. words_of x) result (colon_at (words_of words.entry)) }
     ensures shorter { IfOk result (λ x. length (words_of x) < length (words_of words.entry)) }
 {
@@ -99,7 +101,8 @@ fn term_of(alloc: Global, word: Word<'_>) -> Result<RawTerm, FormRefusal>
 // A value, whether a comma stands behind it, and what stands behind that or behind the parenthesis.
 #[tactic(auto, unfolding(yt_grammar::specs::Parts::item_at))]
 fn value_at(alloc: Global, words: Words<'_>) -> Result<(Value, bool, Words<'_>), FormRefusal>
-    ensures gives { Gives (λ x. (datum_of x.0, x.1, words_of x.2)) result (item_at missing.Value value_of (words_of words.entry)) }
+    ensures gives { Gives (λ x. (datum_of x.0, x.1, words_of x.2)) result
+        (item_at missing.Value value_of (words_of words.entry)) }
     ensures shorter { IfOk result (λ x. length (words_of x.2) < length (words_of words.entry)) }
 {
     let Some((word, others)) = words.split_first() else {
@@ -116,7 +119,8 @@ fn value_at(alloc: Global, words: Words<'_>) -> Result<(Value, bool, Words<'_>),
 // A term, likewise.
 #[tactic(auto, unfolding(yt_grammar::specs::Parts::item_at))]
 fn term_at(alloc: Global, words: Words<'_>) -> Result<(RawTerm, bool, Words<'_>), FormRefusal>
-    ensures gives { Gives (λ x. (term_meant x.0, x.1, words_of x.2)) result (item_at missing.Term term_of (words_of words.entry)) }
+    ensures gives { Gives (λ x. (term_meant x.0, x.1, words_of x.2)) result
+        (item_at missing.Term term_of (words_of words.entry)) }
     ensures shorter { IfOk result (λ x. length (words_of x.2) < length (words_of words.entry)) }
 {
     let Some((word, others)) = words.split_first() else {
@@ -131,7 +135,9 @@ fn term_at(alloc: Global, words: Words<'_>) -> Result<(RawTerm, bool, Words<'_>)
 }
 
 fn values_at(alloc: Global, words: Words<'_>) -> Result<(Row, Words<'_>), FormRefusal>
-    ensures gives { Gives (λ x. (map datum_of x.0.items, words_of x.1)) result (many (length (words_of words.entry)) (item_at missing.Value value_of) (words_of words.entry)) }
+    ensures gives { Gives (λ x. (map datum_of x.0.items, words_of x.1)) result
+        (many (length (words_of words.entry)) (item_at missing.Value value_of)
+        (words_of words.entry)) }
     ensures shorter { IfOk result (λ x. length (words_of x.1) ≤ length (words_of words.entry)) }
 {
     let mut found = List::new(alloc);
@@ -147,7 +153,9 @@ fn values_at(alloc: Global, words: Words<'_>) -> Result<(Row, Words<'_>), FormRe
 }
 
 fn terms_at(alloc: Global, words: Words<'_>) -> Result<(RawTermList, Words<'_>), FormRefusal>
-    ensures gives { Gives (λ x. (map term_meant x.0.items, words_of x.1)) result (many (length (words_of words.entry)) (item_at missing.Term term_of) (words_of words.entry)) }
+    ensures gives { Gives (λ x. (map term_meant x.0.items, words_of x.1)) result
+        (many (length (words_of words.entry)) (item_at missing.Term term_of)
+        (words_of words.entry)) }
     ensures shorter { IfOk result (λ x. length (words_of x.1) ≤ length (words_of words.entry)) }
 {
     let mut found = List::new(alloc);
@@ -165,7 +173,8 @@ fn terms_at(alloc: Global, words: Words<'_>) -> Result<(RawTermList, Words<'_>),
 /// A fact, and what stands behind it.
 #[tactic(auto, unfolding(yt_grammar::specs::Parts::fact_at, yt_grammar::specs::Parts::items_at))]
 pub(crate) fn fact_at(alloc: Global, words: Words<'_>) -> Result<(RawFact, Words<'_>), FormRefusal>
-    ensures gives { Gives (λ x. (fact_meant x.0, words_of x.1)) result (fact_at (words_of words.entry)) }
+    ensures gives { Gives (λ x. (fact_meant x.0, words_of x.1)) result
+        (fact_at (words_of words.entry)) }
     ensures shorter { IfOk result (λ x. length (words_of x.1) < length (words_of words.entry)) }
 {
     let (relation, rest) = name_at(alloc, words)?;
@@ -177,7 +186,8 @@ pub(crate) fn fact_at(alloc: Global, words: Words<'_>) -> Result<(RawFact, Words
 /// An atom, and what stands behind it.
 #[tactic(auto, unfolding(yt_grammar::specs::Parts::atom_at, yt_grammar::specs::Parts::items_at))]
 pub(crate) fn atom_at(alloc: Global, words: Words<'_>) -> Result<(RawAtom, Words<'_>), FormRefusal>
-    ensures gives { Gives (λ x. (atom_meant x.0, words_of x.1)) result (atom_at (words_of words.entry)) }
+    ensures gives { Gives (λ x. (atom_meant x.0, words_of x.1)) result
+        (atom_at (words_of words.entry)) }
     ensures shorter { IfOk result (λ x. length (words_of x.1) < length (words_of words.entry)) }
 {
     let (relation, rest) = name_at(alloc, words)?;

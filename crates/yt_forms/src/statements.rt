@@ -26,7 +26,8 @@ fn same_name(name: &[u8], word: &[u8]) -> bool
 
 // The format of a header's number, if there is one.
 fn format_of(number: i64) -> Option<u8>
-    ensures { MatchOption result (is_format number ≡ false) (λ f. (is_format number ≡ true) × (f ≡ natural number)) }
+    ensures { MatchOption result (is_format number ≡ false)
+        (λ f. (is_format number ≡ true) × (f ≡ natural number)) }
 {
     if number == 1 {
         return Some(1);
@@ -220,7 +221,8 @@ fn named_at(
     name: &[u8],
     rest: Words<'_>,
 ) -> Result<RawStatement, FormRefusal>
-    ensures { Gives statement_of result (named_at (section_meant section) format name.now (words_of rest.entry)) }
+    ensures { Gives statement_of result
+        (named_at (section_meant section) format name.now (words_of rest.entry)) }
 {
     if begins(section, name, b"relation", Section::Relations) {
         return relation_at(alloc, rest);
@@ -254,7 +256,8 @@ pub fn statement_at(
     format: u8,
     words: Words<'_>,
 ) -> Result<RawStatement, FormRefusal>
-    ensures exact { Gives statement_of result (statement_at (section_meant section) format (words_of words.entry)) }
+    ensures exact { Gives statement_of result
+        (statement_at (section_meant section) format (words_of words.entry)) }
 {
     if section == Section::Beginning {
         return header_at(words);

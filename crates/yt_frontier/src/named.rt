@@ -13,9 +13,12 @@ use yt_base::{List, Memory, TryCopy, Tuple, TupleList};
 /// The candidate that an answer `Unify` names: the first one with the outer form, and None exactly where no candidate
 /// has it, which is where the answer does not fit. It takes no memory.
 pub fn candidate<'a>(candidates: &'a TupleList, form: &Tuple) -> Option<&'a Tuple>
-    ensures found { option_map fact_of (option_copied result) ≡ find (λ s. same_fact (outer s) (fact_of form.now)) (map fact_of candidates.now.items) }
-    ensures fitting { is_some (option_copied result) ≡ is_outer_of (map fact_of candidates.now.items) (fact_of form.now) }
-    ensures chosen { (t : Fact) → unwrap_or (option_map fact_of (option_copied result)) t ≡ chosen_candidate t (map fact_of candidates.now.items) (fact_of form.now) }
+    ensures found { option_map fact_of (option_copied result) ≡
+        find (λ s. same_fact (outer s) (fact_of form.now)) (map fact_of candidates.now.items) }
+    ensures fitting { is_some (option_copied result) ≡
+        is_outer_of (map fact_of candidates.now.items) (fact_of form.now) }
+    ensures chosen { (t : Fact) → unwrap_or (option_map fact_of (option_copied result)) t ≡
+        chosen_candidate t (map fact_of candidates.now.items) (fact_of form.now) }
 {
     candidates
         .as_slice()
@@ -25,7 +28,8 @@ pub fn candidate<'a>(candidates: &'a TupleList, form: &Tuple) -> Option<&'a Tupl
 
 /// Whether the tuple's outer form is among the forms. It takes no memory.
 pub fn is_named(tuple: &Tuple, forms: &TupleList) -> bool
-    ensures answer { result ≡ list_any (same_fact (outer (fact_of tuple.now))) (map fact_of forms.now.items) }
+    ensures answer { result ≡ list_any (same_fact (outer (fact_of tuple.now)))
+        (map fact_of forms.now.items) }
 {
     forms
         .as_slice()
@@ -40,7 +44,8 @@ pub fn named_tuples(
     tuples: &TupleList,
     forms: &TupleList,
 ) -> Result<TupleList, Memory>
-    ensures value { IfOk result (λ list. map fact_of list.items ≡ named (map fact_of tuples.now.items) (map fact_of forms.now.items)) }
+    ensures value { IfOk result (λ list. map fact_of list.items ≡
+        named (map fact_of tuples.now.items) (map fact_of forms.now.items)) }
 {
     let mut list = List::new(alloc);
     for tuple in tuples.as_slice() {

@@ -29,7 +29,8 @@ pub fn has_outer_form(tuples: &TupleList, form: &Tuple) -> bool
 
 // Whether there are as many values as forms, each with the outer form in its place.
 fn are_outer_forms(values: &[Value], forms: &[Value]) -> bool
-    ensures answer { IsTrue result ↔ (map (λ v. outer_datum (datum_of v)) values.now ≡ map datum_of forms.now) }
+    ensures answer { IsTrue result ↔ (map (λ v. outer_datum (datum_of v)) values.now ≡
+        map datum_of forms.now) }
 {
     if values.len() != forms.len() {
         return false;

@@ -57,7 +57,8 @@ impl TryCopy for Question {
 /// one counting once. It takes no memory.
 pub fn fits(question: &Question, choice: &Choice) -> bool
     ensures answer { result ≡ fits_inquiry (inquiry_of question.now) (choice_of choice.now) }
-    ensures asked { (q : Asked) → inquiry_in q ≡ inquiry_of question.now → result ≡ fits_asked q (choice_of choice.now) }
+    ensures asked { (q : Asked) → inquiry_in q ≡ inquiry_of question.now →
+        result ≡ fits_asked q (choice_of choice.now) }
 {
     match question {
         Question::Positive { candidates, .. } => fits_candidates(candidates, choice),
@@ -67,7 +68,8 @@ pub fn fits(question: &Question, choice: &Choice) -> bool
 
 // Whether the answer fits a positive question with these candidates.
 fn fits_candidates(candidates: &TupleList, choice: &Choice) -> bool
-    ensures answer { result ≡ fits_positive (map fact_of candidates.now.items) (choice_of choice.now) }
+    ensures answer { result ≡ fits_positive (map fact_of candidates.now.items)
+        (choice_of choice.now) }
 {
     match choice {
         Choice::Expand => true,
@@ -89,7 +91,8 @@ fn fits_tuples(tuples: &TupleList, choice: &Choice) -> bool
 
 // Whether each of the forms is the outer form of one of the tuples.
 fn all_are_outer_forms(tuples: &TupleList, forms: &TupleList) -> bool
-    ensures answer { result ≡ list_all (is_outer_of (map fact_of tuples.now.items)) (map fact_of forms.now.items) }
+    ensures answer { result ≡ list_all (is_outer_of (map fact_of tuples.now.items))
+        (map fact_of forms.now.items) }
 {
     forms
         .as_slice()

@@ -11,11 +11,12 @@ ghost use Rattle.yt_grammar.specs.Validity.{IsSession};
 /// A tuple of a session's relations is read again from its printed form, which is one line of text,
 /// whatever updates its nulls are of.
 pub fn tuples_are_read_again()
-    ensures { (s : SessionData) (t : Fact) → IsSession s → IsTuple s.relations t → IsReadAgain s.relations t }
+    ensures { (s : SessionData) (t : Fact) → IsSession s → IsTuple s.relations t →
+        IsReadAgain s.relations t }
 {}
 
 /// A line of text that says a fact of some relations says a tuple of theirs.
 pub fn lines_say_tuples()
-    ensures { (relations : List RelationSchema) (line : List ℕ) (fact : WrittenFact) (t : Fact) → IsUtf8 line
-        → lone_fact line ≡ Ok fact → fact_of relations fact ≡ Ok t → IsTuple relations t }
+    ensures { (relations : List RelationSchema) (line : List ℕ) (fact : WrittenFact) (t : Fact) →
+        IsUtf8 line → lone_fact line ≡ Ok fact → fact_of relations fact ≡ Ok t → IsTuple relations t }
 {}

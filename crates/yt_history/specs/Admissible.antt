@@ -1,6 +1,7 @@
 -- What a session of the chase has to meet, with the updates handed in later among its submissions.
 use Rattle.std.specs.Prelude.{◌≡◌, ℕ, suc, ◌≤◌, ◌==◌, Bool, true, not, List, map, Some, slice_get}
 use Rattle.std.specs.List.{list_all}
+use Rattle.yt_machine.specs.Machine.{Machine}
 use Rattle.yt_machine.specs.Updates.{Submission, Session}
 use Rattle.yt_model.specs.Values.{Fact}
 use Rattle.yt_model.specs.Repository.{IsRepository}
@@ -15,23 +16,28 @@ use Rattle.yt_steps.specs.Timely.{repairs_plainly, acts_in_time}
 abbrev pub is_plain : Fact → Bool
 is_plain t = not (t.relation == force_relation)
 
--- The session's mappings, budget of steps, base and updates are ones that a session can spell.
-pub record IsAdmissible (ms : List Rule) (B : ℕ) (S : Session (caused_chase ms B)) : Type 0 where
-  -- an attempt may make a step
-  pub some_step : 1 ≤ B
-  -- the base is a repository where the mappings in force hold, and it puts none in force
-  pub in_order : IsRepository S.base
-  pub hold : AllHold ms S.base
-  pub plain : list_all is_plain S.base ≡ true
-  -- its nulls are of update 0 and attempt 0
-  pub base : IsBase S.base
-  pub first : list_all (are_by (λ u. 0)) S.base ≡ true
-  -- no mapping has a null among its constants, and none repairs by putting a mapping in force
-  pub constants : HaveNoNulls ms
-  pub repairs : repairs_plainly ms ≡ true
-  -- no update inserts what puts a mapping in force, or adds one whose `since` is above its own number
-  pub timely : (k : ℕ) (x : Submission (caused_chase ms B)) → slice_get S.submissions k ≡ Some x → acts_in_time ms (suc k) x.operation ≡ true
+module _ (ms : List Rule) (B : ℕ) where
+  -- The machine of the chase with these mappings and this budget, whose attempts look at the violations that they caused.
+  abbrev M : Machine
+  M = caused_chase ms B
 
--- The updates of the session as the serial machine has them.
-abbrev pub requests : (ms : List Rule) (B : ℕ) → Session (caused_chase ms B) → List Request
-requests ms B S = map (λ (x : Submission (caused_chase ms B)). record { operation = x.operation; answers = x.answers }) S.submissions
+  -- The session's mappings, budget of steps, base and updates are ones that a session can spell.
+  pub record IsAdmissible (S : Session M) : Type 0 where
+    -- an attempt may make a step
+    pub some_step : 1 ≤ B
+    -- the base is a repository where the mappings in force hold, and it puts none in force
+    pub in_order : IsRepository S.base
+    pub hold : AllHold ms S.base
+    pub plain : list_all is_plain S.base ≡ true
+    -- its nulls are of update 0 and attempt 0
+    pub base : IsBase S.base
+    pub first : list_all (are_by (λ u. 0)) S.base ≡ true
+    -- no mapping has a null among its constants, and none repairs by putting a mapping in force
+    pub constants : HaveNoNulls ms
+    pub repairs : repairs_plainly ms ≡ true
+    -- no update inserts what puts a mapping in force, or adds one whose `since` is above its own number
+    pub timely : (k : ℕ) (x : Submission M) → slice_get S.submissions k ≡ Some x → acts_in_time ms (suc k) x.operation ≡ true
+
+  -- The updates of the session as the serial machine has them.
+  abbrev pub requests : Session M → List Request
+  requests S = map (λ (x : Submission M). record { operation = x.operation; answers = x.answers }) S.submissions

@@ -1,6 +1,7 @@
 -- The theorem of histories: attempts in any order leave what the serial machine leaves, which takes the updates whole, one after the other in number order.
 use Rattle.std.specs.Prelude.{◌≡◌, ℕ, true, List, map, length, Option, None}
 use Rattle.std.specs.List.{list_all}
+use Rattle.yt_machine.specs.Machine.{Machine}
 use Rattle.yt_machine.specs.Updates.{Update, Session, Settings}
 use Rattle.yt_machine.specs.Standings.{is_quiet}
 use Rattle.yt_machine.specs.Effects.{Entry}
@@ -15,33 +16,42 @@ use Rattle.yt_steps.specs.Shifting.{outer_told}
 use Rattle.yt_history.specs.Histories.{IsLegalHistory, left}
 use Rattle.yt_history.specs.Admissible.{IsAdmissible, requests}
 
--- The turn at the serial machine: by attempt 0, and looking at every violation.
-abbrev pub first_turn : (ms : List Rule) (B : ℕ) → Turn (caused_chase ms B) → Turn (whole_chase ms B)
-first_turn ms B t = record { number = t.number; attempt = 0; operation = t.operation; answers = t.answers }
+module _ (ms : List Rule) (B : ℕ) where
+  -- The machine of the chase with these mappings and this budget, whose attempts look at the violations that they caused.
+  abbrev M : Machine
+  M = caused_chase ms B
 
--- What the serial machine tells of these turns.
-abbrev pub serially : (ms : List Rule) (B : ℕ) → List Fact → List (Turn (caused_chase ms B)) → SerialResult
-serially ms B D ts = told every ms B (serial (whole_chase ms B) D (map (first_turn ms B) ts))
+  -- The turn at the serial machine: by attempt 0, and looking at every violation.
+  abbrev pub first_turn : Turn M → Turn (whole_chase ms B)
+  first_turn t = record { number = t.number; attempt = 0; operation = t.operation; answers = t.answers }
 
--- What is told of the updates by the outer forms of all nulls: the finishes of the committed ones that are not withdrawn, this stop, and the committed repository.
-abbrev pub tells : (ms : List Rule) (B : ℕ) → Session (caused_chase ms B) → List (Update (caused_chase ms B)) → Option (Stop (caused_chase ms B)) → SerialResult
-tells ms B S us stop = outer_told (told caused ms B (record { finishes = committed_finishes (caused_chase ms B) 1 us; stop = stop; repository = left ms B S us }))
+  -- What the serial machine tells of these turns.
+  abbrev pub serially : List Fact → List (Turn M) → SerialResult
+  serially D ts = told every ms B (serial (whole_chase ms B) D (map first_turn ts))
 
--- What a legal history comes to that has these entries and leaves these updates.
-pub record IsSerial (ms : List Rule) (B : ℕ) (s : Settings) (S : Session (caused_chase ms B)) (H : List (Entry (caused_chase ms B))) (us : List (Update (caused_chase ms B))) : Type 0 where
-  -- the committed updates that are not withdrawn, with the answers delivered to them, have the finishes that the serial machine gives them, and leave its repository
-  pub committed : serially ms B S.base (committed_turns (caused_chase ms B) 1 us) ≡ tells ms B S us None
-  -- every mapping in force holds in both
-  pub hold : AllHold ms (left ms B S us)
-  pub hold_serially : AllHold ms (serial (whole_chase ms B) S.base (map (first_turn ms B) (committed_turns (caused_chase ms B) 1 us))).repository
-  -- where it is quiet, that is the serial machine's whole result over all updates that are not withdrawn, with the answers delivered and then those in the inbox
-  pub quiet : is_quiet (caused_chase ms B) s us ≡ true → serially ms B S.base (all_turns (caused_chase ms B) 1 us) ≡ tells ms B S us (first_stop (caused_chase ms B) 1 us)
-  -- and if besides all updates handed in are admitted, none was withdrawn and none was answered live, it is the serial machine's result on the session
-  pub session : list_all is_recorded (map event_of H) ≡ true → length us ≡ length S.submissions → is_quiet (caused_chase ms B) s us ≡ true
-      → serial_result ms B S.base (requests ms B S) ≡ tells ms B S us (first_stop (caused_chase ms B) 1 us)
+  -- What is told of the updates by the outer forms of all nulls: the finishes of the committed ones that are not withdrawn, this stop, and the committed repository.
+  abbrev pub tells : Session M → List (Update M) → Option (Stop M) → SerialResult
+  tells S us stop = outer_told (told caused ms B (record { finishes = committed_finishes M 1 us; stop = stop; repository = left ms B S us }))
 
--- Of every legal history: whatever the order of admissions, steps, deliveries, answers and withdrawals, the retries and the kind of dependence.
+  -- What a legal history comes to that has these entries and leaves these updates.
+  pub record IsSerial (s : Settings) (S : Session M) (H : List (Entry M)) (us : List (Update M)) : Type 0 where
+    -- the committed updates that are not withdrawn, with the answers delivered to them, have the finishes that the serial machine gives them, and leave its repository
+    pub committed : serially S.base (committed_turns M 1 us) ≡ tells S us None
+    -- every mapping in force holds in both
+    pub hold : AllHold ms (left ms B S us)
+    pub hold_serially : AllHold ms (serial (whole_chase ms B) S.base (map first_turn (committed_turns M 1 us))).repository
+    -- where it is quiet, that is the serial machine's whole result over all updates that are not withdrawn, with the answers delivered and then those in the inbox
+    pub quiet : is_quiet M s us ≡ true → serially S.base (all_turns M 1 us) ≡ tells S us (first_stop M 1 us)
+    -- and if besides all updates handed in are admitted, none was withdrawn and none was answered live, it is the serial machine's result on the session
+    pub session : list_all is_recorded (map event_of H) ≡ true → length us ≡ length S.submissions → is_quiet M s us ≡ true
+        → serial_result ms B S.base (requests ms B S) ≡ tells S us (first_stop M 1 us)
+
+  -- Of every legal history: whatever the order of admissions, steps, deliveries, answers and withdrawals, the retries and the kind of dependence.
+  abbrev pub AreSerial : Type 0
+  AreSerial =
+      (s : Settings) (S : Session M) (H : List (Entry M)) (us : List (Update M)) → IsAdmissible ms B S → IsLegalHistory ms B s S H us
+      → IsSerial s S H us
+
+-- With any mappings and any budget.
 abbrev pub AnyOrder : Type 0
-AnyOrder =
-    (ms : List Rule) (B : ℕ) (s : Settings) (S : Session (caused_chase ms B)) (H : List (Entry (caused_chase ms B))) (us : List (Update (caused_chase ms B))) → IsAdmissible ms B S → IsLegalHistory ms B s S H us
-    → IsSerial ms B s S H us
+AnyOrder = (ms : List Rule) (B : ℕ) → AreSerial ms B

@@ -1,5 +1,6 @@
 -- What is asked of people: the question of each paused update, and what it says of the update's present view.
 use Rattle.std.specs.Prelude.{◌≡◌, ℕ, suc, ◌≤◌, false, List, length, filter, Some, is_some, slice_get}
+use Rattle.yt_machine.specs.Machine.{Machine}
 use Rattle.yt_machine.specs.Updates.{Update, Session, Settings, view, committed}
 use Rattle.yt_machine.specs.Standings.{standing, is_paused, question_of}
 use Rattle.yt_machine.specs.Effects.{Entry}
@@ -36,20 +37,29 @@ abbrev pub IsAsked : List Rule → Scope → List Change → List Fact → Quest
 IsAsked ms scope own E (Positive r t cs) = IsPositive ms E r t cs
 IsAsked ms scope own E (Negative n ts) = IsNegative ms scope own E n ts
 
--- The question of update k + 1, which is u.
-pub record IsQuestion (ms : List Rule) (B : ℕ) (S : Session (caused_chase ms B)) (us : List (Update (caused_chase ms B))) (k : ℕ) (u : Update (caused_chase ms B)) (q : Question) : Type 0 where
-  -- it is true of the present view, by the violations that the update caused
-  pub asked : IsAsked ms (caused u.operation) u.state.own (view (caused_chase ms B) S.base us k) q
-  -- the next answer delivered, if there is one, does not fit it
-  pub unfit : (c : Choice) → slice_get u.answers u.state.taken ≡ Some c → fits q c ≡ false
+module _ (ms : List Rule) (B : ℕ) where
+  -- The machine of the chase with these mappings and this budget, whose attempts look at the violations that they caused.
+  abbrev M : Machine
+  M = caused_chase ms B
 
--- The questions of update k + 1, which is u: there is one exactly where it is paused.
-pub record AreQuestions (ms : List Rule) (B : ℕ) (s : Settings) (S : Session (caused_chase ms B)) (us : List (Update (caused_chase ms B))) (k : ℕ) (u : Update (caused_chase ms B)) : Type 0 where
-  pub paused : is_some (question_of (caused_chase ms B) s (committed (caused_chase ms B) us) (suc k) u) ≡ is_paused (standing (caused_chase ms B) s (committed (caused_chase ms B) us) (suc k) u)
-  pub question : (q : Question) → question_of (caused_chase ms B) s (committed (caused_chase ms B) us) (suc k) u ≡ Some q → IsQuestion ms B S us k u q
+  -- The question of update k + 1, which is u.
+  pub record IsQuestion (S : Session M) (us : List (Update M)) (k : ℕ) (u : Update M) (q : Question) : Type 0 where
+    -- it is true of the present view, by the violations that the update caused
+    pub asked : IsAsked ms (caused u.operation) u.state.own (view M S.base us k) q
+    -- the next answer delivered, if there is one, does not fit it
+    pub unfit : (c : Choice) → slice_get u.answers u.state.taken ≡ Some c → fits q c ≡ false
 
--- After every legal history.
+  -- The questions of update k + 1, which is u: there is one exactly where it is paused.
+  pub record AreQuestions (s : Settings) (S : Session M) (us : List (Update M)) (k : ℕ) (u : Update M) : Type 0 where
+    pub paused : is_some (question_of M s (committed M us) (suc k) u) ≡ is_paused (standing M s (committed M us) (suc k) u)
+    pub question : (q : Question) → question_of M s (committed M us) (suc k) u ≡ Some q → IsQuestion S us k u q
+
+  -- After every legal history.
+  abbrev pub AskOfViews : Type 0
+  AskOfViews =
+      (s : Settings) (S : Session M) (H : List (Entry M)) (us : List (Update M)) → IsAdmissible ms B S → IsLegalHistory ms B s S H us
+      → (k : ℕ) (u : Update M) → slice_get us k ≡ Some u → AreQuestions s S us k u
+
+-- With any mappings and any budget.
 abbrev pub QuestionsAreOfViews : Type 0
-QuestionsAreOfViews =
-    (ms : List Rule) (B : ℕ) (s : Settings) (S : Session (caused_chase ms B)) (H : List (Entry (caused_chase ms B))) (us : List (Update (caused_chase ms B))) → IsAdmissible ms B S → IsLegalHistory ms B s S H us
-    → (k : ℕ) (u : Update (caused_chase ms B)) → slice_get us k ≡ Some u → AreQuestions ms B s S us k u
+QuestionsAreOfViews = (ms : List Rule) (B : ℕ) → AskOfViews ms B

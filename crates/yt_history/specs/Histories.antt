@@ -1,5 +1,6 @@
 -- Histories of the chase: attempts that look at the violations which they caused, in any order, and what is answered of them.
 use Rattle.std.specs.Prelude.{ℕ, List, [], ◌++◌, map}
+use Rattle.yt_machine.specs.Machine.{Machine}
 use Rattle.yt_machine.specs.Updates.{Update, Submission, Session, Settings, below, committed}
 use Rattle.yt_machine.specs.Effects.{Entry}
 use Rattle.yt_machine.specs.Histories.{IsLegal}
@@ -9,22 +10,27 @@ use Rattle.yt_model.specs.Updates.{Operation}
 use Rattle.yt_steps.specs.Chase.{caused_chase}
 use Rattle.yt_steps.specs.Serial.{Request, answered}
 
--- The updates of a session as a history has them, each with its recorded answers.
-abbrev pub submissions : (ms : List Rule) (B : ℕ) → List Request → List (Submission (caused_chase ms B))
-submissions ms B rs = map (λ (r : Request). record { operation = r.operation; answers = r.answers }) rs
+module _ (ms : List Rule) (B : ℕ) where
+  -- The machine of the chase with these mappings and this budget, whose attempts look at the violations that they caused.
+  abbrev M : Machine
+  M = caused_chase ms B
 
--- The session of this base and these updates, and of further ones that are handed in later, without answers.
-abbrev pub session_of : (ms : List Rule) (B : ℕ) → List Fact → List Request → List Operation → Session (caused_chase ms B)
-session_of ms B D rs ops = record { base = D; submissions = submissions ms B (rs ++ map (λ op. record { operation = op; answers = [] }) ops) }
+  -- The updates of a session as a history has them, each with its recorded answers.
+  abbrev pub submissions : List Request → List (Submission M)
+  submissions rs = map (λ (r : Request). record { operation = r.operation; answers = r.answers }) rs
 
--- The entries are a legal history over the session with the settings, and leave these updates. Each entry is that of an event allowed at what the entries before it leave, with its causes.
-abbrev pub IsLegalHistory : (ms : List Rule) (B : ℕ) → Settings → Session (caused_chase ms B) → List (Entry (caused_chase ms B)) → List (Update (caused_chase ms B)) → Type 0
-IsLegalHistory ms B s S H us = IsLegal (caused_chase ms B) s S H us
+  -- The session of this base and these updates, and of further ones that are handed in later, without answers.
+  abbrev pub session_of : List Fact → List Request → List Operation → Session M
+  session_of D rs ops = record { base = D; submissions = submissions (rs ++ map (λ op. record { operation = op; answers = [] }) ops) }
 
--- The committed repository, with the attempts of its nulls and the tuples that say which mappings were put in force.
-abbrev pub left : (ms : List Rule) (B : ℕ) → Session (caused_chase ms B) → List (Update (caused_chase ms B)) → List Fact
-left ms B S us = below (caused_chase ms B) S.base us (committed (caused_chase ms B) us)
+  -- The entries are a legal history over the session with the settings, and leave these updates. Each entry is that of an event allowed at what the entries before it leave, with its causes.
+  abbrev pub IsLegalHistory : Settings → Session M → List (Entry M) → List (Update M) → Type 0
+  IsLegalHistory s S H us = IsLegal M s S H us
 
--- The committed repository as it is answered.
-abbrev pub repository : (ms : List Rule) (B : ℕ) → Session (caused_chase ms B) → List (Update (caused_chase ms B)) → List Fact
-repository ms B S us = answered (left ms B S us)
+  -- The committed repository, with the attempts of its nulls and the tuples that say which mappings were put in force.
+  abbrev pub left : Session M → List (Update M) → List Fact
+  left S us = below M S.base us (committed M us)
+
+  -- The committed repository as it is answered.
+  abbrev pub repository : Session M → List (Update M) → List Fact
+  repository S us = answered (left S us)

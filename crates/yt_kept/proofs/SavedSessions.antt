@@ -1,6 +1,6 @@
 -- The saved session is a session, and its base meets its mappings.
 use Rattle.std.specs.Prelude.{slice_get, filter, nat_lt, ◌-◌}
-use Rattle.std.proofs.Common.{◌≡◌, ℕ, suc, ◌+◌, ◌≤◌, ◌==◌, ap, refl, sym, ◌∙◌, subst, List, [], ◌∷◌, ◌++◌, map, length, Bool, true, false, ◌||◌, cond, Option, Some, None, option_map, inr, arith}
+use Rattle.std.proofs.Common.{◌≡◌, ℕ, zero, suc, ◌+◌, ◌≤◌, ◌==◌, ap, refl, sym, ◌∙◌, subst, List, [], ◌∷◌, ◌++◌, map, length, Bool, true, false, ◌||◌, cond, Option, Some, None, option_map, inr, arith}
 use Rattle.std.specs.Option.{option_or}
 use Rattle.std.specs.List.{list_all, AllByRecursion}
 use Rattle.std.proofs.lemmas.Bool.{and_parts, ltb-false}
@@ -29,6 +29,7 @@ use Rattle.yt_session.specs.Base.{Violated, violated_by, first_violated, base_vi
 use Rattle.yt_session.specs.Meanings.{requests_in}
 use Rattle.yt_report.specs.Results.{serial_told}
 use Rattle.yt_report.specs.Saved.{saved_base, is_done, is_done_in, stays_in_force, from_start, saved_mappings, saved, is_too_large}
+use Rattle.yt_kept.specs.Kept.{InForceHold}
 use Rattle.yt_kept.specs.Renamed.{IsRenamed}
 use Rattle.yt_kept.proofs.Renaming.{base_renamed}
 use Rattle.yt_kept.proofs.Names.{renamed_repository}
@@ -105,6 +106,22 @@ none_left p R E r order n (m ∷ ms) plain acts hold forced =
         ∙ rest
     by false f right rest = rest
 
+-- Each that is in force holds in what is told of the repository.
+plain_holding : (k : ℕ) (ms : List SessionMapping) (R : List Fact) → HoldFrom k (rules_of ms) R → repairs_plainly (rules_of ms) ≡ true
+    → (n : ℕ) (m : SessionMapping) → slice_get ms n ≡ Some m → in_force (k + n) m.rule R ≡ true → Holds m.rule (answered R)
+plain_holding k [] R hold acts n m e f = cc
+plain_holding k (x ∷ ms) R hold acts zero m e f =
+    let same : x ≡ m = cc in
+    let first : k + 0 ≡ k = omega arith in
+    let a = and_parts (list_all is_plain_atom x.rule.right) (repairs_plainly (rules_of ms)) acts in
+    subst (λ (y : SessionMapping). Holds y.rule (answered R)) same
+    (holds_answered x.rule R a.0
+    (hold.0 (subst (λ i. in_force i x.rule R ≡ true) first (subst (λ (y : SessionMapping). in_force (k + 0) y.rule R ≡ true) (sym same) f))))
+plain_holding k (x ∷ ms) R hold acts (suc n) m e f =
+    let next : k + suc n ≡ suc k + n = omega arith in
+    let a = and_parts (list_all is_plain_atom x.rule.right) (repairs_plainly (rules_of ms)) acts in
+    plain_holding (suc k) ms R hold.1 a.1 n m e (subst (λ i. in_force i m.rule R ≡ true) next f)
+
 done_is : (o : Outcome) → is_done (end_in o) ≡ true → o ≡ Done
 done_is Done e = refl
 done_is Spent e = differ e
@@ -138,6 +155,13 @@ module _ (s : SessionData) (v : IsSession s) (B : ℕ) (some : 1 ≤ B) (within 
       subst (λ rs. AllHold (rules_of s.mappings) (serial (whole_chase (rules_of s.mappings) B) s.base (turns_of (rules_of s.mappings) B rs)).repository)
       (take_all (length (requests_in s)) (requests_in s) (omega arith))
       (hold_throughout (rules_of s.mappings) B s.base (requests_in s) (length (requests_in s)) some (timely s v) (base_holds s v meets))
+
+  pub left_hold : base_violation s ≡ None → InForceHold s (serial_told B s)
+  left_hold meets n m e f =
+      let same : 0 + n ≡ n = omega arith in
+      plain_holding 0 s.mappings (serial (whole_chase (rules_of s.mappings) B) s.base (turns_of (rules_of s.mappings) B (requests_in s))).repository
+      (all_hold meets) (timely s v).mappings n m e
+      (subst (λ i. in_force i m.rule (serial (whole_chase (rules_of s.mappings) B) s.base (turns_of (rules_of s.mappings) B (requests_in s))).repository ≡ true) (sym same) (forced n m e f))
 
   pub saved_meets : base_violation s ≡ None → base_violation (saved s (serial_told B s)) ≡ None
   saved_meets meets =

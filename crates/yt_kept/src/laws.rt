@@ -1,11 +1,8 @@
 //! Laws of what a run leaves.
-ghost use Rattle.std.specs.Prelude.{◌≡◌, ◌≤◌, ℕ, false, List, length, None};
-ghost use Rattle.std.specs.List.{AllByRecursion};
-ghost use Rattle.yt_grammar.specs.Lines.{Spells};
-ghost use Rattle.yt_grammar.specs.Printing.{printed};
+ghost use Rattle.std.specs.Prelude.{◌≡◌, ◌≤◌, ℕ, List, None};
 ghost use Rattle.yt_grammar.specs.Sessions.{SessionData};
-ghost use Rattle.yt_grammar.specs.Validity.{IsFact, IsSession};
-ghost use Rattle.yt_kept.specs.Kept.{left_by, saved_by};
+ghost use Rattle.yt_grammar.specs.Validity.{IsSession};
+ghost use Rattle.yt_kept.specs.Kept.{InForceHold, IsRunnable, left_by, saved_by, LeavesFacts, SavesSession, SavesSpelled};
 ghost use Rattle.yt_kept.specs.Renamed.{IsRenamed};
 ghost use Rattle.yt_model.specs.Laws.{HasNoNull};
 ghost use Rattle.yt_model.specs.Mappings.{Holds, Rule};
@@ -14,7 +11,7 @@ ghost use Rattle.yt_model.specs.Values.{Fact};
 ghost use Rattle.yt_print.specs.Upgrades.{upgraded};
 ghost use Rattle.yt_program.specs.Results.{ResultTold};
 ghost use Rattle.yt_report.specs.Results.{serial_told};
-ghost use Rattle.yt_report.specs.Saved.{is_too_large, saved};
+ghost use Rattle.yt_report.specs.Saved.{saved};
 ghost use Rattle.yt_session.specs.Base.{base_violation};
 
 use yt_grammar::sessions_are_read_again;
@@ -22,17 +19,28 @@ use yt_grammar::sessions_are_read_again;
 /// Every tuple that the serial machine leaves of a valid session is one of a relation of it: as many values as columns, each an
 /// integer of 64 bits, a text of at most 256 bytes of UTF-8, or a null of the base or of an update. They are in order.
 pub fn runs_leave_facts()
-    ensures facts { (budget : ℕ) (s : SessionData) → IsSession s → 1 ≤ budget → budget ≤ 300 → AllByRecursion (IsFact s.relations (length s.updates)) (left_by budget s) }
-    ensures in_order { (budget : ℕ) (s : SessionData) → IsSession s → 1 ≤ budget → budget ≤ 300 → IsRepository (left_by budget s) }
+    ensures facts { (budget : ℕ) (s : SessionData) →
+        IsSession s → 1 ≤ budget → budget ≤ 300 → LeavesFacts budget s }
+    ensures in_order { (budget : ℕ) (s : SessionData) →
+        IsSession s → 1 ≤ budget → budget ≤ 300 → IsRepository (left_by budget s) }
 {}
 
 /// What is saved of a run is a session, where it is not too large, and its printed form spells it.
 pub fn saved_sessions_are_sessions()
-    ensures session { (budget : ℕ) (s : SessionData) → IsSession s → 1 ≤ budget → budget ≤ 300 → is_too_large (saved_by budget s) ≡ false → IsSession (saved_by budget s) }
-    ensures spelled { (budget : ℕ) (s : SessionData) → IsSession s → 1 ≤ budget → budget ≤ 300 → is_too_large (saved_by budget s) ≡ false → Spells (printed (saved_by budget s)) (saved_by budget s) }
+    ensures session { (budget : ℕ) (s : SessionData) →
+        IsSession s → 1 ≤ budget → budget ≤ 300 → SavesSession budget s }
+    ensures spelled { (budget : ℕ) (s : SessionData) →
+        IsSession s → 1 ≤ budget → budget ≤ 300 → SavesSpelled budget s }
 {
     sessions_are_read_again();
 }
+
+/// Every mapping that is in force at the end of a run holds in the repository that the run leaves, where the base of the
+/// session meets the mappings: those in force from the start, and those that an update which is done has put in force.
+pub fn runs_meet_their_mappings()
+    ensures { (budget : ℕ) (s : SessionData) → IsRunnable budget s →
+        InForceHold s (serial_told budget s) }
+{}
 
 /// The base of what is saved is the repository under other names for its nulls, which keep their order and tell them apart.
 pub fn bases_are_renamed()
@@ -41,18 +49,21 @@ pub fn bases_are_renamed()
 
 /// The base of what is saved meets its mappings, where that of the session that ran does.
 pub fn bases_meet_their_mappings()
-    ensures { (budget : ℕ) (s : SessionData) → IsSession s → base_violation s ≡ None → 1 ≤ budget → budget ≤ 300 → base_violation (saved_by budget s) ≡ None }
+    ensures { (budget : ℕ) (s : SessionData) →
+        IsRunnable budget s → base_violation (saved_by budget s) ≡ None }
 {}
 
 /// A mapping without a null among its constants holds under other names for the nulls where it holds. Under such names a
 /// repository is one.
 pub fn names_keep_mappings()
-    ensures hold { (m : Rule) (D E : List Fact) → HasNoNull m → IsRenamed D E → Holds m D → Holds m E }
+    ensures hold { (m : Rule) (D E : List Fact) → HasNoNull m → IsRenamed D E → Holds m D →
+        Holds m E }
     ensures in_order { (D E : List Fact) → IsRenamed D E → IsRepository D → IsRepository E }
 {}
 
 /// The same session in format 2 is a session too, and the serial machine tells the same of it.
 pub fn upgrades_tell_the_same()
     ensures session { (s : SessionData) → IsSession s → IsSession (upgraded s) }
-    ensures told { (budget : ℕ) (s : SessionData) → serial_told budget (upgraded s) ≡ serial_told budget s }
+    ensures told { (budget : ℕ) (s : SessionData) →
+        serial_told budget (upgraded s) ≡ serial_told budget s }
 {}

@@ -8,5 +8,5 @@ mod laws;
 
 pub use crate::laws::{
     bases_are_renamed, bases_meet_their_mappings, names_keep_mappings, runs_leave_facts,
-    saved_sessions_are_sessions, upgrades_tell_the_same,
+    runs_meet_their_mappings, saved_sessions_are_sessions, upgrades_tell_the_same,
 };

@@ -54,7 +54,8 @@ pub fn lex_line(alloc: Global, bytes: &[u8], from: usize) -> Result<Line, LexRef
     requires { from ≤ length bytes.now }
     ensures exact { Gives (λ line. (line.tokens.items, line.next)) result (line_at from bytes.now) }
     ensures spelled { IfOk result (λ line. All (IsTokenAt 0 bytes.now) line.tokens.items) }
-    ensures longest { IfOk result (λ line. All (IsLongestIn from (line_of (drop from bytes.now))) line.tokens.items) }
+    ensures longest { IfOk result (λ line.
+        All (IsLongestIn from (line_of (drop from bytes.now))) line.tokens.items) }
 {
     let line = line_of(behind(bytes, from));
     let tokens = tokens_at(alloc, from, line)?;

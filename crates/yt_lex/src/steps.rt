@@ -31,7 +31,8 @@ fn token_from(line: &[u8], place: usize) -> Result<Option<Token>, LexRefusal>
     requires { place ≤ length line.now }
     ensures first { IfOk result (λ first. MatchOption first
         (tokens_from place line.now ≡ Ok [])
-        (λ token. tokens_from place line.now ≡ with_front (token ∷ []) (tokens_from token.to line.now))) }
+        (λ token. tokens_from place line.now ≡
+        with_front (token ∷ []) (tokens_from token.to line.now))) }
     ensures ahead { IfOk result (λ first. IfSome first (λ token. place ≤ token.from)) }
     ensures spelled { IfOk result (λ first. IfSome first (IsTokenAt 0 line.now)) }
     ensures fault { IfErr result (λ refusal. tokens_from place line.now ≡ Err refusal) }
@@ -70,7 +71,8 @@ pub fn next_token(line: &[u8], place: usize) -> Option<Token>
     requires faultless { is_faultless place line.now ≡ true }
     ensures first { MatchOption result
         (tokens_from place line.now ≡ Ok [])
-        (λ token. tokens_from place line.now ≡ with_front (token ∷ []) (tokens_from token.to line.now)) }
+        (λ token. tokens_from place line.now ≡
+        with_front (token ∷ []) (tokens_from token.to line.now)) }
     ensures ahead { IfSome result (λ token. place ≤ token.from) }
     ensures spelled { IfSome result (IsTokenAt 0 line.now) }
     ensures faultless { IfSome result (λ token. is_faultless token.to line.now ≡ true) }

@@ -28,8 +28,10 @@ pub(crate) fn next_byte(
     requires { place < 2 ^ 63 }
     ensures says { IfOk result (λ next. MatchOption next
         (text_from opened place rest.now ≡ Ok ([], 1))
-        (λ x. text_from opened place rest.now ≡ says x.0 x.1 (text_from opened (place + x.1) (drop x.1 rest.now)))) }
-    ensures within { IfOk result (λ next. MatchOption next (1 ≤ length rest.now) (λ x. (1 ≤ x.1) × (x.1 ≤ length rest.now))) }
+        (λ x. text_from opened place rest.now ≡
+        says x.0 x.1 (text_from opened (place + x.1) (drop x.1 rest.now)))) }
+    ensures within { IfOk result (λ next. MatchOption next (1 ≤ length rest.now) (λ x. (1 ≤ x.1) ×
+        (x.1 ≤ length rest.now))) }
     ensures fault { IfErr result (λ refusal. text_from opened place rest.now ≡ Err refusal) }
 {
     match rest {

@@ -47,7 +47,8 @@ fn minus_at(place: usize, rest: &[u8]) -> Result<(TokenKind, usize), LexRefusal>
 fn point_at(place: usize, update: &[u8], rest: &[u8]) -> Result<(TokenKind, usize), LexRefusal>
     requires { length update.now + length rest.now < 2 ^ 63 }
     ensures gives { result ≡ point_at place update.now rest.now }
-    ensures within { IfOk result (λ x. (1 ≤ x.1) × (x.1 ≤ 1 + length update.now + length rest.now)) }
+    ensures within { IfOk result (λ x. (1 ≤ x.1) ×
+        (x.1 ≤ 1 + length update.now + length rest.now)) }
 {
     let [b'.', digits @ ..] = rest else {
         return Err(LexRefusal::BadByte(place));

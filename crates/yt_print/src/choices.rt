@@ -11,14 +11,16 @@ use yt_base::{Choice, Memory, TupleList};
 use yt_schema::{Page, Schema};
 
 fn with_facts(page: Page, schema: &Schema, tuples: &TupleList) -> Result<Page, Memory>
-    ensures { IfOk result (λ p. p ≡ with_words page (separated fact_words (map (written_fact schema.now) (map fact_of tuples.now.items)))) }
+    ensures { IfOk result (λ p. p ≡ with_words page
+        (separated fact_words (map (written_fact schema.now) (map fact_of tuples.now.items)))) }
 {
     with_separated(page, schema, tuples.as_slice())
 }
 
 /// Adds an answer as a session spells it behind the label. It is refused only for want of memory.
 pub fn with_choice(page: Page, schema: &Schema, choice: &Choice) -> Result<Page, Memory>
-    ensures words { IfOk result (λ p. p ≡ with_words page (choice_words (written_choice schema.now (choice_of choice.now)))) }
+    ensures words { IfOk result (λ p. p ≡
+        with_words page (choice_words (written_choice schema.now (choice_of choice.now)))) }
 {
     match choice {
         Choice::Expand => page.name(b"expand"),

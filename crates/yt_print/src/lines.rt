@@ -19,7 +19,8 @@ use yt_session::{Session, SessionUpdate};
 // The relation of a number.
 fn with_relation(page: Page, schema: &Schema, number: u16) -> Result<Page, Memory>
     requires { number < length schema.now }
-    ensures { (r : RelationSchema) → slice_get schema.now number ≡ Some r → IfOk result (λ p. p ≡ with_line page (statement_words (relation_statement r))) }
+    ensures { (r : RelationSchema) → slice_get schema.now number ≡ Some r →
+        IfOk result (λ p. p ≡ with_line page (statement_words (relation_statement r))) }
 {
     let Some(arity) = schema.arity(number) else {
         unreachable!()
@@ -32,7 +33,8 @@ fn with_relation(page: Page, schema: &Schema, number: u16) -> Result<Page, Memor
 
 /// Adds the relations.
 pub(crate) fn with_relations(mut page: Page, schema: &Schema) -> Result<Page, Memory>
-    ensures { IfOk result (λ p. p ≡ with_lines statement_words page (map relation_statement schema.now)) }
+    ensures { IfOk result (λ p. p ≡ with_lines statement_words page
+        (map relation_statement schema.now)) }
 {
     for number in 0..schema.len() {
         page = with_relation(page, schema, number)?;
@@ -42,7 +44,8 @@ pub(crate) fn with_relations(mut page: Page, schema: &Schema) -> Result<Page, Me
 
 // A mapping, where no update adds it.
 fn with_initial(page: Page, schema: &Schema, mapping: &Mapping) -> Result<Page, Memory>
-    ensures { IfOk result (λ p. p ≡ with_lines statement_words page (mapping_statements schema.now (session_mapping_of mapping.now ∷ []))) }
+    ensures { IfOk result (λ p. p ≡ with_lines statement_words page
+        (mapping_statements schema.now (session_mapping_of mapping.now ∷ []))) }
 {
     if mapping.since == 0 {
         return with_mapping(page, schema, mapping)?.end_line();
@@ -57,7 +60,8 @@ pub(crate) fn with_mappings(
     schema: &Schema,
     mappings: &[Mapping],
 ) -> Result<Page, Memory>
-    ensures { IfOk result (λ p. p ≡ with_lines statement_words page (mapping_statements schema.now (map session_mapping_of mappings.now))) }
+    ensures { IfOk result (λ p. p ≡ with_lines statement_words page
+        (mapping_statements schema.now (map session_mapping_of mappings.now))) }
 {
     for mapping in mappings {
         page = with_initial(page, schema, mapping)?;
@@ -68,7 +72,8 @@ pub(crate) fn with_mappings(
 /// Adds the tuples of the base.
 #[tactic(auto, using(crate::proofs::Onward::mapped_more))]
 pub(crate) fn with_base(mut page: Page, schema: &Schema, tuples: &[Tuple]) -> Result<Page, Memory>
-    ensures { IfOk result (λ p. p ≡ with_lines statement_words page (base_statements schema.now (map fact_of tuples.now))) }
+    ensures { IfOk result (λ p. p ≡ with_lines statement_words page
+        (base_statements schema.now (map fact_of tuples.now))) }
 {
     for tuple in tuples {
         page = tuple.write(page.name(b"base")?, schema)?.end_line()?;
@@ -84,7 +89,8 @@ fn with_answers(
     label: &Name,
     answers: &[Choice],
 ) -> Result<Page, Memory>
-    ensures { IfOk result (λ p. p ≡ with_lines statement_words page (answer_statements schema.now label.now.items (map choice_of answers.now))) }
+    ensures { IfOk result (λ p. p ≡ with_lines statement_words page
+        (answer_statements schema.now label.now.items (map choice_of answers.now))) }
 {
     for answer in answers {
         let named = page.name(b"answer")?.name(label.as_slice())?;
@@ -95,7 +101,8 @@ fn with_answers(
 
 // An update and its answers.
 fn with_update(page: Page, session: &Session, update: &SessionUpdate) -> Result<Page, Memory>
-    ensures { IfOk result (λ p. p ≡ with_lines statement_words page (update_statements (session_of session.now) (update_of update.now))) }
+    ensures { IfOk result (λ p. p ≡ with_lines statement_words page
+        (update_statements (session_of session.now) (update_of update.now))) }
 {
     let label = &update.update.label;
     let named = page
@@ -109,7 +116,8 @@ fn with_update(page: Page, session: &Session, update: &SessionUpdate) -> Result<
 /// Adds the updates, each with its answers.
 #[tactic(auto, using(crate::proofs::Onward::pieces_more))]
 pub(crate) fn with_updates(mut page: Page, session: &Session) -> Result<Page, Memory>
-    ensures { IfOk result (λ p. p ≡ with_lines statement_words page (flat_map (update_statements (session_of session.now)) (session_of session.now).updates)) }
+    ensures { IfOk result (λ p. p ≡ with_lines statement_words page
+        (flat_map (update_statements (session_of session.now)) (session_of session.now).updates)) }
 {
     for update in session.updates.as_slice() {
         page = with_update(page, session, update)?;

@@ -17,7 +17,9 @@ use yt_session::Session;
 
 // What stands for a mapping that is not there: its signs alone. No valid session has an update that adds such a one.
 fn with_no_mapping(page: Page) -> Result<Page, Memory>
-    ensures { (relations : List RelationSchema) → IfOk result (λ p. p ≡ with_words page (operation_words (AddMapping (written_mapping relations no_mapping)))) }
+    ensures { (relations : List RelationSchema) →
+        IfOk result (λ p. p ≡ with_words page
+        (operation_words (AddMapping (written_mapping relations no_mapping)))) }
 {
     page.name(b"mapping")?.name(b"")?.colon()?.arrow()
 }
@@ -29,7 +31,9 @@ fn with_added_mapping(
     mappings: &MappingList,
     number: u16,
 ) -> Result<Page, Memory>
-    ensures { IfOk result (λ p. p ≡ with_words page (operation_words (AddMapping (written_mapping schema.now (slice_index_or (map session_mapping_of mappings.now.items) number no_mapping))))) }
+    ensures { IfOk result (λ p. p ≡ with_words page
+        (operation_words (AddMapping (written_mapping schema.now
+        (slice_index_or (map session_mapping_of mappings.now.items) number no_mapping))))) }
 {
     match mappings.get(number as usize) {
         Some(mapping) => with_mapping(page, schema, mapping),
@@ -43,7 +47,9 @@ pub(crate) fn with_operation(
     session: &Session,
     operation: &Operation,
 ) -> Result<Page, Memory>
-    ensures { IfOk result (λ p. p ≡ with_words page (operation_words (written_operation (session_of session.now) (operation_of operation.now)))) }
+    ensures { IfOk result (λ p. p ≡ with_words page
+        (operation_words (written_operation (session_of session.now)
+        (operation_of operation.now)))) }
 {
     let schema = &session.schema;
     match operation {

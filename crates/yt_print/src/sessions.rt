@@ -31,7 +31,8 @@ fn with_end(page: Page) -> Result<Page, Memory>
 
 // The session under the header of a format.
 fn print_as(alloc: Global, format: u8, session: &Session) -> Result<Vec<u8>, Memory>
-    ensures { IfOk result (λ text. text.items ≡ printed (record (session_of session.now) { format = format })) }
+    ensures { IfOk result (λ text. text.items ≡
+        printed (record (session_of session.now) { format = format })) }
 {
     let schema = &session.schema;
     let header = with_header(Page::new(alloc), format)?;
@@ -47,7 +48,8 @@ fn print_as(alloc: Global, format: u8, session: &Session) -> Result<Vec<u8>, Mem
 /// a line for each. A session that passes all checks is read from it again. It is refused only for want of memory.
 pub fn print_session(alloc: Global, session: &Session) -> Result<Vec<u8>, Memory>
     ensures printed { IfOk result (λ text. text.items ≡ printed (session_of session.now)) }
-    ensures read_again { IsSession (session_of session.now) → IfOk result (λ text. Spells text.items (session_of session.now)) }
+    ensures read_again { IsSession (session_of session.now) →
+        IfOk result (λ text. Spells text.items (session_of session.now)) }
 {
     sessions_are_read_again();
     print_as(alloc, session.format, session)
@@ -55,8 +57,10 @@ pub fn print_session(alloc: Global, session: &Session) -> Result<Vec<u8>, Memory
 
 /// The printed form of the same session in format 2. It is refused only for want of memory.
 pub fn print_upgraded(alloc: Global, session: &Session) -> Result<Vec<u8>, Memory>
-    ensures printed { IfOk result (λ text. text.items ≡ printed (upgraded (session_of session.now))) }
-    ensures read_again { IsSession (session_of session.now) → IfOk result (λ text. Spells text.items (upgraded (session_of session.now))) }
+    ensures printed { IfOk result (λ text. text.items ≡
+        printed (upgraded (session_of session.now))) }
+    ensures read_again { IsSession (session_of session.now) →
+        IfOk result (λ text. Spells text.items (upgraded (session_of session.now))) }
 {
     sessions_are_read_again();
     print_as(alloc, 2, session)

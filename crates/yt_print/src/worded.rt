@@ -40,7 +40,8 @@ impl Worded for Tuple {
 // Each item behind a comma.
 #[tactic(auto, using(yt_schema::proofs::Noted::fold_more))]
 fn with_others<T: Worded>(mut page: Page, schema: &Schema, items: &[T]) -> Result<Page, Memory>
-    ensures { IfOk result (λ p. p ≡ with_words page (flat_map (λ x. comma ∷ T.words schema.now x) items.now)) }
+    ensures { IfOk result (λ p. p ≡ with_words page
+        (flat_map (λ x. comma ∷ T.words schema.now x) items.now)) }
 {
     for item in items {
         page = item.write(page.comma()?, schema)?;
@@ -54,7 +55,8 @@ fn with_some<T: Worded>(
     first: &T,
     others: &[T],
 ) -> Result<Page, Memory>
-    ensures { IfOk result (λ p. p ≡ with_words page (separated (T.words schema.now) (first.now ∷ others.now))) }
+    ensures { IfOk result (λ p. p ≡ with_words page
+        (separated (T.words schema.now) (first.now ∷ others.now))) }
 {
     let page = first.write(page, schema)?;
     with_others(page, schema, others)
@@ -62,7 +64,8 @@ fn with_some<T: Worded>(
 
 /// Adds the words of each item, with commas between. It is refused only for want of memory.
 pub fn with_separated<T: Worded>(page: Page, schema: &Schema, items: &[T]) -> Result<Page, Memory>
-    ensures words { IfOk result (λ p. p ≡ with_words page (separated (T.words schema.now) items.now)) }
+    ensures words { IfOk result (λ p. p ≡
+        with_words page (separated (T.words schema.now) items.now)) }
 {
     match items {
         [] => Ok(page),
@@ -71,7 +74,8 @@ pub fn with_separated<T: Worded>(page: Page, schema: &Schema, items: &[T]) -> Re
 }
 
 fn with_values(page: Page, schema: &Schema, values: &[Value]) -> Result<Page, Memory>
-    ensures { IfOk result (λ p. p ≡ with_words page (separated (one_word value_word) (map datum_of values.now))) }
+    ensures { IfOk result (λ p. p ≡ with_words page
+        (separated (one_word value_word) (map datum_of values.now))) }
 {
     with_separated(page, schema, values)
 }

@@ -1,5 +1,5 @@
 pub mod Lookups
-pub mod Looks
+pub mod PassedBy
 pub mod Namings
 pub mod Standings
 pub mod Wanting

@@ -15,7 +15,7 @@ use Rattle.yt_steps.specs.Steps.{makes, is_yes, tuples_of, unless_none, find_nul
 use Rattle.yt_program.specs.Found.{Found, found_in}
 use Rattle.yt_program.specs.Rows.{Naming, Replacing, row_tree, present, named, replaced}
 use Rattle.yt_program.proofs.Lookups.{settled_is}
-use Rattle.yt_program.proofs.Looks.{nothing_left}
+use Rattle.yt_program.proofs.PassedBy.{nothing_left}
 
 -- One null is looked up, and the others with it among those found.
 pub one_name : (ms : List Rule) (P : Attempt) (op : Operation) (found : Found) (n : NullName) (ns : List NullName) → P.operation ≡ op → row_tree ms P (Naming found n ns) ≡ named op found (n ∷ ns)

@@ -3,7 +3,7 @@ use Rattle.std.specs.Prelude.{ℕ, suc, ◌+◌, nat_lt, Bool, ◌||◌, if◌th
 use Rattle.yt_machine.specs.Trees.{Tree, Leaf, Node, then_tree}
 use Rattle.yt_model.specs.Mappings.{Rule}
 use Rattle.yt_model.specs.Queries.{Query, Reply}
-use Rattle.yt_steps.specs.Attempts.{Attempt, Ended, Spent, outcome_in}
+use Rattle.yt_steps.specs.Attempts.{Attempt, Phase, Ended, Spent, outcome_in}
 use Rattle.yt_steps.specs.Steps.{Asking, moved}
 use Rattle.yt_program.specs.Rows.{Row, row_tree}
 
@@ -16,6 +16,10 @@ pub record Reading : Type 0 where
 pub record State : Type 0 where
   pub attempt : Attempt
   pub reading : Option Reading
+
+-- An attempt between two steps.
+abbrev pub between : Attempt → State
+between P = record { attempt = P; reading = None }
 
 -- The queries that are asked, in turn by their answers, up to the attempt after the step.
 abbrev pub Course : Type 0
@@ -44,14 +48,18 @@ course_by ms P (Some r) = coming_to r.budget P (row_tree ms P r.row)
 abbrev pub course : List Rule → State → Course
 course ms s = course_by ms s.attempt s.reading
 
--- An attempt that its step has left in this phase and with these own writes, once the step is counted: with what it has drawn, and the answer that it took, if it took one. With all B steps made an attempt that has not ended is spent.
+-- The phase that is left with so many steps made: spent, where that is all B, and the attempt has not ended.
+abbrev pub unless_spent : ℕ → ℕ → Phase → Phase
+unless_spent B steps p = if is_some (outcome_in p) || nat_lt steps B then p else Ended Spent
+
+-- An attempt that its step has left in this phase and with these own writes, once the step is counted: with what it has drawn, and the answer that it took, if it took one.
 abbrev pub counted : ℕ → Bool → ℕ → Attempt → Attempt
 counted B answers drawn P =
     record {
       number = P.number;
       attempt = P.attempt;
       operation = P.operation;
-      phase = if is_some (outcome_in P.phase) || nat_lt (suc P.steps) B then P.phase else Ended Spent;
+      phase = unless_spent B (suc P.steps) P.phase;
       own = P.own;
       steps = suc P.steps;
       nulls = P.nulls + drawn;

@@ -2,10 +2,12 @@ pub mod Found
 pub mod Rows
 pub mod Courses
 pub mod Wishes
-pub mod Conditions
 pub mod RowMeanings
 pub mod PointMeanings
 pub mod TurnMeanings
 pub mod Views
 pub mod Results
 pub mod Settled
+pub mod Starting
+pub mod Looks
+pub mod Transitions

@@ -1,11 +1,16 @@
 -- What is wanted of a program and where it stands, in the terms of the steps of the chase.
-use Rattle.std.specs.Prelude.{◌≡◌, [], Option, Some, None, if◌then◌else◌}
+use Rattle.std.specs.Prelude.{◌≡◌, Bool, [], Option, Some, None, if◌then◌else◌}
 use Rattle.yt_model.specs.Values.{Fact}
+use Rattle.yt_model.specs.Updates.{Operation}
+use Rattle.yt_base.specs.Contents.{changes_of}
+use Rattle.yt_base.specs.Listed.{Listed}
+use Rattle.yt_base.specs.declared.updates.Write.{Write}
 use Rattle.yt_base.specs.Meanings.{null_of}
 use Rattle.yt_query.specs.Meanings.{query_of}
 use Rattle.yt_frontier.specs.Inquiries.{inquiry_of}
 use Rattle.yt_steps.specs.Attempts.{Outcome, Phase, Done as DoneMeant, Spent as SpentMeant, Refused as RefusedMeant, Start as StartMeant, Look as LookMeant, Ended as EndedMeant}
 use Rattle.yt_chase.specs.Repairs.{phase_of, is_asking}
+use Rattle.yt_chase.specs.Stands.{Moved, settled}
 use Rattle.yt_program.specs.Rows as rows
 use Rattle.yt_program.specs.Rows.{begun_in}
 use Rattle.yt_program.specs.Wishes.{End as EndTold, IsDone, IsSpent, IsRefused, Wish, WishesReply, WishesChoice, WishesNothing, WishesStep}
@@ -79,3 +84,7 @@ tuple_at Look = record { relation = 0; values = [] }
 tuple_at (Repair r) = record { relation = 0; values = [] }
 tuple_at (Ended e) = record { relation = 0; values = [] }
 tuple_at (ReadingPoint r) = tuple_asked (query_of r.query)
+
+-- The step of the operation has ended with its writes behind the own ones, once it is known whether its tuple is there. A look comes next.
+abbrev pub HasWritten : Operation → Fact → Bool → Listed Write → Listed Write → Type 0
+HasWritten op t there own own' = Moved (changes_of own') LookMeant 0 ≡ settled (changes_of own) StartMeant (rows.written op t there)

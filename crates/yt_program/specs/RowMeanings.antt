@@ -1,8 +1,12 @@
 -- What the types that say where a step stands mean.
-use Rattle.std.specs.Prelude.{[], map, drop}
+use Rattle.std.specs.Prelude.{[], ◌∷◌, ◌++◌, map, drop}
 use Rattle.yt_model.specs.Values.{NullName, Datum, Unknown, Fact}
 use Rattle.yt_model.specs.Queries.{Query, Present, Violation, Specific, Occurs}
+use Rattle.yt_base.specs.Listed.{Listed}
+use Rattle.yt_base.specs.declared.nulls.Null.{Null}
+use Rattle.yt_base.specs.declared.tuples.Tuple.{Tuple}
 use Rattle.yt_base.specs.Meanings.{null_of, datum_of, fact_of}
+use Rattle.yt_program.specs.Found.{Found}
 use Rattle.yt_program.specs.Rows as rows
 use Rattle.yt_program.specs.declared.found.Standing.{Standing}
 use Rattle.yt_program.specs.declared.rows.Naming.{Naming}
@@ -17,6 +21,10 @@ standing_of s = (null_of s.name, datum_of s.value)
 abbrev pub naming_of : Naming → rows.Row
 naming_of n = rows.Naming (map standing_of n.found.items) (null_of n.name) (map null_of (drop n.next n.names.items))
 
+-- The pairs found before, and that of the named null with this value.
+abbrev pub found_with : Naming → Datum → Found
+found_with n d = map standing_of n.found.items ++ (null_of n.name, d) ∷ []
+
 -- The tuple that is asked about.
 abbrev pub tuple_asked : Query → Fact
 tuple_asked (Present t) = t
@@ -24,11 +32,15 @@ tuple_asked (Violation n) = record { relation = 0; values = [] }
 tuple_asked (Specific t) = t
 tuple_asked (Occurs u k) = record { relation = 0; values = [] }
 
+-- Where a step stands that looks up the null which replaces another one in these tuples.
+abbrev pub renaming : Null → Null → Listed Tuple → rows.Row
+renaming name null ts = rows.Renaming (null_of name) (Unknown (null_of null)) (map fact_of ts.items)
+
 -- Where a step stands that asks this query.
 abbrev pub row_of : Row → Query → rows.Row
 row_of (NamingRow n) q = naming_of n
 row_of Writing q = rows.Writing (tuple_asked q)
 row_of (Replacing n) q = rows.Replacing (null_of n)
-row_of (Renaming n m ts) q = rows.Renaming (null_of n) (Unknown (null_of m)) (map fact_of ts.items)
+row_of (Renaming n m ts) q = renaming n m ts
 row_of (Forcing n) q = rows.Forcing n
 row_of (Violating n) q = rows.Violating n

@@ -62,11 +62,15 @@ present (Enacts n) found = makes [] Look
 abbrev pub named : Operation → Found → List NullName → Asking
 named op found ns = find_nulls ns (λ holders. present op (found ++ map found_in holders))
 
+-- The step ends with the tuples rewritten, this value in place of that.
+abbrev pub rewriting : Datum → Datum → List Fact → Asking
+rewriting d value ts = makes (rewrite (replacing d value) ts) Look
+
 -- The tuples that hold the named null are rewritten, once the null that replaces it is found.
 abbrev pub replaced : Operation → NullName → List Fact → Asking
 replaced (Adds t) n ts = makes [] Look
 replaced (Removes t) n ts = makes [] Look
-replaced (Replaces m v) n ts = find_nulls (null_of v) (λ holders. makes (rewrite (replacing (standing_for n ts) (resolve holders v)) ts) Look)
+replaced (Replaces m v) n ts = find_nulls (null_of v) (λ holders. rewriting (standing_for n ts) (resolve holders v) ts)
 replaced (Enacts m) n ts = makes [] Look
 
 -- The look at the mappings that come after the one of this number.
@@ -88,7 +92,7 @@ abbrev pub goes_on : List Rule → Attempt → Row → Reply → Asking
 goes_on ms P (Naming found n ns) a = unless_none n (tuples_of a) (named P.operation (found ++ (n, standing_for n (tuples_of a)) ∷ []) ns)
 goes_on ms P (Writing t) a = written P.operation t (is_yes a)
 goes_on ms P (Replacing n) a = unless_none n (tuples_of a) (replaced P.operation n (tuples_of a))
-goes_on ms P (Renaming n d ts) a = unless_none n (tuples_of a) (makes (rewrite (replacing d (standing_for n (tuples_of a))) ts) Look)
+goes_on ms P (Renaming n d ts) a = unless_none n (tuples_of a) (rewriting d (standing_for n (tuples_of a)) ts)
 goes_on ms P (Forcing n) a = if is_yes a then looking P n (slice_get ms n) (look_on ms P n) else look_on ms P n
 goes_on ms P (Violating n) a = repaired P n (slice_get ms n) (image_in a) (look_on ms P n)
 goes_on ms P (Mending r) a = branch (tree_in ms r) a

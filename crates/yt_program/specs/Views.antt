@@ -29,5 +29,5 @@ pub record IsCounted (p : Inside) : Type 0 where
   pub steps : p.steps ≤ 300
   pub nulls : p.nulls ≤ 64 * p.steps
   pub taken : p.taken ≤ p.steps
-  pub budget : is_some (row_at p.point) ≡ true → (p.steps < p.hand.budget) × (p.hand.budget ≤ 300)
+  pub budget : is_some (row_at p.point) ≡ true → p.steps < p.hand.budget
   pub answers : is_some (row_at p.point) ≡ true → p.hand.answers ≡ is_some (question_in (phase_at p.point))

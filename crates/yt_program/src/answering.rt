@@ -1,14 +1,11 @@
 //! How a step of an operation or of a look goes on by an answer.
-ghost use Rattle.std.specs.Prelude.{◌≡◌, ◌+◌, ◌<◌, map, IfOk};
-ghost use Rattle.yt_model.specs.Mappings.{Rule};
-ghost use Rattle.yt_base.specs.Meanings.{operation_of, rule_of};
+ghost use Rattle.std.specs.Prelude.{◌≡◌, ◌+◌, ◌<◌, IfOk};
+ghost use Rattle.yt_base.specs.Meanings.{operation_of};
 ghost use Rattle.yt_query.specs.Meanings.{query_of, reply_of};
 ghost use Rattle.yt_query.specs.Kinds.{IsOfKind};
-ghost use Rattle.yt_steps.specs.Attempts.{Attempt};
-ghost use Rattle.yt_program.specs.Conditions.{AreWithin};
-ghost use Rattle.yt_program.specs.Rows.{begun_in, goes_on};
+ghost use Rattle.yt_program.specs.Rows.{begun_in};
 ghost use Rattle.yt_program.specs.PointMeanings.{reading_of};
-ghost use Rattle.yt_program.specs.TurnMeanings.{turn_tree, IsTurnOf, IsOf};
+ghost use Rattle.yt_program.specs.TurnMeanings.{HasGoneOnAs, IsTurnOf};
 
 use crate::looking::{found_force, found_violation};
 use crate::readings::Reading;
@@ -17,8 +14,9 @@ use crate::rows::Row;
 use crate::starting::found_name;
 use crate::turns::Turn;
 use std::alloc::Global;
-use yt_base::{MappingList, Memory, Operation};
+use yt_base::{Memory, Operation};
 use yt_chase::Fresh;
+use yt_limits::Mappings;
 use yt_query::Answer;
 
 /// Goes on by the answer to the query that is asked, which is not whether the operation's tuple is there. It is refused
@@ -29,13 +27,14 @@ pub(crate) fn answered(
     fresh: Fresh,
     reading: &Reading,
     answer: &Answer,
-    mappings: &MappingList,
+    mappings: &Mappings<'_>,
 ) -> Result<Turn, Memory>
     requires going { reading.now.row ≡ Row.Writing → ⊥ }
-    requires within { AreWithin (map rule_of mappings.now.items) }
     requires room { fresh.drawn + 64 < 4294967296 }
-    requires kind { IsOfKind (map rule_of mappings.now.items) (query_of reading.now.query) (reply_of answer.now) }
-    ensures value { IfOk result (λ turn. (P : Attempt) → IsOf P fresh (operation_of operation.now) → turn_tree (map rule_of mappings.now.items) P turn ≡ goes_on (map rule_of mappings.now.items) P (reading_of reading.now) (reply_of answer.now)) }
+    requires kind { IsOfKind mappings.now (query_of reading.now.query) (reply_of answer.now) }
+    ensures value { IfOk result
+        (HasGoneOnAs mappings.now fresh (operation_of operation.now) (reading_of reading.now)
+        (reply_of answer.now)) }
     ensures turn { IfOk result (IsTurnOf (begun_in (reading_of reading.now))) }
 {
     match &reading.row {

@@ -1,10 +1,11 @@
 //! What the count of a step leaves of an attempt.
-ghost use Rattle.std.specs.Prelude.{◌≡◌, ◌+◌, ◌≤◌, ◌||◌, suc, nat_lt, if◌then◌else◌, None, is_some};
-ghost use Rattle.yt_steps.specs.Attempts.{outcome_in, Ended, Spent};
+ghost use Rattle.std.specs.Prelude.{◌≡◌, ◌+◌, ◌≤◌, suc, if◌then◌else◌, None};
+ghost use Rattle.yt_program.specs.Courses.{unless_spent};
 ghost use Rattle.yt_program.specs.PointMeanings.{phase_at, row_at};
 
 use crate::ends::End;
 use crate::points::Point;
+use yt_limits::Budget;
 
 /// The count of answers after a step that takes one or none.
 pub(crate) fn taken_after(taken: u32, answers: bool) -> u32
@@ -16,12 +17,12 @@ pub(crate) fn taken_after(taken: u32, answers: bool) -> u32
 }
 
 /// Keeps the point, unless all steps are made and the attempt has not ended there: it is then spent.
-pub(crate) fn spend(point: &mut Point, steps: u32, budget: u32)
+pub(crate) fn spend(point: &mut Point, steps: u32, budget: Budget)
     requires { row_at point.old ≡ None }
-    ensures phase { phase_at point.new ≡ (if is_some (outcome_in (phase_at point.old)) || nat_lt steps budget then phase_at point.old else Ended Spent) }
+    ensures phase { phase_at point.new ≡ unless_spent budget steps (phase_at point.old) }
     ensures rests { row_at point.new ≡ None }
 {
-    if steps < budget {
+    if budget.allows(steps) {
         return;
     }
     if !point.has_ended() {

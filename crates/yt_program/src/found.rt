@@ -3,6 +3,7 @@ ghost use Rattle.std.specs.Prelude.{◌≡◌, map, find, IfOk};
 ghost use Rattle.std.specs.Option.{option_map, option_copied};
 ghost use Rattle.yt_model.specs.Queries.{is_named as is_named_lem};
 ghost use Rattle.yt_model.specs.Values.{under};
+ghost use Rattle.yt_base.specs.Contents.{facts_of};
 ghost use Rattle.yt_base.specs.Meanings.{null_of, datum_of, fact_of};
 ghost use Rattle.yt_query.specs.Meanings.{reply_of};
 ghost use Rattle.yt_steps.specs.Rewriting.{standing_for as standing_for_lem};
@@ -43,7 +44,7 @@ pub(crate) type StandingList = List<Standing>;
 
 /// The tuples of an answer to `Occurs`; None exactly where there are none.
 pub(crate) fn holders(answer: &Answer) -> Option<&TupleList>
-    ensures found { option_map (λ l. map fact_of l.items) (option_copied result) ≡ holders_in (reply_of answer.now) }
+    ensures found { option_map facts_of (option_copied result) ≡ holders_in (reply_of answer.now) }
 {
     match answer {
         Answer::Tuples(tuples) => some_of(tuples),
@@ -56,7 +57,7 @@ pub(crate) fn holders(answer: &Answer) -> Option<&TupleList>
 
 // The tuples, if there are any.
 fn some_of(tuples: &TupleList) -> Option<&TupleList>
-    ensures found { option_map (λ l. map fact_of l.items) (option_copied result) ≡ some_of_lem (map fact_of tuples.now.items) }
+    ensures found { option_map facts_of (option_copied result) ≡ some_of_lem (facts_of tuples.now) }
 {
     if tuples.is_empty() {
         None
@@ -67,8 +68,9 @@ fn some_of(tuples: &TupleList) -> Option<&TupleList>
 
 /// What the named null stands for: the value of that outer name which stands first in the first of the tuples. It is
 /// the number 0 where none does. It is refused only for want of memory.
-pub(crate) fn standing_for(alloc: Global, name: Null, tuples: &TupleList) -> Result<Value, Memory>
-    ensures value { IfOk result (λ value. datum_of value ≡ standing_for_lem (null_of name) (map fact_of tuples.now.items)) }
+pub fn standing_for(alloc: Global, name: Null, tuples: &TupleList) -> Result<Value, Memory>
+    ensures value { IfOk result (λ value. datum_of value ≡
+        standing_for_lem (null_of name) (facts_of tuples.now)) }
 {
     match tuples.get(0) {
         Some(tuple) => first_named(alloc, name, tuple.values.as_slice()),
@@ -78,7 +80,8 @@ pub(crate) fn standing_for(alloc: Global, name: Null, tuples: &TupleList) -> Res
 
 // A copy of the first of the values that is a null of that outer name; the number 0 where none is.
 fn first_named(alloc: Global, name: Null, values: &[Value]) -> Result<Value, Memory>
-    ensures value { IfOk result (λ value. datum_of value ≡ first_named_lem (null_of name) (map datum_of values.now)) }
+    ensures value { IfOk result (λ value. datum_of value ≡
+        first_named_lem (null_of name) (map datum_of values.now)) }
 {
     match find_named(name, values) {
         Some(value) => value.copy(alloc),
@@ -88,7 +91,8 @@ fn first_named(alloc: Global, name: Null, values: &[Value]) -> Result<Value, Mem
 
 // The first of the values that is a null of that outer name.
 fn find_named(name: Null, values: &[Value]) -> Option<&Value>
-    ensures found { option_map datum_of (option_copied result) ≡ find (is_named_lem name.update name.place) (map datum_of values.now) }
+    ensures found { option_map datum_of (option_copied result) ≡
+        find (is_named_lem name.update name.place) (map datum_of values.now) }
 {
     values.iter().find(|value| is_named(value, name))
 }
@@ -107,7 +111,8 @@ fn is_named(value: &Value, name: Null) -> bool
 /// The tuple with each null replaced by what it stands for, and by the number 0 where it was not found. It is refused
 /// only for want of memory.
 pub(crate) fn resolved(alloc: Global, found: &[Standing], tuple: &Tuple) -> Result<Tuple, Memory>
-    ensures value { IfOk result (λ known. fact_of known ≡ under (settled_lem (map standing_of found.now)) (fact_of tuple.now)) }
+    ensures value { IfOk result (λ known. fact_of known ≡
+        under (settled_lem (map standing_of found.now)) (fact_of tuple.now)) }
 {
     let mut values = List::new(alloc);
     values.reserve(tuple.values.len())?;
@@ -122,7 +127,8 @@ pub(crate) fn resolved(alloc: Global, found: &[Standing], tuple: &Tuple) -> Resu
 
 // What the value stands for: itself, where it is no null.
 fn settled(alloc: Global, found: &[Standing], value: &Value) -> Result<Value, Memory>
-    ensures value { IfOk result (λ known. datum_of known ≡ settled_lem (map standing_of found.now) (datum_of value.now)) }
+    ensures value { IfOk result (λ known. datum_of known ≡
+        settled_lem (map standing_of found.now) (datum_of value.now)) }
 {
     match value {
         Value::Null(name) => stands_for(alloc, found, *name),
@@ -133,7 +139,8 @@ fn settled(alloc: Global, found: &[Standing], value: &Value) -> Result<Value, Me
 
 // A copy of what the named null stands for; the number 0 where it was not found.
 fn stands_for(alloc: Global, found: &[Standing], name: Null) -> Result<Value, Memory>
-    ensures value { IfOk result (λ value. datum_of value ≡ stands_for_lem (map standing_of found.now) (null_of name)) }
+    ensures value { IfOk result (λ value. datum_of value ≡
+        stands_for_lem (map standing_of found.now) (null_of name)) }
 {
     match find_standing(found, name) {
         Some(standing) => standing.value.copy(alloc),
@@ -143,7 +150,8 @@ fn stands_for(alloc: Global, found: &[Standing], name: Null) -> Result<Value, Me
 
 // The first pair of the named null.
 fn find_standing(found: &[Standing], name: Null) -> Option<&Standing>
-    ensures pair { option_map standing_of (option_copied result) ≡ find (is_found (null_of name)) (map standing_of found.now) }
+    ensures pair { option_map standing_of (option_copied result) ≡
+        find (is_found (null_of name)) (map standing_of found.now) }
 {
     found.iter().find(|standing| standing.name == name)
 }

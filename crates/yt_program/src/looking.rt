@@ -1,15 +1,11 @@
 //! The step of a look: mapping by mapping up to the first violation, whose repair it begins.
-ghost use Rattle.std.specs.Prelude.{◌≡◌, ◌+◌, ◌<◌, ◌≤◌, suc, ◌∷◌, List, Some, drop, map, length, IfOk};
-ghost use Rattle.std.specs.List.{slice_get};
-ghost use Rattle.yt_model.specs.Mappings.{Rule};
-ghost use Rattle.yt_base.specs.Meanings.{fact_of, rule_of, operation_of, heading_of};
+ghost use Rattle.std.specs.Prelude.{◌+◌, ◌<◌, ◌≤◌, IfOk};
+ghost use Rattle.yt_base.specs.Contents.{facts_of};
+ghost use Rattle.yt_base.specs.Meanings.{rule_of, operation_of, heading_of};
 ghost use Rattle.yt_query.specs.Meanings.{reply_of};
-ghost use Rattle.yt_steps.specs.Attempts.{Attempt, Look};
-ghost use Rattle.yt_steps.specs.Steps.{repair as repair_lem, look_from};
-ghost use Rattle.yt_chase.specs.Meanings.{DrawsFrom};
-ghost use Rattle.yt_program.specs.Conditions.{AreWithin};
-ghost use Rattle.yt_program.specs.Rows.{Forcing, Violating, row_tree, goes_on};
-ghost use Rattle.yt_program.specs.TurnMeanings.{turn_tree, IsTurnOf, IsOf};
+ghost use Rattle.yt_steps.specs.Attempts.{Look};
+ghost use Rattle.yt_program.specs.Rows.{Forcing, Violating};
+ghost use Rattle.yt_program.specs.TurnMeanings.{HasGoneOnAs, HasLookedOn, IsTurnOf, LooksAt, LooksFrom, Repairs, StandsAt};
 
 use crate::moves::Move;
 use crate::passing::{next_in_play, violation_asked};
@@ -19,8 +15,9 @@ use crate::rows::Row;
 use crate::starting::{force, is_yes};
 use crate::turns::Turn;
 use std::alloc::Global;
-use yt_base::{Direction, Mapping, MappingList, Memory, Operation, TupleList, WriteList};
+use yt_base::{Direction, Mapping, Memory, Operation, TupleList, WriteList};
 use yt_chase::{Fresh, Repair, existential};
+use yt_limits::Mappings;
 use yt_query::{Answer, Query};
 
 /// Looks at the mappings from place `from` on, up to the next one that may be in force for an update of this number. It
@@ -29,10 +26,9 @@ pub(crate) fn look(
     alloc: Global,
     number: u32,
     from: usize,
-    mappings: &MappingList,
+    mappings: &Mappings<'_>,
 ) -> Result<Turn, Memory>
-    requires { length mappings.now.items ≤ 65536 }
-    ensures value { IfOk result (λ turn. (P : Attempt) → P.number ≡ number → turn_tree (map rule_of mappings.now.items) P turn ≡ look_from P from (drop from (map rule_of mappings.now.items))) }
+    ensures value { IfOk result (LooksFrom mappings.now number from) }
     ensures turn { IfOk result (IsTurnOf Look) }
 {
     match next_in_play(number, from, mappings) {
@@ -44,7 +40,7 @@ pub(crate) fn look(
 // Asks for the first violation of a mapping that is in force from the start; of another one, first whether it has been
 // put in force.
 fn look_at(alloc: Global, place: u16, mapping: &Mapping) -> Result<Turn, Memory>
-    ensures value { IfOk result (λ turn. (ms : List Rule) (P : Attempt) → mapping.now.since ≤ P.number → slice_get ms place ≡ Some (rule_of mapping.now) → turn_tree ms P turn ≡ look_from P place (rule_of mapping.now ∷ drop (suc place) ms)) }
+    ensures value { IfOk result (LooksAt place (rule_of mapping.now)) }
     ensures turn { IfOk result (IsTurnOf Look) }
 {
     if mapping.since == 0 {
@@ -56,7 +52,7 @@ fn look_at(alloc: Global, place: u16, mapping: &Mapping) -> Result<Turn, Memory>
 
 // Asks for the first violation of the mapping.
 fn asks_violation(place: u16) -> Turn
-    ensures tree { (ms : List Rule) (P : Attempt) → turn_tree ms P result ≡ row_tree ms P (Violating place) }
+    ensures tree { StandsAt (Violating place) result }
     ensures turn { IsTurnOf Look result }
 {
     Turn::Asks(violation_asked(place))
@@ -64,7 +60,7 @@ fn asks_violation(place: u16) -> Turn
 
 // Asks whether the mapping has been put in force.
 fn asks_force(alloc: Global, place: u16) -> Result<Turn, Memory>
-    ensures tree { IfOk result (λ turn. (ms : List Rule) (P : Attempt) → turn_tree ms P turn ≡ row_tree ms P (Forcing place)) }
+    ensures tree { IfOk result (StandsAt (Forcing place)) }
     ensures turn { IfOk result (IsTurnOf Look) }
 {
     Ok(Turn::Asks(Reading {
@@ -79,10 +75,10 @@ pub(crate) fn found_force(
     number: u32,
     place: u16,
     answer: &Answer,
-    mappings: &MappingList,
+    mappings: &Mappings<'_>,
 ) -> Result<Turn, Memory>
-    requires { length mappings.now.items ≤ 65536 }
-    ensures value { IfOk result (λ turn. (P : Attempt) → P.number ≡ number → turn_tree (map rule_of mappings.now.items) P turn ≡ goes_on (map rule_of mappings.now.items) P (Forcing place) (reply_of answer.now)) }
+    ensures value { IfOk result
+        (HasLookedOn mappings.now number (Forcing place) (reply_of answer.now)) }
     ensures turn { IfOk result (IsTurnOf Look) }
 {
     if is_yes(answer) && (place as usize) < mappings.len() {
@@ -100,11 +96,12 @@ pub(crate) fn found_violation(
     fresh: Fresh,
     place: u16,
     answer: &Answer,
-    mappings: &MappingList,
+    mappings: &Mappings<'_>,
 ) -> Result<Turn, Memory>
-    requires within { AreWithin (map rule_of mappings.now.items) }
     requires room { fresh.drawn + 64 < 4294967296 }
-    ensures value { IfOk result (λ turn. (P : Attempt) → IsOf P fresh (operation_of operation.now) → turn_tree (map rule_of mappings.now.items) P turn ≡ goes_on (map rule_of mappings.now.items) P (Violating place) (reply_of answer.now)) }
+    ensures value { IfOk result
+        (HasGoneOnAs mappings.now fresh (operation_of operation.now) (Violating place)
+        (reply_of answer.now)) }
     ensures turn { IfOk result (IsTurnOf Look) }
 {
     match answer {
@@ -130,7 +127,8 @@ fn repair(
 ) -> Result<Turn, Memory>
     requires few { (rule_of mapping.now).existential ≤ 64 }
     requires room { fresh.drawn + 64 < 4294967296 }
-    ensures value { IfOk result (λ turn. (ms : List Rule) (P : Attempt) → DrawsFrom P fresh → turn_tree ms P turn ≡ repair_lem P (heading_of direction) place (rule_of mapping.now) (map fact_of image.now.items)) }
+    ensures value { IfOk result
+        (Repairs fresh (heading_of direction) place (rule_of mapping.now) (facts_of image.now)) }
     ensures turn { IfOk result (IsTurnOf Look) }
 {
     match direction {

@@ -1,18 +1,19 @@
 //! The mapping that a look comes to next, and a look that goes on to it in place.
-ghost use Rattle.std.specs.Prelude.{◌≡◌, ◌+◌, ◌≤◌, true, false, [], Some, drop, map, length, IfSome, IfNone};
+ghost use Rattle.std.specs.Prelude.{◌≡◌, ◌+◌, ◌≤◌, true, false, Some, IfSome, IfNone};
 ghost use Rattle.std.specs.List.{slice_get};
 ghost use Rattle.yt_model.specs.Queries.{Query as QueryMeant};
 ghost use Rattle.yt_base.specs.Meanings.{rule_of};
 ghost use Rattle.yt_query.specs.Meanings.{reply_of};
-ghost use Rattle.yt_steps.specs.Attempts.{Attempt, Look, Ended, Done};
-ghost use Rattle.yt_steps.specs.Steps.{makes, look_from};
-ghost use Rattle.yt_program.specs.Rows.{Violating, begun_in, row_tree, goes_on};
+ghost use Rattle.yt_steps.specs.Attempts.{Look};
+ghost use Rattle.yt_program.specs.Looks.{AsksNext, EndsFrom, LooksOn, SameLook};
+ghost use Rattle.yt_program.specs.Rows.{Violating, begun_in};
 ghost use Rattle.yt_program.specs.RowMeanings.{row_of};
 ghost use Rattle.yt_program.specs.PointMeanings.{reading_of};
 
 use crate::readings::Reading;
 use crate::rows::Row;
-use yt_base::{Mapping, MappingList};
+use yt_base::Mapping;
+use yt_limits::Mappings;
 use yt_query::{Answer, Query};
 
 /// Goes on in place where the answer finds no violation of the mapping, and the next one that may be in force is so from
@@ -21,10 +22,11 @@ pub(crate) fn looks_on(
     reading: &mut Reading,
     number: u32,
     answer: &Answer,
-    mappings: &MappingList,
+    mappings: &Mappings<'_>,
 ) -> bool
-    requires { length mappings.now.items ≤ 65536 }
-    ensures goes { result ≡ true → (P : Attempt) → P.number ≡ number → row_tree (map rule_of mappings.now.items) P (reading_of reading.new) ≡ goes_on (map rule_of mappings.now.items) P (reading_of reading.old) (reply_of answer.now) }
+    ensures goes { result ≡ true →
+        LooksOn mappings.now number (reading_of reading.old) (reply_of answer.now)
+        (reading_of reading.new) }
     ensures phase { begun_in (reading_of reading.new) ≡ begun_in (reading_of reading.old) }
     ensures stays { result ≡ false → reading_of reading.new ≡ reading_of reading.old }
 {
@@ -39,9 +41,10 @@ pub(crate) fn looks_on(
 
 // The place of the mapping that is next in force from the start, where the answer finds no violation at the place of this
 // row, and no mapping between may be in force.
-fn next_looked_at(row: &Row, number: u32, answer: &Answer, mappings: &MappingList) -> Option<u16>
-    requires { length mappings.now.items ≤ 65536 }
-    ensures goes { IfSome result (λ next. (q : QueryMeant) (P : Attempt) → P.number ≡ number → row_tree (map rule_of mappings.now.items) P (Violating next) ≡ goes_on (map rule_of mappings.now.items) P (row_of row.now q) (reply_of answer.now)) }
+fn next_looked_at(row: &Row, number: u32, answer: &Answer, mappings: &Mappings<'_>) -> Option<u16>
+    ensures goes { IfSome result (λ next.
+        (q : QueryMeant) → LooksOn mappings.now number (row_of row.now q) (reply_of answer.now)
+        (Violating next)) }
     ensures phase { IfSome result (λ next. (q : QueryMeant) → begun_in (row_of row.now q) ≡ Look) }
 {
     match (row, answer) {
@@ -54,10 +57,9 @@ fn next_looked_at(row: &Row, number: u32, answer: &Answer, mappings: &MappingLis
 
 /// The place of the next mapping from place `from` on that may be in force for an update of this number, if it is in
 /// force from the start.
-pub(crate) fn next_from_start(number: u32, from: usize, mappings: &MappingList) -> Option<u16>
-    requires { length mappings.now.items ≤ 65536 }
+pub(crate) fn next_from_start(number: u32, from: usize, mappings: &Mappings<'_>) -> Option<u16>
     ensures after { IfSome result (λ next. from ≤ next) }
-    ensures look { IfSome result (λ next. (P : Attempt) → P.number ≡ number → row_tree (map rule_of mappings.now.items) P (Violating next) ≡ look_from P from (drop from (map rule_of mappings.now.items))) }
+    ensures look { IfSome result (AsksNext mappings.now number from) }
 {
     match next_in_play(number, from, mappings) {
         Some((place, mapping)) => if mapping.since == 0 {
@@ -70,17 +72,16 @@ pub(crate) fn next_from_start(number: u32, from: usize, mappings: &MappingList) 
 }
 
 /// The next mapping from place `from` on that may be in force for an update of this number, with its place.
-pub(crate) fn next_in_play(
+pub(crate) fn next_in_play<'a>(
     number: u32,
     from: usize,
-    mappings: &MappingList,
-) -> Option<(u16, &Mapping)>
-    requires { length mappings.now.items ≤ 65536 }
+    mappings: &Mappings<'a>,
+) -> Option<(u16, &'a Mapping)>
     ensures after { IfSome result (λ next. from ≤ next.0) }
-    ensures found { IfSome result (λ next. slice_get (map rule_of mappings.now.items) next.0 ≡ Some (rule_of next.1.now)) }
+    ensures found { IfSome result (λ at. slice_get mappings.now at.0 ≡ Some (rule_of at.1.now)) }
     ensures since { IfSome result (λ next. next.1.now.since ≤ number) }
-    ensures passed { IfSome result (λ next. (P : Attempt) → P.number ≡ number → look_from P next.0 (drop next.0 (map rule_of mappings.now.items)) ≡ look_from P from (drop from (map rule_of mappings.now.items))) }
-    ensures ends { IfNone result ((P : Attempt) → P.number ≡ number → makes [] (Ended Done) ≡ look_from P from (drop from (map rule_of mappings.now.items))) }
+    ensures passed { IfSome result (λ at. SameLook mappings.now number at.0 from) }
+    ensures ends { IfNone result (EndsFrom mappings.now number from) }
 {
     for place in from..mappings.len() {
         if let Some(mapping) = in_play(number, place, mappings) {
@@ -91,9 +92,9 @@ pub(crate) fn next_in_play(
 }
 
 // The mapping at the place, if it may be in force for an update of this number.
-fn in_play(number: u32, place: usize, mappings: &MappingList) -> Option<&Mapping>
-    ensures passed { IfNone result ((P : Attempt) → P.number ≡ number → look_from P place (drop place (map rule_of mappings.now.items)) ≡ look_from P (place + 1) (drop (place + 1) (map rule_of mappings.now.items))) }
-    ensures found { IfSome result (λ mapping. slice_get (map rule_of mappings.now.items) place ≡ Some (rule_of mapping.now)) }
+fn in_play<'a>(number: u32, place: usize, mappings: &Mappings<'a>) -> Option<&'a Mapping>
+    ensures passed { IfNone result (SameLook mappings.now number place (place + 1)) }
+    ensures found { IfSome result (λ m. slice_get mappings.now place ≡ Some (rule_of m.now)) }
     ensures since { IfSome result (λ mapping. mapping.now.since ≤ number) }
 {
     match mappings.get(place) {

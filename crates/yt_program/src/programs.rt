@@ -1,16 +1,16 @@
 //! A program: an attempt at an update, step by step.
-ghost use Rattle.std.specs.Prelude.{◌≡◌, ◌≤◌, true, false, None, Some, List, map, is_some, IfOk, OnOk, OnErr};
+ghost use Rattle.std.specs.Prelude.{◌≡◌, ◌<◌, ◌≤◌, true, false, None, List, is_some, IfOk, OnOk, OnErr};
 ghost use Rattle.yt_model.specs.Mappings.{Rule};
-ghost use Rattle.yt_base.specs.Meanings.{choice_of, operation_of, rule_of};
+ghost use Rattle.yt_base.specs.Meanings.{choice_of, operation_of};
 ghost use Rattle.yt_query.specs.Meanings.{reply_of};
-ghost use Rattle.yt_steps.specs.Attempts.{begun, question_in, Look};
-ghost use Rattle.yt_steps.specs.Steps.{step, moved, look_from};
-ghost use Rattle.yt_program.specs.Conditions.{AreWithin, IsBudget};
-ghost use Rattle.yt_program.specs.Courses.{coming_to, counted, course, by_reply, first_asked};
+ghost use Rattle.yt_steps.specs.Attempts.{question_in, Look};
+ghost use Rattle.yt_steps.specs.Steps.{moved};
+ghost use Rattle.yt_program.specs.Courses.{between, counted, course, first_asked};
 ghost use Rattle.yt_program.specs.Wishes.{wish, WishesStep, query_wished, TakesAnswer, Fits};
 ghost use Rattle.yt_chase.specs.Meanings.{DrawsFrom};
 ghost use Rattle.yt_program.specs.PointMeanings.{want_of};
-ghost use Rattle.yt_program.specs.TurnMeanings.{move_of, turn_tree, IsTurnOf};
+ghost use Rattle.yt_program.specs.Transitions.{IsAtStart, HasBegun, HasAnswered, HasChosen, HasLooked, StaysWhileAsking};
+ghost use Rattle.yt_program.specs.TurnMeanings.{move_of, HasFollowed, IsTurnOf};
 
 use crate::answering::answered;
 use crate::counting::{spend, taken_after};
@@ -25,14 +25,15 @@ use crate::turns::Turn;
 use crate::writing::{is_writing, write};
 use std::alloc::Global;
 use std::marker::Model;
-use yt_base::{Choice, MappingList, Memory, Operation, TryCopy, Update, WriteList};
+use yt_base::{Choice, Memory, Operation, TryCopy, Update, WriteList};
 use yt_chase::{Fresh, Progress, append};
+use yt_limits::{Budget, Mappings};
 use yt_query::Answer;
 
 /// The step in hand: its budget, and whether it takes the answer to a question.
 #[derive(Clone, Copy, Debug)]
 pub(crate) struct Hand {
-    pub(crate) budget: u32,
+    pub(crate) budget: Budget,
     pub(crate) answers: bool,
 }
 
@@ -72,7 +73,7 @@ impl Program {
         number: u32,
         attempt: u32,
     ) -> Result<Program, Memory>
-        ensures begun { IfOk result (λ made. made ≡ record { attempt = begun number attempt (operation_of update.now.operation); reading = None }) }
+        ensures begun { IfOk result (IsAtStart number attempt (operation_of update.now.operation)) }
     {
         Ok(Program {
             number,
@@ -83,7 +84,7 @@ impl Program {
             nulls: 0,
             taken: 0,
             hand: Hand {
-                budget: 0,
+                budget: Budget::new(1),
                 answers: false,
             },
             point: Point::Start,
@@ -94,7 +95,8 @@ impl Program {
     /// the attempt between two steps wants. It takes no memory.
     pub fn wants(&self) -> Want<'_>
         ensures want { want_of result ≡ wish self.now }
-        ensures first { (ms : List Rule) → first_asked (course ms self.now) ≡ query_wished (want_of result) }
+        ensures first { (ms : List Rule) →
+            first_asked (course ms self.now) ≡ query_wished (want_of result) }
         ensures rests { query_wished (want_of result) ≡ None → self.now.reading ≡ None }
     {
         match &self.point {
@@ -111,14 +113,13 @@ impl Program {
     pub fn begin(
         &mut self,
         alloc: Global,
-        mappings: &MappingList,
-        budget: u32,
+        mappings: &Mappings<'_>,
+        budget: Budget,
     ) -> Result<(), Memory>
         requires next { wish self.old ≡ WishesStep }
-        requires within { AreWithin (map rule_of mappings.now.items) }
-        requires budget { IsBudget self.old.attempt.steps budget }
-        ensures step { OnOk result (course (map rule_of mappings.now.items) self.new ≡ coming_to budget self.old.attempt (step (map rule_of mappings.now.items) self.old.attempt None)) }
-        ensures attempt { is_some self.new.reading ≡ true → self.new.attempt ≡ self.old.attempt }
+        requires left { self.old.attempt.steps < budget }
+        ensures step { OnOk result (HasBegun mappings.now budget self.old self.new) }
+        ensures attempt { StaysWhileAsking self.old self.new }
         ensures err { OnErr result (self.new ≡ self.old) }
     {
         let hand = Hand {
@@ -145,13 +146,12 @@ impl Program {
     }
 
     // Begins a look.
-    fn look(&mut self, alloc: Global, mappings: &MappingList, hand: Hand) -> Result<(), Memory>
-        requires within { AreWithin (map rule_of mappings.now.items) }
-        requires budget { IsBudget self.old.attempt.steps hand.budget }
+    fn look(&mut self, alloc: Global, mappings: &Mappings<'_>, hand: Hand) -> Result<(), Memory>
+        requires left { self.old.attempt.steps < hand.budget }
         requires phase { self.old.attempt.phase ≡ Look }
         requires answers { hand.answers ≡ false }
-        ensures step { OnOk result (course (map rule_of mappings.now.items) self.new ≡ coming_to hand.budget self.old.attempt (look_from self.old.attempt 0 (map rule_of mappings.now.items))) }
-        ensures attempt { is_some self.new.reading ≡ true → self.new.attempt ≡ self.old.attempt }
+        ensures step { OnOk result (HasLooked mappings.now hand.budget self.old self.new) }
+        ensures attempt { StaysWhileAsking self.old self.new }
         ensures err { OnErr result (self.new ≡ self.old) }
     {
         let turn = look(alloc, self.number, 0, mappings)?;
@@ -164,12 +164,11 @@ impl Program {
         &mut self,
         alloc: Global,
         answer: &Answer,
-        mappings: &MappingList,
+        mappings: &Mappings<'_>,
     ) -> Result<(), Memory>
-        requires within { AreWithin (map rule_of mappings.now.items) }
-        requires kind { TakesAnswer (map rule_of mappings.now.items) (wish self.old) (reply_of answer.now) }
-        ensures step { OnOk result (course (map rule_of mappings.now.items) self.new ≡ by_reply (course (map rule_of mappings.now.items) self.old) (reply_of answer.now)) }
-        ensures attempt { is_some self.new.reading ≡ true → self.new.attempt ≡ self.old.attempt }
+        requires kind { TakesAnswer mappings.now (wish self.old) (reply_of answer.now) }
+        ensures step { OnOk result (HasAnswered mappings.now answer.now self.old self.new) }
+        ensures attempt { StaysWhileAsking self.old self.new }
         ensures err { OnErr result (self.new ≡ self.old) }
     {
         if self.looks_on(answer, mappings) {
@@ -180,9 +179,8 @@ impl Program {
 
     // Goes on in place in a look that finds no violation of a mapping, where the next one that may be in force is so from
     // the start, and says so. Else the program stays as it is.
-    fn looks_on(&mut self, answer: &Answer, mappings: &MappingList) -> bool
-        requires within { AreWithin (map rule_of mappings.now.items) }
-        ensures step { result ≡ true → course (map rule_of mappings.now.items) self.new ≡ by_reply (course (map rule_of mappings.now.items) self.old) (reply_of answer.now) }
+    fn looks_on(&mut self, answer: &Answer, mappings: &Mappings<'_>) -> bool
+        ensures step { result ≡ true → HasAnswered mappings.now answer.now self.old self.new }
         ensures attempt { self.new.attempt ≡ self.old.attempt }
         ensures stays { result ≡ false → self.new ≡ self.old }
     {
@@ -200,12 +198,11 @@ impl Program {
         &mut self,
         alloc: Global,
         answer: &Answer,
-        mappings: &MappingList,
+        mappings: &Mappings<'_>,
     ) -> Result<(), Memory>
-        requires within { AreWithin (map rule_of mappings.now.items) }
-        requires kind { TakesAnswer (map rule_of mappings.now.items) (wish self.old) (reply_of answer.now) }
-        ensures step { OnOk result (course (map rule_of mappings.now.items) self.new ≡ by_reply (course (map rule_of mappings.now.items) self.old) (reply_of answer.now)) }
-        ensures attempt { is_some self.new.reading ≡ true → self.new.attempt ≡ self.old.attempt }
+        requires kind { TakesAnswer mappings.now (wish self.old) (reply_of answer.now) }
+        ensures step { OnOk result (HasAnswered mappings.now answer.now self.old self.new) }
+        ensures attempt { StaysWhileAsking self.old self.new }
         ensures err { OnErr result (self.new ≡ self.old) }
     {
         let hand = self.hand;
@@ -240,14 +237,13 @@ impl Program {
         &mut self,
         alloc: Global,
         choice: &Choice,
-        mappings: &MappingList,
-        budget: u32,
+        mappings: &Mappings<'_>,
+        budget: Budget,
     ) -> Result<(), Memory>
         requires fits { Fits (wish self.old) (choice_of choice.now) }
-        requires within { AreWithin (map rule_of mappings.now.items) }
-        requires budget { IsBudget self.old.attempt.steps budget }
-        ensures step { OnOk result (course (map rule_of mappings.now.items) self.new ≡ coming_to budget self.old.attempt (step (map rule_of mappings.now.items) self.old.attempt (Some (choice_of choice.now)))) }
-        ensures attempt { is_some self.new.reading ≡ true → self.new.attempt ≡ self.old.attempt }
+        requires left { self.old.attempt.steps < budget }
+        ensures step { OnOk result (HasChosen mappings.now budget choice.now self.old self.new) }
+        ensures attempt { StaysWhileAsking self.old self.new }
         ensures err { OnErr result (self.new ≡ self.old) }
     {
         let hand = Hand {
@@ -271,11 +267,11 @@ impl Program {
 
     // Goes on to what the step has come to.
     fn follow(&mut self, alloc: Global, turn: Turn, hand: Hand) -> Result<(), Memory>
-        requires budget { IsBudget self.old.attempt.steps hand.budget }
+        requires left { self.old.attempt.steps < hand.budget }
         requires answers { hand.answers ≡ is_some (question_in self.old.attempt.phase) }
         requires turn { IsTurnOf self.old.attempt.phase turn }
-        ensures step { OnOk result ((ms : List Rule) → course ms self.new ≡ coming_to hand.budget self.old.attempt (turn_tree ms self.old.attempt turn)) }
-        ensures attempt { is_some self.new.reading ≡ true → self.new.attempt ≡ self.old.attempt }
+        ensures step { OnOk result (HasFollowed hand.budget turn self.old self.new) }
+        ensures attempt { StaysWhileAsking self.old self.new }
         ensures err { OnErr result (self.new ≡ self.old) }
     {
         match turn {
@@ -290,9 +286,10 @@ impl Program {
 
     // Does what the step does, and counts it.
     fn make(&mut self, alloc: Global, step: Move, hand: Hand) -> Result<(), Memory>
-        requires budget { IsBudget self.old.attempt.steps hand.budget }
+        requires left { self.old.attempt.steps < hand.budget }
         requires answers { hand.answers ≡ is_some (question_in self.old.attempt.phase) }
-        ensures moved { OnOk result (self.new ≡ record { attempt = moved hand.budget self.old.attempt (move_of step); reading = None }) }
+        ensures moved { OnOk result (self.new ≡
+            between (moved hand.budget self.old.attempt (move_of step))) }
         ensures err { OnErr result (self.new ≡ self.old) }
     {
         append(alloc, &mut self.own, step.writes)?;
@@ -305,9 +302,11 @@ impl Program {
     fn land(&mut self, drawn: u32, hand: Hand)
         requires rests { self.old.reading ≡ None }
         requires few { drawn ≤ 64 }
-        requires budget { IsBudget self.old.attempt.steps hand.budget }
-        ensures counted { self.new ≡ record { attempt = counted hand.budget hand.answers drawn self.old.attempt; reading = None } }
+        requires left { self.old.attempt.steps < hand.budget }
+        ensures counted { self.new ≡
+            between (counted hand.budget hand.answers drawn self.old.attempt) }
     {
+        hand.budget.is_within();
         self.steps += 1;
         self.nulls += drawn;
         self.taken = taken_after(self.taken, hand.answers);

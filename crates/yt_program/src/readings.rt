@@ -27,7 +27,8 @@ impl TryCopy for Reading {
     ghost meaning = { λ r. row_of r.row (query_of r.query) };
 
     fn copy(&self, alloc: Global) -> Result<Reading, Memory>
-        ensures same { IfOk result (λ copy. row_of copy.row (query_of copy.query) ≡ row_of self.now.row (query_of self.now.query)) }
+        ensures same { IfOk result (λ copy. row_of copy.row (query_of copy.query) ≡
+            row_of self.now.row (query_of self.now.query)) }
     {
         Ok(Reading {
             query: self.query.copy(alloc)?,

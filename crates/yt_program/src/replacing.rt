@@ -1,16 +1,16 @@
 //! The step of a replacement: the tuples that hold the null are rewritten.
-ghost use Rattle.std.specs.Prelude.{◌≡◌, List, map, IfOk};
-ghost use Rattle.yt_model.specs.Values.{NullName, Unknown};
+ghost use Rattle.std.specs.Prelude.{List, IfOk};
+ghost use Rattle.yt_model.specs.Values.{Unknown};
 ghost use Rattle.yt_model.specs.Mappings.{Rule};
 ghost use Rattle.yt_model.specs.Queries.{Occurs};
-ghost use Rattle.yt_base.specs.Meanings.{null_of, datum_of, fact_of, operation_of};
+ghost use Rattle.yt_base.specs.Contents.{facts_of};
+ghost use Rattle.yt_base.specs.Meanings.{null_of, datum_of, operation_of};
 ghost use Rattle.yt_query.specs.Meanings.{reply_of};
 ghost use Rattle.yt_query.specs.Kinds.{IsOfKind};
-ghost use Rattle.yt_steps.specs.Attempts.{Attempt, Start, Look};
-ghost use Rattle.yt_steps.specs.Rewriting.{rewrite as rewrite_lem, replacing, standing_for as standing_for_lem};
-ghost use Rattle.yt_steps.specs.Steps.{makes};
-ghost use Rattle.yt_program.specs.Rows.{Replacing, Renaming, goes_on, replaced as replaced_lem};
-ghost use Rattle.yt_program.specs.TurnMeanings.{turn_tree, IsTurnOf};
+ghost use Rattle.yt_steps.specs.Attempts.{Start};
+ghost use Rattle.yt_program.specs.RowMeanings.{renaming};
+ghost use Rattle.yt_program.specs.Rows.{Replacing, rewriting};
+ghost use Rattle.yt_program.specs.TurnMeanings.{AlwaysComesTo, HasGoneOn, HasGoneOnFor, IsTurnOf, Replaces};
 
 use crate::found::{holders, standing_for};
 use crate::readings::Reading;
@@ -28,8 +28,11 @@ pub(crate) fn found_replaced(
     name: Null,
     answer: &Answer,
 ) -> Result<Turn, Memory>
-    requires { (ms : List Rule) → IsOfKind ms (Occurs name.update name.place) (reply_of answer.now) }
-    ensures value { IfOk result (λ turn. (ms : List Rule) (P : Attempt) → P.operation ≡ operation_of operation.now → turn_tree ms P turn ≡ goes_on ms P (Replacing (null_of name)) (reply_of answer.now)) }
+    requires { (ms : List Rule) → IsOfKind ms (Occurs name.update name.place)
+        (reply_of answer.now) }
+    ensures value { IfOk result
+        (HasGoneOnFor (operation_of operation.now) (Replacing (null_of name))
+        (reply_of answer.now)) }
     ensures turn { IfOk result (IsTurnOf Start) }
 {
     match holders(answer) {
@@ -49,7 +52,8 @@ fn replaced(
     null: Null,
     tuples: &TupleList,
 ) -> Result<Turn, Memory>
-    ensures value { IfOk result (λ turn. (ms : List Rule) (P : Attempt) (n : NullName) → standing_for_lem n (map fact_of tuples.now.items) ≡ Unknown (null_of null) → turn_tree ms P turn ≡ replaced_lem (operation_of operation.now) n (map fact_of tuples.now.items)) }
+    ensures value { IfOk result
+        (Replaces (operation_of operation.now) (Unknown (null_of null)) (facts_of tuples.now)) }
     ensures turn { IfOk result (IsTurnOf Start) }
 {
     match operation {
@@ -80,7 +84,8 @@ pub(crate) fn found_replacement(
     tuples: &TupleList,
     answer: &Answer,
 ) -> Result<Turn, Memory>
-    ensures value { IfOk result (λ turn. (ms : List Rule) (P : Attempt) → turn_tree ms P turn ≡ goes_on ms P (Renaming (null_of name) (Unknown (null_of null)) (map fact_of tuples.now.items)) (reply_of answer.now)) }
+    ensures value { IfOk result
+        (HasGoneOn (renaming name null tuples.now) (reply_of answer.now)) }
     ensures turn { IfOk result (IsTurnOf Start) }
 {
     match holders(answer) {
@@ -94,7 +99,9 @@ pub(crate) fn found_replacement(
 
 // Rewrites the tuples with the value in place of the null.
 fn rewritten(alloc: Global, null: Null, value: Value, tuples: &TupleList) -> Result<Turn, Memory>
-    ensures value { IfOk result (λ turn. (ms : List Rule) (P : Attempt) → turn_tree ms P turn ≡ makes (rewrite_lem (replacing (Unknown (null_of null)) (datum_of value)) (map fact_of tuples.now.items)) Look) }
+    ensures value { IfOk result
+        (AlwaysComesTo (rewriting (Unknown (null_of null)) (datum_of value)
+        (facts_of tuples.now))) }
     ensures turn { IfOk result (IsTurnOf Start) }
 {
     let mut sub = Sub::new(alloc);

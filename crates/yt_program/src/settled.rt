@@ -1,29 +1,24 @@
 //! A look that passes over mappings that are settled.
-ghost use Rattle.std.specs.Prelude.{◌≡◌, ◌≤◌, false, map, length, slice_index_or};
-ghost use Rattle.yt_model.specs.Queries.{Query as QueryMeant, Reply};
-ghost use Rattle.yt_base.specs.Meanings.{rule_of};
-ghost use Rattle.yt_steps.specs.Attempts.{Attempt};
-ghost use Rattle.yt_program.specs.Conditions.{AreWithin};
-ghost use Rattle.yt_program.specs.Courses.{course};
-ghost use Rattle.yt_program.specs.Rows.{Violating, begun_in, row_tree};
+ghost use Rattle.std.specs.Prelude.{◌≡◌, false, slice_index_or};
+ghost use Rattle.yt_program.specs.Looks.{Passes};
+ghost use Rattle.yt_program.specs.Rows.{Violating, begun_in};
 ghost use Rattle.yt_program.specs.PointMeanings.{reading_of};
-ghost use Rattle.yt_program.specs.Settled.{FindsNone, IsShorter};
+ghost use Rattle.yt_program.specs.Transitions.{HasPassed};
 
 use crate::passing::{next_from_start, violation_asked};
 use crate::points::Point;
 use crate::programs::Program;
 use crate::readings::Reading;
 use crate::rows::Row;
-use yt_base::MappingList;
+use yt_limits::Mappings;
 
 impl Program {
     /// Passes, in a look, over mappings that are settled: `settled[n]` says that the mapping of number n has no violation
     /// that counts. The step then asks for the first violation of the next mapping that is not settled; but of the last
     /// settled one where the look would end behind it, or where it has to be asked whether the next one is in force. What
     /// the step comes to is the same, and it asks no more than before. It takes no memory.
-    pub fn pass(&mut self, settled: &[bool], mappings: &MappingList)
-        requires within { AreWithin (map rule_of mappings.now.items) }
-        ensures passed { (val : QueryMeant → Reply) → FindsNone val settled.now → IsShorter val (course (map rule_of mappings.now.items) self.old) (course (map rule_of mappings.now.items) self.new) }
+    pub fn pass(&mut self, settled: &[bool], mappings: &Mappings<'_>)
+        ensures passed { HasPassed mappings.now settled.now self.old self.new }
         ensures attempt { self.new.attempt ≡ self.old.attempt }
     {
         if let Point::Reading(reading) = &mut self.point {
@@ -34,9 +29,9 @@ impl Program {
 
 // Where the first violation of a mapping with a mark is asked for, passes on to the next mapping without a mark, or to
 // the last before one that may be in force, but is not so from the start.
-fn pass(reading: &mut Reading, number: u32, marks: &[bool], mappings: &MappingList)
-    requires { length mappings.now.items ≤ 65536 }
-    ensures passed { (val : QueryMeant → Reply) (P : Attempt) → FindsNone val marks.now → P.number ≡ number → IsShorter val (row_tree (map rule_of mappings.now.items) P (reading_of reading.old)) (row_tree (map rule_of mappings.now.items) P (reading_of reading.new)) }
+fn pass(reading: &mut Reading, number: u32, marks: &[bool], mappings: &Mappings<'_>)
+    ensures passed { Passes mappings.now marks.now number (reading_of reading.old)
+        (reading_of reading.new) }
     ensures phase { begun_in (reading_of reading.new) ≡ begun_in (reading_of reading.old) }
 {
     if let Row::Violating(place) = &reading.row {
@@ -47,9 +42,8 @@ fn pass(reading: &mut Reading, number: u32, marks: &[bool], mappings: &MappingLi
 
 // The first place from `from` on without a mark, if all mappings up to it that may be in force are so from the start;
 // else the last before one that is not, or before the end.
-fn first_unmarked(from: u16, number: u32, marks: &[bool], mappings: &MappingList) -> u16
-    requires { length mappings.now.items ≤ 65536 }
-    ensures passed { (val : QueryMeant → Reply) (P : Attempt) → FindsNone val marks.now → P.number ≡ number → IsShorter val (row_tree (map rule_of mappings.now.items) P (Violating from)) (row_tree (map rule_of mappings.now.items) P (Violating result)) }
+fn first_unmarked(from: u16, number: u32, marks: &[bool], mappings: &Mappings<'_>) -> u16
+    ensures passed { Passes mappings.now marks.now number (Violating from) (Violating result) }
 {
     let mut place = from;
     'places: while is_marked(marks, place) {

@@ -1,14 +1,14 @@
 //! The step of an insertion or a deletion: its named nulls are looked up, then it is asked whether its tuple is there.
-ghost use Rattle.std.specs.Prelude.{◌≡◌, List, [], ◌∷◌, ◌++◌, drop, map, IfOk};
-ghost use Rattle.yt_model.specs.Mappings.{Rule, force as force_lem};
+ghost use Rattle.std.specs.Prelude.{◌≡◌, [], drop, map, IfOk};
+ghost use Rattle.yt_model.specs.Mappings.{force as force_lem};
 ghost use Rattle.yt_base.specs.Meanings.{null_of, datum_of, fact_of, operation_of};
 ghost use Rattle.yt_query.specs.Meanings.{reply_of};
-ghost use Rattle.yt_steps.specs.Attempts.{Attempt, Start};
+ghost use Rattle.yt_steps.specs.Attempts.{Start};
 ghost use Rattle.yt_steps.specs.Rewriting.{nulls_in as nulls_in_lem};
 ghost use Rattle.yt_steps.specs.Steps.{start as start_lem, is_yes as is_yes_lem};
-ghost use Rattle.yt_program.specs.Rows.{Writing, row_tree, goes_on, named, present as present_lem};
-ghost use Rattle.yt_program.specs.RowMeanings.{standing_of, naming_of};
-ghost use Rattle.yt_program.specs.TurnMeanings.{turn_tree, IsTurnOf};
+ghost use Rattle.yt_program.specs.Rows.{Writing};
+ghost use Rattle.yt_program.specs.RowMeanings.{found_with, naming_of, standing_of};
+ghost use Rattle.yt_program.specs.TurnMeanings.{AsksPresent, ComesTo, HasGoneOnFor, IsTurnOf, LooksUp, StandsAt};
 
 use crate::found::{Standing, StandingList, holders, resolved, standing_for};
 use crate::readings::Reading;
@@ -22,7 +22,8 @@ use yt_query::{Answer, Query};
 
 /// Begins the step of the operation. It is refused only for want of memory.
 pub(crate) fn start(alloc: Global, operation: &Operation) -> Result<Turn, Memory>
-    ensures value { IfOk result (λ turn. (ms : List Rule) (P : Attempt) → P.operation ≡ operation_of operation.now → turn_tree ms P turn ≡ start_lem (operation_of operation.now)) }
+    ensures value { IfOk result
+        (ComesTo (operation_of operation.now) (start_lem (operation_of operation.now))) }
     ensures turn { IfOk result (IsTurnOf Start) }
 {
     match operation {
@@ -41,7 +42,8 @@ pub(crate) fn start(alloc: Global, operation: &Operation) -> Result<Turn, Memory
 
 // Begins to look up the named nulls of the operation's tuple.
 fn look_up(alloc: Global, operation: &Operation, tuple: &Tuple) -> Result<Turn, Memory>
-    ensures value { IfOk result (λ turn. (ms : List Rule) (P : Attempt) → P.operation ≡ operation_of operation.now → turn_tree ms P turn ≡ named (operation_of operation.now) [] (nulls_in_lem (fact_of tuple.now).values)) }
+    ensures value { IfOk result
+        (LooksUp (operation_of operation.now) [] (nulls_in_lem (fact_of tuple.now).values)) }
     ensures turn { IfOk result (IsTurnOf Start) }
 {
     let names = nulls_in(alloc, tuple.values.as_slice())?;
@@ -69,7 +71,9 @@ fn next_name(
     names: NullList,
     next: usize,
 ) -> Result<Turn, Memory>
-    ensures value { IfOk result (λ turn. (ms : List Rule) (P : Attempt) → P.operation ≡ operation_of operation.now → turn_tree ms P turn ≡ named (operation_of operation.now) (map standing_of found.items) (map null_of (drop next names.items))) }
+    ensures value { IfOk result
+        (LooksUp (operation_of operation.now) (map standing_of found.items)
+        (map null_of (drop next names.items))) }
     ensures turn { IfOk result (IsTurnOf Start) }
 {
     match names.get(next) {
@@ -91,7 +95,8 @@ fn next_name(
 
 // Asks whether the operation's tuple, with the named nulls resolved, is there.
 fn present(alloc: Global, operation: &Operation, found: &[Standing]) -> Result<Turn, Memory>
-    ensures value { IfOk result (λ turn. (ms : List Rule) (P : Attempt) → P.operation ≡ operation_of operation.now → turn_tree ms P turn ≡ present_lem (operation_of operation.now) (map standing_of found.now)) }
+    ensures value { IfOk result
+        (AsksPresent (operation_of operation.now) (map standing_of found.now)) }
     ensures turn { IfOk result (IsTurnOf Start) }
 {
     match operation {
@@ -104,7 +109,7 @@ fn present(alloc: Global, operation: &Operation, found: &[Standing]) -> Result<T
 
 // Asks whether the tuple is there, of which the operation then decides.
 fn asks_for(tuple: Tuple) -> Turn
-    ensures tree { (ms : List Rule) (P : Attempt) → turn_tree ms P result ≡ row_tree ms P (Writing (fact_of tuple)) }
+    ensures tree { StandsAt (Writing (fact_of tuple)) result }
     ensures turn { IsTurnOf Start result }
 {
     Turn::Asks(Reading {
@@ -120,7 +125,8 @@ pub(crate) fn found_name(
     naming: &Naming,
     answer: &Answer,
 ) -> Result<Turn, Memory>
-    ensures value { IfOk result (λ turn. (ms : List Rule) (P : Attempt) → P.operation ≡ operation_of operation.now → turn_tree ms P turn ≡ goes_on ms P (naming_of naming.now) (reply_of answer.now)) }
+    ensures value { IfOk result
+        (HasGoneOnFor (operation_of operation.now) (naming_of naming.now) (reply_of answer.now)) }
     ensures turn { IfOk result (IsTurnOf Start) }
 {
     match holders(answer) {
@@ -136,7 +142,8 @@ pub(crate) fn found_name(
 
 // The pairs found before, and that of the named null with the value.
 fn with_standing(alloc: Global, naming: &Naming, value: Value) -> Result<StandingList, Memory>
-    ensures value { IfOk result (λ found. map standing_of found.items ≡ map standing_of naming.now.found.items ++ (null_of naming.now.name, datum_of value) ∷ []) }
+    ensures value { IfOk result (λ found.
+        map standing_of found.items ≡ found_with naming.now (datum_of value)) }
 {
     let mut found = naming.found.copy(alloc)?;
     found.push(Standing {

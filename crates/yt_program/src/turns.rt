@@ -1,10 +1,10 @@
 //! What a step of an operation or of a look has come to.
-ghost use Rattle.std.specs.Prelude.{◌≡◌, [], List, map};
-ghost use Rattle.yt_model.specs.Mappings.{Rule};
-ghost use Rattle.yt_base.specs.Meanings.{null_of, change_of};
-ghost use Rattle.yt_steps.specs.Attempts.{Attempt, Start, Look, Ended, Done, Refused};
+ghost use Rattle.std.specs.Prelude.{[]};
+ghost use Rattle.yt_base.specs.Contents.{changes_of};
+ghost use Rattle.yt_base.specs.Meanings.{null_of};
+ghost use Rattle.yt_steps.specs.Attempts.{Start, Look, Ended, Done, Refused};
 ghost use Rattle.yt_steps.specs.Steps.{makes};
-ghost use Rattle.yt_program.specs.TurnMeanings.{turn_tree, IsTurnOf};
+ghost use Rattle.yt_program.specs.TurnMeanings.{AlwaysComesTo, IsTurnOf};
 
 use crate::ends::End;
 use crate::moves::Move;
@@ -23,7 +23,7 @@ pub(crate) enum Turn {
 impl Turn {
     /// The step of an operation makes the writes, and a look comes next.
     pub(crate) fn looks(writes: WriteList) -> Turn
-        ensures tree { (ms : List Rule) (P : Attempt) → turn_tree ms P result ≡ makes (map change_of writes.items) Look }
+        ensures tree { AlwaysComesTo (makes (changes_of writes) Look) result }
         ensures turn { IsTurnOf Start result }
     {
         Turn::Moves(Move {
@@ -35,7 +35,7 @@ impl Turn {
 
     /// The step of an operation finds the null nowhere, and the attempt is refused.
     pub(crate) fn refuses(alloc: Global, name: Null) -> Turn
-        ensures tree { (ms : List Rule) (P : Attempt) → turn_tree ms P result ≡ makes [] (Ended (Refused (null_of name))) }
+        ensures tree { AlwaysComesTo (makes [] (Ended (Refused (null_of name)))) result }
         ensures turn { IsTurnOf Start result }
     {
         Turn::Moves(Move {
@@ -47,7 +47,7 @@ impl Turn {
 
     /// The look finds no violation, and the attempt is done.
     pub(crate) fn ends(alloc: Global) -> Turn
-        ensures tree { (ms : List Rule) (P : Attempt) → turn_tree ms P result ≡ makes [] (Ended Done) }
+        ensures tree { AlwaysComesTo (makes [] (Ended Done)) result }
         ensures turn { IsTurnOf Look result }
     {
         Turn::Moves(Move {

@@ -1,10 +1,7 @@
 //! The end of the step of an insertion or a deletion, once it is known whether its tuple is there.
-ghost use Rattle.std.specs.Prelude.{◌≡◌, ◌↔◌, IsTrue, map, OnOk, OnErr};
-ghost use Rattle.yt_base.specs.Meanings.{fact_of, change_of, operation_of};
-ghost use Rattle.yt_program.specs.Rows.{written};
-ghost use Rattle.yt_steps.specs.Attempts.{Start, Look};
-ghost use Rattle.yt_chase.specs.Stands.{Moved, settled};
-ghost use Rattle.yt_program.specs.PointMeanings.{IsWriting, tuple_at};
+ghost use Rattle.std.specs.Prelude.{◌≡◌, ◌↔◌, IsTrue, OnOk, OnErr};
+ghost use Rattle.yt_base.specs.Meanings.{fact_of, operation_of};
+ghost use Rattle.yt_program.specs.PointMeanings.{HasWritten, IsWriting, tuple_at};
 
 use crate::points::Point;
 use crate::readings::Reading;
@@ -36,7 +33,8 @@ pub(crate) fn write(
     there: bool,
 ) -> Result<(), Memory>
     requires { IsWriting point.old }
-    ensures written { OnOk result (Moved (map change_of own.new.items) Look 0 ≡ settled (map change_of own.old.items) Start (written (operation_of operation.now) (tuple_at point.old) there)) }
+    ensures written { OnOk result
+        (HasWritten (operation_of operation.now) (tuple_at point.old) there own.old own.new) }
     ensures look { OnOk result (point.new ≡ Point.Look) }
     ensures stays { OnErr result (point.new ≡ point.old) }
     ensures own { OnErr result (own.new.items ≡ own.old.items) }

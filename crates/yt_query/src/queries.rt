@@ -41,7 +41,8 @@ impl TryCopy for Query {
 /// violation mentions the relations on both sides of its mapping, and an occurrence mentions every relation. It
 /// takes no memory.
 pub fn mentions(query: &Query, mappings: &MappingList, relation: u16) -> bool
-    ensures answer { result ≡ mentions_lem (map rule_of mappings.now.items) (query_of query.now) relation }
+    ensures answer { result ≡ mentions_lem (map rule_of mappings.now.items)
+        (query_of query.now) relation }
 {
     match query {
         Query::Present(tuple) => tuple.relation == relation,

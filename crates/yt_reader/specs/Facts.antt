@@ -1,5 +1,5 @@
 -- A fact as a text by itself.
-use Rattle.std.specs.Prelude.{◌≡◌, ℕ, List, Result, Ok, Err, IsUtf8}
+use Rattle.std.specs.Prelude.{◌≡◌, ℕ, List, Option, Some, None, Result, Ok, Err, IsUtf8}
 use Rattle.yt_base.specs.Meanings.{fact_of as tuple_meant}
 use Rattle.yt_grammar.specs.Faults.{Kind}
 use Rattle.yt_grammar.specs.Lines.{placed_words}
@@ -9,6 +9,7 @@ use Rattle.yt_grammar.specs.Reading.{◌>>=◌}
 use Rattle.yt_grammar.specs.Sessions.{RelationSchema}
 use Rattle.yt_grammar.specs.Statements.{WrittenFact}
 use Rattle.yt_grammar.specs.Words.{words_at}
+use Rattle.yt_model.specs.Values.{Fact}
 use Rattle.yt_reader.specs.declared.tuples.TupleText.{TupleText}
 use Rattle.yt_reader.specs.declared.tuples.TupleText.TheVariants.{Malformed, Unknown, Tuple}
 use Rattle.yt_reader.specs.Places.{IsOneLine}
@@ -28,3 +29,8 @@ abbrev pub Says : List RelationSchema → List ℕ → TupleText → Type 0
 Says relations text Malformed = (fact : WrittenFact) → SpellsFact text fact → ⊥
 Says relations text Unknown = (fact : WrittenFact) × SpellsFact text fact × (kind : Kind) × (fact_of relations fact ≡ Err kind)
 Says relations text (Tuple t) = (fact : WrittenFact) × SpellsFact text fact × (fact_of relations fact ≡ Ok (tuple_meant t))
+
+-- the tuple that a fact is over relations, if it goes with them
+abbrev pub known_fact : Result Fact Kind → Option Fact
+known_fact (Ok t) = Some t
+known_fact (Err kind) = None

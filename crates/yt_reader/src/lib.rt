@@ -16,4 +16,5 @@ mod words;
 pub use crate::faults::{FaultKind, ReadFailure, SessionFault};
 pub use crate::reading::read_session;
 pub use crate::texts::fault_text;
-pub use crate::tuples::{TupleText, read_tuple};
+pub use crate::tuples::{TupleText, read_fact, read_tuple, tuple_in};
+pub use yt_forms::RawFact;

@@ -53,7 +53,8 @@ impl Reader {
     // A line that is not blank, where `end` has not been.
     #[tactic(auto, unfolding(yt_grammar::specs::Lines::open_line))]
     fn open_line(&mut self, alloc: Global, words: Words<'_>) -> Result<(), LineRefusal>
-        ensures { Gives (λ _. state_of self.new) result (open_line (state_of self.old) (words_meant words.entry)) }
+        ensures { Gives (λ _. state_of self.new) result
+            (open_line (state_of self.old) (words_meant words.entry)) }
     {
         let statement = statement_at(alloc, self.section, self.draft.format(), words)?;
         let section = section_of(&statement);
@@ -65,7 +66,8 @@ impl Reader {
     // A line with these words.
     #[tactic(auto, unfolding(yt_grammar::specs::Lines::line_with))]
     fn line_with(&mut self, alloc: Global, words: Words<'_>) -> Result<(), LineRefusal>
-        ensures { Gives (λ _. state_of self.new) result (line_with (state_of self.old) (words_meant words.entry)) }
+        ensures { Gives (λ _. state_of self.new) result
+            (line_with (state_of self.old) (words_meant words.entry)) }
     {
         if words.split_first().is_none() {
             return Ok(());
@@ -79,7 +81,8 @@ impl Reader {
     // The line that begins at the place.
     fn line_at(&mut self, alloc: Global, start: usize, line: &[u8]) -> Result<(), LineRefusal>
         requires { start + length line.now < 2 ^ 64 }
-        ensures { Gives (λ _. state_of self.new) result (line_at start (state_of self.old) line.now) }
+        ensures { Gives (λ _. state_of self.new) result
+            (line_at start (state_of self.old) line.now) }
     {
         let words = words_at(start, line)?;
         self.line_with(alloc, words)
@@ -94,7 +97,8 @@ impl Reader {
         line: &[u8],
     ) -> Result<(), ReadFailure>
         requires { start + length line.now < 2 ^ 64 }
-        ensures { GivesWhole (λ _. state_of self.new) result (numbered number (line_at start (state_of self.old) line.now)) }
+        ensures { GivesWhole (λ _. state_of self.new) result
+            (numbered number (line_at start (state_of self.old) line.now)) }
     {
         match self.line_at(alloc, start, line) {
             Ok(()) => Ok(()),
@@ -108,7 +112,8 @@ impl Reader {
 
 // Behind the last line, which has the number.
 fn closed(number: u32, reader: Reader) -> Result<Draft, ReadFailure>
-    ensures { GivesWhole (λ draft. draft) result (numbered number (closed (section_meant reader.section) reader.draft)) }
+    ensures { GivesWhole (λ draft. draft) result
+        (numbered number (closed (section_meant reader.section) reader.draft)) }
 {
     let kind = match reader.section {
         Section::Ended => return Ok(reader.draft),

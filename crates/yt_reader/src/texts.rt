@@ -74,7 +74,8 @@ fn which_text(which: Which) -> &'static [u8]
 
 // Words, a name, and words.
 fn push_named(out: &mut Vec<u8>, front: &[u8], name: &Name, behind: &[u8]) -> Result<(), AllocError>
-    ensures { OnOk result (out.new.items ≡ out.old.items ++ (front.now ++ (name.now.items ++ behind.now))) }
+    ensures { OnOk result (out.new.items ≡
+        out.old.items ++ (front.now ++ (name.now.items ++ behind.now))) }
 {
     out.extend_from_slice(front)?;
     out.extend_from_slice(name.as_slice())?;
@@ -109,7 +110,8 @@ fn push_arity(
     expected: u16,
     found: u64,
 ) -> Result<(), AllocError>
-    ensures { OnOk result (out.new.items ≡ out.old.items ++ kind_text (Arity name.now.items expected found)) }
+    ensures { OnOk result (out.new.items ≡
+        out.old.items ++ kind_text (Arity name.now.items expected found)) }
 {
     let columns = format!(in alloc; " has {expected} columns, found {found}")?;
     push_named(out, b"relation ", name, columns.as_bytes())

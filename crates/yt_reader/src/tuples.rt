@@ -1,18 +1,19 @@
 //! A tuple from the text of a fact.
 
-ghost use Rattle.std.specs.Prelude.{IfNone, IfOk, IfSome};
+ghost use Rattle.std.specs.Prelude.{◌≡◌, IfNone, IfOk, IfSome};
+ghost use Rattle.std.specs.Option.{option_map};
 ghost use Rattle.yt_base.specs.Meanings.{fact_of as tuple_meant};
 ghost use Rattle.yt_forms.specs.Views.{fact_of as fact_meant};
 ghost use Rattle.yt_grammar.specs.Meaning.{fact_of};
 ghost use Rattle.yt_grammar.specs.Statements.{WrittenFact};
 ghost use Rattle.yt_reader.specs.Answers.{Gives};
-ghost use Rattle.yt_reader.specs.Facts.{Says, SpellsFact, fact_on};
+ghost use Rattle.yt_reader.specs.Facts.{Says, SpellsFact, fact_on, known_fact};
 
 use crate::faults::LineRefusal;
 use crate::split::is_one_line;
 use crate::words::words_at;
 use std::alloc::Global;
-use yt_base::{Memory, Tuple};
+use yt_base::{Memory, TryCopy, Tuple};
 use yt_forms::{RawFact, whole_fact};
 use yt_lex::utf8_end;
 use yt_schema::Schema;
@@ -36,10 +37,13 @@ fn fact_on(alloc: Global, line: &[u8]) -> Result<RawFact, LineRefusal>
     Ok(whole_fact(alloc, words)?)
 }
 
-// The fact that a text spells, if it spells one.
-fn spelled_fact(alloc: Global, text: &[u8]) -> Result<Option<RawFact>, Memory>
-    ensures some { IfOk result (λ found. IfSome found (λ fact. SpellsFact text.now (fact_meant fact))) }
-    ensures none { IfOk result (λ found. IfNone found ((fact : WrittenFact) → SpellsFact text.now fact → ⊥)) }
+/// The fact that a text spells, if it spells one. Blanks and a comment may stand around the fact; a line feed may stand
+/// nowhere. It is refused only for want of memory.
+pub fn read_fact(alloc: Global, text: &[u8]) -> Result<Option<RawFact>, Memory>
+    ensures some { IfOk result (λ found. IfSome found (λ fact.
+        SpellsFact text.now (fact_meant fact))) }
+    ensures none { IfOk result (λ found. IfNone found ((fact : WrittenFact) →
+        SpellsFact text.now fact → ⊥)) }
 {
     if utf8_end(text).is_some() {
         return Ok(None);
@@ -66,12 +70,28 @@ fn tuple_of(alloc: Global, schema: &Schema, fact: RawFact) -> Result<Tuple, Line
     })
 }
 
+/// The tuple of a schema that a fact is; None exactly where the schema lacks its relation, or has it with another number
+/// of columns. A null may come from any update. It is refused only for want of memory.
+pub fn tuple_in(alloc: Global, schema: &Schema, fact: &RawFact) -> Result<Option<Tuple>, Memory>
+    ensures tuple { IfOk result (λ found. option_map tuple_meant found ≡ known_fact (fact_of schema.now (fact_meant fact.now))) }
+{
+    let copy = RawFact {
+        relation: fact.relation.copy(alloc)?,
+        values: fact.values.copy(alloc)?,
+    };
+    match tuple_of(alloc, schema, copy) {
+        Ok(tuple) => Ok(Some(tuple)),
+        Err(LineRefusal::Fault(_)) => Ok(None),
+        Err(LineRefusal::Memory) => Err(Memory),
+    }
+}
+
 /// Reads the text of a fact as a tuple of a schema. Blanks and a comment may stand around the fact; a
 /// line feed may stand nowhere. A null may come from any update. It is refused only for want of memory.
 pub fn read_tuple(alloc: Global, schema: &Schema, text: &[u8]) -> Result<TupleText, Memory>
     ensures says { IfOk result (Says schema.now text.now) }
 {
-    let Some(fact) = spelled_fact(alloc, text)? else {
+    let Some(fact) = read_fact(alloc, text)? else {
         return Ok(TupleText::Malformed);
     };
     match tuple_of(alloc, schema, fact) {

@@ -14,7 +14,8 @@ use yt_lex::LexRefusal;
 // A lexical fault of a line that begins at the place.
 fn placed(start: usize, refusal: LexRefusal) -> LineRefusal
     requires { start + place_in refusal < 2 ^ 64 }
-    ensures { (line : Sequence ℕ) → words_at line ≡ Err refusal → Refuses result (placed_words start (words_at line)) }
+    ensures { (line : Sequence ℕ) → words_at line ≡ Err refusal →
+        Refuses result (placed_words start (words_at line)) }
 {
     match refusal {
         LexRefusal::BadByte(place) => LineRefusal::Fault(FaultKind::BadByte(start + place)),

@@ -29,16 +29,16 @@ pub told_text : (s : SessionData) (r : ResultTold) (title finished stopped held 
     → finished ≡ with_lines (λ words. words) title (finish_lines s.updates 1 r.finishes)
     → stopped ≡ with_lines (λ words. words) finished (stop_lines_in s r.stop)
     → held ≡ with_lines (λ words. words) stopped (repository_lines s.relations r.repository)
-    → whole ≡ with_line held (committed_words s r) → whole.text ≡ result_text s r
+    → whole ≡ with_line held (committed_words r.finishes s.updates) → whole.text ≡ result_text s r
 told_text s r title finished stopped held whole t f p h w =
     let step : Written → List Word → Written = with_line in
     let first : List Word = name (codes "youtopia") ∷ name (codes "result") ∷ number (pos 1) ∷ [] in
     let fs : List (List Word) = finish_lines s.updates 1 r.finishes in
     let ps : List (List Word) = stop_lines_in s r.stop in
     let rs : List (List Word) = repository_lines s.relations r.repository in
-    let parts : whole ≡ step (fold step (fold step (fold step (step blank first) fs) ps) rs) (committed_words s r) =
-    w ∙ ap (λ (a : Written). step a (committed_words s r)) (h ∙ ap (λ (a : Written). fold step a rs) (p ∙ ap (λ (a : Written). fold step a ps) (f ∙ ap (λ (a : Written). fold step a fs) t))) in
-    ap (λ (a : Written). a.text) (parts ∙ in_five_parts step blank first fs ps rs (committed_words s r)) ∙ lines_alone (λ (words : List Word). words) (result_lines s r)
+    let parts : whole ≡ step (fold step (fold step (fold step (step blank first) fs) ps) rs) (committed_words r.finishes s.updates) =
+    w ∙ ap (λ (a : Written). step a (committed_words r.finishes s.updates)) (h ∙ ap (λ (a : Written). fold step a rs) (p ∙ ap (λ (a : Written). fold step a ps) (f ∙ ap (λ (a : Written). fold step a fs) t))) in
+    ap (λ (a : Written). a.text) (parts ∙ in_five_parts step blank first fs ps rs (committed_words r.finishes s.updates)) ∙ lines_alone (λ (words : List Word). words) (result_lines s r)
   where
     in_five_parts : {A B : Type 0} (step : B → A → B) (start : B) (x : A) (ws xs ys : List A) (y : A)
         → step (fold step (fold step (fold step (step start x) ws) xs) ys) y ≡ fold step start (x ∷ (ws ++ (xs ++ (ys ++ y ∷ []))))

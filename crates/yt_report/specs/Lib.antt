@@ -1,3 +1,5 @@
 pub mod Results
+pub mod Pages
+pub mod RowTexts
 pub mod Saved
 pub mod Refusals

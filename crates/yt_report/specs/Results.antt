@@ -52,14 +52,20 @@ tuple_words relations t = fact_words (written_fact relations t)
 abbrev pub candidate_lines : List RelationSchema → List Fact → List (List Word)
 candidate_lines relations facts = map (λ t. name (codes "candidate") ∷ tuple_words relations t) facts
 
--- A question by the name of its mapping: question positive MAPPING FACT with the generated tuple, or
--- question negative MAPPING; then the candidates, or the tuples of which some have to go.
+-- question positive MAPPING FACT with the generated tuple, and the candidates
+abbrev pub positive_lines : List RelationSchema → Name → Fact → List Fact → List (List Word)
+positive_lines relations called t candidates =
+    (name (codes "question") ∷ name (codes "positive") ∷ name called ∷ tuple_words relations t) ∷ candidate_lines relations candidates
+
+-- question negative MAPPING, and the tuples of which some have to go
+abbrev pub negative_lines : List RelationSchema → Name → List Fact → List (List Word)
+negative_lines relations called facts =
+    (name (codes "question") ∷ name (codes "negative") ∷ name called ∷ []) ∷ candidate_lines relations facts
+
+-- A question, by the name of its mapping.
 abbrev pub question_lines : SessionData → Inquiry → List (List Word)
-question_lines s (PositiveInquiry m t candidates) =
-    (name (codes "question") ∷ name (codes "positive") ∷ name (name_of (mapping_names s.mappings) m) ∷ tuple_words s.relations t)
-    ∷ candidate_lines s.relations candidates
-question_lines s (NegativeInquiry m facts) =
-    (name (codes "question") ∷ name (codes "negative") ∷ name (name_of (mapping_names s.mappings) m) ∷ []) ∷ candidate_lines s.relations facts
+question_lines s (PositiveInquiry m t candidates) = positive_lines s.relations (name_of (mapping_names s.mappings) m) t candidates
+question_lines s (NegativeInquiry m facts) = negative_lines s.relations (name_of (mapping_names s.mappings) m) facts
 
 -- what lacks for the answer
 abbrev pub lack_name : Lack → Name
@@ -80,14 +86,19 @@ abbrev pub repository_lines : List RelationSchema → List Fact → List (List W
 repository_lines relations facts = (name (codes "repository") ∷ number (pos (length facts)) ∷ []) ∷ map (tuple_words relations) facts
 
 -- committed C of U: how many of the updates came to their ends
-abbrev pub committed_words : SessionData → ResultTold → List Word
-committed_words s r = name (codes "committed") ∷ number (pos (length r.finishes)) ∷ name (codes "of") ∷ number (pos (length s.updates)) ∷ []
+abbrev pub committed_words : List FinishTold → List SessionUpdate → List Word
+committed_words finishes updates = name (codes "committed") ∷ number (pos (length finishes)) ∷ name (codes "of") ∷ number (pos (length updates)) ∷ []
+
+-- youtopia result 1
+abbrev pub title_words : List Word
+title_words = name (codes "youtopia") ∷ name (codes "result") ∷ number (pos 1) ∷ []
 
 -- the lines of the result text, from `youtopia result 1` on
 abbrev pub result_lines : SessionData → ResultTold → List (List Word)
 result_lines s r =
-    (name (codes "youtopia") ∷ name (codes "result") ∷ number (pos 1) ∷ [])
-    ∷ (finish_lines s.updates 1 r.finishes ++ (stop_lines_in s r.stop ++ (repository_lines s.relations r.repository ++ committed_words s r ∷ [])))
+    title_words
+    ∷ (finish_lines s.updates 1 r.finishes
+    ++ (stop_lines_in s r.stop ++ (repository_lines s.relations r.repository ++ committed_words r.finishes s.updates ∷ [])))
 
 -- lines of words, laid out as those of a session, each with its line feed
 abbrev pub lines_text : List (List Word) → List ℕ

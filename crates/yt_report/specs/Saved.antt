@@ -1,5 +1,6 @@
 -- The saved session: what a run left, as a session that begins with it.
-use Rattle.std.specs.Prelude.{ℕ, ◌+◌, ◌-◌, ◌==◌, Bool, true, false, ◌||◌, nat_lt, List, [], ◌∷◌, Option, Some, None, Result, Ok, Err, length, map, flat_map, filter, fold, count_by, slice_get}
+use Rattle.std.specs.Prelude.{◌≡◌, ℕ, ◌+◌, ◌-◌, ◌==◌, Bool, true, false, ◌||◌, nat_lt, List, [], ◌∷◌, Option, Some, None, Result, Ok, Err, length, map, flat_map, filter, fold, count_by, slice_get}
+use Rattle.std.specs.declared.cmp.Ordering.TheVariants.{Less}
 use Rattle.std.specs.Ordering.{is_lt}
 use Rattle.std.specs.BTreeSet.{insert_key}
 use Rattle.yt_model.specs.Values.{NullName, Datum, Number, Text, Unknown, Fact, null_cmp}
@@ -35,6 +36,12 @@ base_value nulls (Unknown n) = Unknown (base_null nulls n)
 
 abbrev pub base_fact : List NullName → Fact → Fact
 base_fact nulls t = record { relation = t.relation; values = map (base_value nulls) t.values }
+
+-- the names of a base keep the order of these tuples' nulls
+abbrev pub NamesKeepOrder : List Fact → Type 0
+NamesKeepOrder facts =
+    (i : ℕ) (m n : NullName) → slice_get (different_nulls facts) i ≡ Some m → null_cmp m n ≡ Less
+    → null_cmp (base_null (different_nulls facts) m) (base_null (different_nulls facts) n) ≡ Less
 
 -- the tuples of a repository as those of a base
 abbrev pub saved_base : List Fact → List Fact

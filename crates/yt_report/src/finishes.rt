@@ -1,12 +1,10 @@
 //! The lines of updates that came to their ends.
 
 ghost use Rattle.std.specs.Prelude.{◌≡◌, ◌+◌, ◌<◌, ◌^◌, Some, length, map, slice_get, IfOk};
-ghost use Rattle.yt_session.specs.Meanings.{update_of};
-ghost use Rattle.yt_schema.specs.Pages.{with_words};
-ghost use Rattle.yt_print.specs.Lines.{with_line, with_lines};
 ghost use Rattle.yt_program.specs.Results.{finish_of};
 ghost use Rattle.yt_program.specs.declared.results.Finish.{Finish};
 ghost use Rattle.yt_report.specs.Results.{end_words, finish_lines, finish_words};
+ghost use Rattle.yt_report.specs.Pages.{HasLine, HasLines, HasWords, updates_of};
 
 use crate::named::with_update;
 use yt_base::{Memory, Null, Value};
@@ -16,7 +14,7 @@ use yt_session::SessionUpdates;
 
 // How the update ended.
 fn with_end(page: Page, finish: &Finish) -> Result<Page, Memory>
-    ensures { IfOk result (λ p. p ≡ with_words page (end_words (finish_of finish.now).outcome)) }
+    ensures { IfOk result (HasWords page (end_words (finish_of finish.now).outcome)) }
 {
     match finish.outcome {
         Outcome::Done => page.name(b"done"),
@@ -40,7 +38,8 @@ fn with_finish(
     finish: &Finish,
 ) -> Result<Page, Memory>
     requires { number < 2 ^ 63 }
-    ensures { IfOk result (λ p. p ≡ with_line page (finish_words (map update_of updates.now.items) number (finish_of finish.now))) }
+    ensures { IfOk result (HasLine page
+        (finish_words (updates_of updates.now) number (finish_of finish.now))) }
 {
     let named = with_update(page.name(b"update")?, updates, number)?;
     with_end(named, finish)?
@@ -59,7 +58,9 @@ fn with_finish_at(
     place: usize,
 ) -> Result<Page, Memory>
     requires { place < length finishes.now }
-    ensures { (f : Finish) → slice_get finishes.now place ≡ Some f → IfOk result (λ p. p ≡ with_line page (finish_words (map update_of updates.now.items) (place + 1) (finish_of f))) }
+    ensures { (f : Finish) → slice_get finishes.now place ≡ Some f →
+        IfOk result (HasLine page (finish_words (updates_of updates.now) (place + 1)
+        (finish_of f))) }
 {
     let Some(finish) = finishes.get(place) else {
         unreachable!()
@@ -73,7 +74,8 @@ pub(crate) fn with_finishes(
     updates: &SessionUpdates,
     finishes: &[Finish],
 ) -> Result<Page, Memory>
-    ensures { IfOk result (λ p. p ≡ with_lines (λ words. words) page (finish_lines (map update_of updates.now.items) 1 (map finish_of finishes.now))) }
+    ensures { IfOk result (HasLines page
+        (finish_lines (updates_of updates.now) 1 (map finish_of finishes.now))) }
 {
     for place in 0..finishes.len() {
         page = with_finish_at(page, updates, finishes, place)?;

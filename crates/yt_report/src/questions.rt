@@ -1,14 +1,14 @@
 //! The lines of a question, and of the update that stopped at it.
 
-ghost use Rattle.std.specs.Prelude.{◌≡◌, [], ◌∷◌, codes, map, IfOk};
+ghost use Rattle.std.specs.Prelude.{◌≡◌, map, IfOk};
 ghost use Rattle.yt_base.specs.Meanings.{fact_of};
 ghost use Rattle.std.specs.Option.{option_map};
 ghost use Rattle.yt_grammar.specs.Words as word_of;
 ghost use Rattle.yt_frontier.specs.Inquiries.{inquiry_of};
 ghost use Rattle.yt_session.specs.Meanings.{session_of};
-ghost use Rattle.yt_print.specs.Lines.{with_lines};
 ghost use Rattle.yt_program.specs.Results.{lack_of, stop_of};
-ghost use Rattle.yt_report.specs.Results.{candidate_lines, lack_name, question_lines, stop_lines, stop_lines_in, tuple_words};
+ghost use Rattle.yt_report.specs.Results.{candidate_lines, lack_name, question_lines, stop_lines, stop_lines_in, negative_lines, positive_lines};
+ghost use Rattle.yt_report.specs.Pages.{HasLines};
 
 use crate::named::{mapping_name, with_update};
 use yt_base::{Memory, Tuple};
@@ -20,7 +20,7 @@ use yt_session::Session;
 
 #[tactic(auto, using(yt_print::proofs::Onward::mapped_more))]
 fn with_candidates(mut page: Page, schema: &Schema, tuples: &[Tuple]) -> Result<Page, Memory>
-    ensures { IfOk result (λ p. p ≡ with_lines (λ words. words) page (candidate_lines schema.now (map fact_of tuples.now))) }
+    ensures { IfOk result (HasLines page (candidate_lines schema.now (map fact_of tuples.now))) }
 {
     for tuple in tuples {
         page = tuple.write(page.name(b"candidate")?, schema)?.end_line()?;
@@ -36,9 +36,8 @@ fn with_positive(
     tuple: &Tuple,
     candidates: &[Tuple],
 ) -> Result<Page, Memory>
-    ensures { IfOk result (λ p. p ≡ with_lines (λ words. words) page
-        ((word_of.name (codes "question") ∷ word_of.name (codes "positive") ∷ word_of.name called.now ∷ tuple_words schema.now (fact_of tuple.now))
-        ∷ candidate_lines schema.now (map fact_of candidates.now))) }
+    ensures { IfOk result (HasLines page
+        (positive_lines schema.now called.now (fact_of tuple.now) (map fact_of candidates.now))) }
 {
     let named = page.name(b"question")?.name(b"positive")?.name(called)?;
     let told = tuple.write(named, schema)?.end_line()?;
@@ -52,9 +51,8 @@ fn with_negative(
     called: &[u8],
     tuples: &[Tuple],
 ) -> Result<Page, Memory>
-    ensures { IfOk result (λ p. p ≡ with_lines (λ words. words) page
-        ((word_of.name (codes "question") ∷ word_of.name (codes "negative") ∷ word_of.name called.now ∷ [])
-        ∷ candidate_lines schema.now (map fact_of tuples.now))) }
+    ensures { IfOk result (HasLines page
+        (negative_lines schema.now called.now (map fact_of tuples.now))) }
 {
     let told = page
         .name(b"question")?
@@ -70,7 +68,8 @@ pub(crate) fn with_question(
     session: &Session,
     question: &Question,
 ) -> Result<Page, Memory>
-    ensures { IfOk result (λ p. p ≡ with_lines (λ words. words) page (question_lines (session_of session.now) (inquiry_of question.now))) }
+    ensures { IfOk result (HasLines page
+        (question_lines (session_of session.now) (inquiry_of question.now))) }
 {
     let schema = &session.schema;
     match question {
@@ -100,7 +99,7 @@ fn lack_name(lack: Lack) -> &'static [u8]
 
 /// Adds the update that stopped, and its question.
 pub(crate) fn with_stop(page: Page, session: &Session, stop: &Stop) -> Result<Page, Memory>
-    ensures { IfOk result (λ p. p ≡ with_lines (λ words. words) page (stop_lines (session_of session.now) (stop_of stop.now))) }
+    ensures { IfOk result (HasLines page (stop_lines (session_of session.now) (stop_of stop.now))) }
 {
     let stuck = page.name(b"stuck")?;
     let named = with_update(stuck, &session.updates, stop.update as usize)?;
@@ -114,7 +113,8 @@ pub(crate) fn with_stop_in(
     session: &Session,
     stop: &Option<Stop>,
 ) -> Result<Page, Memory>
-    ensures { IfOk result (λ p. p ≡ with_lines (λ words. words) page (stop_lines_in (session_of session.now) (option_map stop_of stop.now))) }
+    ensures { IfOk result (HasLines page
+        (stop_lines_in (session_of session.now) (option_map stop_of stop.now))) }
 {
     match stop {
         None => Ok(page),

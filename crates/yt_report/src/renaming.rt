@@ -14,7 +14,8 @@ use yt_base::{List, Memory, Null, TryCopy, Tuple, TupleList, Value};
 
 // Notes the null that a value is, if it is one.
 fn note_value(nulls: &mut BTreeSet<Null>, value: &Value) -> Result<(), Memory>
-    ensures { OnOk result (map null_of nulls.new.keys ≡ fold (insert_key null_cmp) (map null_of nulls.old.keys) (null_in (datum_of value.now))) }
+    ensures { OnOk result (map null_of nulls.new.keys ≡
+        fold (insert_key null_cmp) (map null_of nulls.old.keys) (null_in (datum_of value.now))) }
 {
     match value {
         Value::Int(_) => Ok(()),
@@ -29,7 +30,9 @@ fn note_value(nulls: &mut BTreeSet<Null>, value: &Value) -> Result<(), Memory>
 // Notes the nulls of a tuple.
 #[tactic(auto, using(yt_print::proofs::Onward::pieces_more))]
 fn note_tuple(nulls: &mut BTreeSet<Null>, values: &[Value]) -> Result<(), Memory>
-    ensures { OnOk result (map null_of nulls.new.keys ≡ fold (insert_key null_cmp) (map null_of nulls.old.keys) (flat_map null_in (map datum_of values.now))) }
+    ensures { OnOk result (map null_of nulls.new.keys ≡
+        fold (insert_key null_cmp) (map null_of nulls.old.keys)
+        (flat_map null_in (map datum_of values.now))) }
 {
     for value in values {
         note_value(nulls, value)?;
@@ -40,7 +43,8 @@ fn note_tuple(nulls: &mut BTreeSet<Null>, values: &[Value]) -> Result<(), Memory
 // The set of the nulls of tuples.
 #[tactic(auto, using(yt_print::proofs::Onward::pieces_more))]
 fn different_nulls(alloc: Global, tuples: &[Tuple]) -> Result<BTreeSet<Null>, Memory>
-    ensures { IfOk result (λ nulls. map null_of nulls.keys ≡ different_nulls (map fact_of tuples.now)) }
+    ensures { IfOk result (λ nulls. map null_of nulls.keys ≡
+        different_nulls (map fact_of tuples.now)) }
 {
     let mut nulls = BTreeSet::new(alloc);
     for tuple in tuples {
@@ -90,7 +94,8 @@ fn base_null(nulls: &[Null], null: Null) -> Result<Null, Memory>
 
 fn base_value(alloc: Global, nulls: &[Null], value: &Value) -> Result<Value, Memory>
     requires { IsStrictlySortedBy (on null_of null_cmp) nulls.now }
-    ensures { IfOk result (λ v. datum_of v ≡ base_value (map null_of nulls.now) (datum_of value.now)) }
+    ensures { IfOk result (λ v. datum_of v ≡
+        base_value (map null_of nulls.now) (datum_of value.now)) }
 {
     match value {
         Value::Int(number) => Ok(Value::Int(*number)),
@@ -124,7 +129,8 @@ pub(crate) fn saved_base(alloc: Global, tuples: &[Tuple]) -> Result<TupleList, M
 
 fn renamed(alloc: Global, nulls: &[Null], tuples: &[Tuple]) -> Result<TupleList, Memory>
     requires { IsStrictlySortedBy (on null_of null_cmp) nulls.now }
-    ensures { IfOk result (λ base. map fact_of base.items ≡ map (base_fact (map null_of nulls.now)) (map fact_of tuples.now)) }
+    ensures { IfOk result (λ base. map fact_of base.items ≡
+        map (base_fact (map null_of nulls.now)) (map fact_of tuples.now)) }
 {
     let mut base = List::new(alloc);
     base.reserve(tuples.len())?;

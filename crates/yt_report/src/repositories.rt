@@ -1,12 +1,12 @@
 //! The lines of the repository, and the last line.
 
-ghost use Rattle.std.specs.Prelude.{◌≡◌, map, pos, length, [], ◌∷◌, IfOk, codes};
+ghost use Rattle.std.specs.Prelude.{map, IfOk};
 ghost use Rattle.yt_base.specs.Meanings.{fact_of};
 ghost use Rattle.yt_grammar.specs.Words as word_of;
-ghost use Rattle.yt_print.specs.Lines.{with_line, with_lines};
 ghost use Rattle.yt_program.specs.Results.{finish_of};
 ghost use Rattle.yt_session.specs.Meanings.{update_of};
-ghost use Rattle.yt_report.specs.Results.{repository_lines, tuple_words};
+ghost use Rattle.yt_report.specs.Results.{repository_lines, tuple_words, committed_words};
+ghost use Rattle.yt_report.specs.Pages.{HasLine, HasLines};
 
 use yt_base::{Memory, Tuple};
 use yt_print::Worded;
@@ -16,7 +16,7 @@ use yt_session::SessionUpdate;
 
 #[tactic(auto, using(yt_print::proofs::Onward::mapped_more))]
 fn with_tuples(mut page: Page, schema: &Schema, tuples: &[Tuple]) -> Result<Page, Memory>
-    ensures { IfOk result (λ p. p ≡ with_lines (λ words. words) page (map (tuple_words schema.now) (map fact_of tuples.now))) }
+    ensures { IfOk result (HasLines page (map (tuple_words schema.now) (map fact_of tuples.now))) }
 {
     for tuple in tuples {
         page = tuple.write(page, schema)?.end_line()?;
@@ -26,7 +26,7 @@ fn with_tuples(mut page: Page, schema: &Schema, tuples: &[Tuple]) -> Result<Page
 
 /// Adds the number of the tuples and the tuples.
 pub(crate) fn with_repository(page: Page, schema: &Schema, tuples: &[Tuple]) -> Result<Page, Memory>
-    ensures { IfOk result (λ p. p ≡ with_lines (λ words. words) page (repository_lines schema.now (map fact_of tuples.now))) }
+    ensures { IfOk result (HasLines page (repository_lines schema.now (map fact_of tuples.now))) }
 {
     let count = tuples.len() as i64;
     let counted = page.name(b"repository")?.number(count)?.end_line()?;
@@ -39,7 +39,8 @@ pub(crate) fn with_committed(
     finishes: &[Finish],
     updates: &[SessionUpdate],
 ) -> Result<Page, Memory>
-    ensures { IfOk result (λ p. p ≡ with_line page (word_of.name (codes "committed") ∷ word_of.number (pos (length (map finish_of finishes.now))) ∷ word_of.name (codes "of") ∷ word_of.number (pos (length (map update_of updates.now))) ∷ [])) }
+    ensures { IfOk result (HasLine page
+        (committed_words (map finish_of finishes.now) (map update_of updates.now))) }
 {
     let ended = finishes.len() as i64;
     let all = updates.len() as i64;

@@ -1,12 +1,12 @@
 //! The result text, and the text of a question.
 
-ghost use Rattle.std.specs.Prelude.{◌≡◌, pos, [], ◌∷◌, IfOk, codes};
+ghost use Rattle.std.specs.Prelude.{◌≡◌, IfOk};
 ghost use Rattle.yt_frontier.specs.Inquiries.{inquiry_of};
 ghost use Rattle.yt_grammar.specs.Words as word_of;
-ghost use Rattle.yt_print.specs.Lines.{with_line};
 ghost use Rattle.yt_program.specs.Results.{result_of, stop_of};
 ghost use Rattle.yt_session.specs.Meanings.{session_of};
-ghost use Rattle.yt_report.specs.Results.{lines_text, question_lines as lines_of_question, question_text, result_text};
+ghost use Rattle.yt_report.specs.Results.{lines_text, question_lines as lines_of_question, question_text, result_text, title_words};
+ghost use Rattle.yt_report.specs.Pages.{HasLine};
 
 use crate::finishes::with_finishes;
 use crate::questions::{with_question, with_stop, with_stop_in};
@@ -19,7 +19,7 @@ use yt_schema::Page;
 use yt_session::Session;
 
 fn with_title(page: Page) -> Result<Page, Memory>
-    ensures { IfOk result (λ p. p ≡ with_line page (word_of.name (codes "youtopia") ∷ word_of.name (codes "result") ∷ word_of.number (pos 1) ∷ [])) }
+    ensures { IfOk result (HasLine page title_words) }
 {
     page.name(b"youtopia")?
         .name(b"result")?
@@ -35,7 +35,8 @@ pub fn result_text(
     session: &Session,
     told: &SessionResult,
 ) -> Result<Vec<u8>, Memory>
-    ensures text { IfOk result (λ text. text.items ≡ result_text (session_of session.now) (result_of told.now)) }
+    ensures text { IfOk result (λ text. text.items ≡
+        result_text (session_of session.now) (result_of told.now)) }
 {
     let finishes = told.finishes.as_slice();
     let title = with_title(Page::new(alloc))?;
@@ -50,7 +51,8 @@ pub fn result_text(
 /// The lines of an update that stopped: which it is and what lacks, its question, and the candidates or the tuples of
 /// which some have to go. It is refused only for want of memory.
 pub fn question_text(alloc: Global, session: &Session, stop: &Stop) -> Result<Vec<u8>, Memory>
-    ensures text { IfOk result (λ text. text.items ≡ question_text (session_of session.now) (stop_of stop.now)) }
+    ensures text { IfOk result (λ text. text.items ≡
+        question_text (session_of session.now) (stop_of stop.now)) }
 {
     let page = with_stop(Page::new(alloc), session, stop)?;
     Ok(page.into_text())
@@ -62,7 +64,9 @@ pub fn question_lines(
     session: &Session,
     question: &Question,
 ) -> Result<Vec<u8>, Memory>
-    ensures text { IfOk result (λ text. text.items ≡ lines_text (lines_of_question (session_of session.now) (inquiry_of question.now))) }
+    ensures text { IfOk result (λ text.
+        text.items ≡ lines_text (lines_of_question (session_of session.now)
+        (inquiry_of question.now))) }
 {
     let page = with_question(Page::new(alloc), session, question)?;
     Ok(page.into_text())

@@ -8,6 +8,7 @@ ghost use Rattle.yt_program.specs.Results.{finish_of, result_of};
 ghost use Rattle.yt_report.specs.Saved.{from_start, is_done_in, is_too_large, saved, saved_mappings, stays_in_force};
 ghost use Rattle.yt_report.specs.Refusals.{Refuses};
 ghost use Rattle.yt_report.specs.declared.saving.SaveRefusal.TheVariants.{Memory as WantOfMemory};
+ghost use Rattle.yt_report.specs.Pages.{mappings_of};
 
 use crate::renaming::saved_base;
 use std::alloc::Global;
@@ -55,14 +56,16 @@ fn is_done(finish: Option<&Finish>) -> bool
 
 // Whether the mapping is in force in the end.
 fn stays_in_force(finishes: &[Finish], mapping: &Mapping) -> bool
-    ensures { result ≡ stays_in_force (map finish_of finishes.now) (session_mapping_of mapping.now) }
+    ensures { result ≡ stays_in_force (map finish_of finishes.now)
+        (session_mapping_of mapping.now) }
 {
     mapping.since == 0 || is_done(finishes.get((mapping.since as usize).saturating_sub(1)))
 }
 
 // A copy of the mapping, in force from the start.
 fn from_start(alloc: Global, mapping: &Mapping) -> Result<Mapping, Memory>
-    ensures { IfOk result (λ m. session_mapping_of m ≡ from_start (session_mapping_of mapping.now)) }
+    ensures { IfOk result (λ m. session_mapping_of m ≡
+        from_start (session_mapping_of mapping.now)) }
 {
     let mut kept = mapping.copy(alloc)?;
     kept.since = 0;
@@ -76,7 +79,8 @@ fn keep(
     finishes: &[Finish],
     mapping: &Mapping,
 ) -> Result<(), Memory>
-    ensures { OnOk result (map session_mapping_of kept.new.items ≡ map session_mapping_of kept.old.items ++ saved_mappings (map finish_of finishes.now) (session_mapping_of mapping.now ∷ [])) }
+    ensures { OnOk result (mappings_of kept.new ≡ mappings_of kept.old ++
+        saved_mappings (map finish_of finishes.now) (session_mapping_of mapping.now ∷ [])) }
 {
     if !stays_in_force(finishes, mapping) {
         return Ok(());
@@ -90,7 +94,9 @@ fn saved_mappings(
     finishes: &[Finish],
     mappings: &[Mapping],
 ) -> Result<MappingList, Memory>
-    ensures { IfOk result (λ kept. map session_mapping_of kept.items ≡ saved_mappings (map finish_of finishes.now) (map session_mapping_of mappings.now)) }
+    ensures { IfOk result (λ kept.
+        mappings_of kept ≡ saved_mappings (map finish_of finishes.now)
+        (map session_mapping_of mappings.now)) }
 {
     let mut kept = List::new(alloc);
     for mapping in mappings {
@@ -124,8 +130,10 @@ fn is_over(tuples: u64, bytes: u64) -> bool
 
 // The refusal of a session that is too large; None where it is not.
 fn too_large(alloc: Global, session: &Session) -> Result<Option<SaveRefusal>, Memory>
-    ensures refused { IfOk result (λ found. IfSome found (λ refusal. Refuses refusal (session_of session.now))) }
-    ensures fits { IfOk result (λ found. IfNone found (is_too_large (session_of session.now) ≡ false)) }
+    ensures refused { IfOk result (λ found.
+        IfSome found (λ refusal. Refuses refusal (session_of session.now))) }
+    ensures fits { IfOk result (λ found.
+        IfNone found (is_too_large (session_of session.now) ≡ false)) }
 {
     let text = print_session(alloc, session)?;
     let tuples = session.base.len() as u64;
@@ -140,9 +148,11 @@ fn too_large(alloc: Global, session: &Session) -> Result<Option<SaveRefusal>, Me
 /// in force in the end, the repository as its base, and no updates. It is refused as too large exactly where it has
 /// more than 100,000 tuples or its printed form more than 16,777,216 bytes; both numbers are told.
 pub fn saved(alloc: Global, session: Session, told: &SessionResult) -> Result<Session, SaveRefusal>
-    ensures same { IfOk result (λ s. session_of s ≡ saved (session_of session) (result_of told.now)) }
+    ensures same { IfOk result (λ s. session_of s ≡
+        saved (session_of session) (result_of told.now)) }
     ensures fits { IfOk result (λ s. is_too_large (session_of s) ≡ false) }
-    ensures refused { IfErr result (λ refusal. Refuses refusal (saved (session_of session) (result_of told.now))) }
+    ensures refused { IfErr result (λ refusal.
+        Refuses refusal (saved (session_of session) (result_of told.now))) }
 {
     let begun = saved_session(alloc, session, told)?;
     match too_large(alloc, &begun)? {

@@ -1,7 +1,8 @@
 -- A schema as the beginning of a session, and the checks of a mapping over it in two parts.
 use Rattle.std.specs.Prelude.{ℕ, ◌-◌, List, [], ◌∷◌, length, Result, Ok}
+use Rattle.yt_model.specs.Mappings.{Pattern}
 use Rattle.yt_grammar.specs.Faults.{Kind}
-use Rattle.yt_grammar.specs.Names.{same_name, firsts}
+use Rattle.yt_grammar.specs.Names.{Name, same_name, firsts}
 use Rattle.yt_grammar.specs.Reading.{◌>>=◌, each}
 use Rattle.yt_grammar.specs.Statements.{WrittenAtom, WrittenMapping}
 use Rattle.yt_grammar.specs.Sessions.{RelationSchema, SessionMapping, SessionData, empty_session}
@@ -36,3 +37,7 @@ mapping_over relations since m =
         right = right;
       };
     })))
+
+-- atoms with relations and variables by number, and the names of the variables, by first occurrence
+unfoldable pub numbered_atoms : List RelationSchema → List WrittenAtom → Result (List Pattern × List Name) Kind
+numbered_atoms relations atoms = each (pattern_of relations (firsts same_name (variables_in atoms))) atoms >>= (λ patterns. Ok (patterns, firsts same_name (variables_in atoms)))

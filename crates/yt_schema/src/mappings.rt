@@ -6,8 +6,9 @@ ghost use Rattle.yt_grammar.specs.Reading.{each};
 ghost use Rattle.yt_grammar.specs.Meaning.{few_atoms, mapping_of, pattern_of, some_atoms};
 ghost use Rattle.yt_schema.specs.Answers.{Gives};
 ghost use Rattle.yt_schema.specs.Meanings.{atom_of, mapping_written, session_mapping_of};
-ghost use Rattle.yt_schema.specs.Relations.{atoms_fit, mapping_over, sides_fit};
+ghost use Rattle.yt_schema.specs.Relations.{atoms_fit, mapping_over, numbered_atoms, sides_fit};
 
+use crate::names::Names;
 use crate::refusals::SchemaRefusal;
 use crate::schema::Schema;
 use crate::variables::Variables;
@@ -75,13 +76,31 @@ fn atoms_of(
     variables: &Variables,
     atoms: &[RawAtom],
 ) -> Result<AtomList, SchemaRefusal>
-    ensures { Gives (λ l. map pattern_meant l.items) result (each (pattern_of schema.now variables.now) (map atom_of atoms.now)) }
+    ensures { Gives (λ l. map pattern_meant l.items) result
+        (each (pattern_of schema.now variables.now) (map atom_of atoms.now)) }
 {
     let mut found = List::new(alloc);
     for atom in atoms {
         found.push(atom_of(alloc, schema, variables, atom)?)?;
     }
     Ok(found)
+}
+
+/// Atoms with relations and variables by number, and the names of the variables in the order of their numbers.
+/// Variables are numbered by first occurrence. The atoms are refused at the first from the left whose relation is not
+/// known or has another number of columns.
+#[tactic(auto, unfolding(crate::specs::Relations::numbered_atoms))]
+pub fn numbered_atoms(
+    alloc: Global,
+    schema: &Schema,
+    atoms: &[RawAtom],
+) -> Result<(AtomList, Names), SchemaRefusal>
+    ensures numbered { Gives (λ x. (map pattern_meant x.0.items, x.1.items)) result (numbered_atoms schema.now (map atom_of atoms.now)) }
+{
+    let mut variables = Variables::new(alloc);
+    variables.note_atoms(alloc, atoms)?;
+    let found = atoms_of(alloc, schema, &variables, atoms)?;
+    Ok((found, variables.into_names()))
 }
 
 // A mapping whose sides have been found to fit.
@@ -93,7 +112,8 @@ fn mapping_over(
     left: &RawAtoms,
     right: &RawAtoms,
 ) -> Result<Mapping, SchemaRefusal>
-    ensures { Gives session_mapping_of result (mapping_over schema.now since (mapping_written left.now right.now)) }
+    ensures { Gives session_mapping_of result
+        (mapping_over schema.now since (mapping_written left.now right.now)) }
 {
     let mut variables = Variables::new(alloc);
     variables.note_atoms(alloc, left.atoms.as_slice())?;
@@ -127,7 +147,8 @@ pub fn check_added_mapping(
     right: &RawAtoms,
 ) -> Result<Mapping, SchemaRefusal>
     requires one_name { left.now.name.items ≡ right.now.name.items }
-    ensures checked { Gives session_mapping_of result (mapping_of schema.now since (mapping_written left.now right.now)) }
+    ensures checked { Gives session_mapping_of result
+        (mapping_of schema.now since (mapping_written left.now right.now)) }
 {
     sides_fit(left, right)?;
     atoms_fit(alloc, schema, left.atoms.as_slice())?;
@@ -143,7 +164,8 @@ pub fn check_mapping(
     right: &RawAtoms,
 ) -> Result<Mapping, SchemaRefusal>
     requires one_name { left.now.name.items ≡ right.now.name.items }
-    ensures checked { Gives session_mapping_of result (mapping_of schema.now 0 (mapping_written left.now right.now)) }
+    ensures checked { Gives session_mapping_of result
+        (mapping_of schema.now 0 (mapping_written left.now right.now)) }
 {
     check_added_mapping(alloc, schema, 0, left, right)
 }

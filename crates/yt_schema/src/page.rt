@@ -69,7 +69,8 @@ impl Page {
 
     /// Adds a value, a null by its outer name.
     pub fn value(mut self, value: &Value) -> Result<Page, Memory>
-        ensures word { IfOk result (λ page. page ≡ with_word self (value_word (datum_of value.now))) }
+        ensures word { IfOk result (λ page. page ≡
+            with_word self (value_word (datum_of value.now))) }
     {
         push_space(&mut self.text, self.apart)?;
         match value {

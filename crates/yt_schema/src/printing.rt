@@ -10,14 +10,16 @@ use std::alloc::{AllocError, Global};
 use yt_base::{Memory, Tuple, Value};
 
 fn push_other(out: &mut Vec<u8>, inner: bool, value: &Value) -> Result<(), AllocError>
-    ensures { OnOk result (out.new.items ≡ out.old.items ++ 44 ∷ 32 ∷ value_text inner (datum_of value.now)) }
+    ensures { OnOk result (out.new.items ≡
+        out.old.items ++ 44 ∷ 32 ∷ value_text inner (datum_of value.now)) }
 {
     out.extend_from_slice(b", ")?;
     push_value(out, inner, value)
 }
 
 fn push_others(out: &mut Vec<u8>, inner: bool, values: &[Value]) -> Result<(), AllocError>
-    ensures { OnOk result (out.new.items ≡ out.old.items ++ flat_map (λ d. 44 ∷ 32 ∷ value_text inner d) (map datum_of values.now)) }
+    ensures { OnOk result (out.new.items ≡
+        out.old.items ++ flat_map (λ d. 44 ∷ 32 ∷ value_text inner d) (map datum_of values.now)) }
 {
     for value in values {
         push_other(out, inner, value)?;
@@ -25,8 +27,10 @@ fn push_others(out: &mut Vec<u8>, inner: bool, values: &[Value]) -> Result<(), A
     Ok(())
 }
 
-fn push_values(out: &mut Vec<u8>, inner: bool, values: &[Value]) -> Result<(), AllocError>
-    ensures { OnOk result (out.new.items ≡ out.old.items ++ joined_text (value_text inner) (map datum_of values.now)) }
+/// Adds values with a comma and a space between, nulls by their inner names where `inner` asks for them.
+pub fn push_values(out: &mut Vec<u8>, inner: bool, values: &[Value]) -> Result<(), AllocError>
+    ensures { OnOk result (out.new.items ≡
+        out.old.items ++ joined_text (value_text inner) (map datum_of values.now)) }
 {
     match values {
         [] => Ok(()),
@@ -43,7 +47,8 @@ fn push_tuple(
     inner: bool,
     tuple: &Tuple,
 ) -> Result<(), AllocError>
-    ensures { OnOk result (out.new.items ≡ out.old.items ++ tuple_text schema.now inner (fact_of tuple.now)) }
+    ensures { OnOk result (out.new.items ≡
+        out.old.items ++ tuple_text schema.now inner (fact_of tuple.now)) }
 {
     let values = tuple.values.as_slice();
     if tuple.relation == 65535 {
@@ -67,7 +72,8 @@ pub fn print_tuple(
     tuple: &Tuple,
     inner: bool,
 ) -> Result<Vec<u8>, Memory>
-    ensures printed { IfOk result (λ text. text.items ≡ tuple_text schema.now inner (fact_of tuple.now)) }
+    ensures printed { IfOk result (λ text. text.items ≡
+        tuple_text schema.now inner (fact_of tuple.now)) }
 {
     let mut text = Vec::new(alloc);
     push_tuple(&mut text, schema, inner, tuple)?;

@@ -94,7 +94,8 @@ impl Schema {
     /// session of format 2: where the name is taken, where the arity is none of 1 to 8, and where there
     /// are 128 relations, in this order.
     pub fn relation(&mut self, name: Name, arity: u16) -> Result<u16, SchemaRefusal>
-        ensures checked { Gives (λ _. with_relations self.new) result (add_relation (with_relations self.old) name.items (pos arity)) }
+        ensures checked { Gives (λ _. with_relations self.new) result
+            (add_relation (with_relations self.old) name.items (pos arity)) }
         ensures number { IfOk result (λ number. number ≡ length self.old) }
         ensures err { OnErr result (self.new ≡ self.old) }
     {

@@ -25,7 +25,8 @@ fn name_of(names: &[Name], variable: u16) -> &[u8]
 }
 
 fn with_term(page: Page, names: &[Name], term: &Term) -> Result<Page, Memory>
-    ensures { IfOk result (λ p. p ≡ with_word page (term_word (written_term (map (λ n. n.items) names.now) (slot_of term.now)))) }
+    ensures { IfOk result (λ p. p ≡ with_word page
+        (term_word (written_term (map (λ n. n.items) names.now) (slot_of term.now)))) }
 {
     match term {
         Term::Var(variable) => page.name(name_of(names, *variable)),
@@ -35,7 +36,9 @@ fn with_term(page: Page, names: &[Name], term: &Term) -> Result<Page, Memory>
 
 #[tactic(auto, using(crate::proofs::Noted::fold_more))]
 fn with_other_terms(mut page: Page, names: &[Name], terms: &[Term]) -> Result<Page, Memory>
-    ensures { IfOk result (λ p. p ≡ with_words page (flat_map (λ t. comma ∷ one_word term_word t) (map (written_term (map (λ n. n.items) names.now)) (map slot_of terms.now)))) }
+    ensures { IfOk result (λ p. p ≡ with_words page
+        (flat_map (λ t. comma ∷ one_word term_word t)
+        (map (written_term (map (λ n. n.items) names.now)) (map slot_of terms.now)))) }
 {
     for term in terms {
         page = with_term(page.comma()?, names, term)?;
@@ -49,14 +52,18 @@ fn with_some_terms(
     first: &Term,
     others: &[Term],
 ) -> Result<Page, Memory>
-    ensures { IfOk result (λ p. p ≡ with_words page (separated (one_word term_word) (map (written_term (map (λ n. n.items) names.now)) (slot_of first.now ∷ map slot_of others.now)))) }
+    ensures { IfOk result (λ p. p ≡ with_words page
+        (separated (one_word term_word) (map (written_term (map (λ n. n.items) names.now))
+        (slot_of first.now ∷ map slot_of others.now)))) }
 {
     let page = with_term(page, names, first)?;
     with_other_terms(page, names, others)
 }
 
 fn with_terms(page: Page, names: &[Name], terms: &[Term]) -> Result<Page, Memory>
-    ensures { IfOk result (λ p. p ≡ with_words page (separated (one_word term_word) (map (written_term (map (λ n. n.items) names.now)) (map slot_of terms.now)))) }
+    ensures { IfOk result (λ p. p ≡ with_words page
+        (separated (one_word term_word) (map (written_term (map (λ n. n.items) names.now))
+        (map slot_of terms.now)))) }
 {
     match terms {
         [] => Ok(page),
@@ -65,7 +72,9 @@ fn with_terms(page: Page, names: &[Name], terms: &[Term]) -> Result<Page, Memory
 }
 
 fn with_atom(page: Page, schema: &Schema, names: &[Name], atom: &Atom) -> Result<Page, Memory>
-    ensures { IfOk result (λ p. p ≡ with_words page (atom_words (written_atom schema.now (map (λ n. n.items) names.now) (pattern_of atom.now)))) }
+    ensures { IfOk result (λ p. p ≡ with_words page
+        (atom_words (written_atom schema.now (map (λ n. n.items) names.now)
+        (pattern_of atom.now)))) }
 {
     let page = page.name(schema.name(atom.relation))?.open()?;
     with_terms(page, names, atom.terms.as_slice())?.close()
@@ -78,7 +87,10 @@ fn with_other_atoms(
     names: &[Name],
     atoms: &[Atom],
 ) -> Result<Page, Memory>
-    ensures { IfOk result (λ p. p ≡ with_words page (flat_map (λ a. comma ∷ atom_words a) (map (written_atom schema.now (map (λ n. n.items) names.now)) (map pattern_of atoms.now)))) }
+    ensures { IfOk result (λ p. p ≡ with_words page
+        (flat_map (λ a. comma ∷ atom_words a)
+        (map (written_atom schema.now (map (λ n. n.items) names.now))
+        (map pattern_of atoms.now)))) }
 {
     for atom in atoms {
         page = with_atom(page.comma()?, schema, names, atom)?;
@@ -93,14 +105,18 @@ fn with_some_atoms(
     first: &Atom,
     others: &[Atom],
 ) -> Result<Page, Memory>
-    ensures { IfOk result (λ p. p ≡ with_words page (separated atom_words (map (written_atom schema.now (map (λ n. n.items) names.now)) (pattern_of first.now ∷ map pattern_of others.now)))) }
+    ensures { IfOk result (λ p. p ≡ with_words page
+        (separated atom_words (map (written_atom schema.now (map (λ n. n.items) names.now))
+        (pattern_of first.now ∷ map pattern_of others.now)))) }
 {
     let page = with_atom(page, schema, names, first)?;
     with_other_atoms(page, schema, names, others)
 }
 
 fn with_atoms(page: Page, schema: &Schema, names: &[Name], atoms: &[Atom]) -> Result<Page, Memory>
-    ensures { IfOk result (λ p. p ≡ with_words page (separated atom_words (map (written_atom schema.now (map (λ n. n.items) names.now)) (map pattern_of atoms.now)))) }
+    ensures { IfOk result (λ p. p ≡ with_words page
+        (separated atom_words (map (written_atom schema.now (map (λ n. n.items) names.now))
+        (map pattern_of atoms.now)))) }
 {
     match atoms {
         [] => Ok(page),
@@ -117,8 +133,11 @@ fn with_sides(
     right: &[Atom],
 ) -> Result<Page, Memory>
     ensures { IfOk result (λ p. p ≡ with_words page
-        (separated atom_words (map (written_atom schema.now (map (λ n. n.items) names.now)) (map pattern_of left.now))
-        ++ arrow ∷ separated atom_words (map (written_atom schema.now (map (λ n. n.items) names.now)) (map pattern_of right.now)))) }
+        (separated atom_words (map (written_atom schema.now (map (λ n. n.items) names.now))
+        (map pattern_of left.now))
+        ++ arrow ∷ separated atom_words
+        (map (written_atom schema.now (map (λ n. n.items) names.now))
+        (map pattern_of right.now)))) }
 {
     let behind = with_atoms(page, schema, names, left)?.arrow()?;
     with_atoms(behind, schema, names, right)
@@ -126,7 +145,9 @@ fn with_sides(
 
 /// Adds the words of a mapping, from the word `mapping` on.
 pub fn with_mapping(page: Page, schema: &Schema, mapping: &Mapping) -> Result<Page, Memory>
-    ensures words { IfOk result (λ p. p ≡ with_words page (statement_words (MappingStatement (written_mapping schema.now (session_mapping_of mapping.now))))) }
+    ensures words { IfOk result (λ p. p ≡
+        with_words page (statement_words (MappingStatement
+        (written_mapping schema.now (session_mapping_of mapping.now))))) }
 {
     let names = mapping.names.as_slice();
     let left = mapping.left.as_slice();
@@ -141,7 +162,8 @@ pub fn with_mapping(page: Page, schema: &Schema, mapping: &Mapping) -> Result<Pa
 /// The printed form of a mapping: `mapping NAME: LEFT -> RIGHT`, as a session spells it. It is refused
 /// only for want of memory.
 pub fn print_mapping(alloc: Global, schema: &Schema, mapping: &Mapping) -> Result<Vec<u8>, Memory>
-    ensures printed { IfOk result (λ text. text.items ≡ mapping_text schema.now (session_mapping_of mapping.now)) }
+    ensures printed { IfOk result (λ text. text.items ≡
+        mapping_text schema.now (session_mapping_of mapping.now)) }
 {
     let page = with_mapping(Page::new(alloc), schema, mapping)?;
     Ok(page.into_text())

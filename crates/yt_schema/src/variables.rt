@@ -61,7 +61,8 @@ impl Variables {
     }
 
     fn note_term(&mut self, alloc: Global, term: &RawTerm) -> Result<(), Memory>
-        ensures noted { OnOk result (self.new ≡ fold (with_new same_name) self.old (variable_of (term_of term.now))) }
+        ensures noted { OnOk result (self.new ≡
+            fold (with_new same_name) self.old (variable_of (term_of term.now))) }
     {
         match term {
             RawTerm::Var(name) => self.note(alloc, name),
@@ -71,7 +72,9 @@ impl Variables {
 
     #[tactic(auto, using(crate::proofs::Noted::fold_more))]
     fn note_atom(&mut self, alloc: Global, atom: &RawAtom) -> Result<(), Memory>
-        ensures noted { OnOk result (self.new ≡ fold (with_new same_name) self.old (flat_map variable_of (map term_of atom.now.terms.items))) }
+        ensures noted { OnOk result (self.new ≡
+            fold (with_new same_name) self.old
+            (flat_map variable_of (map term_of atom.now.terms.items))) }
     {
         for term in atom.terms.as_slice() {
             self.note_term(alloc, term)?;
@@ -82,7 +85,8 @@ impl Variables {
     /// Adds the variables of atoms.
     #[tactic(auto, using(crate::proofs::Noted::fold_more))]
     pub(crate) fn note_atoms(&mut self, alloc: Global, atoms: &[RawAtom]) -> Result<(), Memory>
-        ensures noted { OnOk result (self.new ≡ fold (with_new same_name) self.old (variables_in (map atom_of atoms.now))) }
+        ensures noted { OnOk result (self.new ≡
+            fold (with_new same_name) self.old (variables_in (map atom_of atoms.now))) }
     {
         for atom in atoms {
             self.note_atom(alloc, atom)?;
@@ -106,7 +110,8 @@ impl Variables {
 
     /// The terms of an atom, with their variables by number.
     pub(crate) fn terms(&self, alloc: Global, terms: &[RawTerm]) -> Result<TermRow, Memory>
-        ensures { IfOk result (λ row. map slot_meant row.items ≡ map (slot_of self.now) (map term_of terms.now)) }
+        ensures { IfOk result (λ row. map slot_meant row.items ≡
+            map (slot_of self.now) (map term_of terms.now)) }
     {
         let mut row = List::new(alloc);
         for term in terms {
@@ -120,5 +125,12 @@ impl Variables {
         ensures { IfOk result (λ names. map (λ n. n.items) names.items ≡ self.now) }
     {
         self.names.list(alloc)
+    }
+    /// The names. It takes no memory.
+    pub(crate) fn into_names(self) -> Names
+        ensures { result.items ≡ self }
+    {
+        let Variables { names } = self;
+        names
     }
 }

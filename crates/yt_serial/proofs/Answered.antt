@@ -15,10 +15,10 @@ use Rattle.yt_query.specs.Kinds.{IsOfKind}
 use Rattle.yt_eval.specs.Watched.{Watched, AreSettled}
 use Rattle.yt_steps.specs.Attempts.{Attempt}
 use Rattle.yt_steps.specs.Steps.{Asking, step, moved}
-use Rattle.yt_program.specs.Courses.{Course, Reading, State, coming_to, by_reply, first_asked, course, course_by}
+use Rattle.yt_program.specs.Courses.{between, Course, Reading, State, coming_to, by_reply, first_asked, course, course_by}
 use Rattle.yt_program.specs.Settled.{FindsNone, IsShorter}
 use Rattle.yt_program.specs.Wishes.{Wish, WishesReply, TakesAnswer}
-use Rattle.yt_serial.specs.Turns.{between, stepped}
+use Rattle.yt_serial.specs.Turns.{stepped}
 
 by_same : (val : Query → Reply) (t : Course) (q : Query) (a : Reply) → first_asked t ≡ Some q → a ≡ val q → result_of val (by_reply t a) ≡ result_of val t
 by_same val (Leaf P) q a e h = refl

@@ -11,7 +11,7 @@ use Rattle.yt_grammar.specs.Names.{with_new, firsts}
 use Rattle.yt_grammar.specs.Sessions.{RelationSchema, SessionMapping, SessionData}
 use Rattle.yt_grammar.specs.Checks.{rules_of}
 use Rattle.yt_grammar.specs.Validity.{IsRelation, IsAtom, number_in, numbers_in, IsMapping, IsSession}
-use Rattle.yt_program.specs.Conditions.{AreWithin}
+use Rattle.yt_limits.specs.Within.{AreWithin}
 
 new_most : (seen : List ℕ) (x : ℕ) → length (with_new nat_eq seen x) ≤ length seen + 1
 new_most seen x = by (list_any (nat_eq x) seen)

@@ -12,9 +12,9 @@ use Rattle.yt_steps.specs.Attempts.{Question, Positive, Negative, Phase, Start, 
 use Rattle.yt_steps.specs.Questions.{fits}
 use Rattle.yt_steps.specs.Chase.{ending, caused, caused_chase}
 use Rattle.yt_steps.specs.Serial.{at_rest}
-use Rattle.yt_program.specs.Courses.{State}
+use Rattle.yt_program.specs.Courses.{between, State}
 use Rattle.yt_program.specs.Wishes.{wish, wish_at, wish_by, WishesChoice, WishesStep}
-use Rattle.yt_serial.specs.Turns.{between, Steps, Rests, at_question, next_by, StepsBy, stepped, rest_from}
+use Rattle.yt_serial.specs.Turns.{Steps, Rests, at_question, next_by, StepsBy, stepped, rest_from}
 
 same_fits : (q : Question) (c : Choice) → fits_inquiry (inquiry_in q) c ≡ fits q c
 same_fits (Positive r t cs) c = refl

@@ -5,19 +5,18 @@ use Rattle.yt_machine.specs.Standings.{Lack, Missing, Misfit}
 use Rattle.yt_machine.specs.Serial.{Turn, whole, run}
 use Rattle.yt_model.specs.Values.{Fact}
 use Rattle.yt_model.specs.Mappings.{Rule}
-use Rattle.yt_model.specs.Queries.{value}
+use Rattle.yt_model.specs.Queries.{Query, Reply, value}
+use Rattle.yt_model.specs.Repository.{Change}
+use Rattle.yt_model.specs.Violations.{Caused}
 use Rattle.yt_model.specs.Updates.{Choice}
 use Rattle.yt_frontier.specs.Inquiries.{Inquiry, fits_inquiry}
 use Rattle.yt_steps.specs.Attempts.{Attempt}
 use Rattle.yt_steps.specs.Steps.{step, moved}
 use Rattle.yt_steps.specs.Chase.{caused, caused_chase}
 use Rattle.yt_steps.specs.Serial.{Request, at_rest}
-use Rattle.yt_program.specs.Courses.{State}
+use Rattle.yt_eval.specs.Watched.{Watched}
+use Rattle.yt_program.specs.Courses.{State, between, coming_to, course}
 use Rattle.yt_program.specs.Wishes.{Wish, WishesReply, WishesChoice, WishesNothing, WishesStep, Fits}
-
--- A program whose attempt is between two steps.
-abbrev pub between : Attempt → State
-between P = record { attempt = P; reading = None }
 
 -- What an attempt does next: a step, with this answer where it is at a question; or it rests, at its end or for what is lacking.
 pub data Next : Type 0 where
@@ -41,9 +40,29 @@ abbrev pub StepsBy : Wish → Option Choice → Type 0
 StepsBy w None = w ≡ WishesStep
 StepsBy w (Some c) = Fits w c
 
+-- What a query is answered in the view.
+abbrev pub answer_in : List Rule → Watched → Query → Reply
+answer_in ms v q = value ms q v.below v.own (Caused v.heading)
+
+-- The program at the end of its step in hand, whose queries are answered in the view.
+abbrev pub ended_in : List Rule → Watched → State → State
+ended_in ms v s = between (result_of (answer_in ms v) (course ms s))
+
+-- What is seen with these own writes in place of those before.
+abbrev pub seen_with : Watched → List Change → Watched
+seen_with v own = record { rules = v.rules; heading = v.heading; below = v.below; own = own }
+
+-- The step has begun, with this answer if the attempt is at a question, within this budget.
+abbrev pub HasBegunBy : List Rule → ℕ → Option Choice → State → State → Type 0
+HasBegunBy ms B c s s' = course ms s' ≡ coming_to B s.attempt (step ms s.attempt c)
+
 -- The attempt after its step over D, with this answer if it is at a question. It sees the violations that it caused.
 abbrev pub stepped : List Rule → ℕ → List Fact → Attempt → Option Choice → Attempt
 stepped ms B D P c = moved B P (result_of (λ q. value ms q D P.own (caused P.operation)) (step ms P c))
+
+-- The program has made such a step.
+abbrev pub HasStepped : List Rule → ℕ → List Fact → Option Choice → State → State → Type 0
+HasStepped ms B D c s s' = s' ≡ between (stepped ms B D s.attempt c)
 
 -- Where an attempt comes to rest over D by the steps that it has left, with the lack if it stops at a question.
 abbrev pub rest_from : List Rule → ℕ → List Fact → List Choice → ℕ → Attempt → Attempt × Option Lack

@@ -1,16 +1,12 @@
 //! What is told of an update that has come to rest.
-ghost use Rattle.std.specs.Prelude.{◌≡◌, ℕ, [], ◌∷◌, true, List, map, is_some, None, Some, IfOk, OnOk};
-ghost use Rattle.yt_machine.specs.Updates.{shown};
-ghost use Rattle.yt_model.specs.Mappings.{Rule};
-ghost use Rattle.yt_model.specs.Repository.{apply};
-ghost use Rattle.yt_steps.specs.Chase.{caused_chase};
-ghost use Rattle.yt_serial.specs.Runs.{HasFinished};
+ghost use Rattle.std.specs.Prelude.{◌≡◌, ℕ, [], ◌∷◌, true, map, is_some, None, Some, IfOk, OnOk};
 ghost use Rattle.std.specs.Option.{option_map};
 ghost use Rattle.yt_steps.specs.Attempts.{question_in, outcome_in};
 ghost use Rattle.yt_steps.specs.Serial.{finished, stopped};
 ghost use Rattle.yt_program.specs.PointMeanings.{end_of};
 ghost use Rattle.yt_program.specs.Results.{finish_in, finish_of, lack_of, stop_in, stop_of};
 ghost use Rattle.yt_program.specs.Wishes.{end_in};
+ghost use Rattle.yt_serial.specs.Meanings.{HasCommitted, HasEnded};
 
 use crate::repositories::keep;
 use std::alloc::Global;
@@ -22,8 +18,10 @@ use yt_program::{Finish, FinishList, Lack, Program, Stop, Want};
 fn finish(program: &Program) -> Finish
     requires between { program.now.reading ≡ None }
     requires ended { is_some (outcome_in program.now.attempt.phase) ≡ true }
-    ensures told { (n : ℕ) → map finish_in (finished n program.now.attempt) ≡ finish_of result ∷ [] }
-    ensures outcome { option_map end_in (outcome_in program.now.attempt.phase) ≡ Some (end_of result.outcome) }
+    ensures told { (n : ℕ) → map finish_in (finished n program.now.attempt) ≡
+        finish_of result ∷ [] }
+    ensures outcome { option_map end_in (outcome_in program.now.attempt.phase) ≡
+        Some (end_of result.outcome) }
 {
     match program.wants() {
         Want::Ended(outcome) => Finish {
@@ -47,7 +45,9 @@ pub(crate) fn stop(
 ) -> Result<Stop, Memory>
     requires between { program.now.reading ≡ None }
     requires asked { is_some (question_in program.now.attempt.phase) ≡ true }
-    ensures told { IfOk result (λ stop. option_map stop_in (stopped number program.now.attempt (lack_of lack)) ≡ Some (stop_of stop)) }
+    ensures told { IfOk result (λ stop.
+        option_map stop_in (stopped number program.now.attempt (lack_of lack)) ≡
+        Some (stop_of stop)) }
 {
     match program.wants() {
         Want::Choice(question) => {
@@ -72,8 +72,8 @@ pub(crate) fn end(
 ) -> Result<(), Memory>
     requires between { program.reading ≡ None }
     requires ended { is_some (outcome_in program.attempt.phase) ≡ true }
-    ensures told { OnOk result ((n : ℕ) → HasFinished n program.attempt (map finish_of finishes.old.items) (map finish_of finishes.new.items)) }
-    ensures kept { OnOk result ((ms : List Rule) (B : ℕ) → facts.new ≡ apply facts.old (shown (caused_chase ms B) program.attempt)) }
+    ensures told { OnOk result (HasEnded program.attempt finishes.old finishes.new) }
+    ensures kept { OnOk result (HasCommitted facts.old program.attempt facts.new) }
 {
     let finish = finish(&program);
     keep(facts, program.into_own(), finish.outcome)?;

@@ -9,4 +9,4 @@ mod stepping;
 mod turns;
 mod wholes;
 
-pub use crate::runs::{base_of, serial, serial_over};
+pub use crate::runs::{base_of, mappings_of, serial, serial_over};

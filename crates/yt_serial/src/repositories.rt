@@ -1,15 +1,10 @@
 //! The repository of a run: what an update leaves in it, and what is told of it.
-ghost use Rattle.std.specs.Prelude.{◌≡◌, ℕ, List, map, Some, IfOk, OnOk};
-ghost use Rattle.std.specs.Option.{option_map};
-ghost use Rattle.yt_machine.specs.Updates.{shown};
-ghost use Rattle.yt_model.specs.Mappings.{Rule};
+ghost use Rattle.std.specs.Prelude.{◌≡◌, IfOk, OnOk};
 ghost use Rattle.yt_model.specs.Repository.{apply, change};
-ghost use Rattle.yt_base.specs.Meanings.{change_of, fact_of};
-ghost use Rattle.yt_steps.specs.Attempts.{Attempt, outcome_in};
-ghost use Rattle.yt_steps.specs.Chase.{caused_chase};
+ghost use Rattle.yt_base.specs.Meanings.{change_of};
 ghost use Rattle.yt_steps.specs.Serial.{answered};
-ghost use Rattle.yt_program.specs.PointMeanings.{end_of};
-ghost use Rattle.yt_program.specs.Wishes.{end_in};
+ghost use Rattle.yt_base.specs.Contents.{changes_of, facts_of};
+ghost use Rattle.yt_serial.specs.Meanings.{HasKept};
 
 use std::alloc::Global;
 use yt_base::{Memory, TupleList, Write, WriteList};
@@ -26,7 +21,7 @@ pub(crate) fn keep(
     writes: WriteList,
     outcome: Outcome,
 ) -> Result<(), Memory>
-    ensures kept { OnOk result ((ms : List Rule) (B : ℕ) (P : Attempt) → map change_of writes.items ≡ P.own → option_map end_in (outcome_in P.phase) ≡ Some (end_of outcome) → facts.new ≡ apply facts.old (shown (caused_chase ms B) P)) }
+    ensures kept { OnOk result (HasKept facts.old writes outcome facts.new) }
 {
     match outcome {
         Outcome::Done => make(facts, writes),
@@ -37,7 +32,7 @@ pub(crate) fn keep(
 
 // Makes the writes in turn.
 fn make(facts: &mut IndexedFacts, writes: WriteList) -> Result<(), Memory>
-    ensures made { OnOk result (facts.new ≡ apply facts.old (map change_of writes.items)) }
+    ensures made { OnOk result (facts.new ≡ apply facts.old (changes_of writes)) }
 {
     for write in writes.into_vec() {
         make_one(facts, write)?;
@@ -62,14 +57,14 @@ fn make_one(facts: &mut IndexedFacts, write: Write) -> Result<(), Memory>
 /// The tuples of the repository in order, without those that say which mappings are in force. It is refused only for
 /// want of memory.
 pub(crate) fn told(alloc: Global, facts: IndexedFacts) -> Result<TupleList, Memory>
-    ensures told { IfOk result (λ tuples. map fact_of tuples.items ≡ answered facts) }
+    ensures told { IfOk result (λ tuples. facts_of tuples ≡ answered facts) }
 {
     without_force(alloc, facts.into_list(alloc)?)
 }
 
 // The tuples but for those that say which mappings are in force.
 fn without_force(alloc: Global, tuples: TupleList) -> Result<TupleList, Memory>
-    ensures others { IfOk result (λ others. map fact_of others.items ≡ answered (map fact_of tuples.items)) }
+    ensures others { IfOk result (λ others. facts_of others ≡ answered (facts_of tuples)) }
 {
     let mut others = TupleList::new(alloc);
     for tuple in tuples.into_vec() {

@@ -1,23 +1,21 @@
 //! The serial run of a session: its updates taken whole in turn, up to the first that stops.
-ghost use Rattle.std.specs.Prelude.{◌≡◌, ◌≤◌, ◌+◌, ℕ, List, [], ◌∷◌, map, length, None, IfOk, OnOk};
-ghost use Rattle.std.specs.Option.{option_map};
-ghost use Rattle.yt_base.specs.Meanings.{rule_of};
+ghost use Rattle.std.specs.Prelude.{◌≡◌, ◌≤◌, ◌+◌, length, None, IfOk, OnOk};
 ghost use Rattle.yt_grammar.specs.Checks.{rules_of};
 ghost use Rattle.yt_grammar.specs.Validity.{IsSession};
 ghost use Rattle.yt_model.specs.Repository.{IsRepository};
-ghost use Rattle.yt_program.specs.Conditions.{AreWithin};
-ghost use Rattle.yt_program.specs.Results.{finish_of, result_in, result_of, stop_of};
+ghost use Rattle.yt_program.specs.Results.{result_of};
 ghost use Rattle.yt_session.specs.Base.{base_violation};
-ghost use Rattle.yt_session.specs.Meanings.{request_of, requests_in, session_of, update_of};
-ghost use Rattle.yt_steps.specs.Serial.{Request, serial_result};
-ghost use Rattle.yt_serial.specs.Runs.{behind, told_after, told_at, told_from};
+ghost use Rattle.yt_session.specs.Meanings.{session_of};
+ghost use Rattle.yt_serial.specs.Meanings.{HasTaken, HasTakenAll, IsSerialRun, requests_of};
+ghost use Rattle.yt_serial.specs.Runs.{told_from};
 
 use crate::endings::{end, stop};
 use crate::repositories::told;
 use crate::wholes::take_whole;
 use std::alloc::Global;
-use yt_base::{MappingList, Memory};
+use yt_base::Memory;
 use yt_facts::{IndexedFacts, PlainFacts};
+use yt_limits::{Budget, Mappings};
 use yt_program::{FinishList, SessionResult, Stop};
 use yt_session::{Session, SessionUpdate, base_holds, sessions_suit_the_chase};
 use yt_steps::laws::serial_scopes_agree;
@@ -31,17 +29,23 @@ pub fn base_of(alloc: Global, session: &Session) -> Result<IndexedFacts, Memory>
     Ok(IndexedFacts::of(alloc, base)?)
 }
 
+/// The mappings of a session, which is valid and so within the limits. It takes no memory.
+pub fn mappings_of(session: &Session) -> Mappings<'_>
+    requires valid { IsSession (session_of session.now) }
+    ensures rules { result ≡ rules_of (session_of session.now).mappings }
+{
+    Mappings::of(&session.mappings)
+}
+
 /// The serial run of a session: its updates taken whole, one after the other in the order of their numbers, up to the
 /// first that stops at a question. Refused only for want of memory.
-pub fn serial(alloc: Global, session: &Session, steps: u32) -> Result<SessionResult, Memory>
+pub fn serial(alloc: Global, session: &Session, budget: Budget) -> Result<SessionResult, Memory>
     requires valid { IsSession (session_of session.now) }
     requires met { base_violation (session_of session.now) ≡ None }
-    requires some { 1 ≤ steps }
-    requires most { steps ≤ 300 }
-    ensures told { IfOk result (λ told. result_of told ≡ result_in (serial_result (rules_of (session_of session.now).mappings) steps (session_of session.now).base (requests_in (session_of session.now)))) }
+    ensures told { IfOk result (IsSerialRun budget (session_of session.now)) }
 {
     let base = base_of(alloc, session)?;
-    serial_over(alloc, session, base, steps)
+    serial_over(alloc, session, base, budget)
 }
 
 /// The serial run of a session over its base, which is handed over as a set of tuples (`base_of`). Refused only for want
@@ -50,20 +54,20 @@ pub fn serial_over(
     alloc: Global,
     session: &Session,
     base: IndexedFacts,
-    steps: u32,
+    budget: Budget,
 ) -> Result<SessionResult, Memory>
     requires valid { IsSession (session_of session.now) }
     requires met { base_violation (session_of session.now) ≡ None }
     requires base { base ≡ (session_of session.now).base }
-    requires some { 1 ≤ steps }
-    requires most { steps ≤ 300 }
-    ensures told { IfOk result (λ told. result_of told ≡ result_in (serial_result (rules_of (session_of session.now).mappings) steps (session_of session.now).base (requests_in (session_of session.now)))) }
+    ensures told { IfOk result (IsSerialRun budget (session_of session.now)) }
 {
     sessions_suit_the_chase();
     base_holds();
     serial_scopes_agree();
     let updates = session.updates.as_slice();
-    run(alloc, base, updates, &session.mappings, steps)
+    budget.is_within();
+    let mappings = mappings_of(session);
+    run(alloc, base, updates, &mappings, budget)
 }
 
 // The run of these updates over the base, the first of them number 1.
@@ -71,19 +75,17 @@ fn run(
     alloc: Global,
     base: IndexedFacts,
     updates: &[SessionUpdate],
-    mappings: &MappingList,
-    steps: u32,
+    mappings: &Mappings<'_>,
+    budget: Budget,
 ) -> Result<SessionResult, Memory>
     requires sorted { IsRepository base }
-    requires within { AreWithin (map rule_of mappings.now.items) }
-    requires some { 1 ≤ steps }
-    requires most { steps ≤ 300 }
     requires few { length updates.now ≤ 1000 }
-    ensures told { IfOk result (λ told. result_of told ≡ told_from (map rule_of mappings.now.items) steps base 1 (map request_of (map update_of updates.now))) }
+    ensures told { IfOk result (λ told.
+        result_of told ≡ told_from mappings.now budget base 1 (requests_of updates.now)) }
 {
     let mut finishes = FinishList::new(alloc);
     let mut facts = base;
-    let stop = take_all(alloc, &mut finishes, &mut facts, updates, mappings, steps)?;
+    let stop = take_all(alloc, &mut finishes, &mut facts, updates, mappings, budget)?;
     let repository = told(alloc, facts)?;
     Ok(SessionResult {
         finishes,
@@ -99,19 +101,17 @@ fn take_all(
     finishes: &mut FinishList,
     facts: &mut IndexedFacts,
     updates: &[SessionUpdate],
-    mappings: &MappingList,
-    steps: u32,
+    mappings: &Mappings<'_>,
+    budget: Budget,
 ) -> Result<Option<Stop>, Memory>
     requires sorted { IsRepository facts.old }
-    requires within { AreWithin (map rule_of mappings.now.items) }
-    requires some { 1 ≤ steps }
-    requires most { steps ≤ 300 }
     requires few { length updates.now ≤ 1000 }
-    ensures told { IfOk result (λ stop. behind (map finish_of finishes.old.items) (told_from (map rule_of mappings.now.items) steps facts.old 1 (map request_of (map update_of updates.now))) ≡ told_at (map finish_of finishes.new.items) (option_map stop_of stop) facts.new) }
+    ensures told { IfOk result (HasTakenAll mappings.now budget updates.now
+        finishes.old facts.old finishes.new facts.new) }
 {
     let mut number = 1;
     for update in updates {
-        if let Some(stop) = turn(alloc, finishes, facts, number, update, mappings, steps)? {
+        if let Some(stop) = turn(alloc, finishes, facts, number, update, mappings, budget)? {
             return Ok(Some(stop));
         }
         number += 1;
@@ -127,17 +127,15 @@ fn turn(
     facts: &mut IndexedFacts,
     number: u32,
     update: &SessionUpdate,
-    mappings: &MappingList,
-    steps: u32,
+    mappings: &Mappings<'_>,
+    budget: Budget,
 ) -> Result<Option<Stop>, Memory>
     requires sorted { IsRepository facts.old }
-    requires within { AreWithin (map rule_of mappings.now.items) }
-    requires some { 1 ≤ steps }
-    requires most { steps ≤ 300 }
     ensures sorted { OnOk result (IsRepository facts.new) }
-    ensures told { IfOk result (λ stop. (rs : List Request) → behind (map finish_of finishes.old.items) (told_from (map rule_of mappings.now.items) steps facts.old number (request_of (update_of update.now) ∷ rs)) ≡ behind (map finish_of finishes.new.items) (told_after (map rule_of mappings.now.items) steps facts.new (number + 1) rs (option_map stop_of stop))) }
+    ensures told { IfOk result (HasTaken mappings.now budget number update.now
+        finishes.old facts.old finishes.new facts.new) }
 {
-    let rest = take_whole(alloc, number, update, facts, mappings, steps)?;
+    let rest = take_whole(alloc, number, update, facts, mappings, budget)?;
     match rest.lack {
         Some(lack) => Ok(Some(stop(alloc, &rest.program, number, lack)?)),
         None => {

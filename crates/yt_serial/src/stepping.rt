@@ -1,22 +1,19 @@
 //! One step of a program over the repository below it.
-ghost use Rattle.std.specs.Prelude.{◌≡◌, ◌≤◌, length, map, take, OnOk};
+ghost use Rattle.std.specs.Prelude.{◌≡◌, ◌<◌, ◌≤◌, length, take, OnOk};
 ghost use Rattle.std.specs.Option.{option_map, option_copied};
-ghost use Rattle.yt_machine.specs.Trees.{result_of};
-ghost use Rattle.yt_model.specs.Queries.{value};
 ghost use Rattle.yt_model.specs.Repository.{IsRepository};
 ghost use Rattle.yt_model.specs.Updates.{direction_of};
-ghost use Rattle.yt_model.specs.Violations.{Caused};
-ghost use Rattle.yt_base.specs.Meanings.{change_of, choice_of, rule_of};
+ghost use Rattle.yt_base.specs.Meanings.{choice_of};
 ghost use Rattle.yt_steps.specs.Steps.{step};
-ghost use Rattle.yt_program.specs.Conditions.{AreWithin, IsBudget};
-ghost use Rattle.yt_program.specs.Courses.{coming_to, course};
 ghost use Rattle.yt_program.specs.Wishes.{wish};
-ghost use Rattle.yt_serial.specs.Turns.{between, stepped, StepsBy};
+ghost use Rattle.yt_serial.specs.Turns.{StepsBy, HasBegunBy, HasStepped, ended_in, seen_with};
+ghost use Rattle.yt_base.specs.Contents.{changes_of};
 
 use std::alloc::Global;
-use yt_base::{Choice, MappingList, Memory, WriteList};
+use yt_base::{Choice, Memory, WriteList};
 use yt_eval::WatchedView;
 use yt_facts::IndexedFacts;
+use yt_limits::{Budget, Mappings};
 use yt_program::{Program, Want};
 
 /// One step of the program over the repository that the view is of, with the answer where it is at a question. The view
@@ -27,18 +24,18 @@ pub(crate) fn step(
     program: &mut Program,
     view: &mut WatchedView<'_, IndexedFacts>,
     choice: Option<&Choice>,
-    mappings: &MappingList,
-    budget: u32,
+    mappings: &Mappings<'_>,
+    budget: Budget,
 ) -> Result<(), Memory>
     requires wanted { StepsBy (wish program.old) (option_map choice_of (option_copied choice)) }
-    requires rules { view.old.rules ≡ map rule_of mappings.now.items }
+    requires rules { view.old.rules ≡ mappings.now }
     requires heading { view.old.heading ≡ direction_of program.old.attempt.operation }
     requires seen { view.old.own ≡ program.old.attempt.own }
     requires sorted { IsRepository view.old.below }
-    requires within { AreWithin (map rule_of mappings.now.items) }
-    requires budget { IsBudget program.old.attempt.steps budget }
-    ensures stepped { OnOk result (program.new ≡ between (stepped (map rule_of mappings.now.items) budget view.old.below program.old.attempt (option_map choice_of (option_copied choice.entry)))) }
-    ensures seen { OnOk result (view.new ≡ record { rules = view.old.rules; heading = view.old.heading; below = view.old.below; own = program.new.attempt.own }) }
+    requires left { program.old.attempt.steps < budget }
+    ensures stepped { OnOk result (HasStepped mappings.now budget view.old.below
+        (option_map choice_of (option_copied choice.entry)) program.old program.new) }
+    ensures seen { OnOk result (view.new ≡ seen_with view.old program.new.attempt.own) }
 {
     let seen = program.own().len();
     make(alloc, program, view, choice, mappings, budget)?;
@@ -51,17 +48,17 @@ fn make(
     program: &mut Program,
     view: &mut WatchedView<'_, IndexedFacts>,
     choice: Option<&Choice>,
-    mappings: &MappingList,
-    budget: u32,
+    mappings: &Mappings<'_>,
+    budget: Budget,
 ) -> Result<(), Memory>
     requires wanted { StepsBy (wish program.old) (option_map choice_of (option_copied choice)) }
-    requires rules { view.old.rules ≡ map rule_of mappings.now.items }
+    requires rules { view.old.rules ≡ mappings.now }
     requires heading { view.old.heading ≡ direction_of program.old.attempt.operation }
     requires seen { view.old.own ≡ program.old.attempt.own }
     requires sorted { IsRepository view.old.below }
-    requires within { AreWithin (map rule_of mappings.now.items) }
-    requires budget { IsBudget program.old.attempt.steps budget }
-    ensures stepped { OnOk result (program.new ≡ between (stepped (map rule_of mappings.now.items) budget view.old.below program.old.attempt (option_map choice_of (option_copied choice.entry)))) }
+    requires left { program.old.attempt.steps < budget }
+    ensures stepped { OnOk result (HasStepped mappings.now budget view.old.below
+        (option_map choice_of (option_copied choice.entry)) program.old program.new) }
     ensures same { OnOk result (view.new ≡ view.old) }
 {
     begin(alloc, program, choice, mappings, budget)?;
@@ -76,8 +73,8 @@ fn see_all(
     seen: usize,
 ) -> Result<(), Memory>
     requires some { seen ≤ length own.now.items }
-    requires first { take seen (map change_of own.now.items) ≡ view.old.own }
-    ensures seen { OnOk result (view.new ≡ record { rules = view.old.rules; heading = view.old.heading; below = view.old.below; own = map change_of own.now.items }) }
+    requires first { take seen (changes_of own.now) ≡ view.old.own }
+    ensures seen { OnOk result (view.new ≡ seen_with view.old (changes_of own.now)) }
 {
     view.write_all(alloc, &own.as_slice()[seen..])
 }
@@ -87,13 +84,13 @@ fn begin(
     alloc: Global,
     program: &mut Program,
     choice: Option<&Choice>,
-    mappings: &MappingList,
-    budget: u32,
+    mappings: &Mappings<'_>,
+    budget: Budget,
 ) -> Result<(), Memory>
     requires wanted { StepsBy (wish program.old) (option_map choice_of (option_copied choice)) }
-    requires within { AreWithin (map rule_of mappings.now.items) }
-    requires budget { IsBudget program.old.attempt.steps budget }
-    ensures step { OnOk result (course (map rule_of mappings.now.items) program.new ≡ coming_to budget program.old.attempt (step (map rule_of mappings.now.items) program.old.attempt (option_map choice_of (option_copied choice.entry)))) }
+    requires left { program.old.attempt.steps < budget }
+    ensures step { OnOk result (HasBegunBy mappings.now budget
+        (option_map choice_of (option_copied choice.entry)) program.old program.new) }
 {
     match choice {
         Some(choice) => program.choose(alloc, choice, mappings, budget),
@@ -106,12 +103,11 @@ fn answer_all(
     alloc: Global,
     program: &mut Program,
     view: &mut WatchedView<'_, IndexedFacts>,
-    mappings: &MappingList,
+    mappings: &Mappings<'_>,
 ) -> Result<(), Memory>
-    requires rules { view.old.rules ≡ map rule_of mappings.now.items }
+    requires rules { view.old.rules ≡ mappings.now }
     requires sorted { IsRepository view.old.below }
-    requires within { AreWithin (map rule_of mappings.now.items) }
-    ensures answered { OnOk result (program.new ≡ between (result_of (λ q. value (map rule_of mappings.now.items) q view.old.below view.old.own (Caused view.old.heading)) (course (map rule_of mappings.now.items) program.old))) }
+    ensures answered { OnOk result (program.new ≡ ended_in mappings.now view.old program.old) }
     ensures same { OnOk result (view.new ≡ view.old) }
 {
     'queries: loop {

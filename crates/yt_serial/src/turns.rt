@@ -1,11 +1,12 @@
 //! What a program between two steps does next.
-ghost use Rattle.std.specs.Prelude.{◌≡◌, map};
+ghost use Rattle.std.specs.Prelude.{◌≡◌};
 ghost use Rattle.std.specs.Option.{option_map, option_copied};
 ghost use Rattle.yt_frontier.specs.Inquiries.{inquiry_of};
 ghost use Rattle.yt_base.specs.Meanings.{choice_of};
 ghost use Rattle.yt_program.specs.Wishes.{wish};
 ghost use Rattle.yt_serial.specs.Turns.{at_question, next_by};
 ghost use Rattle.yt_serial.specs.Meanings.{next_of};
+ghost use Rattle.yt_base.specs.Contents.{choices_of};
 
 use yt_base::{Choice, ChoiceList};
 use yt_frontier::{Question, fits};
@@ -21,7 +22,8 @@ pub(crate) enum Next<'a> {
 
 /// What comes next, where these are all answers. It takes no memory.
 pub(crate) fn what_next<'a>(program: &Program, answers: &'a ChoiceList) -> Next<'a>
-    ensures next { next_of result ≡ next_by (wish program.now) program.now.attempt.taken (map choice_of answers.now.items) }
+    ensures next { next_of result ≡ next_by (wish program.now) program.now.attempt.taken
+        (choices_of answers.now) }
 {
     match program.wants() {
         Want::Read(_) => Next::Step(None),
@@ -33,7 +35,8 @@ pub(crate) fn what_next<'a>(program: &Program, answers: &'a ChoiceList) -> Next<
 
 // What comes next at the question, with the next answer if there is one.
 fn answered<'a>(question: &Question, choice: Option<&'a Choice>) -> Next<'a>
-    ensures next { next_of result ≡ at_question (inquiry_of question.now) (option_map choice_of (option_copied choice.entry)) }
+    ensures next { next_of result ≡ at_question (inquiry_of question.now)
+        (option_map choice_of (option_copied choice.entry)) }
 {
     match choice {
         Some(choice) => if fits(question, choice) {

@@ -1,20 +1,16 @@
 //! An update taken whole: steps up to its end, or to a question where something is lacking.
-ghost use Rattle.std.specs.Prelude.{◌≡◌, ◌≤◌, map, IfOk, None, is_some, is_none};
-ghost use Rattle.std.specs.Option.{option_map};
+ghost use Rattle.std.specs.Prelude.{◌≡◌, IfOk, None, is_some, is_none};
 ghost use Rattle.yt_model.specs.Repository.{IsRepository};
-ghost use Rattle.yt_base.specs.Meanings.{rule_of};
 ghost use Rattle.yt_steps.specs.Attempts.{question_in, outcome_in};
-ghost use Rattle.yt_session.specs.Meanings.{update_of, request_of};
-ghost use Rattle.yt_program.specs.Conditions.{AreWithin};
-ghost use Rattle.yt_program.specs.Results.{lack_of};
-ghost use Rattle.yt_serial.specs.Turns.{turn_of, whole_rest};
+ghost use Rattle.yt_serial.specs.Meanings.{RestsWhole};
 
 use crate::stepping::step;
 use crate::turns::{Next, what_next};
 use std::alloc::Global;
-use yt_base::{MappingList, Memory};
+use yt_base::Memory;
 use yt_eval::WatchedView;
 use yt_facts::IndexedFacts;
+use yt_limits::{Budget, Mappings};
 use yt_program::{Lack, Program};
 use yt_session::SessionUpdate;
 
@@ -31,20 +27,20 @@ pub(crate) fn take_whole(
     number: u32,
     update: &SessionUpdate,
     facts: &IndexedFacts,
-    mappings: &MappingList,
-    budget: u32,
+    mappings: &Mappings<'_>,
+    budget: Budget,
 ) -> Result<Rest, Memory>
     requires sorted { IsRepository facts.now }
-    requires within { AreWithin (map rule_of mappings.now.items) }
-    requires some { 1 ≤ budget }
-    requires most { budget ≤ 300 }
-    ensures rest { IfOk result (λ rest. whole_rest (map rule_of mappings.now.items) budget facts.now (turn_of (map rule_of mappings.now.items) budget number (request_of (update_of update.now))) ≡ (rest.program.attempt, option_map lack_of rest.lack)) }
+    ensures rest { IfOk result (RestsWhole mappings.now budget facts.now number update.now) }
     ensures between { IfOk result (λ rest. rest.program.reading ≡ None) }
-    ensures asked { IfOk result (λ rest. is_some (question_in rest.program.attempt.phase) ≡ is_some rest.lack) }
-    ensures ended { IfOk result (λ rest. is_some (outcome_in rest.program.attempt.phase) ≡ is_none rest.lack) }
+    ensures asked { IfOk result (λ r. is_some (question_in r.program.attempt.phase) ≡
+        is_some r.lack) }
+    ensures ended { IfOk result (λ r. is_some (outcome_in r.program.attempt.phase) ≡
+        is_none r.lack) }
 {
+    budget.is_within();
     let mut program = Program::start(alloc, &update.update, number, 0)?;
-    let mut view = WatchedView::new(alloc, facts, mappings, program.direction())?;
+    let mut view = WatchedView::new(alloc, facts, mappings.list(), program.direction())?;
     'turns: loop {
         match what_next(&program, &update.answers) {
             Next::Step(choice) => {

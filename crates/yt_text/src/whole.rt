@@ -51,7 +51,8 @@ pub fn read_all<S: Source>(
     source: &mut S,
     limit: usize,
 ) -> Result<Vec<u8>, ReadRefusal>
-    ensures bytes { IfOk result (λ all. Consumes (S.left source.old) (S.left source.new) all.items) }
+    ensures bytes { IfOk result (λ all. Consumes (S.left source.old)
+        (S.left source.new) all.items) }
     ensures end { OnOk result (IsAtEnd (S.left source.new)) }
     ensures short { IfOk result (λ all. vec_len all ≤ limit) }
     ensures refused { IfErr result (λ refusal.

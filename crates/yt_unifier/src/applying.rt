@@ -9,7 +9,8 @@ use yt_base::{List, Memory, Row, Sub, TryCopy, Tuple, Value};
 
 /// The tuple with each null that has an image replaced by it. It is refused only for want of memory.
 pub fn apply(alloc: Global, sub: &Sub, tuple: &Tuple) -> Result<Tuple, Memory>
-    ensures value { IfOk result (λ moved. fact_of moved ≡ under (moved_by (images_of sub.now)) (fact_of tuple.now)) }
+    ensures value { IfOk result (λ moved. fact_of moved ≡
+        under (moved_by (images_of sub.now)) (fact_of tuple.now)) }
 {
     Ok(Tuple {
         relation: tuple.relation,
@@ -19,7 +20,8 @@ pub fn apply(alloc: Global, sub: &Sub, tuple: &Tuple) -> Result<Tuple, Memory>
 
 /// The values with each null that has an image replaced by it. It is refused only for want of memory.
 pub fn apply_row(alloc: Global, sub: &Sub, row: &Row) -> Result<Row, Memory>
-    ensures value { IfOk result (λ moved. map datum_of moved.items ≡ map (moved_by (images_of sub.now)) (map datum_of row.now.items)) }
+    ensures value { IfOk result (λ moved. map datum_of moved.items ≡
+        map (moved_by (images_of sub.now)) (map datum_of row.now.items)) }
 {
     let mut values = List::new(alloc);
     values.reserve(row.len())?;
@@ -31,7 +33,8 @@ pub fn apply_row(alloc: Global, sub: &Sub, row: &Row) -> Result<Row, Memory>
 
 // The image of the value where it is a null that has one, else the value.
 fn moved(alloc: Global, sub: &Sub, value: &Value) -> Result<Value, Memory>
-    ensures value { IfOk result (λ moved. datum_of moved ≡ moved_by (images_of sub.now) (datum_of value.now)) }
+    ensures value { IfOk result (λ moved. datum_of moved ≡
+        moved_by (images_of sub.now) (datum_of value.now)) }
 {
     match value {
         Value::Null(null) => match sub.get(*null) {

@@ -12,7 +12,8 @@ use yt_base::{Facts, List, Memory, TryCopy, Tuple, TupleList, next_candidate};
 /// Where the tuple has a constant only the tuples with that constant in its column are looked at, else those of the
 /// relation.
 pub fn candidates<F: Facts>(alloc: Global, tuple: &Tuple, facts: &F) -> Result<TupleList, Memory>
-    ensures value { IfOk result (λ found. map fact_of found.items ≡ filter (λ s. more_specific s (fact_of tuple.now)) (F.tuples facts.now)) }
+    ensures value { IfOk result (λ found. map fact_of found.items ≡
+        filter (λ s. more_specific s (fact_of tuple.now)) (F.tuples facts.now)) }
 {
     let column = constant_column(tuple);
     let mut found = List::new(alloc);

@@ -10,7 +10,8 @@ use yt_base::{Memory, Sub, TryCopy, Value};
 /// Gives the value this image if it is a null. It is refused only for want of memory; the function is then one to
 /// be let go.
 pub(crate) fn give(alloc: Global, sub: &mut Sub, value: &Value, image: &Value) -> Result<(), Memory>
-    ensures ok { OnOk result (images_of sub.new ≡ give_lem (images_of sub.old) (datum_of value.now) (datum_of image.now)) }
+    ensures ok { OnOk result (images_of sub.new ≡
+        give_lem (images_of sub.old) (datum_of value.now) (datum_of image.now)) }
 {
     match value {
         Value::Null(null) => sub.set(*null, image.copy(alloc)?),

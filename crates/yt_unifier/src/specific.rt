@@ -26,8 +26,11 @@ pub fn is_more_specific(tuple: &Tuple, specific: &Tuple) -> bool
 /// The function that takes the first tuple to the second; None exactly where the second is not more specific.
 /// Each null of the first is moved to what stands in its place. It is refused only for want of memory.
 pub fn specific_by(alloc: Global, tuple: &Tuple, specific: &Tuple) -> Result<Option<Sub>, Memory>
-    ensures value { IfOk result (λ found. option_map (λ sub. moved_by (images_of sub)) found ≡ taking (fact_of tuple.now) (fact_of specific.now)) }
-    ensures takes { IfOk result (λ found. IfSome found (λ sub. under (moved_by (images_of sub)) (fact_of tuple.now) ≡ fact_of specific.now)) }
+    ensures value { IfOk result (λ found. option_map (λ sub. moved_by (images_of sub)) found ≡
+        taking (fact_of tuple.now) (fact_of specific.now)) }
+    ensures takes { IfOk result (λ found.
+        IfSome found (λ sub. under (moved_by (images_of sub)) (fact_of tuple.now) ≡
+        fact_of specific.now)) }
 {
     if !is_more_specific(tuple, specific) {
         return Ok(None);
@@ -42,7 +45,8 @@ pub fn specific_by(alloc: Global, tuple: &Tuple, specific: &Tuple) -> Result<Opt
 /// What the second tuple has where the value first stands in the first; the value itself where it does not stand
 /// there.
 pub(crate) fn image_of<'a>(tuple: &Tuple, specific: &'a Tuple, value: &'a Value) -> &'a Value
-    ensures image { datum_of result.now ≡ image_of_lem (fact_of tuple.now) (fact_of specific.now) (datum_of value.now) }
+    ensures image { datum_of result.now ≡
+        image_of_lem (fact_of tuple.now) (fact_of specific.now) (datum_of value.now) }
 {
     let images = specific.values.as_slice();
     let found = tuple
@@ -77,7 +81,8 @@ fn is_kept(value: &Value, image: &Value) -> bool
 
 // Whether the values and what stands in their places make up a function that keeps constants.
 fn is_function(values: &[Value], images: &[Value]) -> bool
-    ensures answer { result ≡ list_all (may_stand_lem (pairs values.now images.now)) (pairs values.now images.now) }
+    ensures answer { result ≡ list_all (may_stand_lem (pairs values.now images.now))
+        (pairs values.now images.now) }
 {
     values
         .iter()
@@ -87,7 +92,8 @@ fn is_function(values: &[Value], images: &[Value]) -> bool
 
 // Whether the pair of a value and its image may stand in such a function with the others.
 fn may_stand(value: &Value, image: &Value, values: &[Value], images: &[Value]) -> bool
-    ensures answer { result ≡ may_stand_lem (pairs values.now images.now) (datum_of value.now, datum_of image.now) }
+    ensures answer { result ≡ may_stand_lem (pairs values.now images.now)
+        (datum_of value.now, datum_of image.now) }
 {
     if !is_kept(value, image) {
         return false;

@@ -16,8 +16,10 @@ use yt_base::{Memory, Sub, Tuple, Value};
 /// It is refused only for want of memory. Its time grows with the cube of the number of columns.
 pub fn unifier(alloc: Global, tuple: &Tuple, specific: &Tuple) -> Result<Sub, Memory>
     requires { more_specific (fact_of specific.now) (fact_of tuple.now) ≡ true }
-    ensures value { IfOk result (λ sub. moved_by (images_of sub) ≡ unifier_lem (fact_of tuple.now) (fact_of specific.now)) }
-    ensures unites { IfOk result (λ sub. under (moved_by (images_of sub)) (fact_of specific.now) ≡ under (moved_by (images_of sub)) (fact_of tuple.now)) }
+    ensures value { IfOk result (λ sub. moved_by (images_of sub) ≡
+        unifier_lem (fact_of tuple.now) (fact_of specific.now)) }
+    ensures unites { IfOk result (λ sub. under (moved_by (images_of sub)) (fact_of specific.now) ≡
+        under (moved_by (images_of sub)) (fact_of tuple.now)) }
 {
     let mut sub = Sub::new(alloc);
     for value in tuple.values.as_slice() {
@@ -29,7 +31,8 @@ pub fn unifier(alloc: Global, tuple: &Tuple, specific: &Tuple) -> Result<Sub, Me
 
 // Where the walk from the value is after as many steps as there are columns: standing still, or on a cycle.
 fn far_along<'a>(tuple: &Tuple, specific: &'a Tuple, value: &'a Value) -> &'a Value
-    ensures { datum_of result.now ≡ after (length tuple.now.values.items) (image_of (fact_of tuple.now) (fact_of specific.now)) (datum_of value.now) }
+    ensures { datum_of result.now ≡ after (length tuple.now.values.items)
+        (image_of (fact_of tuple.now) (fact_of specific.now)) (datum_of value.now) }
 {
     let mut reached = value;
     for _step in 0..tuple.values.len() {
@@ -40,7 +43,8 @@ fn far_along<'a>(tuple: &Tuple, specific: &'a Tuple, value: &'a Value) -> &'a Va
 
 // The least of the value and of as many as follow it as there are columns.
 fn least_onwards<'a>(tuple: &Tuple, specific: &'a Tuple, value: &'a Value) -> &'a Value
-    ensures { datum_of result.now ≡ least_after (length tuple.now.values.items) (image_of (fact_of tuple.now) (fact_of specific.now)) (datum_of value.now) }
+    ensures { datum_of result.now ≡ least_after (length tuple.now.values.items)
+        (image_of (fact_of tuple.now) (fact_of specific.now)) (datum_of value.now) }
 {
     let mut next = value;
     let mut least = value;

@@ -1,14 +1,13 @@
 //! The first violation of a mapping, and whether it holds.
-ghost use Rattle.std.specs.Prelude.{◌≡◌, Some, map, IfOk, IfSome};
+ghost use Rattle.std.specs.Prelude.{◌≡◌, Some, IfOk, IfSome};
 ghost use Rattle.std.specs.Bool.{Decides};
 ghost use Rattle.std.specs.Option.{option_map};
 ghost use Rattle.yt_model.specs.Mappings.{Holds};
-ghost use Rattle.yt_model.specs.Matching.{learn_all, nothing_known};
-ghost use Rattle.yt_model.specs.Violations.{first_violation as first_violation_lem};
-ghost use Rattle.yt_base.specs.Meanings.{fact_of, rule_of};
-ghost use Rattle.yt_base.specs.Maps.{known_of};
-ghost use Rattle.yt_match.specs.Partial.{known_at};
-ghost use Rattle.yt_violation.specs.Scopes.{scope_of, own_of};
+ghost use Rattle.yt_model.specs.Matching.{nothing_known};
+ghost use Rattle.yt_base.specs.Meanings.{rule_of};
+ghost use Rattle.yt_violation.specs.Scopes.{Binds, first_in};
+ghost use Rattle.yt_base.specs.Contents.{facts_of};
+ghost use Rattle.yt_violation.specs.First.{Knows};
 
 use crate::caused::first_caused;
 use crate::scope::Scope;
@@ -26,8 +25,9 @@ pub fn first_violation<F: Facts>(
     facts: &F,
     scope: Scope<'_>,
 ) -> Result<Option<Matched>, Memory>
-    ensures image { IfOk result (λ found. option_map (λ violation. map fact_of violation.image.items) found ≡ first_violation_lem (scope_of scope.entry) (own_of scope.entry) (rule_of mapping.now) (F.tuples facts.now)) }
-    ensures binding { IfOk result (λ found. IfSome found (λ violation. learn_all (rule_of mapping.now).left (map fact_of violation.image.items) nothing_known ≡ Some (known_of violation.binding))) }
+    ensures image { IfOk result (λ found. option_map (λ v. facts_of v.image) found ≡
+        first_in scope.entry (rule_of mapping.now) (F.tuples facts.now)) }
+    ensures binding { IfOk result (λ found. IfSome found (Binds (rule_of mapping.now))) }
 {
     match first_in_scope(alloc, mapping, facts, scope)? {
         Some(partial) => Ok(Some(partial.to_matched(alloc)?)),
@@ -42,8 +42,10 @@ fn first_in_scope<'a, F: Facts>(
     facts: &'a F,
     scope: Scope<'a>,
 ) -> Result<Option<PartialMatch<'a>>, Memory>
-    ensures image { IfOk result (λ found. option_map (λ q. q.image) found ≡ first_violation_lem (scope_of scope.entry) (own_of scope.entry) (rule_of mapping.now) (F.tuples facts.now)) }
-    ensures known { IfOk result (λ found. IfSome found (λ q. learn_all (rule_of mapping.now).left q.image nothing_known ≡ Some (known_at q))) }
+    ensures image { IfOk result (λ found. option_map (λ q. q.image) found ≡
+        first_in scope.entry (rule_of mapping.now) (F.tuples facts.now)) }
+    ensures known { IfOk result (λ found.
+        IfSome found (Knows (rule_of mapping.now).left nothing_known)) }
 {
     match scope {
         Scope::All => first_unmet(PartialMatch::new(alloc), mapping, facts),
@@ -54,7 +56,8 @@ fn first_in_scope<'a, F: Facts>(
 
 /// Whether the mapping holds in the facts: it has no violation there. It is refused only for want of memory.
 pub fn holds<F: Facts>(alloc: Global, mapping: &Mapping, facts: &F) -> Result<bool, Memory>
-    ensures decides { IfOk result (λ answer. Decides answer (Holds (rule_of mapping.now) (F.tuples facts.now))) }
+    ensures decides { IfOk result (λ answer.
+        Decides answer (Holds (rule_of mapping.now) (F.tuples facts.now))) }
 {
     let first = first_in_scope(alloc, mapping, facts, Scope::All)?;
     Ok(first.is_none())

@@ -1,9 +1,10 @@
 //! The first violations of a mapping in each scope.
-ghost use Rattle.std.specs.Prelude.{◌≡◌, map, IfOk};
+ghost use Rattle.std.specs.Prelude.{◌≡◌, IfOk};
 ghost use Rattle.std.specs.Option.{option_map};
 ghost use Rattle.yt_model.specs.Violations.{first_violation as first_violation_lem, Every, Caused, Forward, Backward};
-ghost use Rattle.yt_base.specs.Meanings.{fact_of, rule_of, change_of};
-ghost use Rattle.yt_violation.specs.Scopes.{scope_of, own_of};
+ghost use Rattle.yt_base.specs.Meanings.{rule_of};
+ghost use Rattle.yt_violation.specs.Scopes.{first_in};
+ghost use Rattle.yt_base.specs.Contents.{changes_of, facts_of};
 
 use std::alloc::Global;
 use yt_base::{Facts, Mapping, Memory, TupleList, WriteList};
@@ -26,9 +27,15 @@ impl Answers {
         own: &WriteList,
         facts: &F,
     ) -> Result<Answers, Memory>
-        ensures all { IfOk result (λ answers. option_map (λ image. map fact_of image.items) answers.all ≡ first_violation_lem Every (map change_of own.now.items) (rule_of mapping.now) (F.tuples facts.now)) }
-        ensures forward { IfOk result (λ answers. option_map (λ image. map fact_of image.items) answers.forward ≡ first_violation_lem (Caused Forward) (map change_of own.now.items) (rule_of mapping.now) (F.tuples facts.now)) }
-        ensures backward { IfOk result (λ answers. option_map (λ image. map fact_of image.items) answers.backward ≡ first_violation_lem (Caused Backward) (map change_of own.now.items) (rule_of mapping.now) (F.tuples facts.now)) }
+        ensures all { IfOk result (λ answers. option_map facts_of answers.all ≡
+            first_violation_lem Every (changes_of own.now) (rule_of mapping.now)
+            (F.tuples facts.now)) }
+        ensures forward { IfOk result (λ answers. option_map facts_of answers.forward ≡
+            first_violation_lem (Caused Forward) (changes_of own.now) (rule_of mapping.now)
+            (F.tuples facts.now)) }
+        ensures backward { IfOk result (λ answers. option_map facts_of answers.backward ≡
+            first_violation_lem (Caused Backward) (changes_of own.now) (rule_of mapping.now)
+            (F.tuples facts.now)) }
     {
         let all = first_image(alloc, mapping, facts, Scope::All)?;
         let forward = first_image(alloc, mapping, facts, Scope::Forward(own))?;
@@ -48,7 +55,8 @@ fn first_image<F: Facts>(
     facts: &F,
     scope: Scope<'_>,
 ) -> Result<Option<TupleList>, Memory>
-    ensures image { IfOk result (λ found. option_map (λ image. map fact_of image.items) found ≡ first_violation_lem (scope_of scope.entry) (own_of scope.entry) (rule_of mapping.now) (F.tuples facts.now)) }
+    ensures image { IfOk result (λ found. option_map facts_of found ≡
+        first_in scope.entry (rule_of mapping.now) (F.tuples facts.now)) }
 {
     match first_violation(alloc, mapping, facts, scope)? {
         Some(violation) => Ok(Some(violation.image)),

@@ -14,6 +14,8 @@ pub fn words_have_one_fault()
 
 /// Words ask for something exactly where they are not refused.
 pub fn words_are_answered_or_refused()
-    ensures never_both { (words : List Text) (request : Request) → Answers words request → is_refused words ≡ false }
-    ensures either { (words : List Text) → is_refused words ≡ false → (request : Request) × Answers words request }
+    ensures never_both { (words : List Text) (request : Request) → Answers words request →
+        is_refused words ≡ false }
+    ensures either { (words : List Text) → is_refused words ≡ false →
+        (request : Request) × Answers words request }
 {}

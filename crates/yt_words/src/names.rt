@@ -32,7 +32,8 @@ pub enum Deps {
 
 /// The command of a name.
 pub(crate) fn command_named(text: &str) -> Option<CommandName>
-    ensures some { (command : CommandName) → result ≡ Some command → text.now ≡ command_text command }
+    ensures some { (command : CommandName) → result ≡ Some command →
+        text.now ≡ command_text command }
     ensures none { result ≡ None → is_command text.now ≡ false }
 {
     if text == "run" {

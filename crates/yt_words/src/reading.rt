@@ -81,7 +81,8 @@ fn answer_to<'a>(error: &clap::Error) -> Result<Request<'a>, WordsRefusal>
 
 // Whether the flag was given.
 fn is_given(matches: &ArgMatches<'_>, id: &str) -> bool
-    ensures { result ≡ option_map_or (λ t. bytes_eq t (codes "true")) (first_value (found_of matches.now) id.now) false }
+    ensures { result ≡ option_map_or (λ t. bytes_eq t (codes "true"))
+        (first_value (found_of matches.now) id.now) false }
 {
     match matches.get_str(id) {
         Some(text) => text == "true",
@@ -110,7 +111,8 @@ pub fn read_words<'a>(alloc: Global, words: &'a [String]) -> Result<Request<'a>,
     ensures answer { IfOk result (Answers (map string_bytes words.entry.now)) }
     ensures budget { IfOk result HasBudget }
     ensures taken { OnOk result (is_refused (map string_bytes words.entry.now) ≡ false) }
-    ensures usage { IfErr result (λ refusal. refusal ≡ WordsRefusal.Usage → is_refused (map string_bytes words.entry.now) ≡ true) }
+    ensures usage { IfErr result (λ refusal. refusal ≡ WordsRefusal.Usage →
+        is_refused (map string_bytes words.entry.now) ≡ true) }
 {
     let command = command_line(alloc)?;
     let matches = match command.try_get_matches_from(words) {

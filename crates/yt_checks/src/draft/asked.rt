@@ -27,7 +27,8 @@ impl Draft {
         operation: RawOperation,
     ) -> Result<(Operation, Option<Mapping>), TakeRefusal>
         requires few { length self.now.updates < 1000 }
-        ensures performed { Gives (λ p. (operation_meant p.0, with_added self.now p.1)) result (operation_of self.now (operation_written operation)) }
+        ensures performed { Gives (λ p. (operation_meant p.0, with_added self.now p.1)) result
+            (operation_of self.now (operation_written operation)) }
     {
         let below = self.updates.len();
         match operation {
@@ -60,7 +61,8 @@ impl Draft {
     ) -> Result<(), Memory>
         requires fresh { is_one_of (labels self.old.updates) update.label.items ≡ false }
         requires room { length self.old.updates < 1000 }
-        ensures kept { OnOk result (self.new ≡ with_update (with_added self.old mapping) (unanswered update)) }
+        ensures kept { OnOk result (self.new ≡
+            with_update (with_added self.old mapping) (unanswered update)) }
         ensures err { OnErr result (self.new ≡ self.old) }
     {
         self.mappings.reserve(1)?;
@@ -80,7 +82,8 @@ impl Draft {
         curator: Name,
         operation: RawOperation,
     ) -> Result<(), TakeRefusal>
-        ensures taken { Gives (λ _. self.new) result (add_update self.old label.items curator.items (operation_written operation)) }
+        ensures taken { Gives (λ _. self.new) result
+            (add_update self.old label.items curator.items (operation_written operation)) }
         ensures err { OnErr result (self.new ≡ self.old) }
     {
         if self.updates.has(&label) {
@@ -110,7 +113,8 @@ impl Draft {
         label: Name,
         choice: RawChoice,
     ) -> Result<(), TakeRefusal>
-        ensures taken { Gives (λ _. self.new) result (add_answer self.old label.items (choice_written choice)) }
+        ensures taken { Gives (λ _. self.new) result
+            (add_answer self.old label.items (choice_written choice)) }
         ensures err { OnErr result (self.new ≡ self.old) }
     {
         let Some(place) = self.updates.find(&label) else {

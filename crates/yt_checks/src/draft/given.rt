@@ -46,7 +46,8 @@ impl Draft {
         since: u32,
         mapping: RawMapping,
     ) -> Result<Mapping, TakeRefusal>
-        ensures checked { Gives (λ m. with_mapping self.now (session_mapping_of m)) result (add_mapping self.now since (mapping_written mapping)) }
+        ensures checked { Gives (λ m. with_mapping self.now (session_mapping_of m)) result
+            (add_mapping self.now since (mapping_written mapping)) }
         ensures few { IfOk result (λ _. length self.now.mappings < 64) }
     {
         let mappings = self.mappings.as_slice();
@@ -69,7 +70,8 @@ impl Draft {
         alloc: Global,
         mapping: RawMapping,
     ) -> Result<(), TakeRefusal>
-        ensures taken { Gives (λ _. self.new) result (add_mapping self.old 0 (mapping_written mapping)) }
+        ensures taken { Gives (λ _. self.new) result
+            (add_mapping self.old 0 (mapping_written mapping)) }
         ensures err { OnErr result (self.new ≡ self.old) }
     {
         let mapping = self.checked_mapping(alloc, 0, mapping)?;

@@ -2,12 +2,12 @@ use Rattle.std.proofs.Common.{◌∙◌, ◌≤◌, suc, arith, ap, map}
 use Rattle.std.proofs.lemmas.Result.{IfOk-weaker}
 use Rattle.yt_base.specs.Meanings.{rule_of}
 use Rattle.yt_steps.specs.Steps.{look_from}
-use Rattle.yt_program.proofs.Looks.{here}
+use Rattle.yt_program.proofs.PassedBy.{here}
 use Rattle.yt_program.proofs.looking.look.Goals as goal
 
 pub returns-in-Some-clause-value : goal.returns-in-Some-clause-value
 returns-in-Some-clause-value c =
-    let ms = map rule_of c.args.mappings.now.items in
+    let ms = c.args.mappings.now in
     let k = c.in-Some.place in
     let m = rule_of c.in-Some.mapping.now in
     IfOk-weaker c.look_at.result _ _

@@ -1,16 +1,11 @@
-use Rattle.std.proofs.Common.{◌∙◌, ◌+◌, arith, ap, sym}
-use Rattle.std.specs.Option.{option_map}
-use Rattle.yt_model.proofs.Maps.{get_map}
+use Rattle.std.proofs.Common.{◌+◌, arith, sym}
 use Rattle.yt_base.specs.Meanings.{rule_of}
-use Rattle.yt_program.proofs.Looks.{passes_by, passes_end}
+use Rattle.yt_program.proofs.PassedBy.{passes_by, passes_end}
 use Rattle.yt_program.proofs.passing.in_play.Goals as goal
-
-pub returns-then-mapping-number-clause-found : goal.returns-then-mapping-number-clause-found
-returns-then-mapping-number-clause-found c = get_map rule_of c.args.mappings.now.items c.args.place ∙ ap (option_map rule_of) (sym c.in-Some.ensures.item)
 
 pub returns-else-mapping-number-clause-passed : goal.returns-else-mapping-number-clause-passed
 returns-else-mapping-number-clause-passed c =
-    λ P e. passes_by P c.args.mappings.now.items c.args.place (c.args.place + 1) c.in-Some.mapping.now (omega arith) c.in-Some.ensures.item (omega arith)
+    λ P e. passes_by P c.args.mappings.now c.args.place (c.args.place + 1) (rule_of c.in-Some.mapping.now) (omega arith) (sym c.in-Some.ensures.item) (omega arith)
 
 pub returns-in-None-clause-passed : goal.returns-in-None-clause-passed
-returns-in-None-clause-passed c = λ P e. passes_end P c.args.mappings.now.items c.args.place (c.args.place + 1) (omega arith) c.in-None.ensures.item
+returns-in-None-clause-passed c = λ P e. passes_end P c.args.mappings.now c.args.place (c.args.place + 1) (omega arith) c.in-None.ensures.item

@@ -1,12 +1,12 @@
 use Rattle.std.proofs.Common.{◌∙◌, suc, arith, ap, map}
 use Rattle.yt_base.specs.Meanings.{rule_of}
 use Rattle.yt_steps.specs.Steps.{look_from}
-use Rattle.yt_program.proofs.Looks.{here, looks_at}
+use Rattle.yt_program.proofs.PassedBy.{here, looks_at}
 use Rattle.yt_program.proofs.passing.next_from_start.Goals as goal
 
 pub returns-then-mapping-eq0-clause-look : goal.returns-then-mapping-eq0-clause-look
 returns-then-mapping-eq0-clause-look c =
-    let ms = map rule_of c.args.mappings.now.items in
+    let ms = c.args.mappings.now in
     let k = c.in-Some.place in
     let m = rule_of c.in-Some.mapping.now in
     λ P e. looks_at P ms k m c.if-mapping-eq0.true c.in-Some.ensures.found

@@ -6,4 +6,4 @@ use Rattle.yt_program.proofs.passing.next_in_play.Given as goal
 
 -- The look from here on is that from the start on.
 abbrev pub invariant-loop-place : goal.invariant-loop-place
-invariant-loop-place l = (P : Attempt) → P.number ≡ l.number → look_from P l.place (drop l.place (map rule_of l.mappings.items)) ≡ look_from P l.from (drop l.from (map rule_of l.mappings.items))
+invariant-loop-place l = (P : Attempt) → P.number ≡ l.number → look_from P l.place (drop l.place l.mappings) ≡ look_from P l.from (drop l.from l.mappings)

@@ -10,12 +10,12 @@ use Rattle.yt_serial.proofs.runs.take_all.Goals as goal
 
 pub returns : goal.returns
 returns c =
-    let ms = map rule_of c.args.mappings.now.items in
+    let ms = c.args.mappings.now in
     let fs = map finish_of c.loop-update.finishes.items in
     record {
       told =
           c.loop-update.invariant.together
-          ∙ (ap (λ (us : List SessionUpdate). behind fs (told_from ms c.args.steps c.loop-update.facts c.loop-update.number (map request_of (map update_of us))))
+          ∙ (ap (λ (us : List SessionUpdate). behind fs (told_from ms c.args.budget c.loop-update.facts c.loop-update.number (map request_of (map update_of us))))
           (drop_of_length-le c.args.updates.now c.loop-update-test.false)
-          ∙ ends_here ms c.args.steps c.loop-update.facts c.loop-update.number fs);
+          ∙ ends_here ms c.args.budget c.loop-update.facts c.loop-update.number fs);
     }

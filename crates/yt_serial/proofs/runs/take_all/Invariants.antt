@@ -12,6 +12,6 @@ invariant-loop-update l = record {
   sorted : IsRepository l.facts;
   number : l.number ≡ suc l.update-index;
   together :
-      behind (map finish_of l.fn.finishes.items) (told_from (map rule_of l.mappings.items) l.steps l.fn.facts 1 (map request_of (map update_of l.updates)))
-      ≡ behind (map finish_of l.finishes.items) (told_from (map rule_of l.mappings.items) l.steps l.facts l.number (map request_of (map update_of (drop l.update-index l.updates))));
+      behind (map finish_of l.fn.finishes.items) (told_from l.mappings l.budget l.fn.facts 1 (map request_of (map update_of l.updates)))
+      ≡ behind (map finish_of l.finishes.items) (told_from l.mappings l.budget l.facts l.number (map request_of (map update_of (drop l.update-index l.updates))));
 }

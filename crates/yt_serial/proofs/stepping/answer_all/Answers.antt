@@ -10,17 +10,19 @@ use Rattle.yt_program.specs.Wishes.{wish}
 use Rattle.yt_serial.proofs.Answered.{answers_there, answered_same, answered_fewer, settled_there, takes}
 use Rattle.yt_serial.proofs.stepping.answer_all.Goals as goal
 
-pub take-requires-clause-kind : goal.take-requires-clause-kind
-take-requires-clause-kind c =
-    let ms = map rule_of c.args.mappings.now.items in
+pub take-requires : goal.take-requires
+take-requires c =
+    let ms = c.args.mappings.now in
     let q = query_of c.in-Read.query.now in
-    takes ms (wish c.pass.new.self) q (reply_of c.in_ok-answer.answer) c.in-Read.ensures.want
-    (subst (IsOfKind ms q) (sym (answers_there ms q (reply_of c.in_ok-answer.answer) c.queries.view c.args.view.now c.queries.invariant.same c.requires.rules c.in_ok-answer.ensures.value))
-    (values_are_of_kind ms q c.args.view.now.below c.args.view.now.own (Caused c.args.view.now.heading) c.requires.sorted))
+    record {
+      kind = takes ms (wish c.pass.new.self) q (reply_of c.in_ok-answer.answer) c.in-Read.ensures.want
+          (subst (IsOfKind ms q) (sym (answers_there ms q (reply_of c.in_ok-answer.answer) c.queries.view c.args.view.now c.queries.invariant.same c.requires.rules c.in_ok-answer.ensures.value))
+          (values_are_of_kind ms q c.args.view.now.below c.args.view.now.own (Caused c.args.view.now.heading) c.requires.sorted));
+    }
 
 pub queries-smaller-in_ok-take : goal.queries-smaller-in_ok-take
 queries-smaller-in_ok-take c =
-    let ms = map rule_of c.args.mappings.now.items in
+    let ms = c.args.mappings.now in
     let val : Query → Reply = λ q. value ms q c.args.view.now.below c.args.view.now.own (Caused c.args.view.now.heading) in
     answered_fewer val (course ms c.queries.program) (course ms c.pass.new.self) (course ms c.take.new.self) (query_of c.in-Read.query.now) (reply_of c.in_ok-answer.answer)
     (c.pass.ensures.passed val (settled_there ms c.settled.result.now c.queries.view c.args.view.now c.queries.invariant.same c.requires.rules c.settled.ensures.nothing))
@@ -29,7 +31,7 @@ queries-smaller-in_ok-take c =
 
 pub queries-preserved-in_ok-take : goal.queries-preserved-in_ok-take
 queries-preserved-in_ok-take c =
-    let ms = map rule_of c.args.mappings.now.items in
+    let ms = c.args.mappings.now in
     let val : Query → Reply = λ q. value ms q c.args.view.now.below c.args.view.now.own (Caused c.args.view.now.heading) in
     record {
       same = cc;
@@ -43,7 +45,7 @@ queries-preserved-in_ok-take c =
 
 pub queries-smaller-in_ok-take-2 : goal.queries-smaller-in_ok-take-2
 queries-smaller-in_ok-take-2 c =
-    let ms = map rule_of c.args.mappings.now.items in
+    let ms = c.args.mappings.now in
     let val : Query → Reply = λ q. value ms q c.args.view.now.below c.args.view.now.own (Caused c.args.view.now.heading) in
     answered_fewer val (course ms c.queries.program) (course ms c.pass.new.self) (course ms c.take.new.self) (query_of c.in-Read.query.now) (reply_of c.in_ok-answer.answer)
     (c.pass.ensures.passed val (settled_there ms c.settled.result.now c.queries.view c.args.view.now c.queries.invariant.same c.requires.rules c.settled.ensures.nothing))
@@ -52,7 +54,7 @@ queries-smaller-in_ok-take-2 c =
 
 pub queries-preserved-in_ok-take-2 : goal.queries-preserved-in_ok-take-2
 queries-preserved-in_ok-take-2 c =
-    let ms = map rule_of c.args.mappings.now.items in
+    let ms = c.args.mappings.now in
     let val : Query → Reply = λ q. value ms q c.args.view.now.below c.args.view.now.own (Caused c.args.view.now.heading) in
     record {
       same = cc;
@@ -66,7 +68,7 @@ queries-preserved-in_ok-take-2 c =
 
 pub queries-smaller : goal.queries-smaller
 queries-smaller c =
-    let ms = map rule_of c.args.mappings.now.items in
+    let ms = c.args.mappings.now in
     let val : Query → Reply = λ q. value ms q c.args.view.now.below c.args.view.now.own (Caused c.args.view.now.heading) in
     answered_fewer val (course ms c.queries.program) (course ms c.pass.new.self) (course ms c.take.new.self) (query_of c.in-Read.query.now) (reply_of c.in_ok-answer.answer)
     (c.pass.ensures.passed val (settled_there ms c.settled.result.now c.queries.view c.args.view.now c.queries.invariant.same c.requires.rules c.settled.ensures.nothing))
@@ -75,7 +77,7 @@ queries-smaller c =
 
 pub queries-preserved : goal.queries-preserved
 queries-preserved c =
-    let ms = map rule_of c.args.mappings.now.items in
+    let ms = c.args.mappings.now in
     let val : Query → Reply = λ q. value ms q c.args.view.now.below c.args.view.now.own (Caused c.args.view.now.heading) in
     record {
       same = cc;

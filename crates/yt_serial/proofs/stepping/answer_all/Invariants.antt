@@ -11,10 +11,10 @@ abbrev pub invariant-queries : goal.invariant-queries
 invariant-queries l = record {
   same : l.view ≡ l.fn.view;
   together :
-      result_of (λ q. value (map rule_of l.mappings.items) q l.fn.view.below l.fn.view.own (Caused l.fn.view.heading)) (course (map rule_of l.mappings.items) l.program)
-      ≡ result_of (λ q. value (map rule_of l.mappings.items) q l.fn.view.below l.fn.view.own (Caused l.fn.view.heading)) (course (map rule_of l.mappings.items) l.fn.program);
+      result_of (λ q. value l.mappings q l.fn.view.below l.fn.view.own (Caused l.fn.view.heading)) (course l.mappings l.program)
+      ≡ result_of (λ q. value l.mappings q l.fn.view.below l.fn.view.own (Caused l.fn.view.heading)) (course l.mappings l.fn.program);
 }
 
 -- How many queries are left.
 abbrev pub decreases-queries : goal.decreases-queries
-decreases-queries l = length (log_of (λ q. value (map rule_of l.mappings.items) q l.fn.view.below l.fn.view.own (Caused l.fn.view.heading)) (course (map rule_of l.mappings.items) l.program))
+decreases-queries l = length (log_of (λ q. value l.mappings q l.fn.view.below l.fn.view.own (Caused l.fn.view.heading)) (course l.mappings l.program))

@@ -2,14 +2,13 @@ use Rattle.std.proofs.Common.{◌∙◌, ap, map, refl}
 use Rattle.std.proofs.lemmas.Result.{on_ok_weaker}
 use Rattle.std.specs.Option.{option_map, option_copied}
 use Rattle.yt_base.specs.Meanings.{choice_of, rule_of}
-use Rattle.yt_program.specs.Courses.{course}
-use Rattle.yt_serial.specs.Turns.{between}
+use Rattle.yt_program.specs.Courses.{between, course}
 use Rattle.yt_serial.proofs.Answered.{stepped_is}
 use Rattle.yt_serial.proofs.stepping.make.Goals as goal
 
 pub returns-clause-stepped : goal.returns-clause-stepped
 returns-clause-stepped c =
-    let ms = map rule_of c.args.mappings.now.items in
+    let ms = c.args.mappings.now in
     on_ok_weaker c.answer_all.result (λ d. d ∙ ap between
     (stepped_is ms c.args.budget c.args.view.now.below c.args.program.now.attempt (option_map choice_of (option_copied c.args.choice))
     (course ms c.begin.new.program) c.args.view.now.below c.args.view.now.own c.args.view.now.heading

@@ -1,19 +1,19 @@
 use Rattle.std.proofs.Common.{◌≡◌, ◌∙◌, ap, sym, List, map}
 use Rattle.yt_model.specs.Values.{Fact}
 use Rattle.yt_model.specs.Updates.{direction_of}
-use Rattle.yt_program.specs.Courses.{State}
+use Rattle.yt_program.specs.Courses.{between, State}
 use Rattle.yt_eval.specs.Watched.{Watched}
 use Rattle.std.specs.Option.{option_map, option_copied}
 use Rattle.yt_base.specs.Meanings.{choice_of, rule_of}
 use Rattle.yt_session.specs.Meanings.{update_of, request_of}
 use Rattle.yt_program.specs.Results.{lack_of}
-use Rattle.yt_serial.specs.Turns.{between, stepped, turn_of, whole_rest}
+use Rattle.yt_serial.specs.Turns.{stepped, turn_of, whole_rest}
 use Rattle.yt_serial.proofs.Running.{stays_on, rests_there}
 use Rattle.yt_serial.proofs.wholes.take_whole.Goals as goal
 
 pub turns-preserved : goal.turns-preserved
 turns-preserved c =
-    let ms = map rule_of c.args.mappings.now.items in
+    let ms = c.args.mappings.now in
     let answers = map choice_of c.args.update.now.answers.items in
     let below = ap (λ (v : Watched). v.below) c.turns.invariant.seen in
     let heading : direction_of c.turns.program.attempt.operation ≡ direction_of c.step.new.program.attempt.operation =
@@ -37,7 +37,7 @@ turns-preserved c =
 
 pub returns-in-Rest-clause-rest : goal.returns-in-Rest-clause-rest
 returns-in-Rest-clause-rest c =
-    let ms = map rule_of c.args.mappings.now.items in
+    let ms = c.args.mappings.now in
     let answers = map choice_of c.args.update.now.answers.items in
     rests_there ms c.args.budget c.args.facts.now answers
     (whole_rest ms c.args.budget c.args.facts.now (turn_of ms c.args.budget c.args.number (request_of (update_of c.args.update.now))))

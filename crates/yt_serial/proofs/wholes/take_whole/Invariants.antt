@@ -10,11 +10,11 @@ use Rattle.yt_serial.proofs.wholes.take_whole.Given as goal
 abbrev pub invariant-turns : goal.invariant-turns
 invariant-turns l = record {
   between : l.program.reading ≡ None;
-  seen : l.view ≡ record { rules = map rule_of l.mappings.items; heading = direction_of l.program.attempt.operation; below = l.facts; own = l.program.attempt.own };
+  seen : l.view ≡ record { rules = l.mappings; heading = direction_of l.program.attempt.operation; below = l.facts; own = l.program.attempt.own };
   left : is_some (outcome_in l.program.attempt.phase) ≡ false → l.program.attempt.steps < l.budget;
   together :
-      whole_rest (map rule_of l.mappings.items) l.budget l.facts (turn_of (map rule_of l.mappings.items) l.budget l.number (request_of (update_of l.update)))
-      ≡ rest_from (map rule_of l.mappings.items) l.budget l.facts (map choice_of l.update.answers.items) (l.budget - l.program.attempt.steps) l.program.attempt;
+      whole_rest l.mappings l.budget l.facts (turn_of l.mappings l.budget l.number (request_of (update_of l.update)))
+      ≡ rest_from l.mappings l.budget l.facts (map choice_of l.update.answers.items) (l.budget - l.program.attempt.steps) l.program.attempt;
 }
 
 -- How many steps are left.

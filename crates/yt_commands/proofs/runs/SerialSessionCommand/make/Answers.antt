@@ -6,4 +6,4 @@ use Rattle.yt_commands.proofs.runs.SerialSessionCommand.make.Goals as goal
 pub returns : goal.returns
 returns c =
     let s = session_of c.args.session in
-    record { output = unviolated s (result_output s) _ _ _ _ _ c.result_output.ensures c.in_ok-told.ensures.told c.steps.ensures.same c.in_ok-violated.ensures c.in_default.is }
+    record { output = unviolated s (result_output s) _ _ _ _ c.result_output.ensures c.in_ok-told.ensures.told c.in_ok-violated.ensures c.in_default.is }

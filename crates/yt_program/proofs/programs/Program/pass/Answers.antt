@@ -6,7 +6,7 @@ use Rattle.yt_program.proofs.programs.Program.pass.Goals.{in-Reading, in_default
 
 pub returns-clause-passed : goal.returns-clause-passed
 returns-clause-passed c = λ val finds.
-    let ms = map rule_of c.args.mappings.now.items in
+    let ms = c.args.mappings.now in
     elim c.match-self.branch [
       | in-Reading w ↦
           passes_on ms c.args.settled.now c.self.inside c.match-self.self-inside c.args.self.now w.in-Reading.reading w.pass.new.reading

@@ -1,15 +1,11 @@
 -- A look that passes mappings by, and where it ends.
-use Rattle.std.proofs.Common.{◌≡◌, ◌∙◌, ℕ, zero, suc, ◌<◌, ◌≤◌, arith, ap, sym, refl, Bool, true, false, cond, List, [], ◌∷◌, map, drop, length, Some, None}
+use Rattle.std.proofs.Common.{◌≡◌, ◌∙◌, ℕ, zero, suc, ◌<◌, ◌≤◌, arith, ap, sym, refl, Bool, true, false, cond, List, [], ◌∷◌, drop, length, Some, None}
 use Rattle.std.specs.Prelude.{◌==◌, nat_lt, slice_get}
-use Rattle.std.specs.Option.{option_map}
 use Rattle.std.proofs.lemmas.Bool.{ne_eqb}
 use Rattle.std.proofs.lemmas.Bool.Decides.{nat_tests}
-use Rattle.yt_model.proofs.Maps.{get_map}
 use Rattle.yt_machine.specs.Trees.{Node}
 use Rattle.yt_model.specs.Queries.{Present, Violation}
 use Rattle.yt_model.specs.Mappings.{Rule, force}
-use Rattle.yt_base.specs.declared.mappings.Mapping.{Mapping}
-use Rattle.yt_base.specs.Meanings.{rule_of}
 use Rattle.yt_steps.specs.Attempts.{Attempt, Ended, Done}
 use Rattle.yt_steps.specs.Steps.{Asking, makes, is_yes, image_in, look_at, look_from}
 use Rattle.yt_program.specs.Rows.{Violating, repaired, row_tree}
@@ -31,22 +27,22 @@ nothing_left [] (suc k) h = refl
 nothing_left (x ∷ xs) zero h = cc
 nothing_left (x ∷ xs) (suc k) h = nothing_left xs k h
 
-past : (xs : List Mapping) (k : ℕ) → length xs ≤ k → drop k (map rule_of xs) ≡ []
+past : (xs : List Rule) (k : ℕ) → length xs ≤ k → drop k xs ≡ []
 past [] zero h = refl
 past [] (suc k) h = refl
 past (x ∷ xs) zero h = absurd (omega arith)
 past (x ∷ xs) (suc k) h = past xs k (omega arith)
 
 -- Past the last mapping a look ends.
-pub looks_past : (P : Attempt) (xs : List Mapping) (k : ℕ) → length xs ≤ k → makes [] (Ended Done) ≡ look_from P k (drop k (map rule_of xs))
+pub looks_past : (P : Attempt) (xs : List Rule) (k : ℕ) → length xs ≤ k → makes [] (Ended Done) ≡ look_from P k (drop k xs)
 looks_past P xs k h = ap (look_from P k) (sym (past xs k h))
 
-beyond : (xs : List Mapping) (k : ℕ) → None ≡ slice_get xs k → length xs ≤ k
+beyond : (xs : List Rule) (k : ℕ) → None ≡ slice_get xs k → length xs ≤ k
 beyond [] k h = omega arith
 beyond (x ∷ xs) zero h = cc
 beyond (x ∷ xs) (suc k) h = let e = beyond xs k h in omega arith
 
-pub passes_end : (P : Attempt) (xs : List Mapping) (k j : ℕ) → j ≡ suc k → None ≡ slice_get xs k → look_from P k (drop k (map rule_of xs)) ≡ look_from P j (drop j (map rule_of xs))
+pub passes_end : (P : Attempt) (xs : List Rule) (k j : ℕ) → j ≡ suc k → None ≡ slice_get xs k → look_from P k (drop k xs) ≡ look_from P j (drop j xs)
 passes_end P xs k j e h =
     let l = beyond xs k h in
     sym (looks_past P xs k l) ∙ looks_past P xs j (omega arith)
@@ -61,11 +57,9 @@ skipped P k m ms h =
     by : (a b : Bool) (x y z : Asking) → a ≡ false → b ≡ true → cond a x (cond b y z) ≡ y
     by a b x y z e f = ap (λ t. cond t x (cond b y z)) e ∙ ap (λ t. cond t y z) f
 
-pub passes_by : (P : Attempt) (xs : List Mapping) (k j : ℕ) (x : Mapping) → j ≡ suc k → Some x ≡ slice_get xs k → P.number < x.since → look_from P k (drop k (map rule_of xs)) ≡ look_from P j (drop j (map rule_of xs))
-passes_by P xs k j x e h l =
-    let ms = map rule_of xs in
-    let found : slice_get ms k ≡ Some (rule_of x) = get_map rule_of xs k ∙ ap (option_map rule_of) (sym h) in
-    ap (look_from P k) (sym (here ms k j (rule_of x) e found)) ∙ (skipped P k (rule_of x) (drop j ms) l ∙ ap (λ n. look_from P n (drop j ms)) (sym e))
+pub passes_by : (P : Attempt) (ms : List Rule) (k j : ℕ) (m : Rule) → j ≡ suc k → slice_get ms k ≡ Some m → P.number < m.since → look_from P k (drop k ms) ≡ look_from P j (drop j ms)
+passes_by P ms k j m e found l =
+    ap (look_from P k) (sym (here ms k j m e found)) ∙ (skipped P k m (drop j ms) l ∙ ap (λ n. look_from P n (drop j ms)) (sym e))
 
 -- A mapping that is in force from the start is looked at unasked.
 pub looks_at : (P : Attempt) (ms : List Rule) (k : ℕ) (m : Rule) → m.since ≡ 0 → slice_get ms k ≡ Some m → row_tree ms P (Violating k) ≡ look_from P k (m ∷ drop (suc k) ms)

@@ -5,7 +5,7 @@ use Rattle.std.proofs.lemmas.Bool.{false≢true}
 use Rattle.yt_grammar.specs.Statements.{WrittenFact}
 use Rattle.yt_reader.specs.Facts.{SpellsFact}
 use Rattle.yt_reader.proofs.Encoded.{not_utf8}
-use Rattle.yt_reader.proofs.tuples.spelled_fact.Goals as goal
+use Rattle.yt_reader.proofs.tuples.read_fact.Goals as goal
 
 stopped : (end : Option ℕ) (text : List ℕ) → is_some end ≡ true → IfSome end (IsValidUpTo text) → (fact : WrittenFact) → SpellsFact text fact → ⊥
 stopped (Some place) text some stop fact spelled = not_utf8 text place stop spelled.utf8
