@@ -1,7 +1,7 @@
 -- Texts by their heads, and tuples by their texts.
 use Rattle.std.specs.Prelude.{Result, Ok, Err, Option, Some, None, IfOk, IfSome, IfNone, SomeIff, flat_map, if◌then◌else◌}
-use Rattle.std.proofs.Common.{◌≡◌, ℕ, zero, suc, ◌+◌, ◌-◌, ◌^◌, ◌<◌, ◌≤◌, ◌==◌, ap, refl, ◌∙◌, sym, subst, inl, inr, List, [], ◌∷◌, ◌++◌, length, take, drop, get_or, map, false, arith, append_assoc}
-use Rattle.std.proofs.lemmas.Bool.{cases_lt}
+use Rattle.std.proofs.Common.{◌≡◌, ℕ, zero, suc, ◌+◌, ◌-◌, ◌^◌, ◌<◌, ◌≤◌, ◌==◌, ap, refl, ◌∙◌, sym, subst, inl, inr, List, [], ◌∷◌, ◌++◌, length, take, drop, get_or, map, Bool, true, false, arith, append_assoc}
+use Rattle.std.proofs.lemmas.Bool.{cases_lt, false≢true}
 use Rattle.std.proofs.Math.Seq.{take-append_seam}
 use Rattle.yt_base.specs.Meanings.{fact_of as meant_by}
 use Rattle.yt_base.specs.declared.tuples.Tuple.{Tuple}
@@ -87,11 +87,16 @@ pub that_tuple : (relations : List RelationSchema) (text : List ℕ) (t : Fact) 
 that_tuple relations text t tuple (fact, spells, is) again e =
     ok_same (meant_by tuple) t (sym is ∙ ap (fact_of relations) (fact_same relations text t fact again e spells) ∙ again.meant)
 
-pub some_of : {T : Type 0} {P : T → Type 0} (found : Option T) (x : T) → found ≡ Some x → IfSome found P → P x
-some_of found x e h = subst (λ f. IfSome f P) e h
+pub some_of : {T : Type 0} (P : T → Type 0) (found : Option T) (x : T) → found ≡ Some x → IfSome found P → P x
+some_of P found x e h = subst (λ f. IfSome f P) e h
 
 pub none_of : {T P : Type 0} (found : Option T) → found ≡ None → IfNone found P → P
-none_of found e h = subst (λ f. IfNone f P) e h
+none_of {P = P} found e h = subst (λ f. IfNone f P) e h
+
+-- where bytes are not said to be empty there are some
+pub some_left : (bytes : List ℕ) (empty : Bool) → empty ≡ (length bytes == 0) → empty ≡ false → 1 ≤ length bytes
+some_left [] empty e f = absurd (false≢true (sym f ∙ e))
+some_left (b ∷ bytes) empty e f = omega arith
 
 -- ---- the first byte of bytes, and a count that goes up
 
@@ -103,10 +108,10 @@ pub nothing : (xs : List ℕ) → length xs ≡ 0 → xs ≡ []
 nothing [] e = refl
 nothing (x ∷ xs) e = absurd (omega arith)
 
-pub split_byte : (rest : List ℕ) (byte : ℕ) → 1 ≤ length rest → byte ≡ get_or rest 0 byte → byte ≡ 1 → rest ≡ 1 ∷ take (length rest - 1) (drop 1 rest)
-split_byte [] byte l e one = absurd (omega arith)
-split_byte (x ∷ xs) byte l e one =
-    let first : x ≡ 1 = sym e ∙ one in
+pub split_byte : (rest : List ℕ) → 1 ≤ length rest → get_or rest 0 0 ≡ 1 → rest ≡ 1 ∷ take (length rest - 1) (drop 1 rest)
+split_byte [] l one = absurd (omega arith)
+split_byte (x ∷ xs) l one =
+    let first : x ≡ 1 = one in
     let count : length (x ∷ xs) - 1 ≡ length xs = omega arith in
     let others : take (length (x ∷ xs) - 1) (drop 1 (x ∷ xs)) ≡ xs = ap (λ k. take k xs) count ∙ take_all xs in
     λ i. first i ∷ sym others i

@@ -12,18 +12,18 @@ returns-in_default c = record {
 pub returns-in_default-checked_add : goal.returns-in_default-checked_add
 returns-in_default-checked_add c = record {
   told = inr (too_many_breaks c.args.bytes.now (session_of c.args.session) c.records.commits _ c.records.rest.now _ c.records.facts c.records.invariant refl
-      (split_byte c.records.rest.now c.byte-item.result c.in-len1-up.len_at_least c.byte-item.is (omega arith)) (no_next c.checked_add.result c.records.commits c.in_default-checked_add.is c.checked_add.ensures));
+      (split_byte c.records.rest.now c.in-len1-up.len_at_least (omega arith)) (no_next c.checked_add.result c.records.commits c.in_default-checked_add.is c.checked_add.ensures));
 }
 
 pub returns-in_default-2 : goal.returns-in_default-2
 returns-in_default-2 c = record {
   told = inr (no_commit_breaks c.args.bytes.now (session_of c.args.session) c.records.commits c.in-Some.number _ c.records.rest.now _ c.records.facts c.records.invariant refl
-      (split_byte c.records.rest.now c.byte-item.result c.in-len1-up.len_at_least c.byte-item.is (omega arith)) (next_of c.checked_add.result c.records.commits c.in-Some.number c.in-Some.is c.checked_add.ensures)
+      (split_byte c.records.rest.now c.in-len1-up.len_at_least (omega arith)) (next_of c.checked_add.result c.records.commits c.in-Some.number c.in-Some.is c.checked_add.ensures)
       (none_of c.in_ok-more.field-0 c.in_default-2.is c.in_ok-more.ensures.none));
 }
 
 pub records-preserved : goal.records-preserved
 records-preserved c =
     read_more c.args.bytes.now (session_of c.args.session) c.records.commits c.in-Some.number c.records.rest.now _ c.in-Some-2.more.now c.records.facts c.take_commit.new.facts c.records.invariant
-    (split_byte c.records.rest.now c.byte-item.result c.in-len1-up.len_at_least c.byte-item.is (omega arith)) (next_of c.checked_add.result c.records.commits c.in-Some.number c.in-Some.is c.checked_add.ensures)
-    (some_of c.in_ok-more.field-0 _ c.in-Some-2.is c.in_ok-more.ensures.some)
+    (split_byte c.records.rest.now c.in-len1-up.len_at_least (omega arith)) (next_of c.checked_add.result c.records.commits c.in-Some.number c.in-Some.is c.checked_add.ensures)
+    (some_of _ c.in_ok-more.field-0 _ c.in-Some-2.is c.in_ok-more.ensures.some)
