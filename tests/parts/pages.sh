@@ -4,7 +4,7 @@ check 'the map of the architecture names each crate' \
   "$(for crate in crates/*/; do grep -q "\`$(basename "$crate")\`" docs/ARCHITECTURE.md || basename "$crate"; done)"
 check 'each link of the pages leads somewhere' "$(tests/pages/links.py 2>&1)"
 check 'each contract that PROOFS cites is there' "$(tests/pages/citations.py 2>&1)"
-check 'each name of the glossary is there' "$(tests/pages/names.py 2>&1)"
+check 'each name of the crates that the pages quote is there' "$(tests/pages/names.py 2>&1)"
 check 'each block of the guide is run, and writes what it shows' "$(tests/pages/blocks.py docs/GUIDE.md "$program" 2>&1)"
 check 'the session of the README is run, and writes what it shows' "$(tests/pages/blocks.py README.md "$program" plain 2>&1)"
 check 'the blocks of FORMATS are run, and write what they show' "$(tests/pages/blocks.py docs/FORMATS.md "$program" plain 2>&1)"

@@ -1,21 +1,21 @@
 //! One step of an attempt over a set of tuples, with its reads.
-ghost use Rattle.std.specs.Prelude.{◌≡◌, length, map, IfOk, OnOk};
+ghost use Rattle.std.specs.Prelude.{◌≡◌, ◌<◌, map, IfOk, OnOk};
 ghost use Rattle.std.specs.Option.{option_map, option_copied};
 ghost use Rattle.yt_machine.specs.Trees.{result_of, log_of};
 ghost use Rattle.yt_model.specs.Queries.{value};
 ghost use Rattle.yt_model.specs.Repository.{IsRepository};
 ghost use Rattle.yt_model.specs.Violations.{Caused};
-ghost use Rattle.yt_base.specs.Meanings.{choice_of, heading_of, rule_of};
+ghost use Rattle.yt_base.specs.Meanings.{choice_of, heading_of};
 ghost use Rattle.yt_query.specs.Meanings.{read_of};
 ghost use Rattle.yt_steps.specs.Steps.{step};
-ghost use Rattle.yt_program.specs.Conditions.{AreWithin, IsBudget};
 ghost use Rattle.yt_program.specs.Courses.{coming_to, course};
 ghost use Rattle.yt_program.specs.Wishes.{wish};
 ghost use Rattle.yt_plan.specs.Planned.{at_rest, WantsStep, next_attempt, next_reads, read_after};
 
 use std::alloc::Global;
-use yt_base::{Choice, Direction, Facts, MappingList, Memory, TryCopy};
+use yt_base::{Choice, Direction, Facts, Memory, TryCopy};
 use yt_eval::View;
+use yt_limits::{Budget, Mappings};
 use yt_program::{Program, Want};
 use yt_query::{LoggedRead, ReadLog};
 
@@ -32,15 +32,14 @@ pub fn plan_step<F: Facts>(
     alloc: Global,
     program: &Program,
     choice: Option<&Choice>,
-    mappings: &MappingList,
-    budget: u32,
+    mappings: &Mappings<'_>,
+    budget: Budget,
     below: &F,
 ) -> Result<Plan, Memory>
     requires wanted { WantsStep (wish program.now) (option_map choice_of (option_copied choice)) }
-    requires within { AreWithin (map rule_of mappings.now.items) }
-    requires budget { IsBudget program.now.attempt.steps budget }
-    ensures program { IfOk result (λ plan. plan.program ≡ at_rest (next_attempt (map rule_of mappings.now.items) budget (F.tuples below.now) program.now.attempt (option_map choice_of (option_copied choice.entry)))) }
-    ensures reads { IfOk result (λ plan. map read_of plan.reads.items ≡ next_reads (map rule_of mappings.now.items) (F.tuples below.now) program.now.attempt (option_map choice_of (option_copied choice.entry))) }
+    requires left { program.now.attempt.steps < budget }
+    ensures program { IfOk result (λ plan. plan.program ≡ at_rest (next_attempt mappings.now budget (F.tuples below.now) program.now.attempt (option_map choice_of (option_copied choice.entry)))) }
+    ensures reads { IfOk result (λ plan. map read_of plan.reads.items ≡ next_reads mappings.now (F.tuples below.now) program.now.attempt (option_map choice_of (option_copied choice.entry))) }
 {
     // The set tells that it is in order.
     let _ = below.beyond(None);
@@ -63,13 +62,12 @@ fn begin(
     alloc: Global,
     program: &mut Program,
     choice: Option<&Choice>,
-    mappings: &MappingList,
-    budget: u32,
+    mappings: &Mappings<'_>,
+    budget: Budget,
 ) -> Result<(), Memory>
     requires wanted { WantsStep (wish program.old) (option_map choice_of (option_copied choice)) }
-    requires within { AreWithin (map rule_of mappings.now.items) }
-    requires budget { IsBudget program.old.attempt.steps budget }
-    ensures step { OnOk result (course (map rule_of mappings.now.items) program.new ≡ coming_to budget program.old.attempt (step (map rule_of mappings.now.items) program.old.attempt (option_map choice_of (option_copied choice.entry)))) }
+    requires left { program.old.attempt.steps < budget }
+    ensures step { OnOk result (course mappings.now program.new ≡ coming_to budget program.old.attempt (step mappings.now program.old.attempt (option_map choice_of (option_copied choice.entry)))) }
 {
     match choice {
         Some(choice) => program.choose(alloc, choice, mappings, budget),
@@ -83,14 +81,13 @@ fn answer_all<F: Facts>(
     alloc: Global,
     program: &mut Program,
     view: &View<'_, F>,
-    mappings: &MappingList,
+    mappings: &Mappings<'_>,
     direction: Direction,
     made: u64,
 ) -> Result<ReadLog, Memory>
     requires sorted { IsRepository view.now.below }
-    requires within { AreWithin (map rule_of mappings.now.items) }
-    ensures answered { OnOk result (program.new ≡ at_rest (result_of (λ q. value (map rule_of mappings.now.items) q view.now.below view.now.own (Caused (heading_of direction))) (course (map rule_of mappings.now.items) program.old))) }
-    ensures reads { IfOk result (λ reads. map read_of reads.items ≡ map (read_after made) (log_of (λ q. value (map rule_of mappings.now.items) q view.now.below view.now.own (Caused (heading_of direction))) (course (map rule_of mappings.now.items) program.old))) }
+    ensures answered { OnOk result (program.new ≡ at_rest (result_of (λ q. value mappings.now q view.now.below view.now.own (Caused (heading_of direction))) (course mappings.now program.old))) }
+    ensures reads { IfOk result (λ reads. map read_of reads.items ≡ map (read_after made) (log_of (λ q. value mappings.now q view.now.below view.now.own (Caused (heading_of direction))) (course mappings.now program.old))) }
 {
     let mut reads = ReadLog::new(alloc);
     'queries: loop {
@@ -98,7 +95,7 @@ fn answer_all<F: Facts>(
             return Ok(reads);
         };
         let query = query.copy(alloc)?;
-        let answer = view.eval(&query, mappings, direction, alloc)?;
+        let answer = view.eval(&query, mappings.list(), direction, alloc)?;
         program.take(alloc, &answer, mappings)?;
         reads.push(LoggedRead {
             query,

@@ -1,13 +1,15 @@
 -- What a reason rests on has its reason behind it.
-use Rattle.std.proofs.Common.{◌≡◌, ◌∙◌, ap, refl, sym, Bool, true, false, ◌&&◌, ◌||◌, not, List, [], ◌∷◌, ◌++◌, map, filter}
+use Rattle.std.proofs.Common.{◌≡◌, ◌∙◌, ap, refl, sym, Bool, true, false, ◌&&◌, ◌||◌, not, List, [], ◌∷◌, ◌++◌, map, filter, find, Some}
+use Rattle.std.specs.Prelude.{if◌then◌else◌}
 use Rattle.std.specs.List.{AllByRecursion, flat_map}
+use Rattle.std.proofs.lemmas.List.{append-nil}
 use Rattle.yt_model.specs.Values.{Fact, same_fact}
 use Rattle.yt_model.specs.Repository.{Insert, apply, has, inserted_after}
-use Rattle.yt_model.proofs.Sets.{has-apply, same_itself}
+use Rattle.yt_model.proofs.Sets.{has-apply, same_exact, same_itself}
 use Rattle.yt_model.proofs.Members.{has-filter}
 use Rattle.yt_provenance.specs.Puts.{Step, puts}
 use Rattle.yt_provenance.specs.Reasons.{Reason, rooted, reason_at, premises, sought_before, explained}
-use Rattle.yt_provenance.specs.Laws.{is_told, AreGrounded, ExplanationsAreGrounded}
+use Rattle.yt_provenance.specs.Laws.{is_told, origin, AreGrounded, ExplanationsAreGrounded}
 
 -- Behind other reasons a tuple's reason stands as well.
 told_behind : (rs more : List Reason) (t : Fact) → is_told more t ≡ true → is_told (rs ++ more) t ≡ true
@@ -124,5 +126,61 @@ all_grounded (s ∷ ss) sought =
     (λ t k. told_all ss next t (added (filter (λ u. not (puts s u)) sought) (flat_map (λ (r : Reason). premises r.how) rs) t k))
     (all_grounded ss next)
 
+-- ---- origins
+
+abbrev for_it : Fact → Reason → Bool
+for_it t r = same_fact t r.tuple
+
+-- Among the reasons made for tuples the first for one of them is its own.
+made_first : (reason : Fact → Reason) → ((u : Fact) → (reason u).tuple ≡ u) → (us : List Fact) (rest : List Reason) (t : Fact) → has us t ≡ true → find (for_it t) (map reason us ++ rest) ≡ Some (reason t)
+made_first reason is [] rest t e = absurd (Rattle.std.proofs.lemmas.Bool.false≢true e)
+made_first reason is (u ∷ us) rest t e = by (same_fact t (reason u).tuple) refl (λ k. made_first reason is us rest t k)
+  where
+    away : (b : Bool) → (b || has us t) ≡ true → b ≡ false → has us t ≡ true
+    away true k f = absurd (Rattle.std.proofs.lemmas.Bool.false≢true (sym f))
+    away false k f = k
+
+    by : (b : Bool) → same_fact t (reason u).tuple ≡ b → (has us t ≡ true → find (for_it t) (map reason us ++ rest) ≡ Some (reason t))
+        → (if b then Some (reason u) else find (for_it t) (map reason us ++ rest)) ≡ Some (reason t)
+    by true f rec = ap (λ v. Some (reason v)) (sym (same_exact t u (ap (same_fact t) (sym (is u)) ∙ f)))
+    by false f rec = rec (away (same_fact t u) e (ap (same_fact t) (sym (is u)) ∙ f))
+
+-- Behind those made for other tuples.
+made_for_others : (reason : Fact → Reason) → ((u : Fact) → (reason u).tuple ≡ u) → (us : List Fact) (rest : List Reason) (t : Fact) → has us t ≡ false → find (for_it t) (map reason us ++ rest) ≡ find (for_it t) rest
+made_for_others reason is [] rest t e = refl
+made_for_others reason is (u ∷ us) rest t e = by (same_fact t (reason u).tuple) refl (λ k. made_for_others reason is us rest t k)
+  where
+    other : (b : Bool) → (b || has us t) ≡ false → b ≡ false
+    other true k = k
+    other false k = refl
+
+    none : (b : Bool) → (b || has us t) ≡ false → has us t ≡ false
+    none true k = absurd (Rattle.std.proofs.lemmas.Bool.false≢true (sym k))
+    none false k = k
+
+    by : (b : Bool) → same_fact t (reason u).tuple ≡ b → (has us t ≡ false → find (for_it t) (map reason us ++ rest) ≡ find (for_it t) rest)
+        → (if b then Some (reason u) else find (for_it t) (map reason us ++ rest)) ≡ find (for_it t) rest
+    by true f rec = absurd (Rattle.std.proofs.lemmas.Bool.false≢true (sym (other (same_fact t u) e) ∙ (ap (same_fact t) (sym (is u)) ∙ f)))
+    by false f rec = rec (none (same_fact t u) e)
+
+first_told : (ss : List Step) (sought : List Fact) (t : Fact) → has sought t ≡ true → find (for_it t) (explained ss sought) ≡ Some (origin ss t)
+first_told [] sought t e = ap (find (for_it t)) (sym (append-nil (map rooted sought))) ∙ made_first rooted (λ u. refl) sought [] t e
+first_told (s ∷ ss) sought t e = by (puts s t) refl (λ k. first_told ss next t k)
+  where
+    rs : List Reason
+    rs = map (reason_at s) (filter (puts s) sought)
+
+    next : List Fact
+    next = sought_before (puts s) rs sought
+
+    by : (b : Bool) → puts s t ≡ b → (has next t ≡ true → find (for_it t) (explained ss next) ≡ Some (origin ss t))
+        → find (for_it t) (rs ++ explained ss next) ≡ Some (if b then reason_at s t else origin ss t)
+    by true f rec = made_first (reason_at s) (λ u. refl) (filter (puts s) sought) (explained ss next) t (has-filter (puts s) sought t ∙ (λ i. e i && f i))
+    by false f rec =
+        made_for_others (reason_at s) (λ u. refl) (filter (puts s) sought) (explained ss next) t (has-filter (puts s) sought t ∙ (λ i. e i && f i))
+        ∙ rec
+        (still (filter (λ u. not (puts s u)) sought) (flat_map (λ (r : Reason). premises r.how) rs) t
+        (has-filter (λ u. not (puts s u)) sought t ∙ (λ i. e i && not (f i))))
+
 pub reasons_grounded : ExplanationsAreGrounded
-reasons_grounded ss sought = record { grounded = all_grounded ss sought; told = told_all ss sought }
+reasons_grounded ss sought = record { grounded = all_grounded ss sought; told = told_all ss sought; first = first_told ss sought }

@@ -1,5 +1,5 @@
 -- Laws of notes and of the steps of the serial machine.
-use Rattle.std.specs.Prelude.{◌≡◌, ℕ, ◌≤◌, Bool, true, List, [], ◌∷◌, reverse}
+use Rattle.std.specs.Prelude.{◌≡◌, ℕ, ◌≤◌, Bool, true, if◌then◌else◌, List, [], ◌∷◌, reverse, find, Some}
 use Rattle.std.specs.List.{AllByRecursion, list_any}
 use Rattle.yt_model.specs.Values.{Fact, same_fact}
 use Rattle.yt_model.specs.Repository.{has}
@@ -8,9 +8,9 @@ use Rattle.yt_model.specs.Laws.{HaveNoNulls}
 use Rattle.yt_steps.specs.Chase.{every, caused}
 use Rattle.yt_steps.specs.Serial.{Request, turns_in, turns_of}
 use Rattle.yt_steps.specs.Timely.{IsTimely}
-use Rattle.yt_provenance.specs.Puts.{Step}
+use Rattle.yt_provenance.specs.Puts.{Step, puts}
 use Rattle.yt_provenance.specs.Courses.{serial_steps}
-use Rattle.yt_provenance.specs.Reasons.{Reason, premises, explained}
+use Rattle.yt_provenance.specs.Reasons.{Reason, premises, reason_at, rooted, explained}
 use Rattle.yt_provenance.specs.Notes.{notes_of, told_by}
 
 -- What is noted of steps tells the reasons for tuples after these steps.
@@ -32,10 +32,16 @@ abbrev pub AreGrounded : List Reason → Type 0
 AreGrounded [] = Unit {0}
 AreGrounded (r ∷ rs) = AllByRecursion (λ t. is_told rs t ≡ true) (premises r.how) × AreGrounded rs
 
--- Whatever the steps were, the reasons for tuples sought after them are grounded, and every tuple sought has one.
+-- The reason for a tuple at its origin: the last of these steps that puts it, where the last one stands first. A tuple that none puts is of the base.
+abbrev pub origin : List Step → Fact → Reason
+origin [] t = rooted t
+origin (s ∷ earlier) t = if puts s t then reason_at s t else origin earlier t
+
+-- Whatever the steps were, the reasons for tuples sought after them are grounded, and every tuple sought is told first by its origin.
 pub record ReasonsAreGrounded (ss : List Step) (sought : List Fact) : Type 0 where
   pub grounded : AreGrounded (explained ss sought)
   pub told : (t : Fact) → has sought t ≡ true → is_told (explained ss sought) t ≡ true
+  pub first : (t : Fact) → has sought t ≡ true → find (λ (r : Reason). same_fact t r.tuple) (explained ss sought) ≡ Some (origin ss t)
 
 abbrev pub ExplanationsAreGrounded : Type 0
 ExplanationsAreGrounded = (ss : List Step) (sought : List Fact) → ReasonsAreGrounded ss sought

@@ -3,3 +3,4 @@ pub mod Courses
 pub mod Reasons
 pub mod Notes
 pub mod Laws
+pub mod ExplainedRows

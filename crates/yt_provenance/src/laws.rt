@@ -1,4 +1,5 @@
-//! Laws of explanations.
+//! Laws of explanations, and worked ones.
+ghost use Rattle.yt_provenance.specs.ExplainedRows.{Explained};
 ghost use Rattle.yt_provenance.specs.Laws.{ExplanationsAreGrounded, NotesTell, StepsAgree};
 
 /// What is noted of the steps that put tuples is enough for the reasons of all that they leave.
@@ -16,4 +17,9 @@ pub fn steps_agree_in_scopes()
 /// ends at tuples of the base and at insertions.
 pub fn reasons_are_grounded()
     ensures { ExplanationsAreGrounded }
+{}
+
+/// Tuples that were inserted, generated and rewritten, of the base, put twice, and absent, with their reasons in full.
+pub fn worked_explanations()
+    ensures { Explained }
 {}

@@ -9,3 +9,5 @@ pub mod Setting
 pub mod Scanning
 pub mod Noting
 pub mod Holding
+pub mod Sent
+pub mod Walking

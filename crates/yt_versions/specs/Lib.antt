@@ -8,3 +8,4 @@ pub mod Zones
 pub mod ZoneLaws
 pub mod Indexed
 pub mod Standing
+pub mod Walks

@@ -1,5 +1,5 @@
 -- What versions stand for: a base, and the trail of each update.
-use Rattle.std.specs.Prelude.{◌≡◌, ℕ, suc, Bool, true, false, cond, List, [], ◌∷◌, ◌++◌, find, Option, Some, None}
+use Rattle.std.specs.Prelude.{◌≡◌, ℕ, suc, ◌==◌, ◌||◌, Bool, true, false, cond, List, [], ◌∷◌, ◌++◌, find, Option, Some, None}
 use Rattle.std.specs.List.{list_any}
 use Rattle.std.specs.Option.{option_map, option_or}
 use Rattle.std.specs.Ordering.{nat_cmp, is_eq}
@@ -49,6 +49,14 @@ is_among r (Some rs) = list_any (λ x. is_eq (nat_cmp r x)) rs
 abbrev pub wrote_in : List (ℕ × List ℕ) → ℕ → ℕ → Bool
 wrote_in es n r = is_among r (value_at nat_cmp n es)
 
+-- Update n wrote the relations of these writes too, and the others what they wrote.
+abbrev pub NotesMore : ℕ → List Change → List (ℕ × List ℕ) → List (ℕ × List ℕ) → Type 0
+NotesMore n ws old new = (v r : ℕ) → wrote_in new v r ≡ cond (v == n) (wrote_in old v r || writes_to r ws) (wrote_in old v r)
+
+-- Update n wrote no relation, and the others what they wrote.
+abbrev pub Forgets : ℕ → List (ℕ × List ℕ) → List (ℕ × List ℕ) → Type 0
+Forgets n old new = (v r : ℕ) → wrote_in new v r ≡ cond (v == n) false (wrote_in old v r)
+
 -- The versions have this base and these trails.
 pub record StandFor (v : Kept) (D : List Fact) (trails : ℕ → List Change) : Type 0 where
   pub rows : AreRows v.rows
@@ -63,6 +71,10 @@ Published n ws old new = (D : List Fact) (before after : ℕ → List Change) �
 -- Where these were the writes of update n, it has none.
 abbrev pub Retracted : ℕ → List Change → Kept → Kept → Type 0
 Retracted n ws old new = (D : List Fact) (before after : ℕ → List Change) → StandFor old D before → before n ≡ ws → after n ≡ [] → SameBut n before after → StandFor new D after
+
+-- Where these were the writes of update n, the base has them, and the update has none.
+abbrev pub Folded : ℕ → List Change → Kept → Kept → Type 0
+Folded n ws old new = (D : List Fact) (before after : ℕ → List Change) → StandFor old D before → before n ≡ ws → after n ≡ [] → SameBut n before after → StandFor new (apply D ws) after
 
 -- The answer says whether a write of update n is of relation r.
 abbrev pub Wrote : ℕ → ℕ → Bool → Kept → Type 0

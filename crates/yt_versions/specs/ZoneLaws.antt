@@ -1,8 +1,11 @@
 -- What lies before what is looked for, or past it, stays so on the way down or up.
-use Rattle.std.proofs.Common.{◌≡◌, ℕ, ap, refl, sym, ◌∙◌, Bool, true, false, cond, Option, Some, None}
+use Rattle.std.proofs.Common.{◌≡◌, ℕ, ◌≤◌, arith, ap, refl, sym, ◌∙◌, Bool, true, false, cond, Option, Some, None}
 use Rattle.std.specs.Cmp.{IsTotalOrder, nat_cmp_total}
 use Rattle.std.specs.Cmp.Lexicographic.{options_total}
-use Rattle.std.specs.Ordering.{nat_cmp, ordering_reverse, ordering_then}
+use Rattle.std.proofs.lemmas.Bool.{leb-true, le-leb}
+use Rattle.std.specs.Ordering.{is_le, nat_cmp, ordering_reverse, ordering_then}
+use Rattle.std.specs.Prelude.{nat_le}
+use Rattle.yt_model.proofs.Ranges.{relation_le}
 use Rattle.std.specs.declared.cmp.Ordering.{Ordering}
 use Rattle.std.specs.declared.cmp.Ordering.TheVariants.{Less, Equal, Greater}
 use Rattle.yt_model.specs.Values.{Datum, Fact, fact_cmp}
@@ -125,3 +128,11 @@ pub in_before : (r c : ℕ) (d : Datum) (past : Option Fact) (x y : ℕ × Fact)
 in_before r c d past x y h =
     then_before nat_cmp_total (λ (z : ℕ × Fact). z.0) c (by_value r d past) x y (first_up (nat_cmp x.0 y.0) _ h)
     (λ e. value_before r d past x y (then_second (nat_cmp x.0 y.0) _ h e))
+
+-- ---- from a relation on
+
+pub from_rises : (r : ℕ) (x y : Fact) → fact_cmp x y ≡ Less → nat_le r x.relation ≡ true → nat_le r y.relation ≡ true
+from_rises r x y h e =
+    let a : r ≤ x.relation = leb-true r x.relation e in
+    let b : x.relation ≤ y.relation = relation_le x y (ap is_le h) in
+    le-leb r y.relation (omega arith)

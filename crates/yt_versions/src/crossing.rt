@@ -1,8 +1,10 @@
-// What versions are made of is Send and Sync.
+// Versions, and what an update sees of them, are Send and Sync.
 
+use crate::below::Below;
 use crate::cells::Cell;
 use crate::marks::Marks;
 use crate::notes::Notes;
+use crate::versions::Versions;
 
 fn is_send<T: Send>(_value: &T) {}
 
@@ -21,4 +23,14 @@ fn cells_cross(cell: &Cell) {
 fn notes_cross(notes: &Notes) {
     is_send(notes);
     is_sync(notes);
+}
+
+fn versions_cross(versions: &Versions) {
+    is_send(versions);
+    is_sync(versions);
+}
+
+fn views_cross(below: &Below<'_>) {
+    is_send(below);
+    is_sync(below);
 }

@@ -21,11 +21,13 @@ pub struct Marks {
     pub chain: Chain,
 }
 
-/// What is done to the marks of a tuple: an update's marker is put in or taken out, or the tuple is found in the base.
+/// What is done to the marks of a tuple: an update's marker is put in or taken out, or goes over into the base, or the tuple
+/// is found in the base.
 #[derive(Clone, Copy)]
 pub enum Touch {
     Mark(u32, bool),
     Unmark(u32),
+    Settle(u32, bool),
     Found,
 }
 
@@ -78,6 +80,11 @@ impl Marks {
             }
             Touch::Unmark(number) => {
                 self.chain.remove(&Reverse(number))?;
+                return Ok(());
+            }
+            Touch::Settle(number, inserted) => {
+                self.chain.remove(&Reverse(number))?;
+                self.in_base = inserted;
                 return Ok(());
             }
             Touch::Found => {

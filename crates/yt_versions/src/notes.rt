@@ -1,7 +1,7 @@
 //! Which relations each update wrote.
-ghost use Rattle.std.specs.Prelude.{◌≡◌, ℕ, ◌==◌, ◌||◌, false, if◌then◌else◌, map, IfOk};
+ghost use Rattle.std.specs.Prelude.{◌≡◌, ℕ, ◌||◌, map, IfOk};
 ghost use Rattle.yt_base.specs.Meanings.{change_of};
-ghost use Rattle.yt_versions.specs.Standing.{is_among, wrote_in};
+ghost use Rattle.yt_versions.specs.Standing.{is_among, wrote_in, NotesMore, Forgets};
 ghost use Rattle.yt_steps.specs.Chase.{relation_of};
 ghost use Rattle.yt_versions.specs.Trails.{writes_to};
 
@@ -18,7 +18,7 @@ pub type Notes = TreeMap<u32, Relations>;
 
 /// The notes with the relations of more writes of the update. It is refused only for want of memory.
 pub fn noted(notes: &Notes, alloc: Global, number: u32, writes: &[Write]) -> Result<Notes, Memory>
-    ensures more { IfOk result (λ new. (n r : ℕ) → wrote_in new n r ≡ (if n == number then wrote_in notes.now n r || writes_to r (map change_of writes.now) else wrote_in notes.now n r)) }
+    ensures more { IfOk result (NotesMore number (map change_of writes.now) notes.now) }
 {
     let relations = with_relations(alloc, relations_of(notes, number)?, writes)?;
     let mut new = notes.share()?;
@@ -30,7 +30,7 @@ pub fn noted(notes: &Notes, alloc: Global, number: u32, writes: &[Write]) -> Res
 
 /// The notes without those of the update. It is refused only for want of memory.
 pub fn forgotten(notes: &Notes, number: u32) -> Result<Notes, Memory>
-    ensures gone { IfOk result (λ new. (n r : ℕ) → wrote_in new n r ≡ (if n == number then false else wrote_in notes.now n r)) }
+    ensures gone { IfOk result (Forgets number notes.now) }
 {
     let mut new = notes.share()?;
     new.remove(&number)?;

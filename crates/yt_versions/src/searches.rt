@@ -6,13 +6,14 @@ ghost use Rattle.yt_base.specs.Meanings.{fact_of, datum_of};
 ghost use Rattle.yt_versions.specs.Indexed.{cell_of};
 ghost use Rattle.yt_versions.specs.Marked.{stands};
 ghost use Rattle.yt_versions.specs.Zones.{place_beyond, place_of, place_in};
-ghost use Rattle.yt_versions.specs.ZoneLaws.{at_before, at_past, beyond_before, beyond_past, of_before, of_past, in_before, in_past};
+ghost use Rattle.yt_versions.specs.ZoneLaws.{at_before, at_past, beyond_before, beyond_past, of_before, of_past, in_before, in_past, from_rises};
+ghost use Rattle.yt_versions.specs.Walks.{is_from};
 
 use crate::cells::{Cell, values_order};
 use crate::marks::Marks;
 use std::cmp::Ordering;
 use yt_base::{Tuple, Value};
-use yt_tree::{Search, Shared};
+use yt_tree::{Cut, Search, Shared};
 
 /// The tuple itself, whether or not it is there for an update.
 #[derive(Drop)]
@@ -123,6 +124,22 @@ impl<'c> Search<Cell, Marks> for Scan<'c> {
 
     fn passes(&self, entry: &(Cell, Marks)) -> bool {
         entry.1.stands(self.number)
+    }
+}
+
+/// The tuples of the relation, and of those above it.
+#[derive(Drop)]
+pub struct From {
+    pub relation: u16,
+}
+
+impl Cut<Shared<Tuple>> for From {
+    ghost reaches = { λ c k. is_from c.relation k };
+
+    ghost rises = { λ c x y. from_rises c.relation (fact_of x) (fact_of y) };
+
+    fn reaches(&self, key: &Shared<Tuple>) -> bool {
+        self.relation <= key.get().relation
     }
 }
 

@@ -9,12 +9,12 @@ ghost use Rattle.std.specs.Option.{option_map, option_copied};
 
 use crate::cells::Cell;
 use crate::marks::{Marks, Touch};
-use crate::searches::{Beyond, Held, Scan, Zone};
+use crate::searches::{Beyond, From, Held, Scan, Zone};
 use std::alloc::{AllocError, Global};
 use std::marker::Model;
 use yt_base::{List, TryCopy, Tuple, TupleList, Value};
 use yt_memory::Memory;
-use yt_tree::{Share, Shared, Start, TreeMap};
+use yt_tree::{Cursor, Share, Shared, Start, TreeMap};
 
 /// Tuples with their marks, in order, and an index of them by cells. Contracts see the tuples with their marks.
 #[derive(Drop)]
@@ -87,7 +87,11 @@ impl Table {
     ghost use Rattle.yt_model.specs.Cursors.{is_beyond, first_of, next_of, scan_of};
     ghost use Rattle.yt_model.specs.Repository.{has, IsRepository};
     ghost use Rattle.yt_base.specs.Meanings.{datum_of};
+    ghost use Rattle.std.specs.Ordering.{on};
+    ghost use Rattle.yt_model.specs.Values.{fact_cmp};
+    ghost use Rattle.yt_tree.specs.Orders.{reached};
     ghost use Rattle.yt_versions.specs.Marked.{visible};
+    ghost use Rattle.yt_versions.specs.Walks.{is_from};
 
     /// The tuples that it sees, in order, copied. It is refused only for want of memory.
     pub fn list(&self, alloc: Global, number: u32) -> Result<TupleList, Memory>
@@ -101,6 +105,22 @@ impl Table {
             }
         }
         Ok(list)
+    }
+
+    /// A cursor before the tuples of the relation.
+    pub fn from_relation(&self, relation: u16) -> Cursor<'_, Shared<Tuple>, Marks>
+        ensures rest { result ≡ reached (is_from relation) self.now }
+        ensures in_order { IsOrdered (on fact_of fact_cmp) self.now }
+    {
+        self.rows.cursor(&From { relation })
+    }
+
+    /// Puts the cursor before the tuples of the relation. It costs less than another cursor.
+    pub fn place<'t>(&'t self, cursor: &mut Cursor<'t, Shared<Tuple>, Marks>, relation: u16)
+        ensures rest { cursor.new ≡ reached (is_from relation) self.now }
+        ensures in_order { IsOrdered (on fact_of fact_cmp) self.now }
+    {
+        self.rows.place(cursor, &From { relation });
     }
 
     /// Whether the update sees the tuple.

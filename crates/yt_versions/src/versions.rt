@@ -4,9 +4,9 @@ ghost use Rattle.yt_base.specs.Meanings.{fact_of, change_of};
 ghost use Rattle.yt_model.specs.Repository.{IsRepository};
 ghost use Rattle.yt_versions.specs.Chains.{AreRows};
 ghost use Rattle.yt_versions.specs.Marked.{marks_at};
-ghost use Rattle.yt_versions.specs.Standing.{StandFor, Published, Retracted, Wrote, seen};
+ghost use Rattle.yt_versions.specs.Standing.{StandFor, Published, Retracted, Folded, Wrote, seen};
 ghost use Rattle.yt_model.specs.Values.{Fact};
-ghost use Rattle.yt_versions.specs.Touches.{based_at, written_at, published_at, unwritten_at, retracted_at};
+ghost use Rattle.yt_versions.specs.Touches.{based_at, written_at, published_at, unwritten_at, retracted_at, settled_at, folded_at};
 ghost use Rattle.yt_versions.specs.Trails.{no_trails};
 
 use crate::below::Below;
@@ -76,6 +76,19 @@ impl Versions {
         ensures err { OnErr result (self.new ≡ self.old) }
     {
         let table = without_writes(self.table.share()?, alloc, number, writes)?;
+        self.notes = forgotten(&self.notes, number)?;
+        self.table = table;
+        Ok(())
+    }
+
+    /// Puts the writes of the update into the base, all of them, which are handed in; it then has none. Where the lower
+    /// updates have no writes, what the higher ones see is as before. It is refused only for want of memory; nothing is
+    /// then changed.
+    pub fn fold(&mut self, alloc: Global, number: u32, writes: &[Write]) -> Result<(), Memory>
+        ensures ok { OnOk result (Folded number (map change_of writes.now) self.old self.new) }
+        ensures err { OnErr result (self.new ≡ self.old) }
+    {
+        let table = with_settled(self.table.share()?, alloc, number, writes)?;
         self.notes = forgotten(&self.notes, number)?;
         self.table = table;
         Ok(())
@@ -179,5 +192,33 @@ fn without_write(table: Table, alloc: Global, number: u32, write: &Write) -> Res
     match write {
         Write::Insert(tuple) => table.touched(alloc, tuple, Touch::Unmark(number)),
         Write::Delete(tuple) => table.touched(alloc, tuple, Touch::Unmark(number)),
+    }
+}
+
+// The table with these writes of the update in the base.
+fn with_settled(
+    mut table: Table,
+    alloc: Global,
+    number: u32,
+    writes: &[Write],
+) -> Result<Table, Memory>
+    requires { AreRows table }
+    ensures marks { IfOk result (λ new. (t : Fact) → marks_at new t ≡ folded_at number (map change_of writes.now) t (marks_at table t)) }
+    ensures in_order { IfOk result AreRows }
+{
+    for write in writes {
+        table = settled(table, alloc, number, write)?;
+    }
+    Ok(table)
+}
+
+// The table with this write of the update in the base.
+fn settled(table: Table, alloc: Global, number: u32, write: &Write) -> Result<Table, Memory>
+    ensures marks { IfOk result (λ new. (t : Fact) → marks_at new t ≡ settled_at number (change_of write.now) t (marks_at table t)) }
+    ensures in_order { IfOk result AreRows }
+{
+    match write {
+        Write::Insert(tuple) => table.touched(alloc, tuple, Touch::Settle(number, true)),
+        Write::Delete(tuple) => table.touched(alloc, tuple, Touch::Settle(number, false)),
     }
 }

@@ -37,7 +37,7 @@ Options that are read and change nothing so far:
   --trace       print the trace after the result; run refuses it so far
 
 Statuses:
-  0 done   1 stuck at a question   2 words refused   3 session refused
+  0 done   1 stuck at a frontier   2 words refused   3 session refused
   4 base violates a mapping   5 read fault   6 write fault
   7 out of memory   8 input too long   9 result too large
 

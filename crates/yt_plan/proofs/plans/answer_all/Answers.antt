@@ -2,7 +2,7 @@ use Rattle.std.proofs.Common.{◌≡◌, ◌∙◌, ap, map, sym, subst}
 use Rattle.yt_machine.specs.Trees.{result_of}
 use Rattle.yt_model.specs.Queries.{Query, Reply, value}
 use Rattle.yt_model.specs.Violations.{Caused}
-use Rattle.yt_base.specs.Meanings.{heading_of, rule_of}
+use Rattle.yt_base.specs.Meanings.{heading_of}
 use Rattle.yt_query.specs.Kinds.{IsOfKind}
 use Rattle.yt_query.specs.Meanings.{query_of, reply_of}
 use Rattle.yt_query.proofs.OfKind.{values_are_of_kind}
@@ -13,29 +13,29 @@ use Rattle.yt_plan.proofs.plans.answer_all.Goals as goal
 
 pub take-requires-clause-kind : goal.take-requires-clause-kind
 take-requires-clause-kind g c =
-    let ms = map rule_of c.args.mappings.now.items in
+    let ms = c.args.mappings.now in
     let q = query_of c.in-Read.query.now in
     let val : Query → Reply = λ p. value ms p c.args.view.now.below c.args.view.now.own (Caused (heading_of c.args.direction)) in
-    let answer : reply_of c.in_ok-answer.answer ≡ val q = c.in_ok-answer.ensures.value ∙ ap val c.in_ok-query.ensures.same in
+    let answer : reply_of c.in_ok-answer.answer ≡ val q = c.in_ok-answer.ensures.value ∙ ap (λ rules. value rules _ c.args.view.now.below c.args.view.now.own (Caused (heading_of c.args.direction))) c.list.ensures.rules ∙ ap val c.in_ok-query.ensures.same in
     takes ms (wish c.queries.program) q (reply_of c.in_ok-answer.answer) c.in-Read.ensures.want
     (subst (IsOfKind ms q) (sym answer) (values_are_of_kind ms q c.args.view.now.below c.args.view.now.own (Caused (heading_of c.args.direction)) c.requires.sorted))
 
 pub queries-smaller : goal.queries-smaller
 queries-smaller g c =
-    let ms = map rule_of c.args.mappings.now.items in
+    let ms = c.args.mappings.now in
     let q = query_of c.in-Read.query.now in
     let val : Query → Reply = λ p. value ms p c.args.view.now.below c.args.view.now.own (Caused (heading_of c.args.direction)) in
-    let answer : reply_of c.in_ok-answer.answer ≡ val q = c.in_ok-answer.ensures.value ∙ ap val c.in_ok-query.ensures.same in
+    let answer : reply_of c.in_ok-answer.answer ≡ val q = c.in_ok-answer.ensures.value ∙ ap (λ rules. value rules _ c.args.view.now.below c.args.view.now.own (Caused (heading_of c.args.direction))) c.list.ensures.rules ∙ ap val c.in_ok-query.ensures.same in
     fewer val (course ms c.queries.program) (course ms c.take.new.self) q (reply_of c.in_ok-answer.answer)
     (goes_on val (course ms c.queries.program) q (reply_of c.in_ok-answer.answer) (c.in-Read.ensures.first ms) answer) c.in_ok-take.ensures.step
 
 pub queries-preserved : goal.queries-preserved
 queries-preserved g c =
-    let ms = map rule_of c.args.mappings.now.items in
+    let ms = c.args.mappings.now in
     let q = query_of c.in-Read.query.now in
     let a = reply_of c.in_ok-answer.answer in
     let val : Query → Reply = λ p. value ms p c.args.view.now.below c.args.view.now.own (Caused (heading_of c.args.direction)) in
-    let answer : a ≡ val q = c.in_ok-answer.ensures.value ∙ ap val c.in_ok-query.ensures.same in
+    let answer : a ≡ val q = c.in_ok-answer.ensures.value ∙ ap (λ rules. value rules _ c.args.view.now.below c.args.view.now.own (Caused (heading_of c.args.direction))) c.list.ensures.rules ∙ ap val c.in_ok-query.ensures.same in
     let on = goes_on val (course ms c.queries.program) q a (c.in-Read.ensures.first ms) answer in
     record {
       together = ap (result_of val) c.in_ok-take.ensures.step ∙ on.same ∙ c.queries.invariant.together;

@@ -2,7 +2,7 @@ use Rattle.std.proofs.Common.{◌≡◌, ◌++◌, map, length}
 use Rattle.yt_machine.specs.Trees.{result_of, log_of}
 use Rattle.yt_model.specs.Queries.{value}
 use Rattle.yt_model.specs.Violations.{Caused}
-use Rattle.yt_base.specs.Meanings.{heading_of, rule_of}
+use Rattle.yt_base.specs.Meanings.{heading_of}
 use Rattle.yt_query.specs.Meanings.{read_of}
 use Rattle.yt_program.specs.Courses.{course}
 use Rattle.yt_plan.specs.Planned.{read_after}
@@ -12,13 +12,13 @@ use Rattle.yt_plan.proofs.plans.answer_all.Given as goal
 abbrev pub invariant-queries : goal.invariant-queries
 invariant-queries g l = record {
   together :
-      result_of (λ q. value (map rule_of l.mappings.items) q l.view.below l.view.own (Caused (heading_of l.direction))) (course (map rule_of l.mappings.items) l.program)
-      ≡ result_of (λ q. value (map rule_of l.mappings.items) q l.view.below l.view.own (Caused (heading_of l.direction))) (course (map rule_of l.mappings.items) l.fn.program);
+      result_of (λ q. value l.mappings q l.view.below l.view.own (Caused (heading_of l.direction))) (course l.mappings l.program)
+      ≡ result_of (λ q. value l.mappings q l.view.below l.view.own (Caused (heading_of l.direction))) (course l.mappings l.fn.program);
   read :
-      map read_of l.reads.items ++ map (read_after l.made) (log_of (λ q. value (map rule_of l.mappings.items) q l.view.below l.view.own (Caused (heading_of l.direction))) (course (map rule_of l.mappings.items) l.program))
-      ≡ map (read_after l.made) (log_of (λ q. value (map rule_of l.mappings.items) q l.view.below l.view.own (Caused (heading_of l.direction))) (course (map rule_of l.mappings.items) l.fn.program));
+      map read_of l.reads.items ++ map (read_after l.made) (log_of (λ q. value l.mappings q l.view.below l.view.own (Caused (heading_of l.direction))) (course l.mappings l.program))
+      ≡ map (read_after l.made) (log_of (λ q. value l.mappings q l.view.below l.view.own (Caused (heading_of l.direction))) (course l.mappings l.fn.program));
 }
 
 -- How many queries are left.
 abbrev pub decreases-queries : goal.decreases-queries
-decreases-queries g l = length (log_of (λ q. value (map rule_of l.mappings.items) q l.view.below l.view.own (Caused (heading_of l.direction))) (course (map rule_of l.mappings.items) l.program))
+decreases-queries g l = length (log_of (λ q. value l.mappings q l.view.below l.view.own (Caused (heading_of l.direction))) (course l.mappings l.program))

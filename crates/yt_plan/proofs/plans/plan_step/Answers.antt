@@ -1,6 +1,6 @@
 use Rattle.std.proofs.Common.{◌∙◌, ap, map, List, [], ◌++◌}
 use Rattle.std.specs.Option.{option_map, option_copied}
-use Rattle.yt_base.specs.Meanings.{change_of, choice_of, heading_of, rule_of}
+use Rattle.yt_base.specs.Meanings.{change_of, choice_of, heading_of}
 use Rattle.yt_base.specs.declared.updates.Write.{Write}
 use Rattle.yt_eval.specs.Seen.{Seen, written}
 use Rattle.yt_steps.specs.Steps.{step}
@@ -11,7 +11,7 @@ use Rattle.yt_plan.proofs.plans.plan_step.Goals as goal
 
 pub returns-clause-program : goal.returns-clause-program
 returns-clause-program g c =
-    let ms = map rule_of c.args.mappings.now.items in
+    let ms = c.args.mappings.now in
     let P = c.args.program.now.attempt in
     let seen = c.in_ok-write_all.ensures.ok ∙ ap (λ (v : Seen). written v (map change_of c.as_slice.result.now)) c.new-view.ensures.before in
     let own = ap (λ (v : Seen). v.own) seen ∙ ap (λ (ws : List Write). [] ++ map change_of ws) c.as_slice.ensures.items ∙ c.own-own.ensures.own in
@@ -23,7 +23,7 @@ returns-clause-program g c =
 
 pub returns-clause-reads : goal.returns-clause-reads
 returns-clause-reads g c =
-    let ms = map rule_of c.args.mappings.now.items in
+    let ms = c.args.mappings.now in
     let P = c.args.program.now.attempt in
     let seen = c.in_ok-write_all.ensures.ok ∙ ap (λ (v : Seen). written v (map change_of c.as_slice.result.now)) c.new-view.ensures.before in
     let own = ap (λ (v : Seen). v.own) seen ∙ ap (λ (ws : List Write). [] ++ map change_of ws) c.as_slice.ensures.items ∙ c.own-own.ensures.own in
