@@ -1,5 +1,5 @@
 -- What bytes that are not read as a session or a commit can't begin with.
-use Rattle.std.proofs.Common.{◌≡◌, ℕ, ◌<◌, ◌^◌, ap, refl, ◌∙◌, sym, List, [], ◌∷◌, ◌++◌, length, true, false, Bool}
+use Rattle.std.proofs.Common.{◌≡◌, ℕ, ◌<◌, ◌^◌, ap, refl, ◌∙◌, sym, List, ◌++◌, length, true, false}
 use Rattle.std.specs.List.{AllByRecursion}
 use Rattle.std.proofs.lemmas.Bool.{both_ways}
 use Rattle.std.proofs.lemmas.List.{append_cancel_left}
@@ -8,7 +8,7 @@ use Rattle.yt_grammar.specs.Layout.{laid_out}
 use Rattle.yt_grammar.specs.Printing.{printed}
 use Rattle.yt_grammar.specs.Sessions.{RelationSchema, SessionData}
 use Rattle.yt_journal.specs.Damage.{HasNoCommit, HasNoOpening}
-use Rattle.yt_journal.specs.Format.{framed, commit_line, commit_text, write_lines, IsWrite, IsOpening, IsCommit}
+use Rattle.yt_journal.specs.Format.{framed, commit_line, commit_text, write_lines, IsWrite, IsOpening}
 use Rattle.yt_journal.specs.Taken.{begins_header}
 use Rattle.yt_journal.proofs.Frames.{frames_apart}
 

@@ -1,12 +1,12 @@
 -- The front of a journal with one commit more, and what a logged record makes of a journal.
-use Rattle.std.proofs.Common.{◌≡◌, ℕ, zero, suc, ◌+◌, ◌<◌, ◌≤◌, ◌^◌, ◌==◌, ◌⊎◌, inl, inr, ap, refl, ◌∙◌, sym, subst, List, [], ◌∷◌, ◌++◌, length, take, Bool, true, false, arith, append_assoc, append-nil, length-append}
+use Rattle.std.proofs.Common.{◌≡◌, ℕ, suc, ◌+◌, ◌<◌, ◌==◌, ◌⊎◌, inl, inr, ap, refl, ◌∙◌, sym, subst, List, [], ◌∷◌, ◌++◌, length, take, Bool, true, false, arith, append_assoc, append-nil, length-append}
 use Rattle.std.proofs.Math.Seq.{take-append-add, take-append_seam}
 use Rattle.std.proofs.lemmas.Bool.{both_ways, eqb-true, eq-eqb}
 use Rattle.yt_model.specs.Repository.{Change}
 use Rattle.yt_grammar.specs.Printing.{printed}
 use Rattle.yt_grammar.specs.Sessions.{RelationSchema, SessionData}
-use Rattle.yt_journal.specs.Format.{framed, commit_text, opened, records, front, IsOpening, IsCommit, AreCommits}
-use Rattle.yt_journal.specs.Journals.{BeginsWith, IsClosed, IsJournal, IsJournalBeforeOrAfter, gate_of}
+use Rattle.yt_journal.specs.Format.{framed, commit_text, opened, records, front, IsCommit, AreCommits}
+use Rattle.yt_journal.specs.Journals.{BeginsWith, IsJournal, IsJournalBeforeOrAfter, gate_of}
 use Rattle.yt_journal.specs.Logging.{KeepsGate, HasRecord, IsBeingLogged}
 
 records_more : (relations : List RelationSchema) (n m : ℕ) (commits : List (List Change)) (writes : List Change) → m ≡ n + length commits

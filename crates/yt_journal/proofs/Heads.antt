@@ -1,21 +1,19 @@
 -- Texts by their heads, and tuples by their texts.
 use Rattle.std.specs.Prelude.{Result, Ok, Err, Option, Some, None, IfOk, IfSome, IfNone, SomeIff, flat_map, if◌then◌else◌}
-use Rattle.std.proofs.Common.{◌≡◌, ℕ, zero, suc, ◌+◌, ◌-◌, ◌^◌, ◌<◌, ◌≤◌, ◌==◌, ap, refl, ◌∙◌, sym, subst, inl, inr, List, [], ◌∷◌, ◌++◌, length, take, drop, get_or, map, Bool, true, false, arith, append_assoc}
+use Rattle.std.proofs.Common.{◌≡◌, ℕ, ◌+◌, ◌-◌, ◌^◌, ◌<◌, ◌≤◌, ◌==◌, ap, refl, ◌∙◌, sym, subst, inl, inr, List, [], ◌∷◌, ◌++◌, length, take, drop, get_or, map, Bool, false, arith, append_assoc}
 use Rattle.std.proofs.lemmas.Bool.{cases_lt, false≢true}
 use Rattle.std.proofs.Math.Seq.{take-append_seam}
 use Rattle.yt_base.specs.Meanings.{fact_of as meant_by}
 use Rattle.yt_base.specs.declared.tuples.Tuple.{Tuple}
 use Rattle.yt_grammar.specs.Faults.{Kind}
-use Rattle.yt_grammar.specs.Lone.{IsTuple, IsReadAgain, lone_fact}
+use Rattle.yt_grammar.specs.Lone.{IsReadAgain}
 use Rattle.yt_grammar.specs.Meaning.{fact_of}
-use Rattle.yt_grammar.specs.Names.{Name}
 use Rattle.yt_grammar.specs.Printing.{tuple_text, value_text, joined_text, written_fact, name_of}
 use Rattle.yt_grammar.specs.Sessions.{RelationSchema, relation_names}
 use Rattle.yt_grammar.specs.Statements.{WrittenFact}
 use Rattle.yt_model.specs.Mappings.{force_relation}
 use Rattle.yt_model.specs.Values.{Datum, Number, Text, Unknown, Fact, outer, outer_datum}
 use Rattle.yt_reader.specs.Facts.{SpellsFact, Says}
-use Rattle.yt_reader.specs.declared.tuples.TupleText.{TupleText}
 use Rattle.yt_reader.specs.declared.tuples.TupleText.TheVariants as texts
 
 pub no_items : {A B : Type 0} (f : A → B) (xs : List A) → length xs ≡ 0 → map f xs ≡ []

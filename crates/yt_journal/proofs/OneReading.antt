@@ -1,6 +1,5 @@
 -- Bytes are a journal in one way at most.
-use Rattle.std.specs.Prelude.{Ok, Err, Result}
-use Rattle.std.proofs.Common.{◌≡◌, ℕ, ◌+◌, ◌<◌, ◌^◌, ap, refl, ◌∙◌, sym, subst, List, [], ◌∷◌, ◌++◌, length, drop, get_or, arith, append_assoc}
+use Rattle.std.proofs.Common.{◌≡◌, ℕ, ◌+◌, ap, refl, ◌∙◌, sym, subst, List, [], ◌∷◌, ◌++◌, drop, get_or, append_assoc}
 use Rattle.std.proofs.lemmas.List.{append_cancel_left}
 use Rattle.yt_model.specs.Repository.{Change}
 use Rattle.yt_grammar.specs.Lines.{Spells}
@@ -8,7 +7,7 @@ use Rattle.yt_grammar.specs.Printing.{printed}
 use Rattle.yt_grammar.specs.Sessions.{RelationSchema, SessionData}
 use Rattle.yt_grammar.specs.Validity.{IsSession}
 use Rattle.yt_journal.specs.Format.{framed, commit_line, commit_text, opened, records, front, write_lines, IsOpening, IsCommit, AreCommits}
-use Rattle.yt_journal.specs.Journals.{BeginsWith, IsClosed, IsJournal}
+use Rattle.yt_journal.specs.Journals.{IsClosed, IsJournal}
 use Rattle.yt_journal.proofs.Frames.{frames_apart}
 use Rattle.yt_journal.proofs.WriteLines.{AreReadAgain, same_writes}
 

@@ -1,16 +1,16 @@
 -- Facts of a call's answer, and of a journal that no call has touched.
 use Rattle.std.specs.Prelude.{Result, Ok, Err, OnOk, IfOk}
-use Rattle.std.proofs.Common.{◌≡◌, ℕ, zero, suc, ◌+◌, ◌<◌, ◌≤◌, ◌^◌, ◌⊎◌, inl, inr, ap, refl, ◌∙◌, sym, subst, List, [], ◌∷◌, ◌++◌, length, take, drop, arith, append_assoc, append-nil, length-append, length-drop}
+use Rattle.std.proofs.Common.{◌≡◌, ℕ, ◌+◌, ◌<◌, ◌≤◌, inl, ap, refl, ◌∙◌, sym, subst, List, [], ◌∷◌, ◌++◌, length, take, drop, arith, append_assoc, append-nil, length-append, length-drop}
 use Rattle.std.proofs.Math.ListN.{drop_of_length-le}
 use Rattle.std.proofs.Math.Seq.{take-append_seam}
 use Rattle.std.proofs.lemmas.List.{length-take}
-use Rattle.yt_disk.specs.States.{State, GoesOn, LeavesOnly, IsLeft, IsSettled}
+use Rattle.yt_disk.specs.States.{State, GoesOn, LeavesOnly, IsSettled}
 use Rattle.yt_disk.specs.Torn.{written}
 use Rattle.yt_model.specs.Repository.{Change}
 use Rattle.yt_grammar.specs.Printing.{printed}
 use Rattle.yt_grammar.specs.Sessions.{SessionData}
 use Rattle.yt_journal.specs.Format.{framed, commit_text, front, journal_text, IsOpening, IsCommit}
-use Rattle.yt_journal.specs.Journals.{BeginsWith, IsJournal, IsJournalBeforeOrAfter, gate_of, Hold, IsAt}
+use Rattle.yt_journal.specs.Journals.{IsJournal, IsJournalBeforeOrAfter, gate_of, Hold, IsAt}
 use Rattle.yt_journal.specs.Histories.{IsAppending}
 use Rattle.yt_journal.specs.Logging.{HasRecord, IsBeingLogged, opened_at}
 use Rattle.yt_journal.proofs.Leaving.{weaker}

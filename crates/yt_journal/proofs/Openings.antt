@@ -1,7 +1,7 @@
 -- Opening a journal, call by call.
 use Rattle.std.specs.Prelude.{Result, Ok, Err}
-use Rattle.std.proofs.Common.{◌≡◌, ℕ, ◌≤◌, ◌∙◌, sym, subst, List, arith}
-use Rattle.yt_disk.specs.States.{State, GoesOn, LeavesOnly, IsLeft, IsSettled}
+use Rattle.std.proofs.Common.{◌≡◌, ℕ, ◌∙◌, sym, subst, List, arith}
+use Rattle.yt_disk.specs.States.{State, IsLeft, IsSettled}
 use Rattle.yt_journal.specs.declared.journals.Recovered.{Recovered}
 use Rattle.yt_journal.specs.declared.journals.RecoverFault.{RecoverFault}
 use Rattle.yt_journal.specs.declared.journals.RecoverFault.TheVariants as recovering

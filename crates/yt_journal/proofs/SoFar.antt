@@ -1,14 +1,13 @@
 -- What has been read of a journal's bytes, record by record.
-use Rattle.std.proofs.Common.{◌≡◌, ℕ, ◌+◌, ◌-◌, ◌<◌, ◌≤◌, ◌^◌, ◌⊎◌, inl, inr, ap, refl, ◌∙◌, sym, subst, List, [], ◌∷◌, ◌++◌, length, arith, append_assoc, length-append}
+use Rattle.std.proofs.Common.{◌≡◌, ℕ, ◌+◌, ◌-◌, ◌<◌, ◌≤◌, ◌^◌, inr, ap, refl, ◌∙◌, sym, subst, List, [], ◌∷◌, ◌++◌, length, arith, length-append}
 use Rattle.yt_model.specs.Values.{Fact}
 use Rattle.yt_model.specs.Repository.{Change, apply}
 use Rattle.yt_grammar.specs.Sessions.{RelationSchema, SessionData}
-use Rattle.yt_journal.specs.Format.{framed, commit_text, opened, front, IsCommit}
-use Rattle.yt_journal.specs.Journals.{BeginsWith, IsClosed, IsJournal, gate_of, after_commits, repository_of}
+use Rattle.yt_journal.specs.Format.{framed, commit_text, opened, front}
+use Rattle.yt_journal.specs.Journals.{BeginsWith, gate_of, after_commits, repository_of}
 use Rattle.yt_journal.specs.Damage.{IsBroken, BreaksAt, HasNoCommit}
 use Rattle.yt_journal.specs.Taken.{TakesCommit}
 use Rattle.yt_journal.proofs.Fronts.{begins_more}
-use Rattle.yt_journal.proofs.Frames.{frame_long}
 
 -- so many commits were read, the rest is left, and the facts are the base with the commits
 pub record HasRead (bytes : List ℕ) (s : SessionData) (n : ℕ) (rest : List ℕ) (D : List Fact) : Type 0 where

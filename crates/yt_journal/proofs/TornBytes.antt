@@ -1,11 +1,11 @@
 -- What a torn write leaves of bytes that it does not reach.
 use Rattle.std.specs.Prelude.{slice_get, Some}
-use Rattle.std.proofs.Common.{◌≡◌, ℕ, zero, suc, ◌+◌, ◌-◌, ◌<◌, ◌≤◌, ◌⊎◌, inl, inr, ap, refl, ◌∙◌, sym, subst, List, [], ◌∷◌, ◌++◌, length, take, drop, false, true, ◌&&◌, Bool, arith, append_assoc, append-nil, length-append, length-drop}
+use Rattle.std.proofs.Common.{◌≡◌, ℕ, zero, suc, ◌+◌, ◌-◌, ◌<◌, ◌≤◌, ap, refl, ◌∙◌, sym, subst, List, [], ◌∷◌, ◌++◌, length, take, drop, false, true, ◌&&◌, Bool, arith, append_assoc, append-nil}
 use Rattle.std.specs.Prelude.{nat_le, nat_lt}
 use Rattle.std.proofs.lemmas.Bool.Decides.{nat_tests}
 use Rattle.std.proofs.lemmas.List.{take-append-drop, length-take-le}
 use Rattle.yt_disk.specs.Torn.{Range, covers, range_of, written, IsTorn}
-use Rattle.yt_journal.specs.Logging.{KeepsGate, HasRecord}
+use Rattle.yt_journal.specs.Logging.{KeepsGate}
 
 -- the bytes from place k on, outside a range
 record TornFrom (r : Range) (k : ℕ) (old new : List ℕ) : Type 0 where

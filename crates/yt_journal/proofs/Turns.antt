@@ -1,10 +1,10 @@
 -- What a crash leaves of a history of appends.
-use Rattle.std.proofs.Common.{◌≡◌, ℕ, suc, ◌+◌, ◌<◌, ◌≤◌, ◌⊎◌, inl, inr, ap, refl, ◌∙◌, sym, subst, List, [], ◌∷◌, ◌++◌, arith, append_assoc, append-nil}
-use Rattle.yt_disk.specs.States.{State, GoesOn, LeavesOnly, IsLeft, IsSettled}
+use Rattle.std.proofs.Common.{◌≡◌, ℕ, ◌+◌, ◌<◌, ◌≤◌, ◌⊎◌, inl, inr, ap, refl, ◌∙◌, sym, subst, List, [], ◌∷◌, ◌++◌, arith, append_assoc, append-nil}
+use Rattle.yt_disk.specs.States.{State, GoesOn, IsLeft}
 use Rattle.yt_model.specs.Repository.{Change}
 use Rattle.yt_grammar.specs.Sessions.{SessionData}
 use Rattle.yt_journal.specs.Journals.{IsJournal, IsJournalBeforeOrAfter}
-use Rattle.yt_journal.specs.Histories.{IsAppending, IsOpeningAgain, Turn, Acknowledged, Broken, Opened, NotOpened, Knowledge, InHand, InDoubt, IsAtRest, IsHistory, disk_after, last_disk, Keeps, IsKept}
+use Rattle.yt_journal.specs.Histories.{IsAppending, IsOpeningAgain, Turn, Acknowledged, Broken, Opened, NotOpened, Knowledge, InHand, InDoubt, IsAtRest, IsHistory, last_disk, Keeps, IsKept}
 use Rattle.yt_journal.proofs.Leaving.{goes_on}
 
 early : (k n : ℕ) → (k < n) ⊎ (n ≤ k)

@@ -1,9 +1,9 @@
 -- Lines of writes: where each ends, and that no two writes have one text.
 use Rattle.std.specs.Prelude.{All, Ok, Result}
-use Rattle.std.proofs.Common.{◌≡◌, ◌≢◌, ℕ, zero, suc, ◌+◌, ◌<◌, ◌≤◌, ◌==◌, ap, refl, ◌∙◌, sym, subst, List, [], ◌∷◌, ◌++◌, length, drop, take, true, false, arith, get_or, append_assoc}
+use Rattle.std.proofs.Common.{◌≡◌, ◌≢◌, ℕ, ◌+◌, ◌≤◌, ap, refl, ◌∙◌, sym, subst, List, [], ◌∷◌, ◌++◌, length, drop, false, arith, get_or, append_assoc}
 use Rattle.std.specs.List.{AllByRecursion}
 use Rattle.std.proofs.lemmas.Bool.{both_ways}
-use Rattle.std.proofs.lemmas.List.Elements.{All-from_recursion, recursion_from_All}
+use Rattle.std.proofs.lemmas.List.Elements.{recursion_from_All}
 use Rattle.yt_lex.specs.Bytes.{is_line_feed}
 use Rattle.yt_model.specs.Values.{Fact}
 use Rattle.yt_model.specs.Repository.{Change, Insert, Delete}
@@ -12,7 +12,6 @@ use Rattle.yt_grammar.specs.Lone.{IsTuple, IsReadAgain, lone_fact}
 use Rattle.yt_grammar.specs.Meaning.{fact_of}
 use Rattle.yt_grammar.specs.Printing.{tuple_text, written_fact}
 use Rattle.yt_grammar.specs.Sessions.{RelationSchema}
-use Rattle.yt_grammar.specs.Statements.{WrittenFact}
 use Rattle.yt_journal.specs.Format.{write_text, write_lines, IsWrite}
 
 abbrev pub NoFeeds : List ℕ → Type 0

@@ -1,5 +1,5 @@
 -- When each answer of a call of a journal comes, and what it leaves.
-use Rattle.std.specs.Prelude.{◌≡◌, ℕ, ◌<◌, ◌≤◌, ◌^◌, List, map, Result, Ok, Err, length}
+use Rattle.std.specs.Prelude.{◌≡◌, ℕ, ◌<◌, ◌≤◌, List, map, Result, Ok, Err, length}
 use Rattle.yt_disk.specs.States.{State, HasFailed, IsLeft}
 use Rattle.yt_model.specs.Repository.{Change}
 use Rattle.yt_base.specs.Meanings.{change_of, fact_of}

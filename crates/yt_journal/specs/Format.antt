@@ -1,9 +1,9 @@
 -- The format of a journal: a session, the commits behind it, each behind an open gate, and a closed gate.
-use Rattle.std.specs.Prelude.{◌≡◌, ℕ, ◌+◌, ◌<◌, ◌^◌, ◌==◌, List, [], ◌∷◌, ◌++◌, length, map, flat_map, codes, false, if◌then◌else◌}
+use Rattle.std.specs.Prelude.{◌≡◌, ℕ, ◌+◌, ◌<◌, ◌^◌, ◌==◌, List, [], ◌∷◌, ◌++◌, length, flat_map, codes, false, if◌then◌else◌}
 use Rattle.std.specs.Fmt.{decimal}
 use Rattle.std.specs.Int.{w32, to_be_bytes}
 use Rattle.std.specs.List.{AllByRecursion}
-use Rattle.yt_model.specs.Values.{Fact, outer}
+use Rattle.yt_model.specs.Values.{outer}
 use Rattle.yt_model.specs.Mappings.{force_relation}
 use Rattle.yt_model.specs.Repository.{Change, Insert, Delete}
 use Rattle.yt_grammar.specs.Lone.{IsTuple}

@@ -1,5 +1,5 @@
 -- Any list of appends on one disk, with any faults: after a fault the journal is opened again.
-use Rattle.std.specs.Prelude.{◌≡◌, ℕ, ◌<◌, ◌≤◌, ◌⊎◌, List, [], ◌∷◌, ◌++◌}
+use Rattle.std.specs.Prelude.{◌≡◌, ℕ, ◌<◌, ◌⊎◌, List, [], ◌∷◌, ◌++◌}
 use Rattle.yt_disk.specs.States.{State, GoesOn, LeavesOnly, IsLeft, IsSettled}
 use Rattle.yt_model.specs.Repository.{Change}
 use Rattle.yt_grammar.specs.Sessions.{SessionData}

@@ -1,4 +1,4 @@
-use Rattle.std.proofs.Common.{◌≡◌, ℕ, ◌+◌, ◌∙◌, subst, List, ◌++◌, ◌∷◌, [], ap, sym, length, arith}
+use Rattle.std.proofs.Common.{◌≡◌, ◌+◌, ◌∙◌, subst, ◌++◌, ◌∷◌, [], ap, sym, length, arith}
 use Rattle.yt_session.specs.Meanings.{session_of}
 use Rattle.yt_journal.specs.Answers.{writes_of}
 use Rattle.yt_disk.specs.States.{State}

@@ -1,4 +1,4 @@
-use Rattle.std.proofs.Common.{◌≡◌, ◌∙◌, ◌++◌, ◌∷◌, [], ◌+◌, ap, sym, length, arith}
+use Rattle.std.proofs.Common.{◌∙◌, ◌++◌, ◌∷◌, [], ◌+◌, ap, length, arith}
 use Rattle.yt_session.specs.Meanings.{session_of}
 use Rattle.yt_journal.specs.Format.{framed, IsOpening}
 use Rattle.yt_journal.proofs.Onwards.{created}

@@ -1,4 +1,4 @@
-use Rattle.std.proofs.Common.{◌≡◌, ◌∙◌, subst, List, ℕ, arith}
+use Rattle.std.proofs.Common.{◌∙◌, subst, List, ℕ, arith}
 use Rattle.yt_disk.specs.States.{LeavesOnly, IsLeftTorn}
 use Rattle.yt_disk.specs.Torn.{IsTorn, range_of}
 use Rattle.yt_journal.proofs.Leaving.{goes_on, leaves_on, weaker, failed_later}

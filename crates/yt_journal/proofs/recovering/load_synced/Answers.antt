@@ -1,4 +1,4 @@
-use Rattle.std.proofs.Common.{◌≡◌, ◌∙◌, arith}
+use Rattle.std.proofs.Common.{◌∙◌, arith}
 use Rattle.yt_journal.specs.Histories.{IsOpeningAgain}
 use Rattle.yt_journal.proofs.Leaving.{failed_later}
 use Rattle.yt_journal.proofs.Onwards.{on_ok, if_ok_weaker}
