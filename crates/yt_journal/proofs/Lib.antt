@@ -1,0 +1,12 @@
+mod Leaving
+mod TornBytes
+mod Fronts
+mod Frames
+mod WriteLines
+mod OneReading
+mod Turns
+mod Onwards
+mod SoFar
+mod Openings
+mod Heads
+mod Absent

@@ -1,0 +1,19 @@
+//! A journal of commits on a disk, which survives a crash at any moment.
+//!
+//! Its README says how; `specs/Format.antt` has the format, and `specs/Journals.antt` what bytes stand
+//! for.
+#![tactic(auto)]
+
+mod appending;
+mod framing;
+mod journals;
+mod laws;
+mod logging;
+mod printing;
+mod reading;
+mod recovering;
+
+pub use crate::appending::{PAYLOAD_LIMIT, append, create};
+pub use crate::journals::{AppendFault, Commit, CreateFault, Journal, RecoverFault, Recovered};
+pub use crate::laws::{crashes_keep_what_is_acknowledged, journals_have_one_reading};
+pub use crate::recovering::recover;
