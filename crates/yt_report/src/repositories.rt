@@ -1,12 +1,13 @@
 //! The lines of the repository, and the last line.
 
-ghost use Rattle.std.specs.Prelude.{map, IfOk};
+ghost use Rattle.std.specs.Prelude.{◌≡◌, map, pos, length, [], ◌∷◌, IfOk, codes};
 ghost use Rattle.yt_base.specs.Meanings.{fact_of};
 ghost use Rattle.yt_grammar.specs.Words as word_of;
+ghost use Rattle.yt_print.specs.Lines.{with_line};
 ghost use Rattle.yt_program.specs.Results.{finish_of};
 ghost use Rattle.yt_session.specs.Meanings.{update_of};
-ghost use Rattle.yt_report.specs.Results.{repository_lines, tuple_words, committed_words};
-ghost use Rattle.yt_report.specs.Pages.{HasLine, HasLines};
+ghost use Rattle.yt_report.specs.Results.{repository_lines, tuple_words};
+ghost use Rattle.yt_report.specs.Pages.{HasLines};
 
 use yt_base::{Memory, Tuple};
 use yt_print::Worded;
@@ -39,8 +40,9 @@ pub(crate) fn with_committed(
     finishes: &[Finish],
     updates: &[SessionUpdate],
 ) -> Result<Page, Memory>
-    ensures { IfOk result (HasLine page
-        (committed_words (map finish_of finishes.now) (map update_of updates.now))) }
+    ensures { IfOk result (λ p. p ≡ with_line page
+        (word_of.name (codes "committed") ∷ word_of.number (pos (length (map finish_of finishes.now)))
+        ∷ word_of.name (codes "of") ∷ word_of.number (pos (length (map update_of updates.now))) ∷ [])) }
 {
     let ended = finishes.len() as i64;
     let all = updates.len() as i64;

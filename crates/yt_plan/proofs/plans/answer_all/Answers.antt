@@ -11,14 +11,16 @@ use Rattle.yt_program.specs.Wishes.{wish}
 use Rattle.yt_plan.proofs.Answering.{goes_on, takes, reads_on, fewer}
 use Rattle.yt_plan.proofs.plans.answer_all.Goals as goal
 
-pub take-requires-clause-kind : goal.take-requires-clause-kind
-take-requires-clause-kind g c =
+pub take-requires : goal.take-requires
+take-requires g c =
     let ms = c.args.mappings.now in
     let q = query_of c.in-Read.query.now in
     let val : Query → Reply = λ p. value ms p c.args.view.now.below c.args.view.now.own (Caused (heading_of c.args.direction)) in
     let answer : reply_of c.in_ok-answer.answer ≡ val q = c.in_ok-answer.ensures.value ∙ ap (λ rules. value rules _ c.args.view.now.below c.args.view.now.own (Caused (heading_of c.args.direction))) c.list.ensures.rules ∙ ap val c.in_ok-query.ensures.same in
-    takes ms (wish c.queries.program) q (reply_of c.in_ok-answer.answer) c.in-Read.ensures.want
-    (subst (IsOfKind ms q) (sym answer) (values_are_of_kind ms q c.args.view.now.below c.args.view.now.own (Caused (heading_of c.args.direction)) c.requires.sorted))
+    record {
+      kind = takes ms (wish c.queries.program) q (reply_of c.in_ok-answer.answer) c.in-Read.ensures.want
+          (subst (IsOfKind ms q) (sym answer) (values_are_of_kind ms q c.args.view.now.below c.args.view.now.own (Caused (heading_of c.args.direction)) c.requires.sorted));
+    }
 
 pub queries-smaller : goal.queries-smaller
 queries-smaller g c =
