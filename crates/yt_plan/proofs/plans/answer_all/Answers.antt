@@ -16,7 +16,7 @@ take-requires g c =
     let ms = c.args.mappings.now in
     let q = query_of c.in-Read.query.now in
     let val : Query → Reply = λ p. value ms p c.args.view.now.below c.args.view.now.own (Caused (heading_of c.args.direction)) in
-    let answer : reply_of c.in_ok-answer.answer ≡ val q = c.in_ok-answer.ensures.value ∙ ap (λ rules. value rules _ c.args.view.now.below c.args.view.now.own (Caused (heading_of c.args.direction))) c.list.ensures.rules ∙ ap val c.in_ok-query.ensures.same in
+    let answer : reply_of c.in_ok-answer.answer ≡ val q = c.in_ok-answer.ensures.value ∙ ap (λ rules. value rules (query_of c.in_ok-query.query) c.args.view.now.below c.args.view.now.own (Caused (heading_of c.args.direction))) c.list.ensures.rules ∙ ap val c.in_ok-query.ensures.same in
     record {
       kind = takes ms (wish c.queries.program) q (reply_of c.in_ok-answer.answer) c.in-Read.ensures.want
           (subst (IsOfKind ms q) (sym answer) (values_are_of_kind ms q c.args.view.now.below c.args.view.now.own (Caused (heading_of c.args.direction)) c.requires.sorted));
@@ -27,7 +27,7 @@ queries-smaller g c =
     let ms = c.args.mappings.now in
     let q = query_of c.in-Read.query.now in
     let val : Query → Reply = λ p. value ms p c.args.view.now.below c.args.view.now.own (Caused (heading_of c.args.direction)) in
-    let answer : reply_of c.in_ok-answer.answer ≡ val q = c.in_ok-answer.ensures.value ∙ ap (λ rules. value rules _ c.args.view.now.below c.args.view.now.own (Caused (heading_of c.args.direction))) c.list.ensures.rules ∙ ap val c.in_ok-query.ensures.same in
+    let answer : reply_of c.in_ok-answer.answer ≡ val q = c.in_ok-answer.ensures.value ∙ ap (λ rules. value rules (query_of c.in_ok-query.query) c.args.view.now.below c.args.view.now.own (Caused (heading_of c.args.direction))) c.list.ensures.rules ∙ ap val c.in_ok-query.ensures.same in
     fewer val (course ms c.queries.program) (course ms c.take.new.self) q (reply_of c.in_ok-answer.answer)
     (goes_on val (course ms c.queries.program) q (reply_of c.in_ok-answer.answer) (c.in-Read.ensures.first ms) answer) c.in_ok-take.ensures.step
 
@@ -37,7 +37,7 @@ queries-preserved g c =
     let q = query_of c.in-Read.query.now in
     let a = reply_of c.in_ok-answer.answer in
     let val : Query → Reply = λ p. value ms p c.args.view.now.below c.args.view.now.own (Caused (heading_of c.args.direction)) in
-    let answer : a ≡ val q = c.in_ok-answer.ensures.value ∙ ap (λ rules. value rules _ c.args.view.now.below c.args.view.now.own (Caused (heading_of c.args.direction))) c.list.ensures.rules ∙ ap val c.in_ok-query.ensures.same in
+    let answer : a ≡ val q = c.in_ok-answer.ensures.value ∙ ap (λ rules. value rules (query_of c.in_ok-query.query) c.args.view.now.below c.args.view.now.own (Caused (heading_of c.args.direction))) c.list.ensures.rules ∙ ap val c.in_ok-query.ensures.same in
     let on = goes_on val (course ms c.queries.program) q a (c.in-Read.ensures.first ms) answer in
     record {
       together = ap (result_of val) c.in_ok-take.ensures.step ∙ on.same ∙ c.queries.invariant.together;
