@@ -1,13 +1,14 @@
 //! The lines of a question, and of the update that stopped at it.
 
-ghost use Rattle.std.specs.Prelude.{◌≡◌, map, IfOk};
+ghost use Rattle.std.specs.Prelude.{◌≡◌, ◌∷◌, codes, map, IfOk};
 ghost use Rattle.yt_base.specs.Meanings.{fact_of};
 ghost use Rattle.std.specs.Option.{option_map};
 ghost use Rattle.yt_grammar.specs.Words as word_of;
 ghost use Rattle.yt_frontier.specs.Inquiries.{inquiry_of};
+ghost use Rattle.yt_print.specs.Lines.{with_lines};
 ghost use Rattle.yt_session.specs.Meanings.{session_of};
 ghost use Rattle.yt_program.specs.Results.{lack_of, stop_of};
-ghost use Rattle.yt_report.specs.Results.{candidate_lines, lack_name, question_lines, stop_lines, stop_lines_in, negative_lines, positive_lines};
+ghost use Rattle.yt_report.specs.Results.{candidate_lines, lack_name, tuple_words, question_lines, stop_lines, stop_lines_in, negative_lines};
 ghost use Rattle.yt_report.specs.Pages.{HasLines};
 
 use crate::named::{mapping_name, with_update};
@@ -36,8 +37,10 @@ fn with_positive(
     tuple: &Tuple,
     candidates: &[Tuple],
 ) -> Result<Page, Memory>
-    ensures { IfOk result (HasLines page
-        (positive_lines schema.now called.now (fact_of tuple.now) (map fact_of candidates.now))) }
+    ensures { IfOk result (λ p. p ≡ with_lines (λ words. words) page
+        ((word_of.name (codes "question") ∷ word_of.name (codes "positive") ∷ word_of.name called.now
+        ∷ tuple_words schema.now (fact_of tuple.now))
+        ∷ candidate_lines schema.now (map fact_of candidates.now))) }
 {
     let named = page.name(b"question")?.name(b"positive")?.name(called)?;
     let told = tuple.write(named, schema)?.end_line()?;
