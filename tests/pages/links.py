@@ -3,11 +3,11 @@
 that is not there.
 """
 import re
-import subprocess
 import sys
 from pathlib import Path
 
 ROOT = Path(__file__).resolve().parent.parent.parent
+PAGES = ("*.md", "docs/*.md", "crates/*/README.md", "examples/*/*.md", "tests/*.md", "bench/*.md", "bench/*/*.md")
 LINK = re.compile(r"\]\(([^)\s]+)\)")
 NAMED = re.compile(r"`((?:crates|tests|docs|share|bench|examples)/[\w./-]+)`")
 
@@ -29,9 +29,8 @@ def leads_nowhere(page, link):
 
 
 def main():
-    listed = subprocess.check_output(["git", "ls-files", "-co", "--exclude-standard", "*.md"], cwd=ROOT, text=True)
     failed = False
-    for page in sorted(ROOT / name for name in listed.splitlines()):
+    for page in sorted(page for pattern in PAGES for page in ROOT.glob(pattern)):
         text = without_blocks(page.read_text())
         lost = [link for link in LINK.findall(text) if "://" not in link and leads_nowhere(page, link)]
         lost += [name for name in NAMED.findall(text) if "NAME" not in name and not (ROOT / name).exists()]
