@@ -1,4 +1,3 @@
-pub mod Asked
 pub mod Base
 pub mod Commands
 pub mod Runs
