@@ -1,0 +1,5 @@
+pub mod Joining
+pub mod Flights
+pub mod Growing
+pub mod Boards
+pub mod Passing

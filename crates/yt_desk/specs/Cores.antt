@@ -1,0 +1,33 @@
+-- What a desk asks of the core behind its lock.
+use Rattle.std.specs.Prelude.{◌≡◌, ℕ, ◌≤◌, not, ◌&&◌, List, take, drop, length, Option, Some}
+use Rattle.yt_machine.specs.Updates.{committed}
+use Rattle.yt_machine.specs.Standings.{standing, is_ready, lowest_that, lowest_deliverable}
+use Rattle.yt_machine.specs.Cascade.{has_number}
+use Rattle.yt_machine.specs.Effects.{Steps, Delivers}
+use Rattle.yt_history.specs.Cores.{Ground, machine, updates_after, entries_over, grown}
+use Rattle.yt_history.specs.PlainEntries.{PlainEntry}
+use Rattle.yt_record.specs.Stays.{AllSpare}
+
+-- After these entries the lowest ready update that is not among those in flight.
+abbrev pub lowest_idle : Ground → List PlainEntry → List ℕ → Option ℕ
+lowest_idle g H busy =
+    lowest_that (λ i u. is_ready (standing (machine g) g.settings (committed (machine g) (updates_after g H)) i u) && not (has_number busy i)) 1
+    (updates_after g H)
+
+-- After them the lowest update that an answer can be delivered to.
+abbrev pub lowest_waiting : Ground → List PlainEntry → Option ℕ
+lowest_waiting g H = lowest_deliverable (machine g) g.settings (updates_after g H)
+
+-- A delivery to the update makes K of the entries H.
+abbrev pub IsDelivery : Ground → List PlainEntry → ℕ → List PlainEntry → Type 0
+IsDelivery g H u K = grown g H (Delivers u) ≡ Some K
+
+-- A step of the update makes K of the entries H.
+abbrev pub IsStep : Ground → List PlainEntry → ℕ → List PlainEntry → Type 0
+IsStep g H u K = grown g H (Steps u) ≡ Some K
+
+-- Something holds of the update after the first n entries, and none of the later ones is a step or a withdrawal of it.
+pub record HoldsSince (holds : Ground → List PlainEntry → ℕ → Type 0) (g : Ground) (H : List PlainEntry) (n u : ℕ) : Type 0 where
+  pub stamped : n ≤ length H
+  pub then : holds g (take n H) u
+  pub spared : AllSpare {M = machine g} u (drop n (entries_over g H))

@@ -1,0 +1,122 @@
+//! A desk: a board behind a lock with turns.
+ghost use Rattle.std.specs.Prelude.{◌≡◌, ◌≤◌, IfOk, IfErr};
+
+use crate::board::Board;
+use crate::cores::Core;
+use crate::tickets::{Finished, Next, Ticket};
+use std::alloc::Global;
+use std::snapshot::Snapshot;
+use std::sync::Wait;
+use yt_memory::Memory;
+use yt_stamp::{Seat, StampLock, new};
+
+/// A core that seats work at: each asks for tickets, works their steps out by itself, and hands them in. It keeps, for
+/// contracts, the core that it was opened over.
+pub struct Desk<C: Core> {
+    lock: StampLock<Board<C>>,
+    alloc: Global,
+    opened: Snapshot<C>,
+}
+
+impl<C: Core> Desk<C> {
+    ghost use mathlib.Core.List.{IsPrefix};
+    ghost use Rattle.yt_stamp.specs.Seats.{place_of, number_of, seen_of, AreSeats, AllSaw};
+    ghost use Rattle.yt_desk.specs.Shared.{opening_items};
+    ghost use Rattle.yt_desk.specs.Seats.{desk_lock, core_of, IsSeatOf};
+    ghost use Rattle.yt_desk.specs.Turns.{AfterOthers};
+    ghost use Rattle.yt_desk.specs.Tickets.{IsOutFor, IsPlanFor, IfGiven, HasNext, HasFinished, HasGivenBack};
+
+    /// A desk over the core, with this many seats, from 1 to 16, numbered from 0 in order. Each seat has seen the opening,
+    /// which has the core's whole history. Where there is no memory the core comes back.
+    pub fn new(
+        alloc: Global,
+        core: C,
+        seats: u64,
+    ) -> Result<(Desk<C>, Vec<Seat<Board<C>>>), (C, Memory)>
+        requires count { (1 ≤ seats) × (seats ≤ 16) }
+        ensures core { IfOk result (λ r. core_of r.0 ≡ core) }
+        ensures seats { IfOk result (λ r. AreSeats (desk_lock r.0) seats r.1.items) }
+        ensures saw { IfOk result (λ r. AllSaw (opening_items (C.over core) (C.history core)) r.1.items) }
+        ensures over { IfErr result (λ e. C.over e.0 ≡ C.over core) }
+        ensures history { IfErr result (λ e. C.history e.0 ≡ C.history core) }
+    {
+        let opened = Snapshot::of(&core);
+        match new(alloc, Board::new(alloc, core), seats) {
+            Ok((lock, dealt)) => Ok((
+                Desk {
+                    lock,
+                    alloc,
+                    opened,
+                },
+                dealt,
+            )),
+            Err((board, _)) => Err((board.into_core(), Memory)),
+        }
+    }
+
+    /// The first that there is: a ticket for the lowest ready update that is not in flight, a delivery to the lowest update
+    /// that waits for a recorded answer, nothing now, or nothing any more.
+    pub fn next<R: Wait>(
+        &self,
+        rt: &R,
+        seat: &mut Seat<Board<C>>,
+    ) -> Result<Next<Ticket<C::Snapshot>>, Memory>
+        requires own { IsSeatOf C.over C.history self.now seat.old }
+        ensures own { IsSeatOf C.over C.history self.now seat.new }
+        ensures place { place_of seat.new ≡ place_of seat.old }
+        ensures next { AfterOthers (number_of seat.old) (seen_of seat.old) (HasNext (number_of seat.old) (C.over (core_of self.now)) result (seen_of seat.new)) }
+        ensures ticket { IfOk result (IfGiven (IsOutFor C.is_snapshot (C.over (core_of self.now)) (seen_of seat.new) (number_of seat.new))) }
+    {
+        let (turn, mut board) = self.lock.open(rt, seat);
+        let answer = board.next(self.alloc, seat.number());
+        self.lock.close_turn(seat, turn, board);
+        answer
+    }
+
+    /// The step of the ticket's update at the state that the ticket was given at. It takes neither the lock nor the runtime,
+    /// and is refused only for want of memory.
+    pub fn evaluate(&self, ticket: &Ticket<C::Snapshot>) -> Result<C::Plan, Memory>
+        ensures plan { IfOk result (IsPlanFor C.is_snapshot C.is_plan ticket.now) }
+    {
+        C::plan(self.alloc, &ticket.snapshot)
+    }
+
+    /// Hands the plan in, which spends the ticket. The step is made, unless an entry since the ticket was given is in question
+    /// for the plan; nothing is evaluated. For want of memory the ticket comes back, and is out still.
+    pub fn finish<R: Wait>(
+        &self,
+        rt: &R,
+        seat: &mut Seat<Board<C>>,
+        ticket: Ticket<C::Snapshot>,
+        plan: C::Plan,
+    ) -> Result<Finished, (Ticket<C::Snapshot>, Memory)>
+        requires own { IsSeatOf C.over C.history self.now seat.old }
+        requires out { IsOutFor C.is_snapshot (C.over (core_of self.now)) (seen_of seat.old) (number_of seat.old) ticket }
+        requires plan { IsPlanFor C.is_snapshot C.is_plan ticket plan }
+        ensures own { IsSeatOf C.over C.history self.now seat.new }
+        ensures place { place_of seat.new ≡ place_of seat.old }
+        ensures finish { AfterOthers (number_of seat.old) (seen_of seat.old) (HasFinished (λ H. C.in_question plan (C.over (core_of self.now)) H ticket.stamp) (number_of seat.old) (C.over (core_of self.now)) ticket result (seen_of seat.new)) }
+        ensures out { IfErr result (λ e. IsOutFor C.is_snapshot (C.over (core_of self.now)) (seen_of seat.new) (number_of seat.new) e.0) }
+        ensures same { IfErr result (λ e. e.0 ≡ ticket) }
+    {
+        let (turn, mut board) = self.lock.open(rt, seat);
+        board.known();
+        let finished = board.finish(self.alloc, seat.number(), ticket, plan);
+        self.lock.close_turn(seat, turn, board);
+        finished
+    }
+
+    /// Gives the ticket back unfinished, which spends it.
+    pub fn give_back<R: Wait>(&self, rt: &R, seat: &mut Seat<Board<C>>, ticket: Ticket<C::Snapshot>)
+        requires own { IsSeatOf C.over C.history self.now seat.old }
+        requires out { IsOutFor C.is_snapshot (C.over (core_of self.now)) (seen_of seat.old) (number_of seat.old) ticket }
+        ensures own { IsSeatOf C.over C.history self.now seat.new }
+        ensures place { place_of seat.new ≡ place_of seat.old }
+        ensures back { AfterOthers (number_of seat.old) (seen_of seat.old) (HasGivenBack (number_of seat.old) (C.over (core_of self.now)) ticket (seen_of seat.new)) }
+    {
+        let (turn, mut board) = self.lock.open(rt, seat);
+        board.known();
+        board.give_back(seat.number(), ticket);
+        self.lock.close_turn(seat, turn, board);
+    }
+}
