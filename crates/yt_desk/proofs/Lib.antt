@@ -3,3 +3,4 @@ pub mod Flights
 pub mod Growing
 pub mod Boards
 pub mod Passing
+pub mod Closing

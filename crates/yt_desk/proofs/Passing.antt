@@ -19,7 +19,7 @@ use Rattle.yt_desk.specs.Turns.{Adds}
 use Rattle.yt_desk.specs.Tickets.{ticket_for, IsOutFor}
 
 -- a prefix says what the core is over
-first_more : (xs ys : Items) (g : Ground) → first_over xs ≡ Some g → first_over (xs ++ ys) ≡ Some g
+pub first_more : (xs ys : Items) (g : Ground) → first_over xs ≡ Some g → first_over (xs ++ ys) ≡ Some g
 first_more [] ys g e = absurd (none-some g e)
 first_more (x ∷ xs) ys g e = e
 

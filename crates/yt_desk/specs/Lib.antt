@@ -5,3 +5,4 @@ pub mod Turns
 pub mod Cores
 pub mod Tickets
 pub mod Seats
+pub mod Closing

@@ -1,5 +1,5 @@
 //! A desk: a board behind a lock with turns.
-ghost use Rattle.std.specs.Prelude.{◌≡◌, ◌≤◌, IfOk, IfErr};
+ghost use Rattle.std.specs.Prelude.{◌≡◌, ◌<◌, ◌≤◌, length, IfOk, IfErr};
 
 use crate::board::Board;
 use crate::cores::Core;
@@ -19,10 +19,11 @@ pub struct Desk<C: Core> {
 }
 
 impl<C: Core> Desk<C> {
-    ghost use mathlib.Core.List.{IsPrefix};
     ghost use Rattle.yt_stamp.specs.Seats.{place_of, number_of, seen_of, AreSeats, AllSaw};
     ghost use Rattle.yt_desk.specs.Shared.{opening_items};
     ghost use Rattle.yt_desk.specs.Seats.{desk_lock, core_of, IsSeatOf};
+    ghost use Rattle.yt_history.specs.Cores.{IsLegalOver};
+    ghost use Rattle.yt_desk.specs.Closing.{AllSeatsOf, AllResting, HasClosed, IsWhole, Ends};
     ghost use Rattle.yt_desk.specs.Turns.{AfterOthers};
     ghost use Rattle.yt_desk.specs.Tickets.{IsOutFor, IsPlanFor, IfGiven, HasNext, HasFinished, HasGivenBack};
 
@@ -118,5 +119,23 @@ impl<C: Core> Desk<C> {
         board.known();
         board.give_back(seat.number(), ticket);
         self.lock.close_turn(seat, turn, board);
+    }
+
+    /// Ends the desk and gives the core. The seats are those that `new` gave, each once and in order of their numbers, and none
+    /// holds a turn. Where each of them is at rest, the core's history is the serial machine's on the whole session.
+    pub fn close(self, seats: Vec<Seat<Board<C>>>) -> C
+        requires some { 0 < length seats.items }
+        requires seats { AreSeats (desk_lock self) (length seats.items) seats.items }
+        requires own { AllSeatsOf C.over C.history self seats.items }
+        ensures over { C.over result ≡ C.over (core_of self) }
+        ensures closed { HasClosed (C.over (core_of self)) (C.history (core_of self)) (C.history result) seats.items }
+        ensures rest { IsLegalOver (C.over (core_of self)) (C.history (core_of self)) → IsWhole (C.over (core_of self)) (C.history (core_of self)) → AllResting seats.items → Ends (C.over (core_of self)) (C.history (core_of self)) (C.history result) }
+    {
+        let Desk {
+            lock,
+            alloc: _,
+            opened: _,
+        } = self;
+        lock.into_value(seats).into_core()
     }
 }
