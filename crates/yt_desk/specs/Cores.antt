@@ -6,7 +6,7 @@ use Rattle.yt_machine.specs.Cascade.{has_number}
 use Rattle.yt_machine.specs.Effects.{Steps, Delivers}
 use Rattle.yt_history.specs.Cores.{Ground, machine, updates_after, entries_over, grown}
 use Rattle.yt_history.specs.PlainEntries.{PlainEntry}
-use Rattle.yt_record.specs.Stays.{AllSpare}
+use Rattle.yt_stale.specs.Spares.{AllSpare}
 
 -- After these entries the lowest ready update that is not among those in flight.
 abbrev pub lowest_idle : Ground → List PlainEntry → List ℕ → Option ℕ
