@@ -3,7 +3,6 @@ use Rattle.std.proofs.Common.{◌≡◌, ◌∙◌, ap, sym, refl, subst, arith,
 use Rattle.std.specs.Prelude.{IfOk}
 use mathlib.Core.List.{IsPrefix}
 use Rattle.yt_machine.specs.Machine.{Machine}
-use Rattle.yt_machine.specs.Updates.{Settings, Session}
 use Rattle.yt_machine.specs.Effects.{Entry, Effect, Steps, Delivers, effect}
 use Rattle.yt_stamp.specs.declared.history.Made.{Made}
 use Rattle.yt_stamp.specs.Histories.{weight_for, Unmade, sum_made_by}
@@ -53,24 +52,26 @@ module _ (g : Ground) (v : Item Ground PlainEntry → ℕ) (w : ItemOf (machine 
   sum_added j xs ys n added a =
       ap (sum_made_by v j) a.joined ∙ (sum_made_by-append v j xs a.items ∙ ap (λ m. sum_made_by v j xs + m) (sym (sum_meant j a.items) ∙ ap (sum_made_by w j) a.meant))
 
+-- a ticket given
+abbrev pub gave : (M : Machine) → ℕ → ℕ → ℕ → Record M
+gave M j t u = made (Gave t u) (Some j) ∷ []
+
+one_gift : (M : Machine) (j t u : ℕ) → (sum_made_by gifts j (gave M j t u) ≡ 1) × (sum_made_by returns j (gave M j t u) ≡ 0)
+one_gift M j t u = (let own = weight_for-own j 1 in let none = weight_for-zero j (Some j) in (omega (arith, own), omega (arith, none)))
+
+-- a ticket returned
+one_back : (M : Machine) (t : record_tickets.Ticket) → (sum_made_by gifts t.maker (back_items {M = M} t) ≡ 0) × (sum_made_by returns t.maker (back_items {M = M} t) ≡ 1)
+one_back M t = (let own = weight_for-own t.maker 1 in let none = weight_for-zero t.maker (Some t.maker) in (omega (arith, none), omega (arith, own)))
+
 module _ {M : Machine} where
   none_of_entry : (w : ItemOf M → ℕ) → ((e : Entry M) → w (Entered e) ≡ 0) → (j : ℕ) (x : Option (Effect M)) → sum_made_by w j (entry_by j x) ≡ 0
   none_of_entry w z j None = refl
   none_of_entry w z j (Some x) = (let a : weight_for j (Some j) (w (Entered x.entry)) ≡ 0 = ap (weight_for j (Some j)) (z x.entry) ∙ weight_for-zero j (Some j) in omega (arith, a))
 
-  -- a ticket given
-  one_gift : (j t u : ℕ) → (sum_made_by gifts j (made (Gave {O = Settings × Session M} {E = Entry M} t u) (Some j) ∷ []) ≡ 1)
-      × (sum_made_by returns j (made (Gave {O = Settings × Session M} {E = Entry M} t u) (Some j) ∷ []) ≡ 0)
-  one_gift j t u = (let own = weight_for-own j 1 in let none = weight_for-zero j (Some j) in (omega (arith, own), omega (arith, none)))
-
-  -- a ticket returned
-  one_back : (t : record_tickets.Ticket) → (sum_made_by gifts t.maker (back_items {M = M} t) ≡ 0) × (sum_made_by returns t.maker (back_items {M = M} t) ≡ 1)
-  one_back t = (let own = weight_for-own t.maker 1 in let none = weight_for-zero t.maker (Some t.maker) in (omega (arith, none), omega (arith, own)))
-
   one_step : (n : Now M) (t : record_tickets.Ticket) → (sum_made_by gifts t.maker (step_items n t) ≡ 0) × (sum_made_by returns t.maker (step_items n t) ≡ 1)
   one_step n t =
       let x = effect M n.settings n.session n.updates (Steps t.update) in
-      let b = one_back t in (
+      let b = one_back M t in (
         sum_made_by-append gifts t.maker (entry_by t.maker x) (back_items t) ∙ (λ i. none_of_entry gifts (λ e. refl) t.maker x i + b.0 i),
         sum_made_by-append returns t.maker (entry_by t.maker x) (back_items t) ∙ (λ i. none_of_entry returns (λ e. refl) t.maker x i + b.1 i),
       )
@@ -79,7 +80,7 @@ module _ {M : Machine} where
   next_counts n j a k e h = ap (λ b. sum_made_by gifts j (items_of_answer n j b)) h ∙ e
 
   next_returns : (n : Now M) (j : ℕ) (a : answers.Answer) → sum_made_by returns j (items_of_answer n j a) ≡ 0
-  next_returns n j (answers.Gives u) = (one_gift j (suc n.given) u).1
+  next_returns n j (answers.Gives u) = (one_gift M j (suc n.given) u).1
   next_returns n j (answers.Moves u) = none_of_entry returns (λ e. refl) j (effect M n.settings n.session n.updates (Delivers u))
   next_returns n j (answers.Waits u) = refl
   next_returns n j answers.Quiet = refl
@@ -99,7 +100,7 @@ module _ {S E : Type 0} where
   given_by (Err e) = 0
 
   gifts_added : {M : Machine} (n : Now M) (j : ℕ) (r : Result (Answer (Ticket S)) E) → IfOk r (IsAnswer n) → sum_made_by gifts j (next_added j n r) ≡ given_by r
-  gifts_added n j (Ok (next.Ticket t)) h = next_counts n j (answers.Gives t.update) 1 (one_gift j (suc n.given) t.update).0 h.0
+  gifts_added {M} n j (Ok (next.Ticket t)) h = next_counts n j (answers.Gives t.update) 1 (one_gift M j (suc n.given) t.update).0 h.0
   gifts_added {M} n j (Ok (next.Delivered u)) h = next_counts n j (answers.Moves u) 0 (none_of_entry gifts (λ e. refl) j (effect M n.settings n.session n.updates (Delivers u))) h
   gifts_added n j (Ok (next.Idle u)) h = next_counts n j (answers.Waits u) 0 refl h
   gifts_added n j (Ok next.Quiet) h = next_counts n j answers.Quiet 0 refl h
@@ -111,7 +112,7 @@ module _ {S E : Type 0} where
 
   finish_gifts : {M : Machine} (n : Now M) (j : ℕ) (t : Ticket S) (r : Result Finished E) → (sum_made_by gifts j (finish_added j t n r) ≡ 0) × (sum_made_by returns j (finish_added j t n r) ≡ returned_by r)
   finish_gifts n j t (Ok (Stepped e)) = one_step n (ticket_for j t)
-  finish_gifts n j t (Ok (Stale e)) = one_back (ticket_for j t)
+  finish_gifts {M} n j t (Ok (Stale e)) = one_back M (ticket_for j t)
   finish_gifts n j t (Err e) = (refl, refl)
 
   -- ---- over a turn
@@ -147,7 +148,7 @@ module _ {S : Type 0} where
       → (sum_made_by gifts now after ≡ sum_made_by gifts j before) × (sum_made_by returns now after ≡ sum_made_by returns j before + 1)
   back_turn j now g t before after same a =
       let h = a.then in
-      let c = one_back {M = machine g} (ticket_for j t) in
+      let c = one_back (machine g) (ticket_for j t) in
       let others : ((w : Item Ground PlainEntry → ℕ) → sum_made_by w j (before ++ a.others) ≡ sum_made_by w j before) = λ w. sum_made_by-follows w j before (before ++ a.others) (a.others, refl, a.unmade) in (
         ap (λ i. sum_made_by gifts i after) same ∙ (sum_added g gifts gifts (gifts_meant g) j (before ++ a.others) after h.now (back_items (ticket_for j t)) h.adds ∙ ((λ i. others gifts i + c.0 i) ∙ plus_none (sum_made_by gifts j before))),
         ap (λ i. sum_made_by returns i after) same ∙ (sum_added g returns returns (returns_meant g) j (before ++ a.others) after h.now (back_items (ticket_for j t)) h.adds ∙ (λ i. others returns i + c.1 i)),
