@@ -4,13 +4,11 @@ use Rattle.std.specs.Prelude.{IfOk}
 use mathlib.Core.List.{IsPrefix}
 use Rattle.yt_machine.specs.Machine.{Machine}
 use Rattle.yt_machine.specs.Effects.{Entry, Effect, Steps, Delivers, effect}
-use Rattle.yt_stamp.specs.declared.history.Made.{Made}
-use Rattle.yt_stamp.specs.Histories.{weight_for, Unmade, sum_made_by}
+use Rattle.yt_stamp.specs.Histories.{weight_for, sum_made_by}
 use Rattle.yt_stamp.proofs.Histories.{weight_for-own, weight_for-zero, sum_made_by-append, sum_made_by-follows}
 use Rattle.yt_record.specs.declared.item.Item.{Item}
 use Rattle.yt_record.specs.declared.item.Item.TheVariants.{Opened, Entered, Gave, Returned}
 use Rattle.yt_record.specs.Items.{ItemOf, Record, made}
-use Rattle.yt_record.specs.Marks.{meant}
 use Rattle.yt_record.specs.Tickets as record_tickets
 use Rattle.yt_record.specs.Records.{Now}
 use Rattle.yt_stamp.specs.Seats.{seen_of}
@@ -24,7 +22,7 @@ use Rattle.yt_desk.specs.declared.tickets.Next.{Next as Answer}
 use Rattle.yt_desk.specs.declared.tickets.Next.TheVariants as next
 use Rattle.yt_desk.specs.declared.tickets.Finished.{Finished}
 use Rattle.yt_desk.specs.declared.tickets.Finished.TheVariants.{Stepped, Stale}
-use Rattle.yt_desk.specs.Shared.{Items, StandsAt, item_over, record_over, opening_items}
+use Rattle.yt_desk.specs.Shared.{Items, StandsAt, item_over, record_over}
 use Rattle.yt_desk.specs.Turns.{Adds, AfterOthers, gifts, returns}
 use Rattle.yt_desk.specs.Tickets.{ticket_for, IsAnswer, next_added, HasNext, finish_added, HasFinished, HasGivenBack}
 use Rattle.yt_desk.specs.Seats.{DeskSeat, first_over, IsResting}

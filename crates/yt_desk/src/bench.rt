@@ -86,12 +86,7 @@ impl<C: Core> Bench for Desk<C> {
         }
     }
 
-    fn give_back<R: Wait>(
-        &self,
-        rt: &R,
-        seat: &mut Seat<Board<C>>,
-        ticket: Ticket<C::Snapshot>,
-    ) {
+    fn give_back<R: Wait>(&self, rt: &R, seat: &mut Seat<Board<C>>, ticket: Ticket<C::Snapshot>) {
         Desk::give_back(self, rt, seat, ticket);
     }
 }

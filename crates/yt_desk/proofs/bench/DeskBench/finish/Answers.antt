@@ -1,4 +1,4 @@
-use Rattle.std.proofs.Common.{◌≡◌, ◌∙◌, ap, Ok, Err}
+use Rattle.std.proofs.Common.{ap, Ok, Err}
 use Rattle.yt_stamp.specs.Seats.{Place}
 use Rattle.yt_desk.proofs.Counting.{finish_turn}
 use Rattle.yt_desk.proofs.bench.DeskBench.finish.Goals as goal

@@ -1,4 +1,4 @@
-use Rattle.std.proofs.Common.{◌≡◌, ap}
+use Rattle.std.proofs.Common.{ap}
 use Rattle.yt_stamp.specs.Seats.{Place}
 use Rattle.yt_desk.proofs.Counting.{back_turn}
 use Rattle.yt_desk.proofs.bench.DeskBench.give_back.Goals as goal

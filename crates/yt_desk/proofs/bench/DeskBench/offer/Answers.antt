@@ -1,4 +1,4 @@
-use Rattle.std.proofs.Common.{◌≡◌, ◌∙◌, ap, Ok, Err}
+use Rattle.std.proofs.Common.{◌∙◌, ap, Ok, Err}
 use Rattle.yt_stamp.specs.Seats.{Place, seen_of}
 use Rattle.yt_desk.specs.declared.tickets.Next.TheVariants as next
 use Rattle.yt_desk.proofs.Passing.{saw_over}

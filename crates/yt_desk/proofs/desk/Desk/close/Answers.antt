@@ -1,4 +1,4 @@
-use Rattle.std.proofs.Common.{◌≡◌, ◌∙◌, sym, subst, List}
+use Rattle.std.proofs.Common.{◌∙◌, sym, subst, List}
 use Rattle.yt_stamp.proofs.Lists.{there_is}
 use Rattle.yt_history.specs.PlainEntries.{PlainEntry}
 use Rattle.yt_desk.specs.Seats.{core_of}
