@@ -1,12 +1,10 @@
 -- What each call makes of a board, by its fields.
-use Rattle.std.proofs.Common.{◌≡◌, ◌∙◌, ap, sym, refl, subst, arith, ℕ, suc, ◌+◌, ◌<◌, ◌≤◌, add-one, List, [], ◌∷◌, ◌++◌, append-nil, take, take_all, drop, map, length, Option, Some, None, Bool, true, false, not, ◌||◌, ◌==◌, Result, Ok, Err}
+use Rattle.std.proofs.Common.{◌≡◌, ◌∙◌, ap, sym, refl, subst, arith, ℕ, suc, ◌+◌, ◌<◌, ◌≤◌, add-one, List, [], ◌∷◌, ◌++◌, append-nil, take, take_all, map, length, Option, Some, None, Bool, true, false, not, ◌||◌, ◌==◌, Result, Ok, Err}
 use Rattle.std.specs.Prelude.{if◌then◌else◌, ◌^◌, is_some}
 use Rattle.std.proofs.lemmas.Bool.{both_ways}
-use Rattle.std.proofs.lemmas.Option.{none-some, same_Some}
+use Rattle.std.proofs.lemmas.Option.{same_Some}
 use mathlib.Core.List.{map-append}
 use Rattle.yt_machine.specs.Cascade.{has_number}
-use Rattle.yt_stamp.specs.declared.history.Made.{Made}
-use Rattle.yt_record.specs.declared.item.Mark.{Mark}
 use Rattle.yt_record.specs.declared.item.Mark.TheVariants.{Opening, Next, Giving, Returning}
 use Rattle.yt_record.specs.declared.item.Item.TheVariants.{Opened}
 use Rattle.yt_record.specs.Marks.{record_of, entered}
@@ -17,7 +15,7 @@ use Rattle.yt_record.specs.Records.{Now, next_ticket, now_of, IsRecord}
 use Rattle.yt_record.specs.Stays.{IsOut}
 use Rattle.yt_record.specs.Answers as answers
 use Rattle.yt_record.specs.Openings.{opening, opened_now}
-use Rattle.yt_record.specs.Calls.{items_of_answer, next_items, back_items, step_items}
+use Rattle.yt_record.specs.Calls.{items_of_answer, next_items}
 use Rattle.yt_record.proofs.Beginning.{opening_law}
 use Rattle.yt_record.proofs.Marking.{meant_record}
 use Rattle.yt_history.specs.Cores.{Ground, machine, session_over, entries_over, updates_after, IsLegalOver}
@@ -26,17 +24,16 @@ use Rattle.yt_desk.specs.declared.board.Marked.{Marked}
 use Rattle.yt_desk.specs.declared.tickets.Ticket.{Ticket}
 use Rattle.yt_desk.specs.declared.tickets.Next.{Next as Answer}
 use Rattle.yt_desk.specs.declared.tickets.Next.TheVariants as next
-use Rattle.yt_desk.specs.declared.tickets.Finished.{Finished}
 use Rattle.yt_desk.specs.declared.tickets.Finished.TheVariants.{Stepped, Stale}
-use Rattle.yt_desk.specs.Shared.{Items, Shared, StandsAt, record_over, marks_of, items_of, now_at, updates_of, opening_items, IsShared}
+use Rattle.yt_desk.specs.Shared.{Items, Shared, record_over, marks_of, items_of, now_at, opening_items, IsShared}
 use Rattle.yt_desk.specs.Flights.{left_of}
 use Rattle.yt_desk.specs.Marks.{made_of}
-use Rattle.yt_desk.specs.Turns.{Adds, least}
+use Rattle.yt_desk.specs.Turns.{least}
 use Rattle.yt_desk.specs.Cores.{lowest_idle, lowest_waiting, IsDelivery, IsStep, HoldsSince}
-use Rattle.yt_desk.specs.Tickets.{ticket_for, IsOutFor, IsPlanFor, IsAnswer, next_added, HasNext, finish_added, IsFinish, HasFinished, HasStepped, HasGivenBack}
+use Rattle.yt_desk.specs.Tickets.{ticket_for, IsOutFor, IsPlanFor, HasNext, HasFinished, HasStepped, HasGivenBack}
 use Rattle.yt_desk.proofs.Joining.{more}
 use Rattle.yt_desk.proofs.Flights.{flight_is}
-use Rattle.yt_desk.proofs.Growing.{here, gives, delivers, waits_for, gives_back, steps, adds_none, stands_for, told_history, items_count}
+use Rattle.yt_desk.proofs.Growing.{here, gives, delivers, waits_for, gives_back, steps, adds_none, stands_for, told_history}
 
 -- what lies behind the lock, by the fields of a board
 abbrev pub shared : Ground → List PlainEntry → ℕ → List Marked → List ℕ → ℕ → Shared

@@ -1,14 +1,12 @@
 -- What the end of a lock says of a desk.
-use Rattle.std.proofs.Common.{◌≡◌, ◌∙◌, ap, sym, refl, subst, ℕ, zero, suc, ◌<◌, List, [], ◌∷◌, ◌++◌, append_assoc, append-nil, map, take, take_all, length, Option, Some, None, arith}
+use Rattle.std.proofs.Common.{◌≡◌, ◌∙◌, ap, sym, refl, subst, ℕ, zero, suc, ◌<◌, List, [], ◌∷◌, ◌++◌, append_assoc, map, length, None}
 use Rattle.std.proofs.lemmas.List.{length-map}
-use Rattle.std.proofs.lemmas.Option.{none-some, same_Some}
+use Rattle.std.proofs.lemmas.Option.{same_Some}
 use mathlib.Core.Option.{some, some-injective, some-ne-none}
 use lib.ListN.{get_elem?}
 use Rattle.yt_machine.specs.Machine.{Machine}
-use Rattle.yt_stamp.specs.declared.history.Made.{Made}
-use Rattle.yt_stamp.specs.declared.seat.Seat.{Seat}
 use Rattle.yt_stamp.specs.Rule.{FollowsAmong}
-use Rattle.yt_stamp.specs.Seats.{seen_of, number_of, AllWithin}
+use Rattle.yt_stamp.specs.Seats.{seen_of, AllWithin}
 use Rattle.yt_record.specs.declared.item.Item.{Item}
 use Rattle.yt_machine.specs.Effects.{Entry}
 use Rattle.yt_record.specs.declared.item.Item.TheVariants.{Opened, Entered, Gave, Returned}
@@ -23,7 +21,7 @@ use Rattle.yt_record.proofs.Closed.{follows_meant}
 use Rattle.yt_record.proofs.Told.{result_law}
 use Rattle.yt_history.specs.Cores.{Ground, machine, session_over, entries_over, updates_after, IsLegalOver}
 use Rattle.yt_history.specs.PlainEntries.{PlainEntry, entry_kept}
-use Rattle.yt_desk.specs.Shared.{Items, Shared, StandsAt, item_over, record_over, marks_of, items_of, now_at, opening_items, IsShared}
+use Rattle.yt_desk.specs.Shared.{Items, Shared, StandsAt, item_over, record_over, items_of, now_at, opening_items, IsShared}
 use Rattle.yt_desk.specs.Seats.{DeskSeat, first_over, IsResting}
 use Rattle.yt_desk.specs.Closing.{AllResting, HasClosed, IsWhole, Ends}
 use Rattle.yt_desk.proofs.Passing.{first_more, saw_over}

@@ -1,9 +1,16 @@
 -- The tickets out, and the updates that they are for.
-use Rattle.std.proofs.Common.{◌≡◌, ◌∙◌, ap, sym, refl, arith, ℕ, ◌+◌, ◌<◌, ◌≤◌, List, [], ◌∷◌, ◌++◌, map, Option, Some, None, Bool, true, false, not, ◌&&◌, ◌||◌, ◌==◌, eq-eqb, eqb-true, ne_eqb, is_some}
+use Rattle.std.proofs.Common.{◌≡◌, ◌∙◌, ap, sym, refl, arith, ℕ, suc, ◌<◌, ◌≤◌, List, [], ◌∷◌, Some, None, Bool, true, false, not, ◌&&◌, ◌||◌, ◌==◌, eq-eqb, eqb-true, ne_eqb, is_some}
 use Rattle.std.specs.Prelude.{if◌then◌else◌}
-use Rattle.std.proofs.lemmas.Bool.{both_ways, and_parts, and_from, eqb-false}
+use Rattle.std.proofs.lemmas.Bool.{both_ways, and_parts, and_from}
 use Rattle.std.proofs.lemmas.Option.{none-some, same_Some}
+use Rattle.yt_machine.specs.Machine.{Machine}
+use Rattle.yt_machine.specs.Updates.{Update, committed}
+use Rattle.yt_machine.specs.Standings.{standing, is_ready}
 use Rattle.yt_machine.specs.Cascade.{has_number}
+use Rattle.yt_record.proofs.Lowest.{lowest_passes}
+use Rattle.yt_history.specs.Cores.{Ground, machine, updates_after}
+use Rattle.yt_history.specs.PlainEntries.{PlainEntry}
+use Rattle.yt_desk.specs.Cores.{lowest_idle, IsReady}
 use Rattle.yt_record.specs.Tickets.{Ticket, ticket_of, in_flight, without, with_step, using}
 use Rattle.yt_record.specs.Apart.{AreApart}
 use Rattle.yt_desk.specs.Shared.{updates_of}
@@ -80,3 +87,17 @@ used_updates n j u (x ∷ ts) = by ((x.update == u) && (x.maker == j)) (used_upd
     by : (b : Bool) → updates_of (without n j (using u j ts)) ≡ updates_of (without n j ts) → updates_of (without n j ((if b then with_step x else x) ∷ using u j ts)) ≡ updates_of (without n j (x ∷ ts))
     by true k = go ((x.number == n) && (x.maker == j)) (with_step x) refl k
     by false k = go ((x.number == n) && (x.maker == j)) x refl k
+
+-- the lowest ready update that is not in flight is ready
+pub ready_is : (g : Ground) (H : List PlainEntry) (busy : List ℕ) (u : ℕ) → lowest_idle g H busy ≡ Some u → IsReady g H u
+ready_is g H busy u e =
+    let M : Machine = machine g in
+    let p : ℕ → Update M → Bool = λ i v. is_ready (standing M g.settings (committed M (updates_after g H)) i v) && not (has_number busy i) in
+    let r = lowest_passes M p 1 (updates_after g H) u e in
+    let number : u ≡ suc r.place = omega (arith, r.number) in
+    record {
+      place = r.place;
+      number = number;
+      update = r.update;
+      ready = record { there = r.there; ready = ap (λ i. is_ready (standing M g.settings (committed M (updates_after g H)) i r.update)) (sym number) ∙ (and_parts _ _ r.passes).0 };
+    }

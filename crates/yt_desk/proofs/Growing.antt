@@ -1,8 +1,7 @@
 -- What each call makes of what the seats share.
-use Rattle.std.proofs.Common.{◌≡◌, ◌∙◌, ap, sym, refl, subst, arith, ℕ, suc, ◌+◌, ◌≤◌, List, [], ◌∷◌, ◌++◌, append-nil, map, length, length-append, Option, Some, None, false}
+use Rattle.std.proofs.Common.{◌≡◌, ◌∙◌, ap, sym, refl, subst, arith, ℕ, suc, ◌+◌, ◌≤◌, List, [], ◌∷◌, ◌++◌, append-nil, length, length-append, Option, Some, None, false}
 use Rattle.yt_machine.specs.Machine.{Machine, Laws}
-use Rattle.yt_machine.specs.Updates.{Update}
-use Rattle.yt_machine.specs.Effects.{Event, Admits, Steps, Delivers, Answers, Withdraws, Entry, Admitted, Stepped, Delivered, Answered, Withdrew, Effect, effect}
+use Rattle.yt_machine.specs.Effects.{Event, Steps, Delivers, Entry, Admitted, Stepped, Delivered, Answered, Withdrew, Effect, effect}
 use Rattle.yt_machine.specs.Histories.{event_of}
 use Rattle.yt_machine.specs.Standings.{standing, is_ready, lowest_that}
 use Rattle.yt_machine.specs.Updates.{committed}
@@ -11,11 +10,11 @@ use Rattle.std.specs.Prelude.{◌&&◌, not, min}
 use mathlib.Core.List.{map-append}
 use Rattle.yt_machine.proofs.Basics.{some_of}
 use Rattle.yt_machine.proofs.Legal.{effect_records}
-use Rattle.yt_steps.specs.Chase.{caused, caused_chase}
+use Rattle.yt_steps.specs.Chase.{caused}
 use Rattle.yt_steps.proofs.ChaseLaws.{chase_laws}
 use Rattle.yt_stamp.specs.declared.history.Made.{Made}
 use Rattle.yt_stamp.specs.Histories.{MadeBy}
-use Rattle.yt_record.specs.declared.item.Item.TheVariants.{Entered, Gave, Returned}
+use Rattle.yt_record.specs.declared.item.Item.TheVariants.{Entered, Gave}
 use Rattle.yt_record.specs.declared.item.Mark.{Mark}
 use Rattle.yt_record.specs.declared.item.Mark.TheVariants.{Next, Giving, Returning}
 use Rattle.yt_record.specs.Items.{Record, made, entries_in}
@@ -26,14 +25,14 @@ use Rattle.yt_record.specs.Records as records
 use Rattle.yt_record.specs.Stays.{IsOut}
 use Rattle.yt_record.specs.Apart.{HasTickets}
 use Rattle.yt_record.specs.Given.{StandsFor}
-use Rattle.yt_record.specs.Answers.{Answer, Gives, Moves, Waits, Quiet, lowest_out, first_of_these, next_answer}
+use Rattle.yt_record.specs.Answers.{Gives, Moves, lowest_out, first_of_these, next_answer}
 use Rattle.yt_record.specs.Calls.{entry_by, items_of_answer, next_items, back_items, step_items, AreCalls}
 use Rattle.yt_record.proofs.Calling.{call_law, given_now, free_is}
 use Rattle.yt_record.proofs.Legality.{record_law}
 use Rattle.yt_record.proofs.Marking.{mark_law}
 use Rattle.yt_record.proofs.Parting.{apart_law}
 use Rattle.yt_record.proofs.Giving.{given_law}
-use Rattle.yt_history.specs.Cores.{Ground, machine, entries_over, updates_after, IsLegalOver, effect_after, grown}
+use Rattle.yt_history.specs.Cores.{Ground, machine, entries_over, updates_after, IsLegalOver, effect_after}
 use Rattle.yt_history.specs.PlainEntries.{PlainEntry, plain_entry, entry_kept}
 use Rattle.yt_history.proofs.Keeping.{entry_there, histories_are_kept}
 use Rattle.yt_desk.specs.Shared.{Items, Shared, StandsAt, record_over, marks_of, items_of, now_at, updates_of, IsShared}

@@ -4,3 +4,4 @@ pub mod Growing
 pub mod Boards
 pub mod Passing
 pub mod Closing
+pub mod Counting

@@ -1,10 +1,8 @@
 -- From a seat to the board of its turn, and back.
-use Rattle.std.proofs.Common.{◌≡◌, ◌∙◌, ap, sym, refl, subst, arith, ℕ, zero, suc, ◌+◌, ◌≤◌, List, [], ◌∷◌, ◌++◌, append_assoc, take, length, length-append, Option, Some, None}
+use Rattle.std.proofs.Common.{◌≡◌, ◌∙◌, ap, sym, refl, subst, arith, ℕ, zero, suc, ◌+◌, ◌≤◌, List, [], ◌∷◌, ◌++◌, append_assoc, take, length, length-append, Some}
 use Rattle.std.proofs.lemmas.Option.{none-some, same_Some}
-use Rattle.yt_machine.specs.Machine.{Machine}
 use Rattle.yt_stamp.specs.declared.history.Made.{Made}
-use Rattle.yt_stamp.specs.Histories.{Unmade, MadeBy, Follows, Extends}
-use Rattle.yt_record.specs.declared.item.Item.{Item}
+use Rattle.yt_stamp.specs.Histories.{Unmade, Follows, Extends}
 use Rattle.yt_record.specs.Items.{Record, entries_in}
 use Rattle.yt_record.specs.Marks.{meant}
 use Rattle.yt_record.specs.Records.{Now, after_items, now_of, IsOpen, IsRecord}

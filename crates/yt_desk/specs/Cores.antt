@@ -1,12 +1,13 @@
 -- What a desk asks of the core behind its lock.
-use Rattle.std.specs.Prelude.{◌≡◌, ℕ, ◌≤◌, not, ◌&&◌, List, take, drop, length, Option, Some}
-use Rattle.yt_machine.specs.Updates.{committed}
+use Rattle.std.specs.Prelude.{◌≡◌, ℕ, suc, ◌≤◌, not, ◌&&◌, List, take, drop, length, Option, Some}
+use Rattle.yt_machine.specs.Updates.{Update, committed}
 use Rattle.yt_machine.specs.Standings.{standing, is_ready, lowest_that, lowest_deliverable}
 use Rattle.yt_machine.specs.Cascade.{has_number}
 use Rattle.yt_machine.specs.Effects.{Steps, Delivers}
 use Rattle.yt_history.specs.Cores.{Ground, machine, updates_after, entries_over, grown}
 use Rattle.yt_history.specs.PlainEntries.{PlainEntry}
-use Rattle.yt_record.specs.Stays.{AllSpare}
+use Rattle.yt_stale.specs.Spares.{AllSpare}
+use Rattle.yt_stale.specs.Stale.{IsReadyAt}
 
 -- After these entries the lowest ready update that is not among those in flight.
 abbrev pub lowest_idle : Ground → List PlainEntry → List ℕ → Option ℕ
@@ -17,6 +18,13 @@ lowest_idle g H busy =
 -- After them the lowest update that an answer can be delivered to.
 abbrev pub lowest_waiting : Ground → List PlainEntry → Option ℕ
 lowest_waiting g H = lowest_deliverable (machine g) g.settings (updates_after g H)
+
+-- After them the update is ready.
+pub record IsReady (g : Ground) (H : List PlainEntry) (u : ℕ) : Type 0 where
+  pub place : ℕ
+  pub number : u ≡ suc place
+  pub update : Update (machine g)
+  pub ready : IsReadyAt (machine g) g.settings (updates_after g H) place update
 
 -- A delivery to the update makes K of the entries H.
 abbrev pub IsDelivery : Ground → List PlainEntry → ℕ → List PlainEntry → Type 0

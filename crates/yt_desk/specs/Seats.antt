@@ -1,9 +1,9 @@
 -- A desk and its seats.
-use Rattle.std.specs.Prelude.{◌≡◌, ℕ, List, [], ◌∷◌, ◌++◌, Option, Some, None}
+use Rattle.std.specs.Prelude.{◌≡◌, List, [], ◌∷◌, ◌++◌, Option, Some, None}
 use Rattle.atomic_table.specs.Seated.{TableId}
 use Rattle.yt_stamp.specs.declared.seat.Seat.{Seat}
 use Rattle.yt_stamp.specs.Lock.{lock_id}
-use Rattle.yt_stamp.specs.Seats.{lock_of, number_of, seen_of, IsAtRest}
+use Rattle.yt_stamp.specs.Seats.{lock_of, seen_of, IsAtRest}
 use Rattle.yt_record.specs.declared.item.Item.{Item}
 use Rattle.yt_record.specs.declared.item.Item.TheVariants.{Opened, Entered, Gave, Returned}
 use Rattle.yt_record.specs.Rests.{SeesRest}

@@ -157,7 +157,7 @@ impl<C: Core> Board<C> {
     {
         self.marks.reserve(self.busy.len() + 2)?;
         self.busy.reserve(1)?;
-        let snapshot = self.core.snapshot(alloc, self.busy.as_slice(), update)?;
+        let snapshot = self.core.snapshot(alloc, update)?;
         let stamp = self.core.length();
         let number = self.given + 1;
         self.marks.push_reserved(Marked {

@@ -11,7 +11,7 @@ pub trait Core {
     ghost use Rattle.std.specs.Prelude.{◌≡◌, ◌<◌, ◌≤◌, ◌^◌, ℕ, List, Option, Some, length, IfOk, IfErr, IfNone};
     ghost use Rattle.yt_history.specs.Cores.{Ground, IsLegalOver};
     ghost use Rattle.yt_history.specs.PlainEntries.{PlainEntry};
-    ghost use Rattle.yt_desk.specs.Cores.{lowest_idle, lowest_waiting, IsDelivery, IsStep, HoldsSince};
+    ghost use Rattle.yt_desk.specs.Cores.{lowest_idle, lowest_waiting, IsReady, IsDelivery, IsStep, HoldsSince};
 
     /// What is needed to plan an update's next step, whatever is done meanwhile.
     type Snapshot: Drop;
@@ -58,8 +58,8 @@ pub trait Core {
         ensures kept { IfErr result (λ _. history self.new ≡ history self.old) };
 
     /// What is needed to plan the update's next step. It is refused only for want of memory.
-    fn snapshot(&self, alloc: Global, busy: &[u32], update: u32) -> Result<Self::Snapshot, Memory>
-        requires ready { lowest_idle (over self.now) (history self.now) busy.now ≡ Some update }
+    fn snapshot(&self, alloc: Global, update: u32) -> Result<Self::Snapshot, Memory>
+        requires ready { IsReady (over self.now) (history self.now) update }
         ensures stands { IfOk result (λ s. is_snapshot s (over self.now) (history self.now) update) };
 
     /// The step that the snapshot tells. It needs no core. It is refused only for want of memory.

@@ -1,6 +1,7 @@
 //! A desk: tickets for the steps of a core, handed out over a lock with turns.
 #![tactic(auto)]
 
+mod bench;
 mod board;
 mod cores;
 mod desk;

@@ -38,13 +38,9 @@ pub enum Next<T> {
     /// A ticket for the lowest ready update that is not in flight.
     Ticket(T),
     /// An answer was delivered to the lowest update that could have one.
-    Delivered {
-        update: u32,
-    },
+    Delivered { update: u32 },
     /// There is nothing to do now, but a ticket is out; this is the lowest update in flight.
-    Idle {
-        in_flight: u32,
-    },
+    Idle { in_flight: u32 },
     /// Nothing is left to do.
     Quiet,
 }
@@ -53,11 +49,7 @@ pub enum Next<T> {
 #[derive(Drop)]
 pub enum Finished {
     /// The step was made, by the entry of this number.
-    Stepped {
-        entry: u64,
-    },
+    Stepped { entry: u64 },
     /// The entry of this number is in question for the plan. No step was made.
-    Stale {
-        entry: u64,
-    },
+    Stale { entry: u64 },
 }

@@ -1,4 +1,4 @@
-use Rattle.std.proofs.Common.{◌≡◌, ◌∙◌, ap, sym, subst}
+use Rattle.std.proofs.Common.{◌∙◌, ap, sym, subst}
 use Rattle.yt_desk.specs.Shared.{Shared, items_of}
 use Rattle.yt_desk.specs.Tickets.{IsOutFor}
 use Rattle.yt_desk.proofs.Boards.{shared, holds_since, finish_stale, finish_stepped}

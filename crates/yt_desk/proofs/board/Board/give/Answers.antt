@@ -1,12 +1,12 @@
-use Rattle.std.proofs.Common.{◌≡◌, ◌∙◌, ◌+◌, ap, sym, refl, subst, arith, List, [], ◌∷◌, ◌++◌, Some}
+use Rattle.std.proofs.Common.{◌≡◌, ◌∙◌, ◌+◌, ap, sym, refl, subst, arith, [], ◌∷◌, ◌++◌, Some}
 use Rattle.std.proofs.lemmas.Result.{err_from_is_err_and}
 use Rattle.yt_record.specs.declared.item.Mark.TheVariants.{Giving}
 use Rattle.yt_memory.specs.declared.Memory.{Memory}
 use Rattle.yt_record.specs.Items.{made}
-use Rattle.yt_desk.specs.declared.board.Marked.{Marked}
 use Rattle.yt_desk.specs.declared.tickets.Ticket.{Ticket}
 use Rattle.yt_desk.specs.Shared.{Shared}
 use Rattle.yt_desk.specs.Cores.{lowest_idle}
+use Rattle.yt_desk.proofs.Flights.{ready_is}
 use Rattle.yt_desk.proofs.Joining.{more}
 use Rattle.yt_desk.proofs.Boards.{shared, shared_more, shared_same, next_none, next_gives}
 use Rattle.yt_desk.proofs.board.Board.give.Goals as goal
@@ -28,9 +28,7 @@ returns-in_err-reserve-2-clause-next g c =
 pub snapshot-requires : goal.snapshot-requires
 snapshot-requires g c =
     let i = c.self.inside in
-    let o = g.C.Core.over i.core in
-    let H = g.C.Core.history i.core in
-    record { ready = ap (lowest_idle o H) (c.as_slice.ensures.value ∙ c.in_ok-reserve-2.ensures.items) ∙ subst (λ (b : Shared). lowest_idle b.over b.history b.busy ≡ Some c.args.update) (sym c.self.view_is) c.requires.idle }
+    record { ready = ready_is (g.C.Core.over i.core) (g.C.Core.history i.core) i.busy.items c.args.update (subst (λ (b : Shared). lowest_idle b.over b.history b.busy ≡ Some c.args.update) (sym c.self.view_is) c.requires.idle) }
 
 pub returns-in_err-snapshot-clause-next : goal.returns-in_err-snapshot-clause-next
 returns-in_err-snapshot-clause-next g c =

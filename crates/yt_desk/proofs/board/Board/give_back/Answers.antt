@@ -1,4 +1,4 @@
-use Rattle.std.proofs.Common.{◌≡◌, ◌∙◌, ap, sym, refl, subst, arith, length, List, [], ◌∷◌, ◌++◌, Some}
+use Rattle.std.proofs.Common.{◌∙◌, ap, sym, refl, subst, arith, length, [], ◌∷◌, Some}
 use Rattle.yt_record.specs.declared.item.Mark.TheVariants.{Returning}
 use Rattle.yt_record.specs.Items.{made}
 use Rattle.yt_desk.specs.Shared.{Shared, items_of}

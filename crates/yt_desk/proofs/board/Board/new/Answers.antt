@@ -1,4 +1,4 @@
-use Rattle.std.proofs.Common.{◌≡◌, arith}
+use Rattle.std.proofs.Common.{arith}
 use Rattle.yt_desk.proofs.Boards.{opens}
 use Rattle.yt_desk.proofs.board.Board.new.Goals as goal
 

@@ -1,10 +1,9 @@
-use Rattle.std.proofs.Common.{◌≡◌, ◌∙◌, ap, sym, refl, subst, arith, length, List, [], ◌∷◌, ◌++◌, append_assoc, Some}
+use Rattle.std.proofs.Common.{◌∙◌, ap, sym, subst, arith, length, [], ◌∷◌, ◌++◌, append_assoc, Some}
 use Rattle.yt_memory.specs.declared.Memory.{Memory}
 use Rattle.yt_record.specs.declared.item.Mark.TheVariants.{Next, Returning}
 use Rattle.yt_record.specs.Items.{made}
 use Rattle.yt_desk.specs.declared.board.Marked.{Marked}
 use Rattle.yt_desk.specs.Shared.{Shared}
-use Rattle.yt_desk.specs.Tickets.{IsOutFor}
 use Rattle.yt_desk.proofs.Joining.{more}
 use Rattle.yt_desk.proofs.Boards.{shared, shared_more, fewer_left, step_is}
 use Rattle.yt_desk.proofs.board.Board.step.Goals as goal

@@ -1,4 +1,4 @@
-use Rattle.std.proofs.Common.{◌≡◌, ◌∙◌, ap, sym, refl, subst, None}
+use Rattle.std.proofs.Common.{◌≡◌, ◌∙◌, ap, sym, subst, None}
 use Rattle.yt_desk.specs.Shared.{Shared}
 use Rattle.yt_desk.specs.Cores.{lowest_idle, lowest_waiting}
 use Rattle.yt_desk.specs.Turns.{least}
@@ -10,15 +10,15 @@ returns-in-Some-clause-next g c =
     let i = c.self.inside in
     let b = shared (g.C.Core.over i.core) (g.C.Core.history i.core) i.opened i.marks.items i.busy.items i.given in
     λ seat. next_waits b _ seat c.lowest.result _ c.self.invariant.0 c.self.view_is
-        (subst (λ (z : Shared). lowest_idle z.over z.history z.busy ≡ None) (sym c.self.view_is) c.requires.none)
-        (subst (λ (z : Shared). lowest_waiting z.over z.history ≡ None) (sym c.self.view_is) c.requires.quiet)
-        (c.lowest.ensures ∙ ap (least None) c.as_slice.ensures.value) (ap idle_or_quiet (sym c.in-Some.is))
+    (subst (λ (z : Shared). lowest_idle z.over z.history z.busy ≡ None) (sym c.self.view_is) c.requires.none)
+    (subst (λ (z : Shared). lowest_waiting z.over z.history ≡ None) (sym c.self.view_is) c.requires.quiet)
+    (c.lowest.ensures ∙ ap (least None) c.as_slice.ensures.value) (ap idle_or_quiet (sym c.in-Some.is))
 
 pub returns-in-None-clause-next : goal.returns-in-None-clause-next
 returns-in-None-clause-next g c =
     let i = c.self.inside in
     let b = shared (g.C.Core.over i.core) (g.C.Core.history i.core) i.opened i.marks.items i.busy.items i.given in
     λ seat. next_waits b _ seat c.lowest.result _ c.self.invariant.0 c.self.view_is
-        (subst (λ (z : Shared). lowest_idle z.over z.history z.busy ≡ None) (sym c.self.view_is) c.requires.none)
-        (subst (λ (z : Shared). lowest_waiting z.over z.history ≡ None) (sym c.self.view_is) c.requires.quiet)
-        (c.lowest.ensures ∙ ap (least None) c.as_slice.ensures.value) (ap idle_or_quiet (sym c.in-None.is))
+    (subst (λ (z : Shared). lowest_idle z.over z.history z.busy ≡ None) (sym c.self.view_is) c.requires.none)
+    (subst (λ (z : Shared). lowest_waiting z.over z.history ≡ None) (sym c.self.view_is) c.requires.quiet)
+    (c.lowest.ensures ∙ ap (least None) c.as_slice.ensures.value) (ap idle_or_quiet (sym c.in-None.is))

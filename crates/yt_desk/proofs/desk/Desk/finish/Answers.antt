@@ -1,8 +1,7 @@
-use Rattle.std.proofs.Common.{◌≡◌, ◌∙◌, ap, sym, subst, ℕ}
+use Rattle.std.proofs.Common.{◌∙◌, ap, sym, subst, ℕ}
 use Rattle.yt_stamp.specs.Seats.{Place, seen_of, number_of}
 use Rattle.yt_history.specs.Cores.{Ground}
 use Rattle.yt_desk.specs.Shared.{Items, items_of, now_at}
-use Rattle.yt_desk.specs.Seats.{core_of}
 use Rattle.yt_desk.specs.Tickets.{IsOutFor, HasFinished}
 use Rattle.yt_desk.proofs.Passing.{same_over, out_stays}
 use Rattle.yt_desk.proofs.desk.Desk.finish.Goals as goal
@@ -29,5 +28,5 @@ returns-clause-finish g c =
       others = follows.0;
       unmade = follows.2;
       then = subst (λ (y : ℕ × Ground × Items × Items). HasFinished (λ H. g.C.Core.in_question c.args.plan y.1 H c.args.ticket.stamp) y.0 y.1 c.args.ticket c.finish-finished.result y.2 y.3)
-      (λ k. (number k, over k, sym c.close_turn.ensures.seen k, sym follows.1 k)) c.finish-finished.ensures.finish;
+          (λ k. (number k, over k, sym c.close_turn.ensures.seen k, sym follows.1 k)) c.finish-finished.ensures.finish;
     }

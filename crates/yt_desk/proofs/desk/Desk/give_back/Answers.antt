@@ -1,4 +1,4 @@
-use Rattle.std.proofs.Common.{◌≡◌, ◌∙◌, ap, sym, subst, ℕ}
+use Rattle.std.proofs.Common.{◌∙◌, ap, sym, subst, ℕ}
 use Rattle.yt_stamp.specs.Seats.{Place, seen_of, number_of}
 use Rattle.yt_history.specs.Cores.{Ground}
 use Rattle.yt_desk.specs.Shared.{items_of, now_at}
@@ -16,5 +16,5 @@ give_back-requires g c =
     let out = subst (λ (o : Ground). IsOutFor g.C.Core.is_snapshot o (seen_of s) (number_of s) c.args.ticket) (sym over) c.requires.out in
     record {
       out = subst (λ (j : ℕ). IsOutFor g.C.Core.is_snapshot b.over (items_of b) j c.args.ticket) (sym (c.number.ensures ∙ ap (λ (z : Place). z.number) c.open-turn.ensures.place))
-      (out_stays g.C.Core.is_snapshot b.over (seen_of s) (items_of b) (number_of s) c.args.ticket (now_at b h.out) out follows h.stands);
+          (out_stays g.C.Core.is_snapshot b.over (seen_of s) (items_of b) (number_of s) c.args.ticket (now_at b h.out) out follows h.stands);
     }
