@@ -29,8 +29,8 @@ pub trait Bench {
     /// One piece of work. It need not be `Drop`: then no ticket can be dropped.
     type Ticket;
 
-    /// What is worked out for a ticket. Where `finish` fails the plan is dropped. It may go to other threads, as benches do.
-    type Plan: Drop + Send;
+    /// What is worked out for a ticket. Where `finish` fails the plan is dropped.
+    type Plan;
 
     /// What the identity of a seat's lock is.
     ghost Lock: { Type 0 };
