@@ -1,0 +1,4 @@
+pub mod Wishing
+pub mod Following
+pub mod Answering
+pub mod Restarting

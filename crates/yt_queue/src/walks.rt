@@ -1,0 +1,104 @@
+//! Which of the updates come first.
+ghost use Rattle.std.specs.Prelude.{◌≡◌};
+ghost use Rattle.yt_queue.specs.Settings.{settings_of};
+ghost use Rattle.yt_queue.specs.Queues.{AreFrom};
+ghost use Rattle.yt_queue.specs.Walks.{HasCommitted, IsFirstReady, IsFirstDeliverable, IsFirstBesides, IsLowestReady, IsLowestDeliverable, IsLowestBesides, IsQuiet};
+
+use crate::records::Record;
+use crate::settings::Settings;
+
+/// How many updates are committed: the longest prefix of those that are over. It takes no memory.
+pub fn committed(queue: &[Record]) -> u32
+    requires from { AreFrom 1 queue.now }
+    ensures committed { HasCommitted queue.now result }
+{
+    let mut count = 0;
+    for record in queue {
+        if !record.is_over() {
+            return count;
+        }
+        count = record.number();
+    }
+    count
+}
+
+/// The least number of a ready update, if one is ready. It takes no memory.
+pub fn lowest_ready(queue: &[Record], settings: Settings) -> Option<u32>
+    requires from { AreFrom 1 queue.now }
+    ensures lowest { IsLowestReady (settings_of settings) queue.now result }
+{
+    first_ready(queue, settings, committed(queue))
+}
+
+/// The least number of an update to which a recorded answer may be delivered, if there is one. It takes no memory.
+pub fn lowest_deliverable(queue: &[Record], settings: Settings) -> Option<u32>
+    requires from { AreFrom 1 queue.now }
+    ensures lowest { IsLowestDeliverable (settings_of settings) queue.now result }
+{
+    first_deliverable(queue, settings, committed(queue))
+}
+
+/// The least number of a ready update that is none of these, if there is one. It takes no memory.
+pub fn lowest_ready_besides(queue: &[Record], settings: Settings, numbers: &[u32]) -> Option<u32>
+    requires from { AreFrom 1 queue.now }
+    ensures lowest { IsLowestBesides numbers.now (settings_of settings) queue.now result }
+{
+    first_besides(queue, settings, committed(queue), numbers)
+}
+
+/// Whether nothing is ready, and nothing is deliverable. It takes no memory.
+pub fn is_quiet(queue: &[Record], settings: Settings) -> bool
+    requires from { AreFrom 1 queue.now }
+    ensures quiet { IsQuiet (settings_of settings) queue.now result }
+{
+    let committed = committed(queue);
+    first_ready(queue, settings, committed).is_none()
+        && first_deliverable(queue, settings, committed).is_none()
+}
+
+// The least number of a ready update, where so many are committed.
+fn first_ready(queue: &[Record], settings: Settings, committed: u32) -> Option<u32>
+    requires from { AreFrom 1 queue.now }
+    ensures first { IsFirstReady (settings_of settings) committed 1 queue.now result }
+{
+    for record in queue {
+        let number = record.number();
+        if record.is_ready(settings, committed, number) {
+            return Some(number);
+        }
+    }
+    None
+}
+
+// The least number of a deliverable update, where so many are committed.
+fn first_deliverable(queue: &[Record], settings: Settings, committed: u32) -> Option<u32>
+    requires from { AreFrom 1 queue.now }
+    ensures first { IsFirstDeliverable (settings_of settings) committed 1 queue.now result }
+{
+    for record in queue {
+        let number = record.number();
+        if record.is_deliverable(settings, committed, number) {
+            return Some(number);
+        }
+    }
+    None
+}
+
+// The least number of a ready update that is none of these, where so many are committed.
+fn first_besides(
+    queue: &[Record],
+    settings: Settings,
+    committed: u32,
+    numbers: &[u32],
+) -> Option<u32>
+    requires from { AreFrom 1 queue.now }
+    ensures first { IsFirstBesides numbers.now (settings_of settings) committed 1 queue.now result }
+{
+    for record in queue {
+        let number = record.number();
+        if record.is_ready(settings, committed, number) && !numbers.contains(&number) {
+            return Some(number);
+        }
+    }
+    None
+}
