@@ -2,7 +2,8 @@
 ghost use Rattle.std.specs.Prelude.{◌≡◌};
 ghost use Rattle.yt_queue.specs.Settings.{settings_of};
 ghost use Rattle.yt_queue.specs.Queues.{AreFrom};
-ghost use Rattle.yt_queue.specs.Walks.{HasCommitted, IsFirstReady, IsFirstDeliverable, IsFirstBesides, IsLowestReady, IsLowestDeliverable, IsLowestBesides, IsQuiet};
+ghost use Rattle.yt_queue.specs.Programs.{IsBetween};
+ghost use Rattle.yt_queue.specs.Walks.{HasCommitted, IsFirstReady, IsFirstDeliverable, IsFirstBesides, IsReadyBesides, IsLowestReady, IsLowestDeliverable, IsLowestBesides, IsQuiet};
 
 use crate::records::Record;
 use crate::settings::Settings;
@@ -52,8 +53,9 @@ pub fn is_quiet(queue: &[Record], settings: Settings) -> bool
     ensures quiet { IsQuiet (settings_of settings) queue.now result }
 {
     let committed = committed(queue);
-    first_ready(queue, settings, committed).is_none()
-        && first_deliverable(queue, settings, committed).is_none()
+    let none_ready = first_ready(queue, settings, committed).is_none();
+    let none_deliverable = first_deliverable(queue, settings, committed).is_none();
+    none_ready && none_deliverable
 }
 
 // The least number of a ready update, where so many are committed.
@@ -96,9 +98,25 @@ fn first_besides(
 {
     for record in queue {
         let number = record.number();
-        if record.is_ready(settings, committed, number) && !numbers.contains(&number) {
+        if is_ready_besides(record, settings, committed, number, numbers) {
             return Some(number);
         }
     }
     None
+}
+
+// Whether the update is ready, and its number none of these, where so many are committed.
+fn is_ready_besides(
+    item: &Record,
+    settings: Settings,
+    committed: u32,
+    number: u32,
+    numbers: &[u32],
+) -> bool
+    requires between { IsBetween item.now.program }
+    ensures ready { IsReadyBesides numbers.now (settings_of settings) committed number item.now
+        result }
+{
+    let ready = item.is_ready(settings, committed, number);
+    ready && !numbers.contains(&number)
 }
