@@ -1,5 +1,6 @@
 //! Which of the updates come first.
-ghost use Rattle.std.specs.Prelude.{◌≡◌};
+ghost use Rattle.std.specs.Prelude.{◌≡◌, is_none as is_none_lem};
+ghost use Rattle.yt_machine.specs.Cascade.{has_number};
 ghost use Rattle.yt_queue.specs.Settings.{settings_of};
 ghost use Rattle.yt_queue.specs.Queues.{AreFrom};
 ghost use Rattle.yt_queue.specs.Programs.{IsBetween};
@@ -53,8 +54,8 @@ pub fn is_quiet(queue: &[Record], settings: Settings) -> bool
     ensures quiet { IsQuiet (settings_of settings) queue.now result }
 {
     let committed = committed(queue);
-    let none_ready = first_ready(queue, settings, committed).is_none();
-    let none_deliverable = first_deliverable(queue, settings, committed).is_none();
+    let none_ready = is_none(first_ready(queue, settings, committed));
+    let none_deliverable = is_none(first_deliverable(queue, settings, committed));
     none_ready && none_deliverable
 }
 
@@ -118,5 +119,20 @@ fn is_ready_besides(
         result }
 {
     let ready = item.is_ready(settings, committed, number);
-    ready && !numbers.contains(&number)
+    let besides = !is_among(numbers, number);
+    ready && besides
+}
+
+// Whether the number is among these.
+fn is_among(numbers: &[u32], number: u32) -> bool
+    ensures among { result ≡ has_number numbers.now number }
+{
+    numbers.contains(&number)
+}
+
+// Whether there is no such update.
+fn is_none(number: Option<u32>) -> bool
+    ensures none { result ≡ is_none_lem number }
+{
+    number.is_none()
 }

@@ -7,8 +7,8 @@ returns-then-not-is_over c = record { committed = λ ms B. no_more ms B c.args.q
 
 pub loop-record-preserved : goal.loop-record-preserved
 loop-record-preserved c = record {
-  from = stand_behind c.args.queue.now c.loop-record.record-index (suc c.loop-record.count) _ c.record-item.result c.loop-record-test.true c.record-item.is (ap suc (c.number.ensures.number ∙ (stands_here c.args.queue.now c.loop-record.record-index (suc c.loop-record.count) c.record-item.result c.loop-record-test.true c.record-item.is c.loop-record.invariant.from).number)) c.loop-record.invariant.from;
-  left = λ ms B. one_more ms B c.args.queue.now c.loop-record.record-index c.loop-record.count _ _ c.record-item.result c.is_over.result c.loop-record-test.true c.record-item.is c.loop-record.invariant.from c.number.ensures.number c.is_over.ensures.over c.if-not-is_over.false (c.loop-record.invariant.left ms B);
+  from = stand_behind c.args.queue.now c.loop-record.record-index (suc c.loop-record.count) _ c.record-item.result c.loop-record-test.true c.record-item.is (ap suc (c.number-count.ensures.number ∙ (stands_here c.args.queue.now c.loop-record.record-index (suc c.loop-record.count) c.record-item.result c.loop-record-test.true c.record-item.is c.loop-record.invariant.from).number)) c.loop-record.invariant.from;
+  left = λ ms B. one_more ms B c.args.queue.now c.loop-record.record-index c.loop-record.count _ _ c.record-item.result c.is_over.result c.loop-record-test.true c.record-item.is c.loop-record.invariant.from c.number-count.ensures.number c.is_over.ensures.over c.if-not-is_over.false (c.loop-record.invariant.left ms B);
 }
 
 pub returns : goal.returns
