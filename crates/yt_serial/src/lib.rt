@@ -1,5 +1,6 @@
 //! The serial run of a session: its updates taken whole over a repository, one after the other in the order of their
-//! numbers, up to the first that stops at a question. `serial` tells what the serial machine of `yt_steps` tells, `trails` what each update writes.
+//! numbers, up to the first that stops at a question. `serial` tells what the serial machine of `yt_steps` tells, and
+//! `trails` what each update leaves written.
 #![tactic(auto)]
 
 mod endings;
