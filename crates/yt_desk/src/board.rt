@@ -82,6 +82,7 @@ impl<C: Core> Grows for Board<C> {
 }
 
 impl<C: Core> Board<C> {
+    ghost use Rattle.yt_history.specs.Cores.{IsLegalOver};
     ghost use Rattle.yt_desk.specs.Shared.{items_of, opening_items, IsShared};
     ghost use Rattle.yt_desk.specs.Cores.{lowest_idle, lowest_waiting};
     ghost use Rattle.yt_desk.specs.Tickets.{IsOutFor, IsPlanFor, IfGiven, HasNext, HasFinished, HasStepped, HasGivenBack};
@@ -91,6 +92,7 @@ impl<C: Core> Board<C> {
         ensures over { result.over ≡ C.over core }
         ensures history { result.history ≡ C.history core }
         ensures items { items_of result ≡ opening_items (C.over core) (C.history core) }
+        ensures legal { IsLegalOver (C.over core) (C.history core) }
     {
         Board {
             opened: core.length(),

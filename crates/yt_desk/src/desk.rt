@@ -38,6 +38,7 @@ impl<C: Core> Desk<C> {
         ensures core { IfOk result (λ r. core_of r.0 ≡ core) }
         ensures seats { IfOk result (λ r. AreSeats (desk_lock r.0) seats r.1.items) }
         ensures saw { IfOk result (λ r. AllSaw (opening_items (C.over core) (C.history core)) r.1.items) }
+        ensures legal { IfOk result (λ r. IsLegalOver (C.over core) (C.history core)) }
         ensures over { IfErr result (λ e. C.over e.0 ≡ C.over core) }
         ensures history { IfErr result (λ e. C.history e.0 ≡ C.history core) }
     {
