@@ -75,11 +75,7 @@ impl Record {
             (option_map inquiry_of (option_copied result)) }
     {
         let paused = is_paused(self.standing(settings, committed, number));
-        if paused {
-            asked(&self.program)
-        } else {
-            None
-        }
+        if paused { asked(&self.program) } else { None }
     }
 
     // The standing of an update that was not withdrawn, and whose attempt has not ended.
@@ -153,7 +149,11 @@ fn unless_fits(question: &Question, next: Option<&Choice>) -> Option<Lack>
         (option_map choice_of (option_copied next.entry)) }
 {
     match next {
-        Some(choice) => if fits(question, choice) { None } else { Some(Lack::Misfit) },
+        Some(choice) => if fits(question, choice) {
+            None
+        } else {
+            Some(Lack::Misfit)
+        },
         None => Some(Lack::Missing),
     }
 }
