@@ -108,8 +108,8 @@ impl Record {
         !self.inbox.is_empty()
     }
 
-    // What is lacking at the question, if it is at one and something is.
-    fn lack(&self) -> Option<Lack>
+    /// What is lacking at the question, if it is at one and something is. It takes no memory.
+    pub fn lack(&self) -> Option<Lack>
         requires between { IsBetween self.now.program }
         ensures lack { HasLack self.now (option_map lack_of result) }
     {
