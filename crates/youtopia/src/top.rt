@@ -1,17 +1,63 @@
 //! The top call: the words, and then the command that they name.
-ghost use Rattle.std.specs.Prelude.{◌≤◌, map, string_bytes};
+ghost use Rattle.std.specs.Prelude.{◌≤◌, IfNone, IfOk, IfSome, map, string_bytes};
+ghost use Rattle.yt_ask.specs.Bound.{written_of};
+ghost use Rattle.yt_ask.specs.Written.{WrittenAsk};
 ghost use Rattle.yt_command.specs.Devices.{change};
-ghost use Rattle.yt_command.specs.Rows.{Row};
 ghost use Rattle.yt_words.specs.Meaning.{HasBudget};
-ghost use Rattle.youtopia.specs.Calls.{Calls, Performs, meaning_of};
+ghost use Rattle.youtopia.specs.Calls.{Asks, AsksFor, Calls, Does, Performs};
 
 use crate::telling::Telling;
 use std::alloc::Global;
+use yt_ask::{RawAsk, parse_ask};
+use yt_base::Memory;
 use yt_command::{Failure, Status, fail, perform, perform_alone};
-use yt_commands::{Check, Format, OnSession, Save, Serial, Upgrade};
+use yt_commands::{Ask, Check, Format, OnSession, Save, Serial, Upgrade};
 use yt_limits::Budget;
 use yt_text::{Sink, Source};
 use yt_words::{CommandName, HELP, Options, Request, VERSION_LINE, WordsRefusal, read_words};
+
+// The query that the option spells, if it spells one.
+fn query_of(alloc: Global, options: &Options<'_>) -> Result<Option<RawAsk>, Memory>
+    ensures some { IfOk result
+        (λ found. IfSome found (λ raw. AsksFor options.now (written_of raw))) }
+    ensures none { IfOk result
+        (λ found. IfNone found ((q : WrittenAsk) → AsksFor options.now q → ⊥)) }
+{
+    match options.query {
+        Some(text) => parse_ask(alloc, text.as_bytes()),
+        None => Ok(None),
+    }
+}
+
+// Asks the query of the words between the devices.
+fn ask_query<S: Source, O: Sink, E: Sink>(
+    alloc: Global,
+    options: &Options<'_>,
+    source: &mut S,
+    out: &mut O,
+    err: &mut E,
+) -> Status
+    requires some { 1 ≤ options.now.steps }
+    requires most { options.now.steps ≤ 300 }
+    ensures asks { Asks options.now result
+        (change S.left S.fault_count source.old source.new)
+        (change O.taken O.fault_count out.old out.new)
+        (change E.taken E.fault_count err.old err.new) }
+{
+    let found = match query_of(alloc, options) {
+        Ok(found) => found,
+        Err(_) => return fail(Failure::OutOfMemory, err),
+    };
+    let Some(query) = found else {
+        return fail(Failure::Usage, err);
+    };
+    let allowed = Budget::new(options.steps);
+    let command = OnSession(Ask {
+        budget: allowed,
+        query: &query,
+    });
+    perform(alloc, &command, source, out, err)
+}
 
 // Does the command between the devices.
 fn command<S: Source, O: Sink, E: Sink>(
@@ -23,7 +69,7 @@ fn command<S: Source, O: Sink, E: Sink>(
 ) -> Status
     requires some { 1 ≤ options.now.steps }
     requires most { options.now.steps ≤ 300 }
-    ensures row { Row result (meaning_of options.now)
+    ensures does { Does options.now.command options.now result
         (change S.left S.fault_count source.old source.new)
         (change O.taken O.fault_count out.old out.new)
         (change E.taken E.fault_count err.old err.new) }
@@ -36,6 +82,7 @@ fn command<S: Source, O: Sink, E: Sink>(
         CommandName::Check => perform(alloc, &OnSession(Check), source, out, err),
         CommandName::Save => perform(alloc, &OnSession(Save { budget }), source, out, err),
         CommandName::Upgrade => perform(alloc, &OnSession(Upgrade), source, out, err),
+        CommandName::Ask => ask_query(alloc, options, source, out, err),
     }
 }
 
