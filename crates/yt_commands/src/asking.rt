@@ -9,8 +9,6 @@ ghost use Rattle.yt_certain.specs.Naive.{IsSafe, certain_answers};
 ghost use Rattle.yt_command.specs.Outputs.{view_of};
 ghost use Rattle.yt_grammar.specs.Faults.{Arity, UnknownRelation};
 ghost use Rattle.yt_grammar.specs.Validity.{IsSession};
-ghost use Rattle.yt_model.specs.Repository.{has};
-ghost use Rattle.yt_model.specs.Values.{Fact};
 ghost use Rattle.yt_program.specs.Results.{result_of};
 ghost use Rattle.yt_session.specs.Base.{base_violation};
 ghost use Rattle.yt_session.specs.Meanings.{session_of};
@@ -40,22 +38,15 @@ pub struct Ask<'a> {
     ghost spelled: { is_ask (written_of query.now) ≡ true },
 }
 
-// The set of the tuples of a list, with an index.
-fn set_of(alloc: Global, tuples: &TupleList) -> Result<IndexedFacts, Memory>
-    ensures { IfOk result (λ facts. (t : Fact) → has facts t ≡ has (facts_of tuples.now) t) }
-{
-    let facts = PlainFacts::of_list(alloc, tuples)?;
-    Ok(IndexedFacts::of(alloc, facts)?)
-}
-
 // The text of the certain answers over the tuples of a list.
 fn answers(alloc: Global, query: &BoundAsk, tuples: &TupleList) -> Result<Vec<u8>, Memory>
     requires { IsSafe (query_of query.now) }
     ensures { IfOk result (λ text. text.items
         ≡ text_of_answers (certain_answers (query_of query.now) (facts_of tuples.now))) }
 {
-    let facts = set_of(alloc, tuples)?;
-    let rows = certain(alloc, query, &facts)?;
+    let facts = PlainFacts::of_list(alloc, tuples)?;
+    let indexed = IndexedFacts::of(alloc, facts)?;
+    let rows = certain(alloc, query, &indexed)?;
     answers_text(alloc, &rows)
 }
 
