@@ -1,6 +1,5 @@
 -- What one call of the program does between its words, its input and its two outputs.
 use Rattle.std.specs.Prelude.{◌≡◌, ◌⊎◌, ℕ, List, Some, true, false}
-use Rattle.std.specs.Option.{option_map}
 use Rattle.std.specs.Io.KnownBytes.{Keeps}
 use Rattle.clap.specs.Words.{Text as Letters}
 use Rattle.yt_command.specs.Devices.{Change, no_input, TakesNothing, Tells}
@@ -17,6 +16,7 @@ use Rattle.yt_commands.specs.Asked.{asked}
 use Rattle.yt_commands.specs.Commands.{of_session, formatted, upgraded_text, checked}
 use Rattle.yt_commands.specs.Runs.{ran, kept}
 use Rattle.yt_grammar.specs.Sessions.{SessionData}
+use Rattle.yt_words.specs.Alike.{text_of}
 use Rattle.yt_words.specs.Meaning.{Answers, is_refused}
 use Rattle.yt_words.specs.declared.help.TheConstants.{HELP, VERSION_LINE}
 use Rattle.yt_words.specs.declared.names.CommandName.{CommandName}
@@ -43,24 +43,28 @@ DoesNothing failure source out err = Unread source × TakesNothing out × Tells 
 
 -- the option `query` spells the query
 abbrev pub AsksFor : Options → WrittenAsk → Type 0
-AsksFor options q = (text : List ℕ) × (option_map (λ t. t.now) options.query ≡ Some text) × SpellsAsk text q
+AsksFor options q = (text : List ℕ) × (text_of options.query ≡ Some text) × SpellsAsk text q
 
--- `ask`: the query that the words spell is asked; where they spell none that is status 2, as with words that are refused. Memory may have been wanting for the query.
-abbrev pub Asks : Options → Status → Change → Change → Change → Type 0
-Asks options status source out err =
-    ((status ≡ Usage) × ((q : WrittenAsk) → AsksFor options q → ⊥) × DoesNothing failures.Usage source out err)
-    ⊎ (((status ≡ OutOfMemory) × DoesNothing failures.OutOfMemory source out err)
-    ⊎ ((q : WrittenAsk) × AsksFor options q × Row status (on_session (asked options.steps q)) source out err))
+-- it spells none
+abbrev pub LacksQuery : Options → Type 0
+LacksQuery options = (q : WrittenAsk) → AsksFor options q → ⊥
 
--- what a command with its options does: the row of the status holds
+-- what each command with its options makes of an input; `ask` asks the query that its option spells
+abbrev pub makes : CommandName → Options → Meaning
+makes Run options = on_session (ran options.steps)
+makes Serial options = on_session (ran options.steps)
+makes Format options = on_session formatted
+makes Check options = on_session checked
+makes Save options = on_session (kept options.steps)
+makes Upgrade options = on_session upgraded_text
+makes Ask options = λ input output. (q : WrittenAsk) × AsksFor options q × on_session (asked options.steps q) input output
+
+-- what a command with its options does: the row of the status holds; `ask` without a query is refused as wrong words are
 abbrev pub Does : CommandName → Options → Status → Change → Change → Change → Type 0
-Does Run options status source out err = Row status (on_session (ran options.steps)) source out err
-Does Serial options status source out err = Row status (on_session (ran options.steps)) source out err
-Does Format options status source out err = Row status (on_session formatted) source out err
-Does Check options status source out err = Row status (on_session checked) source out err
-Does Save options status source out err = Row status (on_session (kept options.steps)) source out err
-Does Upgrade options status source out err = Row status (on_session upgraded_text) source out err
-Does Ask options status source out err = Asks options status source out err
+Does Ask options status source out err =
+    ((status ≡ Usage) × LacksQuery options × DoesNothing failures.Usage source out err)
+    ⊎ Row status (makes Ask options) source out err
+Does command options status source out err = Row status (makes command options) source out err
 
 -- what was asked for is done; help and the version leave the input alone
 abbrev pub Performs : Request → Status → Change → Change → Change → Type 0

@@ -1,10 +1,10 @@
 //! The top call: the words, and then the command that they name.
 ghost use Rattle.std.specs.Prelude.{◌≤◌, IfNone, IfOk, IfSome, map, string_bytes};
 ghost use Rattle.yt_ask.specs.Bound.{written_of};
-ghost use Rattle.yt_ask.specs.Written.{WrittenAsk};
 ghost use Rattle.yt_command.specs.Devices.{change};
 ghost use Rattle.yt_words.specs.Meaning.{HasBudget};
-ghost use Rattle.youtopia.specs.Calls.{Asks, AsksFor, Calls, Does, Performs};
+ghost use Rattle.yt_words.specs.declared.names.CommandName.TheVariants.{Ask as AskNamed};
+ghost use Rattle.youtopia.specs.Calls.{AsksFor, Calls, Does, LacksQuery, Performs};
 
 use crate::telling::Telling;
 use std::alloc::Global;
@@ -20,8 +20,7 @@ use yt_words::{CommandName, HELP, Options, Request, VERSION_LINE, WordsRefusal, 
 fn query_of(alloc: Global, options: &Options<'_>) -> Result<Option<RawAsk>, Memory>
     ensures some { IfOk result
         (λ found. IfSome found (λ raw. AsksFor options.now (written_of raw))) }
-    ensures none { IfOk result
-        (λ found. IfNone found ((q : WrittenAsk) → AsksFor options.now q → ⊥)) }
+    ensures none { IfOk result (λ found. IfNone found (LacksQuery options.now)) }
 {
     match options.query {
         Some(text) => parse_ask(alloc, text.as_bytes()),
@@ -39,7 +38,7 @@ fn ask_query<S: Source, O: Sink, E: Sink>(
 ) -> Status
     requires some { 1 ≤ options.now.steps }
     requires most { options.now.steps ≤ 300 }
-    ensures asks { Asks options.now result
+    ensures asks { Does AskNamed options.now result
         (change S.left S.fault_count source.old source.new)
         (change O.taken O.fault_count out.old out.new)
         (change E.taken E.fault_count err.old err.new) }

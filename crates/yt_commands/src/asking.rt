@@ -1,5 +1,5 @@
 //! The command `ask`: the certain answers to a query over what a session's updates leave.
-ghost use Rattle.std.specs.Prelude.{◌≡◌, None, IfOk, true};
+ghost use Rattle.std.specs.Prelude.{◌≡◌, ◌++◌, ◌∷◌, [], None, IfOk, codes, true};
 ghost use Rattle.yt_ask.specs.Asks.{query_of};
 ghost use Rattle.yt_ask.specs.Bound.{written_of};
 ghost use Rattle.yt_ask.specs.Printed.{answers_text as text_of_answers};
@@ -7,7 +7,7 @@ ghost use Rattle.yt_ask.specs.Written.{is_ask};
 ghost use Rattle.yt_base.specs.Contents.{facts_of};
 ghost use Rattle.yt_certain.specs.Naive.{IsSafe, certain_answers};
 ghost use Rattle.yt_command.specs.Outputs.{view_of};
-ghost use Rattle.yt_grammar.specs.Faults.{Arity, UnknownRelation};
+ghost use Rattle.yt_grammar.specs.Faults.{Arity, UnknownRelation, kind_text};
 ghost use Rattle.yt_grammar.specs.Validity.{IsSession};
 ghost use Rattle.yt_program.specs.Results.{result_of};
 ghost use Rattle.yt_session.specs.Base.{base_violation};
@@ -60,15 +60,44 @@ fn answers_output(alloc: Global, query: &BoundAsk, told: &SessionResult) -> Resu
     Ok(Output::Text(ending_by(told), text))
 }
 
+// The line that tells these words of a query.
+fn query_line(alloc: Global, words: &[u8]) -> Result<Vec<u8>, Memory>
+    ensures { IfOk result
+        (λ line. line.items ≡ codes "youtopia: query: " ++ (words.now ++ 10 ∷ [])) }
+{
+    let mut line = Vec::new(alloc);
+    line.extend_from_slice(b"youtopia: query: ")?;
+    line.extend_from_slice(words)?;
+    line.push(b'\n')?;
+    Ok(line)
+}
+
 // The line that tells that no relation has the name.
 fn unknown_line(alloc: Global, name: &Name) -> Result<Vec<u8>, Memory>
     ensures { IfOk result (λ line. line.items ≡ query_line (UnknownRelation name.now.items)) }
 {
-    let mut line = Vec::new(alloc);
-    line.extend_from_slice(b"youtopia: query: unknown relation ")?;
-    line.extend_from_slice(name.as_slice())?;
-    line.push(b'\n')?;
-    Ok(line)
+    let mut words = Vec::new(alloc);
+    words.extend_from_slice(b"unknown relation ")?;
+    words.extend_from_slice(name.as_slice())?;
+    query_line(alloc, &words)
+}
+
+// That the relation has other columns, in words.
+fn arity_words(
+    alloc: Global,
+    name: &Name,
+    expected: u16,
+    found: u64,
+) -> Result<Vec<u8>, Memory>
+    ensures { IfOk result
+        (λ words. words.items ≡ kind_text (Arity name.now.items expected found)) }
+{
+    let columns = format!(in alloc; " has {expected} columns, found {found}")?;
+    let mut words = Vec::new(alloc);
+    words.extend_from_slice(b"relation ")?;
+    words.extend_from_slice(name.as_slice())?;
+    words.extend_from_slice(columns.as_bytes())?;
+    Ok(words)
 }
 
 // The line that tells that the relation has other columns.
@@ -76,12 +105,8 @@ fn arity_line(alloc: Global, name: &Name, expected: u16, found: u64) -> Result<V
     ensures { IfOk result
         (λ line. line.items ≡ query_line (Arity name.now.items expected found)) }
 {
-    let mut line = Vec::new(alloc);
-    line.extend_from_slice(b"youtopia: query: relation ")?;
-    line.extend_from_slice(name.as_slice())?;
-    let columns = format!(in alloc; " has {expected} columns, found {found}\n")?;
-    line.extend_from_slice(columns.as_bytes())?;
-    Ok(line)
+    let words = arity_words(alloc, name, expected, found)?;
+    query_line(alloc, &words)
 }
 
 // What is made of a session whose base violates no mapping.
