@@ -43,19 +43,18 @@ fn ask_query<S: Source, O: Sink, E: Sink>(
         (change O.taken O.fault_count out.old out.new)
         (change E.taken E.fault_count err.old err.new) }
 {
-    let found = match query_of(alloc, options) {
-        Ok(found) => found,
-        Err(_) => return fail(Failure::OutOfMemory, err),
-    };
-    let Some(query) = found else {
-        return fail(Failure::Usage, err);
-    };
-    let allowed = Budget::new(options.steps);
-    let command = OnSession(Ask {
-        budget: allowed,
-        query: &query,
-    });
-    perform(alloc, &command, source, out, err)
+    let budget = Budget::new(options.steps);
+    match query_of(alloc, options) {
+        Ok(Some(query)) => {
+            let command = Ask {
+                budget,
+                query: &query,
+            };
+            perform(alloc, &OnSession(command), source, out, err)
+        }
+        Ok(None) => fail(Failure::Usage, err),
+        Err(_) => fail(Failure::OutOfMemory, err),
+    }
 }
 
 // Does the command between the devices.
