@@ -1,12 +1,11 @@
 -- A run that has written its text was one of a session whose base meets its mappings.
-use Rattle.std.proofs.Common.{◌≡◌, ◌≤◌, ◌⊎◌, ℕ, List, Option, Some, None, Result, Ok, Err, refl, inl, inr, ap, sym, subst, ◌∙◌}
+use Rattle.std.proofs.Common.{◌≡◌, ◌≤◌, ℕ, List, Option, Some, None, Result, Ok, Err, refl, inl, inr, subst}
 use Rattle.yt_command.specs.Devices.{Change, Takes}
 use Rattle.yt_command.specs.Outputs.{OutputView, Text, Refused}
 use Rattle.yt_command.specs.Rows.{Row, Ends}
 use Rattle.yt_command.specs.declared.outputs.Ending.{Ending}
 use Rattle.yt_command.specs.declared.outputs.Refusal.{Refusal}
 use Rattle.yt_command.specs.declared.statuses.Status.{Status}
-use Rattle.yt_command.specs.declared.statuses.Status.TheVariants.{Ended, Stuck}
 use Rattle.yt_grammar.specs.Faults.{Wrong}
 use Rattle.yt_grammar.specs.Lines.{Spells, read}
 use Rattle.yt_grammar.specs.Sessions.{SessionData}

@@ -10,4 +10,4 @@ pub returns : goal.returns
 returns c =
     let s = session_of c.args.session in
     let steps = c.args.self.now.budget in
-    record { output = unviolated s (λ told. asked_over told (bound_ask s.relations (written_of c.args.self.now.query.now))) _ _ (serial_told steps s) steps steps c.over_base.ensures refl refl c.in_ok-violated.ensures c.in_default.is }
+    record { output = unviolated s (λ told. asked_over told (bound_ask s.relations (written_of c.args.self.now.query.now))) _ _ (serial_told steps s) steps c.over_base.ensures refl c.in_ok-violated.ensures c.in_default.is }
