@@ -3,7 +3,7 @@ use Rattle.std.specs.Prelude.{◌≡◌, ◌⊎◌, ℕ, List, Some, true, false
 use Rattle.std.specs.Io.KnownBytes.{Keeps}
 use Rattle.clap.specs.Words.{Text as Letters}
 use Rattle.yt_command.specs.Devices.{Change, no_input, TakesNothing, Tells}
-use Rattle.yt_command.specs.Outputs.{Meaning, OutputView, Text}
+use Rattle.yt_command.specs.Outputs.{Meaning, Text}
 use Rattle.yt_command.specs.Rows.{Row}
 use Rattle.yt_command.specs.Statuses.{line_of}
 use Rattle.yt_command.specs.declared.outputs.Ending.TheVariants.{Ended}
@@ -13,9 +13,8 @@ use Rattle.yt_command.specs.declared.statuses.Status.{Status}
 use Rattle.yt_command.specs.declared.statuses.Status.TheVariants.{Usage, OutOfMemory}
 use Rattle.yt_ask.specs.Written.{WrittenAsk, SpellsAsk}
 use Rattle.yt_commands.specs.Asked.{asked}
-use Rattle.yt_commands.specs.Commands.{of_session, formatted, upgraded_text, checked}
+use Rattle.yt_commands.specs.Commands.{on_session, formatted, upgraded_text, checked}
 use Rattle.yt_commands.specs.Runs.{ran, kept}
-use Rattle.yt_grammar.specs.Sessions.{SessionData}
 use Rattle.yt_words.specs.Alike.{text_of}
 use Rattle.yt_words.specs.Meaning.{Answers, is_refused}
 use Rattle.yt_words.specs.declared.help.TheConstants.{HELP, VERSION_LINE}
@@ -24,10 +23,6 @@ use Rattle.yt_words.specs.declared.names.CommandName.TheVariants.{Run, Serial, F
 use Rattle.yt_words.specs.declared.reading.Options.{Options}
 use Rattle.yt_words.specs.declared.reading.Request.{Request}
 use Rattle.yt_words.specs.declared.reading.Request.TheVariants.{Command, Help, Version}
-
--- a command on the session that an input spells
-abbrev pub on_session : (SessionData → OutputView) → Meaning
-on_session make input output = output ≡ of_session make input
 
 -- what tells a fixed text makes of any input
 abbrev pub telling : List ℕ → Meaning

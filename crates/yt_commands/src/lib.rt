@@ -14,7 +14,7 @@ mod runs;
 mod sessions;
 
 pub use crate::asking::Ask;
-pub use crate::laws::runs_write_what_holds;
+pub use crate::laws::{performed_runs_write_what_holds, runs_write_what_holds};
 pub use crate::reading::{OnSession, SessionCommand};
 pub use crate::runs::{Save, Serial};
 pub use crate::sessions::{Check, Format, Upgrade};
