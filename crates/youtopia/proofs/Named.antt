@@ -1,10 +1,8 @@
 -- What the command that the options name does, with a known budget, is what the options ask for.
 use Rattle.std.proofs.Common.{◌≡◌, ℕ, sym, subst}
-use Rattle.yt_ask.specs.Written.{WrittenAsk}
 use Rattle.yt_command.specs.Devices.{Change}
 use Rattle.yt_command.specs.Rows.{Row}
 use Rattle.yt_command.specs.declared.statuses.Status.{Status}
-use Rattle.yt_commands.specs.Asked.{asked}
 use Rattle.yt_commands.specs.Runs.{kept}
 use Rattle.yt_words.specs.declared.names.CommandName.{CommandName}
 use Rattle.yt_words.specs.declared.names.CommandName.TheVariants.{Save}
@@ -15,6 +13,3 @@ pub saves : (options : Options) (status : Status) (n : ℕ) (source out err : Ch
 saves options status n source out err named budget row =
     subst (λ (k : CommandName). Does k options status source out err) (sym named)
     (subst (λ (m : ℕ). Row status (on_session (kept m)) source out err) budget row)
-
-pub asks : (status : Status) (n steps : ℕ) (q : WrittenAsk) (source out err : Change) → n ≡ steps → Row status (on_session (asked n q)) source out err → Row status (on_session (asked steps q)) source out err
-asks status n steps q source out err budget row = subst (λ (m : ℕ). Row status (on_session (asked m q)) source out err) budget row
