@@ -9,11 +9,12 @@ use Rattle.yt_command.specs.declared.failures.Failure.TheVariants as failures
 use Rattle.yt_command.specs.declared.statuses.Status.{Status}
 use Rattle.yt_command.specs.declared.statuses.Status.TheVariants.{Usage, OutOfMemory}
 use Rattle.yt_commands.specs.Asked.{asked}
+use Rattle.yt_commands.specs.Commands.{on_session}
 use Rattle.yt_words.specs.Alike.{text_of}
 use Rattle.yt_words.specs.declared.names.CommandName.TheVariants.{Ask}
 use Rattle.yt_words.specs.declared.reading.Options.{Options}
 use Rattle.youtopia.proofs.Rows.{row_of_more, unread}
-use Rattle.youtopia.specs.Calls.{AsksFor, Does, LacksQuery, Unread, makes, on_session}
+use Rattle.youtopia.specs.Calls.{AsksFor, Does, LacksQuery, Unread, makes}
 
 one_text : (t u : Letters) → Some t ≡ Some u → t ≡ u
 one_text t u is = cc

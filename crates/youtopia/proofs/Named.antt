@@ -7,7 +7,8 @@ use Rattle.yt_commands.specs.Runs.{kept}
 use Rattle.yt_words.specs.declared.names.CommandName.{CommandName}
 use Rattle.yt_words.specs.declared.names.CommandName.TheVariants.{Save}
 use Rattle.yt_words.specs.declared.reading.Options.{Options}
-use Rattle.youtopia.specs.Calls.{Does, on_session}
+use Rattle.yt_commands.specs.Commands.{on_session}
+use Rattle.youtopia.specs.Calls.{Does}
 
 pub saves : (options : Options) (status : Status) (n : ℕ) (source out err : Change) → options.command ≡ Save → n ≡ options.steps → Row status (on_session (kept n)) source out err → Does options.command options status source out err
 saves options status n source out err named budget row =
