@@ -1,5 +1,5 @@
 -- What one call promises, by what it does.
-use Rattle.std.proofs.Common.{◌≡◌, ◌≤◌, ◌⊎◌, ◌∙◌, ℕ, List, Option, Some, None, Result, Ok, Err, refl, inl, inr, ap, sym, subst, true, false, Bool}
+use Rattle.std.proofs.Common.{◌≡◌, ◌≤◌, ◌⊎◌, ◌∙◌, ℕ, List, Option, Some, None, Result, Ok, Err, refl, inl, inr, ap, sym, subst, true, false, Bool, if◌then◌else◌}
 use Rattle.clap.specs.Words.{Text as Letters}
 use Rattle.yt_ask.specs.Written.{WrittenAsk, SpellsAsk, ask_at}
 use Rattle.yt_ask.specs.Bound.{bound_ask}
@@ -11,8 +11,8 @@ use Rattle.yt_command.specs.Statuses.{status_of, status_of_ending}
 use Rattle.yt_command.specs.declared.statuses.Status.{Status}
 use Rattle.yt_command.specs.declared.statuses.Status.TheVariants.{Ended, Stuck, Usage, OutOfMemory, TooLarge, QueryRefused}
 use Rattle.yt_commands.specs.Asked.{asked, asked_of, asked_over}
-use Rattle.yt_commands.specs.Commands.{of_read, on_session, formatted, upgraded_text, checked, count_line, unless_violated}
-use Rattle.yt_commands.specs.Runs.{ending_by, kept, ran, result_output, saved_output}
+use Rattle.yt_commands.specs.Commands.{of_read, of_session, on_session, formatted, upgraded_text, checked, unless_violated}
+use Rattle.yt_commands.specs.Runs.{ending_by, kept, ran, saved_output}
 use Rattle.yt_commands.specs.Written.{HasWritten, WroteWhatHolds}
 use Rattle.yt_grammar.specs.Faults.{Kind}
 use Rattle.yt_grammar.specs.Lines.{Spells}
@@ -69,8 +69,8 @@ one_some x y is = cc
 
 one_query : (t : List ℕ) (p q : WrittenAsk) → SpellsAsk t p → SpellsAsk t q → p ≡ q
 one_query t p q a b =
-    let words : a.words ≡ b.words = one_ok {E = _} a.words b.words (sym a.spoken ∙ b.spoken) in
-    one_ok {E = _} p q (sym a.read ∙ (ap ask_at words ∙ b.read))
+    let words : a.words ≡ b.words = one_ok a.words b.words (sym a.spoken ∙ b.spoken) in
+    one_ok p q (sym a.read ∙ (ap ask_at words ∙ b.read))
 
 one_asked : (options : Options) (p q : WrittenAsk) → AsksFor options p → AsksFor options q → p ≡ q
 one_asked options p q a b =
@@ -146,9 +146,12 @@ one_of_three : (stop : Option StopTold) (status : Status) → (status_of_ending 
 one_of_three None status = inl refl
 one_of_three (Some stop) status = inr (inl refl)
 
-kept_ends : (s : SessionData) (told : ResultTold) (large : Bool) → is_too_large (saved s told) ≡ large → MayEnd Save (status_of (saved_output s told))
-kept_ends s told true is = subst (MayEnd Save) (sym (ap (λ (b : Bool). status_of (if b then Refused failures.TooLarge too_large_line else Text (ending_by told.stop) (printed (saved s told)))) is)) (inr (inr refl))
-kept_ends s told false is = subst (MayEnd Save) (sym (ap (λ (b : Bool). status_of (if b then Refused failures.TooLarge too_large_line else Text (ending_by told.stop) (printed (saved s told)))) is)) (one_of_three told.stop TooLarge)
+either_ends : (large : Bool) (x y : OutputView) → MayEnd Save (status_of x) → MayEnd Save (status_of y) → MayEnd Save (status_of (if large then x else y))
+either_ends true x y one other = one
+either_ends false x y one other = other
+
+kept_ends : (s : SessionData) (told : ResultTold) → MayEnd Save (status_of (saved_output s told))
+kept_ends s told = either_ends (is_too_large (saved s told)) _ _ (inr (inr refl)) (one_of_three told.stop TooLarge)
 
 asked_ends : (told : ResultTold) (q : Result ConjunctiveQuery Kind) → MayEnd Ask (status_of (asked_over told q))
 asked_ends told (Ok q) = one_of_three told.stop QueryRefused
@@ -169,7 +172,7 @@ of_one make input s spelled = sym (ap (of_read make) spelled)
 served : (k : CommandName) (o : Options) (input : List ℕ) (s : SessionData) → HasQuery k o → Spells input s → base_violation s ≡ None → Served k o input
 served Run o input s has spelled met = (ran o.steps s, of_one (ran o.steps) input s spelled, met_ends Run s _ met (ends_or_stops (serial_told o.steps s).stop))
 served Serial o input s has spelled met = (ran o.steps s, of_one (ran o.steps) input s spelled, met_ends Serial s _ met (ends_or_stops (serial_told o.steps s).stop))
-served Save o input s has spelled met = (kept o.steps s, of_one (kept o.steps) input s spelled, met_ends Save s _ met (kept_ends s (serial_told o.steps s) _ refl))
+served Save o input s has spelled met = (kept o.steps s, of_one (kept o.steps) input s spelled, met_ends Save s _ met (kept_ends s (serial_told o.steps s)))
 served Ask o input s has spelled met =
     (asked o.steps has.0 s, (has.0, has.1, of_one (asked o.steps has.0) input s spelled), met_ends Ask s _ met (asked_ends (serial_told o.steps s) (bound_ask s.relations has.0)))
 served Format o input s has spelled met = (formatted s, of_one formatted input s spelled, refl)
@@ -180,7 +183,7 @@ pub serves : (words : List Letters) (status : Status) (source out : Change) → 
 serves words status source out completes = λ options input s asks has spelled met fine.
     let one = served options.command options input s has spelled met in
     elim (completes (Command options) input one.0 asks one.1 fine) [
-      | inl is ↦ inl (subst (MayEnd options.command) (sym is) one.2)
+      | inl is ↦ inl (subst (λ (t : Status). MayEnd options.command t) (sym is) one.2)
       | inr wanting ↦ inr wanting
     ]
 
@@ -200,7 +203,7 @@ done_holds : Held → (words : List Letters) (o : Options) (status : Status) (so
     → (other : Request) → AskTheSame (Command o) other → Answers words other → Performs other status source out err → WroteWhatHolds o.steps source out
 done_holds held words o status source out err run written (Command p) same says did =
     subst (λ (n : ℕ). WroteWhatHolds n source out) (sym same.steps)
-    (run_holds held p.command p status source out err says.steps.1 says.steps.2 (subst IsRun same.command run) written did)
+    (run_holds held p.command p status source out err says.steps.1 says.steps.2 (subst (λ (k : CommandName). IsRun k) same.command run) written did)
 done_holds held words o status source out err run written Help same says did = absurd same
 done_holds held words o status source out err run written Version same says did = absurd same
 
