@@ -3,7 +3,6 @@ ghost use Rattle.std.specs.Prelude.{◌≤◌, IfNone, IfOk, IfSome, map, string
 ghost use Rattle.yt_ask.specs.Bound.{written_of};
 ghost use Rattle.yt_command.specs.Devices.{change};
 ghost use Rattle.yt_words.specs.Meaning.{HasBudget};
-ghost use Rattle.yt_words.specs.declared.names.CommandName.TheVariants.{Ask as AskNamed};
 ghost use Rattle.youtopia.specs.Calls.{AsksFor, Calls, Does, LacksQuery, Performs};
 ghost use Rattle.youtopia.specs.Promises.{Completes, LeavesWhatHolds, Serves};
 
@@ -42,24 +41,23 @@ fn ask_query<S: Source, O: Sink, E: Sink>(
 ) -> Status
     requires some { 1 ≤ options.now.steps }
     requires most { options.now.steps ≤ 300 }
-    ensures asks { Does AskNamed options.now result
+    ensures asks { Does CommandName.Ask options.now result
         (change S.left S.fault_count source.old source.new)
         (change O.taken O.fault_count out.old out.new)
         (change E.taken E.fault_count err.old err.new) }
 {
-    let found = match query_of(alloc, options) {
-        Ok(found) => found,
-        Err(_) => return fail(Failure::OutOfMemory, err),
-    };
-    let Some(query) = found else {
-        return fail(Failure::Usage, err);
-    };
-    let allowed = Budget::new(options.steps);
-    let command = OnSession(Ask {
-        budget: allowed,
-        query: &query,
-    });
-    perform(alloc, &command, source, out, err)
+    let budget = Budget::new(options.steps);
+    match query_of(alloc, options) {
+        Ok(Some(query)) => {
+            let command = Ask {
+                budget,
+                query: &query,
+            };
+            perform(alloc, &OnSession(command), source, out, err)
+        }
+        Ok(None) => fail(Failure::Usage, err),
+        Err(_) => fail(Failure::OutOfMemory, err),
+    }
 }
 
 // Does the command between the devices.
