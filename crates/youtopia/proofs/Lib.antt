@@ -1,3 +1,5 @@
 mod Asking
+mod Due
 mod Named
+mod Promised
 mod Rows
