@@ -46,11 +46,10 @@ fn ask_query<S: Source, O: Sink, E: Sink>(
         (change O.taken O.fault_count out.old out.new)
         (change E.taken E.fault_count err.old err.new) }
 {
-    let budget = Budget::new(options.steps);
     match query_of(alloc, options) {
         Ok(Some(query)) => {
             let command = Ask {
-                budget,
+                budget: Budget::new(options.steps),
                 query: &query,
             };
             perform(alloc, &OnSession(command), source, out, err)
