@@ -11,7 +11,9 @@ use std::alloc::Global;
 use yt_ask::{RawAsk, parse_ask};
 use yt_base::Memory;
 use yt_command::{Failure, Status, fail, perform, perform_alone};
-use yt_commands::{Ask, Check, Format, OnSession, Save, Serial, Upgrade, performed_runs_write_what_holds};
+use yt_commands::{
+    Ask, Check, Format, OnSession, Save, Serial, Upgrade, performed_runs_write_what_holds,
+};
 use yt_limits::Budget;
 use yt_text::{Sink, Source};
 use yt_words::{

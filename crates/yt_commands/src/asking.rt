@@ -83,12 +83,7 @@ fn unknown_line(alloc: Global, name: &Name) -> Result<Vec<u8>, Memory>
 }
 
 // That the relation has other columns, in words.
-fn arity_words(
-    alloc: Global,
-    name: &Name,
-    expected: u16,
-    found: u64,
-) -> Result<Vec<u8>, Memory>
+fn arity_words(alloc: Global, name: &Name, expected: u16, found: u64) -> Result<Vec<u8>, Memory>
     ensures { IfOk result
         (λ words. words.items ≡ kind_text (Arity name.now.items expected found)) }
 {

@@ -43,17 +43,17 @@ one_kind c d e = held c d (sym (kind_names_itself c) ∙ (ap kind_named e ∙ ki
 
 alike : (ws : List Text) (p q : Options) → Says ws p → Says ws q → AreAlike p q
 alike ws p q a b = record {
-    command = one_command _ _ (held _ _ (sym a.command ∙ b.command));
-    deps = one_kind _ _ (held _ _ (sym a.deps ∙ b.deps));
-    workers = a.workers.0 ∙ sym b.workers.0;
-    steps = a.steps.0 ∙ sym b.steps.0;
-    retries = a.retries.0 ∙ sym b.retries.0;
-    count = a.count.0 ∙ sym b.count.0;
-    seed = a.seed.0 ∙ sym b.seed.0;
-    tuple = a.tuple ∙ sym b.tuple;
-    query = a.query ∙ sym b.query;
-    trace = a.trace ∙ sym b.trace;
-  }
+  command = one_command _ _ (held _ _ (sym a.command ∙ b.command));
+  deps = one_kind _ _ (held _ _ (sym a.deps ∙ b.deps));
+  workers = a.workers.0 ∙ sym b.workers.0;
+  steps = a.steps.0 ∙ sym b.steps.0;
+  retries = a.retries.0 ∙ sym b.retries.0;
+  count = a.count.0 ∙ sym b.count.0;
+  seed = a.seed.0 ∙ sym b.seed.0;
+  tuple = a.tuple ∙ sym b.tuple;
+  query = a.query ∙ sym b.query;
+  trace = a.trace ∙ sym b.trace;
+}
 
 none_some : (k : ErrorKind) (ks : Kinds) → ks ≡ [] → ks ≡ k ∷ [] → ⊥
 none_some k ks none some = cc
