@@ -2,4 +2,3 @@ mod Asking
 mod Due
 mod Named
 mod Promised
-mod Rows

@@ -51,7 +51,7 @@ abbrev Done : Request → List Letters → Status → Change → Change → Chan
 Done request words status source out err = (other : Request) × AskTheSame request other × Answers words other × Performs other status source out err
 
 not_both : (b : Bool) → b ≡ true → b ≡ false → ⊥
-not_both b yes no = cc
+not_both b is_true is_false = cc
 
 done : NeverBoth → OneThing → (words : List Letters) (status : Status) (source out err : Change) (request : Request) → Answers words request
     → Calls words status source out err → (status ≡ OutOfMemory) ⊎ Done request words status source out err
