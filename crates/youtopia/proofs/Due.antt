@@ -1,9 +1,9 @@
 -- Where nothing fails, the row of a status that a call has is that of the status which is due.
-use Rattle.std.proofs.Common.{◌≡◌, ◌≤◌, ◌<◌, ◌⊎◌, ◌++◌, ◌∙◌, ℕ, List, Option, None, Some, length, inl, inr, refl, sym, ap, subst, append-nil, arith}
+use Rattle.std.proofs.Common.{◌≡◌, ◌≤◌, ◌<◌, ◌++◌, ◌∙◌, ℕ, List, Option, None, Some, length, inl, inr, refl, sym, ap, subst, append-nil, arith}
 use Rattle.std.proofs.lemmas.List.{length-append}
 use Rattle.std.specs.Io.KnownBytes.{Consumes, IsAtEnd}
 use Rattle.yt_command.specs.Completeness.{IsComplete}
-use Rattle.yt_command.specs.Devices.{Change, Fails, Gives, GivesAll}
+use Rattle.yt_command.specs.Devices.{Change, Gives}
 use Rattle.yt_command.specs.Outputs.{Meaning, OutputView, Text, Refused}
 use Rattle.yt_command.specs.Rows.{Row, Ends, Refuses}
 use Rattle.yt_command.specs.Statuses.{status_of, status_of_ending, status_of_refusal}

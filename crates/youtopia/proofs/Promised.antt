@@ -5,19 +5,18 @@ use Rattle.yt_ask.specs.Written.{WrittenAsk, SpellsAsk, ask_at}
 use Rattle.yt_ask.specs.Bound.{bound_ask}
 use Rattle.yt_certain.specs.Certain.{ConjunctiveQuery}
 use Rattle.yt_command.specs.Devices.{Change, no_input}
-use Rattle.yt_command.specs.Outputs.{OutputView, Text}
+use Rattle.yt_command.specs.Outputs.{OutputView}
 use Rattle.yt_command.specs.Rows.{Row}
 use Rattle.yt_command.specs.Statuses.{status_of, status_of_ending}
 use Rattle.yt_command.specs.declared.statuses.Status.{Status}
-use Rattle.yt_command.specs.declared.statuses.Status.TheVariants.{Ended, Stuck, Usage, OutOfMemory, TooLarge, QueryRefused}
-use Rattle.yt_commands.specs.Asked.{asked, asked_of, asked_over}
+use Rattle.yt_command.specs.declared.statuses.Status.TheVariants.{Ended, Stuck, OutOfMemory, TooLarge, QueryRefused}
+use Rattle.yt_commands.specs.Asked.{asked, asked_over}
 use Rattle.yt_commands.specs.Commands.{of_read, of_session, on_session, formatted, upgraded_text, checked, unless_violated}
 use Rattle.yt_commands.specs.Runs.{ending_by, kept, ran, saved_output}
 use Rattle.yt_commands.specs.Written.{HasWritten, WroteWhatHolds}
 use Rattle.yt_grammar.specs.Faults.{Kind}
 use Rattle.yt_grammar.specs.Lines.{Spells}
 use Rattle.yt_grammar.specs.Sessions.{SessionData}
-use Rattle.yt_grammar.specs.Words.{Word, words_at}
 use Rattle.yt_program.specs.Results.{ResultTold, StopTold}
 use Rattle.yt_report.specs.Results.{serial_told}
 use Rattle.yt_report.specs.Saved.{is_too_large, saved}
@@ -30,7 +29,7 @@ use Rattle.yt_words.specs.declared.reading.Options.{Options}
 use Rattle.yt_words.specs.declared.reading.Request.{Request}
 use Rattle.yt_words.specs.declared.reading.Request.TheVariants.{Command, Help, Version}
 use Rattle.youtopia.proofs.Due.{complete}
-use Rattle.youtopia.specs.Calls.{AsksFor, Calls, Does, LacksQuery, Performs, makes, telling}
+use Rattle.youtopia.specs.Calls.{AsksFor, Calls, Does, Performs, makes, telling}
 use Rattle.youtopia.specs.Promises.{Completes, HasQuery, IsRun, LeavesWhatHolds, MayEnd, NothingFails, Serves, due, read_by}
 
 -- The laws that are used: words that are answered are not refused, and ask for one thing; and what was performed holds.
