@@ -27,17 +27,13 @@ use Rattle.yt_desk.specs.declared.tickets.Next.TheVariants as next
 use Rattle.yt_desk.specs.declared.tickets.Finished.TheVariants.{Stepped, Stale}
 use Rattle.yt_desk.specs.Shared.{Items, Shared, record_over, marks_of, items_of, now_at, opening_items, IsShared}
 use Rattle.yt_desk.specs.Flights.{left_of}
-use Rattle.yt_desk.specs.Marks.{made_of}
+use Rattle.yt_desk.specs.Marks.{made_of, shared}
 use Rattle.yt_desk.specs.Turns.{least}
 use Rattle.yt_desk.specs.Cores.{lowest_idle, lowest_waiting, IsDelivery, IsStep, HoldsSince}
 use Rattle.yt_desk.specs.Tickets.{ticket_for, IsOutFor, IsPlanFor, HasNext, HasFinished, HasStepped, HasGivenBack}
 use Rattle.yt_desk.proofs.Joining.{more}
 use Rattle.yt_desk.proofs.Flights.{flight_is}
 use Rattle.yt_desk.proofs.Growing.{here, gives, delivers, waits_for, gives_back, steps, adds_none, stands_for, told_history}
-
--- what lies behind the lock, by the fields of a board
-abbrev pub shared : Ground → List PlainEntry → ℕ → List Marked → List ℕ → ℕ → Shared
-shared g H k ms busy n = record { over = g; history = H; opened = k; marks = map made_of ms; busy = busy; given = n }
 
 -- with further marks
 pub shared_more : (g g' : Ground) (H H' : List PlainEntry) (k : ℕ) (ms ms' ns : List Marked) (busy busy' : List ℕ) (n n' : ℕ) → g' ≡ g → ms' ≡ ms ++ ns

@@ -10,7 +10,7 @@ use Rattle.yt_record.specs.Items.{entries_in}
 use Rattle.yt_record.specs.Records.{Now}
 use Rattle.yt_record.specs.Results.{EndsWithResult}
 use Rattle.yt_history.specs.Admissible.{IsAdmissible}
-use Rattle.yt_history.specs.Cores.{Ground, machine, session_over, entries_over, updates_after}
+use Rattle.yt_history.specs.Cores.{Ground, machine, session_over, entries_over, updates_after, IsLegalOver}
 use Rattle.yt_history.specs.PlainEntries.{PlainEntry}
 use Rattle.yt_desk.specs.declared.desk.Desk.{Desk}
 use Rattle.yt_desk.specs.Shared.{Items, StandsAt, opening_items}
@@ -41,3 +41,13 @@ pub record IsWhole (g : Ground) (H : List PlainEntry) : Type 0 where
 -- The entries K are a legal history that begins with H, goes on by steps and deliveries alone and ends quiet, and tell the serial machine's result on the session; every mapping in force holds in what they leave, and outer forms tell its tuples apart.
 abbrev pub Ends : Ground → List PlainEntry → List PlainEntry → Type 0
 Ends g H K = EndsWithResult g.rules g.budget g.settings (session_over g) (entries_over g H) (entries_over g K)
+
+module _ {C : Type 0} (over : C → Ground) (history : C → List PlainEntry) where
+  -- A desk opened over the one core ends with the other.
+  abbrev pub Closes : C → C → List DeskSeat → Type 0
+  Closes opened closed seats = HasClosed (over opened) (history opened) (history closed) seats
+
+  -- If the whole session was admitted before, and each seat is at rest, it ends as the serial machine does.
+  abbrev pub ClosesSerially : C → C → List DeskSeat → Type 0
+  ClosesSerially opened closed seats =
+      IsLegalOver (over opened) (history opened) → IsWhole (over opened) (history opened) → AllResting seats → Ends (over opened) (history opened) (history closed)

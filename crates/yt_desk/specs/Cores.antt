@@ -39,3 +39,24 @@ pub record HoldsSince (holds : Ground → List PlainEntry → ℕ → Type 0) (g
   pub stamped : n ≤ length H
   pub then : holds g (take n H) u
   pub spared : AllSpare {M = machine g} u (drop n (entries_over g H))
+
+-- What holds since then holds of the update now.
+abbrev pub StaysSince : (Ground → List PlainEntry → ℕ → Type 0) → Ground → List PlainEntry → ℕ → Type 0
+StaysSince holds g H n = (u : ℕ) → HoldsSince holds g H n u → holds g H u
+
+-- The plan is the step of every update, at every state, for which the snapshot stands.
+abbrev pub IsPlanOf : {S P : Type 0} → (S → Ground → List PlainEntry → ℕ → Type 0) → (P → Ground → List PlainEntry → ℕ → Type 0) → S → P → Type 0
+IsPlanOf snapshot_holds plan_holds s p = (g : Ground) (H : List PlainEntry) (u : ℕ) → snapshot_holds s g H u → plan_holds p g H u
+
+module _ {C : Type 0} (over : C → Ground) (history : C → List PlainEntry) where
+  -- From one core to the other a delivery was made to the update.
+  abbrev pub HasDelivered : C → C → ℕ → Type 0
+  HasDelivered old new u = IsDelivery (over old) (history old) u (history new)
+
+  -- From one core to the other the step of the update was made for which this holds.
+  abbrev pub HasStep : C → C → (Ground → List PlainEntry → ℕ → Type 0) → Type 0
+  HasStep old new holds = (u : ℕ) → holds (over old) (history old) u → IsStep (over old) (history old) u (history new)
+
+  -- Where the core has so many entries more, what held of an update then holds of it still.
+  abbrev pub HasStayed : C → (Ground → List PlainEntry → ℕ → Type 0) → ℕ → Type 0
+  HasStayed c holds n = StaysSince holds (over c) (history c) n

@@ -5,4 +5,5 @@ pub mod Turns
 pub mod Cores
 pub mod Tickets
 pub mod Seats
+pub mod Calls
 pub mod Closing

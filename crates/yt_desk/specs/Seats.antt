@@ -31,6 +31,10 @@ first_over (i ∷ is) = over_in i.entry
 abbrev pub IsResting : DeskSeat → Type 0
 IsResting s = (g : Ground) × (first_over (seen_of s) ≡ Some g) × SeesRest (machine g) (record_over g (seen_of s))
 
+-- The items of a desk that was just opened over the core.
+abbrev pub opening_by : {C : Type 0} → (C → Ground) → (C → List PlainEntry) → C → Items
+opening_by over history core = opening_items (over core) (history core)
+
 module _ {C S P : Type 0} where
   -- which lock the desk's seats are of
   abbrev pub desk_lock : Desk C S P → TableId
@@ -45,4 +49,4 @@ module _ {C S P : Type 0} where
     pub lock : lock_of s ≡ desk_lock d
     pub rest : IsAtRest s
     pub later : Items
-    pub saw : opening_items (over (core_of d)) (history (core_of d)) ++ later ≡ seen_of s
+    pub saw : opening_by over history (core_of d) ++ later ≡ seen_of s

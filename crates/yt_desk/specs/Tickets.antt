@@ -9,13 +9,15 @@ use Rattle.yt_record.specs.Answers as answers
 use Rattle.yt_record.specs.Calls.{next_items, back_items, step_items}
 use Rattle.yt_history.specs.Cores.{Ground, machine}
 use Rattle.yt_history.specs.PlainEntries.{PlainEntry}
+use Rattle.yt_memory.specs.declared.Memory.{Memory}
 use Rattle.yt_desk.specs.declared.tickets.Ticket.{Ticket}
 use Rattle.yt_desk.specs.declared.tickets.Next.{Next}
 use Rattle.yt_desk.specs.declared.tickets.Next.TheVariants as next
 use Rattle.yt_desk.specs.declared.tickets.Finished.{Finished}
 use Rattle.yt_desk.specs.declared.tickets.Finished.TheVariants.{Stepped, Stale}
-use Rattle.yt_desk.specs.Shared.{Items, StandsAt}
+use Rattle.yt_desk.specs.Shared.{Items, Shared, StandsAt, items_of}
 use Rattle.yt_desk.specs.Turns.{Adds}
+use Rattle.yt_desk.specs.Cores.{IsPlanOf}
 
 -- Stale exactly where an entry past the stamp is in question, with the first such; else the step is the last entry.
 abbrev pub IsFinish : Option ℕ → Items → Finished → Type 0
@@ -37,7 +39,7 @@ module _ {S : Type 0} where
 
   -- The plan is the step that the ticket's snapshot tells.
   abbrev pub IsPlanFor : {P : Type 0} → (S → Ground → List PlainEntry → ℕ → Type 0) → (P → Ground → List PlainEntry → ℕ → Type 0) → Ticket S → P → Type 0
-  IsPlanFor snapshot_holds plan_holds t p = (g : Ground) (H : List PlainEntry) (u : ℕ) → snapshot_holds t.snapshot g H u → plan_holds p g H u
+  IsPlanFor snapshot_holds plan_holds t p = IsPlanOf snapshot_holds plan_holds t.snapshot p
 
   -- ---- next
 
@@ -95,3 +97,28 @@ module _ {S : Type 0} where
   pub record HasGivenBack (j : ℕ) (g : Ground) (t : Ticket S) (ys xs : Items) : Type 0 where
     pub now : Now (machine g)
     pub adds : Adds j g xs ys now (back_items (ticket_for j t))
+
+  -- ---- the same over what the seats share
+
+  -- The ticket is out for the seat j.
+  abbrev pub IsOutOn : (S → Ground → List PlainEntry → ℕ → Type 0) → Shared → ℕ → Ticket S → Type 0
+  IsOutOn holds b j t = IsOutFor holds b.over (items_of b) j t
+
+  -- `next` of the seat j.
+  abbrev pub NextOn : {E : Type 0} → ℕ → Shared → Shared → Result (Next (Ticket S)) E → Type 0
+  NextOn j b b' r = HasNext j b.over r (items_of b') (items_of b)
+
+  -- `next` of whatever seat, where it adds nothing.
+  abbrev pub WaitsOn : Shared → Next (Ticket S) → Type 0
+  WaitsOn b a = (j : ℕ) → NextOn {E = Memory} j b b (Ok a)
+
+  -- A step, and `finish`, of the seat j with the ticket.
+  abbrev pub StepOn : {E : Type 0} → ℕ → Shared → Shared → Ticket S → Result ℕ E → Type 0
+  StepOn j b b' t r = HasStepped j b.over t r (items_of b') (items_of b)
+
+  abbrev pub FinishOn : {E : Type 0} → (Ground → List PlainEntry → ℕ → Option ℕ) → ℕ → Shared → Shared → Ticket S → Result Finished E → Type 0
+  FinishOn question j b b' t r = HasFinished (λ H. question b.over H t.stamp) j b.over t r (items_of b') (items_of b)
+
+  -- `give_back` of the seat j with the ticket.
+  abbrev pub BackOn : ℕ → Shared → Shared → Ticket S → Type 0
+  BackOn j b b' t = HasGivenBack j b.over t (items_of b') (items_of b)

@@ -17,8 +17,9 @@ impl<C: Core> Bench for Desk<C> {
     ghost use Rattle.yt_history.specs.Cores.{Ground};
     ghost use Rattle.yt_history.specs.PlainEntries.{PlainEntry};
     ghost use Rattle.yt_desk.specs.Turns.{gifts, returns};
-    ghost use Rattle.yt_desk.specs.Seats.{core_of, IsSeatOf, IsResting};
-    ghost use Rattle.yt_desk.specs.Tickets.{IsOutFor, IsPlanFor};
+    ghost use Rattle.yt_desk.specs.Seats.{IsSeatOf, IsResting};
+    ghost use Rattle.yt_desk.specs.Calls.{IsOutAt};
+    ghost use Rattle.yt_desk.specs.Tickets.{IsPlanFor};
 
     type Seat = Seat<Board<C>>;
 
@@ -42,7 +43,7 @@ impl<C: Core> Bench for Desk<C> {
 
     ghost spent = { λ s. sum_made_by returns (number_of s) (seen_of s) };
 
-    ghost is_out = { λ d s t. IsOutFor C.is_snapshot (C.over (core_of d)) (seen_of s) (number_of s) t };
+    ghost is_out = { IsOutAt C.over C.is_snapshot };
 
     ghost is_plan = { IsPlanFor C.is_snapshot C.is_plan };
 

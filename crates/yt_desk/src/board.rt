@@ -1,6 +1,5 @@
 //! What lies behind a desk's lock.
-ghost use Rattle.std.specs.Prelude.{◌≡◌, ℕ, Some, None, Ok, IfOk, IfErr};
-ghost use Rattle.yt_memory.specs.declared.Memory.{Memory as Refusal};
+ghost use Rattle.std.specs.Prelude.{◌≡◌, ℕ, Some, None, IfOk, IfErr};
 ghost use Rattle.yt_desk.specs.Turns.{least};
 ghost use Rattle.yt_desk.specs.Flights.{left_of};
 
@@ -58,15 +57,15 @@ pub struct Board<C: Core> {
 }
 
 impl<C: Core> Model for Board<C> {
-    ghost use Rattle.std.specs.Prelude.{◌+◌, ◌≤◌, map, vec_len, vec_capacity};
+    ghost use Rattle.std.specs.Prelude.{◌+◌, ◌≤◌, vec_len, vec_capacity};
     ghost use Rattle.yt_desk.specs.Shared.{Shared, IsShared};
-    ghost use Rattle.yt_desk.specs.Marks.{made_of};
+    ghost use Rattle.yt_desk.specs.Marks.{shared};
 
     ghost Value = { Shared };
 
-    ghost view = { λ b. record { over = C.over b.core; history = C.history b.core; opened = b.opened; marks = map made_of b.marks.items; busy = b.busy.items; given = b.given } };
+    ghost view = { λ b. shared (C.over b.core) (C.history b.core) b.opened b.marks.items b.busy.items b.given };
 
-    ghost invariant = { λ b. IsShared (record { over = C.over b.core; history = C.history b.core; opened = b.opened; marks = map made_of b.marks.items; busy = b.busy.items; given = b.given }) × (vec_len b.marks + vec_len b.busy ≤ vec_capacity b.marks) };
+    ghost invariant = { λ b. IsShared (shared (C.over b.core) (C.history b.core) b.opened b.marks.items b.busy.items b.given) × (vec_len b.marks + vec_len b.busy ≤ vec_capacity b.marks) };
 }
 
 impl<C: Core> Grows for Board<C> {
@@ -82,15 +81,18 @@ impl<C: Core> Grows for Board<C> {
 }
 
 impl<C: Core> Board<C> {
+    ghost use Rattle.yt_history.specs.Cores.{IsLegalOver};
     ghost use Rattle.yt_desk.specs.Shared.{items_of, opening_items, IsShared};
     ghost use Rattle.yt_desk.specs.Cores.{lowest_idle, lowest_waiting};
-    ghost use Rattle.yt_desk.specs.Tickets.{IsOutFor, IsPlanFor, IfGiven, HasNext, HasFinished, HasStepped, HasGivenBack};
+    ghost use Rattle.yt_desk.specs.Tickets.{IsPlanFor, IfGiven, IsOutOn, NextOn, WaitsOn, StepOn};
+    ghost use Rattle.yt_desk.specs.Tickets.{FinishOn, BackOn};
 
     /// A board over the core, with no ticket given. It takes no memory.
     pub(crate) fn new(alloc: Global, core: C) -> Board<C>
         ensures over { result.over ≡ C.over core }
         ensures history { result.history ≡ C.history core }
         ensures items { items_of result ≡ opening_items (C.over core) (C.history core) }
+        ensures legal { IsLegalOver (C.over core) (C.history core) }
     {
         Board {
             opened: core.length(),
@@ -131,8 +133,8 @@ impl<C: Core> Board<C> {
         seat: u64,
     ) -> Result<Next<Ticket<C::Snapshot>>, Memory>
         ensures over { self.new.over ≡ self.old.over }
-        ensures next { HasNext seat self.old.over result (items_of self.new) (items_of self.old) }
-        ensures ticket { IfOk result (IfGiven (IsOutFor C.is_snapshot self.new.over (items_of self.new) seat)) }
+        ensures next { NextOn seat self.old self.new result }
+        ensures ticket { IfOk result (IfGiven (IsOutOn C.is_snapshot self.new seat)) }
     {
         if let Some(update) = self.core.lowest_idle(self.busy.as_slice()) {
             return self.give(alloc, seat, update);
@@ -152,8 +154,8 @@ impl<C: Core> Board<C> {
     ) -> Result<Next<Ticket<C::Snapshot>>, Memory>
         requires idle { lowest_idle self.old.over self.old.history self.old.busy ≡ Some update }
         ensures over { self.new.over ≡ self.old.over }
-        ensures next { HasNext seat self.old.over result (items_of self.new) (items_of self.old) }
-        ensures ticket { IfOk result (IfGiven (IsOutFor C.is_snapshot self.new.over (items_of self.new) seat)) }
+        ensures next { NextOn seat self.old self.new result }
+        ensures ticket { IfOk result (IfGiven (IsOutOn C.is_snapshot self.new seat)) }
     {
         self.marks.reserve(self.busy.len() + 2)?;
         self.busy.reserve(1)?;
@@ -184,8 +186,8 @@ impl<C: Core> Board<C> {
         requires none { lowest_idle self.old.over self.old.history self.old.busy ≡ None }
         requires waiting { lowest_waiting self.old.over self.old.history ≡ Some update }
         ensures over { self.new.over ≡ self.old.over }
-        ensures next { HasNext seat self.old.over result (items_of self.new) (items_of self.old) }
-        ensures ticket { IfOk result (IfGiven (IsOutFor C.is_snapshot self.new.over (items_of self.new) seat)) }
+        ensures next { NextOn seat self.old self.new result }
+        ensures ticket { IfOk result (IfGiven (IsOutOn C.is_snapshot self.new seat)) }
     {
         self.marks.reserve(self.busy.len() + 1)?;
         self.core.deliver(alloc, update)?;
@@ -200,8 +202,8 @@ impl<C: Core> Board<C> {
     fn wait(&self) -> Next<Ticket<C::Snapshot>>
         requires none { lowest_idle self.now.over self.now.history self.now.busy ≡ None }
         requires quiet { lowest_waiting self.now.over self.now.history ≡ None }
-        ensures next { (seat : ℕ) → HasNext {E = Refusal} seat self.now.over (Ok result) (items_of self.now) (items_of self.now) }
-        ensures ticket { (seat : ℕ) → IfGiven (IsOutFor C.is_snapshot self.now.over (items_of self.now) seat) result }
+        ensures next { WaitsOn self.now result }
+        ensures ticket { (seat : ℕ) → IfGiven (IsOutOn C.is_snapshot self.now seat) result }
     {
         match lowest(self.busy.as_slice()) {
             Some(in_flight) => Next::Idle { in_flight },
@@ -211,9 +213,9 @@ impl<C: Core> Board<C> {
 
     /// Takes the ticket back from the seat that has it.
     pub(crate) fn give_back(&mut self, seat: u64, ticket: Ticket<C::Snapshot>)
-        requires out { IsOutFor C.is_snapshot self.old.over (items_of self.old) seat ticket }
+        requires out { IsOutOn C.is_snapshot self.old seat ticket }
         ensures over { self.new.over ≡ self.old.over }
-        ensures back { HasGivenBack seat self.old.over ticket (items_of self.new) (items_of self.old) }
+        ensures back { BackOn seat self.old self.new ticket }
     {
         let Ticket {
             number,
@@ -238,11 +240,11 @@ impl<C: Core> Board<C> {
         ticket: Ticket<C::Snapshot>,
         plan: C::Plan,
     ) -> Result<Finished, (Ticket<C::Snapshot>, Memory)>
-        requires out { IsOutFor C.is_snapshot self.old.over (items_of self.old) seat ticket }
+        requires out { IsOutOn C.is_snapshot self.old seat ticket }
         requires plan { IsPlanFor C.is_snapshot C.is_plan ticket plan }
         ensures over { self.new.over ≡ self.old.over }
-        ensures finish { HasFinished (λ H. C.in_question plan self.old.over H ticket.stamp) seat self.old.over ticket result (items_of self.new) (items_of self.old) }
-        ensures out { IfErr result (λ e. IsOutFor C.is_snapshot self.new.over (items_of self.new) seat e.0) }
+        ensures finish { FinishOn (C.in_question plan) seat self.old self.new ticket result }
+        ensures out { IfErr result (λ e. IsOutOn C.is_snapshot self.new seat e.0) }
         ensures same { IfErr result (λ e. e.0 ≡ ticket) }
     {
         if let Some(entry) = self.core.touched(&plan, ticket.stamp) {
@@ -273,10 +275,10 @@ impl<C: Core> Board<C> {
         ticket: &Ticket<C::Snapshot>,
         plan: C::Plan,
     ) -> Result<u64, Memory>
-        requires out { IsOutFor C.is_snapshot self.old.over (items_of self.old) seat ticket.now }
+        requires out { IsOutOn C.is_snapshot self.old seat ticket.now }
         requires plan { C.is_plan plan self.old.over self.old.history ticket.now.update }
         ensures over { self.new.over ≡ self.old.over }
-        ensures step { HasStepped seat self.old.over ticket.now result (items_of self.new) (items_of self.old) }
+        ensures step { StepOn seat self.old self.new ticket.now result }
         ensures kept { IfErr result (λ _. items_of self.new ≡ items_of self.old) }
     {
         if let Err(memory) = self.marks.reserve(self.busy.len() + 2) {

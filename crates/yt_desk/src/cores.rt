@@ -11,7 +11,7 @@ pub trait Core {
     ghost use Rattle.std.specs.Prelude.{◌≡◌, ◌<◌, ◌≤◌, ◌^◌, ℕ, List, Option, Some, length, IfOk, IfErr, IfNone};
     ghost use Rattle.yt_history.specs.Cores.{Ground, IsLegalOver};
     ghost use Rattle.yt_history.specs.PlainEntries.{PlainEntry};
-    ghost use Rattle.yt_desk.specs.Cores.{lowest_idle, lowest_waiting, IsReady, IsDelivery, IsStep, HoldsSince};
+    ghost use Rattle.yt_desk.specs.Cores.{lowest_idle, lowest_waiting, IsReady, IsPlanOf, HasDelivered, HasStep, HasStayed};
 
     /// What is needed to plan an update's next step, whatever is done meanwhile.
     type Snapshot;
@@ -60,28 +60,28 @@ pub trait Core {
     fn deliver(&mut self, alloc: Global, update: u32) -> Result<(), Memory>
         requires waiting { lowest_waiting (over self.old) (history self.old) ≡ Some update }
         ensures over { over self.new ≡ over self.old }
-        ensures made { IfOk result (λ _. IsDelivery (over self.old) (history self.old) update (history self.new)) }
+        ensures made { IfOk result (λ _. HasDelivered over history self.old self.new update) }
         ensures kept { IfErr result (λ _. history self.new ≡ history self.old) };
 
     /// What is needed to plan the update's next step. It is refused only for want of memory.
     fn snapshot(&self, alloc: Global, update: u32) -> Result<Self::Snapshot, Memory>
         requires ready { IsReady (over self.now) (history self.now) update }
-        ensures stands { IfOk result (λ s. is_snapshot s (over self.now) (history self.now) update) };
+        ensures is { IfOk result (λ s. is_snapshot s (over self.now) (history self.now) update) };
 
     /// The step that the snapshot tells. It needs no core. It is refused only for want of memory.
     fn plan(alloc: Global, snapshot: &Self::Snapshot) -> Result<Self::Plan, Memory>
-        ensures plan { IfOk result (λ p. (g : Ground) (H : List PlainEntry) (u : ℕ) → is_snapshot snapshot.now g H u → is_plan p g H u) };
+        ensures plan { IfOk result (IsPlanOf is_snapshot is_plan snapshot.now) };
 
     /// The number of the first entry past so many that is in question for the plan. Where there is none the plan, made at
     /// the state before them, is the update's step still. It takes no memory.
     fn touched(&self, plan: &Self::Plan, since: u64) -> Option<u64>
         ensures entry { result ≡ in_question plan.now (over self.now) (history self.now) since }
-        ensures stays { IfNone result ((u : ℕ) → HoldsSince (is_plan plan.now) (over self.now) (history self.now) since u → is_plan plan.now (over self.now) (history self.now) u) };
+        ensures stays { IfNone result (HasStayed over history self.now (is_plan plan.now) since) };
 
     /// Makes the step of the plan. It is refused only for want of memory; the history is then unchanged.
     fn install(&mut self, alloc: Global, plan: Self::Plan) -> Result<(), Memory>
         requires plan { (u : ℕ) × is_plan plan (over self.old) (history self.old) u }
         ensures over { over self.new ≡ over self.old }
-        ensures made { IfOk result (λ _. (u : ℕ) → is_plan plan (over self.old) (history self.old) u → IsStep (over self.old) (history self.old) u (history self.new)) }
+        ensures made { IfOk result (λ _. HasStep over history self.old self.new (is_plan plan)) }
         ensures kept { IfErr result (λ _. history self.new ≡ history self.old) };
 }

@@ -19,13 +19,12 @@ pub struct Desk<C: Core> {
 }
 
 impl<C: Core> Desk<C> {
-    ghost use Rattle.yt_stamp.specs.Seats.{place_of, number_of, seen_of, AreSeats, AllSaw};
-    ghost use Rattle.yt_desk.specs.Shared.{opening_items};
-    ghost use Rattle.yt_desk.specs.Seats.{desk_lock, core_of, IsSeatOf};
+    ghost use Rattle.yt_stamp.specs.Seats.{place_of, AreSeats, AllSaw};
+    ghost use Rattle.yt_desk.specs.Seats.{desk_lock, core_of, opening_by, IsSeatOf};
     ghost use Rattle.yt_history.specs.Cores.{IsLegalOver};
-    ghost use Rattle.yt_desk.specs.Closing.{AllSeatsOf, AllResting, HasClosed, IsWhole, Ends};
-    ghost use Rattle.yt_desk.specs.Turns.{AfterOthers};
-    ghost use Rattle.yt_desk.specs.Tickets.{IsOutFor, IsPlanFor, IfGiven, HasNext, HasFinished, HasGivenBack};
+    ghost use Rattle.yt_desk.specs.Closing.{AllSeatsOf, Closes, ClosesSerially};
+    ghost use Rattle.yt_desk.specs.Tickets.{IsPlanFor, IfGiven};
+    ghost use Rattle.yt_desk.specs.Calls.{IsOutAt, AnswersNext, Finishes, TakesBack};
 
     /// A desk over the core, with this many seats, from 1 to 16, numbered from 0 in order. Each seat has seen the opening,
     /// which has the core's whole history. Where there is no memory the core comes back.
@@ -37,7 +36,8 @@ impl<C: Core> Desk<C> {
         requires count { (1 ≤ seats) × (seats ≤ 16) }
         ensures core { IfOk result (λ r. core_of r.0 ≡ core) }
         ensures seats { IfOk result (λ r. AreSeats (desk_lock r.0) seats r.1.items) }
-        ensures saw { IfOk result (λ r. AllSaw (opening_items (C.over core) (C.history core)) r.1.items) }
+        ensures saw { IfOk result (λ r. AllSaw (opening_by C.over C.history core) r.1.items) }
+        ensures legal { IfOk result (λ r. IsLegalOver (C.over core) (C.history core)) }
         ensures over { IfErr result (λ e. C.over e.0 ≡ C.over core) }
         ensures history { IfErr result (λ e. C.history e.0 ≡ C.history core) }
     {
@@ -65,8 +65,8 @@ impl<C: Core> Desk<C> {
         requires own { IsSeatOf C.over C.history self.now seat.old }
         ensures own { IsSeatOf C.over C.history self.now seat.new }
         ensures place { place_of seat.new ≡ place_of seat.old }
-        ensures next { AfterOthers (number_of seat.old) (seen_of seat.old) (HasNext (number_of seat.old) (C.over (core_of self.now)) result (seen_of seat.new)) }
-        ensures ticket { IfOk result (IfGiven (IsOutFor C.is_snapshot (C.over (core_of self.now)) (seen_of seat.new) (number_of seat.new))) }
+        ensures next { AnswersNext C.over self.now seat.old seat.new result }
+        ensures ticket { IfOk result (IfGiven (IsOutAt C.over C.is_snapshot self.now seat.new)) }
     {
         let (turn, mut board) = self.lock.open(rt, seat);
         let answer = board.next(self.alloc, seat.number());
@@ -92,12 +92,12 @@ impl<C: Core> Desk<C> {
         plan: C::Plan,
     ) -> Result<Finished, (Ticket<C::Snapshot>, Memory)>
         requires own { IsSeatOf C.over C.history self.now seat.old }
-        requires out { IsOutFor C.is_snapshot (C.over (core_of self.now)) (seen_of seat.old) (number_of seat.old) ticket }
+        requires out { IsOutAt C.over C.is_snapshot self.now seat.old ticket }
         requires plan { IsPlanFor C.is_snapshot C.is_plan ticket plan }
         ensures own { IsSeatOf C.over C.history self.now seat.new }
         ensures place { place_of seat.new ≡ place_of seat.old }
-        ensures finish { AfterOthers (number_of seat.old) (seen_of seat.old) (HasFinished (λ H. C.in_question plan (C.over (core_of self.now)) H ticket.stamp) (number_of seat.old) (C.over (core_of self.now)) ticket result (seen_of seat.new)) }
-        ensures out { IfErr result (λ e. IsOutFor C.is_snapshot (C.over (core_of self.now)) (seen_of seat.new) (number_of seat.new) e.0) }
+        ensures finish { Finishes C.over (C.in_question plan) self.now seat.old seat.new ticket result }
+        ensures out { IfErr result (λ e. IsOutAt C.over C.is_snapshot self.now seat.new e.0) }
         ensures same { IfErr result (λ e. e.0 ≡ ticket) }
     {
         let (turn, mut board) = self.lock.open(rt, seat);
@@ -110,10 +110,10 @@ impl<C: Core> Desk<C> {
     /// Gives the ticket back unfinished, which spends it.
     pub fn give_back<R: Wait>(&self, rt: &R, seat: &mut Seat<Board<C>>, ticket: Ticket<C::Snapshot>)
         requires own { IsSeatOf C.over C.history self.now seat.old }
-        requires out { IsOutFor C.is_snapshot (C.over (core_of self.now)) (seen_of seat.old) (number_of seat.old) ticket }
+        requires out { IsOutAt C.over C.is_snapshot self.now seat.old ticket }
         ensures own { IsSeatOf C.over C.history self.now seat.new }
         ensures place { place_of seat.new ≡ place_of seat.old }
-        ensures back { AfterOthers (number_of seat.old) (seen_of seat.old) (HasGivenBack (number_of seat.old) (C.over (core_of self.now)) ticket (seen_of seat.new)) }
+        ensures back { TakesBack C.over self.now seat.old seat.new ticket }
     {
         let (turn, mut board) = self.lock.open(rt, seat);
         board.known();
@@ -128,8 +128,8 @@ impl<C: Core> Desk<C> {
         requires seats { AreSeats (desk_lock self) (length seats.items) seats.items }
         requires own { AllSeatsOf C.over C.history self seats.items }
         ensures over { C.over result ≡ C.over (core_of self) }
-        ensures closed { HasClosed (C.over (core_of self)) (C.history (core_of self)) (C.history result) seats.items }
-        ensures rest { IsLegalOver (C.over (core_of self)) (C.history (core_of self)) → IsWhole (C.over (core_of self)) (C.history (core_of self)) → AllResting seats.items → Ends (C.over (core_of self)) (C.history (core_of self)) (C.history result) }
+        ensures closed { Closes C.over C.history (core_of self) result seats.items }
+        ensures rest { ClosesSerially C.over C.history (core_of self) result seats.items }
     {
         let Desk {
             lock,

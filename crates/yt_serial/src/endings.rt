@@ -14,8 +14,8 @@ use yt_base::{Memory, TryCopy};
 use yt_facts::IndexedFacts;
 use yt_program::{Finish, FinishList, Lack, Program, Stop, Want};
 
-// What is told of an update that has ended. It takes no memory.
-fn finish(program: &Program) -> Finish
+/// What is told of an update that has ended. It takes no memory.
+pub(crate) fn finish(program: &Program) -> Finish
     requires between { program.now.reading ≡ None }
     requires ended { is_some (outcome_in program.now.attempt.phase) ≡ true }
     ensures told { (n : ℕ) → map finish_in (finished n program.now.attempt) ≡
@@ -37,12 +37,7 @@ fn finish(program: &Program) -> Finish
 
 /// What is told of the update of this number, which stops at a question for what is lacking. It is refused only for
 /// want of memory.
-pub(crate) fn stop(
-    alloc: Global,
-    program: &Program,
-    number: u32,
-    lack: Lack,
-) -> Result<Stop, Memory>
+pub fn stop(alloc: Global, program: &Program, number: u32, lack: Lack) -> Result<Stop, Memory>
     requires between { program.now.reading ≡ None }
     requires asked { is_some (question_in program.now.attempt.phase) ≡ true }
     ensures told { IfOk result (λ stop.
@@ -65,7 +60,7 @@ pub(crate) fn stop(
 }
 
 /// Tells the finish of an update that has ended, and keeps its writes. It is refused only for want of memory.
-pub(crate) fn end(
+pub fn end(
     finishes: &mut FinishList,
     facts: &mut IndexedFacts,
     program: Program,

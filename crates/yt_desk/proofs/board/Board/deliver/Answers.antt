@@ -4,7 +4,8 @@ use Rattle.yt_memory.specs.declared.Memory.{Memory}
 use Rattle.yt_record.specs.declared.item.Mark.TheVariants.{Next}
 use Rattle.yt_desk.specs.Shared.{Shared}
 use Rattle.yt_desk.specs.Cores.{lowest_idle, lowest_waiting}
-use Rattle.yt_desk.proofs.Boards.{shared, shared_more, shared_same, next_none, next_delivers}
+use Rattle.yt_desk.specs.Marks.{shared}
+use Rattle.yt_desk.proofs.Boards.{shared_more, shared_same, next_none, next_delivers}
 use Rattle.yt_desk.proofs.board.Board.deliver.Goals as goal
 
 pub returns-in_err-reserve-clause-next : goal.returns-in_err-reserve-clause-next

@@ -1,7 +1,8 @@
 use Rattle.std.proofs.Common.{◌∙◌, ap, sym, subst}
 use Rattle.yt_desk.specs.Shared.{Shared, items_of}
 use Rattle.yt_desk.specs.Tickets.{IsOutFor}
-use Rattle.yt_desk.proofs.Boards.{shared, holds_since, finish_stale, finish_stepped}
+use Rattle.yt_desk.specs.Marks.{shared}
+use Rattle.yt_desk.proofs.Boards.{holds_since, finish_stale, finish_stepped}
 use Rattle.yt_desk.proofs.board.Board.finish.Goals as goal
 
 pub returns-in-Some-clause-finish : goal.returns-in-Some-clause-finish

@@ -8,7 +8,8 @@ use Rattle.yt_desk.specs.Shared.{Shared}
 use Rattle.yt_desk.specs.Cores.{lowest_idle}
 use Rattle.yt_desk.proofs.Flights.{ready_is}
 use Rattle.yt_desk.proofs.Joining.{more}
-use Rattle.yt_desk.proofs.Boards.{shared, shared_more, shared_same, next_none, next_gives}
+use Rattle.yt_desk.specs.Marks.{shared}
+use Rattle.yt_desk.proofs.Boards.{shared_more, shared_same, next_none, next_gives}
 use Rattle.yt_desk.proofs.board.Board.give.Goals as goal
 
 pub returns-in_err-reserve-clause-next : goal.returns-in_err-reserve-clause-next
@@ -47,7 +48,7 @@ invariant_of-self-2 g c =
     let busy = c.push_reserved-2.ensures.items ∙ ap (λ l. l ++ t.update ∷ []) c.in_ok-reserve-2.ensures.items in
     let same = shared_more o o H H i.opened i.marks.items _ (record { mark = Giving t.number t.update; maker = c.args.seat } ∷ []) i.busy.items _ i.given t.number refl marks ∙ (λ k. more (shared o H i.opened i.marks.items i.busy.items i.given) (made (Giving t.number t.update) (Some c.args.seat) ∷ []) H (busy k) t.number) in
     let p = next_gives {E = Memory} g.C.Core.is_snapshot (shared o H i.opened i.marks.items i.busy.items i.given) _ _ c.args.seat t c.self.invariant.0 c.self.view_is
-    (subst (λ (b : Shared). lowest_idle b.over b.history b.busy ≡ Some c.args.update) (sym c.self.view_is) c.requires.idle) refl c.length-stamp.ensures.length c.in_ok-snapshot.ensures.stands same in
+    (subst (λ (b : Shared). lowest_idle b.over b.history b.busy ≡ Some c.args.update) (sym c.self.view_is) c.requires.idle) refl c.length-stamp.ensures.length c.in_ok-snapshot.ensures.is same in
     (p.0, omega (arith, c.in_ok-reserve.ensures.ok, c.in_ok-reserve.ensures.len, c.in_ok-reserve-2.ensures.len, c.push_reserved.ensures.len, c.push_reserved.ensures.capacity, c.push_reserved-2.ensures.len, c.len.ensures))
 
 pub returns-clause-next : goal.returns-clause-next
@@ -60,7 +61,7 @@ returns-clause-next g c =
     let busy = c.push_reserved-2.ensures.items ∙ ap (λ l. l ++ t.update ∷ []) c.in_ok-reserve-2.ensures.items in
     let same = shared_more o o H H i.opened i.marks.items _ (record { mark = Giving t.number t.update; maker = c.args.seat } ∷ []) i.busy.items _ i.given t.number refl marks ∙ (λ k. more (shared o H i.opened i.marks.items i.busy.items i.given) (made (Giving t.number t.update) (Some c.args.seat) ∷ []) H (busy k) t.number) in
     (next_gives {E = Memory} g.C.Core.is_snapshot (shared o H i.opened i.marks.items i.busy.items i.given) _ _ c.args.seat t c.self.invariant.0 c.self.view_is
-    (subst (λ (b : Shared). lowest_idle b.over b.history b.busy ≡ Some c.args.update) (sym c.self.view_is) c.requires.idle) refl c.length-stamp.ensures.length c.in_ok-snapshot.ensures.stands same).1
+    (subst (λ (b : Shared). lowest_idle b.over b.history b.busy ≡ Some c.args.update) (sym c.self.view_is) c.requires.idle) refl c.length-stamp.ensures.length c.in_ok-snapshot.ensures.is same).1
 
 pub returns-clause-ticket : goal.returns-clause-ticket
 returns-clause-ticket g c =
@@ -72,4 +73,4 @@ returns-clause-ticket g c =
     let busy = c.push_reserved-2.ensures.items ∙ ap (λ l. l ++ t.update ∷ []) c.in_ok-reserve-2.ensures.items in
     let same = shared_more o o H H i.opened i.marks.items _ (record { mark = Giving t.number t.update; maker = c.args.seat } ∷ []) i.busy.items _ i.given t.number refl marks ∙ (λ k. more (shared o H i.opened i.marks.items i.busy.items i.given) (made (Giving t.number t.update) (Some c.args.seat) ∷ []) H (busy k) t.number) in
     (next_gives {E = Memory} g.C.Core.is_snapshot (shared o H i.opened i.marks.items i.busy.items i.given) _ _ c.args.seat t c.self.invariant.0 c.self.view_is
-    (subst (λ (b : Shared). lowest_idle b.over b.history b.busy ≡ Some c.args.update) (sym c.self.view_is) c.requires.idle) refl c.length-stamp.ensures.length c.in_ok-snapshot.ensures.stands same).2
+    (subst (λ (b : Shared). lowest_idle b.over b.history b.busy ≡ Some c.args.update) (sym c.self.view_is) c.requires.idle) refl c.length-stamp.ensures.length c.in_ok-snapshot.ensures.is same).2

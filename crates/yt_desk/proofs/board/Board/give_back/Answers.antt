@@ -4,7 +4,8 @@ use Rattle.yt_record.specs.Items.{made}
 use Rattle.yt_desk.specs.Shared.{Shared, items_of}
 use Rattle.yt_desk.specs.Tickets.{IsOutFor}
 use Rattle.yt_desk.proofs.Joining.{more}
-use Rattle.yt_desk.proofs.Boards.{shared, shared_more, one_less, back_is}
+use Rattle.yt_desk.specs.Marks.{shared}
+use Rattle.yt_desk.proofs.Boards.{shared_more, one_less, back_is}
 use Rattle.yt_desk.proofs.board.Board.give_back.Goals as goal
 
 pub push_reserved-requires : goal.push_reserved-requires

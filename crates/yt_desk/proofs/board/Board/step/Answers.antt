@@ -5,7 +5,8 @@ use Rattle.yt_record.specs.Items.{made}
 use Rattle.yt_desk.specs.declared.board.Marked.{Marked}
 use Rattle.yt_desk.specs.Shared.{Shared}
 use Rattle.yt_desk.proofs.Joining.{more}
-use Rattle.yt_desk.proofs.Boards.{shared, shared_more, fewer_left, step_is}
+use Rattle.yt_desk.specs.Marks.{shared}
+use Rattle.yt_desk.proofs.Boards.{shared_more, fewer_left, step_is}
 use Rattle.yt_desk.proofs.board.Board.step.Goals as goal
 
 pub invariant_of-self-2 : goal.invariant_of-self-2

@@ -2,7 +2,8 @@ use Rattle.std.proofs.Common.{◌≡◌, ◌∙◌, ap, sym, subst, None}
 use Rattle.yt_desk.specs.Shared.{Shared}
 use Rattle.yt_desk.specs.Cores.{lowest_idle, lowest_waiting}
 use Rattle.yt_desk.specs.Turns.{least}
-use Rattle.yt_desk.proofs.Boards.{shared, idle_or_quiet, next_waits}
+use Rattle.yt_desk.specs.Marks.{shared}
+use Rattle.yt_desk.proofs.Boards.{idle_or_quiet, next_waits}
 use Rattle.yt_desk.proofs.board.Board.wait.Goals as goal
 
 pub returns-in-Some-clause-next : goal.returns-in-Some-clause-next

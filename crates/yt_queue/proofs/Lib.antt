@@ -1,0 +1,5 @@
+pub mod Deciding
+pub mod Following
+pub mod Answering
+pub mod Restarting
+pub mod Walking

@@ -1,0 +1,50 @@
+-- What is told of a queue, for the machine of any mappings and any budget.
+use Rattle.std.specs.Prelude.{◌≡◌, ℕ, Bool, not, ◌&&◌, List, Option}
+use Rattle.yt_machine.specs.Cascade.{has_number}
+use Rattle.yt_machine.specs.Standings.{standing, is_ready, is_deliverable, lowest_that, lowest_ready, lowest_deliverable, is_quiet}
+use Rattle.yt_machine.specs.Updates.{Settings, committed}
+use Rattle.yt_model.specs.Mappings.{Rule}
+use Rattle.yt_steps.specs.Chase.{caused_chase}
+use Rattle.yt_queue.specs.Queues.{update_of, updates_of}
+use Rattle.yt_queue.specs.declared.records.Record.{Record}
+
+-- So many updates are committed.
+abbrev pub HasCommitted : List Record → ℕ → Type 0
+HasCommitted rs c = (ms : List Rule) (B : ℕ) → c ≡ committed (caused_chase ms B) (updates_of ms B rs)
+
+-- The least number of a ready update, where c updates are committed and the first of them has number n.
+abbrev pub IsFirstReady : Settings → ℕ → ℕ → List Record → Option ℕ → Type 0
+IsFirstReady s c n rs o =
+    (ms : List Rule) (B : ℕ) → o ≡ lowest_that (λ i u. is_ready (standing (caused_chase ms B) s c i u)) n (updates_of ms B rs)
+
+-- The same for a deliverable one.
+abbrev pub IsFirstDeliverable : Settings → ℕ → ℕ → List Record → Option ℕ → Type 0
+IsFirstDeliverable s c n rs o =
+    (ms : List Rule) (B : ℕ) → o ≡ lowest_that (λ i u. is_deliverable (caused_chase ms B) s c i u) n (updates_of ms B rs)
+
+-- Whether it is ready, and its number n none of these.
+abbrev pub IsReadyBesides : List ℕ → Settings → ℕ → ℕ → Record → Bool → Type 0
+IsReadyBesides ns s c n r b =
+    (ms : List Rule) (B : ℕ) → b ≡ (is_ready (standing (caused_chase ms B) s c n (update_of ms B r)) && not (has_number ns n))
+
+-- The same for a ready one whose number is none of these.
+abbrev pub IsFirstBesides : List ℕ → Settings → ℕ → ℕ → List Record → Option ℕ → Type 0
+IsFirstBesides ns s c n rs o =
+    (ms : List Rule) (B : ℕ) → o ≡ lowest_that (λ i u. is_ready (standing (caused_chase ms B) s c i u) && not (has_number ns i)) n (updates_of ms B rs)
+
+-- The least number of a ready update, if one is ready.
+abbrev pub IsLowestReady : Settings → List Record → Option ℕ → Type 0
+IsLowestReady s rs o = (ms : List Rule) (B : ℕ) → o ≡ lowest_ready (caused_chase ms B) s (updates_of ms B rs)
+
+-- The least number of a deliverable update, if one is deliverable.
+abbrev pub IsLowestDeliverable : Settings → List Record → Option ℕ → Type 0
+IsLowestDeliverable s rs o = (ms : List Rule) (B : ℕ) → o ≡ lowest_deliverable (caused_chase ms B) s (updates_of ms B rs)
+
+-- The least number of a ready update that is none of these, if there is one.
+abbrev pub IsLowestBesides : List ℕ → Settings → List Record → Option ℕ → Type 0
+IsLowestBesides ns s rs o =
+    (ms : List Rule) (B : ℕ) → o ≡ lowest_that (λ i u. is_ready (standing (caused_chase ms B) s (committed (caused_chase ms B) (updates_of ms B rs)) i u) && not (has_number ns i)) 1 (updates_of ms B rs)
+
+-- Whether nothing is ready, and nothing is deliverable.
+abbrev pub IsQuiet : Settings → List Record → Bool → Type 0
+IsQuiet s rs b = (ms : List Rule) (B : ℕ) → b ≡ is_quiet (caused_chase ms B) s (updates_of ms B rs)

@@ -1,0 +1,146 @@
+//! What an event does to one record. Whatever may be refused for want of memory comes before it.
+ghost use Rattle.std.specs.Prelude.{◌≡◌, ◌≤◌, [], ◌∷◌, ◌++◌, length, map, take, IfOk, OnOk};
+ghost use Rattle.yt_base.specs.Meanings.{choice_of};
+ghost use Rattle.yt_queue.specs.Queues.{StandsAt};
+ghost use Rattle.yt_queue.specs.Events.{IsAdmitted, IsSame, KeepsPlace, KeepsPlaceBy, HasRoom, HasRoomFor, HasStepped, HasDelivered, HasAnswered, HasWithdrawn};
+
+use crate::records::Record;
+use std::alloc::Global;
+use std::collections::VecDeque;
+use std::mem;
+use yt_base::{Choice, ChoiceList, List, Memory, TryCopy, Update};
+use yt_plan::Plan;
+use yt_program::Program;
+use yt_query::ReadLog;
+
+impl Record {
+    /// The update of this number as it is when it is admitted, with these answers recorded for it. It is refused only for
+    /// want of memory.
+    pub fn admit(
+        alloc: Global,
+        update: &Update,
+        number: u32,
+        answers: &ChoiceList,
+    ) -> Result<Record, Memory>
+        ensures admitted { IfOk result (IsAdmitted number update.now answers.now) }
+        ensures place { IfOk result (StandsAt number) }
+    {
+        Ok(Record {
+            program: Program::start(alloc, update, number, 0)?,
+            log: ReadLog::new(alloc),
+            withdrawn: false,
+            answers: ChoiceList::new(alloc),
+            inbox: queued(alloc, answers)?,
+        })
+    }
+
+    /// Makes room for the reads of the plan. It is refused only for want of memory. The update stays as it is.
+    pub fn reserve_reads(&mut self, plan: &Plan) -> Result<(), Memory>
+        ensures room { OnOk result (HasRoomFor plan.now self.new) }
+        ensures same { IsSame self.old self.new }
+        ensures place { KeepsPlace self.old self.new }
+    {
+        self.log.reserve(plan.reads.len())
+    }
+
+    /// Makes room for one more answer. It is refused only for want of memory. The update stays as it is.
+    pub fn reserve_answer(&mut self) -> Result<(), Memory>
+        ensures room { OnOk result (HasRoom self.new) }
+        ensures same { IsSame self.old self.new }
+        ensures place { KeepsPlace self.old self.new }
+    {
+        self.answers.reserve(1)
+    }
+
+    /// Makes the step of the plan: its attempt and its reads are taken over. It takes no memory.
+    pub fn follow(&mut self, plan: Plan)
+        requires room { HasRoomFor plan self.old }
+        ensures stepped { HasStepped plan self.old self.new }
+        ensures place { KeepsPlaceBy plan self.old self.new }
+    {
+        let Plan { program, reads } = plan;
+        self.program = program;
+        take_over(&mut self.log, reads);
+    }
+
+    /// Delivers the first recorded answer, if there is one. It takes no memory.
+    pub fn deliver(&mut self)
+        requires room { HasRoom self.old }
+        ensures delivered { HasDelivered self.old self.new }
+        ensures place { KeepsPlace self.old self.new }
+    {
+        if let Some(choice) = self.inbox.pop_front() {
+            put_last(&mut self.answers, choice);
+        }
+    }
+
+    /// Puts the choice where the attempt waits for an answer; answers that were delivered for later questions are
+    /// dropped. It takes no memory.
+    pub fn answer(&mut self, alloc: Global, choice: Choice)
+        requires room { HasRoom self.old }
+        ensures answered { HasAnswered choice self.old self.new }
+        ensures place { KeepsPlace self.old self.new }
+    {
+        let taken = self.program.taken() as usize;
+        if taken < self.answers.len() {
+            keep(alloc, &mut self.answers, taken + 1);
+            self.answers.put(taken, choice);
+        } else {
+            put_last(&mut self.answers, choice);
+        }
+    }
+
+    /// Withdraws the update: it loses its trail and its log. It takes no memory.
+    pub fn withdraw(&mut self)
+        ensures withdrawn { HasWithdrawn self.old self.new }
+        ensures place { KeepsPlace self.old self.new }
+    {
+        self.log.clear();
+        self.withdrawn = true;
+    }
+}
+
+// Copies of the answers as a queue. It is refused only for want of memory.
+fn queued(alloc: Global, answers: &ChoiceList) -> Result<VecDeque<Choice>, Memory>
+    ensures same { IfOk result (λ queue.
+        map choice_of queue.items ≡ map choice_of answers.now.items) }
+{
+    let mut queue = VecDeque::new(alloc);
+    for answer in answers.as_slice() {
+        queue.push_back(answer.copy(alloc)?)?;
+    }
+    Ok(queue)
+}
+
+// Puts the reads at the end of the log, which has room for them.
+fn take_over(log: &mut ReadLog, reads: ReadLog)
+    requires room { length reads.items ≤ log.old.spare }
+    ensures all { log.new.items ≡ log.old.items ++ reads.items }
+{
+    for read in reads.into_vec() {
+        match log.push(read) {
+            Ok(()) => {}
+            Err(_) => unreachable!(),
+        }
+    }
+}
+
+// Puts the answer at the end of the list, which has room for it.
+fn put_last(answers: &mut ChoiceList, choice: Choice)
+    requires room { 1 ≤ answers.old.spare }
+    ensures all { answers.new.items ≡ answers.old.items ++ choice ∷ [] }
+{
+    match answers.push(choice) {
+        Ok(()) => {}
+        Err(_) => unreachable!(),
+    }
+}
+
+// Drops the answers behind so many.
+fn keep(alloc: Global, answers: &mut ChoiceList, many: usize)
+    ensures first { answers.new.items ≡ take many answers.old.items }
+{
+    let mut items = mem::replace(answers, List::new(alloc)).into_vec();
+    items.truncate(many);
+    *answers = List::from_vec(items);
+}
