@@ -1,1 +1,2 @@
 mod Ran
+pub mod Sent

@@ -27,7 +27,6 @@ pub fn run<R: Threads + Wait + Sync, G: Gate + Sync, C: Core + Send>(
     ensures ends { IfOk result (λ c. IsWhole (C.over core) (C.history core) →
         Ends (C.over core) (C.history core) (C.history c)) }
 {
-    let _entries = core.length();
     let (desk, seats) = match Desk::new(alloc, core, seats) {
         Ok(opened) => opened,
         Err(refused) => return Err(refused),

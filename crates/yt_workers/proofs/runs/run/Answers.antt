@@ -1,7 +1,13 @@
+use denote.Param.{param}
+use denote.Param.Send.{param_sync}
 use Rattle.std.proofs.Common.{◌≡◌, ◌∙◌, sym, subst, arith, ◌<◌, length, List}
 use Rattle.yt_desk.specs.Seats.{core_of}
 use Rattle.yt_workers.proofs.Ran.{dealt_own, back_own, back_all, ended, told}
+use Rattle.yt_workers.proofs.Sent.{desk_sync}
 use Rattle.yt_workers.proofs.runs.run.Goals as goal
+
+pub work_all-seats-requires-sync-B : goal.work_all-seats-requires-sync-B
+work_all-seats-requires-sync-B g c κs within = param_sync _ _ (desk_sync _ (param 3 g.row.C-Snapshot) (param 4 g.row.C-Plan) g.C.Core c.type_bounds.send-C)
 
 pub work_all-seats-requires-clause-own : goal.work_all-seats-requires-clause-own
 work_all-seats-requires-clause-own g c κs within =
@@ -24,4 +30,4 @@ close-core-requires-clause-own g c = back_own g.C.Core.over g.C.Core.history c.i
 pub returns-in-Ok-result-clause-ends : goal.returns-in-Ok-result-clause-ends
 returns-in-Ok-result-clause-ends g c =
     ended g.C.Core.over g.C.Core.history c.in-Ok.opened.0 c.args.core (g.C.Core.history c.close-core.result) c.work_all-seats.result.0.items c.in-Ok.ensures.core c.close-core.ensures.rest
-    (told c.work_all-seats.result.1 _ _ c.in-Ok-result.is c.work_all-seats.ensures.rests) c.length-entries.ensures.legal
+    (told c.work_all-seats.result.1 _ _ c.in-Ok-result.is c.work_all-seats.ensures.rests) c.in-Ok.ensures.legal
