@@ -1,2 +1,2 @@
 mod Ran
-pub mod Sent
+mod Sent

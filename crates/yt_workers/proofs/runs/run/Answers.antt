@@ -1,5 +1,4 @@
-use denote.Param.{param}
-use denote.Param.Send.{param_sync}
+use denote.Param.Send.{sendable}
 use Rattle.std.proofs.Common.{◌≡◌, ◌∙◌, sym, subst, arith, ◌<◌, length, List}
 use Rattle.yt_desk.specs.Seats.{core_of}
 use Rattle.yt_workers.proofs.Ran.{dealt_own, back_own, back_all, ended, told}
@@ -7,7 +6,7 @@ use Rattle.yt_workers.proofs.Sent.{desk_sync}
 use Rattle.yt_workers.proofs.runs.run.Goals as goal
 
 pub work_all-seats-requires-sync-B : goal.work_all-seats-requires-sync-B
-work_all-seats-requires-sync-B g c κs within = param_sync _ _ (desk_sync _ (param 3 g.row.C-Snapshot) (param 4 g.row.C-Plan) g.C.Core c.type_bounds.send-C)
+work_all-seats-requires-sync-B g c κs within = search (sendable, desk_sync, c.type_bounds.send-C)
 
 pub work_all-seats-requires-clause-own : goal.work_all-seats-requires-clause-own
 work_all-seats-requires-clause-own g c κs within =
