@@ -1,9 +1,8 @@
 -- The workers' seats, before and after they work.
-use Rattle.std.proofs.Common.{◌≡◌, ℕ, zero, suc, ◌<◌, Bool, true, false, ◌&&◌, List, [], ◌∷◌, ◌++◌, take, drop, map, length, slice_index_or, Result, Ok, Err, sym, refl, ap, ◌∙◌, subst, arith}
+use Rattle.std.proofs.Common.{◌≡◌, ℕ, zero, suc, ◌<◌, Bool, true, false, ◌&&◌, List, [], ◌∷◌, ◌++◌, take, drop, map, length, slice_index_or, Result, Ok, Err, sym, refl, subst, arith}
 use Rattle.std.specs.Prelude.{All, OnOk, is_ok}
-use Rattle.std.specs.List.{list_all}
 use Rattle.yt_crew.specs.declared.worker.Worker.{Worker}
-use Rattle.yt_crew.specs.Crews.{seats_of, all_ok, Leaves, EachLeaves}
+use Rattle.yt_crew.specs.Crews.{seats_of, all_ok, EachLeaves}
 
 both : (a b : Bool) → (a && b) ≡ true → (a ≡ true) × (b ≡ true)
 both true b e = (refl, e)

@@ -13,13 +13,12 @@ use yt_gate::{Bench, Gate, work};
 /// Lets a worker work from each of the seats until nothing is left to do, each in a thread of its own, and gives the seats
 /// back in their order. Where no thread can be made the calling thread works in its place. On Ok each seat is at rest;
 /// `AllocError` comes where a worker, or the crew itself, had no memory.
-pub fn work_all<R: Threads + Wait + Sync, G: Gate + Sync, S: Send + Drop, B: Bench<Seat = S> + Sync>(
-    rt: &R,
-    alloc: Global,
-    bench: &B,
-    gate: &G,
-    seats: Vec<S>,
-) -> (Vec<S>, Result<(), AllocError>)
+pub fn work_all<
+    R: Threads + Wait + Sync,
+    G: Gate + Sync,
+    S: Send + Drop,
+    B: Bench<Seat = S> + Sync,
+>(rt: &R, alloc: Global, bench: &B, gate: &G, seats: Vec<S>) -> (Vec<S>, Result<(), AllocError>)
     requires own { All (B.owns bench.now) seats.items }
     ensures own { All (B.owns bench.now) result.0.items }
     ensures lock { map B.lock result.0.items ≡ map B.lock seats.items }

@@ -1,11 +1,10 @@
 -- The seats of a desk, before and after its workers.
-use Rattle.std.proofs.Common.{◌≡◌, ◌∙◌, sym, refl, ap, subst, arith, ℕ, zero, suc, ◌<◌, List, [], ◌∷◌, ◌++◌, append-nil, map, length, slice_index_or, Result, Ok, Err}
+use Rattle.std.proofs.Common.{◌≡◌, ◌∙◌, sym, refl, ap, subst, arith, ℕ, zero, suc, ◌<◌, List, [], ◌∷◌, append-nil, map, length, slice_index_or, Result, Ok, Err}
 use Rattle.std.proofs.lemmas.List.{length-map}
 use Rattle.std.specs.Prelude.{All, OnOk}
 use mathlib.Core.Option.{some, some-injective, some-ne-none}
 use lib.ListN.{get_elem?}
-use Rattle.atomic_table.specs.Seated.{TableId}
-use Rattle.yt_stamp.specs.Seats.{Place, place_of, seen_of, IsAtRest, AreSeats, AllSaw}
+use Rattle.yt_stamp.specs.Seats.{Place, place_of, AreSeats, AllSaw}
 use Rattle.yt_stamp.proofs.SeatLists.{still_seats, place_at-lock}
 use Rattle.yt_history.specs.Cores.{Ground, IsLegalOver}
 use Rattle.yt_history.specs.PlainEntries.{PlainEntry}

@@ -1,6 +1,6 @@
 use Rattle.std.proofs.Common.{◌≡◌, ◌∙◌, sym, ap, subst, List, map, length}
-use Rattle.std.specs.Prelude.{All, OnOk}
-use Rattle.yt_crew.specs.Crews.{seats_of, all_ok, EachLeaves}
+use Rattle.std.specs.Prelude.{All}
+use Rattle.yt_crew.specs.Crews.{seats_of, all_ok}
 use Rattle.yt_crew.proofs.Crewed.{of_each, own_after, places_after, rest_after, rested, whole}
 use Rattle.yt_crew.proofs.crews.work_all.Goals as goal
 

@@ -1,6 +1,5 @@
 use denote.Param.Send.{sendable}
-use Rattle.std.proofs.Common.{◌≡◌, ◌∙◌, sym, subst, arith, ◌<◌, length, List}
-use Rattle.yt_desk.specs.Seats.{core_of}
+use Rattle.std.proofs.Common.{arith}
 use Rattle.yt_workers.proofs.Ran.{dealt_own, back_own, back_all, ended, told}
 use Rattle.yt_workers.proofs.Sent.{desk_sync}
 use Rattle.yt_workers.proofs.runs.run.Goals as goal
