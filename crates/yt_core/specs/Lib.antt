@@ -1,0 +1,6 @@
+pub mod States
+pub mod Events
+pub mod Planned
+pub mod Snapshots
+pub mod Kept
+pub mod Told
