@@ -4,3 +4,4 @@ pub mod Planned
 pub mod Snapshots
 pub mod Kept
 pub mod Told
+pub mod Aftermaths

@@ -4,6 +4,7 @@
 //! and the entries of that history. Each call that changes a core makes one event of that history.
 #![tactic(auto)]
 
+mod aftermaths;
 mod cores;
 mod plans;
 mod refusals;
