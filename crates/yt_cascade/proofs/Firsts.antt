@@ -1,0 +1,64 @@
+-- The first reads of the program's logs are those of histories.
+use Rattle.std.proofs.Common.{◌≡◌, ◌∙◌, ap, refl, sym, ℕ, suc, ◌+◌, Bool, true, false, not, List, [], ◌∷◌, map, Option, Some, None, arith}
+use Rattle.std.specs.Prelude.{if◌then◌else◌}
+use Rattle.std.specs.List.{list_any}
+use Rattle.std.specs.Option.{option_map}
+use Rattle.yt_conflict.specs.Changes.{Numbered, Changed, first_from, first_changed, is_changed, value_now}
+use Rattle.yt_machine.specs.Cascade.{reads_of, read_depends, writer_for}
+use Rattle.yt_machine.specs.Reads.{first_that, changed_read, is_valid}
+use Rattle.yt_machine.specs.Updates.{Read as ReadOfHistory, Deps, Precise, Coarse}
+use Rattle.yt_model.specs.Mappings.{Rule}
+use Rattle.yt_model.specs.Repository.{Change}
+use Rattle.yt_model.specs.Updates.{Operation, direction_of}
+use Rattle.yt_model.specs.Values.{Fact}
+use Rattle.yt_query.specs.Meanings.{Read, read_of}
+use Rattle.yt_queue.specs.Queues.{logged, update_of}
+use Rattle.yt_queue.specs.declared.records.Record.{Record}
+use Rattle.yt_steps.specs.Chase.{caused_chase}
+use Rattle.yt_versions.specs.Standing.{Kept, seen}
+use Rattle.yt_cascade.specs.declared.lost.Member.{Member}
+use Rattle.yt_cascade.specs.Meanings.{Above, members_of, trail_of, trails_of}
+use Rattle.yt_cascade.specs.Reached.{is_reached, any_reached, least_writer, first_changed_in, first_invalid, first_mentioning, first_by}
+
+module _ (ms : List Rule) (B : ℕ) where
+  -- The numbered read, as a history has it.
+  abbrev pub paired : Numbered → ℕ × ReadOfHistory (caused_chase ms B)
+  paired t = (t.number, logged ms B t.read)
+
+  abbrev raised : ℕ → ℕ × ReadOfHistory (caused_chase ms B) → ℕ × ReadOfHistory (caused_chase ms B)
+  raised k t = (k + t.0, t.1)
+
+  raised_more : (k : ℕ) (o : Option (ℕ × ReadOfHistory (caused_chase ms B))) → option_map (raised (suc k)) o ≡ option_map (raised k) (option_map (λ (t : ℕ × ReadOfHistory (caused_chase ms B)). (suc t.0, t.1)) o)
+  raised_more k None = refl
+  raised_more k (Some t) = let e : suc k + t.0 ≡ k + suc t.0 = omega arith in ap (λ n. Some {A = ℕ × ReadOfHistory (caused_chase ms B)} (n, t.1)) e
+
+  raised_none : (o : Option (ℕ × ReadOfHistory (caused_chase ms B))) → option_map (raised 0) o ≡ o
+  raised_none None = refl
+  raised_none (Some t) = let e : 0 + t.0 ≡ t.0 = omega arith in ap (λ n. Some {A = ℕ × ReadOfHistory (caused_chase ms B)} (n, t.1)) e
+
+  from_that : (p : Read → Bool) (q : ReadOfHistory (caused_chase ms B) → Bool) → ((r : Read) → p r ≡ q (logged ms B r)) → (k : ℕ) (rs : List Read)
+      → option_map paired (first_from p (suc k) rs) ≡ option_map (raised k) (first_that q (map (logged ms B) rs))
+  from_that p q h k [] = refl
+  from_that p q h k (r ∷ rs) = by (p r) (q (logged ms B r)) (h r)
+    where
+      by : (b c : Bool) → b ≡ c → option_map paired (if b then Some (record { number = suc k; read = r }) else first_from p (suc (suc k)) rs)
+          ≡ option_map (raised k) (if c then Some (1, logged ms B r) else option_map (λ (t : ℕ × ReadOfHistory (caused_chase ms B)). (suc t.0, t.1)) (first_that q (map (logged ms B) rs)))
+      by true true e = let f : suc k ≡ k + 1 = omega arith in ap (λ n. Some {A = ℕ × ReadOfHistory (caused_chase ms B)} (n, logged ms B r)) f
+      by true false e = absurd (cc)
+      by false true e = absurd (cc)
+      by false false e = from_that p q h (suc k) rs ∙ raised_more k (first_that q (map (logged ms B) rs))
+
+  -- The first read that passes, of which both ask the same.
+  pub first_is : (p : Read → Bool) (q : ReadOfHistory (caused_chase ms B) → Bool) → ((r : Read) → p r ≡ q (logged ms B r)) → (rs : List Read)
+      → option_map paired (first_from p 1 rs) ≡ first_that q (map (logged ms B) rs)
+  first_is p q h rs = from_that p q h 0 rs ∙ raised_none (first_that q (map (logged ms B) rs))
+
+  -- The read is reached by one of the members' trails just where it is by one of the history's members.
+  pub reached_is : (ks : List Member) (r : Read) → any_reached ms (trails_of ks) r ≡ list_any (λ m. reads_of (caused_chase ms B) (logged ms B r) m.trail) (members_of ms B ks)
+  reached_is [] r = refl
+  reached_is (m ∷ ks) r = ap (λ b. is_reached ms r (trail_of m) || b) (reached_is ks r)
+
+  -- The least member that wrote a relation which the read mentions.
+  pub writer_is : (ks : List Member) (r : Read) → writer_for (caused_chase ms B) (logged ms B r) (members_of ms B ks) ≡ least_writer ms r ks
+  writer_is [] r = refl
+  writer_is (m ∷ ks) r = ap (λ n. if is_reached ms r (trail_of m) then m.number else n) (writer_is ks r)
