@@ -1,1 +1,3 @@
-
+pub mod Trailing
+pub mod Causing
+pub mod Preparing

@@ -5,3 +5,5 @@ pub mod Snapshots
 pub mod Kept
 pub mod Told
 pub mod Aftermaths
+pub mod Steps
+pub mod Follows

@@ -20,7 +20,7 @@ pub(crate) struct Aftermath {
 
 /// What is left where the updates above restart that have a cause: the versions, which are handed over, lose their
 /// trails. It is refused only for want of memory.
-pub(crate) fn aftermath(
+pub(crate) fn settled(
     alloc: Global,
     versions: Versions,
     upper: &[Record],

@@ -9,6 +9,7 @@ mod cores;
 mod plans;
 mod refusals;
 mod standings;
+mod stepping;
 
 pub use crate::cores::Core;
 pub use crate::plans::{Plan, Snapshot};
