@@ -1,5 +1,5 @@
 -- The step of a plan is the step of the update.
-use Rattle.std.proofs.Common.{◌≡◌, ◌∙◌, ap, sym, refl, ℕ, suc, zero, ◌≤◌, ◌<◌, ◌-◌, Bool, true, false, List, [], ◌∷◌, ◌++◌, map, length, take, drop, arith}
+use Rattle.std.proofs.Common.{◌≡◌, ◌∙◌, ap, sym, refl, ℕ, suc, zero, ◌≤◌, ◌<◌, ◌-◌, ◌+◌, Bool, true, false, List, [], ◌∷◌, ◌++◌, map, length, take, drop, arith}
 use Rattle.std.specs.Prelude.{if◌then◌else◌}
 use Rattle.std.proofs.lemmas.List.{map-append, drop-map, drop_at, length-map, length-append, take_rest}
 use Rattle.std.proofs.lemmas.Simd.{map-map}
@@ -8,7 +8,7 @@ use Rattle.yt_base.specs.declared.updates.Write.{Write}
 use Rattle.yt_machine.specs.Trees.{result_of, log_of}
 use Rattle.yt_machine.specs.Steps.{stepped, step_log, step_writes}
 use Rattle.yt_machine.specs.Standings.{next_answer}
-use Rattle.yt_machine.specs.Updates.{hides, shown}
+use Rattle.yt_machine.specs.Updates.{Update, hides, shown}
 use Rattle.yt_model.specs.Values.{Fact}
 use Rattle.yt_model.specs.Mappings.{Rule}
 use Rattle.yt_model.specs.Repository.{Change}
@@ -22,8 +22,8 @@ use Rattle.yt_steps.specs.Attempts.{outcome_in}
 use Rattle.yt_steps.specs.Steps.{step}
 use Rattle.yt_steps.specs.Chase.{caused_chase, ending}
 use Rattle.std.specs.Option.{option_map}
-use Rattle.yt_queue.specs.Programs.{IsPlanOf, HasShown, HasWritten}
-use Rattle.yt_queue.specs.Queues.{logged, update_of, StandsAt}
+use Rattle.yt_queue.specs.Programs.{IsPlanOf}
+use Rattle.yt_queue.specs.Queues.{logged, update_of}
 use Rattle.yt_queue.specs.declared.records.Record.{Record}
 
 -- Behind the step the log is that of the step.
@@ -39,28 +39,30 @@ logs ms B D r plan log p e =
     ∙ ap (λ (rs : List Read). before ++ map (logged ms B) rs) p.reads
     ∙ (λ i. before ++ map-map (logged ms B) (read_after (length P.own)) (log_of (answers_over ms D P) (step ms P c)) i)))
 
--- A record that has taken over the attempt and the reads of the plan has made the step.
-pub stepped_by : (ms : List Rule) (B : ℕ) (D : List Fact) (r : Record) (plan : Plan) (r' : Record) → IsPlanOf ms B D r plan → r'.program ≡ plan.program → r'.log.items ≡ r.log.items ++ plan.reads.items → r'.withdrawn ≡ r.withdrawn
-    → r'.answers.items ≡ r.answers.items → r'.inbox.items ≡ r.inbox.items → update_of ms B r' ≡ stepped (caused_chase ms B) D (update_of ms B r)
-stepped_by ms B D r plan r' p e l w a i =
-    let state = e ∙ p.program in
-    let log = logs ms B D r plan r'.log.items p l in
+-- With the attempt and the reads of the plan taken over, the step is made.
+pub stepped_by : (ms : List Rule) (B : ℕ) (D : List Fact) (r : Record) (plan : Plan) (log : List LoggedRead) → IsPlanOf ms B D r plan → log ≡ r.log.items ++ plan.reads.items
+    → ◌≡◌ {A = Update (caused_chase ms B)}
+    (record {
+      operation = plan.program.attempt.operation;
+      attempt = plan.program.attempt.attempt;
+      state = plan.program.attempt;
+      log = map (logged ms B) (map read_of log);
+      withdrawn = r.withdrawn;
+      answers = map choice_of r.answers.items;
+      inbox = map choice_of r.inbox.items;
+    })
+    (stepped (caused_chase ms B) D (update_of ms B r))
+stepped_by ms B D r plan log p e =
+    let state = p.program in
+    let all = logs ms B D r plan log p e in
     λ j. record {
       operation = (state j).attempt.operation;
       attempt = (state j).attempt.attempt;
       state = (state j).attempt;
-      log = log j;
-      withdrawn = w j;
-      answers = map choice_of (a j);
-      inbox = map choice_of (i j);
-    }
-
--- It keeps its place.
-pub place_by : (ms : List Rule) (B : ℕ) (D : List Fact) (n : ℕ) (r : Record) (plan : Plan) (r' : Record) → IsPlanOf ms B D r plan → r'.program ≡ plan.program → StandsAt n r → StandsAt n r'
-place_by ms B D n r plan r' p e s =
-    record {
-      number = ap (λ (t : State). t.attempt.number) (e ∙ p.program) ∙ s.number;
-      between = ap (λ (t : State). t.reading) (e ∙ p.program);
+      log = all j;
+      withdrawn = r.withdrawn;
+      answers = map choice_of r.answers.items;
+      inbox = map choice_of r.inbox.items;
     }
 
 drop_none : {A : Type 0} (n : ℕ) → ◌≡◌ {A = List A} (drop n []) []

@@ -1,4 +1,5 @@
-pub mod Wishing
+pub mod Deciding
 pub mod Following
 pub mod Answering
 pub mod Restarting
+pub mod Walking

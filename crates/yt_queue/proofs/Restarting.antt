@@ -2,7 +2,7 @@
 use Rattle.std.proofs.Common.{◌≡◌, ◌∙◌, ap, sym, refl, subst, ℕ, suc, zero, ◌≤◌, ◌<◌, ◌+◌, Bool, true, false, Option, Some, None, List, [], ◌∷◌, ◌++◌, map, length, get_or, take, drop, arith}
 use Rattle.std.specs.Prelude.{if◌then◌else◌, is_some}
 use Rattle.std.proofs.Math.ListN.{set}
-use Rattle.std.proofs.lemmas.List.{map-set, get_or-map, length-map}
+use Rattle.std.proofs.lemmas.List.{map-set, get_or-map, length-map, take-append-drop}
 use Rattle.yt_machine.specs.Machine.{Machine}
 use Rattle.yt_machine.specs.Updates.{Update}
 use Rattle.yt_machine.specs.Cascade.{Cause, anew}
@@ -16,7 +16,7 @@ use Rattle.yt_queue.specs.Renewals.{IsFresh, IsFreshIf, AreFresh, HasRestartedIf
 use Rattle.yt_queue.specs.declared.records.Record.{Record}
 
 -- The updates, of which those with a mark are restarted; the first is update n.
-pub restart_by : (M : Machine) → ℕ → List Bool → List (Update M) → List (Update M)
+abbrev pub restart_by : (M : Machine) → ℕ → List Bool → List (Update M) → List (Update M)
 restart_by M n bs [] = []
 restart_by M n [] (u ∷ us) = u ∷ us
 restart_by M n (b ∷ bs) (u ∷ us) = (if b then anew M n u else u) ∷ restart_by M (suc n) bs us
@@ -84,15 +84,28 @@ fresh_end (x ∷ rs) h = absurd h
 -- ---- one turn
 
 -- The record at place k begins its next attempt, if there is one.
-pub turned : (ms : List Rule) (B : ℕ) (rs rs' : List Record) (k : ℕ) (r v : Record) (f : Option State) (bs : List Bool) → AreFrom 1 rs → k < length rs → get_or rs k r ≡ r → HasRestartedIf f r v → rs' ≡ set rs k v
-    → take (suc k) (updates_of ms B rs') ++ restart_by (caused_chase ms B) (suc (suc k)) bs (drop (suc k) (updates_of ms B rs'))
+pub turned : (ms : List Rule) (B : ℕ) (rs : List Record) (k m : ℕ) (r v : Record) (f : Option State) (bs : List Bool) → AreFrom 1 rs → k < length rs → get_or rs k r ≡ r → HasRestartedIf f r v → m ≡ suc k
+    → take m (updates_of ms B (set rs k v)) ++ restart_by (caused_chase ms B) (suc m) bs (drop m (updates_of ms B (set rs k v)))
     ≡ take k (updates_of ms B rs) ++ restart_by (caused_chase ms B) (suc k) (is_some f ∷ bs) (drop k (updates_of ms B rs))
-turned ms B rs rs' k r v f bs a h e g q =
+turned ms B rs k m r v f bs a h e g q =
     let M = caused_chase ms B in
     let u = update_of ms B r in
     let l : k < length (updates_of ms B rs) = simp length-map h in
     let number = (stands_there rs 1 k r a h e).number in
     let same : 1 + k ≡ suc k = omega arith in
-    let made : update_of ms B v ≡ (if is_some f then anew M (suc k) u else u) = g ms B ∙ ap (λ (m : ℕ). if is_some f then anew M m u else u) (number ∙ same) in
-    ap (λ (us : List (Update M)). take (suc k) us ++ restart_by M (suc (suc k)) bs (drop (suc k) us)) (ap (updates_of ms B) q ∙ map-set (update_of ms B) rs k v)
+    let made : update_of ms B v ≡ (if is_some f then anew M (suc k) u else u) = g ms B ∙ ap (λ (n : ℕ). if is_some f then anew M n u else u) (number ∙ same) in
+    (λ i. take (q i) (map-set (update_of ms B) rs k v i) ++ restart_by M (suc (q i)) bs (drop (q i) (map-set (update_of ms B) rs k v i)))
     ∙ turn M (updates_of ms B rs) k (suc k) (update_of ms B v) (is_some f) bs u l (get_or-map (update_of ms B) rs k r u h ∙ ap (update_of ms B) e) made
+
+-- The records behind those that were restarted stay as they are.
+pub restarted : (ms : List Rule) (B : ℕ) (us all : List (Update (caused_chase ms B))) (k n : ℕ) (xs : List (Option (Cause (caused_chase ms B)))) (fs gs : List (Option State)) → gs ≡ [] → map is_some xs ≡ map is_some fs
+    → take k us ++ restart_by (caused_chase ms B) (suc k) (map is_some gs) (drop k us) ≡ take n all ++ restart_by (caused_chase ms B) (suc n) (map is_some fs) (drop n all)
+    → us ≡ take n all ++ restart (caused_chase ms B) (suc n) xs (drop n all)
+restarted ms B us all k n xs fs gs e f h =
+    let M = caused_chase ms B in
+    sym (take-append-drop k us)
+    ∙ (ap (λ (vs : List (Update M)). take k us ++ vs) (sym (none_restart M (suc k) (drop k us)))
+    ∙ (ap (λ (ys : List (Option State)). take k us ++ restart_by M (suc k) (map is_some ys) (drop k us)) (sym e)
+    ∙ (h
+    ∙ (ap (λ (bs : List Bool). take n all ++ restart_by M (suc n) bs (drop n all)) (sym f)
+    ∙ ap (λ (vs : List (Update M)). take n all ++ vs) (sym (restart_is M (suc n) xs (drop n all)))))))

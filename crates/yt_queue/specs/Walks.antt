@@ -5,7 +5,7 @@ use Rattle.yt_machine.specs.Standings.{standing, is_ready, is_deliverable, lowes
 use Rattle.yt_machine.specs.Updates.{Settings, committed}
 use Rattle.yt_model.specs.Mappings.{Rule}
 use Rattle.yt_steps.specs.Chase.{caused_chase}
-use Rattle.yt_queue.specs.Queues.{updates_of}
+use Rattle.yt_queue.specs.Queues.{update_of, updates_of}
 use Rattle.yt_queue.specs.declared.records.Record.{Record}
 
 -- So many updates are committed.
@@ -21,6 +21,11 @@ IsFirstReady s c n rs o =
 abbrev pub IsFirstDeliverable : Settings → ℕ → ℕ → List Record → Option ℕ → Type 0
 IsFirstDeliverable s c n rs o =
     (ms : List Rule) (B : ℕ) → o ≡ lowest_that (λ i u. is_deliverable (caused_chase ms B) s c i u) n (updates_of ms B rs)
+
+-- Whether it is ready, and its number n none of these.
+abbrev pub IsReadyBesides : List ℕ → Settings → ℕ → ℕ → Record → Bool → Type 0
+IsReadyBesides ns s c n r b =
+    (ms : List Rule) (B : ℕ) → b ≡ (is_ready (standing (caused_chase ms B) s c n (update_of ms B r)) && not (has_number ns n))
 
 -- The same for a ready one whose number is none of these.
 abbrev pub IsFirstBesides : List ℕ → Settings → ℕ → ℕ → List Record → Option ℕ → Type 0

@@ -1,10 +1,10 @@
 //! What an update may do next.
-ghost use Rattle.std.specs.Prelude.{◌≡◌, ◌+◌, ◌<◌, true};
+ghost use Rattle.std.specs.Prelude.{◌≡◌, ◌+◌, ◌<◌, true, not, map};
 ghost use Rattle.std.specs.Option.{option_map, option_copied};
 ghost use Rattle.yt_base.specs.Meanings.{choice_of};
 ghost use Rattle.yt_entries.specs.Meanings.{standing_of};
 ghost use Rattle.yt_frontier.specs.Inquiries.{inquiry_of};
-ghost use Rattle.yt_machine.specs.Standings.{is_pending as is_pending_lem, is_paused as is_paused_lem};
+ghost use Rattle.yt_machine.specs.Standings.{Paused, is_nil, is_ready as is_ready_lem, is_pending as is_pending_lem, is_paused as is_paused_lem};
 ghost use Rattle.yt_program.specs.PointMeanings.{end_of};
 ghost use Rattle.yt_program.specs.Results.{lack_of};
 ghost use Rattle.yt_queue.specs.Settings.{settings_of};
@@ -54,10 +54,7 @@ impl Record {
         requires between { IsBetween self.now.program }
         ensures ready { IsReady (settings_of settings) committed number self.now result }
     {
-        matches!(
-            self.standing(settings, committed, number),
-            Standing::Ready
-        )
+        is_ready(self.standing(settings, committed, number))
     }
 
     /// Whether a recorded answer may be delivered to the update: it is pending, and has one. It takes no memory.
@@ -65,8 +62,9 @@ impl Record {
         requires between { IsBetween self.now.program }
         ensures deliverable { IsDeliverable (settings_of settings) committed number self.now result }
     {
-        let standing = self.standing(settings, committed, number);
-        is_pending(standing) && !self.inbox.is_empty()
+        let pending = is_pending(self.standing(settings, committed, number));
+        let recorded = self.has_recorded();
+        pending && recorded
     }
 
     /// The question that is put to people for the update: there is one exactly where it is paused. It takes no memory.
@@ -74,8 +72,8 @@ impl Record {
         requires between { IsBetween self.now.program }
         ensures question { HasQuestion (settings_of settings) committed number self.now (option_map inquiry_of (option_copied result)) }
     {
-        let standing = self.standing(settings, committed, number);
-        if is_paused(standing) {
+        let paused = is_paused(self.standing(settings, committed, number));
+        if paused {
             asked(&self.program)
         } else {
             None
@@ -92,9 +90,8 @@ impl Record {
             return Standing::Held(committed + 1);
         }
         match self.lack() {
+            Some(lack) => paused(lack),
             None => Standing::Ready,
-            Some(Lack::Missing) => Standing::Pending,
-            Some(Lack::Misfit) => Standing::Misfit,
         }
     }
 
@@ -104,6 +101,13 @@ impl Record {
         ensures room { result ≡ true → committed + 1 < number }
     {
         settings.retries < self.program.attempt() && u64::from(committed) + 1 < u64::from(number)
+    }
+
+    // Whether an answer is recorded that was not delivered yet.
+    fn has_recorded(&self) -> bool
+        ensures recorded { result ≡ not (is_nil (map choice_of self.now.inbox.items)) }
+    {
+        !self.inbox.is_empty()
     }
 
     // What is lacking at the question, if it is at one and something is.
@@ -131,6 +135,16 @@ fn ended(outcome: Outcome) -> Standing
     }
 }
 
+// The standing of an update that is at a question, where this is lacking.
+fn paused(lack: Lack) -> Standing
+    ensures paused { standing_of result ≡ Paused (lack_of lack) }
+{
+    match lack {
+        Lack::Missing => Standing::Pending,
+        Lack::Misfit => Standing::Misfit,
+    }
+}
+
 // What is lacking at the question, with the next answer if there is one.
 fn unless_fits(question: &Question, next: Option<&Choice>) -> Option<Lack>
     ensures lack { option_map lack_of result ≡ unless_fits_lem (inquiry_of question.now)
@@ -140,6 +154,13 @@ fn unless_fits(question: &Question, next: Option<&Choice>) -> Option<Lack>
         Some(choice) => if fits(question, choice) { None } else { Some(Lack::Misfit) },
         None => Some(Lack::Missing),
     }
+}
+
+// Whether the update may make a step.
+fn is_ready(standing: Standing) -> bool
+    ensures ready { result ≡ is_ready_lem (standing_of standing) }
+{
+    matches!(standing, Standing::Ready)
 }
 
 // Whether the update is at a question without a next answer.

@@ -1,8 +1,10 @@
 //! Which of the updates come first.
-ghost use Rattle.std.specs.Prelude.{◌≡◌};
+ghost use Rattle.std.specs.Prelude.{◌≡◌, is_none as is_none_lem};
+ghost use Rattle.yt_machine.specs.Cascade.{has_number};
 ghost use Rattle.yt_queue.specs.Settings.{settings_of};
 ghost use Rattle.yt_queue.specs.Queues.{AreFrom};
-ghost use Rattle.yt_queue.specs.Walks.{HasCommitted, IsFirstReady, IsFirstDeliverable, IsFirstBesides, IsLowestReady, IsLowestDeliverable, IsLowestBesides, IsQuiet};
+ghost use Rattle.yt_queue.specs.Programs.{IsBetween};
+ghost use Rattle.yt_queue.specs.Walks.{HasCommitted, IsFirstReady, IsFirstDeliverable, IsFirstBesides, IsReadyBesides, IsLowestReady, IsLowestDeliverable, IsLowestBesides, IsQuiet};
 
 use crate::records::Record;
 use crate::settings::Settings;
@@ -52,8 +54,9 @@ pub fn is_quiet(queue: &[Record], settings: Settings) -> bool
     ensures quiet { IsQuiet (settings_of settings) queue.now result }
 {
     let committed = committed(queue);
-    first_ready(queue, settings, committed).is_none()
-        && first_deliverable(queue, settings, committed).is_none()
+    let none_ready = is_none(first_ready(queue, settings, committed));
+    let none_deliverable = is_none(first_deliverable(queue, settings, committed));
+    none_ready && none_deliverable
 }
 
 // The least number of a ready update, where so many are committed.
@@ -96,9 +99,40 @@ fn first_besides(
 {
     for record in queue {
         let number = record.number();
-        if record.is_ready(settings, committed, number) && !numbers.contains(&number) {
+        if is_ready_besides(record, settings, committed, number, numbers) {
             return Some(number);
         }
     }
     None
+}
+
+// Whether the update is ready, and its number none of these, where so many are committed.
+fn is_ready_besides(
+    item: &Record,
+    settings: Settings,
+    committed: u32,
+    number: u32,
+    numbers: &[u32],
+) -> bool
+    requires between { IsBetween item.now.program }
+    ensures ready { IsReadyBesides numbers.now (settings_of settings) committed number item.now
+        result }
+{
+    let ready = item.is_ready(settings, committed, number);
+    let besides = !is_among(numbers, number);
+    ready && besides
+}
+
+// Whether the number is among these.
+fn is_among(numbers: &[u32], number: u32) -> bool
+    ensures among { result ≡ has_number numbers.now number }
+{
+    numbers.contains(&number)
+}
+
+// Whether there is no such update.
+fn is_none(number: Option<u32>) -> bool
+    ensures none { result ≡ is_none_lem number }
+{
+    number.is_none()
 }

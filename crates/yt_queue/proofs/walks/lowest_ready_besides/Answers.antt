@@ -1,0 +1,13 @@
+use Rattle.std.proofs.Common.{◌∙◌, ap, ℕ}
+use Rattle.std.specs.Prelude.{◌&&◌, not}
+use Rattle.yt_machine.specs.Cascade.{has_number}
+use Rattle.yt_machine.specs.Standings.{standing, is_ready, lowest_that}
+use Rattle.yt_steps.specs.Chase.{caused_chase}
+use Rattle.yt_queue.specs.Settings.{settings_of}
+use Rattle.yt_queue.specs.Queues.{updates_of}
+use Rattle.yt_queue.proofs.walks.lowest_ready_besides.Goals as goal
+
+pub returns : goal.returns
+returns c = record {
+  lowest = λ ms B. c.first_besides.ensures.first ms B ∙ ap (λ (k : ℕ). lowest_that {M = caused_chase ms B} (λ i u. is_ready (standing (caused_chase ms B) (settings_of c.args.settings) k i u) && not (has_number c.args.numbers.now i)) 1 (updates_of ms B c.args.queue.now)) (c.committed.ensures.committed ms B);
+}
