@@ -1,5 +1,5 @@
 -- The first reads of the program's logs are those of histories.
-use Rattle.std.proofs.Common.{◌≡◌, ◌∙◌, ap, refl, sym, ℕ, suc, ◌+◌, Bool, true, false, not, List, [], ◌∷◌, map, Option, Some, None, arith}
+use Rattle.std.proofs.Common.{◌≡◌, ◌∙◌, ap, refl, sym, ℕ, suc, ◌+◌, Bool, true, false, not, ◌||◌, List, [], ◌∷◌, map, Option, Some, None, arith}
 use Rattle.std.specs.Prelude.{if◌then◌else◌}
 use Rattle.std.specs.List.{list_any}
 use Rattle.std.specs.Option.{option_map}
@@ -28,25 +28,29 @@ module _ (ms : List Rule) (B : ℕ) where
   abbrev raised : ℕ → ℕ × ReadOfHistory (caused_chase ms B) → ℕ × ReadOfHistory (caused_chase ms B)
   raised k t = (k + t.0, t.1)
 
+  abbrev some_at : ℕ → ReadOfHistory (caused_chase ms B) → Option (ℕ × ReadOfHistory (caused_chase ms B))
+  some_at n r = Some (n, r)
+
   raised_more : (k : ℕ) (o : Option (ℕ × ReadOfHistory (caused_chase ms B))) → option_map (raised (suc k)) o ≡ option_map (raised k) (option_map (λ (t : ℕ × ReadOfHistory (caused_chase ms B)). (suc t.0, t.1)) o)
   raised_more k None = refl
-  raised_more k (Some t) = let e : suc k + t.0 ≡ k + suc t.0 = omega arith in ap (λ n. Some {A = ℕ × ReadOfHistory (caused_chase ms B)} (n, t.1)) e
+  raised_more k (Some t) = let e : suc k + t.0 ≡ k + suc t.0 = omega arith in ap (λ n. some_at n t.1) e
 
   raised_none : (o : Option (ℕ × ReadOfHistory (caused_chase ms B))) → option_map (raised 0) o ≡ o
   raised_none None = refl
-  raised_none (Some t) = let e : 0 + t.0 ≡ t.0 = omega arith in ap (λ n. Some {A = ℕ × ReadOfHistory (caused_chase ms B)} (n, t.1)) e
+  raised_none (Some t) = let e : 0 + t.0 ≡ t.0 = omega arith in ap (λ n. some_at n t.1) e
+
+  from_step : (k : ℕ) (r : Read) (x : Option Numbered) (y : Option (ℕ × ReadOfHistory (caused_chase ms B))) → option_map paired x ≡ option_map (raised (suc k)) y → (b c : Bool) → b ≡ c
+      → option_map paired (if b then Some (record { number = suc k; read = r }) else x)
+      ≡ option_map (raised k) (if c then Some (1, logged ms B r) else option_map (λ (t : ℕ × ReadOfHistory (caused_chase ms B)). (suc t.0, t.1)) y)
+  from_step k r x y h true true e = let f : suc k ≡ k + 1 = omega arith in ap (λ n. some_at n (logged ms B r)) f
+  from_step k r x y h true false e = absurd (cc)
+  from_step k r x y h false true e = absurd (cc)
+  from_step k r x y h false false e = h ∙ raised_more k y
 
   from_that : (p : Read → Bool) (q : ReadOfHistory (caused_chase ms B) → Bool) → ((r : Read) → p r ≡ q (logged ms B r)) → (k : ℕ) (rs : List Read)
       → option_map paired (first_from p (suc k) rs) ≡ option_map (raised k) (first_that q (map (logged ms B) rs))
   from_that p q h k [] = refl
-  from_that p q h k (r ∷ rs) = by (p r) (q (logged ms B r)) (h r)
-    where
-      by : (b c : Bool) → b ≡ c → option_map paired (if b then Some (record { number = suc k; read = r }) else first_from p (suc (suc k)) rs)
-          ≡ option_map (raised k) (if c then Some (1, logged ms B r) else option_map (λ (t : ℕ × ReadOfHistory (caused_chase ms B)). (suc t.0, t.1)) (first_that q (map (logged ms B) rs)))
-      by true true e = let f : suc k ≡ k + 1 = omega arith in ap (λ n. Some {A = ℕ × ReadOfHistory (caused_chase ms B)} (n, logged ms B r)) f
-      by true false e = absurd (cc)
-      by false true e = absurd (cc)
-      by false false e = from_that p q h (suc k) rs ∙ raised_more k (first_that q (map (logged ms B) rs))
+  from_that p q h k (r ∷ rs) = from_step k r (first_from p (suc (suc k)) rs) (first_that q (map (logged ms B) rs)) (from_that p q h (suc k) rs) (p r) (q (logged ms B r)) (h r)
 
   -- The first read that passes, of which both ask the same.
   pub first_is : (p : Read → Bool) (q : ReadOfHistory (caused_chase ms B) → Bool) → ((r : Read) → p r ≡ q (logged ms B r)) → (rs : List Read)

@@ -52,7 +52,8 @@ module _ (ms : List Rule) (B : ℕ) where
   below_next n u us v h =
       seen_is_applied v h.base h.trails h.sorted h.stand (suc n)
       ∙ apply_join h.base (writes_below h.trails n) (h.trails n)
-      ∙ (λ i. apply (seen_is_applied v h.base h.trails h.sorted h.stand n (~ i)) (h.above.0 i))
+      ∙ ap (λ E. apply E (h.trails n)) (sym (seen_is_applied v h.base h.trails h.sorted h.stand n))
+      ∙ ap (apply (seen n v)) h.above.0
 
   -- The trails of those above it are held too.
   pub hold_next : (n : ℕ) (u : Update (caused_chase ms B)) (us : List (Update (caused_chase ms B))) (v : Kept) → HoldFrom ms B n (u ∷ us) v → HoldFrom ms B (suc n) us v

@@ -1,5 +1,6 @@
 -- One turn of the walk upwards.
-use Rattle.std.proofs.Common.{◌≡◌, ◌∙◌, ap, refl, sym, subst, ℕ, suc, Bool, true, false, List, [], ◌∷◌, ◌++◌, map, Option, Some, None, is_some, append_assoc, append-nil, map-append, length}
+use Rattle.std.proofs.Common.{◌≡◌, ◌∙◌, ap, refl, sym, subst, ℕ, suc, Bool, true, false, List, [], ◌∷◌, ◌++◌, map, Option, Some, None, is_some, append_assoc, append-nil, length}
+use Rattle.std.proofs.lemmas.List.{map-append}
 use Rattle.std.specs.Option.{option_map}
 use Rattle.yt_entries.specs.declared.causes.Cause.{Cause as CauseOfProgram}
 use Rattle.yt_machine.specs.Cascade.{Cause, Member, with_member, without_member}
@@ -31,7 +32,7 @@ pub record Turn (a : Above) (conflicting : Bool) (B : ℕ) (all : List (Option (
       ≡ all
 
 -- All of it is what the walk finds.
-abbrev pub all_of : Above → Bool → (B : ℕ) → Lost → List Record → List (Option (Cause (caused_chase a.rules B)))
+abbrev pub all_of : (a : Above) → Bool → (B : ℕ) → Lost → List Record → List (Option (Cause (caused_chase a.rules B)))
 all_of a conflicting B lost rs =
     settle (caused_chase a.rules B) a.deps conflicting a.committed a.update (seen (suc a.update) a.whole) (seen (suc a.update) lost.without) (members_of a.rules B lost.members.items) (suc a.update) (updates_of a.rules B rs)
 
@@ -110,4 +111,4 @@ of_loss a none lost ws rs xs w k l f B D lower u e eu h =
     ∙ (λ i. settle (caused_chase a.rules B) a.deps false a.committed a.update
     ((below_next a.rules B a.update u us a.whole held ∙ ap (λ E. apply E (trail (caused_chase a.rules B) u)) below) i)
     ((below_without a.rules B a.update u us a.whole lost.without held gone ∙ below) i)
-    ((l.joined a.rules B ∙ (λ j. members_of a.rules B (k j) ++ record { number = a.update; trail = eu (~ j) } ∷ [])) i) (suc a.update) us)
+    ((l.joined a.rules B ∙ (λ j. members_of a.rules B (k j) ++ record { number = a.update; trail = sym eu j } ∷ [])) i) (suc a.update) us)

@@ -1,5 +1,5 @@
 -- What each part of the walk finds and leaves.
-use Rattle.std.specs.Prelude.{◌≡◌, ℕ, suc, nat_lt, Bool, not, ◌&&◌, List, [], ◌∷◌, ◌++◌, Option, None, if◌then◌else◌}
+use Rattle.std.specs.Prelude.{◌≡◌, ℕ, suc, nat_lt, Bool, true, false, not, ◌&&◌, List, [], ◌∷◌, ◌++◌, Option, None, if◌then◌else◌}
 use Rattle.std.specs.Option.{option_map}
 use Rattle.yt_conflict.specs.Changes.{Changed, Numbered}
 use Rattle.yt_conflict.specs.Meanings.{changed_of}
@@ -46,6 +46,11 @@ IsConflict j n c x = option_map plain_of x ≡ option_map (conflict_meant j n) (
 -- It is the conflict of the reader, if that is live.
 abbrev pub IsConflictFor : Above → Record → Option Cause → Type 0
 IsConflictFor a r x = option_map plain_of x ≡ option_map (conflict_meant a.update (number_of r)) (first_changed_in a.rules a.whole r)
+
+-- The same where conflicts are looked for, and else none.
+abbrev pub IsConflictWhere : Bool → Above → Record → Option Cause → Type 0
+IsConflictWhere true a r x = IsConflictFor a r x
+IsConflictWhere false a r x = x ≡ None
 
 -- The dependence of the reader of this number, by its read.
 abbrev pub dependence_meant : List Rule → List Member → ℕ → Numbered → PlainCause

@@ -1,7 +1,7 @@
 //! Why one update is restarted.
 ghost use Rattle.std.specs.Prelude.{◌≡◌, IfOk};
 ghost use Rattle.yt_cascade.specs.Meanings.{above_of};
-ghost use Rattle.yt_cascade.specs.Walks.{IsCauseFor, IsConflict, IsConflictFor, IsDependenceFor, may_have_cause as may_have_cause_lem};
+ghost use Rattle.yt_cascade.specs.Walks.{IsCauseFor, IsConflict, IsConflictFor, IsConflictWhere, IsDependenceFor, may_have_cause as may_have_cause_lem};
 
 use crate::cascades::Cascade;
 use crate::lost::Lost;
@@ -26,19 +26,37 @@ impl<'a> Cascade<'a> {
         if !self.may_have_cause(reader) {
             return Ok(None);
         }
-        if conflicting {
-            if let Some(cause) = self.conflict_for(alloc, reader)? {
-                return Ok(Some(cause));
-            }
+        if let Some(cause) = self.conflict_where(alloc, conflicting, reader)? {
+            return Ok(Some(cause));
         }
-        self.dependence_for(alloc, lost, reader)
+        let cause = self.dependence_for(alloc, lost, reader)?;
+        Ok(cause)
     }
 
     // Whether the reader is live and has read something.
     fn may_have_cause(&self, reader: &Record) -> bool
         ensures answer { result ≡ may_have_cause_lem self.now.committed reader.now }
     {
-        reader.is_live(self.committed, reader.number()) && !reader.log.is_empty()
+        if !reader.is_live(self.committed, reader.number()) {
+            return false;
+        }
+        !reader.log.is_empty()
+    }
+
+    // The conflict of the live reader, where those are looked for.
+    fn conflict_where(
+        &self,
+        alloc: Global,
+        conflicting: bool,
+        reader: &Record,
+    ) -> Result<Option<Cause>, Memory>
+        ensures conflict { IfOk result (IsConflictWhere conflicting (above_of self.now) reader.now) }
+    {
+        if !conflicting {
+            return Ok(None);
+        }
+        let cause = self.conflict_for(alloc, reader)?;
+        Ok(cause)
     }
 
     // The first read of the live reader that has another value over what lies below it, if there is one.

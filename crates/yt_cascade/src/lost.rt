@@ -70,7 +70,8 @@ impl<'r> Lost<'r> {
         if !restarts {
             return Ok(());
         }
-        self.lose(alloc, reader.number(), reader.trail())
+        self.lose(alloc, reader.number(), reader.trail())?;
+        Ok(())
     }
 
     /// The first of the reads that mentions a relation of which a write is lost.
