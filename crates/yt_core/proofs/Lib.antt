@@ -1,3 +1,4 @@
 pub mod Trailing
 pub mod Causing
 pub mod Preparing
+pub mod Following

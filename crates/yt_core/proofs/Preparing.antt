@@ -114,11 +114,11 @@ found_in_writes a s old r upper plan found b d n spent f are B E lower e before 
     let D : List Fact = apply (laid a.rules B E lower) (trail (caused_chase a.rules B) v) in
     let j : a.update ≡ suc (length lower) = n ∙ e in
     let law = (walk_law (caused_chase a.rules B) a.deps a.committed (suc (length lower)) D u us).0 in
-    let mine : causes_above a.rules B s a.committed E lower u us ≡ causes_of_writes (caused_chase a.rules B) a.deps a.committed (suc (length lower)) D us =
+    let mine : causes_above a.rules B s a.committed (suc (length lower)) E lower u us ≡ causes_of_writes (caused_chase a.rules B) a.deps a.committed (suc (length lower)) D us =
         (λ i. causes_of_step (caused_chase a.rules B) (d (~ i)) a.committed (suc (length lower)) (laid a.rules B E lower) u v us)
         ∙ if_is_false (is_spent ((caused_chase a.rules B).outcome v.state)) (causes_of_loss (caused_chase a.rules B) a.deps a.committed (suc (length lower)) (laid a.rules B E lower) u us) (causes_of_writes (caused_chase a.rules B) a.deps a.committed (suc (length lower)) D us)
         (ap (λ (P : Rattle.yt_steps.specs.Attempts.Attempt). is_spent (option_map ending (outcome_in P.phase))) (sym (plan_state a.rules B (laid a.rules B E lower) r plan p)) ∙ sym spent ∙ f) in
-    found_by a.rules B (causes_above a.rules B s a.committed E lower u us) (suc (suc (length lower))) us found
+    found_by a.rules B (causes_above a.rules B s a.committed (suc (length lower)) E lower u us) (suc (suc (length lower))) us found
     (settle (caused_chase a.rules B) a.deps true a.committed (suc (length lower)) D D [] (suc (suc (length lower))) us)
     (are B E lower v j after ∙ (λ i. settle (caused_chase a.rules B) a.deps true a.committed (j i) D D [] (suc (j i)) us))
     (mine ∙ law.causes)
@@ -136,11 +136,11 @@ found_in_loss a s new r upper plan ws found b d n spent f trail_is are B E lower
     let j : a.update ≡ suc (length lower) = n ∙ e in
     let law = (walk_law (caused_chase a.rules B) a.deps a.committed (suc (length lower)) D u us).1 in
     let S : List (Option (Cause (caused_chase a.rules B))) = settle (caused_chase a.rules B) a.deps false a.committed (suc (length lower)) D' D (record { number = suc (length lower); trail = trail (caused_chase a.rules B) u } ∷ []) (suc (suc (length lower))) us in
-    let mine : causes_above a.rules B s a.committed E lower u us ≡ causes_of_loss (caused_chase a.rules B) a.deps a.committed (suc (length lower)) D u us =
+    let mine : causes_above a.rules B s a.committed (suc (length lower)) E lower u us ≡ causes_of_loss (caused_chase a.rules B) a.deps a.committed (suc (length lower)) D u us =
         (λ i. causes_of_step (caused_chase a.rules B) (d (~ i)) a.committed (suc (length lower)) (laid a.rules B E lower) u v us)
         ∙ if_is_true (is_spent ((caused_chase a.rules B).outcome v.state)) (causes_of_loss (caused_chase a.rules B) a.deps a.committed (suc (length lower)) D u us) (causes_of_writes (caused_chase a.rules B) a.deps a.committed (suc (length lower)) (apply D (trail (caused_chase a.rules B) v)) us)
         (ap (λ (P : Rattle.yt_steps.specs.Attempts.Attempt). is_spent (option_map ending (outcome_in P.phase))) (sym (plan_state a.rules B D r plan p)) ∙ sym spent ∙ f) in
-    found_by a.rules B (causes_above a.rules B s a.committed E lower u us) (suc (suc (length lower))) us found S
+    found_by a.rules B (causes_above a.rules B s a.committed (suc (length lower)) E lower u us) (suc (suc (length lower))) us found S
     (are B E lower u j (sym (trail_is a.rules B)) before
     ∙ (λ i. settle (caused_chase a.rules B) a.deps false a.committed (j i) D' D (record { number = j i; trail = trail (caused_chase a.rules B) u } ∷ []) (suc (j i)) us))
     (mine ∙ law.causes ∙ ap (λ (cs : List (Cause (caused_chase a.rules B))). cs ++ dependences_in S) (sym (no_conflicts (caused_chase a.rules B) a.deps a.committed (suc (length lower)) D' D (record { number = suc (length lower); trail = trail (caused_chase a.rules B) u } ∷ []) (suc (suc (length lower))) us)))
@@ -161,7 +161,8 @@ step_prepared ms s c old after r upper plan found ws p from shows were cleared t
     let mid' : AreVersions ms B E ((lower ++ v ∷ []) ++ us) after = subst (λ (xs : List (Update (caused_chase ms B))). AreVersions ms B E xs after) (sym (one_by_one ms B lower v us)) mid in
     let cut : AreVersions ms B E ((lower ++ v ∷ []) ++ restart (caused_chase ms B) (suc (suc (length lower))) (all_found ms B found) us) p.left.versions =
         versions_cleared ms B (suc (suc (length lower))) E (lower ++ v ∷ []) upper found (all_found ms B found) after p.left.versions (ap suc (more lower v)) (subst (λ (m : ℕ). AreFrom (suc m) upper) e from) (all_marked ms B found) cleared mid' in
-    record {
+    subst (λ (j : ℕ). IsStepLeft ms B s c j E lower u us p) (sym e)
+    (record {
       causes = ap (λ cs. map (cause_kept ms B) (map cause_of cs)) causes ∙ is.told;
       restarts = λ xs m. is.restarts xs (m ∙ there);
       versions =
@@ -169,7 +170,7 @@ step_prepared ms s c old after r upper plan found ws p from shows were cleared t
           (one_by_one ms B lower v (restart (caused_chase ms B) (suc (suc (length lower))) (all_found ms B found) us)
           ∙ ap (λ (xs : List (Update (caused_chase ms B))). lower ++ v ∷ xs) (is.restarts (all_found ms B found) (all_marked ms B found))) cut;
       writes = same ∙ written ms B (laid ms B E lower) isplan;
-    }
+    })
   where
     more : {X : Type 0} (xs : List X) (x : X) → suc (length xs) ≡ length (xs ++ x ∷ [])
     more [] x = refl

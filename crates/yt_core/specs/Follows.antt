@@ -73,7 +73,7 @@ IsPreparedAt ms s k plan v rs p =
     (B : ℕ) (requests : List Request) (later : List Operation) (D : List Fact) (H : List PlainEntry) (r : Record) → IsKept (ground_with ms s B D requests later) v rs H → slice_get rs k ≡ Some r
     → standing (caused_chase ms B) s (committed (caused_chase ms B) (updates_of ms B rs)) (suc k) (update_of ms B r) ≡ Ready
     → IsPlanOf ms B (below (caused_chase ms B) D (updates_of ms B rs) k) r plan
-    → IsStepLeft ms B s (committed (caused_chase ms B) (updates_of ms B rs)) D (take k (updates_of ms B rs)) (update_of ms B r) (drop (suc k) (updates_of ms B rs)) p
+    → IsStepLeft ms B s (committed (caused_chase ms B) (updates_of ms B rs)) (suc k) D (take k (updates_of ms B rs)) (update_of ms B r) (drop (suc k) (updates_of ms B rs)) p
 
 -- The update at the place has made the step of the plan, and those above it have restarted for which there is an attempt.
 abbrev pub IsInstalled : ℕ → Plan → List (Option ProgramState) → List Record → List Record → Type 0

@@ -51,22 +51,20 @@ module _ (ms : List Rule) (B : ℕ) where
   abbrev pub after_step : List Fact → List (Update (caused_chase ms B)) → Update (caused_chase ms B) → Update (caused_chase ms B)
   after_step E lower u = stepped (caused_chase ms B) (laid ms B E lower) u
 
-  -- The causes of that step.
-  abbrev pub causes_above : Settings → ℕ → List Fact → List (Update (caused_chase ms B)) → Update (caused_chase ms B) → List (Update (caused_chase ms B)) → List (Cause (caused_chase ms B))
-  causes_above s c E lower u upper =
-      causes_of_step (caused_chase ms B) s.deps c (suc (length lower)) (laid ms B E lower) u (after_step E lower u) upper
+  -- The causes of that step, where the update has number j.
+  abbrev pub causes_above : Settings → ℕ → ℕ → List Fact → List (Update (caused_chase ms B)) → Update (caused_chase ms B) → List (Update (caused_chase ms B)) → List (Cause (caused_chase ms B))
+  causes_above s c j E lower u upper = causes_of_step (caused_chase ms B) s.deps c j (laid ms B E lower) u (after_step E lower u) upper
 
   -- The updates above it after that step.
-  abbrev pub restarted_above : Settings → ℕ → List Fact → List (Update (caused_chase ms B)) → Update (caused_chase ms B) → List (Update (caused_chase ms B)) → List (Update (caused_chase ms B))
-  restarted_above s c E lower u upper =
-      restarted (caused_chase ms B) (readers (causes_above s c E lower u upper)) (suc (suc (length lower))) upper
+  abbrev pub restarted_above : Settings → ℕ → ℕ → List Fact → List (Update (caused_chase ms B)) → Update (caused_chase ms B) → List (Update (caused_chase ms B)) → List (Update (caused_chase ms B))
+  restarted_above s c j E lower u upper = restarted (caused_chase ms B) (readers (causes_above s c j E lower u upper)) (suc j) upper
 
   -- What that step leaves: its causes, the restarts, the versions, and its writes.
-  pub record IsStepLeft (s : Settings) (c : ℕ) (E : List Fact) (lower : List (Update (caused_chase ms B))) (u : Update (caused_chase ms B)) (upper : List (Update (caused_chase ms B))) (p : Prepared) : Type 0 where
-    pub causes : map (cause_kept ms B) (map cause_of p.left.causes.items) ≡ causes_above s c E lower u upper
+  pub record IsStepLeft (s : Settings) (c j : ℕ) (E : List Fact) (lower : List (Update (caused_chase ms B))) (u : Update (caused_chase ms B)) (upper : List (Update (caused_chase ms B))) (p : Prepared) : Type 0 where
+    pub causes : map (cause_kept ms B) (map cause_of p.left.causes.items) ≡ causes_above s c j E lower u upper
     pub restarts : (xs : List (Option (Cause (caused_chase ms B)))) → map is_some xs ≡ map is_some p.left.fresh.items
-        → restart (caused_chase ms B) (suc (suc (length lower))) xs upper ≡ restarted_above s c E lower u upper
-    pub versions : AreVersions ms B E (lower ++ after_step E lower u ∷ restarted_above s c E lower u upper) p.left.versions
+        → restart (caused_chase ms B) (suc j) xs upper ≡ restarted_above s c j E lower u upper
+    pub versions : AreVersions ms B E (lower ++ after_step E lower u ∷ restarted_above s c j E lower u upper) p.left.versions
     pub writes : map change_of p.writes.items ≡ writes_of_step (caused_chase ms B) (laid ms B E lower) u
 
 -- In any history of these mappings where the plan is the step of the update, which is ready: the versions then have its
@@ -83,7 +81,7 @@ WereFound ms s c old new r upper plan found =
     (B : ℕ) (E : List Fact) (lower : List (Update (caused_chase ms B))) → r.program.attempt.number ≡ suc (length lower)
     → AreVersions ms B E (lower ++ update_of ms B r ∷ updates_of ms B upper) old → AreVersions ms B E (lower ++ after_step ms B E lower (update_of ms B r) ∷ updates_of ms B upper) new
     → IsPlanOf ms B (laid ms B E lower) r plan
-    → IsFound ms B (causes_above ms B s c E lower (update_of ms B r) (updates_of ms B upper)) (suc (suc (length lower))) (updates_of ms B upper) found
+    → IsFound ms B (causes_above ms B s c (suc (length lower)) E lower (update_of ms B r) (updates_of ms B upper)) (suc (suc (length lower))) (updates_of ms B upper) found
 
 -- In any history of these mappings over E where the update stands above the lower ones and is ready, and the plan is that
 -- of its step: what was prepared is what the step leaves.
@@ -91,4 +89,4 @@ abbrev pub IsPrepared : List Rule → Settings → ℕ → Kept → Record → L
 IsPrepared ms s c v r upper plan p =
     (B : ℕ) (E : List Fact) (lower : List (Update (caused_chase ms B))) (k n : ℕ) → r.program.attempt.number ≡ suc (length lower)
     → AreVersions ms B E (lower ++ update_of ms B r ∷ updates_of ms B upper) v → MayStep ms B s k n r
-    → IsPlanOf ms B (laid ms B E lower) r plan → IsStepLeft ms B s c E lower (update_of ms B r) (updates_of ms B upper) p
+    → IsPlanOf ms B (laid ms B E lower) r plan → IsStepLeft ms B s c r.program.attempt.number E lower (update_of ms B r) (updates_of ms B upper) p
