@@ -62,24 +62,12 @@ fresh_within [] (suc k) f fs h = absurd h
 fresh_within (x ∷ rs) zero f fs h = omega arith
 fresh_within (x ∷ rs) (suc k) f fs h = let l : k < length rs = fresh_within rs k f fs h in omega (arith, l)
 
--- The first is that of the record at the place.
-pub fresh_here : (rs : List Record) (k : ℕ) (f : Option State) (fs : List (Option State)) (r : Record) → AreFresh (drop k rs) (f ∷ fs) → get_or rs k r ≡ r → IsFreshIf r f
-fresh_here [] zero f fs r h e = absurd h
-fresh_here [] (suc k) f fs r h e = absurd h
-fresh_here (x ∷ rs) zero f fs r h e = subst (λ (y : Record). IsFreshIf y f) e h.0
-fresh_here (x ∷ rs) (suc k) f fs r h e = fresh_here rs k f fs r h e
-
 -- The others are those of the records behind it.
 pub fresh_rest : (rs : List Record) (k : ℕ) (f : Option State) (fs : List (Option State)) (v : Record) → AreFresh (drop k rs) (f ∷ fs) → AreFresh (drop (suc k) (set rs k v)) fs
 fresh_rest [] zero f fs v h = absurd h
 fresh_rest [] (suc k) f fs v h = absurd h
 fresh_rest (x ∷ rs) zero f fs v h = h.1
 fresh_rest (x ∷ rs) (suc k) f fs v h = fresh_rest rs k f fs v h
-
--- Where none is left, no record is.
-pub fresh_end : (rs : List Record) → AreFresh rs [] → rs ≡ []
-fresh_end [] h = refl
-fresh_end (x ∷ rs) h = absurd h
 
 -- ---- one turn
 

@@ -102,7 +102,8 @@ impl Record {
 
 // Copies of the answers as a queue. It is refused only for want of memory.
 fn queued(alloc: Global, answers: &ChoiceList) -> Result<VecDeque<Choice>, Memory>
-    ensures same { IfOk result (λ queue. map choice_of queue.items ≡ map choice_of answers.now.items) }
+    ensures same { IfOk result (λ queue.
+        map choice_of queue.items ≡ map choice_of answers.now.items) }
 {
     let mut queue = VecDeque::new(alloc);
     for answer in answers.as_slice() {

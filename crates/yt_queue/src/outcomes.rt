@@ -59,7 +59,8 @@ fn outcome_in(want: Want<'_>) -> Option<Outcome>
 
 // The question that is asked by an attempt that wants this.
 fn question_in<'a>(want: Want<'a>) -> Option<&'a Question>
-    ensures asked { option_map inquiry_of (option_copied result) ≡ inquiry_wished (want_of want.entry) }
+    ensures asked { option_map inquiry_of (option_copied result) ≡
+        inquiry_wished (want_of want.entry) }
 {
     match want {
         Want::Choice(question) => Some(question),

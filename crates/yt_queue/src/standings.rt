@@ -60,7 +60,8 @@ impl Record {
     /// Whether a recorded answer may be delivered to the update: it is pending, and has one. It takes no memory.
     pub fn is_deliverable(&self, settings: Settings, committed: u32, number: u32) -> bool
         requires between { IsBetween self.now.program }
-        ensures deliverable { IsDeliverable (settings_of settings) committed number self.now result }
+        ensures deliverable { IsDeliverable (settings_of settings) committed number self.now
+            result }
     {
         let pending = is_pending(self.standing(settings, committed, number));
         let recorded = self.has_recorded();
@@ -70,7 +71,8 @@ impl Record {
     /// The question that is put to people for the update: there is one exactly where it is paused. It takes no memory.
     pub fn question(&self, settings: Settings, committed: u32, number: u32) -> Option<&Question>
         requires between { IsBetween self.now.program }
-        ensures question { HasQuestion (settings_of settings) committed number self.now (option_map inquiry_of (option_copied result)) }
+        ensures question { HasQuestion (settings_of settings) committed number self.now
+            (option_map inquiry_of (option_copied result)) }
     {
         let paused = is_paused(self.standing(settings, committed, number));
         if paused {
