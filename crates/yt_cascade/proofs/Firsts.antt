@@ -1,24 +1,19 @@
 -- The first reads of the program's logs are those of histories.
-use Rattle.std.proofs.Common.{◌≡◌, ◌∙◌, ap, refl, sym, ℕ, suc, ◌+◌, Bool, true, false, not, ◌||◌, List, [], ◌∷◌, map, Option, Some, None, arith}
+use Rattle.std.proofs.Common.{◌≡◌, ◌∙◌, ap, refl, ℕ, suc, ◌+◌, Bool, true, false, ◌||◌, List, [], ◌∷◌, map, Option, Some, None, arith}
 use Rattle.std.specs.Prelude.{if◌then◌else◌}
 use Rattle.std.specs.List.{list_any}
 use Rattle.std.specs.Option.{option_map}
-use Rattle.yt_conflict.specs.Changes.{Numbered, Changed, first_from, first_changed, is_changed, value_now}
-use Rattle.yt_machine.specs.Cascade.{reads_of, read_depends, writer_for}
-use Rattle.yt_machine.specs.Reads.{first_that, changed_read, is_valid}
-use Rattle.yt_machine.specs.Updates.{Read as ReadOfHistory, Deps, Precise, Coarse}
+use Rattle.yt_conflict.specs.Changes.{Numbered, first_from}
+use Rattle.yt_machine.specs.Cascade.{reads_of, writer_for}
+use Rattle.yt_machine.specs.Reads.{first_that}
+use Rattle.yt_machine.specs.Updates.{Read as ReadOfHistory}
 use Rattle.yt_model.specs.Mappings.{Rule}
-use Rattle.yt_model.specs.Repository.{Change}
-use Rattle.yt_model.specs.Updates.{Operation, direction_of}
-use Rattle.yt_model.specs.Values.{Fact}
-use Rattle.yt_query.specs.Meanings.{Read, read_of}
-use Rattle.yt_queue.specs.Queues.{logged, update_of}
-use Rattle.yt_queue.specs.declared.records.Record.{Record}
+use Rattle.yt_query.specs.Meanings.{Read}
+use Rattle.yt_queue.specs.Queues.{logged}
 use Rattle.yt_steps.specs.Chase.{caused_chase}
-use Rattle.yt_versions.specs.Standing.{Kept, seen}
 use Rattle.yt_cascade.specs.declared.lost.Member.{Member}
-use Rattle.yt_cascade.specs.Meanings.{Above, members_of, trail_of, trails_of}
-use Rattle.yt_cascade.specs.Reached.{is_reached, any_reached, least_writer, first_changed_in, first_invalid, first_mentioning, first_by}
+use Rattle.yt_cascade.specs.Meanings.{members_of, trail_of, trails_of}
+use Rattle.yt_cascade.specs.Reached.{is_reached, any_reached, least_writer}
 
 module _ (ms : List Rule) (B : ℕ) where
   -- The numbered read, as a history has it.

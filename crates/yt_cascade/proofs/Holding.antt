@@ -1,14 +1,15 @@
 -- What versions hold from one number on, and from the next.
-use Rattle.std.proofs.Common.{◌≡◌, ◌∙◌, ap, refl, sym, subst, ℕ, zero, suc, ◌<◌, ◌≤◌, ◌==◌, Bool, true, false, List, [], ◌∷◌, ◌++◌, take, length, append-nil, arith}
+use Rattle.std.proofs.Common.{◌≡◌, ◌∙◌, ap, refl, sym, subst, ℕ, zero, suc, ◌<◌, ◌≤◌, ◌==◌, Bool, true, false, List, [], ◌∷◌, ◌++◌, map, take, length, append-nil, arith}
 use Rattle.std.proofs.lemmas.Bool.{eq-eqb, ne_eqb}
 use Rattle.std.specs.Prelude.{if◌then◌else◌}
 use Rattle.std.specs.List.{flat_map}
-use Rattle.yt_machine.specs.Cascade.{with_member, without_member}
+use Rattle.yt_base.specs.Meanings.{change_of}
+use Rattle.yt_base.specs.declared.updates.Write.{Write}
 use Rattle.yt_machine.specs.Updates.{Update, trail}
 use Rattle.yt_model.specs.Mappings.{Rule}
 use Rattle.yt_model.specs.Repository.{Change, apply}
-use Rattle.yt_model.specs.Values.{Fact}
 use Rattle.yt_queue.specs.Queues.{update_of}
+use Rattle.yt_queue.specs.Records.{HasTrail}
 use Rattle.yt_queue.specs.declared.records.Record.{Record}
 use Rattle.yt_steps.proofs.Steady.{apply_join}
 use Rattle.yt_steps.specs.Chase.{caused_chase, caused}
@@ -17,9 +18,9 @@ use Rattle.yt_versions.proofs.Seen.{seen_is_applied}
 use Rattle.yt_versions.specs.Standing.{Kept, StandFor, Retracted, seen}
 use Rattle.yt_versions.specs.Trails.{writes_below, numbered}
 use Rattle.yt_cascade.specs.declared.lost.Lost.{Lost}
-use Rattle.yt_cascade.specs.Held.{AreTrails, AreVersions, HoldFrom, laid, TrailsHeld, TrailsAreHeld}
+use Rattle.yt_cascade.specs.Held.{AreTrails, HoldFrom, TrailsAreHeld}
 use Rattle.yt_cascade.specs.Meanings.{members_of}
-use Rattle.yt_cascade.specs.Walks.{Loses, LeavesLost, LosesWhere, number_of}
+use Rattle.yt_cascade.specs.Walks.{Loses, LosesWhere, number_of}
 
 -- The trails without that of update n.
 abbrev emptied : ℕ → (ℕ → List Change) → ℕ → List Change
@@ -109,7 +110,7 @@ trails_held ms B D lower upper v h = record {
 -- ---- what a turn of the walk leaves
 
 -- The reader keeps its trail.
-pub kept_on : (r : Record) (lost : Lost) → LosesWhere false r lost lost
+kept_on : (r : Record) (lost : Lost) → LosesWhere false r lost lost
 kept_on r lost ms B us h = record {
   held = hold_next ms B (number_of r) (update_of ms B r) us lost.without h;
   below = below_next ms B (number_of r) (update_of ms B r) us lost.without h;
@@ -117,10 +118,20 @@ kept_on r lost ms B us h = record {
 }
 
 -- The reader loses it.
-pub lost_on : (r : Record) (ws : List Change) (old new : Lost) → ((ms : List Rule) (B : ℕ) → ws ≡ trail (caused_chase ms B) (update_of ms B r)) → Loses (number_of r) ws old new → LosesWhere true r old new
+lost_on : (r : Record) (ws : List Change) (old new : Lost) → ((ms : List Rule) (B : ℕ) → ws ≡ trail (caused_chase ms B) (update_of ms B r)) → Loses (number_of r) ws old new → LosesWhere true r old new
 lost_on r ws old new e l ms B us h =
     let gone : Retracted (number_of r) (trail (caused_chase ms B) (update_of ms B r)) old.without new.without = subst (λ ts. Retracted (number_of r) ts old.without new.without) (e ms B) l.retracted in record {
       held = hold_without ms B (number_of r) (update_of ms B r) us old.without new.without h gone;
       below = below_without ms B (number_of r) (update_of ms B r) us old.without new.without h gone;
       members = l.joined ms B ∙ ap (λ ts. members_of ms B old.members.items ++ record { number = number_of r; trail = ts } ∷ []) (e ms B);
     }
+
+-- It keeps it where it isn't restarted.
+pub kept_where : (r : Record) (b : Bool) (lost : Lost) → b ≡ false → LosesWhere b r lost lost
+kept_where r true lost e = absurd (cc)
+kept_where r false lost e = kept_on r lost
+
+-- It loses it where it is.
+pub lost_where : (r : Record) (n : ℕ) (ws : List Write) (b : Bool) (old new : Lost) → b ≡ true → n ≡ number_of r → HasTrail r ws → Loses n (map change_of ws) old new → LosesWhere b r old new
+lost_where r n ws true old new e same t l = lost_on r (map change_of ws) old new t (subst (λ k. Loses k (map change_of ws) old new) same l)
+lost_where r n ws false old new e same t l = absurd (cc)

@@ -1,21 +1,19 @@
 -- What is found for one reader is its cause in a history.
-use Rattle.std.proofs.Common.{◌≡◌, ◌∙◌, ap, refl, sym, ℕ, suc, Bool, true, false, not, ◌&&◌, ◌↔◌, List, [], ◌∷◌, map, take, Option, Some, None, nat_lt}
+use Rattle.std.proofs.Common.{◌≡◌, ◌∙◌, ap, refl, sym, ℕ, Bool, true, false, not, ◌&&◌, ◌↔◌, List, [], ◌∷◌, map, take, Option, Some, None, nat_lt}
 use Rattle.std.proofs.lemmas.Bool.{and_parts}
 use Rattle.std.specs.Prelude.{if◌then◌else◌}
-use Rattle.std.specs.List.{list_any}
 use Rattle.std.specs.Option.{option_map}
-use Rattle.yt_conflict.specs.Changes.{Numbered, Changed, first_from, is_changed, value_now}
+use Rattle.yt_conflict.specs.Changes.{Numbered, Changed, first_from, is_changed}
 use Rattle.yt_entries.specs.Meanings.{cause_of as plain_of}
 use Rattle.yt_entries.specs.declared.causes.Cause.{Cause as CauseOfProgram}
 use Rattle.yt_history.specs.PlainEntries.{PlainCause, cause_kept}
-use Rattle.yt_machine.specs.Cascade.{Cause, Conflict, Depends, Member as MemberOfHistory, conflict_of, dependence_of, is_live, read_depends, writer_for}
+use Rattle.yt_machine.specs.Cascade.{Cause, Conflict, Depends, read_depends, writer_for}
 use Rattle.yt_machine.specs.Reads.{Changed as ChangedOfHistory, changed_read, first_that, is_valid}
-use Rattle.yt_machine.specs.Settle.{cause_of, or_else}
+use Rattle.yt_machine.specs.Settle.{or_else}
 use Rattle.yt_machine.specs.Standings.{is_nil}
 use Rattle.yt_machine.specs.Updates.{Read as ReadOfHistory, Deps, Precise, Coarse}
 use Rattle.yt_model.specs.Mappings.{Rule}
 use Rattle.yt_model.specs.Updates.{direction_of}
-use Rattle.yt_model.specs.Values.{Fact}
 use Rattle.yt_query.specs.Meanings.{read_of}
 use Rattle.yt_query.specs.declared.log.LoggedRead.{LoggedRead}
 use Rattle.yt_queue.specs.Queues.{logged, update_of}
@@ -27,7 +25,7 @@ use Rattle.yt_cascade.specs.declared.lost.Lost.{Lost}
 use Rattle.yt_cascade.specs.declared.lost.Member.{Member}
 use Rattle.yt_cascade.specs.Meanings.{Above, found_of, members_of, trails_of}
 use Rattle.yt_cascade.specs.Reached.{any_reached, first_changed_in, first_by}
-use Rattle.yt_cascade.specs.Walks.{number_of, is_live_in, may_have_cause, conflict_meant, dependence_meant, IsConflictFor, IsConflictWhere, IsDependenceFor, IsCauseFor}
+use Rattle.yt_cascade.specs.Walks.{number_of, is_live_in, may_have_cause, conflict_meant, dependence_meant, IsConflictWhere, IsDependenceFor, IsCauseFor}
 use Rattle.yt_cascade.proofs.Firsts.{paired, first_is, reached_is, writer_is}
 
 -- ---- where a cause is looked for

@@ -1,21 +1,19 @@
 -- One turn of the walk upwards.
-use Rattle.std.proofs.Common.{◌≡◌, ◌∙◌, ap, refl, sym, subst, ℕ, suc, Bool, true, false, List, [], ◌∷◌, ◌++◌, map, Option, Some, None, is_some, append_assoc, append-nil, length}
-use Rattle.std.proofs.lemmas.List.{map-append}
-use Rattle.std.specs.Option.{option_map}
+use Rattle.std.proofs.Common.{◌≡◌, ◌∙◌, ap, refl, sym, subst, ℕ, suc, ◌+◌, ◌<◌, ◌≤◌, Bool, true, false, List, [], ◌∷◌, ◌++◌, Option, Some, None, is_some, append_assoc, append-nil, length, drop, get_or}
+use Rattle.std.proofs.lemmas.List.{map-append, drop_all}
 use Rattle.yt_entries.specs.declared.causes.Cause.{Cause as CauseOfProgram}
 use Rattle.yt_machine.specs.Cascade.{Cause, Member, with_member, without_member}
 use Rattle.yt_machine.specs.Machine.{Machine}
 use Rattle.yt_machine.specs.Settle.{cause_of, settle}
 use Rattle.yt_machine.specs.Updates.{Update, Deps, trail}
-use Rattle.yt_model.specs.Mappings.{Rule}
 use Rattle.yt_model.specs.Repository.{Change, apply}
-use Rattle.yt_model.specs.Values.{Fact}
 use Rattle.yt_queue.specs.Queues.{update_of, updates_of, AreFrom, StandsAt}
 use Rattle.yt_queue.specs.declared.records.Record.{Record}
 use Rattle.yt_steps.specs.Chase.{caused_chase}
+use Rattle.yt_versions.proofs.Noting.{next_drop}
 use Rattle.yt_versions.specs.Standing.{Kept, seen, Retracted}
 use Rattle.yt_cascade.specs.declared.lost.Lost.{Lost}
-use Rattle.yt_cascade.specs.Held.{HoldFrom, AreVersions, laid}
+use Rattle.yt_cascade.specs.Held.{HoldFrom, laid}
 use Rattle.yt_cascade.specs.Meanings.{Above, found_of, all_found, members_of}
 use Rattle.yt_cascade.specs.Causes.{AreCausesOfWrites, AreCausesOfLoss}
 use Rattle.yt_cascade.specs.Walks.{IsCauseFor, Loses, LosesWhere, LeavesLost, AreFound, number_of}
@@ -48,15 +46,19 @@ settle_on M deps conflicting c j E N F G ks ls n u us b x before all ex eb ef eg
     ∙ ap (λ zs. before ++ zs) (λ i. ex i ∷ settle M deps conflicting c j (ef i) (without i) (members i) (suc n) us)
     ∙ h
 
+-- The readers that are left have their numbers in turn.
+pub later_from : (n i : ℕ) (rs : List Record) (r : Record) → i < length rs → r ≡ get_or rs i r → AreFrom n (drop i rs) → StandsAt n r × AreFrom (suc n) (drop (i + 1) rs)
+later_from n i rs r l e f = subst (AreFrom n) (next_drop rs i r l e) f
+
 module _ (a : Above) (conflicting : Bool) (B : ℕ) where
   found_some : (x : Option CauseOfProgram) → is_some (found_of a.rules B x) ≡ is_some x
   found_some None = refl
   found_some (Some c) = refl
 
   -- Before any of them has.
-  pub at_start : (lost : Lost) (rs : List Record) → AreFrom (suc a.update) rs → HoldFrom a.rules B (suc a.update) (updates_of a.rules B rs) a.whole → HoldFrom a.rules B (suc a.update) (updates_of a.rules B rs) lost.without
-      → Turn a conflicting B (all_of a conflicting B lost rs) lost rs []
-  at_start lost rs f w o = record { number = suc a.update; from = f; whole = w; without = o; rest = refl }
+  pub at_start : (lost : Lost) (rs : List Record) (xs : List (Option CauseOfProgram)) → xs ≡ [] → AreFrom (suc a.update) rs → HoldFrom a.rules B (suc a.update) (updates_of a.rules B rs) a.whole
+      → HoldFrom a.rules B (suc a.update) (updates_of a.rules B rs) lost.without → Turn a conflicting B (all_of a conflicting B lost rs) lost rs xs
+  at_start lost rs xs e f w o = record { number = suc a.update; from = f; whole = w; without = o; rest = ap (λ zs. all_found a.rules B zs ++ all_of a conflicting B lost rs) e }
 
   -- Once the next one has.
   pub next : (all : List (Option (Cause (caused_chase a.rules B)))) (lost left : Lost) (r : Record) (rs : List Record) (xs : List (Option CauseOfProgram)) (x : Option CauseOfProgram)
@@ -82,9 +84,17 @@ module _ (a : Above) (conflicting : Bool) (B : ℕ) where
             is (found_some x) (below_next a.rules B n u us a.whole t.whole) after.below after.members t.rest;
       }
 
+  -- That one is next in the list.
+  pub next_in : (all : List (Option (Cause (caused_chase a.rules B)))) (lost left : Lost) (i : ℕ) (rs : List Record) (r : Record) (xs ys : List (Option CauseOfProgram)) (x : Option CauseOfProgram) (b : Bool)
+      → i < length rs → r ≡ get_or rs i r → ys ≡ xs ++ x ∷ [] → b ≡ is_some x → IsCauseFor a conflicting lost r x → LosesWhere b r lost left → Turn a conflicting B all lost (drop i rs) xs → Turn a conflicting B all left (drop (i + 1) rs) ys
+  next_in all lost left i rs r xs ys x b l e f g cause loses t =
+      subst (Turn a conflicting B all left (drop (i + 1) rs)) (sym f)
+      (next all lost left r (drop (i + 1) rs) xs x (subst (λ zs. Turn a conflicting B all lost zs xs) (next_drop rs i r l e) t) cause (subst (λ z. LosesWhere z r lost left) g loses))
+
   -- Once all have.
-  pub at_end : (all : List (Option (Cause (caused_chase a.rules B)))) (lost : Lost) (xs : List (Option CauseOfProgram)) → Turn a conflicting B all lost [] xs → all_found a.rules B xs ≡ all
-  at_end all lost xs t = sym (append-nil (all_found a.rules B xs)) ∙ t.rest
+  pub at_end : (all : List (Option (Cause (caused_chase a.rules B)))) (lost : Lost) (i : ℕ) (rs : List Record) (xs : List (Option CauseOfProgram)) → length rs ≤ i → Turn a conflicting B all lost (drop i rs) xs → all_found a.rules B xs ≡ all
+  at_end all lost i rs xs l t =
+      let done : Turn a conflicting B all lost [] xs = subst (λ zs. Turn a conflicting B all lost zs xs) (drop_all i rs l) t in sym (append-nil (all_found a.rules B xs)) ∙ done.rest
 
 -- ---- the walks of the two events
 

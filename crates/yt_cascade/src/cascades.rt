@@ -1,5 +1,5 @@
 //! The walk upwards from the update of an event.
-ghost use Rattle.std.specs.Prelude.{suc, map, IfOk};
+ghost use Rattle.std.specs.Prelude.{◌≡◌, suc, length, map, IfOk};
 ghost use Rattle.yt_base.specs.Meanings.{change_of};
 ghost use Rattle.yt_queue.specs.Queues.{AreFrom};
 ghost use Rattle.yt_cascade.specs.Causes.{AreCausesOfWrites, AreCausesOfLoss};
@@ -27,22 +27,26 @@ pub struct Cascade<'a> {
 
 impl<'a> Cascade<'a> {
     /// Why each of the updates above is restarted, if it is, where the event's update wrote: a conflict with its writes, or
-    /// else a dependence on a lower one that is restarted. It is refused only for want of memory.
+    /// else a dependence on a lower one that is restarted. There is one answer for each, in order. It is refused only for
+    /// want of memory.
     pub fn causes_of_writes(
         &self,
         alloc: Global,
         upper: &[Record],
     ) -> Result<Vec<Option<Cause>>, Memory>
         requires from { AreFrom (suc self.now.update) upper.now }
+        ensures long { IfOk result (λ causes. length causes.items ≡ length upper.now) }
         ensures causes { IfOk result (λ causes.
             AreCausesOfWrites (above_of self.now) upper.now causes.items) }
     {
         let lost = Lost::none(alloc, self.whole)?;
-        self.walk(alloc, true, lost, upper)
+        let found = self.walk(alloc, true, lost, upper)?;
+        Ok(found)
     }
 
     /// Why each of the updates above is restarted, if it is, where the event's update loses its trail, which is handed in:
-    /// a dependence on it or on a lower one that is restarted. It is refused only for want of memory.
+    /// a dependence on it or on a lower one that is restarted. There is one answer for each, in order. It is refused only
+    /// for want of memory.
     pub fn causes_of_loss(
         &self,
         alloc: Global,
@@ -50,12 +54,14 @@ impl<'a> Cascade<'a> {
         upper: &[Record],
     ) -> Result<Vec<Option<Cause>>, Memory>
         requires from { AreFrom (suc self.now.update) upper.now }
+        ensures long { IfOk result (λ causes. length causes.items ≡ length upper.now) }
         ensures causes { IfOk result (λ causes.
             AreCausesOfLoss (above_of self.now) (map change_of trail.now) upper.now causes.items) }
     {
         let mut lost = Lost::none(alloc, self.whole)?;
         lost.lose(alloc, self.update, trail)?;
-        self.walk(alloc, false, lost, upper)
+        let found = self.walk(alloc, false, lost, upper)?;
+        Ok(found)
     }
 
     // Why each of the updates above is restarted, if it is, where these trails are lost below them. Conflicts are looked for
@@ -68,6 +74,7 @@ impl<'a> Cascade<'a> {
         upper: &'r [Record],
     ) -> Result<Vec<Option<Cause>>, Memory>
         requires from { AreFrom (suc self.now.update) upper.now }
+        ensures long { IfOk result (λ found. length found.items ≡ length upper.now) }
         ensures found { IfOk result (λ found.
             AreFound (above_of self.now) conflicting lost.entry upper.now found.items) }
     {

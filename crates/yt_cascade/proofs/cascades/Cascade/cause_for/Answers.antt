@@ -1,4 +1,4 @@
-use Rattle.std.proofs.Common.{rules, Some}
+use Rattle.std.proofs.Common.{rules}
 use Rattle.yt_cascade.specs.Meanings.{above_of}
 use Rattle.yt_cascade.proofs.Reasons.{none_for, conflict_first, dependence_then}
 use Rattle.yt_cascade.proofs.cascades.Cascade.cause_for.Goals as goal
