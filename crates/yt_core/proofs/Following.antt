@@ -54,6 +54,7 @@ follows g H H' rs rs' v v' e x told k made us numbers few trails entry longer =
         sorted = k.sorted;
         budget = k.budget;
         retries = k.retries;
+        within = k.within;
         few = few;
       };
     }

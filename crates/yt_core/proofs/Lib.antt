@@ -2,3 +2,5 @@ pub mod Trailing
 pub mod Causing
 pub mod Preparing
 pub mod Following
+pub mod Opening
+pub mod Delivering

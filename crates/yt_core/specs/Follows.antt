@@ -1,5 +1,5 @@
 -- What an event makes of the parts of a core.
-use Rattle.std.specs.Prelude.{◌≡◌, ◌<◌, ◌≤◌, ℕ, suc, List, [], ◌∷◌, ◌++◌, map, take, drop, length, Option, Some, is_some, slice_get}
+use Rattle.std.specs.Prelude.{◌≡◌, ℕ, suc, List, [], ◌∷◌, ◌++◌, map, take, drop, length, Option, Some, is_some, true, slice_get}
 use Rattle.std.specs.Option.{option_map}
 use Rattle.yt_base.specs.Meanings.{change_of}
 use Rattle.yt_base.specs.Listed.{Listed}
@@ -21,7 +21,7 @@ use Rattle.yt_model.specs.Values.{Fact}
 use Rattle.yt_plan.specs.declared.plans.Plan.{Plan}
 use Rattle.yt_program.specs.Courses.{State as ProgramState}
 use Rattle.yt_query.specs.Meanings.{read_of}
-use Rattle.yt_queue.specs.Events.{HasRoomFor}
+use Rattle.yt_queue.specs.Events.{HasRoom, HasRoomFor}
 use Rattle.yt_queue.specs.Programs.{IsPlanOf}
 use Rattle.yt_queue.specs.Queues.{update_of, updates_of, AreFrom}
 use Rattle.yt_queue.specs.declared.records.Record.{Record}
@@ -67,6 +67,10 @@ HasRoomAt k plan rs = IsSomeThat (λ (r : Record). HasRoomFor plan r) (slice_get
 abbrev pub IsPlanAt : ℕ → Plan → List Record → Type 0
 IsPlanAt k plan rs = IsSomeThat (λ (r : Record). IsPlanFor r plan) (slice_get rs k)
 
+-- There is one that has room for one more answer.
+abbrev pub HasAnswerRoomAt : ℕ → List Record → Type 0
+HasAnswerRoomAt k rs = IsSomeThat (λ (r : Record). HasRoom r) (slice_get rs k)
+
 -- What was prepared is what the step of the plan leaves, in any history of the queue.
 abbrev pub IsPreparedAt : List Rule → Settings → ℕ → Plan → Kept → List Record → Prepared → Type 0
 IsPreparedAt ms s k plan v rs p =
@@ -94,6 +98,12 @@ TellsStep s k attempt writes causes rs e =
         committed = committed (caused_chase ms B) (updates_of ms B rs);
       })
 
+-- The entry is that of a delivery to the update at the place.
+abbrev pub TellsDelivery : Settings → ℕ → List Record → Entry → Type 0
+TellsDelivery s k rs e =
+    (ms : List Rule) (B : ℕ) (r : Record) → slice_get rs k ≡ Some r
+    → entry_of e ≡ WasDelivered (record { update = suc k; standing = standing (caused_chase ms B) s (committed (caused_chase ms B) (updates_of ms B rs)) (suc k) (update_of ms B r) })
+
 -- The step of update k + 1 leads from these parts to those, where it is ready and the plan is that step.
 abbrev pub StepsTo : List Rule → Settings → ℕ → Plan → Kept → List Record → List Entry → Kept → List Record → List Entry → Type 0
 StepsTo ms s k plan v rs es v' rs' es' =
@@ -106,5 +116,5 @@ StepsTo ms s k plan v rs es v' rs' es' =
 abbrev pub DeliversTo : Settings → ℕ → List Record → List Entry → List Record → List Entry → Type 0
 DeliversTo s k rs es rs' es' =
     (ms : List Rule) (v : Kept) (B : ℕ) (D : List Fact) (requests : List Request) (later : List Operation) → IsKept (ground_with ms s B D requests later) v rs (map entry_of es)
-    → option_map (is_deliverable (caused_chase ms B) s (committed (caused_chase ms B) (updates_of ms B rs)) (suc k)) (slice_get (updates_of ms B rs) k) ≡ Some Rattle.std.specs.Prelude.true
+    → option_map (is_deliverable (caused_chase ms B) s (committed (caused_chase ms B) (updates_of ms B rs)) (suc k)) (slice_get (updates_of ms B rs) k) ≡ Some true
     → Follows (ground_with ms s B D requests later) (Delivers (suc k)) (map entry_of es) v rs' (map entry_of es')

@@ -14,6 +14,7 @@ use Rattle.yt_versions.specs.Standing.{Kept, StandFor}
 use Rattle.yt_versions.specs.Trails.{numbered}
 use Rattle.yt_queue.specs.Queues.{updates_of, AreFrom}
 use Rattle.yt_queue.specs.declared.records.Record.{Record}
+use Rattle.yt_limits.specs.Within.{AreWithin}
 use Rattle.yt_history.specs.PlainEntries.{PlainEntry}
 use Rattle.yt_history.specs.Cores.{Ground}
 use Rattle.yt_history.specs.CoreLaws.{Leave}
@@ -38,4 +39,5 @@ pub record IsKept (g : Ground) (v : Kept) (rs : List Record) (H : List PlainEntr
   pub sorted : IsRepository g.base
   pub budget : 1 ≤ g.budget
   pub retries : g.settings.retries ≤ 4
+  pub within : AreWithin g.rules
   pub few : length rs < 2 ^ 32

@@ -7,3 +7,4 @@ pub mod Told
 pub mod Aftermaths
 pub mod Steps
 pub mod Follows
+pub mod Admitted

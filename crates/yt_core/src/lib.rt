@@ -4,8 +4,10 @@
 //! and the entries of that history. Each call that changes a core makes one event of that history.
 #![tactic(auto)]
 
+mod admitting;
 mod aftermaths;
 mod cores;
+mod deliveries;
 mod plans;
 mod refusals;
 mod standings;

@@ -219,6 +219,7 @@ pub(crate) fn make_step(
     ensures queue { OnErr result (queue.new ≡ queue.old) }
     ensures history { OnErr result (history.new ≡ history.old) }
     ensures plan { IfErr result (λ back. back.0 ≡ plan) }
+    ensures long { length queue.new ≡ length queue.old }
 {
     let prepared = match prepare_at(alloc, mappings, settings, versions, queue, place, &plan) {
         Ok(prepared) => prepared,
@@ -260,4 +261,33 @@ pub(crate) fn reserve_step(
 {
     queue[place].reserve_reads(plan)?;
     history.reserve(1)
+}
+
+/// Makes the step of the plan, which is the next one of the update at the place. It is refused only for want of memory;
+/// what the queue and the history mean then stays, and the plan is given back.
+pub(crate) fn step_at(
+    alloc: Global,
+    mappings: &Mappings<'_>,
+    settings: Settings,
+    versions: &mut Versions,
+    queue: &mut [Record],
+    history: &mut EntryList,
+    place: usize,
+    plan: Plan,
+) -> Result<(), (Plan, Memory)>
+    requires place { place < length queue.old }
+    requires numbers { AreFrom 1 queue.old }
+    requires more { AllHaveOneMore queue.old }
+    requires plan { IsPlanAt place plan queue.old }
+    ensures made { OnOk result (StepsTo mappings.now (settings_of settings) place plan versions.old queue.old history.old.items versions.new queue.new history.new.items) }
+    ensures versions { OnErr result (versions.new ≡ versions.old) }
+    ensures queue { OnErr result (AreSame queue.old queue.new) }
+    ensures history { OnErr result (history.new.items ≡ history.old.items) }
+    ensures plan { IfErr result (λ back. back.0 ≡ plan) }
+    ensures long { length queue.new ≡ length queue.old }
+{
+    if reserve_step(queue, history, place, &plan).is_err() {
+        return Err((plan, Memory));
+    }
+    make_step(alloc, mappings, settings, versions, queue, history, place, plan)
 }
