@@ -6,17 +6,19 @@ use Rattle.std.proofs.lemmas.Option.{same_Some, none-some, slice_get-map}
 use Rattle.yt_entries.specs.Meanings.{entry_of}
 use Rattle.yt_entries.specs.declared.entries.Entry.{Entry}
 use Rattle.yt_history.specs.Cores.{Ground, session_over}
-use Rattle.yt_history.specs.PlainEntries.{plain_entry, entry_kept}
+use Rattle.yt_history.specs.CoreLaws.{Leave}
+use Rattle.yt_history.specs.PlainEntries.{PlainEntry, plain_entry, entry_kept}
 use Rattle.yt_history.proofs.Keeping.{entry_back}
 use Rattle.yt_machine.specs.Machine.{Machine}
-use Rattle.yt_machine.specs.Effects.{Delivers, Delivered, Effect, effect, deliver_effect, delivered, may_deliver}
-use Rattle.yt_machine.specs.Standings.{standing, is_deliverable}
+use Rattle.yt_machine.specs.Effects.{Steps, Delivers, Delivered, Effect, effect, deliver_effect, delivered, may_deliver}
+use Rattle.yt_machine.specs.Standings.{standing, is_deliverable, next_answer}
 use Rattle.yt_machine.specs.Updates.{Session, Settings, Update, committed, trail}
 use Rattle.yt_machine.proofs.Places.{put_here}
 use Rattle.yt_model.specs.Mappings.{Rule}
 use Rattle.yt_model.specs.Repository.{Change}
 use Rattle.yt_model.specs.Updates.{Operation}
 use Rattle.yt_model.specs.Values.{Fact}
+use Rattle.yt_plan.specs.Planned.{at_rest, next_attempt, next_reads}
 use Rattle.yt_plan.specs.declared.plans.Plan.{Plan}
 use Rattle.yt_queue.specs.Events.{KeepsPlace, IsSame, HasDelivered}
 use Rattle.yt_queue.specs.Programs.{IsPlanOf}
@@ -29,7 +31,7 @@ use Rattle.yt_steps.specs.Chase.{caused_chase}
 use Rattle.yt_steps.specs.Serial.{Request}
 use Rattle.yt_versions.specs.Standing.{Kept, StandFor}
 use Rattle.yt_versions.specs.Trails.{numbered}
-use Rattle.yt_core.specs.Follows.{Follows, ground_with, AreSame, IsPlanFor, IsPlanAt, TellsDelivery, DeliversTo, StepsTo}
+use Rattle.yt_core.specs.Follows.{Follows, ground_with, meant_of, AreSame, IsPlanFor, IsPlanAt, TellsDelivery, DeliversTo, StepsTo}
 use Rattle.yt_core.specs.Kept.{IsKept, HaveTrails}
 use Rattle.yt_core.specs.Planned.{IsSomeThat, IsStepAmong}
 use Rattle.yt_core.proofs.Following.{follows, there, within, cut_at, from_mapped}
@@ -63,11 +65,11 @@ set_there (x ∷ xs) (suc k) y l = set_there xs k y (omega (arith, l))
 -- ---- the same updates
 
 pub same_with : (rs : List Record) (k : ℕ) (r r' : Record) → k < length rs → get_or rs k r ≡ r → IsSame r r' → KeepsPlace r r' → AreSame rs (set rs k r')
-same_with rs k r r' l at same place = record {
+same_with rs k r r' l spot same place = record {
   updates =
       λ ms B. mapped_set (update_of ms B) rs k r' ∙ ap (λ u. set (updates_of ms B rs) k u) (same ms B)
-      ∙ set_same (updates_of ms B rs) k (update_of ms B r) (slice_get-map (update_of ms B) rs k ∙ ap (option_map (update_of ms B)) (there rs k r l at));
-  numbers = λ a. put_there rs 1 k r r' a l at place;
+      ∙ set_same (updates_of ms B rs) k (update_of ms B r) (slice_get-map (update_of ms B) rs k ∙ ap (option_map (update_of ms B)) (there rs k r l spot));
+  numbers = λ a. put_there rs 1 k r r' a l spot place;
 }
 
 first_is : {A : Type 0} (x y : A) (xs ys : List A) → (x ∷ xs ≡ y ∷ ys) → x ≡ y
@@ -98,19 +100,18 @@ same_more (r ∷ rs) (r' ∷ rs') e a = (
 
 plan_for : (r r' : Record) (plan : Plan) → ((ms : List Rule) (B : ℕ) → update_of ms B r' ≡ update_of ms B r) → IsPlanFor r plan → IsPlanFor r' plan
 plan_for r r' plan e p =
-    let u = update_of p.rules p.budget in
     let same = e p.rules p.budget in
     record {
       rules = p.rules;
       budget = p.budget;
       below = p.below;
       planned = record {
-        program = p.planned.program ∙ (λ i. Rattle.yt_plan.specs.Planned.at_rest (Rattle.yt_plan.specs.Planned.next_attempt p.rules p.budget p.below (same (~ i)).state (Rattle.yt_machine.specs.Standings.next_answer (caused_chase p.rules p.budget) (same (~ i)).answers (same (~ i)).state)));
-        reads = p.planned.reads ∙ (λ i. Rattle.yt_plan.specs.Planned.next_reads p.rules p.below (same (~ i)).state (Rattle.yt_machine.specs.Standings.next_answer (caused_chase p.rules p.budget) (same (~ i)).answers (same (~ i)).state));
+        program = p.planned.program ∙ sym (λ i. at_rest (next_attempt p.rules p.budget p.below (same i).state (next_answer (caused_chase p.rules p.budget) (same i).answers (same i).state)));
+        reads = p.planned.reads ∙ sym (λ i. next_reads p.rules p.below (same i).state (next_answer (caused_chase p.rules p.budget) (same i).answers (same i).state));
       };
     }
 
--- A plan at the place stays one.
+-- A plan spot the place stays one.
 pub same_plan : (rs rs' : List Record) (k : ℕ) (plan : Plan) → ((ms : List Rule) (B : ℕ) → updates_of ms B rs' ≡ updates_of ms B rs) → IsPlanAt k plan rs → IsPlanAt k plan rs'
 same_plan [] rs' k plan e p = absurd p
 same_plan (r ∷ rs) [] k plan e p = no (update_of [] 0 r) (updates_of [] 0 rs) (e [] 0)
@@ -121,11 +122,11 @@ same_plan (r ∷ rs) (r' ∷ rs') zero plan e p = plan_for r r' plan (λ ms B. f
 same_plan (r ∷ rs) (r' ∷ rs') (suc k) plan e p = same_plan rs rs' k plan (λ ms B. rest_is (update_of ms B r') (update_of ms B r) (updates_of ms B rs') (updates_of ms B rs) (e ms B)) p
 
 -- The parts of a core with such records are those of a core.
-pub kept_same : (g : Ground) (v : Kept) (rs rs' : List Record) (H : List Rattle.yt_history.specs.PlainEntries.PlainEntry) → AreSame rs rs' → length rs' ≡ length rs → IsKept g v rs H → IsKept g v rs' H
+pub kept_same : (g : Ground) (v : Kept) (rs rs' : List Record) (H : List PlainEntry) → AreSame rs rs' → length rs' ≡ length rs → IsKept g v rs H → IsKept g v rs' H
 kept_same g v rs rs' H same long k =
     let us : updates_of g.rules g.budget rs ≡ updates_of g.rules g.budget rs' = sym (same.updates g.rules g.budget) in
     record {
-      left = subst (λ (ws : List (Update (caused_chase g.rules g.budget))). Rattle.yt_history.specs.CoreLaws.Leave g H ws) us k.left;
+      left = subst (λ (ws : List (Update (caused_chase g.rules g.budget))). Leave g H ws) us k.left;
       numbers = same.numbers k.numbers;
       versions = subst (λ (ws : List (Update (caused_chase g.rules g.budget))). HaveTrails g.rules g.budget g.base ws v) us k.versions;
       sorted = k.sorted;
@@ -142,10 +143,10 @@ steps_from ms s k plan v v' rs mid rs' es between es' same long e steps B D requ
     let us : updates_of ms B mid ≡ updates_of ms B rs = same.updates ms B in
     let kept' : IsKept (ground_with ms s B D requests later) v mid (map entry_of between) =
         subst (λ (xs : List Entry). IsKept (ground_with ms s B D requests later) v mid (map entry_of xs)) (sym e) (kept_same (ground_with ms s B D requests later) v rs mid (map entry_of es) same long kept) in
-    subst (λ (xs : List Entry). Follows (ground_with ms s B D requests later) (Rattle.yt_machine.specs.Effects.Steps (suc k)) (map entry_of xs) v' rs' (map entry_of es')) e
+    subst (λ (xs : List Entry). Follows (ground_with ms s B D requests later) (Steps (suc k)) (map entry_of xs) v' rs' (map entry_of es')) e
     (steps B D requests later kept'
     ((λ i. option_map (standing (caused_chase ms B) s (committed (caused_chase ms B) (us i)) (suc k)) (slice_get (us i) k)) ∙ ready)
-    (subst (λ (ws : List (Update (caused_chase ms B))). IsStepAmong ms B D ws (suc k) (Rattle.yt_core.specs.Follows.meant_of (suc k) plan)) (sym us) planned))
+    (subst (λ (ws : List (Update (caused_chase ms B))). IsStepAmong ms B D ws (suc k) (meant_of (suc k) plan)) (sym us) planned))
 
 pub delivers_from : (s : Settings) (k : ℕ) (rs mid rs' : List Record) (es between es' : List Entry) → AreSame rs mid → length mid ≡ length rs → between ≡ es → DeliversTo s k mid between rs' es' → DeliversTo s k rs es rs' es'
 delivers_from s k rs mid rs' es between es' same long e delivers ms v B D requests later kept may =
@@ -167,19 +168,19 @@ module _ {X : Type 0} (f : X → List Change) where
 
 allowed_delivery : (M : Machine) (s : Settings) (S : Session M) (us : List (Update M)) (k : ℕ) (u : Update M) → slice_get us k ≡ Some u → is_deliverable M s (committed M us) (suc k) u ≡ true
     → effect M s S us (Delivers (suc k)) ≡ Some (deliver_effect M s us k u)
-allowed_delivery M s S us k u at may =
-    ap (λ o. option_and_then (λ w. if may_deliver M s us k w then Some (deliver_effect M s us k w) else None) o) at
+allowed_delivery M s S us k u spot may =
+    ap (λ o. option_and_then (λ w. if may_deliver M s us k w then Some (deliver_effect M s us k w) else None) o) spot
     ∙ ap (λ b. if b then Some (deliver_effect M s us k u) else None) may
 
 pub delivers_to : (s : Settings) (k : ℕ) (rs : List Record) (r r' : Record) (es es' : List Entry) (e : Entry) → k < length rs → get_or rs k r ≡ r → HasDelivered r r' → KeepsPlace r r'
     → TellsDelivery s k (set rs k r') e → es' ≡ es ++ e ∷ [] → DeliversTo s k rs es (set rs k r') es'
-delivers_to s k rs r r' es es' e l at made place told grew ms v B D requests later kept may =
+delivers_to s k rs r r' es es' e l spot made place told grew ms v B D requests later kept may =
     let g : Ground = ground_with ms s B D requests later in
     let us : List (Update (caused_chase ms B)) = updates_of ms B rs in
     let u : Update (caused_chase ms B) = update_of ms B r in
     let w : Update (caused_chase ms B) = delivered (caused_chase ms B) u in
     let x : Effect (caused_chase ms B) = deliver_effect (caused_chase ms B) s us k u in
-    let at_us : slice_get us k ≡ Some u = slice_get-map (update_of ms B) rs k ∙ ap (option_map (update_of ms B)) (there rs k r l at) in
+    let at_us : slice_get us k ≡ Some u = slice_get-map (update_of ms B) rs k ∙ ap (option_map (update_of ms B)) (there rs k r l spot) in
     let l' : k < length us = within us k u at_us in
     let yes : is_deliverable (caused_chase ms B) s (committed (caused_chase ms B) us) (suc k) u ≡ true =
         same_Some _ _ (sym (ap (option_map (is_deliverable (caused_chase ms B) s (committed (caused_chase ms B) us) (suc k))) at_us) ∙ may) in
@@ -187,7 +188,7 @@ delivers_to s k rs r r' es es' e l at made place told grew ms v B D requests lat
     let entry : entry_kept ms B (entry_of e) ≡ x.entry =
         ap (entry_kept ms B) (told ms B r' (set_there rs k r' l)) ∙ (λ i. Delivered (suc k) (standing (caused_chase ms B) s (committed (caused_chase ms B) (us' i)) (suc k) (made ms B i))) in
     follows g (map entry_of es) (map entry_of es') rs (set rs k r') v v (Delivers (suc k)) x (entry_of e) kept
-    (allowed_delivery (caused_chase ms B) s (session_over g) us k u at_us yes) us' (put_there rs 1 k r r' kept.numbers l at place)
+    (allowed_delivery (caused_chase ms B) s (session_over g) us k u at_us yes) us' (put_there rs 1 k r r' kept.numbers l spot place)
     (subst (λ (n : ℕ). n < 2 ^ 32) (sym (set_long rs k r')) kept.few)
     (subst (λ (ts : ℕ → List Change). StandFor v D ts) (λ i n. same_trails (trail (caused_chase ms B)) (take k us) u w (drop (suc k) us) refl n i)
     (subst (λ (ws : List (Update (caused_chase ms B))). HaveTrails ms B D ws v) (sym (cut_at us k u at_us)) kept.versions))

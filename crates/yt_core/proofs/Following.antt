@@ -110,14 +110,14 @@ from_on (r ∷ rs) n (suc k) m e a = from_on rs (suc n) k m (omega (arith, e)) a
 
 pub prepared_at : (ms : List Rule) (s : Settings) (c k : ℕ) (v : Kept) (rs : List Record) (r : Record) (plan : Plan) (p : Prepared) → AreFrom 1 rs → slice_get rs k ≡ Some r
     → ((ms : List Rule) (B : ℕ) → c ≡ committed (caused_chase ms B) (updates_of ms B rs)) → IsPrepared ms s c v r (drop (suc k) rs) plan p → IsPreparedAt ms s k plan v rs p
-prepared_at ms s c k v rs r plan p numbers at com is B requests later D H r' kept at' ready isplan =
+prepared_at ms s c k v rs r plan p numbers spot counts is B requests later D H r' kept spot' ready isplan =
     let us : List (Update (caused_chase ms B)) = updates_of ms B rs in
-    let same : r ≡ r' = same_Some r r' (sym at ∙ at') in
-    let at_us : slice_get us k ≡ Some (update_of ms B r) = slice_get-map (update_of ms B) rs k ∙ ap (option_map (update_of ms B)) at in
+    let same : r ≡ r' = same_Some r r' (sym spot ∙ spot') in
+    let at_us : slice_get us k ≡ Some (update_of ms B r) = slice_get-map (update_of ms B) rs k ∙ ap (option_map (update_of ms B)) spot in
     let long : length (take k us) ≡ k = taken_long us k (omega (arith, within us k (update_of ms B r) at_us)) in
-    let number : r.program.attempt.number ≡ suc k = (stands_at rs 1 k r numbers at).number in
+    let number : r.program.attempt.number ≡ suc k = (stands_at rs 1 k r numbers spot).number in
     let upper : updates_of ms B (drop (suc k) rs) ≡ drop (suc k) us = dropped_map (update_of ms B) rs (suc k) in
-    let all : us ≡ take k us ++ update_of ms B r ∷ updates_of ms B (drop (suc k) rs) = sym (cut_at us k (update_of ms B r) at_us) ∙ (λ i. take k us ++ update_of ms B r ∷ upper (~ i)) in
+    let all : us ≡ take k us ++ update_of ms B r ∷ updates_of ms B (drop (suc k) rs) = sym (cut_at us k (update_of ms B r) at_us) ∙ sym (ap (λ (ws : List (Update (caused_chase ms B))). take k us ++ update_of ms B r ∷ ws) upper) in
     let versions : AreVersions ms B D (take k us ++ update_of ms B r ∷ updates_of ms B (drop (suc k) rs)) v = subst (λ (ws : List (Update (caused_chase ms B))). AreVersions ms B D ws v) all (record { sorted = kept.sorted; stand = kept.versions }) in
     let may : is_ready (standing (caused_chase ms B) s (committed (caused_chase ms B) us) (suc k) (update_of ms B r)) ≡ true =
         ap (λ (q : Record). is_ready (standing (caused_chase ms B) s (committed (caused_chase ms B) us) (suc k) (update_of ms B q))) same ∙ ap is_ready ready in
@@ -126,7 +126,7 @@ prepared_at ms s c k v rs r plan p numbers at com is B requests later D H r' kep
         is B D (take k us) (committed (caused_chase ms B) us) (suc k) (number ∙ sym (ap suc long)) versions may plan_is in
     let one : IsStepLeft ms B s (committed (caused_chase ms B) us) (suc k) D (take k us) (update_of ms B r) (updates_of ms B (drop (suc k) rs)) p =
         subst (λ (j : ℕ). IsStepLeft ms B s (committed (caused_chase ms B) us) j D (take k us) (update_of ms B r) (updates_of ms B (drop (suc k) rs)) p) number
-        (subst (λ (d : ℕ). IsStepLeft ms B s d r.program.attempt.number D (take k us) (update_of ms B r) (updates_of ms B (drop (suc k) rs)) p) (com ms B) left) in
+        (subst (λ (d : ℕ). IsStepLeft ms B s d r.program.attempt.number D (take k us) (update_of ms B r) (updates_of ms B (drop (suc k) rs)) p) (counts ms B) left) in
     subst (λ (q : Record). IsStepLeft ms B s (committed (caused_chase ms B) us) (suc k) D (take k us) (update_of ms B q) (drop (suc k) us) p) same
     (subst (λ (ws : List (Update (caused_chase ms B))). IsStepLeft ms B s (committed (caused_chase ms B) us) (suc k) D (take k us) (update_of ms B r) ws p) upper one)
 
@@ -144,8 +144,8 @@ marked_so ms B (Some f ∷ fs) = ap (λ bs. true ∷ bs) (marked_so ms B fs)
 
 allowed_step : (M : Machine) (s : Settings) (S : Rattle.yt_machine.specs.Updates.Session M) (us : List (Update M)) (k : ℕ) (u : Update M) → slice_get us k ≡ Some u → is_ready (standing M s (committed M us) (suc k) u) ≡ true
     → effect M s S us (Steps (suc k)) ≡ Some (step_effect M s S us k u)
-allowed_step M s S us k u at may =
-    ap (λ o. option_and_then (λ w. if may_step M s us k w then Some (step_effect M s S us k w) else None) o) at
+allowed_step M s S us k u spot may =
+    ap (λ o. option_and_then (λ w. if may_step M s us k w then Some (step_effect M s S us k w) else None) o) spot
     ∙ ap (λ b. if b then Some (step_effect M s S us k u) else None) may
 
 pub step_follows : (ms : List Rule) (s : Settings) (B k : ℕ) (D : List Fact) (requests : List Request) (later : List Operation) (es es' : List Entry) (rs rs' : List Record) (v v' : Kept) (r : Record) (plan : Plan) (p : Prepared) (a : ℕ) (e : Entry)
@@ -155,16 +155,16 @@ pub step_follows : (ms : List Rule) (s : Settings) (B k : ℕ) (D : List Fact) (
     → IsPreparedAt ms s k plan v rs p → IsInstalled k plan p.left.fresh.items rs rs' → AreFrom 1 rs' → length rs' ≡ length rs → v' ≡ p.left.versions
     → a ≡ r.program.attempt.attempt → TellsStep s k a p.writes p.left.causes rs' e → es' ≡ es ++ e ∷ []
     → Follows (ground_with ms s B D requests later) (Steps (suc k)) (map entry_of es) v' rs' (map entry_of es')
-step_follows ms s B k D requests later es es' rs rs' v v' r plan p a e kept at ready isplan prepared installed numbers long versions attempt told grew =
+step_follows ms s B k D requests later es es' rs rs' v v' r plan p a e kept spot ready isplan prepared installed numbers long versions attempt told grew =
     let g : Ground = ground_with ms s B D requests later in
     let us : List (Update (caused_chase ms B)) = updates_of ms B rs in
     let u : Update (caused_chase ms B) = update_of ms B r in
     let x : Effect (caused_chase ms B) = step_effect (caused_chase ms B) s (session_over g) us k u in
     let w : Update (caused_chase ms B) = stepped (caused_chase ms B) (below (caused_chase ms B) D us k) u in
-    let left : IsStepLeft ms B s (committed (caused_chase ms B) us) (suc k) D (take k us) u (drop (suc k) us) p = prepared B requests later D (map entry_of es) r kept at ready isplan in
-    let at_us : slice_get us k ≡ Some u = slice_get-map (update_of ms B) rs k ∙ ap (option_map (update_of ms B)) at in
+    let left : IsStepLeft ms B s (committed (caused_chase ms B) us) (suc k) D (take k us) u (drop (suc k) us) p = prepared B requests later D (map entry_of es) r kept spot ready isplan in
+    let at_us : slice_get us k ≡ Some u = slice_get-map (update_of ms B) rs k ∙ ap (option_map (update_of ms B)) spot in
     let us' : updates_of ms B rs' ≡ x.updates =
-        installed ms B (below (caused_chase ms B) D us k) r (marks_for ms B p.left.fresh.items) at isplan (marked_so ms B p.left.fresh.items)
+        installed ms B (below (caused_chase ms B) D us k) r (marks_for ms B p.left.fresh.items) spot isplan (marked_so ms B p.left.fresh.items)
         ∙ ap (λ (ws : List (Update (caused_chase ms B))). take k us ++ w ∷ ws) (left.restarts (marks_for ms B p.left.fresh.items) (marked_so ms B p.left.fresh.items)) in
     let l : k < length us = within us k u at_us in
     let at_new : slice_get (updates_of ms B rs') k ≡ Some w = ap (λ (ws : List (Update (caused_chase ms B))). slice_get ws k) us' ∙ put_here us w _ k (omega (arith, l)) in
@@ -194,11 +194,11 @@ step_follows ms s B k D requests later es es' rs rs' v v' r plan p a e kept at r
 pub steps_to : (ms : List Rule) (s : Settings) (k : ℕ) (es es' : List Entry) (rs rs' : List Record) (v v' : Kept) (r : Record) (plan : Plan) (p : Prepared) (a : ℕ) (e : Entry) → slice_get rs k ≡ Some r
     → IsPreparedAt ms s k plan v rs p → IsInstalled k plan p.left.fresh.items rs rs' → AreFrom 1 rs' → length rs' ≡ length rs → v' ≡ p.left.versions
     → a ≡ r.program.attempt.attempt → TellsStep s k a p.writes p.left.causes rs' e → es' ≡ es ++ e ∷ [] → StepsTo ms s k plan v rs es v' rs' es'
-steps_to ms s k es es' rs rs' v v' r plan p a e at prepared installed numbers long versions attempt told grew B D requests later kept ready planned =
+steps_to ms s k es es' rs rs' v v' r plan p a e spot prepared installed numbers long versions attempt told grew B D requests later kept ready planned =
     let us : List (Update (caused_chase ms B)) = updates_of ms B rs in
-    let at_us : slice_get us k ≡ Some (update_of ms B r) = slice_get-map (update_of ms B) rs k ∙ ap (option_map (update_of ms B)) at in
+    let at_us : slice_get us k ≡ Some (update_of ms B r) = slice_get-map (update_of ms B) rs k ∙ ap (option_map (update_of ms B)) spot in
     let may : standing (caused_chase ms B) s (committed (caused_chase ms B) us) (suc k) (update_of ms B r) ≡ Ready =
         same_Some _ _ (sym (ap (option_map (standing (caused_chase ms B) s (committed (caused_chase ms B) us) (suc k))) at_us) ∙ ready) in
     let is : IsStepOver ms B (below (caused_chase ms B) D us k) (update_of ms B r) (meant_of (suc k) plan) =
         subst (λ (o : Option (Update (caused_chase ms B))). IsSomeThat (λ u. IsStepOver ms B (below (caused_chase ms B) D us k) u (meant_of (suc k) plan)) o) at_us planned in
-    step_follows ms s B k D requests later es es' rs rs' v v' r plan p a e kept at may (record { program = is.program; reads = is.reads }) prepared installed numbers long versions attempt told grew
+    step_follows ms s B k D requests later es es' rs rs' v v' r plan p a e kept spot may (record { program = is.program; reads = is.reads }) prepared installed numbers long versions attempt told grew

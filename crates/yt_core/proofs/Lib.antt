@@ -4,3 +4,5 @@ pub mod Preparing
 pub mod Following
 pub mod Opening
 pub mod Delivering
+pub mod Telling
+pub mod Entering

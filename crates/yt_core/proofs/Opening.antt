@@ -1,6 +1,9 @@
 -- The admissions of all updates of a session are a legal history.
 use Rattle.std.proofs.Common.{◌≡◌, ◌∙◌, ap, refl, sym, subst, ℕ, zero, suc, ◌≤◌, ◌+◌, Option, Some, None, List, [], ◌∷◌, ◌++◌, append_assoc, append-nil, map, length, arith}
 use Rattle.std.specs.Prelude.{option_map, slice_get}
+use Rattle.yt_entries.specs.Meanings.{entry_of}
+use Rattle.yt_entries.specs.declared.entries.Entry.{Entry}
+use Rattle.yt_entries.specs.declared.entries.Entry.TheVariants.{Admitted as AdmittedEntry}
 use Rattle.yt_history.specs.Cores.{Ground, machine, session_over, effect_after}
 use Rattle.yt_history.specs.CoreLaws.{Leave}
 use Rattle.yt_history.specs.PlainEntries.{PlainEntry, WasAdmitted, plain_entry}
@@ -46,6 +49,9 @@ regroup : {A : Type 0} (xs : List A) (x : A) (ys : List A) → (xs ++ x ∷ []) 
 regroup [] x ys = refl
 regroup (z ∷ xs) x ys = ap (λ zs. z ∷ zs) (regroup xs x ys)
 
+next_number : (n : ℕ) → suc n ≡ 1 + n
+next_number n = omega arith
+
 -- ---- all of them
 
 module _ (g : Ground) (some : 1 ≤ g.budget) where
@@ -60,9 +66,9 @@ module _ (g : Ground) (some : 1 ≤ g.budget) where
           ap (λ (ws : List (Update (machine g))). effect (machine g) g.settings (session_over g) ws Admits) h.leaves ∙ ap (option_map (admit_effect (machine g) us)) next in
       let more : Leave g (admissions_from 1 (length before) ++ plain_entry g.rules g.budget y.entry ∷ []) y.updates = (histories_are_kept g some).grows (admissions_from 1 (length before)) Admits y h.legal allowed in
       let entries : admissions_from 1 (length before) ++ WasAdmitted (suc (length us)) ∷ [] ≡ admissions_from 1 (length (before ++ x ∷ [])) =
-          ap (λ m. admissions_from 1 (length before) ++ WasAdmitted (suc m) ∷ []) long ∙ one_entry 1 (length before) ∙ ap (admissions_from 1) (sym (one_longer before x)) in
+          ap (λ m. admissions_from 1 (length before) ++ WasAdmitted (suc m) ∷ []) long ∙ ap (λ m. admissions_from 1 (length before) ++ WasAdmitted m ∷ []) (next_number (length before)) ∙ one_entry 1 (length before) ∙ ap (admissions_from 1) (sym (one_longer before x)) in
       let updates : us ++ admitted (machine g) (suc (length us)) x ∷ [] ≡ admitted_from (machine g) 1 (before ++ x ∷ []) =
-          ap (λ m. us ++ admitted (machine g) (suc m) x ∷ []) long ∙ one_update (machine g) 1 before x in
+          ap (λ m. us ++ admitted (machine g) (suc m) x ∷ []) long ∙ ap (λ m. us ++ admitted (machine g) m x ∷ []) (next_number (length before)) ∙ one_update (machine g) 1 before x in
       subst (λ H. Leave g H (admitted_from (machine g) 1 (before ++ x ∷ []))) entries
       (subst (λ (ws : List (Update (machine g))). Leave g (admissions_from 1 (length before) ++ WasAdmitted (suc (length us)) ∷ []) ws) updates more)
 
@@ -92,7 +98,7 @@ module _ (ms : List Rule) (B : ℕ) where
 
   -- No update has written.
   pub versions_begin : (D : List Fact) (xs : List (Submission (caused_chase ms B))) (v : Kept) → StandFor v D no_trails → HaveTrails ms B D (admitted_from (caused_chase ms B) 1 xs) v
-  versions_begin D xs v h = subst (λ (ts : ℕ → List Change). StandFor v D ts) (λ i k. no_writes_yet xs k (~ i)) h
+  versions_begin D xs v h = subst (λ (ts : ℕ → List Change). StandFor v D ts) (sym (λ i k. no_writes_yet xs k i)) h
 
 -- ---- records
 
@@ -100,3 +106,16 @@ module _ (ms : List Rule) (B : ℕ) where
 pub from_more : (n : ℕ) (rs : List Record) (r : Record) → AreFrom n rs → StandsAt (n + length rs) r → AreFrom n (rs ++ r ∷ [])
 from_more n [] r a s = let same : n + 0 ≡ n = omega arith in (subst (λ (m : ℕ). StandsAt m r) same s, tt)
 from_more n (q ∷ rs) r a s = let same : n + suc (length rs) ≡ suc n + length rs = omega arith in (a.0, from_more (suc n) rs r a.1 (subst (λ (m : ℕ). StandsAt m r) same s))
+
+-- ---- loops
+
+mapped_more : (xs : List Entry) (y : Entry) → map entry_of (xs ++ y ∷ []) ≡ map entry_of xs ++ entry_of y ∷ []
+mapped_more [] y = refl
+mapped_more (z ∷ xs) y = ap (λ zs. entry_of z ∷ zs) (mapped_more xs y)
+
+pub one_admission : (es es' : List Entry) (i : ℕ) → map entry_of es ≡ admissions_from 1 i → es' ≡ es ++ AdmittedEntry (i + 1) ∷ [] → map entry_of es' ≡ admissions_from 1 (i + 1)
+one_admission es es' i h e =
+    let one : i + 1 ≡ 1 + i = omega arith in
+    let next : suc i ≡ i + 1 = omega arith in
+    ap (map entry_of) e ∙ mapped_more es (AdmittedEntry (i + 1)) ∙ ap (λ (fs : List PlainEntry). fs ++ WasAdmitted (i + 1) ∷ []) h
+    ∙ ap (λ m. admissions_from 1 i ++ WasAdmitted m ∷ []) one ∙ one_entry 1 i ∙ ap (admissions_from 1) next

@@ -11,7 +11,7 @@ use Rattle.yt_machine.specs.Cascade.{Cause, readers, restarted}
 use Rattle.yt_machine.specs.Effects.{is_spent, causes_of_loss, causes_of_writes, causes_of_step}
 use Rattle.yt_machine.specs.Settle.{settle, restart, conflicts_in, dependences_in}
 use Rattle.yt_machine.specs.Steps.{stepped, step_writes, next_move}
-use Rattle.yt_machine.specs.Updates.{Settings, Update, hides, trail}
+use Rattle.yt_machine.specs.Updates.{Settings, Update, Deps, hides, trail}
 use Rattle.yt_machine.proofs.Standing.{ready_parts}
 use Rattle.yt_machine.proofs.Walks.{walk_law}
 use Rattle.yt_model.specs.Mappings.{Rule}
@@ -86,7 +86,7 @@ pub shows_more : (r : Record) (plan : Plan) (ws : List Write) (b : Bool) (old ne
 shows_more r plan ws b old new hidden t written put ms B D s c n may p E before after stand was is same =
     put E before after stand
     (is ∙ longer_trail ms B D (update_of ms B r) s c n may (ap (λ (P : Rattle.yt_steps.specs.Attempts.Attempt). hides (option_map ending (outcome_in P.phase))) (sym (plan_state ms B D r plan p)) ∙ sym hidden ∙ t)
-    ∙ (λ i. was (~ i) ++ written ms B D p (~ i)))
+    ∙ sym (λ i. was i ++ written ms B D p i))
     same
 
 -- ---- the causes
@@ -115,7 +115,7 @@ found_in_writes a s old r upper plan found b d n spent f are B E lower e before 
     let j : a.update ≡ suc (length lower) = n ∙ e in
     let law = (walk_law (caused_chase a.rules B) a.deps a.committed (suc (length lower)) D u us).0 in
     let mine : causes_above a.rules B s a.committed (suc (length lower)) E lower u us ≡ causes_of_writes (caused_chase a.rules B) a.deps a.committed (suc (length lower)) D us =
-        (λ i. causes_of_step (caused_chase a.rules B) (d (~ i)) a.committed (suc (length lower)) (laid a.rules B E lower) u v us)
+        ap (λ (x : Deps). causes_of_step (caused_chase a.rules B) x a.committed (suc (length lower)) (laid a.rules B E lower) u v us) (sym d)
         ∙ if_is_false (is_spent ((caused_chase a.rules B).outcome v.state)) (causes_of_loss (caused_chase a.rules B) a.deps a.committed (suc (length lower)) (laid a.rules B E lower) u us) (causes_of_writes (caused_chase a.rules B) a.deps a.committed (suc (length lower)) D us)
         (ap (λ (P : Rattle.yt_steps.specs.Attempts.Attempt). is_spent (option_map ending (outcome_in P.phase))) (sym (plan_state a.rules B (laid a.rules B E lower) r plan p)) ∙ sym spent ∙ f) in
     found_by a.rules B (causes_above a.rules B s a.committed (suc (length lower)) E lower u us) (suc (suc (length lower))) us found
@@ -137,7 +137,7 @@ found_in_loss a s new r upper plan ws found b d n spent f trail_is are B E lower
     let law = (walk_law (caused_chase a.rules B) a.deps a.committed (suc (length lower)) D u us).1 in
     let S : List (Option (Cause (caused_chase a.rules B))) = settle (caused_chase a.rules B) a.deps false a.committed (suc (length lower)) D' D (record { number = suc (length lower); trail = trail (caused_chase a.rules B) u } ∷ []) (suc (suc (length lower))) us in
     let mine : causes_above a.rules B s a.committed (suc (length lower)) E lower u us ≡ causes_of_loss (caused_chase a.rules B) a.deps a.committed (suc (length lower)) D u us =
-        (λ i. causes_of_step (caused_chase a.rules B) (d (~ i)) a.committed (suc (length lower)) (laid a.rules B E lower) u v us)
+        ap (λ (x : Deps). causes_of_step (caused_chase a.rules B) x a.committed (suc (length lower)) (laid a.rules B E lower) u v us) (sym d)
         ∙ if_is_true (is_spent ((caused_chase a.rules B).outcome v.state)) (causes_of_loss (caused_chase a.rules B) a.deps a.committed (suc (length lower)) D u us) (causes_of_writes (caused_chase a.rules B) a.deps a.committed (suc (length lower)) (apply D (trail (caused_chase a.rules B) v)) us)
         (ap (λ (P : Rattle.yt_steps.specs.Attempts.Attempt). is_spent (option_map ending (outcome_in P.phase))) (sym (plan_state a.rules B D r plan p)) ∙ sym spent ∙ f) in
     found_by a.rules B (causes_above a.rules B s a.committed (suc (length lower)) E lower u us) (suc (suc (length lower))) us found S

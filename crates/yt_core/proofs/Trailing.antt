@@ -32,9 +32,6 @@ module _ {X : Type 0} (f : X → List Change) where
   others_are (z ∷ lower) x y upper (suc (suc k)) h = others_are lower x y upper (suc k) (λ e. h (ap suc e))
 
 module _ (ms : List Rule) (B : ℕ) where
-  abbrev M : Rattle.yt_machine.specs.Machine.Machine
-  M = caused_chase ms B
-
   -- Versions with another trail for the update are those with another update.
   pub versions_with : (n : ℕ) (D : List Fact) (lower : List (Update (caused_chase ms B))) (u v : Update (caused_chase ms B)) (upper : List (Update (caused_chase ms B))) (old new : Kept) → n ≡ suc (length lower)
       → Replaces ms B n (trail (caused_chase ms B) u) (trail (caused_chase ms B) v) old new → AreVersions ms B D (lower ++ u ∷ upper) old → AreVersions ms B D (lower ++ v ∷ upper) new
@@ -48,7 +45,10 @@ module _ (ms : List Rule) (B : ℕ) where
 
   -- ---- restarts
 
-  no_writes : (b : Bool) → (if b then [] else []) ≡ ([] : List Change)
+  abbrev nothing : List Change
+  nothing = []
+
+  no_writes : (b : Bool) → (if b then nothing else nothing) ≡ nothing
   no_writes true = refl
   no_writes false = refl
 
@@ -93,7 +93,7 @@ module _ (ms : List Rule) (B : ℕ) where
       let bs : map is_some ys ≡ map is_some xs = ap rest_of s in
       let w : Update (caused_chase ms B) = restarted_if (is_some y) n (update_of ms B r) in
       let one : AreVersions ms B D (lower ++ restarted_if (is_some x) (suc (length lower)) (update_of ms B r) ∷ updates_of ms B rs) c.0 = cleared_one (is_some x) D lower r (updates_of ms B rs) old c.0 (a.0.number ∙ e) c.1 h in
-      let same : restarted_if (is_some x) (suc (length lower)) (update_of ms B r) ≡ w = λ i. restarted_if (b (~ i)) (e (~ i)) (update_of ms B r) in
+      let same : restarted_if (is_some x) (suc (length lower)) (update_of ms B r) ≡ w = sym (λ i. restarted_if (b i) (e i) (update_of ms B r)) in
       let mid : AreVersions ms B D ((lower ++ w ∷ []) ++ updates_of ms B rs) c.0 =
           subst (λ (us : List (Update (caused_chase ms B))). AreVersions ms B D us c.0) ((λ i. lower ++ same i ∷ updates_of ms B rs) ∙ sym (one_by_one lower w (updates_of ms B rs))) one in
       subst (λ (us : List (Update (caused_chase ms B))). AreVersions ms B D us new) (one_by_one lower w (restart (caused_chase ms B) (suc n) ys (updates_of ms B rs)))

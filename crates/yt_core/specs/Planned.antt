@@ -1,5 +1,5 @@
 -- The step that a plan is of.
-use Rattle.std.specs.Prelude.{◌≡◌, ℕ, zero, suc, ⊥, List, Option, Some, None, slice_get}
+use Rattle.std.specs.Prelude.{◌≡◌, ℕ, zero, suc, List, Option, Some, None, slice_get}
 use Rattle.yt_machine.specs.Updates.{Update, below}
 use Rattle.yt_machine.specs.Standings.{next_answer}
 use Rattle.yt_model.specs.Mappings.{Rule}

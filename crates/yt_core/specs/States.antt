@@ -66,7 +66,11 @@ lowest_deliverable_at s = standings.lowest_deliverable (machine s.ground) s.grou
 abbrev pub is_quiet_at : State → Bool
 is_quiet_at s = standings.is_quiet (machine s.ground) s.ground.settings (updates_at s)
 
--- The lowest update that is ready and is none of these.
+-- The lowest of these updates that is ready and has none of these numbers.
+abbrev pub lowest_ready_besides_of : (g : Ground) → List (Update (machine g)) → List ℕ → Option ℕ
+lowest_ready_besides_of g us ns =
+    standings.lowest_that (λ n u. standings.is_ready (standing (machine g) g.settings (committed (machine g) us) n u) && not (has_number ns n)) 1 us
+
+-- The lowest update that is ready and has none of these numbers.
 abbrev pub lowest_ready_besides_at : State → List ℕ → Option ℕ
-lowest_ready_besides_at s ns =
-    standings.lowest_that (λ n u. standings.is_ready (standing (machine s.ground) s.ground.settings (committed_at s) n u) && not (has_number ns n)) 1 (updates_at s)
+lowest_ready_besides_at s ns = lowest_ready_besides_of s.ground (updates_at s) ns

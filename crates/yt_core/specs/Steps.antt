@@ -6,10 +6,10 @@ use Rattle.yt_entries.specs.Meanings.{cause_of}
 use Rattle.yt_entries.specs.declared.causes.Cause.{Cause as CauseOfProgram}
 use Rattle.yt_history.specs.PlainEntries.{cause_kept}
 use Rattle.yt_machine.specs.Cascade.{Cause, readers, restarted}
-use Rattle.yt_machine.specs.Effects.{causes_of_step, step_writes as writes_of_step}
+use Rattle.yt_machine.specs.Effects.{causes_of_step}
 use Rattle.yt_machine.specs.Settle.{restart}
 use Rattle.yt_machine.specs.Standings.{is_ready, standing}
-use Rattle.yt_machine.specs.Steps.{stepped}
+use Rattle.yt_machine.specs.Steps.{stepped, step_writes as writes_of_step}
 use Rattle.yt_machine.specs.Updates.{Settings, Update, hides, trail}
 use Rattle.yt_model.specs.Mappings.{Rule}
 use Rattle.yt_model.specs.Repository.{Change, IsRepository}

@@ -53,7 +53,7 @@ fn without_restarted(
 ) -> Result<Versions, Memory>
     requires long { length found.now ≡ length upper.now }
     requires between { AllBetween upper.now }
-    ensures cleared { IfOk result (Cleared upper.now found.now versions.entry) }
+    ensures cleared { IfOk result (Cleared upper.now found.now versions) }
 {
     for i in 0..upper.len() {
         if found[i].is_some() {
@@ -73,8 +73,8 @@ fn in_order(alloc: Global, found: Vec<Option<Cause>>) -> Result<CauseList, Memor
     for cause in found {
         put(&mut conflicts, &mut dependences, cause)?;
     }
-    for cause in dependences.into_vec() {
-        conflicts.push(cause)?;
+    for dependence in dependences.into_vec() {
+        conflicts.push(dependence)?;
     }
     Ok(conflicts)
 }

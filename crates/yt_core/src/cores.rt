@@ -73,6 +73,7 @@ impl<'s> Core<'s> {
         Err(Memory)
     }
 
+    #[tactic(auto, using(crate::proofs::Telling::count_told))]
     /// How many updates there are. It takes no memory.
     pub fn count(&self) -> u32
         ensures count { result ≡ length (updates_at self.now) }
@@ -80,6 +81,7 @@ impl<'s> Core<'s> {
         self.queue.len() as u32
     }
 
+    #[tactic(auto, using(crate::proofs::Telling::committed_told))]
     /// How many updates are committed. It takes no memory.
     pub fn committed(&self) -> u32
         ensures committed { result ≡ committed_at self.now }
@@ -87,6 +89,7 @@ impl<'s> Core<'s> {
         committed(&self.queue)
     }
 
+    #[tactic(auto, using(crate::proofs::Telling::standing_told))]
     /// What the update of this number may do next; None exactly where there is none. It takes no memory.
     pub fn standing(&self, update: u32) -> Option<Standing>
         ensures standing { option_map standing_of result ≡ standing_at self.now update }
@@ -94,6 +97,7 @@ impl<'s> Core<'s> {
         standing(&self.queue, self.settings, update)
     }
 
+    #[tactic(auto, using(crate::proofs::Telling::question_told))]
     /// The question that is put to people for the update of this number: there is one exactly where it is paused. It
     /// takes no memory.
     pub fn question(&self, update: u32) -> Option<&Question>
@@ -102,6 +106,7 @@ impl<'s> Core<'s> {
         question(&self.queue, self.settings, update)
     }
 
+    #[tactic(auto, using(crate::proofs::Telling::ready_told))]
     /// The lowest update that is ready, if one is. It takes no memory.
     pub fn lowest_ready(&self) -> Option<u32>
         ensures lowest { result ≡ lowest_ready_at self.now }
@@ -109,6 +114,7 @@ impl<'s> Core<'s> {
         lowest_ready(&self.queue, self.settings)
     }
 
+    #[tactic(auto, using(crate::proofs::Telling::besides_told))]
     /// The lowest update that is ready and is none of these, if there is one. It takes no memory.
     pub fn lowest_ready_besides(&self, numbers: &[u32]) -> Option<u32>
         ensures lowest { result ≡ lowest_ready_besides_at self.now numbers.now }
@@ -116,6 +122,7 @@ impl<'s> Core<'s> {
         lowest_ready_besides(&self.queue, self.settings, numbers)
     }
 
+    #[tactic(auto, using(crate::proofs::Telling::deliverable_told))]
     /// The lowest update to which a recorded answer can be delivered, if there is one. It takes no memory.
     pub fn lowest_deliverable(&self) -> Option<u32>
         ensures lowest { result ≡ lowest_deliverable_at self.now }
@@ -123,6 +130,7 @@ impl<'s> Core<'s> {
         lowest_deliverable(&self.queue, self.settings)
     }
 
+    #[tactic(auto, using(crate::proofs::Telling::quiet_told))]
     /// Whether nothing is ready, and nothing deliverable. It takes no memory.
     pub fn is_quiet(&self) -> bool
         ensures quiet { result ≡ is_quiet_at self.now }
@@ -137,6 +145,7 @@ impl<'s> Core<'s> {
         self.history.as_slice()
     }
 
+    #[tactic(auto, using(crate::proofs::Telling::legal_told))]
     /// What is always true of a core: its history is legal over what it is over. It does nothing but say so.
     pub fn is_legal(&self)
         ensures legal { IsLegalOver self.now.ground self.now.history }

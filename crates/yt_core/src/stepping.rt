@@ -53,13 +53,13 @@ pub(crate) fn prepare(
 }
 
 // Why each of the updates above is restarted by the step, if it is. `after` are the versions after it.
-fn found(
+fn found<'a>(
     alloc: Global,
-    mappings: &Mappings<'_>,
+    mappings: &'a Mappings<'a>,
     settings: Settings,
     committed: u32,
-    versions: &Versions,
-    after: &Versions,
+    versions: &'a Versions,
+    after: &'a Versions,
     item: &Record,
     upper: &[Record],
     plan: &Plan,
@@ -67,7 +67,7 @@ fn found(
     requires between { IsBetween item.now.program }
     requires after { IsBetween plan.now.program }
     requires numbers { AreFrom (suc item.now.program.attempt.number) upper.now }
-    ensures found { IfOk result (WereFound mappings.now (settings_of settings) committed versions.now after.now item.now upper.now plan.now) }
+    ensures found { IfOk result (λ found. WereFound mappings.now (settings_of settings) committed versions.now after.now item.now upper.now plan.now found.items) }
     ensures long { IfOk result (λ found. length found.items ≡ length upper.now) }
 {
     let mut walk = Cascade {
@@ -84,6 +84,7 @@ fn found(
     walk.causes_of_writes(alloc, upper)
 }
 
+#[tactic(auto, using(crate::proofs::Preparing::shows_hidden, crate::proofs::Preparing::shows_more))]
 // The versions with the writes that the step shows; without those of the update where it ends by it spent or refused.
 fn versions_after(
     alloc: Global,
@@ -98,9 +99,9 @@ fn versions_after(
     let mut after = versions.share()?;
     if hides(&plan.program) {
         after.retract(alloc, item.number(), item.trail())?;
-    } else {
-        after.publish(alloc, item.number(), item.written(plan))?;
+        return Ok(after);
     }
+    after.publish(alloc, item.number(), item.written(plan))?;
     Ok(after)
 }
 
