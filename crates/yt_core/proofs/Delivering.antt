@@ -64,13 +64,20 @@ set_there (x ∷ xs) (suc k) y l = set_there xs k y (omega (arith, l))
 
 -- ---- the same updates
 
-pub same_with : (rs : List Record) (k : ℕ) (r r' : Record) → k < length rs → get_or rs k r ≡ r → IsSame r r' → KeepsPlace r r' → AreSame rs (set rs k r')
-same_with rs k r r' l spot same place = record {
+same_by : (rs : List Record) (k : ℕ) (r r' : Record) → k < length rs → get_or rs k r ≡ r → IsSame r r' → KeepsPlace r r' → AreSame rs (set rs k r')
+same_by rs k r r' l spot same place = record {
   updates =
       λ ms B. mapped_set (update_of ms B) rs k r' ∙ ap (λ u. set (updates_of ms B rs) k u) (same ms B)
       ∙ set_same (updates_of ms B rs) k (update_of ms B r) (slice_get-map (update_of ms B) rs k ∙ ap (option_map (update_of ms B)) (there rs k r l spot));
   numbers = λ a. put_there rs 1 k r r' a l spot place;
 }
+
+-- The record that stands at the place is changed.
+pub same_with : (rs : List Record) (k : ℕ) (r r' : Record) → k < length rs → r ≡ get_or rs k r → IsSame (get_or rs k r) r' → KeepsPlace (get_or rs k r) r' → AreSame rs (set rs k r')
+same_with rs k r r' l e same place = same_by rs k r r' l (sym e) (subst (λ (q : Record). IsSame q r') (sym e) same) (subst (λ (q : Record). KeepsPlace q r') (sym e) place)
+
+pub put_with : (rs : List Record) (k : ℕ) (r r' : Record) → AreFrom 1 rs → k < length rs → r ≡ get_or rs k r → KeepsPlace (get_or rs k r) r' → AreFrom 1 (set rs k r')
+put_with rs k r r' a l e place = put_there rs 1 k r r' a l (sym e) (subst (λ (q : Record). KeepsPlace q r') (sym e) place)
 
 first_is : {A : Type 0} (x y : A) (xs ys : List A) → (x ∷ xs ≡ y ∷ ys) → x ≡ y
 first_is {A} x y xs ys e = ap pick e
@@ -172,9 +179,9 @@ allowed_delivery M s S us k u spot may =
     ap (λ o. option_and_then (λ w. if may_deliver M s us k w then Some (deliver_effect M s us k w) else None) o) spot
     ∙ ap (λ b. if b then Some (deliver_effect M s us k u) else None) may
 
-pub delivers_to : (s : Settings) (k : ℕ) (rs : List Record) (r r' : Record) (es es' : List Entry) (e : Entry) → k < length rs → get_or rs k r ≡ r → HasDelivered r r' → KeepsPlace r r'
+delivers_by : (s : Settings) (k : ℕ) (rs : List Record) (r r' : Record) (es es' : List Entry) (e : Entry) → k < length rs → get_or rs k r ≡ r → HasDelivered r r' → KeepsPlace r r'
     → TellsDelivery s k (set rs k r') e → es' ≡ es ++ e ∷ [] → DeliversTo s k rs es (set rs k r') es'
-delivers_to s k rs r r' es es' e l spot made place told grew ms v B D requests later kept may =
+delivers_by s k rs r r' es es' e l spot made place told grew ms v B D requests later kept may =
     let g : Ground = ground_with ms s B D requests later in
     let us : List (Update (caused_chase ms B)) = updates_of ms B rs in
     let u : Update (caused_chase ms B) = update_of ms B r in
@@ -198,3 +205,8 @@ delivers_to s k rs r r' es es' e l spot made place told grew ms v B D requests l
     mapped_more : (xs : List Entry) (y : Entry) → map entry_of (xs ++ y ∷ []) ≡ map entry_of xs ++ entry_of y ∷ []
     mapped_more [] y = refl
     mapped_more (z ∷ xs) y = ap (λ zs. entry_of z ∷ zs) (mapped_more xs y)
+
+pub delivers_to : (s : Settings) (k : ℕ) (rs : List Record) (r r' : Record) (es es' : List Entry) (e : Entry) → k < length rs → r ≡ get_or rs k r → HasDelivered (get_or rs k r) r' → KeepsPlace (get_or rs k r) r'
+    → TellsDelivery s k (set rs k r') e → es' ≡ es ++ e ∷ [] → DeliversTo s k rs es (set rs k r') es'
+delivers_to s k rs r r' es es' e l spot made place told grew =
+    delivers_by s k rs r r' es es' e l (sym spot) (subst (λ (q : Record). HasDelivered q r') (sym spot) made) (subst (λ (q : Record). KeepsPlace q r') (sym spot) place) told grew

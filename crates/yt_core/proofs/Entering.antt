@@ -80,11 +80,11 @@ updates_more : (ms : List Rule) (B : ℕ) (rs : List Record) (r : Record) (us : 
 updates_more ms B [] r us = refl
 updates_more ms B (q ∷ rs) r us = ap (λ ws. update_of ms B q ∷ ws) (updates_more ms B rs r us)
 
-module _ (us : List SessionUpdate) (i n : ℕ) (u : SessionUpdate) (qs qs' : List Record) (r : Record) (number : n ≡ suc (length qs)) (grew : qs' ≡ qs ++ r ∷ []) where
+module _ (us : List SessionUpdate) (k n : ℕ) (u : SessionUpdate) (qs qs' : List Record) (r : Record) (number : n ≡ suc (length qs)) (grew : qs' ≡ qs ++ r ∷ []) where
   pub number_more : n + 1 ≡ suc (length qs')
   number_more = let l : length qs' ≡ suc (length qs) = ap (λ xs. length xs) grew ∙ one_longer qs r in omega (arith, number, l)
 
-  pub long_more : length qs ≡ i → length qs' ≡ i + 1
+  pub long_more : length qs ≡ k → length qs' ≡ k + 1
   long_more long = let l : length qs' ≡ suc (length qs) = ap (λ xs. length xs) grew ∙ one_longer qs r in omega (arith, long, l)
 
   pub all_from_more : AreFrom 1 qs → StandsAt n r → AreFrom 1 qs'
@@ -92,14 +92,14 @@ module _ (us : List SessionUpdate) (i n : ℕ) (u : SessionUpdate) (qs qs' : Lis
       let same : n ≡ 1 + length qs = omega (arith, number) in
       subst (λ (xs : List Record). AreFrom 1 xs) (sym grew) (from_more 1 qs r from (subst (λ (m : ℕ). StandsAt m r) same stands))
 
-  pub done_more : ((ms : List Rule) (B : ℕ) → updates_of ms B qs ++ admitted_from (caused_chase ms B) n (handed_in ms B (drop i us)) ≡ admitted_from (caused_chase ms B) 1 (handed_in ms B us))
-      → i < length us → u ≡ get_or us i u → IsAdmitted n u.update u.answers r
-      → (ms : List Rule) (B : ℕ) → updates_of ms B qs' ++ admitted_from (caused_chase ms B) (n + 1) (handed_in ms B (drop (i + 1) us)) ≡ admitted_from (caused_chase ms B) 1 (handed_in ms B us)
+  pub done_more : ((ms : List Rule) (B : ℕ) → updates_of ms B qs ++ admitted_from (caused_chase ms B) n (handed_in ms B (drop k us)) ≡ admitted_from (caused_chase ms B) 1 (handed_in ms B us))
+      → k < length us → u ≡ get_or us k u → IsAdmitted n u.update u.answers r
+      → (ms : List Rule) (B : ℕ) → updates_of ms B qs' ++ admitted_from (caused_chase ms B) (n + 1) (handed_in ms B (drop (k + 1) us)) ≡ admitted_from (caused_chase ms B) 1 (handed_in ms B us)
   done_more done l e is ms B =
       let next : n + 1 ≡ suc n = omega arith in
-      let one : i + 1 ≡ suc i = omega arith in
-      ap (λ xs. updates_of ms B xs ++ admitted_from (caused_chase ms B) (n + 1) (handed_in ms B (drop (i + 1) us))) grew
-      ∙ updates_more ms B qs r (admitted_from (caused_chase ms B) (n + 1) (handed_in ms B (drop (i + 1) us)))
-      ∙ (λ j. updates_of ms B qs ++ is ms B j ∷ admitted_from (caused_chase ms B) (next j) (handed_in ms B (drop (one j) us)))
-      ∙ ap (λ xs. updates_of ms B qs ++ admitted_from (caused_chase ms B) n (handed_in ms B xs)) (sym (drop-cons us i u l (sym e)))
+      let one : k + 1 ≡ suc k = omega arith in
+      ap (λ xs. updates_of ms B xs ++ admitted_from (caused_chase ms B) (n + 1) (handed_in ms B (drop (k + 1) us))) grew
+      ∙ updates_more ms B qs r (admitted_from (caused_chase ms B) (n + 1) (handed_in ms B (drop (k + 1) us)))
+      ∙ (λ t. updates_of ms B qs ++ is ms B t ∷ admitted_from (caused_chase ms B) (next t) (handed_in ms B (drop (one t) us)))
+      ∙ ap (λ xs. updates_of ms B qs ++ admitted_from (caused_chase ms B) n (handed_in ms B xs)) (sym (drop-cons us k u l (sym e)))
       ∙ done ms B

@@ -115,7 +115,8 @@ prepared_at ms s c k v rs r plan p numbers spot counts is B requests later D H r
     let same : r ≡ r' = same_Some r r' (sym spot ∙ spot') in
     let at_us : slice_get us k ≡ Some (update_of ms B r) = slice_get-map (update_of ms B) rs k ∙ ap (option_map (update_of ms B)) spot in
     let long : length (take k us) ≡ k = taken_long us k (omega (arith, within us k (update_of ms B r) at_us)) in
-    let number : r.program.attempt.number ≡ suc k = (stands_at rs 1 k r numbers spot).number in
+    let one : 1 + k ≡ suc k = omega arith in
+    let number : r.program.attempt.number ≡ suc k = (stands_at rs 1 k r numbers spot).number ∙ one in
     let upper : updates_of ms B (drop (suc k) rs) ≡ drop (suc k) us = dropped_map (update_of ms B) rs (suc k) in
     let all : us ≡ take k us ++ update_of ms B r ∷ updates_of ms B (drop (suc k) rs) = sym (cut_at us k (update_of ms B r) at_us) ∙ sym (ap (λ (ws : List (Update (caused_chase ms B))). take k us ++ update_of ms B r ∷ ws) upper) in
     let versions : AreVersions ms B D (take k us ++ update_of ms B r ∷ updates_of ms B (drop (suc k) rs)) v = subst (λ (ws : List (Update (caused_chase ms B))). AreVersions ms B D ws v) all (record { sorted = kept.sorted; stand = kept.versions }) in
@@ -124,15 +125,15 @@ prepared_at ms s c k v rs r plan p numbers spot counts is B requests later D H r
     let plan_is : IsPlanOf ms B (below (caused_chase ms B) D us k) r plan = subst (λ (q : Record). IsPlanOf ms B (below (caused_chase ms B) D us k) q plan) (sym same) isplan in
     let left : IsStepLeft ms B s c r.program.attempt.number D (take k us) (update_of ms B r) (updates_of ms B (drop (suc k) rs)) p =
         is B D (take k us) (committed (caused_chase ms B) us) (suc k) (number ∙ sym (ap suc long)) versions may plan_is in
-    let one : IsStepLeft ms B s (committed (caused_chase ms B) us) (suc k) D (take k us) (update_of ms B r) (updates_of ms B (drop (suc k) rs)) p =
+    let moved : IsStepLeft ms B s (committed (caused_chase ms B) us) (suc k) D (take k us) (update_of ms B r) (updates_of ms B (drop (suc k) rs)) p =
         subst (λ (j : ℕ). IsStepLeft ms B s (committed (caused_chase ms B) us) j D (take k us) (update_of ms B r) (updates_of ms B (drop (suc k) rs)) p) number
         (subst (λ (d : ℕ). IsStepLeft ms B s d r.program.attempt.number D (take k us) (update_of ms B r) (updates_of ms B (drop (suc k) rs)) p) (counts ms B) left) in
     subst (λ (q : Record). IsStepLeft ms B s (committed (caused_chase ms B) us) (suc k) D (take k us) (update_of ms B q) (drop (suc k) us) p) same
-    (subst (λ (ws : List (Update (caused_chase ms B))). IsStepLeft ms B s (committed (caused_chase ms B) us) (suc k) D (take k us) (update_of ms B r) ws p) upper one)
+    (subst (λ (ws : List (Update (caused_chase ms B))). IsStepLeft ms B s (committed (caused_chase ms B) us) (suc k) D (take k us) (update_of ms B r) ws p) upper moved)
 
 -- ---- a step
 
-marks_for : (ms : List Rule) (B : ℕ) → List (Option ProgramState) → List (Option (Cause (caused_chase ms B)))
+abbrev marks_for : (ms : List Rule) (B : ℕ) → List (Option ProgramState) → List (Option (Cause (caused_chase ms B)))
 marks_for ms B [] = []
 marks_for ms B (None ∷ fs) = None ∷ marks_for ms B fs
 marks_for ms B (Some f ∷ fs) = Some (Depends 0 0 0) ∷ marks_for ms B fs

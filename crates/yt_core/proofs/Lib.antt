@@ -6,3 +6,5 @@ pub mod Opening
 pub mod Delivering
 pub mod Telling
 pub mod Entering
+pub mod Making
+pub mod Placing

@@ -8,3 +8,4 @@ pub mod Aftermaths
 pub mod Steps
 pub mod Follows
 pub mod Admitted
+pub mod Taken

@@ -1,7 +1,8 @@
 //! What an event leaves of the versions and of the updates above it, made before anything is changed.
-ghost use Rattle.std.specs.Prelude.{◌≡◌, ◌++◌, length, IfOk, OnOk};
+ghost use Rattle.std.specs.Prelude.{◌≡◌, ◌++◌, length, is_some, IfOk, OnOk};
+ghost use Rattle.yt_queue.specs.Programs.{IsBetween};
 ghost use Rattle.yt_queue.specs.Renewals.{AllHaveOneMore, AreFresh, AreThere};
-ghost use Rattle.yt_core.specs.Aftermaths.{Cleared, AllBetween, in_order as in_order_lem, conflict_in, dependence_in, is_conflict as is_conflict_lem};
+ghost use Rattle.yt_core.specs.Aftermaths.{Cleared, ClearedIf, AllBetween, in_order as in_order_lem, conflict_in, dependence_in, is_conflict as is_conflict_lem};
 
 use std::alloc::Global;
 use yt_base::Memory;
@@ -56,11 +57,25 @@ fn without_restarted(
     ensures cleared { IfOk result (Cleared upper.now found.now versions) }
 {
     for i in 0..upper.len() {
-        if found[i].is_some() {
-            let record = &upper[i];
-            versions.retract(alloc, record.number(), record.trail())?;
-        }
+        versions = without_one(alloc, versions, &upper[i], &found[i])?;
     }
+    Ok(versions)
+}
+
+// The versions without the trail of the update, if it has a cause.
+fn without_one(
+    alloc: Global,
+    mut versions: Versions,
+    record: &Record,
+    cause: &Option<Cause>,
+) -> Result<Versions, Memory>
+    requires between { IsBetween record.now.program }
+    ensures cleared { IfOk result (ClearedIf (is_some cause.now) record.now versions) }
+{
+    if cause.is_none() {
+        return Ok(versions);
+    }
+    versions.retract(alloc, record.number(), record.trail())?;
     Ok(versions)
 }
 

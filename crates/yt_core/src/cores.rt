@@ -1,10 +1,10 @@
 //! A core, and what it is made of.
-ghost use Rattle.std.specs.Prelude.{◌≡◌, ◌≤◌, length, map, Some, IfOk, OnOk, OnErr};
+ghost use Rattle.std.specs.Prelude.{◌≡◌, ◌≤◌, length, map, Some, IfOk, IfErr, OnOk, OnErr};
 ghost use Rattle.std.specs.Option.{option_map, option_copied};
 ghost use Rattle.yt_frontier.specs.Inquiries.{inquiry_of, inquiry_in};
 ghost use Rattle.yt_history.specs.Cores.{IsLegalOver};
 ghost use Rattle.yt_machine.specs.Effects.{Steps, Delivers};
-ghost use Rattle.yt_machine.specs.Standings.{Ready};
+ghost use Rattle.yt_machine.specs.Standings.{Ready, Paused, Missing};
 ghost use Rattle.yt_entries.specs.Meanings.{standing_of, entry_of};
 ghost use Rattle.yt_model.specs.Repository.{IsRepository};
 ghost use Rattle.yt_grammar.specs.Validity.{IsSession};
@@ -14,9 +14,12 @@ ghost use Rattle.yt_core.specs.States.{opened, updates_at, committed_at, standin
 ghost use Rattle.yt_core.specs.Events.{HasMade, AnswersStep, AnswersDelivery};
 ghost use Rattle.yt_core.specs.Planned.{IsStepAt};
 
-use crate::plans::{Plan, Snapshot};
+use crate::admitting::{admissions, admitted};
+use crate::deliveries::deliver_at;
+use crate::plans::{Plan, Snapshot, snapshot_of};
 use crate::refusals::{DeliverRefusal, StepRefusal};
 use crate::standings::{question, standing};
+use crate::stepping::step_at;
 use std::alloc::Global;
 use std::marker::Model;
 use yt_base::{Memory, TupleList};
@@ -26,6 +29,7 @@ use yt_limits::{Budget, Mappings};
 use yt_queue::{
     Record, Settings, committed, is_quiet, lowest_deliverable, lowest_ready, lowest_ready_besides,
 };
+use yt_serial::mappings_of;
 use yt_session::{Session, SessionUpdates};
 use yt_versions::Versions;
 
@@ -70,10 +74,22 @@ impl<'s> Core<'s> {
         requires retries { settings.retries ≤ 4 }
         ensures opened { IfOk result (λ core. core ≡ opened (session_of session.now) budget (settings_of settings) (length session.now.updates.items)) }
     {
-        Err(Memory)
+        budget.is_within();
+        let versions = Versions::of(alloc, session.base.as_slice())?;
+        let queue = admitted(alloc, session.updates.as_slice())?;
+        let history = admissions(alloc, session.updates.len() as u32)?;
+        Ok(Core {
+            mappings: mappings_of(session),
+            budget,
+            settings,
+            base: &session.base,
+            updates: &session.updates,
+            versions,
+            queue,
+            history,
+        })
     }
 
-    #[tactic(auto, using(crate::proofs::Telling::count_told))]
     /// How many updates there are. It takes no memory.
     pub fn count(&self) -> u32
         ensures count { result ≡ length (updates_at self.now) }
@@ -81,7 +97,6 @@ impl<'s> Core<'s> {
         self.queue.len() as u32
     }
 
-    #[tactic(auto, using(crate::proofs::Telling::committed_told))]
     /// How many updates are committed. It takes no memory.
     pub fn committed(&self) -> u32
         ensures committed { result ≡ committed_at self.now }
@@ -89,7 +104,6 @@ impl<'s> Core<'s> {
         committed(&self.queue)
     }
 
-    #[tactic(auto, using(crate::proofs::Telling::standing_told))]
     /// What the update of this number may do next; None exactly where there is none. It takes no memory.
     pub fn standing(&self, update: u32) -> Option<Standing>
         ensures standing { option_map standing_of result ≡ standing_at self.now update }
@@ -97,7 +111,6 @@ impl<'s> Core<'s> {
         standing(&self.queue, self.settings, update)
     }
 
-    #[tactic(auto, using(crate::proofs::Telling::question_told))]
     /// The question that is put to people for the update of this number: there is one exactly where it is paused. It
     /// takes no memory.
     pub fn question(&self, update: u32) -> Option<&Question>
@@ -106,7 +119,6 @@ impl<'s> Core<'s> {
         question(&self.queue, self.settings, update)
     }
 
-    #[tactic(auto, using(crate::proofs::Telling::ready_told))]
     /// The lowest update that is ready, if one is. It takes no memory.
     pub fn lowest_ready(&self) -> Option<u32>
         ensures lowest { result ≡ lowest_ready_at self.now }
@@ -114,7 +126,6 @@ impl<'s> Core<'s> {
         lowest_ready(&self.queue, self.settings)
     }
 
-    #[tactic(auto, using(crate::proofs::Telling::besides_told))]
     /// The lowest update that is ready and is none of these, if there is one. It takes no memory.
     pub fn lowest_ready_besides(&self, numbers: &[u32]) -> Option<u32>
         ensures lowest { result ≡ lowest_ready_besides_at self.now numbers.now }
@@ -122,7 +133,6 @@ impl<'s> Core<'s> {
         lowest_ready_besides(&self.queue, self.settings, numbers)
     }
 
-    #[tactic(auto, using(crate::proofs::Telling::deliverable_told))]
     /// The lowest update to which a recorded answer can be delivered, if there is one. It takes no memory.
     pub fn lowest_deliverable(&self) -> Option<u32>
         ensures lowest { result ≡ lowest_deliverable_at self.now }
@@ -130,7 +140,6 @@ impl<'s> Core<'s> {
         lowest_deliverable(&self.queue, self.settings)
     }
 
-    #[tactic(auto, using(crate::proofs::Telling::quiet_told))]
     /// Whether nothing is ready, and nothing deliverable. It takes no memory.
     pub fn is_quiet(&self) -> bool
         ensures quiet { result ≡ is_quiet_at self.now }
@@ -145,7 +154,6 @@ impl<'s> Core<'s> {
         self.history.as_slice()
     }
 
-    #[tactic(auto, using(crate::proofs::Telling::legal_told))]
     /// What is always true of a core: its history is legal over what it is over. It does nothing but say so.
     pub fn is_legal(&self)
         ensures legal { IsLegalOver self.now.ground self.now.history }
@@ -162,7 +170,9 @@ impl<'s> Core<'s> {
         ensures update { IfOk result (λ snapshot. snapshot.update ≡ update) }
         ensures step { IfOk result (IsStepAt self.now) }
     {
-        Err(Memory)
+        let record = &self.queue[update as usize - 1];
+        let mappings = self.mappings.list();
+        snapshot_of(alloc, mappings, self.budget, &self.versions, record)
     }
 
     /// Makes the step of the plan, which is the next one of its update at the present state. It gives the number of the
@@ -173,8 +183,23 @@ impl<'s> Core<'s> {
         ensures made { OnOk result (HasMade self.old (Steps plan.update) self.new) }
         ensures number { IfOk result (λ n. n ≡ length self.new.history) }
         ensures kept { OnErr result (self.new ≡ self.old) }
+        ensures back { IfErr result (λ refused. refused.0 ≡ plan) }
     {
-        Err((plan, Memory))
+        let Plan { update, step } = plan;
+        let made = step_at(
+            alloc,
+            &self.mappings,
+            self.settings,
+            &mut self.versions,
+            &mut self.queue,
+            &mut self.history,
+            update as usize - 1,
+            step,
+        );
+        match made {
+            Ok(()) => Ok(self.history.len() as u64),
+            Err((step, memory)) => Err((Plan { update, step }, memory)),
+        }
     }
 
     /// Makes the next step of the update. It gives the number of the entry. Where it is refused the core is unchanged.
@@ -186,14 +211,17 @@ impl<'s> Core<'s> {
     {
         match self.standing(update) {
             None => Err(StepRefusal::NoSuchUpdate),
-            Some(Standing::Ready) => Err(StepRefusal::Memory),
+            Some(Standing::Ready) => match self.make_step(alloc, update) {
+                Ok(number) => Ok(number),
+                Err(_) => Err(StepRefusal::Memory),
+            },
             Some(standing) => Err(StepRefusal::NotReady(standing)),
         }
     }
 
     /// Delivers the first of the answers that wait for the update. It gives the number of the entry. Where it is refused
     /// the core is unchanged.
-    pub fn deliver(&mut self, alloc: Global, update: u32) -> Result<u64, DeliverRefusal>
+    pub fn deliver(&mut self, update: u32) -> Result<u64, DeliverRefusal>
         ensures made { OnOk result (HasMade self.old (Delivers update) self.new) }
         ensures number { IfOk result (λ n. n ≡ length self.new.history) }
         ensures kept { OnErr result (self.new ≡ self.old) }
@@ -201,8 +229,41 @@ impl<'s> Core<'s> {
     {
         match self.standing(update) {
             None => Err(DeliverRefusal::NoSuchUpdate),
-            Some(Standing::Pending) => Err(DeliverRefusal::Memory),
+            Some(Standing::Pending) => self.deliver_pending(update),
             Some(standing) => Err(DeliverRefusal::NotPending(standing)),
+        }
+    }
+
+    // Makes the next step of the update, which is ready.
+    fn make_step(&mut self, alloc: Global, update: u32) -> Result<u64, Memory>
+        requires ready { standing_at self.old update ≡ Some Ready }
+        ensures made { OnOk result (HasMade self.old (Steps update) self.new) }
+        ensures number { IfOk result (λ n. n ≡ length self.new.history) }
+        ensures kept { OnErr result (self.new ≡ self.old) }
+    {
+        let snapshot = self.snapshot(alloc, update)?;
+        let plan = snapshot.plan(alloc)?;
+        match self.install(alloc, plan) {
+            Ok(number) => Ok(number),
+            Err(_) => Err(Memory),
+        }
+    }
+
+    // Delivers the first of the answers that wait for the update, which is pending.
+    fn deliver_pending(&mut self, update: u32) -> Result<u64, DeliverRefusal>
+        requires pending { standing_at self.old update ≡ Some (Paused Missing) }
+        ensures made { OnOk result (HasMade self.old (Delivers update) self.new) }
+        ensures number { IfOk result (λ n. n ≡ length self.new.history) }
+        ensures kept { OnErr result (self.new ≡ self.old) }
+        ensures answer { AnswersDelivery (standing_at self.old update) (has_waiting self.old update) result }
+    {
+        let place = update as usize - 1;
+        if self.queue[place].inbox.is_empty() {
+            return Err(DeliverRefusal::NoAnswer);
+        }
+        match deliver_at(self.settings, &mut self.queue, &mut self.history, place) {
+            Ok(()) => Ok(self.history.len() as u64),
+            Err(_) => Err(DeliverRefusal::Memory),
         }
     }
 }

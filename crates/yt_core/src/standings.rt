@@ -23,7 +23,7 @@ pub(crate) fn record_at(queue: &[Record], number: u32) -> Option<&Record>
     queue.get(number as usize - 1)
 }
 
-#[tactic(auto, using(crate::proofs::Telling::between_at, crate::proofs::Telling::standing_is, crate::proofs::Telling::no_standing))]
+#[tactic(auto, using(crate::proofs::Telling::between_at))]
 /// What the update of this number may do next; None exactly where there is none.
 pub(crate) fn standing(queue: &[Record], settings: Settings, number: u32) -> Option<Standing>
     requires from { AreFrom 1 queue.now }
@@ -35,7 +35,7 @@ pub(crate) fn standing(queue: &[Record], settings: Settings, number: u32) -> Opt
     }
 }
 
-#[tactic(auto, using(crate::proofs::Telling::between_at, crate::proofs::Telling::question_is, crate::proofs::Telling::no_question))]
+#[tactic(auto, using(crate::proofs::Telling::between_at))]
 /// The question that is put to people for the update of this number, if one is.
 pub(crate) fn question(queue: &[Record], settings: Settings, number: u32) -> Option<&Question>
     requires from { AreFrom 1 queue.now }

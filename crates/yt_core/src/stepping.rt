@@ -44,6 +44,7 @@ pub(crate) fn prepare(
     requires numbers { AreFrom (suc item.now.program.attempt.number) upper.now }
     requires more { AllHaveOneMore upper.now }
     ensures prepared { IfOk result (IsPrepared mappings.now (settings_of settings) committed versions.now item.now upper.now plan.now) }
+    ensures fresh { IfOk result (λ p. AreFresh upper.now p.left.fresh.items) }
 {
     let after = versions_after(alloc, versions, item, plan)?;
     let found = found(alloc, mappings, settings, committed, versions, &after, item, upper, plan)?;
@@ -84,7 +85,6 @@ fn found<'a>(
     walk.causes_of_writes(alloc, upper)
 }
 
-#[tactic(auto, using(crate::proofs::Preparing::shows_hidden, crate::proofs::Preparing::shows_more))]
 // The versions with the writes that the step shows; without those of the update where it ends by it spent or refused.
 fn versions_after(
     alloc: Global,
