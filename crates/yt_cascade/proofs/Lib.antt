@@ -1,0 +1,4 @@
+pub mod Firsts
+pub mod Reasons
+pub mod Holding
+pub mod Turns

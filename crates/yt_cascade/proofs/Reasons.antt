@@ -1,0 +1,205 @@
+-- What is found for one reader is its cause in a history.
+use Rattle.std.proofs.Common.{◌≡◌, ◌∙◌, ap, refl, sym, ℕ, Bool, true, false, not, ◌&&◌, ◌↔◌, List, [], ◌∷◌, map, take, Option, Some, None, nat_lt}
+use Rattle.std.proofs.lemmas.Bool.{and_parts}
+use Rattle.std.specs.Prelude.{if◌then◌else◌}
+use Rattle.std.specs.Option.{option_map}
+use Rattle.yt_conflict.specs.Changes.{Numbered, Changed, first_from, is_changed}
+use Rattle.yt_entries.specs.Meanings.{cause_of as plain_of}
+use Rattle.yt_entries.specs.declared.causes.Cause.{Cause as CauseOfProgram}
+use Rattle.yt_history.specs.PlainEntries.{PlainCause, cause_kept}
+use Rattle.yt_machine.specs.Cascade.{Cause, Conflict, Depends, read_depends, writer_for}
+use Rattle.yt_machine.specs.Reads.{Changed as ChangedOfHistory, changed_read, first_that, is_valid}
+use Rattle.yt_machine.specs.Settle.{or_else}
+use Rattle.yt_machine.specs.Standings.{is_nil}
+use Rattle.yt_machine.specs.Updates.{Read as ReadOfHistory, Deps, Precise, Coarse}
+use Rattle.yt_model.specs.Mappings.{Rule}
+use Rattle.yt_model.specs.Updates.{direction_of}
+use Rattle.yt_query.specs.Meanings.{read_of}
+use Rattle.yt_query.specs.declared.log.LoggedRead.{LoggedRead}
+use Rattle.yt_queue.specs.Queues.{logged, update_of}
+use Rattle.yt_queue.specs.Records.{IsLive}
+use Rattle.yt_queue.specs.declared.records.Record.{Record}
+use Rattle.yt_steps.specs.Chase.{caused_chase}
+use Rattle.yt_versions.specs.Standing.{Kept, seen}
+use Rattle.yt_cascade.specs.declared.lost.Lost.{Lost}
+use Rattle.yt_cascade.specs.declared.lost.Member.{Member}
+use Rattle.yt_cascade.specs.Meanings.{Above, found_of, members_of, trails_of}
+use Rattle.yt_cascade.specs.Reached.{any_reached, first_changed_in, first_by}
+use Rattle.yt_cascade.specs.Walks.{number_of, is_live_in, may_have_cause, conflict_meant, dependence_meant, IsConflictWhere, IsDependenceFor, IsCauseFor}
+use Rattle.yt_cascade.proofs.Firsts.{paired, first_is, reached_is, writer_is}
+
+-- ---- where a cause is looked for
+
+-- Where the update isn't live, or nothing is found, there is none.
+idle : {A : Type 0} (conflicting live some : Bool) (X Y : Option A) → (live ≡ true → X ≡ None) → (live ≡ true → Y ≡ None)
+    → or_else (if conflicting then (if live then X else None) else None) (if live && some then Y else None) ≡ None
+idle true true true X Y f g = (λ i. or_else (f refl i) (g refl i))
+idle true true false X Y f g = (λ i. or_else (f refl i) None)
+idle true false some X Y f g = refl
+idle false true true X Y f g = g refl
+idle false true false X Y f g = refl
+idle false false some X Y f g = refl
+
+-- Where it is live, its conflict comes first.
+by_conflict : {A : Type 0} (live some : Bool) (x : A) (X Y : Option A) → live ≡ true → Some x ≡ X → Some x ≡ or_else (if live then X else None) (if live && some then Y else None)
+by_conflict true some x X Y l e = ap (λ o. or_else o (if some then Y else None)) e
+by_conflict false some x X Y l e = absurd (cc)
+
+-- And else its dependence.
+by_dependence : {A : Type 0} (conflicting live some : Bool) (X Y o : Option A) → live ≡ true → (conflicting ≡ true → None ≡ X) → o ≡ (if some then Y else None)
+    → o ≡ or_else (if conflicting then (if live then X else None) else None) (if live && some then Y else None)
+by_dependence true true some X Y o l f e = e ∙ ap (λ z. or_else z (if some then Y else None)) (f refl)
+by_dependence false true some X Y o l f e = e
+by_dependence true false some X Y o l f e = absurd (cc)
+by_dependence false false some X Y o l f e = absurd (cc)
+
+module _ (ms : List Rule) (B : ℕ) where
+  -- ---- conflicts
+
+  -- The conflict of reader n with update j.
+  abbrev pub conflict_at : ℕ → ℕ → ChangedOfHistory (caused_chase ms B) → Cause (caused_chase ms B)
+  conflict_at j n t = Conflict n t.read j t.old t.new
+
+  -- The dependence of reader n.
+  abbrev pub depends_at : List Member → ℕ → ℕ × ReadOfHistory (caused_chase ms B) → Cause (caused_chase ms B)
+  depends_at ks n t = Depends n t.0 (writer_for (caused_chase ms B) t.1 (members_of ms B ks))
+
+  abbrev depends_on : ℕ → ℕ → ℕ → Option (Cause (caused_chase ms B))
+  depends_on n k w = Some (Depends n k w)
+
+  abbrev conflicts_with : ℕ → ℕ → ChangedOfHistory (caused_chase ms B) → Option (Cause (caused_chase ms B))
+  conflicts_with j n t = Some (conflict_at j n t)
+
+  as_changed : (j n : ℕ) (g : Numbered → Changed) (h : ℕ × ReadOfHistory (caused_chase ms B) → ChangedOfHistory (caused_chase ms B))
+      → ((t : Numbered) → h (paired ms B t) ≡ record { read = (g t).number; old = (g t).read.reply; new = (g t).now }) → (o : Option Numbered)
+      → option_map (cause_kept ms B) (option_map (conflict_meant j n) (option_map g o)) ≡ option_map (conflict_at j n) (option_map h (option_map (paired ms B) o))
+  as_changed j n g h e None = refl
+  as_changed j n g h e (Some t) = ap (conflicts_with j n) (sym (e t))
+
+  -- The first changed read of a log makes the conflict of its update.
+  pub conflict_is : (j : ℕ) (v : Kept) (r : Record)
+      → option_map (cause_kept ms B) (option_map (conflict_meant j (number_of r)) (first_changed_in ms v r))
+      ≡ option_map (conflict_at j (number_of r)) (changed_read (caused_chase ms B) (seen (number_of r) v) (update_of ms B r))
+  conflict_is j v r =
+      let D = seen (number_of r) v in
+      let op = r.program.attempt.operation in
+      let own = r.program.attempt.own in
+      as_changed j (number_of r) _ (λ t. record { read = t.0; old = t.1.answer; new = (caused_chase ms B).value op t.1.query D (take t.1.own own) }) (λ t. refl) (first_from (is_changed ms (direction_of op) D own) 1 (map read_of r.log.items))
+      ∙ ap (λ o. option_map (conflict_at j (number_of r)) (option_map (λ t. record { read = t.0; old = t.1.answer; new = (caused_chase ms B).value op t.1.query D (take t.1.own own) }) o))
+      (first_is ms B (is_changed ms (direction_of op) D own) (λ q. not (is_valid (caused_chase ms B) op D own q)) (λ q. refl) (map read_of r.log.items))
+
+  -- ---- dependences
+
+  as_depends : (ks : List Member) (n : ℕ) (o : Option Numbered)
+      → option_map (cause_kept ms B) (option_map (dependence_meant ms ks n) o)
+      ≡ option_map (depends_at ks n) (option_map (paired ms B) o)
+  as_depends ks n None = refl
+  as_depends ks n (Some t) = ap (depends_on n t.number) (sym (writer_is ms B ks t.read))
+
+  as_numbered : (g : Numbered → Changed) → ((t : Numbered) → record { number = (g t).number; read = (g t).read } ≡ t) → (o : Option Numbered)
+      → option_map (λ (c : Changed). record { number = c.number; read = c.read }) (option_map g o) ≡ o
+  as_numbered g e None = refl
+  as_numbered g e (Some t) = ap Some (e t)
+
+  -- The first read that depends on what is lost.
+  first_depends : (deps : Deps) (lost : Lost) (r : Record)
+      → option_map (paired ms B) (first_by deps ms lost r)
+      ≡ first_that (read_depends (caused_chase ms B) deps r.program.attempt.operation (seen (number_of r) lost.without) r.program.attempt.own (members_of ms B lost.members.items)) (update_of ms B r).log
+  first_depends Precise lost r =
+      let D = seen (number_of r) lost.without in
+      let op = r.program.attempt.operation in
+      let own = r.program.attempt.own in
+      ap (option_map (paired ms B)) (as_numbered _ (λ t. refl) (first_from (is_changed ms (direction_of op) D own) 1 (map read_of r.log.items)))
+      ∙ first_is ms B (is_changed ms (direction_of op) D own) (read_depends (caused_chase ms B) Precise op D own (members_of ms B lost.members.items)) (λ q. refl) (map read_of r.log.items)
+  first_depends Coarse lost r =
+      first_is ms B (any_reached ms (trails_of lost.members.items))
+      (read_depends (caused_chase ms B) Coarse r.program.attempt.operation (seen (number_of r) lost.without) r.program.attempt.own (members_of ms B lost.members.items))
+      (λ q. reached_is ms B lost.members.items q) (map read_of r.log.items)
+
+  -- The dependence of a live update.
+  abbrev pub dependence_in : Deps → Lost → Record → Option (Cause (caused_chase ms B))
+  dependence_in deps lost r =
+      option_map (depends_at lost.members.items (number_of r))
+      (first_that (read_depends (caused_chase ms B) deps r.program.attempt.operation (seen (number_of r) lost.without) r.program.attempt.own (members_of ms B lost.members.items)) (update_of ms B r).log)
+
+  -- The conflict of a live update.
+  abbrev pub conflict_in : ℕ → Kept → Record → Option (Cause (caused_chase ms B))
+  conflict_in j v r =
+      option_map (conflict_at j (number_of r)) (changed_read (caused_chase ms B) (seen (number_of r) v) (update_of ms B r))
+
+  where_members : (X : Option PlainCause) (Y : Option (Cause (caused_chase ms B))) (ks : List Member) → option_map (cause_kept ms B) X ≡ Y
+      → option_map (cause_kept ms B) (if is_nil ks then None else X) ≡ (if not (is_nil (members_of ms B ks)) then Y else None)
+  where_members X Y [] e = refl
+  where_members X Y (k ∷ ks) e = e
+
+  pub dependence_is : (deps : Deps) (lost : Lost) (r : Record)
+      → option_map (cause_kept ms B) (if is_nil lost.members.items then None else option_map (dependence_meant ms lost.members.items (number_of r)) (first_by deps ms lost r))
+      ≡ (if not (is_nil (members_of ms B lost.members.items)) then dependence_in deps lost r else None)
+  dependence_is deps lost r =
+      where_members (option_map (dependence_meant ms lost.members.items (number_of r)) (first_by deps ms lost r)) (dependence_in deps lost r) lost.members.items
+      (as_depends lost.members.items (number_of r) (first_by deps ms lost r) ∙ ap (option_map (depends_at lost.members.items (number_of r))) (first_depends deps lost r))
+
+  nothing_changed : (j : ℕ) (v : Kept) (r : Record) (ls : List LoggedRead) → r.log.items ≡ ls → is_nil ls ≡ true → conflict_in j v r ≡ None
+  nothing_changed j v r [] e h = ap (λ ls. option_map (conflict_at j (number_of r)) (option_map (λ t. record { read = t.0; old = t.1.answer; new = (caused_chase ms B).value r.program.attempt.operation t.1.query (seen (number_of r) v) (take t.1.own r.program.attempt.own) }) (first_that (λ q. not (is_valid (caused_chase ms B) r.program.attempt.operation (seen (number_of r) v) r.program.attempt.own q)) (map (logged ms B) (map read_of ls))))) e
+  nothing_changed j v r (l ∷ ls) e h = absurd (cc)
+
+  nothing_depends : (deps : Deps) (lost : Lost) (r : Record) (ls : List LoggedRead) → r.log.items ≡ ls → is_nil ls ≡ true → dependence_in deps lost r ≡ None
+  nothing_depends deps lost r [] e h =
+      ap (λ ls. option_map (depends_at lost.members.items (number_of r))
+      (first_that (read_depends (caused_chase ms B) deps r.program.attempt.operation (seen (number_of r) lost.without) r.program.attempt.own (members_of ms B lost.members.items)) (map (logged ms B) (map read_of ls)))) e
+  nothing_depends deps lost r (l ∷ ls) e h = absurd (cc)
+
+live_of : (a b : Bool) → (a && not b) ≡ false → a ≡ true → b ≡ true
+live_of true true h l = refl
+live_of true false h l = absurd (cc)
+live_of false b h l = absurd (cc)
+
+-- ---- where a cause is looked for
+
+read_is : (b : Bool) (xs : List LoggedRead) → (b ≡ true) ↔ (xs ≡ []) → not b ≡ not (is_nil xs)
+read_is true [] h = refl
+read_is false [] h = let no : false ≡ true = h.1 refl in absurd (cc)
+read_is true (x ∷ xs) h = let no : x ∷ xs ≡ [] = h.0 refl in absurd (cc)
+read_is false (x ∷ xs) h = refl
+
+-- A live reader has a cause only if it has read something.
+pub reads_some : (c n : ℕ) (r : Record) (live empty : Bool) → IsLive c n r live → n ≡ number_of r → (empty ≡ true) ↔ (r.log.items ≡ []) → live ≡ true → not empty ≡ may_have_cause c r
+reads_some c n r live empty h e f l =
+    let is : is_live_in c r ≡ true = sym (h [] 0 ∙ ap (λ k. nat_lt c k && not r.withdrawn) e) ∙ l in
+    read_is empty r.log.items f ∙ ap (λ b. b && not (is_nil r.log.items)) (sym is)
+
+-- And else none.
+pub not_live : (c n : ℕ) (r : Record) (live : Bool) → IsLive c n r live → n ≡ number_of r → live ≡ false → false ≡ may_have_cause c r
+not_live c n r live h e l =
+    let is : is_live_in c r ≡ false = sym (h [] 0 ∙ ap (λ k. nat_lt c k && not r.withdrawn) e) ∙ l in
+    ap (λ b. b && not (is_nil r.log.items)) (sym is)
+
+-- ---- the cause of one reader
+
+-- One that isn't live or has read nothing has none.
+pub none_for : (a : Above) (conflicting : Bool) (lost : Lost) (r : Record) → may_have_cause a.committed r ≡ false → IsCauseFor a conflicting lost r None
+none_for a conflicting lost r h B =
+    sym (idle conflicting (is_live_in a.committed r) (not (is_nil (members_of a.rules B lost.members.items))) (conflict_in a.rules B a.update a.whole r) (dependence_in a.rules B a.deps lost r)
+    (λ l. nothing_changed a.rules B a.update a.whole r r.log.items refl (live_of (is_live_in a.committed r) (is_nil r.log.items) h l))
+    (λ l. nothing_depends a.rules B a.deps lost r r.log.items refl (live_of (is_live_in a.committed r) (is_nil r.log.items) h l)))
+
+live_is : (a : Above) (r : Record) → may_have_cause a.committed r ≡ true → is_live_in a.committed r ≡ true
+live_is a r h = (and_parts (is_live_in a.committed r) (not (is_nil r.log.items)) h).0
+
+-- A conflict comes first.
+pub conflict_first : (a : Above) (conflicting : Bool) (lost : Lost) (r : Record) (x : CauseOfProgram) → may_have_cause a.committed r ≡ true → IsConflictWhere conflicting a r (Some x) → IsCauseFor a conflicting lost r (Some x)
+conflict_first a true lost r x l h B =
+    by_conflict (is_live_in a.committed r) (not (is_nil (members_of a.rules B lost.members.items))) (cause_kept a.rules B (plain_of x)) (conflict_in a.rules B a.update a.whole r) (dependence_in a.rules B a.deps lost r) (live_is a r l)
+    (ap (option_map (cause_kept a.rules B)) h ∙ conflict_is a.rules B a.update a.whole r)
+conflict_first a false lost r x l h B = let no : Some x ≡ None = h in absurd (cc)
+
+unless_conflict : (a : Above) (conflicting : Bool) (r : Record) (B : ℕ) → IsConflictWhere conflicting a r None → conflicting ≡ true → None ≡ conflict_in a.rules B a.update a.whole r
+unless_conflict a true r B h e = ap (option_map (cause_kept a.rules B)) h ∙ conflict_is a.rules B a.update a.whole r
+unless_conflict a false r B h e = absurd (cc)
+
+-- Else it is a dependence.
+pub dependence_then : (a : Above) (conflicting : Bool) (lost : Lost) (r : Record) (x : Option CauseOfProgram) → may_have_cause a.committed r ≡ true → IsConflictWhere conflicting a r None → IsDependenceFor a lost r x → IsCauseFor a conflicting lost r x
+dependence_then a conflicting lost r x l f h B =
+    by_dependence conflicting (is_live_in a.committed r) (not (is_nil (members_of a.rules B lost.members.items))) (conflict_in a.rules B a.update a.whole r) (dependence_in a.rules B a.deps lost r) (found_of a.rules B x) (live_is a r l)
+    (unless_conflict a conflicting r B f)
+    (ap (option_map (cause_kept a.rules B)) h ∙ dependence_is a.rules B a.deps lost r)

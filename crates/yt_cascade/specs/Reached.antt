@@ -1,0 +1,56 @@
+-- Which reads depend on what is lost, in the terms of the program.
+use Rattle.std.specs.Prelude.{ℕ, List, [], ◌∷◌, map, Bool, if◌then◌else◌, Option}
+use Rattle.std.specs.List.{list_any}
+use Rattle.std.specs.Option.{option_map}
+use Rattle.yt_conflict.specs.Changes.{Changed, Numbered, first_from, first_changed}
+use Rattle.yt_machine.specs.Updates.{Deps, Precise, Coarse}
+use Rattle.yt_model.specs.Mappings.{Rule}
+use Rattle.yt_model.specs.Mentions.{mentions}
+use Rattle.yt_model.specs.Repository.{Change}
+use Rattle.yt_model.specs.Updates.{direction_of}
+use Rattle.yt_query.specs.Meanings.{Read, read_of}
+use Rattle.yt_queue.specs.declared.records.Record.{Record}
+use Rattle.yt_steps.specs.Chase.{relation_of}
+use Rattle.yt_versions.specs.Standing.{Kept, seen}
+use Rattle.yt_cascade.specs.declared.lost.Lost.{Lost}
+use Rattle.yt_cascade.specs.declared.lost.Member.{Member}
+use Rattle.yt_cascade.specs.declared.reads.Numbered.{Numbered as NumberedOfProgram}
+use Rattle.yt_cascade.specs.Meanings.{Above, trail_of, trails_of}
+
+-- The read mentions a relation of which one of the writes is.
+abbrev pub is_reached : List Rule → Read → List Change → Bool
+is_reached ms r ws = list_any (λ w. mentions ms r.query (relation_of w)) ws
+
+-- One of which a write of one of these trails is.
+abbrev pub any_reached : List Rule → List (List Change) → Read → Bool
+any_reached ms trails r = list_any (λ ws. is_reached ms r ws) trails
+
+-- The first member that wrote a relation which the read mentions; 0 where none did.
+abbrev pub least_writer : List Rule → Read → List Member → ℕ
+least_writer ms r [] = 0
+least_writer ms r (m ∷ ks) = if is_reached ms r (trail_of m) then m.number else least_writer ms r ks
+
+-- The numbered read that a `Numbered` stands for.
+abbrev pub numbered_of : NumberedOfProgram → Numbered
+numbered_of x = record { number = x.number; read = read_of x.read.now }
+
+-- The first logged read of the record that has another value over what its update sees of the versions.
+abbrev pub first_changed_in : List Rule → Kept → Record → Option Changed
+first_changed_in ms v r =
+    first_changed ms (direction_of r.program.attempt.operation) (seen r.program.attempt.number v) r.program.attempt.own (map read_of r.log.items)
+
+-- The same without its value there.
+abbrev pub first_invalid : List Rule → Kept → Record → Option Numbered
+first_invalid ms v r = option_map (λ c. record { number = c.number; read = c.read }) (first_changed_in ms v r)
+
+-- The first that mentions a relation of one of the trails.
+abbrev pub first_mentioning : List Rule → List (List Change) → Record → Option Numbered
+first_mentioning ms trails r = first_from (any_reached ms trails) 1 (map read_of r.log.items)
+
+-- The first that depends on what is lost.
+abbrev pub first_by : Deps → List Rule → Lost → Record → Option Numbered
+first_by Precise ms lost r = first_invalid ms lost.without r
+first_by Coarse ms lost r = first_mentioning ms (trails_of lost.members.items) r
+
+abbrev pub first_dependent : Above → Lost → Record → Option Numbered
+first_dependent a lost r = first_by a.deps a.rules lost r

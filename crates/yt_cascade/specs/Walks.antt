@@ -1,0 +1,94 @@
+-- What each part of the walk finds and leaves.
+use Rattle.std.specs.Prelude.{◌≡◌, ℕ, suc, nat_lt, Bool, true, false, not, ◌&&◌, List, [], ◌∷◌, ◌++◌, Option, None, if◌then◌else◌}
+use Rattle.std.specs.Option.{option_map}
+use Rattle.yt_conflict.specs.Changes.{Changed, Numbered}
+use Rattle.yt_conflict.specs.Meanings.{changed_of}
+use Rattle.yt_conflict.specs.declared.changes.Changed.{Changed as ChangedOfProgram}
+use Rattle.yt_entries.specs.Meanings.{cause_of as plain_of}
+use Rattle.yt_entries.specs.declared.causes.Cause.{Cause}
+use Rattle.yt_history.specs.PlainEntries.{PlainCause, InConflict, Dependent}
+use Rattle.yt_machine.specs.Cascade.{with_member, without_member}
+use Rattle.yt_machine.specs.Settle.{cause_of, settle}
+use Rattle.yt_machine.specs.Standings.{is_nil}
+use Rattle.yt_machine.specs.Updates.{Update}
+use Rattle.yt_model.specs.Mappings.{Rule}
+use Rattle.yt_model.specs.Repository.{Change}
+use Rattle.yt_queue.specs.Queues.{update_of, updates_of}
+use Rattle.yt_queue.specs.declared.records.Record.{Record}
+use Rattle.yt_steps.specs.Chase.{caused_chase}
+use Rattle.yt_versions.specs.Standing.{seen, Retracted}
+use Rattle.yt_cascade.specs.declared.lost.Lost.{Lost}
+use Rattle.yt_cascade.specs.declared.lost.Member.{Member}
+use Rattle.yt_cascade.specs.Held.{HoldFrom}
+use Rattle.yt_cascade.specs.Meanings.{Above, found_of, all_found, members_of}
+use Rattle.yt_cascade.specs.Reached.{least_writer, first_changed_in, first_dependent}
+
+-- The number of the reader.
+abbrev pub number_of : Record → ℕ
+number_of r = r.program.attempt.number
+
+-- The reader is live, where c updates were committed.
+abbrev pub is_live_in : ℕ → Record → Bool
+is_live_in c r = nat_lt c (number_of r) && not r.withdrawn
+
+-- It is live, and has read something.
+abbrev pub may_have_cause : ℕ → Record → Bool
+may_have_cause c r = is_live_in c r && not (is_nil r.log.items)
+
+-- The conflict of the reader of this number with update j, by its changed read.
+abbrev pub conflict_meant : ℕ → ℕ → Changed → PlainCause
+conflict_meant j n c = InConflict (record { reader = n; read = c.number; writer = j; old = c.read.reply; new = c.now })
+
+-- It is that conflict, if there is the read.
+abbrev pub IsConflict : ℕ → ℕ → Option ChangedOfProgram → Option Cause → Type 0
+IsConflict j n c x = option_map plain_of x ≡ option_map (conflict_meant j n) (option_map changed_of c)
+
+-- It is the conflict of the reader, if that is live.
+abbrev pub IsConflictFor : Above → Record → Option Cause → Type 0
+IsConflictFor a r x = option_map plain_of x ≡ option_map (conflict_meant a.update (number_of r)) (first_changed_in a.rules a.whole r)
+
+-- The same where conflicts are looked for, and else none.
+abbrev pub IsConflictWhere : Bool → Above → Record → Option Cause → Type 0
+IsConflictWhere true a r x = IsConflictFor a r x
+IsConflictWhere false a r x = x ≡ None
+
+-- The dependence of the reader of this number, by its read.
+abbrev pub dependence_meant : List Rule → List Member → ℕ → Numbered → PlainCause
+dependence_meant ms ks n t = Dependent (record { reader = n; read = t.number; on = least_writer ms t.read ks })
+
+-- It is the dependence of the reader on what is lost below it, if that is live.
+abbrev pub IsDependenceFor : Above → Lost → Record → Option Cause → Type 0
+IsDependenceFor a lost r x =
+    option_map plain_of x
+    ≡ (if is_nil lost.members.items then None else option_map (dependence_meant a.rules lost.members.items (number_of r)) (first_dependent a lost r))
+
+-- It is why the reader is restarted.
+abbrev pub IsCauseFor : Above → Bool → Lost → Record → Option Cause → Type 0
+IsCauseFor a conflicting lost r x =
+    (B : ℕ)
+    → found_of a.rules B x
+    ≡ cause_of (caused_chase a.rules B) a.deps conflicting a.committed a.update (seen (number_of r) a.whole) (seen (number_of r) lost.without) (members_of a.rules B lost.members.items) (number_of r) (update_of a.rules B r)
+
+-- Update n, where these were its writes, has lost them, and is the last of the members.
+pub record Loses (n : ℕ) (ws : List Change) (old new : Lost) : Type 0 where
+  pub retracted : Retracted n ws old.without new.without
+  pub joined : (ms : List Rule) (B : ℕ) → members_of ms B new.members.items ≡ members_of ms B old.members.items ++ record { number = n; trail = ws } ∷ []
+
+-- What is lost below the next update, once this one has its say: it is restarted or not.
+pub record LeavesLost (ms : List Rule) (B : ℕ) (restarts : Bool) (n : ℕ) (u : Update (caused_chase ms B)) (us : List (Update (caused_chase ms B))) (old new : Lost) : Type 0 where
+  pub held : HoldFrom ms B (suc n) us new.without
+  pub below : seen (suc n) new.without ≡ without_member (caused_chase ms B) restarts (seen n old.without) u
+  pub members : members_of ms B new.members.items ≡ with_member (caused_chase ms B) restarts (members_of ms B old.members.items) n u
+
+-- Whatever updates are above it.
+abbrev pub LosesWhere : Bool → Record → Lost → Lost → Type 0
+LosesWhere restarts r old new =
+    (ms : List Rule) (B : ℕ) (us : List (Update (caused_chase ms B))) → HoldFrom ms B (number_of r) (update_of ms B r ∷ us) old.without
+    → LeavesLost ms B restarts (number_of r) (update_of ms B r) us old new
+
+-- These are why each of the records' updates is restarted, which are those above the event's.
+abbrev pub AreFound : Above → Bool → Lost → List Record → List (Option Cause) → Type 0
+AreFound a conflicting lost rs xs =
+    (B : ℕ) → HoldFrom a.rules B (suc a.update) (updates_of a.rules B rs) a.whole → HoldFrom a.rules B (suc a.update) (updates_of a.rules B rs) lost.without
+    → all_found a.rules B xs
+    ≡ settle (caused_chase a.rules B) a.deps conflicting a.committed a.update (seen (suc a.update) a.whole) (seen (suc a.update) lost.without) (members_of a.rules B lost.members.items) (suc a.update) (updates_of a.rules B rs)

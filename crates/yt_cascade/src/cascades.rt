@@ -1,0 +1,89 @@
+//! The walk upwards from the update of an event.
+ghost use Rattle.std.specs.Prelude.{◌≡◌, suc, length, map, IfOk};
+ghost use Rattle.yt_base.specs.Meanings.{change_of};
+ghost use Rattle.yt_queue.specs.Queues.{AreFrom};
+ghost use Rattle.yt_cascade.specs.Causes.{AreCausesOfWrites, AreCausesOfLoss};
+ghost use Rattle.yt_cascade.specs.Meanings.{above_of};
+ghost use Rattle.yt_cascade.specs.Walks.{AreFound};
+
+use crate::lost::Lost;
+use std::alloc::Global;
+use yt_base::{Memory, Write};
+use yt_entries::Cause;
+use yt_limits::Mappings;
+use yt_queue::{Deps, Record};
+use yt_versions::Versions;
+
+/// What a walk upwards from the update of an event goes by: the mappings, how dependences are tested, how many updates
+/// were committed when the event began, the update's number, and the versions, with the writes that the event made.
+#[derive(Drop)]
+pub struct Cascade<'a> {
+    pub mappings: &'a Mappings<'a>,
+    pub deps: Deps,
+    pub committed: u32,
+    pub update: u32,
+    pub whole: &'a Versions,
+}
+
+impl<'a> Cascade<'a> {
+    /// Why each of the updates above is restarted, if it is, where the event's update wrote: a conflict with its writes, or
+    /// else a dependence on a lower one that is restarted. There is one answer for each, in order. It is refused only for
+    /// want of memory.
+    pub fn causes_of_writes(
+        &self,
+        alloc: Global,
+        upper: &[Record],
+    ) -> Result<Vec<Option<Cause>>, Memory>
+        requires from { AreFrom (suc self.now.update) upper.now }
+        ensures long { IfOk result (λ causes. length causes.items ≡ length upper.now) }
+        ensures causes { IfOk result (λ causes.
+            AreCausesOfWrites (above_of self.now) upper.now causes.items) }
+    {
+        let lost = Lost::none(alloc, self.whole)?;
+        let found = self.walk(alloc, true, lost, upper)?;
+        Ok(found)
+    }
+
+    /// Why each of the updates above is restarted, if it is, where the event's update loses its trail, which is handed in:
+    /// a dependence on it or on a lower one that is restarted. There is one answer for each, in order. It is refused only
+    /// for want of memory.
+    pub fn causes_of_loss(
+        &self,
+        alloc: Global,
+        trail: &[Write],
+        upper: &[Record],
+    ) -> Result<Vec<Option<Cause>>, Memory>
+        requires from { AreFrom (suc self.now.update) upper.now }
+        ensures long { IfOk result (λ causes. length causes.items ≡ length upper.now) }
+        ensures causes { IfOk result (λ causes.
+            AreCausesOfLoss (above_of self.now) (map change_of trail.now) upper.now causes.items) }
+    {
+        let mut lost = Lost::none(alloc, self.whole)?;
+        lost.lose(alloc, self.update, trail)?;
+        let found = self.walk(alloc, false, lost, upper)?;
+        Ok(found)
+    }
+
+    // Why each of the updates above is restarted, if it is, where these trails are lost below them. Conflicts are looked for
+    // or not.
+    fn walk<'r>(
+        &self,
+        alloc: Global,
+        conflicting: bool,
+        mut lost: Lost<'r>,
+        upper: &'r [Record],
+    ) -> Result<Vec<Option<Cause>>, Memory>
+        requires from { AreFrom (suc self.now.update) upper.now }
+        ensures long { IfOk result (λ found. length found.items ≡ length upper.now) }
+        ensures found { IfOk result (λ found.
+            AreFound (above_of self.now) conflicting lost.entry upper.now found.items) }
+    {
+        let mut found = Vec::new(alloc);
+        'readers: for reader in upper {
+            let cause = self.cause_for(alloc, conflicting, &lost, reader)?;
+            lost.lose_where(alloc, cause.is_some(), reader)?;
+            found.push(cause)?;
+        }
+        Ok(found)
+    }
+}

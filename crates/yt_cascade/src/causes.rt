@@ -1,0 +1,116 @@
+//! Why one update is restarted.
+ghost use Rattle.std.specs.Prelude.{◌≡◌, IfOk};
+ghost use Rattle.yt_cascade.specs.Meanings.{above_of};
+ghost use Rattle.yt_cascade.specs.Walks.{IsCauseFor, IsConflict, IsConflictFor, IsConflictWhere, IsDependenceFor, may_have_cause as may_have_cause_lem};
+
+use crate::cascades::Cascade;
+use crate::lost::Lost;
+use std::alloc::Global;
+use yt_base::{Memory, TryCopy};
+use yt_conflict::{Changed, first_changed};
+use yt_entries::Cause;
+use yt_queue::Record;
+
+impl<'a> Cascade<'a> {
+    /// Why the reader is restarted, if it is: for its conflict, where those are looked for, or else for a dependence on the
+    /// trails that are lost below it. It is refused only for want of memory.
+    pub(crate) fn cause_for(
+        &self,
+        alloc: Global,
+        conflicting: bool,
+        lost: &Lost<'_>,
+        reader: &Record,
+    ) -> Result<Option<Cause>, Memory>
+        ensures cause { IfOk result (IsCauseFor (above_of self.now) conflicting lost.now reader.now) }
+    {
+        if !self.may_have_cause(reader) {
+            return Ok(None);
+        }
+        if let Some(cause) = self.conflict_where(alloc, conflicting, reader)? {
+            return Ok(Some(cause));
+        }
+        let cause = self.dependence_for(alloc, lost, reader)?;
+        Ok(cause)
+    }
+
+    // Whether the reader is live and has read something.
+    fn may_have_cause(&self, reader: &Record) -> bool
+        ensures answer { result ≡ may_have_cause_lem self.now.committed reader.now }
+    {
+        if !reader.is_live(self.committed, reader.number()) {
+            return false;
+        }
+        !reader.log.is_empty()
+    }
+
+    // The conflict of the live reader, where those are looked for.
+    fn conflict_where(
+        &self,
+        alloc: Global,
+        conflicting: bool,
+        reader: &Record,
+    ) -> Result<Option<Cause>, Memory>
+        ensures conflict { IfOk result (IsConflictWhere conflicting (above_of self.now) reader.now) }
+    {
+        if !conflicting {
+            return Ok(None);
+        }
+        let cause = self.conflict_for(alloc, reader)?;
+        Ok(cause)
+    }
+
+    // The first read of the live reader that has another value over what lies below it, if there is one.
+    fn conflict_for(&self, alloc: Global, reader: &Record) -> Result<Option<Cause>, Memory>
+        ensures conflict { IfOk result (IsConflictFor (above_of self.now) reader.now) }
+    {
+        let below = self.whole.below(reader.number());
+        let own = reader.program.own();
+        let mappings = self.mappings.list();
+        let direction = reader.program.direction();
+        let changed = first_changed(alloc, &reader.log, mappings, &below, own, direction)?;
+        self.conflict_by(alloc, reader.number(), changed)
+    }
+
+    // The conflict by the changed read of the reader of this number, if there is one.
+    fn conflict_by(
+        &self,
+        alloc: Global,
+        reader: u32,
+        changed: Option<Changed<'_>>,
+    ) -> Result<Option<Cause>, Memory>
+        ensures conflict { IfOk result (IsConflict self.now.update reader changed.entry) }
+    {
+        match changed {
+            Some(changed) => Ok(Some(Cause::Conflict {
+                reader,
+                read: changed.number,
+                writer: self.update,
+                old: changed.read.answer.copy(alloc)?,
+                new: changed.now,
+            })),
+            None => Ok(None),
+        }
+    }
+
+    // The first read of the live reader that depends on the trails that are lost below it, if there is one.
+    fn dependence_for(
+        &self,
+        alloc: Global,
+        lost: &Lost<'_>,
+        reader: &Record,
+    ) -> Result<Option<Cause>, Memory>
+        ensures dependence { IfOk result (IsDependenceFor (above_of self.now) lost.now reader.now) }
+    {
+        if lost.members.is_empty() {
+            return Ok(None);
+        }
+        match self.first_dependent(alloc, lost, reader)? {
+            Some(found) => Ok(Some(Cause::Depends {
+                reader: reader.number(),
+                read: found.number,
+                on: lost.writer_for(self.mappings.list(), found.read),
+            })),
+            None => Ok(None),
+        }
+    }
+}

@@ -1,0 +1,12 @@
+use Rattle.yt_queue.specs.Settings.{settings_of}
+use Rattle.yt_core.proofs.Delivering.{same_more, same_plan}
+use Rattle.yt_core.proofs.stepping.step_at.Goals as goal
+
+pub make_step-requires-clause-more : goal.make_step-requires-clause-more
+make_step-requires-clause-more c = same_more c.args.queue.now c.reserve_step.new.queue (c.reserve_step.ensures.same.updates _ _) c.requires.more
+
+pub make_step-requires-clause-plan : goal.make_step-requires-clause-plan
+make_step-requires-clause-plan c = same_plan c.args.queue.now c.reserve_step.new.queue c.args.place c.args.plan c.reserve_step.ensures.same.updates c.requires.plan
+
+pub returns-clause-made : goal.returns-clause-made
+returns-clause-made c = ?
