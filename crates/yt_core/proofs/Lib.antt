@@ -8,3 +8,4 @@ pub mod Telling
 pub mod Entering
 pub mod Making
 pub mod Placing
+pub mod Draining

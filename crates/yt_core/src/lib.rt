@@ -8,6 +8,7 @@ mod admitting;
 mod aftermaths;
 mod cores;
 mod deliveries;
+mod draining;
 mod plans;
 mod refusals;
 mod standings;
