@@ -101,5 +101,5 @@ module _ (us : List SessionUpdate) (k n : ℕ) (u : SessionUpdate) (qs qs' : Lis
       ap (λ xs. updates_of ms B xs ++ admitted_from (caused_chase ms B) (n + 1) (handed_in ms B (drop (k + 1) us))) grew
       ∙ updates_more ms B qs r (admitted_from (caused_chase ms B) (n + 1) (handed_in ms B (drop (k + 1) us)))
       ∙ (λ t. updates_of ms B qs ++ is ms B t ∷ admitted_from (caused_chase ms B) (next t) (handed_in ms B (drop (one t) us)))
-      ∙ ap (λ xs. updates_of ms B qs ++ admitted_from (caused_chase ms B) n (handed_in ms B xs)) (sym (drop-cons us k u l (sym e)))
+      ∙ ap (λ xs. updates_of ms B qs ++ admitted_from (caused_chase ms B) n (handed_in ms B xs)) (sym (drop-cons us k u l ∙ ap (λ y. y ∷ drop (suc k) us) (sym e)))
       ∙ done ms B

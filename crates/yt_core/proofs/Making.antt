@@ -1,6 +1,6 @@
 -- What holds of the parts of a core by its history, and what its calls made.
-use Rattle.std.proofs.Common.{◌≡◌, ◌∙◌, ap, refl, sym, subst, ℕ, zero, suc, ◌<◌, ◌≤◌, ◌+◌, ◌-◌, ◌^◌, Bool, true, false, Option, Some, None, List, [], ◌∷◌, ◌++◌, append-nil, map, length, get_or, arith}
-use Rattle.std.specs.Prelude.{option_map, slice_get}
+use Rattle.std.proofs.Common.{◌≡◌, ◌∙◌, ap, refl, sym, subst, ℕ, zero, suc, ◌<◌, ◌≤◌, ◌+◌, ◌-◌, ◌^◌, Bool, true, false, not, ◌&&◌, take, Option, Some, None, List, [], ◌∷◌, ◌++◌, append-nil, map, length, get_or, arith}
+use Rattle.std.specs.Prelude.{option_map, unwrap_or, slice_get}
 use Rattle.std.proofs.lemmas.Option.{same_Some, none-some, slice_get-map}
 use Rattle.yt_base.specs.Listed.{Listed}
 use Rattle.yt_base.specs.Meanings.{fact_of}
@@ -25,10 +25,11 @@ use Rattle.yt_model.specs.Repository.{IsRepository}
 use Rattle.yt_model.specs.Updates.{Operation}
 use Rattle.yt_model.specs.Values.{Fact}
 use Rattle.yt_plan.specs.declared.plans.Plan.{Plan}
+use Rattle.yt_program.specs.Courses.{State as ProgramState}
 use Rattle.yt_queue.specs.Queues.{update_of, updates_of, AreFrom}
 use Rattle.yt_queue.specs.Renewals.{AllHaveOneMore}
 use Rattle.yt_queue.specs.declared.records.Record.{Record}
-use Rattle.yt_session.specs.Meanings.{request_of, update_of as session_update_of}
+use Rattle.yt_session.specs.Meanings.{request_of, requests_in, update_of as session_update_of}
 use Rattle.yt_session.specs.declared.sessions.SessionUpdate.{SessionUpdate}
 use Rattle.yt_steps.proofs.ChaseLaws.{chase_laws}
 use Rattle.yt_steps.specs.Chase.{caused, caused_chase}
@@ -38,11 +39,15 @@ use Rattle.yt_versions.specs.Standing.{Kept, StandFor, seen}
 use Rattle.yt_versions.specs.Trails.{no_trails}
 use Rattle.yt_core.specs.Admitted.{AreAdmitted, admitted_from, handed_in}
 use Rattle.yt_core.specs.Events.{HasMade}
-use Rattle.yt_core.specs.Follows.{Follows, ground_with, meant_of, IsPlanFor, IsPlanAt, StepsTo, DeliversTo}
+use Rattle.yt_core.specs.Follows.{Follows, ground_with, meant_of, AreSame, IsPlanFor, IsPlanAt, StepsTo, DeliversTo}
 use Rattle.yt_core.specs.Kept.{IsKept, HaveTrails, ground_by}
 use Rattle.yt_core.specs.Planned.{PlanMeant, IsSomeThat, IsStepOver, IsStepAmong, IsStepAt}
-use Rattle.yt_core.specs.States.{State, numbered_at, updates_at, standing_at, admissions_from}
-use Rattle.yt_core.specs.Taken.{IsReadySomewhere, IsSnapshotOf}
+use Rattle.yt_core.specs.States.{State, numbered_at, updates_at, standing_at, has_waiting, admissions_from, opened}
+use Rattle.yt_grammar.specs.Sessions.{SessionData}
+use Rattle.yt_grammar.specs.Checks.{rules_of}
+use Rattle.yt_core.specs.Taken.{AtPlace, IsReadySomewhere, IsSnapshotOf}
+use Rattle.yt_machine.specs.Machine.{Machine}
+use Rattle.yt_core.proofs.Delivering.{kept_same}
 use Rattle.yt_core.proofs.Following.{there, within, stands_at, mapped_long, from_mapped}
 use Rattle.yt_core.proofs.Opening.{all_admitted, admitted_long, versions_begin}
 
@@ -108,6 +113,32 @@ module _ (g : Ground) (v : Kept) (rs : List Record) (H : List PlainEntry) (s : S
   pub record_stands : (i : ℕ) (r : Record) → n ≡ suc i → slice_get rs i ≡ Some r → standing (machine g) g.settings (committed (machine g) (updates_of g.rules g.budget rs)) (suc i) (update_of g.rules g.budget r) ≡ st
   record_stands i r e spot =
       same_Some _ _ (sym (ap (option_map (standing (machine g) g.settings (committed (machine g) (updates_of g.rules g.budget rs)) (suc i))) (slice_get-map (update_of g.rules g.budget) rs i ∙ ap (option_map (update_of g.rules g.budget)) spot)) ∙ stands_placed i e)
+
+-- ---- ready updates
+
+module _ (g : Ground) (v : Kept) (rs : List Record) (H : List PlainEntry) (s : State) (kept : IsKept g v rs H) (same : record { ground = g; history = H } ≡ s) (n : ℕ) (stands : standing_at s n ≡ Some Ready) (i : ℕ) (e : suc i ≡ n) (qs : List Record) (slice : qs ≡ rs) where
+  pub ready_within : i < length qs
+  ready_within = subst (λ (xs : List Record). i < length xs) (sym slice) (placed_within g v rs H s kept same n Ready stands i (sym e))
+
+  pub ready_numbers : AreFrom 1 qs
+  ready_numbers = subst (λ (xs : List Record). AreFrom 1 xs) (sym slice) kept.numbers
+
+  ready_record : (r : Record) → slice_get qs i ≡ Some r → standing (machine g) g.settings (committed (machine g) (updates_of g.rules g.budget rs)) (suc i) (update_of g.rules g.budget r) ≡ Ready
+  ready_record r spot = record_stands g v rs H s kept same n Ready stands i r (sym e) (ap (λ xs. slice_get xs i) (sym slice) ∙ spot)
+
+  pub ready_placed : AtPlace i qs IsReadySomewhere
+  ready_placed r spot = record {
+    rules = g.rules;
+    budget = g.budget;
+    settings = g.settings;
+    committed = committed (machine g) (updates_of g.rules g.budget rs);
+    number = suc i;
+    ready = ap is_ready (ready_record r spot);
+  }
+
+  pub left_placed : AtPlace i qs (λ r. r.program.attempt.steps < g.budget)
+  left_placed r spot =
+      step_left g v rs H i (committed (machine g) (updates_of g.rules g.budget rs)) (suc i) r kept (ap (λ xs. slice_get xs i) (sym slice) ∙ spot) (ap is_ready (ready_record r spot))
 
 -- ---- plans
 
@@ -189,3 +220,128 @@ opened_kept ms B c base us v rs es n some retries within' sorted few are numbers
       within = within';
       few = omega (arith, long, few);
     }
+
+-- ---- snapshots
+
+record_placed : (rs : List Record) (i : ℕ) → i < length rs → (r : Record) × (slice_get rs i ≡ Some r)
+record_placed [] i l = absurd (omega (arith, l))
+record_placed (r ∷ rs) zero l = (r, refl)
+record_placed (r ∷ rs) (suc i) l = record_placed rs i (omega (arith, l))
+
+module _ (g : Ground) (v : Kept) (rs : List Record) (H : List PlainEntry) (s : State) (kept : IsKept g v rs H) (same : record { ground = g; history = H } ≡ s) (n : ℕ) (stands : standing_at s n ≡ Some Ready) (i : ℕ) (e : suc i ≡ n) (qs : List Record) (slice : qs ≡ rs)
+  (ms : List Rule) (rules : ms ≡ g.rules) (p : PlanMeant) (taken : AtPlace i qs (λ r. IsSnapshotOf ms g.budget v r p)) where
+  taken_there : (r : Record) × (slice_get rs i ≡ Some r) × IsSnapshotOf g.rules g.budget v r p
+  taken_there =
+      let x = record_placed rs i (placed_within g v rs H s kept same n Ready stands i (sym e)) in
+      (x.0, x.1, subst (λ (ks : List Rule). IsSnapshotOf ks g.budget v x.0 p) rules (taken x.0 (ap (λ xs. slice_get xs i) slice ∙ x.1)))
+
+  pub snapshot_update : p.update ≡ n
+  snapshot_update = let one : 1 + i ≡ suc i = omega arith in taken_there.2.update ∙ (stands_at rs 1 i taken_there.0 kept.numbers taken_there.1).number ∙ one ∙ e
+
+  pub snapshot_step : IsStepAt s p
+  snapshot_step = snapshot_is g v rs H s i taken_there.0 p kept same taken_there.1 taken_there.2
+
+-- ---- the opening of a session
+
+pub few_updates : (us xs : List SessionUpdate) → xs ≡ us → length (map session_update_of us) ≤ 1000 → length xs ≤ 1000
+few_updates us xs e h = let l : length xs ≡ length us = ap (λ ys. length ys) e in omega (arith, h, l, mapped_long session_update_of us)
+
+pub opened_by : (ms : List Rule) (B : ℕ) (c : Settings) (base : Listed Tuple) (us : Listed SessionUpdate) (ts : List Tuple) (xs : List SessionUpdate) (v : Kept) (rs : List Record) (es : List Entry) → 1 ≤ B → c.retries ≤ 4 → AreWithin ms → IsRepository (map fact_of base.items)
+    → length xs ≤ 1000 → ts ≡ base.items → xs ≡ us.items → AreAdmitted xs rs → AreFrom 1 rs → length rs ≡ length xs → map entry_of es ≡ admissions_from 1 (length xs) → StandFor v (map fact_of ts) no_trails
+    → IsKept (ground_by ms B c base us) v rs (map entry_of es)
+opened_by ms B c base us ts xs v rs es some retries within' sorted few tuples updates are numbers long entries stands =
+    opened_kept ms B c base us v rs es (length xs) some retries within' sorted (subst (λ (ys : List SessionUpdate). length ys ≤ 1000) updates few) (subst (λ (ys : List SessionUpdate). AreAdmitted ys rs) updates are) numbers
+    (long ∙ ap (λ ys. length ys) updates) (ap (λ ys. length ys) updates) entries (subst (λ (ys : List Tuple). StandFor v (map fact_of ys) no_trails) tuples stands)
+
+pub opened_is : (s : SessionData) (ms : List Rule) (B : ℕ) (c : Settings) (base : Listed Tuple) (us : Listed SessionUpdate) (xs : List SessionUpdate) (es : List Entry) → ms ≡ rules_of s.mappings → xs ≡ us.items
+    → map entry_of es ≡ admissions_from 1 (length xs) → s.base ≡ map fact_of base.items → requests_in s ≡ map request_of (map session_update_of us.items)
+    → record { ground = ground_by ms B c base us; history = map entry_of es } ≡ opened s B c (length us.items)
+opened_is s ms B c base us xs es rules updates entries tuples requests =
+    λ i. record {
+      ground = record { rules = rules i; budget = B; settings = c; base = sym tuples i; requests = sym requests i; later = [] };
+      history = (entries ∙ ap (λ ys. admissions_from 1 (length ys)) updates) i;
+    }
+
+-- ---- numbers of updates
+
+some_at : (s : State) (n m : ℕ) (st : Standing) → n ≡ m → standing_at s m ≡ Some st → 1 ≤ n
+some_at s n zero st e h = absurd (none-some st h)
+some_at s n (suc m) st e h = omega (arith, e)
+
+-- An update that stands somehow has a number.
+pub some_number : (s : State) (n : ℕ) (st : Standing) → standing_at s n ≡ Some st → 1 ≤ n
+some_number s n st h = some_at s n n st refl h
+
+-- ---- a step of a core
+
+module _ (g : Ground) (v : Kept) (rs : List Record) (es : List Entry) (s : State) (kept : IsKept g v rs (map entry_of es)) (same : record { ground = g; history = map entry_of es } ≡ s) (n : ℕ) (stands : standing_at s n ≡ Some Ready) (i : ℕ) (e : suc i ≡ n) (qs : List Record) (slice : qs ≡ rs)
+  (plan : Plan) (p : PlanMeant) (meant : meant_of n plan ≡ p) (is : IsStepAt s p) where
+  step_here : IsStepAt s (meant_of (suc i) plan)
+  step_here = subst (λ (m : ℕ). IsStepAt s (meant_of m plan)) (sym e) (subst (λ (q : PlanMeant). IsStepAt s q) (sym meant) is)
+
+  pub plan_ready : IsPlanAt i plan qs
+  plan_ready =
+      let x = record_placed rs i (placed_within g v rs (map entry_of es) s kept same n Ready stands i (sym e)) in
+      subst (λ (xs : List Record). IsPlanAt i plan xs) (sym slice) (plan_placed g v rs (map entry_of es) s i x.0 plan kept same x.1 step_here)
+
+  pub plan_between : plan.program.reading ≡ None
+  plan_between =
+      let x = record_placed qs i (subst (λ (xs : List Record). i < length xs) (sym slice) (placed_within g v rs (map entry_of es) s kept same n Ready stands i (sym e))) in
+      let f : IsPlanFor x.0 plan = subst (λ (o : Option Record). IsSomeThat (λ (q : Record). IsPlanFor q plan) o) x.1 plan_ready in
+      ap (λ (t : ProgramState). t.reading) f.planned.program
+
+  pub core_steps : (v' : Kept) (qs' : List Record) (es' : List Entry) → StepsTo g.rules g.settings i plan v qs es v' qs' es' → Follows g (Steps n) (map entry_of es) v' qs' (map entry_of es')
+  core_steps v' qs' es' steps =
+      step_made g v v' rs qs' es es' s s i n plan kept same (sym e) stands (subst (λ (q : PlanMeant). IsStepAt s q) (sym meant) is)
+      (subst (λ (xs : List Record). StepsTo g.rules g.settings i plan v xs es v' qs' es') slice steps)
+
+-- ---- records in place
+
+front : {A : Type 0} (xs ys : List A) (n : ℕ) → length xs ≡ n → take n (xs ++ ys) ≡ xs
+front [] [] zero h = refl
+front [] (y ∷ ys) zero h = refl
+front [] ys (suc n) h = absurd (omega (arith, h))
+front (x ∷ xs) ys zero h = absurd (omega (arith, h))
+front (x ∷ xs) ys (suc n) h = ap (λ zs. x ∷ zs) (front xs ys n (omega (arith, h)))
+
+pub kept_ok : (g : Ground) (v : Kept) (qs ys : List Record) (n : ℕ) (H : List PlainEntry) → length qs ≡ n → IsKept g v qs H → IsKept g v (take n (qs ++ ys)) H
+kept_ok g v qs ys n H l k = subst (λ (xs : List Record). IsKept g v xs H) (sym (front qs ys n l)) k
+
+pub kept_err : (g : Ground) (v v' : Kept) (rs qs qs' ys : List Record) (n : ℕ) (es es' : List Entry) → length qs' ≡ n → IsKept g v rs (map entry_of es) → qs ≡ rs → v' ≡ v → AreSame qs qs' → length qs' ≡ length qs → es' ≡ es
+    → IsKept g v' (take n (qs' ++ ys)) (map entry_of es')
+kept_err g v v' rs qs qs' ys n es es' l k slice versions same long entries =
+    kept_ok g v' qs' ys n (map entry_of es') l
+    (subst (λ (w : Kept). IsKept g w qs' (map entry_of es')) (sym versions)
+    (subst (λ (fs : List Entry). IsKept g v qs' (map entry_of fs)) (sym entries)
+    (kept_same g v qs qs' (map entry_of es) same long (subst (λ (xs : List Record). IsKept g v xs (map entry_of es)) (sym slice) k))))
+
+-- ---- a delivery of a core
+
+both_true : (a b : Bool) → a ≡ true → b ≡ true → (a && b) ≡ true
+both_true a b e f = λ i. e i && f i
+
+deliverable_if : (M : Machine) (s : Settings) (c n : ℕ) (o : Option (Update M)) → option_map (standing M s c n) o ≡ Some (Paused Missing) → unwrap_or (option_map (λ u. not (is_nil u.inbox)) o) false ≡ true
+    → option_map (is_deliverable M s c n) o ≡ Some true
+deliverable_if M s c n None e w = absurd (none-some (Paused Missing) e)
+deliverable_if M s c n (Some u) e w =
+    ap (λ b. Some b) (both_true (is_pending (standing M s c n u)) (not (is_nil u.inbox)) (ap is_pending (same_Some (standing M s c n u) (Paused Missing) e)) w)
+
+module _ (g : Ground) (v : Kept) (rs : List Record) (es : List Entry) (s : State) (kept : IsKept g v rs (map entry_of es)) (same : record { ground = g; history = map entry_of es } ≡ s) (n : ℕ) (stands : standing_at s n ≡ Some (Paused Missing)) (i : ℕ) (e : suc i ≡ n) (qs : List Record) (slice : qs ≡ rs) where
+  pub pending_within : i < length qs
+  pending_within = subst (λ (xs : List Record). i < length xs) (sym slice) (placed_within g v rs (map entry_of es) s kept same n (Paused Missing) stands i (sym e))
+
+  pub pending_numbers : AreFrom 1 qs
+  pending_numbers = subst (λ (xs : List Record). AreFrom 1 xs) (sym slice) kept.numbers
+
+  pub core_delivers : (qs' : List Record) (es' : List Entry) → has_waiting s n ≡ true → DeliversTo g.settings i qs es qs' es' → Follows g (Delivers n) (map entry_of es) v qs' (map entry_of es')
+  core_delivers qs' es' waits delivers =
+      let us : List (Update (machine g)) = updates_of g.rules g.budget rs in
+      let waits_here : unwrap_or (option_map (λ (u : Update (machine g)). not (is_nil u.inbox)) (slice_get us i)) false ≡ true =
+          ap (λ m. unwrap_or (option_map (λ (u : Update (machine g)). not (is_nil u.inbox)) (numbered_at us m)) false) e
+          ∙ sym (ap (λ (ws : List (Update (machine g))). unwrap_or (option_map (λ (u : Update (machine g)). not (is_nil u.inbox)) (numbered_at ws n)) false) kept.left.leaves)
+          ∙ ap (λ (t : State). has_waiting t n) same ∙ waits in
+      let may : option_map (is_deliverable (machine g) g.settings (committed (machine g) us) (suc i)) (slice_get us i) ≡ Some true =
+          deliverable_if (machine g) g.settings (committed (machine g) us) (suc i) (slice_get us i) (stands_placed g v rs (map entry_of es) s kept same n (Paused Missing) stands i (sym e)) waits_here in
+      let made : Follows g (Delivers (suc i)) (map entry_of es) v qs' (map entry_of es') =
+          subst (λ (xs : List Record). DeliversTo g.settings i xs es qs' es') slice delivers g.rules v g.budget g.base g.requests g.later kept may in
+      subst (λ (m : ℕ). Follows g (Delivers m) (map entry_of es) v qs' (map entry_of es')) e made

@@ -1,10 +1,9 @@
 -- What is asked at the place of an event's update, and what is put there.
-use Rattle.std.proofs.Common.{◌≡◌, ◌∙◌, ap, refl, sym, subst, ℕ, zero, suc, ◌<◌, ◌≤◌, ◌+◌, Option, Some, None, List, [], ◌∷◌, ◌++◌, map, take, drop, length, get_or, arith, drop-cons}
+use Rattle.std.proofs.Common.{◌≡◌, ◌∙◌, ap, refl, sym, subst, ℕ, zero, suc, ◌<◌, ◌≤◌, ◌+◌, Bool, true, false, Option, Some, None, List, [], ◌∷◌, ◌++◌, map, take, drop, length, get_or, arith, drop-cons}
 use Rattle.std.proofs.Math.ListN.{set}
 use Rattle.std.proofs.lemmas.Option.{same_Some, none-some, slice_get-map}
 use Rattle.std.specs.Prelude.{Result, Ok, Err, IfOk, OnOk, is_some, slice_get, option_map}
 use Rattle.yt_entries.specs.declared.causes.Cause.{Cause as CauseOfProgram}
-use Rattle.yt_entries.specs.declared.entries.Entry.{Entry}
 use Rattle.yt_machine.specs.Cascade.{Cause}
 use Rattle.yt_machine.specs.Settle.{restart}
 use Rattle.yt_machine.specs.Steps.{stepped}
@@ -19,13 +18,19 @@ use Rattle.yt_queue.specs.Queues.{update_of, updates_of, AreFrom}
 use Rattle.yt_queue.specs.Renewals.{AllHaveOneMore, AreFresh, HaveRestarted}
 use Rattle.yt_queue.specs.declared.records.Record.{Record}
 use Rattle.yt_steps.specs.Chase.{caused_chase}
-use Rattle.yt_versions.specs.Standing.{Kept}
+use Rattle.yt_versions.specs.Standing.{Kept, Retracted}
+use Rattle.yt_base.specs.Meanings.{change_of}
+use Rattle.yt_base.specs.declared.updates.Write.{Write}
+use Rattle.yt_queue.specs.Records.{HasTrail}
 use Rattle.yt_core.specs.Aftermaths.{AllBetween, Cleared, ClearedIf}
-use Rattle.yt_core.specs.Follows.{IsPlanFor, IsPlanAt, IsInstalled, AreSame}
+use Rattle.yt_core.specs.Follows.{IsPlanFor, IsPlanAt, IsInstalled, IsPreparedAt}
 use Rattle.yt_core.specs.Planned.{IsSomeThat}
-use Rattle.yt_core.proofs.Delivering.{put_with, set_is}
-use Rattle.yt_core.proofs.Following.{within, cut_at, taken_long}
-use Rattle.yt_core.proofs.Telling.{there_is}
+use Rattle.yt_core.specs.Steps.{IsPrepared}
+use Rattle.yt_core.specs.declared.stepping.Prepared.{Prepared}
+use Rattle.yt_queue.specs.Walks.{HasCommitted}
+use Rattle.yt_core.proofs.Delivering.{put_with}
+use Rattle.yt_core.proofs.Following.{within, from_on, prepared_at}
+use Rattle.yt_core.proofs.Telling.{there_is, number_there}
 
 -- ---- results
 
@@ -46,21 +51,34 @@ more_above (r ∷ rs) (suc k) a = more_above rs k a.1
 
 -- ---- trails that are taken back in turn
 
+rest_is : {A : Type 0} (xs : List A) (k : ℕ) (x : A) → k < length xs → x ≡ get_or xs k x → drop k xs ≡ x ∷ drop (suc k) xs
+rest_is xs k x l e = drop-cons xs k x l ∙ ap (λ y. y ∷ drop (suc k) xs) (sym e)
+
+-- The trail of one update is taken back.
+pub cleared_there : (b : Bool) (x : Option CauseOfProgram) (n : ℕ) (r : Record) (ws : List Write) (old new : Kept) → b ≡ is_some x → b ≡ true → n ≡ r.program.attempt.number → HasTrail r ws
+    → Retracted n (map change_of ws) old new → ClearedIf (is_some x) r old new
+cleared_there b x n r ws old new e t number trail_is taken =
+    subst (λ (c : Bool). ClearedIf c r old new) (sym t ∙ e)
+    (λ D before after stand was none others. subst (λ (m : ℕ). Retracted m (map change_of ws) old new) number taken D before after stand (was ∙ sym (trail_is [] 0)) none others)
+
+pub cleared_not : (b : Bool) (x : Option CauseOfProgram) (r : Record) (old : Kept) → b ≡ is_some x → b ≡ false → ClearedIf (is_some x) r old old
+cleared_not b x r old e t = subst (λ (c : Bool). ClearedIf c r old old) (sym t ∙ e) refl
+
 pub next_between : (rs : List Record) (k : ℕ) (r : Record) → k < length rs → r ≡ get_or rs k r → AllBetween (drop k rs) → IsBetween r.program
-next_between rs k r l e a = (subst AllBetween (drop-cons rs k r l (sym e)) a).0
+next_between rs k r l e a = (subst AllBetween (rest_is rs k r l e) a).0
 
 pub others_between : (rs : List Record) (k : ℕ) (r : Record) → k < length rs → r ≡ get_or rs k r → AllBetween (drop k rs) → AllBetween (drop (k + 1) rs)
 others_between rs k r l e a =
     let one : suc k ≡ k + 1 = omega arith in
-    subst (λ (m : ℕ). AllBetween (drop m rs)) one (subst AllBetween (drop-cons rs k r l (sym e)) a).1
+    subst (λ (m : ℕ). AllBetween (drop m rs)) one (subst AllBetween (rest_is rs k r l e) a).1
 
 pub clear_one : (rs : List Record) (xs : List (Option CauseOfProgram)) (k : ℕ) (r : Record) (x : Option CauseOfProgram) (v mid w : Kept) → k < length rs → r ≡ get_or rs k r → k < length xs → x ≡ get_or xs k x
     → ClearedIf (is_some x) r v mid → Cleared (drop (k + 1) rs) (drop (k + 1) xs) mid w → Cleared (drop k rs) (drop k xs) v w
 clear_one rs xs k r x v mid w l e m f c later =
     let one : k + 1 ≡ suc k = omega arith in
-    let both : Cleared (r ∷ drop (suc k) rs) (x ∷ drop (suc k) xs) v w = (mid, (c, subst (λ (n : ℕ). Cleared (drop n rs) (drop n xs) mid w) one later)) in
-    subst (λ (qs : List Record). Cleared qs (drop k xs) v w) (sym (drop-cons rs k r l (sym e)))
-    (subst (λ (ys : List (Option CauseOfProgram)). Cleared (r ∷ drop (suc k) rs) ys v w) (sym (drop-cons xs k x m (sym f))) both)
+    let both : Cleared (r ∷ drop (suc k) rs) (x ∷ drop (suc k) xs) v w = (mid, c, subst (λ (n : ℕ). Cleared (drop n rs) (drop n xs) mid w) one later) in
+    subst (λ (qs : List Record). Cleared qs (drop k xs) v w) (sym (rest_is rs k r l e))
+    (subst (λ (ys : List (Option CauseOfProgram)). Cleared (r ∷ drop (suc k) rs) ys v w) (sym (rest_is xs k x m f)) both)
 
 -- ---- the step is put in place
 
@@ -72,13 +90,13 @@ numbers_put rs k plan r r' a l e p keeps =
     let is : IsPlanFor (get_or rs k r) plan = subst (λ (q : Record). IsPlanFor q plan) e (plan_there rs k r plan (there_is rs k r l e) p) in
     put_with rs k r r' a l e (λ n s. keeps is.rules is.budget is.below n is.planned s)
 
+past_set : {A : Type 0} (xs : List A) (k : ℕ) (y : A) → drop (suc k) (set xs k y) ≡ drop (suc k) xs
+past_set [] k y = refl
+past_set (x ∷ xs) zero y = refl
+past_set (x ∷ xs) (suc k) y = past_set xs k y
+
 pub dropped_set : {A : Type 0} (xs : List A) (k : ℕ) (y : A) → drop (k + 1) (set xs k y) ≡ drop (suc k) xs
-dropped_set xs k y = let one : k + 1 ≡ suc k = omega arith in ap (λ n. drop n (set xs k y)) one ∙ by xs k
-  where
-    by : {A : Type 0} {y : A} (xs : List A) (k : ℕ) → drop (suc k) (set xs k y) ≡ drop (suc k) xs
-    by [] k = refl
-    by (x ∷ xs) zero = refl
-    by (x ∷ xs) (suc k) = by xs k
+dropped_set xs k y = let one : k + 1 ≡ suc k = omega arith in ap (λ n. drop n (set xs k y)) one ∙ past_set xs k y
 
 taken_set : {A : Type 0} (xs : List A) (k : ℕ) (y : A) → k < length xs → take (suc k) (set xs k y) ≡ take k xs ++ y ∷ []
 taken_set [] k y l = absurd (omega (arith, l))
@@ -115,3 +133,22 @@ installed_is rs rs' k plan fs r r' l e steps restarts ms B D q xs spot is marks 
     ∙ ap (λ ws. take (suc k) (set us k w) ++ restart (caused_chase ms B) (suc (suc k)) xs ws) (ap (λ n. drop n (set us k w)) (sym one) ∙ dropped_set us k w)
     ∙ ap (λ ws. ws ++ restart (caused_chase ms B) (suc (suc k)) xs (drop (suc k) us)) (taken_set us k w l')
     ∙ regroup (take k us) w (restart (caused_chase ms B) (suc (suc k)) xs (drop (suc k) us))
+
+-- ---- what lies above a place
+
+pub above_numbers : (rs up : List Record) (k : ℕ) (r : Record) → AreFrom 1 rs → k < length rs → r ≡ get_or rs k r → up ≡ drop (suc k) rs → AreFrom (suc r.program.attempt.number) up
+above_numbers rs up k r a l e u =
+    let number : r.program.attempt.number ≡ suc k = number_there rs k r a l e in
+    let next : suc (suc k) ≡ 1 + suc k = omega arith in
+    subst (λ (qs : List Record). AreFrom (suc r.program.attempt.number) qs) (sym u) (from_on rs 1 (suc k) (suc r.program.attempt.number) (ap suc number ∙ next) a)
+
+pub above_more : (rs up : List Record) (k : ℕ) → AllHaveOneMore rs → up ≡ drop (suc k) rs → AllHaveOneMore up
+above_more rs up k a u = subst AllHaveOneMore (sym u) (more_above rs (suc k) a)
+
+pub above_fresh : (rs up : List Record) (k : ℕ) (fs : List (Option ProgramState)) → up ≡ drop (suc k) rs → AreFresh up fs → AreFresh (drop (suc k) rs) fs
+above_fresh rs up k fs u a = subst (λ (qs : List Record). AreFresh qs fs) u a
+
+pub above_prepared : (ms : List Rule) (s : Settings) (c k : ℕ) (v : Kept) (rs up : List Record) (r : Record) (plan : Plan) (p : Prepared) → AreFrom 1 rs → k < length rs → r ≡ get_or rs k r → up ≡ drop (suc k) rs
+    → HasCommitted rs c → IsPrepared ms s c v r up plan p → IsPreparedAt ms s k plan v rs p
+above_prepared ms s c k v rs up r plan p a l e u counts is =
+    prepared_at ms s c k v rs r plan p a (there_is rs k r l e) counts (subst (λ (qs : List Record). IsPrepared ms s c v r qs plan p) u is)

@@ -175,3 +175,14 @@ step_prepared ms s c old after r upper plan found ws p from shows were cleared t
     more : {X : Type 0} (xs : List X) (x : X) → suc (length xs) ≡ length (xs ++ x ∷ [])
     more [] x = refl
     more (y ∷ xs) x = ap suc (more xs x)
+
+-- The same where the update's number and the versions were handed over.
+pub shows_hidden_by : (r : Record) (plan : Plan) (ws : List Write) (b : Bool) (n : ℕ) (old copy new : Kept) → HasHidden plan.program b → b ≡ true → HasTrail r ws → n ≡ r.program.attempt.number → copy ≡ old
+    → Retracted n (map change_of ws) copy new → ShowsStep r plan old new
+shows_hidden_by r plan ws b n old copy new hidden t trail_is e same taken =
+    shows_hidden r plan ws b old new hidden t trail_is (subst (λ (v : Kept). Retracted r.program.attempt.number (map change_of ws) v new) same (subst (λ (m : ℕ). Retracted m (map change_of ws) copy new) e taken))
+
+pub shows_more_by : (r : Record) (plan : Plan) (ws : List Write) (b : Bool) (n : ℕ) (old copy new : Kept) → HasHidden plan.program b → b ≡ false → HasWritten r plan ws → n ≡ r.program.attempt.number → copy ≡ old
+    → Published n (map change_of ws) copy new → ShowsStep r plan old new
+shows_more_by r plan ws b n old copy new hidden t written e same put =
+    shows_more r plan ws b old new hidden t written (subst (λ (v : Kept). Published r.program.attempt.number (map change_of ws) v new) same (subst (λ (m : ℕ). Published m (map change_of ws) copy new) e put))

@@ -1,7 +1,8 @@
 -- What is told of a core is told of the updates that its history left.
-use Rattle.std.proofs.Common.{◌≡◌, ◌∙◌, ap, refl, sym, subst, ℕ, zero, suc, ◌<◌, ◌+◌, Bool, true, Option, Some, None, List, [], ◌∷◌, map, length, get_or, arith}
-use Rattle.std.specs.Prelude.{option_map, option_and_then, slice_get}
+use Rattle.std.proofs.Common.{◌≡◌, ◌∙◌, ap, refl, sym, subst, ℕ, zero, suc, ◌<◌, ◌+◌, Bool, true, false, not, Option, Some, None, List, [], ◌∷◌, map, length, get_or, arith}
+use Rattle.std.specs.Prelude.{option_map, option_and_then, unwrap_or, slice_get}
 use Rattle.std.proofs.lemmas.Option.{same_Some, none-some, slice_get-map}
+use Rattle.yt_base.specs.Meanings.{choice_of}
 use Rattle.yt_entries.specs.Meanings.{standing_of}
 use Rattle.yt_entries.specs.declared.standings.Standing.{Standing as StandingOfProgram}
 use Rattle.yt_frontier.specs.Inquiries.{Inquiry, inquiry_in}
@@ -9,7 +10,7 @@ use Rattle.yt_history.specs.Cores.{Ground, IsLegalOver}
 use Rattle.yt_history.specs.CoreLaws.{Leave}
 use Rattle.yt_history.specs.PlainEntries.{PlainEntry}
 use Rattle.yt_machine.specs.Standings as standings
-use Rattle.yt_machine.specs.Standings.{Standing, standing, question_of}
+use Rattle.yt_machine.specs.Standings.{Standing, standing, question_of, is_nil}
 use Rattle.yt_machine.specs.Updates.{Settings, Update, committed}
 use Rattle.yt_model.specs.Mappings.{Rule}
 use Rattle.yt_queue.specs.Programs.{IsBetween}
@@ -18,8 +19,8 @@ use Rattle.yt_queue.specs.Records.{HasStanding, HasQuestion}
 use Rattle.yt_queue.specs.Walks.{HasCommitted, IsLowestReady, IsLowestDeliverable, IsLowestBesides, IsQuiet}
 use Rattle.yt_queue.specs.declared.records.Record.{Record}
 use Rattle.yt_steps.specs.Chase.{caused_chase}
-use Rattle.yt_core.specs.States.{State, updates_at, numbered_at, committed_at, standing_at, question_at, lowest_ready_at, lowest_ready_besides_of, lowest_ready_besides_at, lowest_deliverable_at, is_quiet_at}
-use Rattle.yt_core.specs.Told.{HasStandingAt, HasQuestionAt}
+use Rattle.yt_core.specs.States.{State, updates_at, numbered_at, committed_at, standing_at, question_at, has_waiting, lowest_ready_at, lowest_ready_besides_of, lowest_ready_besides_at, lowest_deliverable_at, is_quiet_at}
+use Rattle.yt_core.specs.Told.{HasStandingAt, HasQuestionAt, HasWaitingAt}
 use Rattle.yt_core.proofs.Following.{there, stands_at, mapped_long}
 
 -- ---- records at places
@@ -61,6 +62,19 @@ pub no_question : (s : Settings) (rs : List Record) (n : ℕ) → numbered_at rs
 no_question s rs n e ms B =
     sym (ap (λ o. option_map inquiry_in (option_and_then (question_of (caused_chase ms B) s (committed (caused_chase ms B) (updates_of ms B rs)) n) o)) (numbered_map (update_of ms B) rs n ∙ ap (option_map (update_of ms B)) e))
 
+nil_map : {A B : Type 0} (f : A → B) (xs : List A) → is_nil (map f xs) ≡ is_nil xs
+nil_map f [] = refl
+nil_map f (x ∷ xs) = refl
+
+pub waiting_is : (rs : List Record) (n : ℕ) (r : Record) (b : Bool) → numbered_at rs n ≡ Some r → b ≡ not (is_nil r.inbox.items) → HasWaitingAt rs n b
+waiting_is rs n r b e is ms B =
+    is ∙ sym (ap not (nil_map choice_of r.inbox.items))
+    ∙ sym (ap (λ o. unwrap_or (option_map (λ (u : Update (caused_chase ms B)). not (is_nil u.inbox)) o) false) (numbered_map (update_of ms B) rs n ∙ ap (option_map (update_of ms B)) e))
+
+pub none_waits : (rs : List Record) (n : ℕ) → numbered_at rs n ≡ None → HasWaitingAt rs n false
+none_waits rs n e ms B =
+    sym (ap (λ o. unwrap_or (option_map (λ (u : Update (caused_chase ms B)). not (is_nil u.inbox)) o) false) (numbered_map (update_of ms B) rs n ∙ ap (option_map (update_of ms B)) e))
+
 -- ---- a core
 
 module _ (g : Ground) (H : List PlainEntry) (rs : List Record) (s : State) (left : Leave g H (updates_of g.rules g.budget rs)) (same : record { ground = g; history = H } ≡ s) where
@@ -96,6 +110,12 @@ module _ (g : Ground) (H : List PlainEntry) (rs : List Record) (s : State) (left
 
   pub quiet_told : (b : Bool) → IsQuiet g.settings rs b → b ≡ is_quiet_at s
   quiet_told b h = h g.rules g.budget ∙ sym (ap (standings.is_quiet (caused_chase g.rules g.budget) g.settings) left.leaves) ∙ ap is_quiet_at same
+
+  pub waiting_told : (n : ℕ) (b : Bool) → HasWaitingAt rs n b → b ≡ has_waiting s n
+  waiting_told n b h =
+      h g.rules g.budget
+      ∙ sym (ap (λ (us : List (Update (caused_chase g.rules g.budget))). unwrap_or (option_map (λ u. not (is_nil u.inbox)) (numbered_at us n)) false) left.leaves)
+      ∙ ap (λ t. has_waiting t n) same
 
   pub legal_told : IsLegalOver s.ground s.history
   legal_told = subst (λ (t : State). IsLegalOver t.ground t.history) same left.legal

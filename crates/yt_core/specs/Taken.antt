@@ -1,5 +1,5 @@
 -- The snapshot that is taken of a record.
-use Rattle.std.specs.Prelude.{◌≡◌, ℕ, true, List, map}
+use Rattle.std.specs.Prelude.{◌≡◌, ℕ, true, List, map, Some, slice_get}
 use Rattle.yt_base.specs.Meanings.{choice_of}
 use Rattle.yt_machine.specs.Standings.{standing, is_ready, next_answer}
 use Rattle.yt_machine.specs.Updates.{Settings}
@@ -10,6 +10,10 @@ use Rattle.yt_queue.specs.declared.records.Record.{Record}
 use Rattle.yt_steps.specs.Chase.{caused_chase}
 use Rattle.yt_versions.specs.Standing.{Kept, seen}
 use Rattle.yt_core.specs.Planned.{PlanMeant}
+
+-- The record at the place, if there is one, meets this.
+abbrev pub AtPlace : ℕ → List Record → (Record → Type 0) → Type 0
+AtPlace k rs P = (r : Record) → slice_get rs k ≡ Some r → P r
 
 -- It is ready, beside some number of committed updates.
 pub record IsReadySomewhere (r : Record) : Type 0 where

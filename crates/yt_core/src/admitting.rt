@@ -28,14 +28,15 @@ pub(crate) fn admitted(alloc: Global, updates: &[SessionUpdate]) -> Result<Vec<R
     Ok(queue)
 }
 
-/// The entries of the admissions of so many updates. It is refused only for want of memory.
-pub(crate) fn admissions(alloc: Global, count: u32) -> Result<EntryList, Memory>
-    requires few { count ≤ 1000 }
-    ensures entries { IfOk result (λ history. map entry_of history.items ≡ admissions_from 1 count) }
+/// The entries of the admissions of these updates. It is refused only for want of memory.
+pub(crate) fn admissions(alloc: Global, updates: &[SessionUpdate]) -> Result<EntryList, Memory>
+    requires few { length updates.now ≤ 1000 }
+    ensures entries { IfOk result (λ history. map entry_of history.items ≡ admissions_from 1 (length updates.now)) }
 {
     let mut history = EntryList::new(alloc);
-    for i in 0..count {
-        history.push(Entry::Admitted { update: i + 1 })?;
+    for i in 0..updates.len() {
+        let update = i as u32 + 1;
+        history.push(Entry::Admitted { update })?;
     }
     Ok(history)
 }

@@ -66,16 +66,16 @@ fn without_restarted(
 fn without_one(
     alloc: Global,
     mut versions: Versions,
-    record: &Record,
+    item: &Record,
     cause: &Option<Cause>,
 ) -> Result<Versions, Memory>
-    requires between { IsBetween record.now.program }
-    ensures cleared { IfOk result (ClearedIf (is_some cause.now) record.now versions) }
+    requires between { IsBetween item.now.program }
+    ensures cleared { IfOk result (ClearedIf (is_some cause.now) item.now versions) }
 {
-    if cause.is_none() {
+    if cause.is_some() {
+        versions.retract(alloc, item.number(), item.trail())?;
         return Ok(versions);
     }
-    versions.retract(alloc, record.number(), record.trail())?;
     Ok(versions)
 }
 

@@ -1,5 +1,5 @@
 //! A core, and what it is made of.
-ghost use Rattle.std.specs.Prelude.{◌≡◌, ◌≤◌, length, map, Some, IfOk, IfErr, OnOk, OnErr};
+ghost use Rattle.std.specs.Prelude.{◌≡◌, ◌≤◌, length, map, true, Some, IfOk, OnOk, OnErr};
 ghost use Rattle.std.specs.Option.{option_map, option_copied};
 ghost use Rattle.yt_frontier.specs.Inquiries.{inquiry_of, inquiry_in};
 ghost use Rattle.yt_history.specs.Cores.{IsLegalOver};
@@ -10,15 +10,15 @@ ghost use Rattle.yt_model.specs.Repository.{IsRepository};
 ghost use Rattle.yt_grammar.specs.Validity.{IsSession};
 ghost use Rattle.yt_session.specs.Meanings.{session_of};
 ghost use Rattle.yt_queue.specs.Settings.{settings_of};
-ghost use Rattle.yt_core.specs.States.{opened, updates_at, committed_at, standing_at, question_at, has_waiting, lowest_ready_at, lowest_ready_besides_at, lowest_deliverable_at, is_quiet_at};
+ghost use Rattle.yt_core.specs.States.{opened, updates_at, committed_at, standing_at, question_at, has_waiting as has_waiting_lem, lowest_ready_at, lowest_ready_besides_at, lowest_deliverable_at, is_quiet_at};
 ghost use Rattle.yt_core.specs.Events.{HasMade, AnswersStep, AnswersDelivery};
 ghost use Rattle.yt_core.specs.Planned.{IsStepAt};
 
 use crate::admitting::{admissions, admitted};
 use crate::deliveries::deliver_at;
-use crate::plans::{Plan, Snapshot, snapshot_of};
+use crate::plans::{Plan, Snapshot, snapshot_at};
 use crate::refusals::{DeliverRefusal, StepRefusal};
-use crate::standings::{question, standing};
+use crate::standings::{has_waiting, place_of, question, standing};
 use crate::stepping::step_at;
 use std::alloc::Global;
 use std::marker::Model;
@@ -75,11 +75,14 @@ impl<'s> Core<'s> {
         ensures opened { IfOk result (λ core. core ≡ opened (session_of session.now) budget (settings_of settings) (length session.now.updates.items)) }
     {
         budget.is_within();
-        let versions = Versions::of(alloc, session.base.as_slice())?;
-        let queue = admitted(alloc, session.updates.as_slice())?;
-        let history = admissions(alloc, session.updates.len() as u32)?;
+        let base = session.base.as_slice();
+        let versions = Versions::of(alloc, base)?;
+        let updates = session.updates.as_slice();
+        let queue = admitted(alloc, updates)?;
+        let history = admissions(alloc, updates)?;
+        let mappings = mappings_of(session);
         Ok(Core {
-            mappings: mappings_of(session),
+            mappings,
             budget,
             settings,
             base: &session.base,
@@ -117,6 +120,13 @@ impl<'s> Core<'s> {
         ensures question { option_map inquiry_of (option_copied result) ≡ option_map inquiry_in (question_at self.now update) }
     {
         question(&self.queue, self.settings, update)
+    }
+
+    /// Whether an answer is recorded for the update of this number that was not delivered yet. It takes no memory.
+    pub fn has_waiting(&self, update: u32) -> bool
+        ensures waiting { result ≡ has_waiting_lem self.now update }
+    {
+        has_waiting(&self.queue, update)
     }
 
     /// The lowest update that is ready, if one is. It takes no memory.
@@ -170,36 +180,35 @@ impl<'s> Core<'s> {
         ensures update { IfOk result (λ snapshot. snapshot.update ≡ update) }
         ensures step { IfOk result (IsStepAt self.now) }
     {
-        let record = &self.queue[update as usize - 1];
+        let place = place_of(update);
         let mappings = self.mappings.list();
-        snapshot_of(alloc, mappings, self.budget, &self.versions, record)
+        let versions = &self.versions;
+        let snapshot = snapshot_at(alloc, mappings, self.budget, versions, &self.queue, place)?;
+        Ok(snapshot)
     }
 
     /// Makes the step of the plan, which is the next one of its update at the present state. It gives the number of the
-    /// entry. It is refused only for want of memory; the core is then unchanged, and the plan is given back.
-    pub fn install(&mut self, alloc: Global, plan: Plan) -> Result<u64, (Plan, Memory)>
+    /// entry. It is refused only for want of memory; the core is then unchanged.
+    pub fn install(&mut self, alloc: Global, plan: Plan) -> Result<u64, Memory>
         requires ready { standing_at self.old plan.update ≡ Some Ready }
         requires step { IsStepAt self.old plan }
         ensures made { OnOk result (HasMade self.old (Steps plan.update) self.new) }
         ensures number { IfOk result (λ n. n ≡ length self.new.history) }
         ensures kept { OnErr result (self.new ≡ self.old) }
-        ensures back { IfErr result (λ refused. refused.0 ≡ plan) }
     {
         let Plan { update, step } = plan;
-        let made = step_at(
+        let place = place_of(update);
+        step_at(
             alloc,
             &self.mappings,
             self.settings,
             &mut self.versions,
             &mut self.queue,
             &mut self.history,
-            update as usize - 1,
+            place,
             step,
-        );
-        match made {
-            Ok(()) => Ok(self.history.len() as u64),
-            Err((step, memory)) => Err((Plan { update, step }, memory)),
-        }
+        )?;
+        Ok(self.history.len() as u64)
     }
 
     /// Makes the next step of the update. It gives the number of the entry. Where it is refused the core is unchanged.
@@ -225,7 +234,7 @@ impl<'s> Core<'s> {
         ensures made { OnOk result (HasMade self.old (Delivers update) self.new) }
         ensures number { IfOk result (λ n. n ≡ length self.new.history) }
         ensures kept { OnErr result (self.new ≡ self.old) }
-        ensures answer { AnswersDelivery (standing_at self.old update) (has_waiting self.old update) result }
+        ensures answer { AnswersDelivery (standing_at self.old update) (has_waiting_lem self.old update) result }
     {
         match self.standing(update) {
             None => Err(DeliverRefusal::NoSuchUpdate),
@@ -243,27 +252,37 @@ impl<'s> Core<'s> {
     {
         let snapshot = self.snapshot(alloc, update)?;
         let plan = snapshot.plan(alloc)?;
-        match self.install(alloc, plan) {
-            Ok(number) => Ok(number),
-            Err(_) => Err(Memory),
-        }
+        let number = self.install(alloc, plan)?;
+        Ok(number)
     }
 
-    // Delivers the first of the answers that wait for the update, which is pending.
+    // Delivers the first of the answers that wait for the update, which is pending, if there is one.
     fn deliver_pending(&mut self, update: u32) -> Result<u64, DeliverRefusal>
         requires pending { standing_at self.old update ≡ Some (Paused Missing) }
         ensures made { OnOk result (HasMade self.old (Delivers update) self.new) }
         ensures number { IfOk result (λ n. n ≡ length self.new.history) }
         ensures kept { OnErr result (self.new ≡ self.old) }
-        ensures answer { AnswersDelivery (standing_at self.old update) (has_waiting self.old update) result }
+        ensures answer { AnswersDelivery (standing_at self.old update) (has_waiting_lem self.old update) result }
     {
-        let place = update as usize - 1;
-        if self.queue[place].inbox.is_empty() {
+        if !self.has_waiting(update) {
             return Err(DeliverRefusal::NoAnswer);
         }
-        match deliver_at(self.settings, &mut self.queue, &mut self.history, place) {
-            Ok(()) => Ok(self.history.len() as u64),
+        match self.make_delivery(update) {
+            Ok(number) => Ok(number),
             Err(_) => Err(DeliverRefusal::Memory),
         }
+    }
+
+    // Delivers the first of the answers that wait for the update, which is pending.
+    fn make_delivery(&mut self, update: u32) -> Result<u64, Memory>
+        requires pending { standing_at self.old update ≡ Some (Paused Missing) }
+        requires waits { has_waiting_lem self.old update ≡ true }
+        ensures made { OnOk result (HasMade self.old (Delivers update) self.new) }
+        ensures number { IfOk result (λ n. n ≡ length self.new.history) }
+        ensures kept { OnErr result (self.new ≡ self.old) }
+    {
+        let place = place_of(update);
+        deliver_at(self.settings, &mut self.queue, &mut self.history, place)?;
+        Ok(self.history.len() as u64)
     }
 }

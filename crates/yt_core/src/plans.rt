@@ -1,12 +1,13 @@
 //! The next step of an update, planned while the core goes on.
 ghost use Rattle.std.specs.Option.{option_map};
-ghost use Rattle.std.specs.Prelude.{◌≡◌, ◌<◌, map, IfOk};
+ghost use Rattle.std.specs.Prelude.{◌≡◌, ◌<◌, length, map, IfOk};
 ghost use Rattle.yt_base.specs.Meanings.{choice_of, rule_of};
 ghost use Rattle.yt_limits.specs.Within.{AreWithin};
 ghost use Rattle.yt_query.specs.Meanings.{read_of};
+ghost use Rattle.yt_queue.specs.Queues.{AreFrom};
 ghost use Rattle.yt_queue.specs.Programs.{IsBetween, HasNext};
 ghost use Rattle.yt_queue.specs.Wants.{WantsNext};
-ghost use Rattle.yt_core.specs.Taken.{IsReadySomewhere, IsSnapshotOf};
+ghost use Rattle.yt_core.specs.Taken.{AtPlace, IsReadySomewhere, IsSnapshotOf};
 
 use std::alloc::Global;
 use std::marker::Model;
@@ -104,39 +105,61 @@ impl<'s> Snapshot<'s> {
     }
 }
 
-/// A snapshot of the next step of a ready update. It is refused only for want of memory.
-pub(crate) fn snapshot_of<'s>(
+/// A snapshot of the next step of the update at the place, which is ready. It is refused only for want of memory.
+pub(crate) fn snapshot_at<'s>(
     alloc: Global,
     mappings: &'s MappingList,
     budget: Budget,
     versions: &Versions,
-    record: &Record,
+    queue: &[Record],
+    place: usize,
 ) -> Result<Snapshot<'s>, Memory>
     requires within { AreWithin (map rule_of mappings.now.items) }
-    requires between { IsBetween record.now.program }
-    requires ready { IsReadySomewhere record.now }
-    requires left { record.now.program.attempt.steps < budget }
-    ensures taken { IfOk result (IsSnapshotOf (map rule_of mappings.now.items) budget versions.now record.now) }
+    requires place { place < length queue.now }
+    requires numbers { AreFrom 1 queue.now }
+    requires ready { AtPlace place queue.now IsReadySomewhere }
+    requires left { AtPlace place queue.now (λ r. r.program.attempt.steps < budget) }
+    ensures taken { IfOk result (λ snapshot. AtPlace place queue.now (λ r. IsSnapshotOf (map rule_of mappings.now.items) budget versions.now r snapshot)) }
 {
-    let answer = next_answer(alloc, record)?;
-    let program = record.program.copy(alloc)?;
+    let item = &queue[place];
+    let snapshot = snapshot_of(alloc, mappings, budget, versions, item)?;
+    Ok(snapshot)
+}
+
+// A snapshot of the next step of the record, which is ready.
+fn snapshot_of<'s>(
+    alloc: Global,
+    mappings: &'s MappingList,
+    budget: Budget,
+    versions: &Versions,
+    item: &Record,
+) -> Result<Snapshot<'s>, Memory>
+    requires within { AreWithin (map rule_of mappings.now.items) }
+    requires between { IsBetween item.now.program }
+    requires ready { IsReadySomewhere item.now }
+    requires left { item.now.program.attempt.steps < budget }
+    ensures taken { IfOk result (IsSnapshotOf (map rule_of mappings.now.items) budget versions.now item.now) }
+{
+    let answer = next_answer(alloc, item)?;
+    let program = item.program.copy(alloc)?;
+    let versions = versions.share()?;
     Ok(Snapshot {
         mappings: Mappings::of(mappings),
         budget,
-        versions: versions.share()?,
-        update: record.number(),
+        versions,
+        update: item.number(),
         program,
         answer,
     })
 }
 
 // A copy of the next answer, if there is one.
-fn next_answer(alloc: Global, record: &Record) -> Result<Option<Choice>, Memory>
-    requires between { IsBetween record.now.program }
-    ensures next { IfOk result (λ answer. HasNext record.now (option_map choice_of answer)) }
-    ensures wanted { IfOk result (λ answer. WantsNext record.now (option_map choice_of answer)) }
+fn next_answer(alloc: Global, item: &Record) -> Result<Option<Choice>, Memory>
+    requires between { IsBetween item.now.program }
+    ensures next { IfOk result (λ answer. HasNext item.now (option_map choice_of answer)) }
+    ensures wanted { IfOk result (λ answer. WantsNext item.now (option_map choice_of answer)) }
 {
-    match record.next_answer() {
+    match item.next_answer() {
         Some(choice) => Ok(Some(choice.copy(alloc)?)),
         None => Ok(None),
     }

@@ -1,13 +1,13 @@
 //! What is told of one update of a queue.
 ghost use Rattle.std.specs.Option.{option_map, option_copied};
-ghost use Rattle.std.specs.Prelude.{◌≡◌};
+ghost use Rattle.std.specs.Prelude.{◌≡◌, ◌≤◌, suc};
 ghost use Rattle.yt_base.specs.Meanings.{choice_of};
 ghost use Rattle.yt_entries.specs.Meanings.{standing_of};
 ghost use Rattle.yt_frontier.specs.Inquiries.{inquiry_of};
 ghost use Rattle.yt_queue.specs.Queues.{AreFrom};
 ghost use Rattle.yt_queue.specs.Settings.{settings_of};
 ghost use Rattle.yt_core.specs.States.{numbered_at};
-ghost use Rattle.yt_core.specs.Told.{HasStandingAt, HasQuestionAt};
+ghost use Rattle.yt_core.specs.Told.{HasStandingAt, HasQuestionAt, HasWaitingAt};
 
 use yt_entries::Standing;
 use yt_frontier::Question;
@@ -45,4 +45,22 @@ pub(crate) fn question(queue: &[Record], settings: Settings, number: u32) -> Opt
         Some(record) => record.question(settings, committed(queue), number),
         None => None,
     }
+}
+
+/// Whether an answer is recorded for the update of this number that was not delivered yet.
+pub(crate) fn has_waiting(queue: &[Record], number: u32) -> bool
+    ensures waiting { HasWaitingAt queue.now number result }
+{
+    match record_at(queue, number) {
+        Some(record) => !record.inbox.is_empty(),
+        None => false,
+    }
+}
+
+/// The place of the update of this number, counted from 0.
+pub(crate) fn place_of(number: u32) -> usize
+    requires { 1 ≤ number }
+    ensures { suc result ≡ number }
+{
+    number as usize - 1
 }

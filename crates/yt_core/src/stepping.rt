@@ -1,5 +1,5 @@
 //! A step: it is prepared while nothing is changed, and then put in place, which cannot fail.
-ghost use Rattle.std.specs.Prelude.{◌≡◌, ◌<◌, ◌≤◌, suc, [], ◌∷◌, ◌++◌, drop, length, map, IfOk, IfErr, OnOk, OnErr};
+ghost use Rattle.std.specs.Prelude.{◌≡◌, ◌<◌, ◌≤◌, suc, [], ◌∷◌, ◌++◌, drop, length, map, IfOk, OnOk, OnErr};
 ghost use Rattle.yt_base.specs.Meanings.{change_of};
 ghost use Rattle.yt_queue.specs.Programs.{IsBetween};
 ghost use Rattle.yt_queue.specs.Queues.{AreFrom};
@@ -145,8 +145,18 @@ pub(crate) fn prepare_at(
     ensures fresh { IfOk result (λ p. AreFresh (drop (suc place) queue.now) p.left.fresh.items) }
 {
     let committed = committed(queue);
-    let upper = &queue[place + 1..];
-    prepare(alloc, mappings, settings, committed, versions, &queue[place], upper, plan)
+    let item = &queue[place];
+    let upper = above(queue, place);
+    let prepared = prepare(alloc, mappings, settings, committed, versions, item, upper, plan)?;
+    Ok(prepared)
+}
+
+// The updates above the place.
+fn above(queue: &[Record], place: usize) -> &[Record]
+    requires place { place < length queue.now }
+    ensures rest { result.now ≡ drop (suc place) queue.now }
+{
+    &queue[place + 1..]
 }
 
 /// Puts the step of the plan in place, and restarts those of the updates above for which there is an attempt. It takes no
@@ -197,9 +207,9 @@ fn step_entry(
     }
 }
 
-/// Makes the step of the plan, which is the next one of the update at the place. There is room for it, so that want of
-/// memory can come only before anything is changed.
-pub(crate) fn make_step(
+// Makes the step of the plan, which is the next one of the update at the place. There is room for it. It is refused only
+// for want of memory; nothing is then changed.
+fn make_step(
     alloc: Global,
     mappings: &Mappings<'_>,
     settings: Settings,
@@ -208,24 +218,21 @@ pub(crate) fn make_step(
     history: &mut EntryList,
     place: usize,
     plan: Plan,
-) -> Result<(), (Plan, Memory)>
+) -> Result<(), Memory>
     requires place { place < length queue.old }
     requires numbers { AreFrom 1 queue.old }
     requires more { AllHaveOneMore queue.old }
     requires room { HasRoomAt place plan queue.old }
     requires plan { IsPlanAt place plan queue.old }
+    requires after { IsBetween plan.program }
     requires spare { 1 ≤ history.old.spare }
     ensures made { OnOk result (StepsTo mappings.now (settings_of settings) place plan versions.old queue.old history.old.items versions.new queue.new history.new.items) }
     ensures versions { OnErr result (versions.new ≡ versions.old) }
     ensures queue { OnErr result (queue.new ≡ queue.old) }
     ensures history { OnErr result (history.new ≡ history.old) }
-    ensures plan { IfErr result (λ back. back.0 ≡ plan) }
     ensures long { length queue.new ≡ length queue.old }
 {
-    let prepared = match prepare_at(alloc, mappings, settings, versions, queue, place, &plan) {
-        Ok(prepared) => prepared,
-        Err(memory) => return Err((plan, memory)),
-    };
+    let prepared = prepare_at(alloc, mappings, settings, versions, queue, place, &plan)?;
     let Prepared { writes, left } = prepared;
     let attempt = queue[place].program.attempt();
     install(queue, place, plan, left.fresh);
@@ -265,7 +272,7 @@ pub(crate) fn reserve_step(
 }
 
 /// Makes the step of the plan, which is the next one of the update at the place. It is refused only for want of memory;
-/// what the queue and the history mean then stays, and the plan is given back.
+/// what the queue and the history mean then stays.
 pub(crate) fn step_at(
     alloc: Global,
     mappings: &Mappings<'_>,
@@ -275,20 +282,19 @@ pub(crate) fn step_at(
     history: &mut EntryList,
     place: usize,
     plan: Plan,
-) -> Result<(), (Plan, Memory)>
+) -> Result<(), Memory>
     requires place { place < length queue.old }
     requires numbers { AreFrom 1 queue.old }
     requires more { AllHaveOneMore queue.old }
     requires plan { IsPlanAt place plan queue.old }
+    requires after { IsBetween plan.program }
     ensures made { OnOk result (StepsTo mappings.now (settings_of settings) place plan versions.old queue.old history.old.items versions.new queue.new history.new.items) }
     ensures versions { OnErr result (versions.new ≡ versions.old) }
     ensures queue { OnErr result (AreSame queue.old queue.new) }
     ensures history { OnErr result (history.new.items ≡ history.old.items) }
-    ensures plan { IfErr result (λ back. back.0 ≡ plan) }
     ensures long { length queue.new ≡ length queue.old }
 {
-    if reserve_step(queue, history, place, &plan).is_err() {
-        return Err((plan, Memory));
-    }
-    make_step(alloc, mappings, settings, versions, queue, history, place, plan)
+    reserve_step(queue, history, place, &plan)?;
+    make_step(alloc, mappings, settings, versions, queue, history, place, plan)?;
+    Ok(())
 }
