@@ -10,3 +10,4 @@ pub mod Follows
 pub mod Admitted
 pub mod Taken
 pub mod Drained
+pub mod Results

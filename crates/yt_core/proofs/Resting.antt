@@ -1,9 +1,8 @@
 -- The lowest ready update stands ready, and the lowest to which an answer can be delivered is pending with one; a turn is what a drain does next.
 use Rattle.std.proofs.Common.{◌≡◌, ◌∙◌, ap, sym, refl, subst, ℕ, suc, ◌≤◌, ◌+◌, Bool, true, false, ◌&&◌, Option, Some, None, List, [], ◌∷◌, arith}
-use Rattle.std.specs.Prelude.{if◌then◌else◌, not, option_map, option_and_then, unwrap_or, slice_get}
+use Rattle.std.specs.Prelude.{if◌then◌else◌, not, is_none, option_map, option_and_then, unwrap_or, slice_get}
 use Rattle.std.proofs.lemmas.Bool.{and_parts}
 use Rattle.std.proofs.lemmas.Option.{same_Some, none-some}
-use Rattle.yt_entries.specs.Meanings.{standing_of}
 use Rattle.yt_machine.specs.Machine.{Machine}
 use Rattle.yt_machine.specs.Updates.{Update}
 use Rattle.yt_machine.specs.Drains.{step_or_deliver}
@@ -12,11 +11,11 @@ use Rattle.yt_machine.specs.Standings.{Standing, Ready, Held, Paused, Missing, M
 use Rattle.yt_model.specs.Repository.{IsRepository}
 use Rattle.yt_history.specs.Cores.{Ground, machine, IsLegalOver, grown}
 use Rattle.yt_history.specs.PlainEntries.{PlainEntry}
-use Rattle.yt_drains.specs.Turns.{turned, after_turns}
+use Rattle.yt_drains.specs.Turns.{turned, after_turns, work_after}
 use Rattle.yt_drains.proofs.Turning.{turn_law, turns_more}
 use Rattle.yt_core.specs.States.{State, updates_at, committed_at, numbered_at, standing_at, has_waiting, lowest_ready_at, lowest_deliverable_at, is_quiet_at}
 use Rattle.yt_core.specs.Events.{HasMade}
-use Rattle.yt_core.specs.Drained.{HasTurned, HasTurnedOnce}
+use Rattle.yt_core.specs.Drained.{HasTurned, HasTurnedOnce, HasRested}
 
 -- ---- the lowest
 
@@ -79,20 +78,6 @@ deliverable_stands s i h =
       ap (λ (o : Option (Update M)). unwrap_or (option_map (λ u. not (is_nil u.inbox)) o) false) there ∙ both.1,
     )
 
--- So a step of the one is not refused for its standing,
-pub some_ready : (st : Standing) (o : Option Standing) → o ≡ Some Ready → o ≡ Some st → is_ready st ≡ false → ⊥
-some_ready st o h e f = let same : Ready ≡ st = same_Some Ready st (sym h ∙ e) in let never : true ≡ false = ap is_ready same ∙ f in cc
-
--- nor a delivery to the other.
-pub some_pending : (st : Standing) (o : Option Standing) → o ≡ Some (Paused Missing) → o ≡ Some st → is_pending st ≡ false → ⊥
-some_pending st o h e f = let same : Paused Missing ≡ st = same_Some (Paused Missing) st (sym h ∙ e) in let never : true ≡ false = ap is_pending same ∙ f in cc
-
-pub none_there : (st : Standing) (o : Option Standing) → o ≡ Some st → o ≡ None → ⊥
-none_there st o h e = none-some st (sym e ∙ h)
-
-pub none_waits : (b : Bool) → b ≡ true → b ≡ false → ⊥
-none_waits b h e = let never : true ≡ false = sym h ∙ e in cc
-
 -- ---- turns
 
 made_once : (old new : State) (e : Event (machine old.ground)) (r d : Option ℕ) → lowest_ready_at old ≡ r → lowest_deliverable_at old ≡ d → step_or_deliver (machine old.ground) r d ≡ Some e → HasMade old e new
@@ -120,3 +105,19 @@ turned_on a b c t u =
       ground = u.ground ∙ t.ground;
       history = turns_more a.ground t.turns a.history b.history c.history t.history (ap (λ (g : Ground). turned g b.history) (sym t.ground) ∙ u.history);
     }
+
+-- Less work is left after it.
+pub less_left : (a b : State) → HasTurnedOnce a b → suc (work_after b.ground b.history) ≤ work_after a.ground a.history
+less_left a b u = subst (λ (g : Ground). suc (work_after g b.history) ≤ work_after a.ground a.history) (sym u.ground) u.less
+
+-- What stays as it is has turned as far.
+pub turned_still : (a b c : State) → HasTurned a b → c ≡ b → HasTurned a c
+turned_still a b c t e = subst (HasTurned a) (sym e) t
+
+-- Where there was no turn it is quiet.
+pub rests_quiet : (b c : State) → HasRested b c → is_quiet_at c ≡ true
+rests_quiet b c r = ap is_quiet_at r.same ∙ r.quiet
+
+-- There is no turn where nothing is ready and nothing can be delivered.
+pub no_turn : (s : State) → lowest_ready_at s ≡ None → lowest_deliverable_at s ≡ None → HasRested s s
+no_turn s h f = record { quiet = λ i. is_none (h i) && is_none (f i); same = refl }
