@@ -24,7 +24,11 @@ use Rattle.yt_model.specs.Mappings.{Rule}
 use Rattle.yt_model.specs.Repository.{IsRepository}
 use Rattle.yt_model.specs.Updates.{Operation}
 use Rattle.yt_model.specs.Values.{Fact}
+use Rattle.yt_model.specs.Updates.{Choice}
+use Rattle.yt_plan.specs.Planned.{at_rest, next_attempt, next_reads}
 use Rattle.yt_plan.specs.declared.plans.Plan.{Plan}
+use Rattle.yt_query.specs.Meanings.{Read}
+use Rattle.yt_steps.specs.Attempts.{Attempt}
 use Rattle.yt_program.specs.Courses.{State as ProgramState}
 use Rattle.yt_queue.specs.Queues.{update_of, updates_of, AreFrom}
 use Rattle.yt_queue.specs.Renewals.{AllHaveOneMore}
@@ -345,3 +349,10 @@ module _ (g : Ground) (v : Kept) (rs : List Record) (es : List Entry) (s : State
       let made : Follows g (Delivers (suc i)) (map entry_of es) v qs' (map entry_of es') =
           subst (λ (xs : List Record). DeliversTo g.settings i xs es qs' es') slice delivers g.rules v g.budget g.base g.requests g.later kept may in
       subst (λ (m : ℕ). Follows g (Delivers m) (map entry_of es) v qs' (map entry_of es')) e made
+
+-- ---- what a snapshot plans
+
+pub planned_same : (ms : List Rule) (B : ℕ) (D D' : List Fact) (P : Attempt) (a a' : Option Choice) (n : ℕ) (program : ProgramState) (reads : List Read) → D ≡ D' → a ≡ a' → program ≡ at_rest (next_attempt ms B D P a) → reads ≡ next_reads ms D P a
+    → ◌≡◌ {A = PlanMeant} (record { update = n; program = program; reads = reads }) (record { update = n; program = at_rest (next_attempt ms B D' P a'); reads = next_reads ms D' P a' })
+planned_same ms B D D' P a a' n program reads d e p q =
+    (λ i. record { update = n; program = p i; reads = q i }) ∙ (λ i. record { update = n; program = at_rest (next_attempt ms B (d i) P (e i)); reads = next_reads ms (d i) P (e i) })

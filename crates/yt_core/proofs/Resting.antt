@@ -110,10 +110,6 @@ turned_on a b c t u =
 pub less_left : (a b : State) → HasTurnedOnce a b → suc (work_after b.ground b.history) ≤ work_after a.ground a.history
 less_left a b u = subst (λ (g : Ground). suc (work_after g b.history) ≤ work_after a.ground a.history) (sym u.ground) u.less
 
--- What stays as it is has turned as far.
-pub turned_still : (a b c : State) → HasTurned a b → c ≡ b → HasTurned a c
-turned_still a b c t e = subst (HasTurned a) (sym e) t
-
 -- Where there was no turn it is quiet.
 pub rests_quiet : (b c : State) → HasRested b c → is_quiet_at c ≡ true
 rests_quiet b c r = ap is_quiet_at r.same ∙ r.quiet

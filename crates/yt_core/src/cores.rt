@@ -220,10 +220,7 @@ impl<'s> Core<'s> {
     {
         match self.standing(update) {
             None => Err(StepRefusal::NoSuchUpdate),
-            Some(Standing::Ready) => match self.make_step(alloc, update) {
-                Ok(number) => Ok(number),
-                Err(_) => Err(StepRefusal::Memory),
-            },
+            Some(Standing::Ready) => self.step_ready(alloc, update),
             Some(standing) => Err(StepRefusal::NotReady(standing)),
         }
     }
@@ -240,6 +237,20 @@ impl<'s> Core<'s> {
             None => Err(DeliverRefusal::NoSuchUpdate),
             Some(Standing::Pending) => self.deliver_pending(update),
             Some(standing) => Err(DeliverRefusal::NotPending(standing)),
+        }
+    }
+
+    // Makes the next step of the update, which is ready.
+    fn step_ready(&mut self, alloc: Global, update: u32) -> Result<u64, StepRefusal>
+        requires ready { standing_at self.old update ≡ Some Ready }
+        ensures made { OnOk result (HasMade self.old (Steps update) self.new) }
+        ensures number { IfOk result (λ n. n ≡ length self.new.history) }
+        ensures kept { OnErr result (self.new ≡ self.old) }
+        ensures answer { AnswersStep (standing_at self.old update) result }
+    {
+        match self.make_step(alloc, update) {
+            Ok(number) => Ok(number),
+            Err(_) => Err(StepRefusal::Memory),
         }
     }
 

@@ -1,5 +1,5 @@
 //! The next step of an update, planned while the core goes on.
-ghost use Rattle.std.specs.Option.{option_map};
+ghost use Rattle.std.specs.Option.{option_map, option_copied};
 ghost use Rattle.std.specs.Prelude.{◌≡◌, ◌<◌, length, map, IfOk};
 ghost use Rattle.yt_base.specs.Meanings.{choice_of, rule_of};
 ghost use Rattle.yt_limits.specs.Within.{AreWithin};
@@ -88,7 +88,7 @@ impl<'s> Snapshot<'s> {
         ensures same { IfOk result (λ plan. plan ≡ self.now) }
     {
         let below = self.versions.below(self.update);
-        let answer = self.answer.as_ref();
+        let answer = lent(&self.answer);
         let mappings = &self.mappings;
         let step = plan_step(alloc, &self.program, answer, mappings, self.budget, &below)?;
         Ok(Plan {
@@ -159,8 +159,27 @@ fn next_answer(alloc: Global, item: &Record) -> Result<Option<Choice>, Memory>
     ensures next { IfOk result (λ answer. HasNext item.now (option_map choice_of answer)) }
     ensures wanted { IfOk result (λ answer. WantsNext item.now (option_map choice_of answer)) }
 {
-    match item.next_answer() {
+    let found = item.next_answer();
+    let answer = copied(alloc, found)?;
+    Ok(answer)
+}
+
+// A copy of the answer, if there is one.
+fn copied(alloc: Global, answer: Option<&Choice>) -> Result<Option<Choice>, Memory>
+    ensures same { IfOk result (λ copy. option_map choice_of copy ≡ option_map choice_of (option_copied answer.entry)) }
+{
+    match answer {
         Some(choice) => Ok(Some(choice.copy(alloc)?)),
         None => Ok(None),
+    }
+}
+
+// The answer, if there is one.
+fn lent(answer: &Option<Choice>) -> Option<&Choice>
+    ensures { option_copied result ≡ answer.now }
+{
+    match answer {
+        Some(choice) => Some(choice),
+        None => None,
     }
 }
