@@ -5,7 +5,9 @@ use Rattle.yt_machine.specs.Histories.{event_of}
 use Rattle.yt_machine.specs.Serial.{first_stop}
 use Rattle.yt_machine.specs.Updates.{Settings, Update}
 use Rattle.yt_machine.proofs.Theorem.{history_law}
+use Rattle.yt_model.specs.Mappings.{Rule}
 use Rattle.yt_model.specs.Repository.{IsRepository}
+use Rattle.yt_model.specs.Values.{Fact}
 use Rattle.yt_steps.specs.Chase.{caused}
 use Rattle.yt_steps.proofs.ChaseLaws.{chase_laws}
 use Rattle.yt_history.specs.AnyOrder.{tells}
@@ -32,15 +34,23 @@ use Rattle.yt_core.specs.Results.{IsResultOf}
 use Rattle.yt_core.specs.States.{State, admissions_from, opened, updates_at, is_quiet_at}
 
 -- The versions of a core are those of its queue.
-pub versions_of : (g : Ground) (v : Kept) (rs : List Record) (H : List PlainEntry) → IsKept g v rs H → AreVersionsOf g.rules g.budget g.base rs v
+versions_of : (g : Ground) (v : Kept) (rs : List Record) (H : List PlainEntry) → IsKept g v rs H → AreVersionsOf g.rules g.budget g.base rs v
 versions_of g v rs H k = record { sorted = k.sorted; stand = k.versions }
 
 -- What is told of the queue is told of the updates of the history.
-pub tells_of : (g : Ground) (v : Kept) (rs : List Record) (H : List PlainEntry) (s : State) (r : SessionResult) → IsKept g v rs H → record { ground = g; history = H } ≡ s → Tells g.rules g.budget g.base rs r → IsResultOf s r
+tells_of : (g : Ground) (v : Kept) (rs : List Record) (H : List PlainEntry) (s : State) (r : SessionResult) → IsKept g v rs H → record { ground = g; history = H } ≡ s → Tells g.rules g.budget g.base rs r → IsResultOf s r
 tells_of g v rs H s r k same t =
     subst (λ (x : State). IsResultOf x r) same
     (t (session_over g) refl
     ∙ ap (λ (us : List (Update (machine g))). result_in (tells g.rules g.budget (session_over g) us (first_stop (machine g) 1 us))) (sym k.left.leaves))
+
+-- So it is of what lies in the core.
+pub result_told : (g : Ground) (v : Kept) (rs : List Record) (H : List PlainEntry) (s : State) (qs : List Record) (r : SessionResult) → IsKept g v rs H → record { ground = g; history = H } ≡ s → qs ≡ rs
+    → ((ms : List Rule) (B : ℕ) (D : List Fact) → AreVersionsOf ms B D qs v → Tells ms B D qs r) → IsResultOf s r
+result_told g v rs H s qs r k same e t =
+    tells_of g v rs H s r k same
+    (subst (λ (xs : List Record). Tells g.rules g.budget g.base xs r) e
+    (t g.rules g.budget g.base (subst (λ (xs : List Record). AreVersionsOf g.rules g.budget g.base xs v) (sym e) (versions_of g v rs H k))))
 
 -- ---- a core that was opened
 

@@ -42,5 +42,6 @@ pub fn drained(
     let mut core = Core::open(alloc, session, settings, budget)?;
     core.is_legal();
     core.drain(alloc)?;
-    core.result(alloc)
+    let told = core.result(alloc)?;
+    Ok(told)
 }
