@@ -3,7 +3,7 @@ use Rattle.std.proofs.Common.{◌≡◌, ◌∙◌, ap, refl, sym, subst, ℕ, z
 use Rattle.std.specs.Prelude.{option_map, unwrap_or, slice_get}
 use Rattle.std.proofs.lemmas.Option.{same_Some, none-some, slice_get-map}
 use Rattle.yt_base.specs.Listed.{Listed}
-use Rattle.yt_base.specs.Meanings.{fact_of}
+use Rattle.yt_base.specs.Meanings.{fact_of, choice_of}
 use Rattle.yt_base.specs.declared.tuples.Tuple.{Tuple}
 use Rattle.yt_entries.specs.Meanings.{entry_of}
 use Rattle.yt_entries.specs.declared.entries.Entry.{Entry}
@@ -15,7 +15,7 @@ use Rattle.yt_limits.specs.Within.{AreWithin}
 use Rattle.yt_machine.specs.Effects.{Steps, Delivers}
 use Rattle.yt_machine.specs.History.{IsHistory}
 use Rattle.yt_machine.specs.Histories.{event_of}
-use Rattle.yt_machine.specs.Standings.{Standing, Ready, Paused, Missing, standing, is_ready, is_pending, is_deliverable, is_nil}
+use Rattle.yt_machine.specs.Standings.{Standing, Ready, Paused, Missing, standing, is_ready, is_pending, is_deliverable, is_nil, next_answer}
 use Rattle.yt_machine.specs.Updates.{Settings, Submission, Update, committed, below}
 use Rattle.yt_machine.proofs.Serials.{counted}
 use Rattle.yt_machine.proofs.Standing.{ready_parts}
@@ -25,7 +25,10 @@ use Rattle.yt_model.specs.Repository.{IsRepository}
 use Rattle.yt_model.specs.Updates.{Operation}
 use Rattle.yt_model.specs.Values.{Fact}
 use Rattle.yt_model.specs.Updates.{Choice}
-use Rattle.yt_plan.specs.Planned.{at_rest, next_attempt, next_reads}
+use Rattle.yt_plan.specs.Planned.{at_rest, WantsStep, next_attempt, next_reads}
+use Rattle.yt_program.specs.Wishes.{wish}
+use Rattle.yt_queue.specs.Programs.{HasNext}
+use Rattle.yt_queue.specs.Wants.{WantsNext}
 use Rattle.yt_plan.specs.declared.plans.Plan.{Plan}
 use Rattle.yt_query.specs.Meanings.{Read}
 use Rattle.yt_steps.specs.Attempts.{Attempt}
@@ -278,6 +281,9 @@ some_number s n st h = some_at s n n st refl h
 
 -- ---- a step of a core
 
+reading_of : (p q : ProgramState) → p ≡ q → p.reading ≡ q.reading
+reading_of p q e = ap (λ (t : ProgramState). t.reading) e
+
 module _ (g : Ground) (v : Kept) (rs : List Record) (es : List Entry) (s : State) (kept : IsKept g v rs (map entry_of es)) (same : record { ground = g; history = map entry_of es } ≡ s) (n : ℕ) (stands : standing_at s n ≡ Some Ready) (i : ℕ) (e : suc i ≡ n) (qs : List Record) (slice : qs ≡ rs)
   (plan : Plan) (p : PlanMeant) (meant : meant_of n plan ≡ p) (is : IsStepAt s p) where
   step_here : IsStepAt s (meant_of (suc i) plan)
@@ -292,7 +298,7 @@ module _ (g : Ground) (v : Kept) (rs : List Record) (es : List Entry) (s : State
   plan_between =
       let x = record_placed qs i (subst (λ (xs : List Record). i < length xs) (sym slice) (placed_within g v rs (map entry_of es) s kept same n Ready stands i (sym e))) in
       let f : IsPlanFor x.0 plan = subst (λ (o : Option Record). IsSomeThat (λ (q : Record). IsPlanFor q plan) o) x.1 plan_ready in
-      ap (λ (t : ProgramState). t.reading) f.planned.program
+      reading_of plan.program (at_rest (next_attempt f.rules f.budget f.below x.0.program.attempt (next_answer (caused_chase f.rules f.budget) (map choice_of x.0.answers.items) x.0.program.attempt))) f.planned.program
 
   pub core_steps : (v' : Kept) (qs' : List Record) (es' : List Entry) → StepsTo g.rules g.settings i plan v qs es v' qs' es' → Follows g (Steps n) (map entry_of es) v' qs' (map entry_of es')
   core_steps v' qs' es' steps =
@@ -356,3 +362,17 @@ pub planned_same : (ms : List Rule) (B : ℕ) (D D' : List Fact) (P : Attempt) (
     → ◌≡◌ {A = PlanMeant} (record { update = n; program = program; reads = reads }) (record { update = n; program = at_rest (next_attempt ms B D' P a'); reads = next_reads ms D' P a' })
 planned_same ms B D D' P a a' n program reads d e p q =
     (λ i. record { update = n; program = p i; reads = q i }) ∙ (λ i. record { update = n; program = at_rest (next_attempt ms B (d i) P (e i)); reads = next_reads ms (d i) P (e i) })
+
+pub can_step : (r : Record) (program : ProgramState) (a : Option Choice) → IsReadySomewhere r → WantsNext r a → program ≡ r.program → WantsStep (wish program) a
+can_step r program a f wants e = subst (λ (p : ProgramState). WantsStep (wish p) a) (sym e) (wants f.rules f.budget f.settings f.committed f.number f.ready)
+
+pub steps_left : (r : Record) (program : ProgramState) (B : ℕ) → program ≡ r.program → r.program.attempt.steps < B → program.attempt.steps < B
+steps_left r program B e l = subst (λ (p : ProgramState). p.attempt.steps < B) (sym e) l
+
+pub snapshot_taken : (ms ks : List Rule) (B : ℕ) (v w : Kept) (r : Record) (n : ℕ) (program : ProgramState) (a : Option Choice) → ks ≡ ms → w ≡ v → n ≡ r.program.attempt.number → program ≡ r.program → HasNext r a
+    → IsSnapshotOf ms B v r (record { update = n; program = at_rest (next_attempt ks B (seen n w) program.attempt a); reads = next_reads ks (seen n w) program.attempt a })
+snapshot_taken ms ks B v w r n program a rules versions number same next = record {
+  update = number;
+  program = λ i. at_rest (next_attempt (rules i) B (seen (number i) (versions i)) (same i).attempt (next ms B i));
+  reads = λ i. next_reads (rules i) (seen (number i) (versions i)) (same i).attempt (next ms B i);
+}
