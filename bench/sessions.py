@@ -1,9 +1,13 @@
 #!/usr/bin/env python3
-"""Prints a session to measure on: `sessions.py random|chain|groups`, each with options (`-h` lists them).
+"""Prints a session to measure on: `sessions.py random|chain|groups|shop|join|contention`, each with options (`-h` lists them).
 
-random   insertions and deletions over four relations and three mappings, some with a question that is answered `expand`
-chain    one relation after the other, each copied into the next; every update inserts a number into the first
-groups   16 groups of four relations and four mappings with joins, over a base that meets them
+random      insertions and deletions over four relations and three mappings, some with a question that is answered `expand`
+chain       one relation after the other, each copied into the next; every update inserts a number into the first
+groups      16 groups of four relations and four mappings with joins, over a base that meets them
+shop        customers, orders and products: joins of 4 to 6 atoms with a fan-out, over a base that meets four mappings; updates
+            find nothing (`quiet`), or a quarter of them 1 to 3 violations (`mixed`), which may ask (`ask`)
+join        three mappings with joins of two atoms over a base that meets them, without unknowns
+contention  insertions at one end of a chain of relations, deletions at the other, so that updates conflict
 
 The sessions are the same at each run: numbers come from generators with a seed.
 """
@@ -158,6 +162,148 @@ def groups_session(base, updates, seed):
     yield 'end'
 
 
+# ---- shop ----
+
+REGIONS, KINDS, DISCOUNTS = 20, 12, 30
+CUSTOMERS, PRODUCTS, SUPPLIERS = 800, 300, 60
+LINES_AN_ORDER = 2
+
+SHOP_RELATIONS = dict(
+    Customer=2, Order=2, Line=2, Product=2, Supplier=2, Zone=2, Discount=2, Offer=2, Carrier=2, Reach=2, Taste=2, Campaign=2,
+    Advert=3, Medium=2)
+SHOP_MAPPINGS = (
+    'taste: Customer(c, r), Order(o, c), Line(o, p), Product(p, k) -> Taste(r, k)',
+    'offer: Discount(r, d), Customer(c, r), Order(o, c), Line(o, p), Product(p, k) -> Offer(d, k)',
+    'reach: Carrier(v, z), Zone(r, z), Customer(c, r), Order(o, c), Line(o, p), Product(p, k) -> Reach(v, k)',
+    'advert: Campaign(g, k), Product(p, k), Line(o, p), Order(o, c), Customer(c, r) -> Advert(g, r, m)')
+
+
+def shop_sources(rng, fan):
+    """The tuples of the relations that the left sides join."""
+    orders = 400 * fan if fan <= 6 else 3600
+    return dict(
+        Customer=[(c, rng.randrange(REGIONS)) for c in range(CUSTOMERS)],
+        Order=[(o, rng.randrange(CUSTOMERS)) for o in range(orders)],
+        Line=sorted({(o, rng.randrange(PRODUCTS)) for o in range(orders) for _ in range(LINES_AN_ORDER)}),
+        Product=[(p, rng.randrange(KINDS)) for p in range(PRODUCTS)],
+        Supplier=sorted({(s, rng.randrange(KINDS)) for s in range(SUPPLIERS)}),
+        Zone=[(x, x % 5) for x in range(REGIONS)])
+
+
+class ShopTargets:
+    """The tuples of the relations on the right sides, which hold whatever the sources join to."""
+
+    def __init__(self):
+        self.taste = {(x, k) for x in range(REGIONS) for k in range(KINDS)}
+        self.offer = {(d, k) for d in range(DISCOUNTS) for k in range(KINDS)}
+        self.reach = {(v, k) for v in range(DISCOUNTS) for k in range(KINDS)}
+        self.advert = {(g, x, f'"m{g * REGIONS + x}"') for g in range(DISCOUNTS) for x in range(REGIONS)}
+        self.medium = {(m, g) for g, _, m in self.advert}
+
+    def missing(self, rng, number, count, targets):
+        """A new key that lacks 1 to 3 of so many kinds in the targets."""
+        key = 1000 + number
+        lacking = set(rng.sample(range(count), rng.randint(1, 3)))
+        targets |= {(key, k) for k in range(count) if k not in lacking}
+        return key
+
+    def missing_adverts(self, rng, number, asks):
+        """A new campaign that lacks an advert in 1 to 3 regions; where it asks, there are some that could be taken."""
+        key = 1000 + number
+        lacking = set(rng.sample(range(REGIONS), rng.randint(1, 3)))
+        self.advert |= {(key, x, '"m"') for x in range(REGIONS) if x not in lacking}
+        self.medium.add(('"m"', key))
+        if asks:
+            self.advert |= {(key, x, f'"old{x}"') for x in lacking}
+        return key
+
+
+def shop_operation(rng, targets, kind, share, number):
+    """The tuple that the update inserts, and how many answers it has."""
+    bad = kind != 'quiet' and rng.random() < share
+    what = rng.choice(('offer', 'offer', 'reach', 'advert')) if kind != 'ask' else rng.choice(('offer', 'reach', 'advert', 'advert'))
+    key = rng.randrange(DISCOUNTS)
+    if what == 'offer':
+        key = targets.missing(rng, number, KINDS, targets.offer) if bad else key
+        return f'Discount({rng.randrange(REGIONS)}, {key})', 0
+    if what == 'reach':
+        key = targets.missing(rng, number, KINDS, targets.reach) if bad else key
+        return f'Carrier({key}, {rng.randrange(5)})', 0
+    key = targets.missing_adverts(rng, number, kind == 'ask') if bad else key
+    return f'Campaign({key}, {rng.randrange(KINDS)})', 8 if kind == 'ask' else 0
+
+
+def base_lines(relations, base):
+    for relation in relations:
+        for values in sorted(base.get(relation, ()), key=str):
+            yield f'base {relation}({", ".join(map(str, values))})'
+
+
+def shop_session(kind_of_updates, fan, updates, share, seed):
+    rng, kind = random.Random(seed), kind_of_updates
+    base, targets = shop_sources(rng, fan), ShopTargets()
+    operations = [shop_operation(rng, targets, kind, share, number) for number in range(1, updates + 1)]
+    base |= dict(Offer=targets.offer, Reach=targets.reach, Taste=targets.taste, Advert=targets.advert, Medium=targets.medium)
+    yield 'youtopia 1'
+    yield from (f'relation {name} {columns}' for name, columns in SHOP_RELATIONS.items())
+    yield from ('mapping ' + text + (', Medium(m, g)' if kind == 'ask' and text.startswith('advert') else '') for text in SHOP_MAPPINGS)
+    yield from base_lines(SHOP_RELATIONS, base)
+    for number, (inserted, answers) in enumerate(operations, 1):
+        yield f'update u{number} {curator(number)} insert {inserted}'
+        yield from [f'answer u{number} expand'] * answers
+    yield 'end'
+
+
+# ---- join ----
+
+JOIN_MAPPINGS = ('m1: A(x, y), B(y, z) -> C(x, z)', 'm2: C(x, z), D(z, w) -> E(x, w)', 'm3: E(x, w) -> F(w, x)')
+
+
+def joined(lefts, rights):
+    """The pairs of a first and a last value that a value in the middle joins."""
+    found = {}
+    for middle, last in rights:
+        found.setdefault(middle, []).append(last)
+    return {(first, last) for first, middle in lefts for last in found.get(middle, [])}
+
+
+def join_session(base, updates, seed):
+    rng = random.Random(seed)
+    size = base // 7
+    a, b, d = ({(rng.randrange(size), rng.randrange(size)) for _ in range(size)} for _ in range(3))
+    c = joined(a, b)
+    e = joined(c, d)
+    tuples = dict(A=a, B=b, C=c, D=d, E=e, F={(w, x) for x, w in e})
+    yield 'youtopia 1'
+    yield from (f'relation {name} 2' for name in 'ABCDEF')
+    yield from ('mapping ' + text for text in JOIN_MAPPINGS)
+    for name in 'ABCDEF':
+        yield from (f'base {name}({x}, {y})' for x, y in sorted(tuples[name]))
+    for number in range(1, updates + 1):
+        name, x, y = rng.choice('ABD'), rng.randrange(size), rng.randrange(size)
+        yield f'update u{number} {curator(number)} insert {name}({x}, {y})'
+    yield 'end'
+
+
+# ---- contention ----
+
+def contention_session(length, values, updates, seed):
+    rng = random.Random(seed)
+    yield 'youtopia 1'
+    yield from (f'relation R{place} 2' for place in range(length))
+    yield from (f'mapping m{place}: R{place - 1}(x, y) -> R{place}(x, y)' for place in range(1, length))
+    for number in range(1, updates + 1):
+        value = rng.randrange(values)
+        operation = f'insert R0({value}, {value})' if rng.random() < 0.5 else f'delete R{length - 1}({value}, {value})'
+        yield f'update u{number} {curator(number)} {operation}'
+    yield 'end'
+
+
+SESSIONS = {
+    'random': random_session, 'chain': chain_session, 'groups': groups_session, 'shop': shop_session, 'join': join_session,
+    'contention': contention_session}
+
+
 def main():
     parser = argparse.ArgumentParser(description=__doc__, formatter_class=argparse.RawDescriptionHelpFormatter)
     kinds = parser.add_subparsers(dest='kind', required=True)
@@ -171,9 +317,23 @@ def main():
     one.add_argument('--base', type=int, default=20000)
     one.add_argument('--updates', type=int, default=1000)
     one.add_argument('--seed', type=int, default=1)
+    one = kinds.add_parser('shop')
+    one.add_argument('--kind', choices=('quiet', 'mixed', 'ask'), default='quiet', dest='kind_of_updates')
+    one.add_argument('--fan', type=int, default=3)
+    one.add_argument('--updates', type=int, default=400)
+    one.add_argument('--share', type=float, default=0.25)
+    one.add_argument('--seed', type=int, default=1)
+    one = kinds.add_parser('join')
+    one.add_argument('--base', type=int, default=20000)
+    one.add_argument('--updates', type=int, default=1000)
+    one.add_argument('--seed', type=int, default=1)
+    one = kinds.add_parser('contention')
+    one.add_argument('--length', type=int, default=10)
+    one.add_argument('--values', type=int, default=3)
+    one.add_argument('--updates', type=int, default=1000)
+    one.add_argument('--seed', type=int, default=1)
     words = vars(parser.parse_args())
-    session = {'random': random_session, 'chain': chain_session, 'groups': groups_session}[words.pop('kind')]
-    for line in session(**words):
+    for line in SESSIONS[words.pop('kind')](**words):
         print(line)
 
 

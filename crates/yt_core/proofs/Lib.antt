@@ -8,3 +8,5 @@ pub mod Telling
 pub mod Entering
 pub mod Making
 pub mod Placing
+pub mod Resting
+pub mod Resulting

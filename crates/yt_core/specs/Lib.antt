@@ -9,3 +9,5 @@ pub mod Steps
 pub mod Follows
 pub mod Admitted
 pub mod Taken
+pub mod Drained
+pub mod Results

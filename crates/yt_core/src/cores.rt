@@ -255,7 +255,7 @@ impl<'s> Core<'s> {
     }
 
     // Makes the next step of the update, which is ready.
-    fn make_step(&mut self, alloc: Global, update: u32) -> Result<u64, Memory>
+    pub(crate) fn make_step(&mut self, alloc: Global, update: u32) -> Result<u64, Memory>
         requires ready { standing_at self.old update ≡ Some Ready }
         ensures made { OnOk result (HasMade self.old (Steps update) self.new) }
         ensures number { IfOk result (λ n. n ≡ length self.new.history) }
@@ -285,7 +285,7 @@ impl<'s> Core<'s> {
     }
 
     // Delivers the first of the answers that wait for the update, which is pending.
-    fn make_delivery(&mut self, update: u32) -> Result<u64, Memory>
+    pub(crate) fn make_delivery(&mut self, update: u32) -> Result<u64, Memory>
         requires pending { standing_at self.old update ≡ Some (Paused Missing) }
         requires waits { has_waiting_lem self.old update ≡ true }
         ensures made { OnOk result (HasMade self.old (Delivers update) self.new) }

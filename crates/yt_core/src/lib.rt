@@ -8,11 +8,14 @@ mod admitting;
 mod aftermaths;
 mod cores;
 mod deliveries;
+mod draining;
 mod plans;
 mod refusals;
+mod results;
 mod standings;
 mod stepping;
 
 pub use crate::cores::Core;
 pub use crate::plans::{Plan, Snapshot};
 pub use crate::refusals::{DeliverRefusal, StepRefusal};
+pub use crate::results::drained;

@@ -3,16 +3,18 @@ use Rattle.std.specs.Prelude.{Result, Ok, Err, Option, Some, None, IfOk, IfSome,
 use Rattle.std.proofs.Common.{◌≡◌, ℕ, ◌+◌, ◌-◌, ◌^◌, ◌<◌, ◌≤◌, ◌==◌, ap, refl, ◌∙◌, sym, subst, inl, inr, List, [], ◌∷◌, ◌++◌, length, take, drop, get_or, map, Bool, false, arith, append_assoc}
 use Rattle.std.proofs.lemmas.Bool.{cases_lt, false≢true}
 use Rattle.std.proofs.Math.Seq.{take-append_seam}
-use Rattle.yt_base.specs.Meanings.{fact_of as meant_by}
+use Rattle.yt_base.specs.Meanings.{change_of, fact_of as meant_by}
 use Rattle.yt_base.specs.declared.tuples.Tuple.{Tuple}
+use Rattle.yt_base.specs.declared.updates.Write.{Write}
 use Rattle.yt_grammar.specs.Faults.{Kind}
-use Rattle.yt_grammar.specs.Lone.{IsReadAgain}
+use Rattle.yt_grammar.specs.Lone.{IsReadAgain, IsTuple}
 use Rattle.yt_grammar.specs.Meaning.{fact_of}
 use Rattle.yt_grammar.specs.Printing.{tuple_text, value_text, joined_text, written_fact, name_of}
 use Rattle.yt_grammar.specs.Sessions.{RelationSchema, relation_names}
 use Rattle.yt_grammar.specs.Statements.{WrittenFact}
 use Rattle.yt_model.specs.Mappings.{force_relation}
 use Rattle.yt_model.specs.Values.{Datum, Number, Text, Unknown, Fact, outer, outer_datum}
+use Rattle.yt_journal.specs.Format.{IsWrite, write_text}
 use Rattle.yt_reader.specs.Facts.{SpellsFact, Says}
 use Rattle.yt_reader.specs.declared.tuples.TupleText.TheVariants as texts
 
@@ -91,6 +93,13 @@ some_of P found x e h = subst (λ f. IfSome f P) e h
 pub none_of : {T P : Type 0} (found : Option T) → found ≡ None → IfNone found P → P
 none_of {P = P} found e h = subst (λ f. IfNone f P) e h
 
+-- the write of a tuple by its sign, where the line is that
+pub signed_some : (relations : List RelationSchema) (line text : List ℕ) (sign : ℕ) (t : Fact) (found : Option Write) → line ≡ sign ∷ text → text ≡ tuple_text relations false t → IsTuple relations t
+    → IfSome found (λ w. (rs : List RelationSchema) → sign ∷ tuple_text rs false t ≡ write_text rs (change_of w)) → IfSome found (λ w. (rs : List RelationSchema) → IsTuple rs t → IsWrite rs (change_of w))
+    → IfSome found (λ w. (line ≡ write_text relations (change_of w)) × IsWrite relations (change_of w))
+signed_some relations line text sign t None e f good written of_tuple = tt
+signed_some relations line text sign t (Some w) e f good written of_tuple = (e ∙ ap (λ xs. sign ∷ xs) f ∙ written relations, of_tuple relations good)
+
 -- where bytes are not said to be empty there are some
 pub some_left : (bytes : List ℕ) (empty : Bool) → empty ≡ (length bytes == 0) → empty ≡ false → 1 ≤ length bytes
 some_left [] empty e f = absurd (false≢true (sym f ∙ e))
@@ -106,13 +115,15 @@ pub nothing : (xs : List ℕ) → length xs ≡ 0 → xs ≡ []
 nothing [] e = refl
 nothing (x ∷ xs) e = absurd (omega arith)
 
-pub split_byte : (rest : List ℕ) → 1 ≤ length rest → get_or rest 0 0 ≡ 1 → rest ≡ 1 ∷ take (length rest - 1) (drop 1 rest)
-split_byte [] l one = absurd (omega arith)
-split_byte (x ∷ xs) l one =
-    let first : x ≡ 1 = one in
+pub first_byte : (bytes : List ℕ) → 1 ≤ length bytes → bytes ≡ get_or bytes 0 0 ∷ take (length bytes - 1) (drop 1 bytes)
+first_byte [] l = absurd (omega arith)
+first_byte (x ∷ xs) l =
     let count : length (x ∷ xs) - 1 ≡ length xs = omega arith in
     let others : take (length (x ∷ xs) - 1) (drop 1 (x ∷ xs)) ≡ xs = ap (λ k. take k xs) count ∙ take_all xs in
-    λ i. first i ∷ sym others i
+    λ i. x ∷ sym others i
+
+pub split_byte : (rest : List ℕ) → 1 ≤ length rest → get_or rest 0 0 ≡ 1 → rest ≡ 1 ∷ take (length rest - 1) (drop 1 rest)
+split_byte rest l one = first_byte rest l ∙ ap (λ x. x ∷ take (length rest - 1) (drop 1 rest)) one
 
 pub next_of : (found : Option ℕ) (count n : ℕ) → found ≡ Some n → SomeIff found (count + 1 < 2 ^ 32) (count + 1) → n ≡ count + 1
 next_of found count n e h = (subst (λ f. SomeIff f (count + 1 < 2 ^ 32) (count + 1)) e h).1

@@ -1,13 +1,14 @@
 -- Bytes are a journal in one way at most.
-use Rattle.std.proofs.Common.{◌≡◌, ℕ, ◌+◌, ap, refl, ◌∙◌, sym, subst, List, [], ◌∷◌, ◌++◌, drop, get_or, append_assoc}
+use Rattle.std.proofs.Common.{◌≡◌, inl, inr, ℕ, ◌+◌, ap, refl, ◌∙◌, sym, subst, List, [], ◌∷◌, ◌++◌, drop, get_or, length, append_assoc, arith}
 use Rattle.std.proofs.lemmas.List.{append_cancel_left}
 use Rattle.yt_model.specs.Repository.{Change}
 use Rattle.yt_grammar.specs.Lines.{Spells}
 use Rattle.yt_grammar.specs.Printing.{printed}
 use Rattle.yt_grammar.specs.Sessions.{RelationSchema, SessionData}
 use Rattle.yt_grammar.specs.Validity.{IsSession}
+use Rattle.yt_journal.specs.Damage.{HasNoCommit, IsBroken, IsDamagedAt}
 use Rattle.yt_journal.specs.Format.{framed, commit_line, commit_text, opened, records, front, write_lines, IsOpening, IsCommit, AreCommits}
-use Rattle.yt_journal.specs.Journals.{IsClosed, IsJournal}
+use Rattle.yt_journal.specs.Journals.{BeginsWith, IsClosed, IsJournal}
 use Rattle.yt_journal.proofs.Frames.{frames_apart}
 use Rattle.yt_journal.proofs.WriteLines.{AreReadAgain, same_writes}
 
@@ -53,3 +54,42 @@ one_list s again commits others bytes (x, a, c) (y, b, d) =
     same_commits s.relations again 1 commits others x y a.commits b.commits c d
     (append_cancel_left (framed (printed s)) (records s.relations 1 commits ++ x) (records s.relations 1 others ++ y)
     (sym (behind_opening s commits x) ∙ sym a.bytes ∙ b.bytes ∙ behind_opening s others y))
+
+-- ---- damaged bytes
+
+none_left : (x y : List ℕ) → IsClosed y → x ≡ y → x ≡ [] → ⊥
+none_left x y (gate, behind, is, off) e f = let never : gate ∷ behind ≡ [] = sym is ∙ sym e ∙ f in cc
+
+some_left : (byte : ℕ) (more x : List ℕ) → x ≡ byte ∷ more → x ≡ [] → ⊥
+some_left byte more x e f = let never : byte ∷ more ≡ [] = sym e ∙ f in cc
+
+-- where the next gate is missing or has no commit behind it, no list of commits stands
+no_list : (relations : List RelationSchema) → AreReadAgain relations → (n m : ℕ) (commits others : List (List Change)) (x y : List ℕ) → m ≡ n + length commits → AreCommits relations n commits → AreCommits relations n others
+    → IsBroken relations m x → IsClosed y → records relations n commits ++ x ≡ records relations n others ++ y → ⊥
+no_list relations again n m [] [] x y k a b (inl none) d e = none_left x y d e none
+no_list relations again n m [] [] x y k a b (inr (behind, is, none)) d e = shut y behind d (sym e ∙ is)
+no_list relations again n m [] (vs ∷ others) x y k a b (inl none) d e =
+    some_left 1 (framed (commit_text relations n vs) ++ (records relations (n + 1) others ++ y)) x (e ∙ append_assoc (opened (commit_text relations n vs)) (records relations (n + 1) others) y) none
+no_list relations again n m [] (vs ∷ others) x y k a b (inr (behind, is, none)) d e =
+    let same : m ≡ n = omega arith in
+    subst (λ i. HasNoCommit relations i behind) same none vs (records relations (n + 1) others ++ y) b.0
+    (ap (drop 1) (sym is ∙ e ∙ append_assoc (opened (commit_text relations n vs)) (records relations (n + 1) others) y))
+no_list relations again n m (ws ∷ commits) [] x y k a b c d e =
+    shut y (framed (commit_text relations n ws) ++ (records relations (n + 1) commits ++ x)) d (sym e ∙ append_assoc (opened (commit_text relations n ws)) (records relations (n + 1) commits) x)
+no_list relations again n m (ws ∷ commits) (vs ∷ others) x y k a b c d e =
+    let parts = one_commit relations again n ws vs (records relations (n + 1) commits ++ x) (records relations (n + 1) others ++ y) a.0 b.0
+    (ap (drop 1) (sym (append_assoc (opened (commit_text relations n ws)) (records relations (n + 1) commits) x) ∙ e ∙ append_assoc (opened (commit_text relations n vs)) (records relations (n + 1) others) y)) in
+    no_list relations again (n + 1) m commits others x y (omega arith) a.1 b.1 c d parts.1
+
+pub no_journal : ((bytes : List ℕ) (s t : SessionData) → Spells bytes s → Spells bytes t → s ≡ t) → ((s : SessionData) → IsSession s → Spells (printed s) s)
+    → (s : SessionData) → AreReadAgain s.relations → (commits : List (List Change)) (bytes : List ℕ) (place : ℕ) → IsDamagedAt bytes place → IsJournal s commits bytes → ⊥
+no_journal one again s lines commits bytes place (inl (first, none)) (y, b, d) = none s (records s.relations 1 commits ++ y) b.opening (b.bytes ∙ behind_opening s commits y)
+no_journal one again s lines commits bytes place (inr broken) (y, b, d) =
+    let a : BeginsWith bytes broken.session broken.commits broken.rest = broken.begins in
+    let parts = one_opening one again broken.session s (records broken.session.relations 1 broken.commits ++ broken.rest) (records s.relations 1 commits ++ y) a.opening b.opening
+    (sym (behind_opening broken.session broken.commits broken.rest) ∙ sym a.bytes ∙ b.bytes ∙ behind_opening s commits y) in
+    let here : AreCommits s.relations 1 broken.commits = subst (λ (t : SessionData). AreCommits t.relations 1 broken.commits) parts.0 a.commits in
+    let gap : IsBroken s.relations (length broken.commits + 1) broken.rest = subst (λ (t : SessionData). IsBroken t.relations (length broken.commits + 1) broken.rest) parts.0 broken.broken in
+    let same : records s.relations 1 broken.commits ++ broken.rest ≡ records s.relations 1 commits ++ y =
+    subst (λ (t : SessionData). records t.relations 1 broken.commits ++ broken.rest ≡ records s.relations 1 commits ++ y) parts.0 parts.1 in
+    no_list s.relations lines 1 (length broken.commits + 1) broken.commits commits broken.rest y (omega arith) here b.commits gap d same

@@ -97,15 +97,10 @@ same_writes relations again (w ∷ ws) (v ∷ vs) a b e =
 
 -- ---- what a line that is no write can't be
 
-pub no_insertion : (relations : List RelationSchema) (text : List ℕ) → ((t : Fact) → IsTuple relations t → text ≡ tuple_text relations false t → ⊥)
-    → (w : Change) → IsWrite relations w → 43 ∷ text ≡ write_text relations w → ⊥
-no_insertion relations text none (Insert t) good e = none t good (ap (drop 1) e)
-no_insertion relations text none (Delete t) good e = signs_apart (ap (λ xs. get_or xs 0 0) e)
-
-pub no_deletion : (relations : List RelationSchema) (text : List ℕ) → ((t : Fact) → IsTuple relations t → text ≡ tuple_text relations false t → ⊥)
-    → (w : Change) → IsWrite relations w → 45 ∷ text ≡ write_text relations w → ⊥
-no_deletion relations text none (Insert t) good e = signs_apart (sym (ap (λ xs. get_or xs 0 0) e))
-no_deletion relations text none (Delete t) good e = none t good (ap (drop 1) e)
+pub no_tuple_behind : (relations : List RelationSchema) (sign : ℕ) (text : List ℕ) → ((t : Fact) → IsTuple relations t → text ≡ tuple_text relations false t → ⊥)
+    → (w : Change) → IsWrite relations w → sign ∷ text ≡ write_text relations w → ⊥
+no_tuple_behind relations sign text none (Insert t) good e = none t good (ap (drop 1) e)
+no_tuple_behind relations sign text none (Delete t) good e = none t good (ap (drop 1) e)
 
 pub no_sign : (relations : List RelationSchema) (sign : ℕ) (text : List ℕ) → sign ≢ 43 → sign ≢ 45 → (w : Change) → sign ∷ text ≡ write_text relations w → ⊥
 no_sign relations sign text a b (Insert t) e = a (ap (λ xs. get_or xs 0 0) e)

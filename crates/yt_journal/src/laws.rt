@@ -19,6 +19,15 @@ pub fn journals_have_one_reading()
     tuples_are_read_again();
 }
 
+/// Bytes that are damaged at some place are no journal.
+pub fn damaged_bytes_are_no_journal()
+    ensures { (s : SessionData) (commits : List (List Change)) (bytes : List ℕ) (place : ℕ) → IsDamagedAt bytes place → IsJournal s commits bytes → ⊥ }
+{
+    every_input_has_one_answer();
+    sessions_are_read_again();
+    tuples_are_read_again();
+}
+
 /// Over any list of appends, each with any faults of the disk, and a crash at any moment of any of them: what is left is
 /// a journal that has each commit which was acknowledged by then, in order, and none that was not handed in.
 pub fn crashes_keep_what_is_acknowledged<D: Disk>()

@@ -7,7 +7,7 @@ ghost use Rattle.yt_base.specs.Meanings.{change_of, fact_of};
 ghost use Rattle.yt_grammar.specs.Lines.{Spells};
 ghost use Rattle.yt_grammar.specs.Lone.{IsTuple};
 ghost use Rattle.yt_grammar.specs.Printing.{printed, tuple_text};
-ghost use Rattle.yt_grammar.specs.Sessions.{SessionData};
+ghost use Rattle.yt_grammar.specs.Sessions.{RelationSchema, SessionData};
 ghost use Rattle.yt_grammar.specs.Validity.{IsSession};
 ghost use Rattle.yt_reader.specs.Places.{IsOneLine};
 ghost use Rattle.yt_session.specs.Meanings.{session_of};
@@ -88,27 +88,16 @@ fn read_printed(alloc: Global, session: &Session, text: &[u8]) -> Result<Option<
     }
 }
 
-// The insertion of the tuple whose printed form the text is.
-fn read_insertion(alloc: Global, session: &Session, text: &[u8]) -> Result<Option<Write>, Memory>
-    requires { IsSession (session_of session.now) }
-    ensures some { IfOk result (λ found. IfSome found (λ w. (43 ∷ text.now ≡ write_text session.now.schema (change_of w)) × IsWrite session.now.schema (change_of w))) }
-    ensures none { IfOk result (λ found. IfNone found ((t : Fact) → IsTuple session.now.schema t → text.now ≡ tuple_text session.now.schema false t → ⊥)) }
+// The write of the tuple by its sign; None where it is no sign.
+fn signed(sign: u8, tuple: Tuple) -> Option<Write>
+    ensures text { IfSome result (λ w. (relations : List RelationSchema) → sign ∷ tuple_text relations false (fact_of tuple) ≡ write_text relations (change_of w)) }
+    ensures of_tuple { IfSome result (λ w. (relations : List RelationSchema) → IsTuple relations (fact_of tuple) → IsWrite relations (change_of w)) }
+    ensures none { IfNone result ((relations : List RelationSchema) (text : List ℕ) (w : Change) → sign ∷ text ≡ write_text relations w → ⊥) }
 {
-    match read_printed(alloc, session, text)? {
-        Some(tuple) => Ok(Some(Write::Insert(tuple))),
-        None => Ok(None),
-    }
-}
-
-// The deletion of the tuple whose printed form the text is.
-fn read_deletion(alloc: Global, session: &Session, text: &[u8]) -> Result<Option<Write>, Memory>
-    requires { IsSession (session_of session.now) }
-    ensures some { IfOk result (λ found. IfSome found (λ w. (45 ∷ text.now ≡ write_text session.now.schema (change_of w)) × IsWrite session.now.schema (change_of w))) }
-    ensures none { IfOk result (λ found. IfNone found ((t : Fact) → IsTuple session.now.schema t → text.now ≡ tuple_text session.now.schema false t → ⊥)) }
-{
-    match read_printed(alloc, session, text)? {
-        Some(tuple) => Ok(Some(Write::Delete(tuple))),
-        None => Ok(None),
+    match sign {
+        b'+' => Some(Write::Insert(tuple)),
+        b'-' => Some(Write::Delete(tuple)),
+        _ => None,
     }
 }
 
@@ -121,13 +110,10 @@ fn read_write(alloc: Global, session: &Session, line: &[u8]) -> Result<Option<Wr
     let [sign, text @ ..] = line else {
         return Ok(None);
     };
-    if *sign == b'+' {
-        return read_insertion(alloc, session, text);
+    match read_printed(alloc, session, text)? {
+        Some(tuple) => Ok(signed(*sign, tuple)),
+        None => Ok(None),
     }
-    if *sign == b'-' {
-        return read_deletion(alloc, session, text);
-    }
-    Ok(None)
 }
 
 // The writes of the session's relations whose lines the text is.

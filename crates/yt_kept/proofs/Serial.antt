@@ -46,33 +46,33 @@ module _ (s : SessionData) (v : IsSession s) (B : ℕ) (some : 1 ≤ B) (within 
     pub order : IsRepository D
     pub fit : list_all (fits s.relations below 0) D ≡ true
 
-  kept_later : (below more : ℕ) (D : List Fact) → below ≤ more → Kept below D → Kept more D
+  pub kept_later : (below more : ℕ) (D : List Fact) → below ≤ more → Kept below D → Kept more D
   kept_later below more D l k = record { order = k.order; fit = all_weaker (fits s.relations below 0) (fits s.relations more 0) (λ t h. fits_later s.relations below more 0 0 l (omega arith) t h) D k.fit }
 
   -- ---- one update
 
-  abbrev turn : ℕ → SessionUpdate → Turn (whole_chase (rules_of s.mappings) B)
+  abbrev pub turn : ℕ → SessionUpdate → Turn (whole_chase (rules_of s.mappings) B)
   turn below x = record { number = suc below; attempt = 0; operation = x.operation; answers = x.answers }
 
-  ended : (D : List Fact) (t : Turn (whole_chase (rules_of s.mappings) B)) (P : Attempt) → whole (whole_chase (rules_of s.mappings) B) D t ≡ Ends P → IsRest (whole_chase (rules_of s.mappings) B) D t (Ends P)
+  pub ended : (D : List Fact) (t : Turn (whole_chase (rules_of s.mappings) B)) (P : Attempt) → whole (whole_chase (rules_of s.mappings) B) D t ≡ Ends P → IsRest (whole_chase (rules_of s.mappings) B) D t (Ends P)
   ended D t P e = subst (λ x. IsRest (whole_chase (rules_of s.mappings) B) D t x) e (whole_rests every (rules_of s.mappings) B some D t)
 
   module _ (below : ℕ) (x : SessionUpdate) (D : List Fact) (acts : Acts s.relations below x) (k : Kept below D) where
-    closed : Closed (rules_of s.mappings) x.operation (suc below) 0 (is_value (suc below)) (fits s.relations (suc below))
+    pub closed : Closed (rules_of s.mappings) x.operation (suc below) 0 (is_value (suc below)) (fits s.relations (suc below))
     closed = tests_closed s v below x.operation acts.0 acts.1
 
-    base_fits : list_all (fits s.relations (suc below) 0) D ≡ true
+    pub base_fits : list_all (fits s.relations (suc below) 0) D ≡ true
     base_fits = (kept_later below (suc below) D (omega arith) k).fit
 
     -- what holds of an update's end
-    record Ending (P : Attempt) : Type 0 where
+    pub record Ending (P : Attempt) : Type 0 where
       pub few : P.nulls < 2 ^ 32
       pub fit : list_all (fits s.relations (suc below) P.nulls) (apply D P.own) ≡ true
       pub stays : (n : ℕ) → has D (force n) ≡ true → has (apply D P.own) (force n) ≡ true
       pub enacts : (n : ℕ) → x.operation ≡ Enacts n → P.phase ≡ Ended Done → has (apply D P.own) (force n) ≡ true
       pub outcome : is_some (option_map ending (outcome_in P.phase)) ≡ true
 
-    ending_of : (P : Attempt) → whole (whole_chase (rules_of s.mappings) B) D (turn below x) ≡ Ends P → Ending P
+    pub ending_of : (P : Attempt) → whole (whole_chase (rules_of s.mappings) B) D (turn below x) ≡ Ends P → Ending P
     ending_of P e =
         let r : IsRest (whole_chase (rules_of s.mappings) B) D (turn below x) (Ends P) = ended D (turn below x) P e in
         let g = reached_passing every (rules_of s.mappings) B D x.answers (suc below) 0 x.operation (is_value (suc below)) (fits s.relations (suc below)) closed base_fits r.0.reached in
@@ -93,7 +93,7 @@ module _ (s : SessionData) (v : IsSession s) (B : ℕ) (some : 1 ≤ B) (within 
         by true = x
         by false = y
 
-    shown_kept : (P : Attempt) → Ending P → Kept (suc below) (apply D (shown (whole_chase (rules_of s.mappings) B) P))
+    pub shown_kept : (P : Attempt) → Ending P → Kept (suc below) (apply D (shown (whole_chase (rules_of s.mappings) B) P))
     shown_kept P g =
         shows P (Kept (suc below)) (kept_later below (suc below) D (omega arith) k)
         (record {

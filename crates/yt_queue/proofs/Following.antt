@@ -1,5 +1,5 @@
 -- The step of a plan is the step of the update.
-use Rattle.std.proofs.Common.{◌≡◌, ◌∙◌, ap, sym, refl, ℕ, suc, zero, ◌≤◌, ◌<◌, ◌-◌, ◌+◌, Bool, true, false, List, [], ◌∷◌, ◌++◌, map, length, take, drop, arith}
+use Rattle.std.proofs.Common.{◌≡◌, ◌∙◌, ap, sym, refl, ℕ, suc, zero, ◌<◌, ◌-◌, ◌+◌, Bool, true, false, List, [], ◌++◌, map, length, take, drop, arith}
 use Rattle.std.specs.Prelude.{if◌then◌else◌}
 use Rattle.std.proofs.lemmas.List.{map-append, drop-map, drop_at, length-map, length-append, take_rest}
 use Rattle.std.proofs.lemmas.Simd.{map-map}
@@ -17,7 +17,6 @@ use Rattle.yt_plan.specs.declared.plans.Plan.{Plan}
 use Rattle.yt_query.specs.Meanings.{Read, read_of}
 use Rattle.yt_program.specs.Courses.{State}
 use Rattle.yt_query.specs.declared.log.LoggedRead.{LoggedRead}
-use Rattle.yt_steps.specs.Attempts.{Attempt}
 use Rattle.yt_steps.specs.Attempts.{outcome_in}
 use Rattle.yt_steps.specs.Steps.{step}
 use Rattle.yt_steps.specs.Chase.{caused_chase, ending}

@@ -1,5 +1,5 @@
 -- Restarts one after the other, over the records of a queue.
-use Rattle.std.proofs.Common.{◌≡◌, ◌∙◌, ap, sym, refl, subst, ℕ, suc, zero, ◌≤◌, ◌<◌, ◌+◌, Bool, true, false, Option, Some, None, List, [], ◌∷◌, ◌++◌, map, length, get_or, take, drop, arith}
+use Rattle.std.proofs.Common.{◌≡◌, ◌∙◌, ap, sym, refl, subst, ℕ, suc, zero, ◌<◌, ◌+◌, Bool, Option, List, [], ◌∷◌, ◌++◌, map, length, get_or, take, drop, arith}
 use Rattle.std.specs.Prelude.{if◌then◌else◌, is_some}
 use Rattle.std.proofs.Math.ListN.{set}
 use Rattle.std.proofs.lemmas.List.{map-set, get_or-map, length-map, take-append-drop}
@@ -12,7 +12,7 @@ use Rattle.yt_program.specs.Courses.{State}
 use Rattle.yt_steps.specs.Chase.{caused_chase}
 use Rattle.yt_queue.specs.Queues.{update_of, updates_of, StandsAt, AreFrom}
 use Rattle.yt_queue.specs.Events.{KeepsPlace}
-use Rattle.yt_queue.specs.Renewals.{IsFresh, IsFreshIf, AreFresh, HasRestartedIf}
+use Rattle.yt_queue.specs.Renewals.{AreFresh, HasRestartedIf}
 use Rattle.yt_queue.specs.declared.records.Record.{Record}
 
 -- The updates, of which those with a mark are restarted; the first is update n.

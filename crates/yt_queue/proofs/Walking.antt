@@ -1,5 +1,5 @@
 -- Walks over a queue, record by record.
-use Rattle.std.proofs.Common.{◌≡◌, ◌∙◌, ap, sym, refl, subst, ℕ, suc, zero, ◌≤◌, ◌<◌, ◌+◌, Bool, true, false, Option, Some, None, List, [], ◌∷◌, map, length, get_or, drop, arith, add-one}
+use Rattle.std.proofs.Common.{◌≡◌, ◌∙◌, ap, sym, subst, ℕ, suc, ◌≤◌, ◌<◌, ◌+◌, Bool, true, false, Option, Some, None, List, ◌∷◌, length, get_or, drop, arith}
 use Rattle.std.specs.Prelude.{if◌then◌else◌}
 use Rattle.std.proofs.lemmas.List.{drop_more, drop_all}
 use Rattle.yt_machine.specs.Updates.{Update, committed}

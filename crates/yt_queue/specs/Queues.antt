@@ -1,5 +1,5 @@
 -- What records and queues mean: the updates of a history of the chase.
-use Rattle.std.specs.Prelude.{◌≡◌, ℕ, suc, List, [], ◌∷◌, map, Option, None}
+use Rattle.std.specs.Prelude.{◌≡◌, ℕ, suc, List, [], ◌∷◌, map, None}
 use Rattle.yt_base.specs.Meanings.{choice_of}
 use Rattle.yt_machine.specs.Updates.{Read, Update}
 use Rattle.yt_model.specs.Mappings.{Rule}

@@ -8,7 +8,7 @@ use Rattle.yt_model.specs.Mappings.{Rule}
 use Rattle.yt_program.specs.Courses.{State, between}
 use Rattle.yt_steps.specs.Attempts.{begun}
 use Rattle.yt_steps.specs.Chase.{caused_chase}
-use Rattle.yt_queue.specs.Queues.{update_of, updates_of, AreFrom}
+use Rattle.yt_queue.specs.Queues.{update_of, updates_of}
 use Rattle.yt_queue.specs.declared.records.Record.{Record}
 
 -- One more attempt has a number.

@@ -60,11 +60,7 @@ pub fn fresh_programs(
 }
 
 // The next attempt at the update, if there is a cause.
-fn fresh_if(
-    alloc: Global,
-    item: &Record,
-    cause: &Option<Cause>,
-) -> Result<Option<Program>, Memory>
+fn fresh_if(alloc: Global, item: &Record, cause: &Option<Cause>) -> Result<Option<Program>, Memory>
     requires more { HasOneMore item.now }
     ensures fresh { IfOk result (IsFreshIf item.now) }
     ensures there { IfOk result (λ fresh. is_some fresh ≡ is_some cause.now) }

@@ -75,11 +75,7 @@ impl Record {
             (option_map inquiry_of (option_copied result)) }
     {
         let paused = is_paused(self.standing(settings, committed, number));
-        if paused {
-            asked(&self.program)
-        } else {
-            None
-        }
+        if paused { asked(&self.program) } else { None }
     }
 
     // The standing of an update that was not withdrawn, and whose attempt has not ended.
@@ -112,8 +108,8 @@ impl Record {
         !self.inbox.is_empty()
     }
 
-    // What is lacking at the question, if it is at one and something is.
-    fn lack(&self) -> Option<Lack>
+    /// What is lacking at the question, if it is at one and something is. It takes no memory.
+    pub fn lack(&self) -> Option<Lack>
         requires between { IsBetween self.now.program }
         ensures lack { HasLack self.now (option_map lack_of result) }
     {
@@ -153,7 +149,11 @@ fn unless_fits(question: &Question, next: Option<&Choice>) -> Option<Lack>
         (option_map choice_of (option_copied next.entry)) }
 {
     match next {
-        Some(choice) => if fits(question, choice) { None } else { Some(Lack::Misfit) },
+        Some(choice) => if fits(question, choice) {
+            None
+        } else {
+            Some(Lack::Misfit)
+        },
         None => Some(Lack::Missing),
     }
 }

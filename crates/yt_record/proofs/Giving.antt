@@ -13,7 +13,8 @@ use Rattle.yt_record.specs.declared.item.Item.TheVariants.{Opened, Entered, Gave
 use Rattle.yt_record.specs.Items.{ItemOf, Record, made, entries_in}
 use Rattle.yt_record.specs.Tickets.{Ticket, ticket_of, in_flight, without, with_step, using, tickets_after}
 use Rattle.yt_record.specs.Records.{Now, IsOpen, lowest_free, next_ticket, moved, after_items, opened_by, now_of, AllFollow, IsRecord}
-use Rattle.yt_record.specs.Stays.{AllSpare, IsOut}
+use Rattle.yt_stale.specs.Spares.{AllSpare}
+use Rattle.yt_record.specs.Stays.{IsOut}
 use Rattle.yt_record.specs.Given.{StandsFor, GivenLaw}
 use Rattle.yt_record.proofs.Follows.{follow_split, after_join, record_split, record_first, history_after, open_moved}
 use Rattle.yt_record.proofs.Lowest.{lowest_passes}

@@ -11,7 +11,8 @@ use Rattle.yt_record.specs.declared.item.Item.TheVariants.{Opened, Entered, Gave
 use Rattle.yt_record.specs.Items.{ItemOf, Record, entry_in, entries_in}
 use Rattle.yt_record.specs.Tickets.{Ticket, ticket_of, without, with_step, using, tickets_after}
 use Rattle.yt_record.specs.Records.{Now, IsOpen, moved, after_items, next_ticket, MayFollow, AllFollow}
-use Rattle.yt_record.specs.Stays.{AllSpare, IsOut}
+use Rattle.yt_stale.specs.Spares.{AllSpare}
+use Rattle.yt_record.specs.Stays.{IsOut}
 use Rattle.yt_record.specs.Apart.{AreApart, AreGiven}
 use Rattle.yt_record.specs.Held.{HeldLaw}
 use Rattle.yt_record.proofs.Follows.{record_split, record_first, open_moved}

@@ -11,7 +11,8 @@ use Rattle.yt_record.specs.declared.item.Item.TheVariants.{Opened, Entered, Gave
 use Rattle.yt_record.specs.Items.{ItemOf, Record, entry_in, entries_in}
 use Rattle.yt_record.specs.Tickets.{Ticket, ticket_of, without, with_step, using}
 use Rattle.yt_record.specs.Records.{Now, IsOpen, moved, after_items, MayFollow, AllFollow, next_ticket}
-use Rattle.yt_record.specs.Stays.{AllSpare, IsOut, StayLaw}
+use Rattle.yt_stale.specs.Spares.{AllSpare}
+use Rattle.yt_record.specs.Stays.{IsOut, StayLaw}
 use Rattle.yt_record.proofs.Follows.{record_split, open_moved, history_after}
 
 module _ (u : ℕ) (t : Ticket) where

@@ -7,7 +7,8 @@ use Rattle.yt_machine.specs.Histories.{IsLegal}
 use Rattle.yt_record.specs.Items.{Record}
 use Rattle.yt_record.specs.Tickets.{Ticket}
 use Rattle.yt_record.specs.Records.{Now, now_of, IsRecord}
-use Rattle.yt_record.specs.Stays.{AllSpare, IsOut}
+use Rattle.yt_stale.specs.Spares.{AllSpare}
+use Rattle.yt_record.specs.Stays.{IsOut}
 
 -- The ticket's stamp is the length of the history when it was given. The entries up to there left its update ready, and none of the later ones is a step or a withdrawal of it.
 pub record StandsFor (M : Machine) (n : Now M) (t : Ticket) : Type 0 where

@@ -3,3 +3,4 @@ pub mod Running
 pub mod Telling
 pub mod Limits
 pub mod Onward
+pub mod Leaving

@@ -23,12 +23,12 @@ use Rattle.yt_serial.specs.Turns.{turn_of, whole_rest}
 use Rattle.yt_serial.specs.Runs.{HasFinished, told_from, behind, told_at}
 
 -- What is at rest with no lack has ended.
-ends_there : (ms : List Rule) (B : ℕ) (r : Rest (caused_chase ms B)) (P : Attempt) → at_rest caused ms B r ≡ (P, None) → r ≡ Ends P
+pub ends_there : (ms : List Rule) (B : ℕ) (r : Rest (caused_chase ms B)) (P : Attempt) → at_rest caused ms B r ≡ (P, None) → r ≡ Ends P
 ends_there ms B (Ends Q) P e = ap Ends (ap (λ (x : Attempt × Option Lack). x.0) e)
 ends_there ms B (Stops Q l) P e = let never : Some l ≡ None = ap (λ (x : Attempt × Option Lack). x.1) e in cc
 
 -- What is at rest with a lack has stopped.
-stops_there : (ms : List Rule) (B : ℕ) (r : Rest (caused_chase ms B)) (P : Attempt) (l : Lack) → at_rest caused ms B r ≡ (P, Some l) → r ≡ Stops P l
+pub stops_there : (ms : List Rule) (B : ℕ) (r : Rest (caused_chase ms B)) (P : Attempt) (l : Lack) → at_rest caused ms B r ≡ (P, Some l) → r ≡ Stops P l
 stops_there ms B (Ends Q) P l e = let never : None ≡ Some l = ap (λ (x : Attempt × Option Lack). x.1) e in cc
 stops_there ms B (Stops Q k) P l e =
     let same : Q ≡ P = ap (λ (x : Attempt × Option Lack). x.0) e in

@@ -1,3 +1,4 @@
 pub mod Turns
 pub mod Meanings
 pub mod Runs
+pub mod Trails

@@ -14,8 +14,8 @@ use yt_base::{Memory, TryCopy};
 use yt_facts::IndexedFacts;
 use yt_program::{Finish, FinishList, Lack, Program, Stop, Want};
 
-// What is told of an update that has ended. It takes no memory.
-fn finish(program: &Program) -> Finish
+/// What is told of an update that has ended. It takes no memory.
+pub(crate) fn finish(program: &Program) -> Finish
     requires between { program.now.reading ≡ None }
     requires ended { is_some (outcome_in program.now.attempt.phase) ≡ true }
     ensures told { (n : ℕ) → map finish_in (finished n program.now.attempt) ≡

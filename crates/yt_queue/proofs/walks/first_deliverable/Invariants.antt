@@ -1,4 +1,4 @@
-use Rattle.std.proofs.Common.{◌≡◌, ℕ, ◌+◌, drop, Option}
+use Rattle.std.proofs.Common.{ℕ, ◌+◌, drop, Option}
 use Rattle.yt_queue.specs.Settings.{settings_of}
 use Rattle.yt_queue.specs.Queues.{AreFrom}
 use Rattle.yt_queue.specs.Walks.{IsFirstDeliverable}

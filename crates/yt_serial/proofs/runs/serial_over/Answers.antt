@@ -1,4 +1,4 @@
-use Rattle.std.proofs.Common.{◌≡◌, ◌∙◌, subst, map, Result, Ok, Err, IfOk}
+use Rattle.std.proofs.Common.{◌≡◌, ◌∙◌, map, Result, Ok, Err, IfOk}
 use Rattle.yt_grammar.specs.Checks.{rules_of}
 use Rattle.yt_session.specs.Meanings.{request_of, requests_in, session_of, update_of}
 use Rattle.yt_serial.specs.Runs.{told_from}

@@ -1,6 +1,5 @@
 use Rattle.std.proofs.Common.{◌∙◌, ap, List, map}
 use Rattle.std.proofs.Math.ListN.{drop_of_length-le}
-use Rattle.yt_base.specs.Meanings.{rule_of}
 use Rattle.yt_program.specs.Results.{finish_of}
 use Rattle.yt_session.specs.declared.sessions.SessionUpdate.{SessionUpdate}
 use Rattle.yt_session.specs.Meanings.{request_of, update_of}

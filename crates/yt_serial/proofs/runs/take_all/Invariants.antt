@@ -1,5 +1,4 @@
 use Rattle.std.proofs.Common.{◌≡◌, suc, drop, map}
-use Rattle.yt_base.specs.Meanings.{rule_of}
 use Rattle.yt_model.specs.Repository.{IsRepository}
 use Rattle.yt_program.specs.Results.{finish_of}
 use Rattle.yt_session.specs.Meanings.{request_of, update_of}

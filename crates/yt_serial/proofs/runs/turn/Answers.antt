@@ -1,6 +1,5 @@
 use Rattle.std.proofs.Common.{◌∙◌, ap, map, subst, sym}
 use Rattle.std.specs.Option.{option_map}
-use Rattle.yt_base.specs.Meanings.{rule_of}
 use Rattle.yt_machine.specs.Updates.{shown}
 use Rattle.yt_model.specs.Repository.{IsRepository}
 use Rattle.yt_model.proofs.Sets.{apply_in_order}

@@ -1,7 +1,6 @@
-use Rattle.std.proofs.Common.{◌∙◌, map, sym, subst}
+use Rattle.std.proofs.Common.{◌∙◌, sym, subst}
 use Rattle.yt_model.specs.Queries.{Query, Reply, value}
 use Rattle.yt_model.specs.Violations.{Caused}
-use Rattle.yt_base.specs.Meanings.{rule_of}
 use Rattle.yt_query.specs.Kinds.{IsOfKind}
 use Rattle.yt_query.specs.Meanings.{query_of, reply_of}
 use Rattle.yt_query.proofs.OfKind.{values_are_of_kind}

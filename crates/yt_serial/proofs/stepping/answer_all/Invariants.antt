@@ -1,8 +1,7 @@
-use Rattle.std.proofs.Common.{◌≡◌, map, length}
+use Rattle.std.proofs.Common.{◌≡◌, length}
 use Rattle.yt_machine.specs.Trees.{result_of, log_of}
 use Rattle.yt_model.specs.Queries.{value}
 use Rattle.yt_model.specs.Violations.{Caused}
-use Rattle.yt_base.specs.Meanings.{rule_of}
 use Rattle.yt_program.specs.Courses.{course}
 use Rattle.yt_serial.proofs.stepping.answer_all.Given as goal
 

@@ -1,7 +1,7 @@
-use Rattle.std.proofs.Common.{◌∙◌, ap, map, refl}
+use Rattle.std.proofs.Common.{◌∙◌, ap, refl}
 use Rattle.std.proofs.lemmas.Result.{on_ok_weaker}
 use Rattle.std.specs.Option.{option_map, option_copied}
-use Rattle.yt_base.specs.Meanings.{choice_of, rule_of}
+use Rattle.yt_base.specs.Meanings.{choice_of}
 use Rattle.yt_program.specs.Courses.{between, course}
 use Rattle.yt_serial.proofs.Answered.{stepped_is}
 use Rattle.yt_serial.proofs.stepping.make.Goals as goal

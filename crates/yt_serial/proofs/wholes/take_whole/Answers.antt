@@ -4,7 +4,7 @@ use Rattle.yt_model.specs.Updates.{direction_of}
 use Rattle.yt_program.specs.Courses.{between, State}
 use Rattle.yt_eval.specs.Watched.{Watched}
 use Rattle.std.specs.Option.{option_map, option_copied}
-use Rattle.yt_base.specs.Meanings.{choice_of, rule_of}
+use Rattle.yt_base.specs.Meanings.{choice_of}
 use Rattle.yt_session.specs.Meanings.{update_of, request_of}
 use Rattle.yt_program.specs.Results.{lack_of}
 use Rattle.yt_serial.specs.Turns.{stepped, turn_of, whole_rest}

@@ -1,5 +1,5 @@
 use Rattle.std.proofs.Common.{◌≡◌, ◌-◌, ◌<◌, false, None, is_some, map}
-use Rattle.yt_base.specs.Meanings.{choice_of, rule_of}
+use Rattle.yt_base.specs.Meanings.{choice_of}
 use Rattle.yt_model.specs.Updates.{direction_of}
 use Rattle.yt_session.specs.Meanings.{update_of, request_of}
 use Rattle.yt_steps.specs.Attempts.{outcome_in}

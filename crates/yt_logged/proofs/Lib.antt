@@ -1,0 +1,4 @@
+mod Openings
+mod Writes
+mod Runs
+mod Recovering

@@ -1,0 +1,36 @@
+//! The repository that the committed updates left.
+ghost use Rattle.std.specs.Prelude.{◌≡◌, suc, IfOk};
+ghost use Rattle.yt_base.specs.Contents.{facts_of};
+ghost use Rattle.yt_told.specs.Told.{AreAnswered};
+ghost use Rattle.yt_versions.specs.Standing.{seen};
+
+use std::alloc::Global;
+use yt_base::{Memory, TupleList};
+use yt_versions::Versions;
+
+// The relation of the tuples that say which mappings are in force.
+const FORCE_RELATION: u16 = 65535;
+
+/// What the update of this number sees, in order and by outer forms. It is refused only for want of memory.
+pub(crate) fn repository(
+    alloc: Global,
+    versions: &Versions,
+    number: u32,
+) -> Result<TupleList, Memory>
+    ensures told { IfOk result (AreAnswered (seen number versions.now)) }
+{
+    outer_forms(alloc, versions.below(number).list(alloc)?)
+}
+
+// The outer forms of the tuples but for those that say which mappings are in force.
+fn outer_forms(alloc: Global, tuples: TupleList) -> Result<TupleList, Memory>
+    ensures told { IfOk result (AreAnswered (facts_of tuples)) }
+{
+    let mut forms = TupleList::new(alloc);
+    for tuple in tuples.into_vec() {
+        if tuple.relation != FORCE_RELATION {
+            forms.push(tuple.outer(alloc)?)?;
+        }
+    }
+    Ok(forms)
+}
