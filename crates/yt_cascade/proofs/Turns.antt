@@ -69,9 +69,9 @@ module _ (a : Above) (conflicting : Bool) (B : ℕ) where
       let us = updates_of a.rules B rs in
       let e : number_of r ≡ n = t.from.0.number in
       let is : found_of a.rules B x ≡ cause_of (caused_chase a.rules B) a.deps conflicting a.committed a.update (seen n a.whole) (seen n lost.without) (members_of a.rules B lost.members.items) n u =
-          subst (λ k. found_of a.rules B x ≡ cause_of (caused_chase a.rules B) a.deps conflicting a.committed a.update (seen k a.whole) (seen k lost.without) (members_of a.rules B lost.members.items) k u) e (cause B) in
+      subst (λ k. found_of a.rules B x ≡ cause_of (caused_chase a.rules B) a.deps conflicting a.committed a.update (seen k a.whole) (seen k lost.without) (members_of a.rules B lost.members.items) k u) e (cause B) in
       let after : LeavesLost a.rules B (is_some x) n u us lost left =
-          subst (λ k. LeavesLost a.rules B (is_some x) k u us lost left) e (loses a.rules B us (subst (λ k. HoldFrom a.rules B k (u ∷ us) lost.without) (sym e) t.without)) in
+      subst (λ k. LeavesLost a.rules B (is_some x) k u us lost left) e (loses a.rules B us (subst (λ k. HoldFrom a.rules B k (u ∷ us) lost.without) (sym e) t.without)) in
       record {
         number = suc n;
         from = t.from.1;
@@ -105,7 +105,7 @@ of_writes a lost rs xs w k f B D lower v e h =
     let t = trails_held a.rules B D lower (v ∷ us) a.whole h in
     let whole : HoldFrom a.rules B (suc a.update) us a.whole = subst (λ n. HoldFrom a.rules B (suc n) us a.whole) (sym e) (hold_next a.rules B (suc (length lower)) v us a.whole t.held) in
     let below : seen (suc a.update) a.whole ≡ apply (laid a.rules B D lower) (trail (caused_chase a.rules B) v) =
-        ap (λ n. seen (suc n) a.whole) e ∙ below_next a.rules B (suc (length lower)) v us a.whole t.held ∙ ap (λ E. apply E (trail (caused_chase a.rules B) v)) t.below in
+    ap (λ n. seen (suc n) a.whole) e ∙ below_next a.rules B (suc (length lower)) v us a.whole t.held ∙ ap (λ E. apply E (trail (caused_chase a.rules B) v)) t.below in
     f B whole (subst (HoldFrom a.rules B (suc a.update) us) (sym w) whole)
     ∙ (λ i. settle (caused_chase a.rules B) a.deps true a.committed a.update (below i) ((ap (seen (suc a.update)) w ∙ below) i) (members_of a.rules B (k i)) (suc a.update) us)
 

@@ -43,14 +43,15 @@ first_changed_in ms v r =
 abbrev pub first_invalid : List Rule → Kept → Record → Option Numbered
 first_invalid ms v r = option_map (λ c. record { number = c.number; read = c.read }) (first_changed_in ms v r)
 
--- The first that mentions a relation of one of the trails.
-abbrev pub first_mentioning : List Rule → List (List Change) → Record → Option Numbered
-first_mentioning ms trails r = first_from (any_reached ms trails) 1 (map read_of r.log.items)
+-- The first of these reads that mentions a relation which one of the members wrote.
+abbrev pub first_reached : List Rule → List Member → List Read → Option Numbered
+first_reached ms ks rs = first_from (any_reached ms (trails_of ks)) 1 rs
 
 -- The first that depends on what is lost.
 abbrev pub first_by : Deps → List Rule → Lost → Record → Option Numbered
 first_by Precise ms lost r = first_invalid ms lost.without r
-first_by Coarse ms lost r = first_mentioning ms (trails_of lost.members.items) r
+first_by Coarse ms lost r = first_reached ms lost.members.items (map read_of r.log.items)
 
+-- By the test of the walk.
 abbrev pub first_dependent : Above → Lost → Record → Option Numbered
 first_dependent a lost r = first_by a.deps a.rules lost r

@@ -21,7 +21,8 @@ impl<'a> Cascade<'a> {
         lost: &Lost<'_>,
         reader: &Record,
     ) -> Result<Option<Cause>, Memory>
-        ensures cause { IfOk result (IsCauseFor (above_of self.now) conflicting lost.now reader.now) }
+        ensures cause { IfOk result
+            (IsCauseFor (above_of self.now) conflicting lost.now reader.now) }
     {
         if !self.may_have_cause(reader) {
             return Ok(None);
@@ -50,7 +51,8 @@ impl<'a> Cascade<'a> {
         conflicting: bool,
         reader: &Record,
     ) -> Result<Option<Cause>, Memory>
-        ensures conflict { IfOk result (IsConflictWhere conflicting (above_of self.now) reader.now) }
+        ensures conflict { IfOk result
+            (IsConflictWhere conflicting (above_of self.now) reader.now) }
     {
         if !conflicting {
             return Ok(None);
@@ -99,7 +101,8 @@ impl<'a> Cascade<'a> {
         lost: &Lost<'_>,
         reader: &Record,
     ) -> Result<Option<Cause>, Memory>
-        ensures dependence { IfOk result (IsDependenceFor (above_of self.now) lost.now reader.now) }
+        ensures dependence { IfOk result
+            (IsDependenceFor (above_of self.now) lost.now reader.now) }
     {
         if lost.members.is_empty() {
             return Ok(None);

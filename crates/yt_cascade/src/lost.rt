@@ -1,12 +1,12 @@
 //! What is lost below an update: the trails of the updates that are restarted.
 ghost use Rattle.std.specs.Prelude.{◌≡◌, [], map, IfOk, OnOk};
 ghost use Rattle.std.specs.Option.{option_map};
-ghost use Rattle.yt_base.specs.Meanings.{change_of, rule_of};
+ghost use Rattle.yt_base.specs.Contents.{rules_in};
+ghost use Rattle.yt_base.specs.Meanings.{change_of};
 ghost use Rattle.yt_queue.specs.Programs.{IsBetween};
 ghost use Rattle.yt_query.specs.Meanings.{read_of};
-ghost use Rattle.yt_conflict.specs.Changes.{first_from};
 ghost use Rattle.yt_steps.specs.Chase.{relation_of};
-ghost use Rattle.yt_cascade.specs.Reached.{is_reached, any_reached, least_writer, numbered_of};
+ghost use Rattle.yt_cascade.specs.Reached.{is_reached, any_reached, least_writer, numbered_of, first_reached as first_reached_lem};
 ghost use Rattle.yt_cascade.specs.Meanings.{trails_of};
 ghost use Rattle.yt_cascade.specs.Walks.{Loses, LosesWhere};
 
@@ -81,7 +81,7 @@ impl<'r> Lost<'r> {
         log: &'l [LoggedRead],
     ) -> Option<Numbered<'l>>
         ensures first { option_map numbered_of result ≡
-            first_from (any_reached (map rule_of mappings.now.items) (trails_of self.now.members.items)) 1 (map read_of log.now) }
+            first_reached_lem (rules_in mappings.now) self.now.members.items (map read_of log.now) }
     {
         let mut number = 0;
         for read in log {
@@ -96,7 +96,7 @@ impl<'r> Lost<'r> {
     /// The least update of which a lost write is of a relation that the read mentions; 0, which is no update, where none is.
     pub(crate) fn writer_for(&self, mappings: &MappingList, read: &LoggedRead) -> u32
         ensures writer { result ≡
-            least_writer (map rule_of mappings.now.items) (read_of read.now) self.now.members.items }
+            least_writer (rules_in mappings.now) (read_of read.now) self.now.members.items }
     {
         for member in &self.members {
             if reaches(member.trail, mappings, read) {
@@ -109,7 +109,8 @@ impl<'r> Lost<'r> {
 
 // Whether the read mentions a relation that one of the members wrote.
 fn reaches_any(members: &[Member<'_>], mappings: &MappingList, read: &LoggedRead) -> bool
-    ensures { result ≡ any_reached (map rule_of mappings.now.items) (trails_of members.now) (read_of read.now) }
+    ensures { result ≡
+        any_reached (rules_in mappings.now) (trails_of members.now) (read_of read.now) }
 {
     members
         .iter()
@@ -118,11 +119,10 @@ fn reaches_any(members: &[Member<'_>], mappings: &MappingList, read: &LoggedRead
 
 // Whether the read mentions a relation of which one of the writes is.
 fn reaches(trail: &[Write], mappings: &MappingList, read: &LoggedRead) -> bool
-    ensures { result ≡ is_reached (map rule_of mappings.now.items) (read_of read.now) (map change_of trail.now) }
+    ensures { result ≡
+        is_reached (rules_in mappings.now) (read_of read.now) (map change_of trail.now) }
 {
-    trail
-        .iter()
-        .any(|write| mentions(&read.query, mappings, written_relation(write)))
+    trail.iter().any(|write| mentions(&read.query, mappings, written_relation(write)))
 }
 
 // The relation of the write.

@@ -140,7 +140,7 @@ kept_same g v rs rs' H same long k =
       budget = k.budget;
       retries = k.retries;
       within = k.within;
-      few = subst (λ (n : ℕ). n < 2 ^ 32) (sym long) k.few;
+      few = subst (λ (n : ℕ). n < 2 ^ 32 - 1) (sym long) k.few;
     }
 
 -- A step from such records is one from these.
@@ -196,7 +196,7 @@ delivers_by s k rs r r' es es' e l spot made place told grew ms v B D requests l
         ap (entry_kept ms B) (told ms B r' (set_there rs k r' l)) ∙ (λ i. Delivered (suc k) (standing (caused_chase ms B) s (committed (caused_chase ms B) (us' i)) (suc k) (made ms B i))) in
     follows g (map entry_of es) (map entry_of es') rs (set rs k r') v v (Delivers (suc k)) x (entry_of e) kept
     (allowed_delivery (caused_chase ms B) s (session_over g) us k u at_us yes) us' (put_there rs 1 k r r' kept.numbers l spot place)
-    (subst (λ (n : ℕ). n < 2 ^ 32) (sym (set_long rs k r')) kept.few)
+    (subst (λ (n : ℕ). n < 2 ^ 32 - 1) (sym (set_long rs k r')) kept.few)
     (subst (λ (ts : ℕ → List Change). StandFor v D ts) (λ i n. same_trails (trail (caused_chase ms B)) (take k us) u w (drop (suc k) us) refl n i)
     (subst (λ (ws : List (Update (caused_chase ms B))). HaveTrails ms B D ws v) (sym (cut_at us k u at_us)) kept.versions))
     (ap (plain_entry ms B) (sym entry) ∙ entry_back ms B (entry_of e))

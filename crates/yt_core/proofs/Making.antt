@@ -3,7 +3,7 @@ use Rattle.std.proofs.Common.{◌≡◌, ◌∙◌, ap, refl, sym, subst, ℕ, z
 use Rattle.std.specs.Prelude.{option_map, unwrap_or, slice_get}
 use Rattle.std.proofs.lemmas.Option.{same_Some, none-some, slice_get-map}
 use Rattle.yt_base.specs.Listed.{Listed}
-use Rattle.yt_base.specs.Meanings.{fact_of}
+use Rattle.yt_base.specs.Meanings.{fact_of, choice_of}
 use Rattle.yt_base.specs.declared.tuples.Tuple.{Tuple}
 use Rattle.yt_entries.specs.Meanings.{entry_of}
 use Rattle.yt_entries.specs.declared.entries.Entry.{Entry}
@@ -15,7 +15,7 @@ use Rattle.yt_limits.specs.Within.{AreWithin}
 use Rattle.yt_machine.specs.Effects.{Steps, Delivers}
 use Rattle.yt_machine.specs.History.{IsHistory}
 use Rattle.yt_machine.specs.Histories.{event_of}
-use Rattle.yt_machine.specs.Standings.{Standing, Ready, Paused, Missing, standing, is_ready, is_pending, is_deliverable, is_nil}
+use Rattle.yt_machine.specs.Standings.{Standing, Ready, Paused, Missing, standing, is_ready, is_pending, is_deliverable, is_nil, next_answer}
 use Rattle.yt_machine.specs.Updates.{Settings, Submission, Update, committed, below}
 use Rattle.yt_machine.proofs.Serials.{counted}
 use Rattle.yt_machine.proofs.Standing.{ready_parts}
@@ -25,7 +25,10 @@ use Rattle.yt_model.specs.Repository.{IsRepository}
 use Rattle.yt_model.specs.Updates.{Operation}
 use Rattle.yt_model.specs.Values.{Fact}
 use Rattle.yt_model.specs.Updates.{Choice}
-use Rattle.yt_plan.specs.Planned.{at_rest, next_attempt, next_reads}
+use Rattle.yt_plan.specs.Planned.{at_rest, WantsStep, next_attempt, next_reads}
+use Rattle.yt_program.specs.Wishes.{wish}
+use Rattle.yt_queue.specs.Programs.{HasNext}
+use Rattle.yt_queue.specs.Wants.{WantsNext}
 use Rattle.yt_plan.specs.declared.plans.Plan.{Plan}
 use Rattle.yt_query.specs.Meanings.{Read}
 use Rattle.yt_steps.specs.Attempts.{Attempt}
@@ -86,7 +89,7 @@ step_left g v rs H i c n r k spot ready =
 
 -- ---- numbers
 
-module _ (g : Ground) (v : Kept) (rs : List Record) (H : List PlainEntry) (s : State) (kept : IsKept g v rs H) (same : record { ground = g; history = H } ≡ s) (n : ℕ) (st : Standing) (stands : standing_at s n ≡ Some st) where
+module _ (g : Ground) (v : Kept) (rs : List Record) (H : List PlainEntry) (s : State) (kept : IsKept g v rs H) (same : record { over = g; history = H } ≡ s) (n : ℕ) (st : Standing) (stands : standing_at s n ≡ Some st) where
   stands_here : option_map (standing (machine g) g.settings (committed (machine g) (updates_of g.rules g.budget rs)) n) (numbered_at (updates_of g.rules g.budget rs) n) ≡ Some st
   stands_here =
       sym (ap (λ (us : List (Update (machine g))). option_map (standing (machine g) g.settings (committed (machine g) us) n) (numbered_at us n)) kept.left.leaves)
@@ -120,7 +123,7 @@ module _ (g : Ground) (v : Kept) (rs : List Record) (H : List PlainEntry) (s : S
 
 -- ---- ready updates
 
-module _ (g : Ground) (v : Kept) (rs : List Record) (H : List PlainEntry) (s : State) (kept : IsKept g v rs H) (same : record { ground = g; history = H } ≡ s) (n : ℕ) (stands : standing_at s n ≡ Some Ready) (i : ℕ) (e : suc i ≡ n) (qs : List Record) (slice : qs ≡ rs) where
+module _ (g : Ground) (v : Kept) (rs : List Record) (H : List PlainEntry) (s : State) (kept : IsKept g v rs H) (same : record { over = g; history = H } ≡ s) (n : ℕ) (stands : standing_at s n ≡ Some Ready) (i : ℕ) (e : suc i ≡ n) (qs : List Record) (slice : qs ≡ rs) where
   pub ready_within : i < length qs
   ready_within = subst (λ (xs : List Record). i < length xs) (sym slice) (placed_within g v rs H s kept same n Ready stands i (sym e))
 
@@ -146,7 +149,7 @@ module _ (g : Ground) (v : Kept) (rs : List Record) (H : List PlainEntry) (s : S
 
 -- ---- plans
 
-planned_placed : (g : Ground) (v : Kept) (rs : List Record) (H : List PlainEntry) (s : State) (i : ℕ) (p : PlanMeant) → IsKept g v rs H → record { ground = g; history = H } ≡ s → p.update ≡ suc i → IsStepAt s p
+planned_placed : (g : Ground) (v : Kept) (rs : List Record) (H : List PlainEntry) (s : State) (i : ℕ) (p : PlanMeant) → IsKept g v rs H → record { over = g; history = H } ≡ s → p.update ≡ suc i → IsStepAt s p
     → IsStepAmong g.rules g.budget g.base (updates_of g.rules g.budget rs) (suc i) p
 planned_placed g v rs H s i p kept same e is =
     subst (λ (m : ℕ). IsStepAmong g.rules g.budget g.base (updates_of g.rules g.budget rs) m p) e
@@ -154,7 +157,7 @@ planned_placed g v rs H s i p kept same e is =
     (subst (λ (t : State). IsStepAt t p) (sym same) is))
 
 -- A plan of its step is one at the place.
-pub plan_placed : (g : Ground) (v : Kept) (rs : List Record) (H : List PlainEntry) (s : State) (i : ℕ) (r : Record) (plan : Plan) → IsKept g v rs H → record { ground = g; history = H } ≡ s → slice_get rs i ≡ Some r
+pub plan_placed : (g : Ground) (v : Kept) (rs : List Record) (H : List PlainEntry) (s : State) (i : ℕ) (r : Record) (plan : Plan) → IsKept g v rs H → record { over = g; history = H } ≡ s → slice_get rs i ≡ Some r
     → IsStepAt s (meant_of (suc i) plan) → IsPlanAt i plan rs
 plan_placed g v rs H s i r plan kept same spot is =
     let us : List (Update (machine g)) = updates_of g.rules g.budget rs in
@@ -165,24 +168,24 @@ plan_placed g v rs H s i r plan kept same spot is =
     (record { rules = g.rules; budget = g.budget; below = below (machine g) g.base us i; planned = record { program = step.program; reads = step.reads } })
 
 -- A snapshot of the record is the step of its update.
-pub snapshot_is : (g : Ground) (v : Kept) (rs : List Record) (H : List PlainEntry) (s : State) (i : ℕ) (r : Record) (p : PlanMeant) → IsKept g v rs H → record { ground = g; history = H } ≡ s → slice_get rs i ≡ Some r
+pub snapshot_is : (g : Ground) (v : Kept) (rs : List Record) (H : List PlainEntry) (s : State) (i : ℕ) (r : Record) (p : PlanMeant) → IsKept g v rs H → record { over = g; history = H } ≡ s → slice_get rs i ≡ Some r
     → IsSnapshotOf g.rules g.budget v r p → IsStepAt s p
 snapshot_is g v rs H s i r p kept same spot is =
     let us : List (Update (machine g)) = updates_of g.rules g.budget rs in
     let number : r.program.attempt.number ≡ suc i = (let one : 1 + i ≡ suc i = omega arith in (stands_at rs 1 i r kept.numbers spot).number ∙ one) in
     let found : slice_get us i ≡ Some (update_of g.rules g.budget r) = slice_get-map (update_of g.rules g.budget) rs i ∙ ap (option_map (update_of g.rules g.budget)) spot in
     let sees : seen r.program.attempt.number v ≡ below (machine g) g.base us i = ap (λ m. seen m v) number ∙ below_is_seen caused g.rules g.budget v g.base us kept.sorted kept.versions i in
-    let over : IsStepOver g.rules g.budget (below (machine g) g.base us i) (update_of g.rules g.budget r) p =
+    let here : IsStepOver g.rules g.budget (below (machine g) g.base us i) (update_of g.rules g.budget r) p =
         subst (λ (D : List Fact). IsStepOver g.rules g.budget D (update_of g.rules g.budget r) p) sees (record { program = is.program; reads = is.reads }) in
     let among : IsStepAmong g.rules g.budget g.base us (suc i) p =
-        subst (λ (o : Option (Update (machine g))). IsSomeThat (λ u. IsStepOver g.rules g.budget (below (machine g) g.base us i) u p) o) (sym found) over in
+        subst (λ (o : Option (Update (machine g))). IsSomeThat (λ u. IsStepOver g.rules g.budget (below (machine g) g.base us i) u p) o) (sym found) here in
     subst (λ (t : State). IsStepAt t p) same
     (subst (λ (ws : List (Update (machine g))). IsStepAmong g.rules g.budget g.base ws p.update p) (sym kept.left.leaves)
     (subst (λ (m : ℕ). IsStepAmong g.rules g.budget g.base us m p) (sym (is.update ∙ number)) among))
 
 -- ---- what calls made
 
-pub step_made : (g : Ground) (v v' : Kept) (rs rs' : List Record) (es es' : List Entry) (old new : State) (i n : ℕ) (plan : Plan) → IsKept g v rs (map entry_of es) → record { ground = g; history = map entry_of es } ≡ old
+pub step_made : (g : Ground) (v v' : Kept) (rs rs' : List Record) (es es' : List Entry) (old new : State) (i n : ℕ) (plan : Plan) → IsKept g v rs (map entry_of es) → record { over = g; history = map entry_of es } ≡ old
     → n ≡ suc i → standing_at old n ≡ Some Ready → IsStepAt old (meant_of n plan) → StepsTo g.rules g.settings i plan v rs es v' rs' es' → Follows g (Steps n) (map entry_of es) v' rs' (map entry_of es')
 step_made g v v' rs rs' es es' old new i n plan kept same e ready is steps =
     let made : Follows g (Steps (suc i)) (map entry_of es) v' rs' (map entry_of es') =
@@ -190,15 +193,15 @@ step_made g v v' rs rs' es es' old new i n plan kept same e ready is steps =
         (planned_placed g v rs (map entry_of es) old i (meant_of (suc i) plan) kept same refl (subst (λ (m : ℕ). IsStepAt old (meant_of m plan)) e is)) in
     subst (λ (m : ℕ). Follows g (Steps m) (map entry_of es) v' rs' (map entry_of es')) (sym e) made
 
-pub has_stepped : (g : Ground) (v : Kept) (rs : List Record) (H H' : List PlainEntry) (old new : State) (n : ℕ) → record { ground = g; history = H } ≡ old → record { ground = g; history = H' } ≡ new
+pub has_stepped : (g : Ground) (v : Kept) (rs : List Record) (H H' : List PlainEntry) (old new : State) (n : ℕ) → record { over = g; history = H } ≡ old → record { over = g; history = H' } ≡ new
     → Follows g (Steps n) H v rs H' → HasMade old (Steps n) new
 has_stepped g v rs H H' old new n a b f =
-    subst (λ (o : State). HasMade o (Steps n) new) a (subst (λ (w : State). HasMade (record { ground = g; history = H }) (Steps n) w) b (record { grows = f.grows; ground = refl }))
+    subst (λ (o : State). HasMade o (Steps n) new) a (subst (λ (w : State). HasMade (record { over = g; history = H }) (Steps n) w) b (record { grows = f.grows; over = refl }))
 
-pub has_delivered : (g : Ground) (v : Kept) (rs : List Record) (H H' : List PlainEntry) (old new : State) (n : ℕ) → record { ground = g; history = H } ≡ old → record { ground = g; history = H' } ≡ new
+pub has_delivered : (g : Ground) (v : Kept) (rs : List Record) (H H' : List PlainEntry) (old new : State) (n : ℕ) → record { over = g; history = H } ≡ old → record { over = g; history = H' } ≡ new
     → Follows g (Delivers n) H v rs H' → HasMade old (Delivers n) new
 has_delivered g v rs H H' old new n a b f =
-    subst (λ (o : State). HasMade o (Delivers n) new) a (subst (λ (w : State). HasMade (record { ground = g; history = H }) (Delivers n) w) b (record { grows = f.grows; ground = refl }))
+    subst (λ (o : State). HasMade o (Delivers n) new) a (subst (λ (w : State). HasMade (record { over = g; history = H }) (Delivers n) w) b (record { grows = f.grows; over = refl }))
 
 -- ---- the opening
 
@@ -232,7 +235,7 @@ record_placed [] i l = absurd (omega (arith, l))
 record_placed (r ∷ rs) zero l = (r, refl)
 record_placed (r ∷ rs) (suc i) l = record_placed rs i (omega (arith, l))
 
-module _ (g : Ground) (v : Kept) (rs : List Record) (H : List PlainEntry) (s : State) (kept : IsKept g v rs H) (same : record { ground = g; history = H } ≡ s) (n : ℕ) (stands : standing_at s n ≡ Some Ready) (i : ℕ) (e : suc i ≡ n) (qs : List Record) (slice : qs ≡ rs)
+module _ (g : Ground) (v : Kept) (rs : List Record) (H : List PlainEntry) (s : State) (kept : IsKept g v rs H) (same : record { over = g; history = H } ≡ s) (n : ℕ) (stands : standing_at s n ≡ Some Ready) (i : ℕ) (e : suc i ≡ n) (qs : List Record) (slice : qs ≡ rs)
   (ms : List Rule) (rules : ms ≡ g.rules) (p : PlanMeant) (taken : AtPlace i qs (λ r. IsSnapshotOf ms g.budget v r p)) where
   taken_there : (r : Record) × (slice_get rs i ≡ Some r) × IsSnapshotOf g.rules g.budget v r p
   taken_there =
@@ -259,10 +262,10 @@ opened_by ms B c base us ts xs v rs es some retries within' sorted few tuples up
 
 pub opened_is : (s : SessionData) (ms : List Rule) (B : ℕ) (c : Settings) (base : Listed Tuple) (us : Listed SessionUpdate) (xs : List SessionUpdate) (es : List Entry) → ms ≡ rules_of s.mappings → xs ≡ us.items
     → map entry_of es ≡ admissions_from 1 (length xs) → s.base ≡ map fact_of base.items → requests_in s ≡ map request_of (map session_update_of us.items)
-    → record { ground = ground_by ms B c base us; history = map entry_of es } ≡ opened s B c (length us.items)
+    → record { over = ground_by ms B c base us; history = map entry_of es } ≡ opened s B c (length us.items)
 opened_is s ms B c base us xs es rules updates entries tuples requests =
     λ i. record {
-      ground = record { rules = rules i; budget = B; settings = c; base = sym tuples i; requests = sym requests i; later = [] };
+      over = record { rules = rules i; budget = B; settings = c; base = sym tuples i; requests = sym requests i; later = [] };
       history = (entries ∙ ap (λ ys. admissions_from 1 (length ys)) updates) i;
     }
 
@@ -278,7 +281,10 @@ some_number s n st h = some_at s n n st refl h
 
 -- ---- a step of a core
 
-module _ (g : Ground) (v : Kept) (rs : List Record) (es : List Entry) (s : State) (kept : IsKept g v rs (map entry_of es)) (same : record { ground = g; history = map entry_of es } ≡ s) (n : ℕ) (stands : standing_at s n ≡ Some Ready) (i : ℕ) (e : suc i ≡ n) (qs : List Record) (slice : qs ≡ rs)
+reading_of : (p q : ProgramState) → p ≡ q → p.reading ≡ q.reading
+reading_of p q e = ap (λ (t : ProgramState). t.reading) e
+
+module _ (g : Ground) (v : Kept) (rs : List Record) (es : List Entry) (s : State) (kept : IsKept g v rs (map entry_of es)) (same : record { over = g; history = map entry_of es } ≡ s) (n : ℕ) (stands : standing_at s n ≡ Some Ready) (i : ℕ) (e : suc i ≡ n) (qs : List Record) (slice : qs ≡ rs)
   (plan : Plan) (p : PlanMeant) (meant : meant_of n plan ≡ p) (is : IsStepAt s p) where
   step_here : IsStepAt s (meant_of (suc i) plan)
   step_here = subst (λ (m : ℕ). IsStepAt s (meant_of m plan)) (sym e) (subst (λ (q : PlanMeant). IsStepAt s q) (sym meant) is)
@@ -292,7 +298,7 @@ module _ (g : Ground) (v : Kept) (rs : List Record) (es : List Entry) (s : State
   plan_between =
       let x = record_placed qs i (subst (λ (xs : List Record). i < length xs) (sym slice) (placed_within g v rs (map entry_of es) s kept same n Ready stands i (sym e))) in
       let f : IsPlanFor x.0 plan = subst (λ (o : Option Record). IsSomeThat (λ (q : Record). IsPlanFor q plan) o) x.1 plan_ready in
-      ap (λ (t : ProgramState). t.reading) f.planned.program
+      reading_of plan.program (at_rest (next_attempt f.rules f.budget f.below x.0.program.attempt (next_answer (caused_chase f.rules f.budget) (map choice_of x.0.answers.items) x.0.program.attempt))) f.planned.program
 
   pub core_steps : (v' : Kept) (qs' : List Record) (es' : List Entry) → StepsTo g.rules g.settings i plan v qs es v' qs' es' → Follows g (Steps n) (map entry_of es) v' qs' (map entry_of es')
   core_steps v' qs' es' steps =
@@ -330,7 +336,7 @@ deliverable_if M s c n None e w = absurd (none-some (Paused Missing) e)
 deliverable_if M s c n (Some u) e w =
     ap (λ b. Some b) (both_true (is_pending (standing M s c n u)) (not (is_nil u.inbox)) (ap is_pending (same_Some (standing M s c n u) (Paused Missing) e)) w)
 
-module _ (g : Ground) (v : Kept) (rs : List Record) (es : List Entry) (s : State) (kept : IsKept g v rs (map entry_of es)) (same : record { ground = g; history = map entry_of es } ≡ s) (n : ℕ) (stands : standing_at s n ≡ Some (Paused Missing)) (i : ℕ) (e : suc i ≡ n) (qs : List Record) (slice : qs ≡ rs) where
+module _ (g : Ground) (v : Kept) (rs : List Record) (es : List Entry) (s : State) (kept : IsKept g v rs (map entry_of es)) (same : record { over = g; history = map entry_of es } ≡ s) (n : ℕ) (stands : standing_at s n ≡ Some (Paused Missing)) (i : ℕ) (e : suc i ≡ n) (qs : List Record) (slice : qs ≡ rs) where
   pub pending_within : i < length qs
   pending_within = subst (λ (xs : List Record). i < length xs) (sym slice) (placed_within g v rs (map entry_of es) s kept same n (Paused Missing) stands i (sym e))
 
@@ -356,3 +362,17 @@ pub planned_same : (ms : List Rule) (B : ℕ) (D D' : List Fact) (P : Attempt) (
     → ◌≡◌ {A = PlanMeant} (record { update = n; program = program; reads = reads }) (record { update = n; program = at_rest (next_attempt ms B D' P a'); reads = next_reads ms D' P a' })
 planned_same ms B D D' P a a' n program reads d e p q =
     (λ i. record { update = n; program = p i; reads = q i }) ∙ (λ i. record { update = n; program = at_rest (next_attempt ms B (d i) P (e i)); reads = next_reads ms (d i) P (e i) })
+
+pub can_step : (r : Record) (program : ProgramState) (a : Option Choice) → IsReadySomewhere r → WantsNext r a → program ≡ r.program → WantsStep (wish program) a
+can_step r program a f wants e = subst (λ (p : ProgramState). WantsStep (wish p) a) (sym e) (wants f.rules f.budget f.settings f.committed f.number f.ready)
+
+pub steps_left : (r : Record) (program : ProgramState) (B : ℕ) → program ≡ r.program → r.program.attempt.steps < B → program.attempt.steps < B
+steps_left r program B e l = subst (λ (p : ProgramState). p.attempt.steps < B) (sym e) l
+
+pub snapshot_taken : (ms ks : List Rule) (B : ℕ) (v w : Kept) (r : Record) (n : ℕ) (program : ProgramState) (a : Option Choice) → ks ≡ ms → w ≡ v → n ≡ r.program.attempt.number → program ≡ r.program → HasNext r a
+    → IsSnapshotOf ms B v r (record { update = n; program = at_rest (next_attempt ks B (seen n w) program.attempt a); reads = next_reads ks (seen n w) program.attempt a })
+snapshot_taken ms ks B v w r n program a rules versions number same next = record {
+  update = number;
+  program = λ i. at_rest (next_attempt (rules i) B (seen (number i) (versions i)) (same i).attempt (next ms B i));
+  reads = λ i. next_reads (rules i) (seen (number i) (versions i)) (same i).attempt (next ms B i);
+}

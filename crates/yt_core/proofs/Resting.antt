@@ -55,45 +55,45 @@ pending_is Withdrawn h = let never : false ≡ true = h in cc
 -- The lowest ready update stands ready.
 pub ready_stands : (s : State) (i : ℕ) → lowest_ready_at s ≡ Some i → standing_at s i ≡ Some Ready
 ready_stands s i h =
-    let M = machine s.ground in
+    let M = machine s.over in
     let us = updates_at s in
     let c = committed_at s in
-    let r : Passes M (λ n u. is_ready (standing M s.ground.settings c n u)) 1 us i = lowest_passes M (λ n u. is_ready (standing M s.ground.settings c n u)) 1 us i h in
+    let r : Passes M (λ n u. is_ready (standing M s.over.settings c n u)) 1 us i = lowest_passes M (λ n u. is_ready (standing M s.over.settings c n u)) 1 us i h in
     let number : i ≡ suc r.place = omega (arith, r.number) in
-    ap (λ (o : Option (Update M)). option_map (standing M s.ground.settings c i) o) (ap (numbered_at us) number ∙ r.there)
-    ∙ ap Some (ready_is (standing M s.ground.settings c i r.update) r.passes)
+    ap (λ (o : Option (Update M)). option_map (standing M s.over.settings c i) o) (ap (numbered_at us) number ∙ r.there)
+    ∙ ap Some (ready_is (standing M s.over.settings c i r.update) r.passes)
 
 -- The lowest to which an answer can be delivered is pending, and one waits for it.
 pub deliverable_stands : (s : State) (i : ℕ) → lowest_deliverable_at s ≡ Some i → (standing_at s i ≡ Some (Paused Missing)) × (has_waiting s i ≡ true)
 deliverable_stands s i h =
-    let M = machine s.ground in
+    let M = machine s.over in
     let us = updates_at s in
     let c = committed_at s in
-    let r : Passes M (λ n u. is_deliverable M s.ground.settings c n u) 1 us i = lowest_passes M (λ n u. is_deliverable M s.ground.settings c n u) 1 us i h in
+    let r : Passes M (λ n u. is_deliverable M s.over.settings c n u) 1 us i = lowest_passes M (λ n u. is_deliverable M s.over.settings c n u) 1 us i h in
     let number : i ≡ suc r.place = omega (arith, r.number) in
     let there : numbered_at us i ≡ Some r.update = ap (numbered_at us) number ∙ r.there in
-    let both = and_parts (is_pending (standing M s.ground.settings c i r.update)) (not (is_nil r.update.inbox)) r.passes in
+    let both = and_parts (is_pending (standing M s.over.settings c i r.update)) (not (is_nil r.update.inbox)) r.passes in
     (
-      ap (λ (o : Option (Update M)). option_map (standing M s.ground.settings c i) o) there ∙ ap Some (pending_is (standing M s.ground.settings c i r.update) both.0),
+      ap (λ (o : Option (Update M)). option_map (standing M s.over.settings c i) o) there ∙ ap Some (pending_is (standing M s.over.settings c i r.update) both.0),
       ap (λ (o : Option (Update M)). unwrap_or (option_map (λ u. not (is_nil u.inbox)) o) false) there ∙ both.1,
     )
 
 -- ---- turns
 
-made_once : (old new : State) (e : Event (machine old.ground)) (r d : Option ℕ) → lowest_ready_at old ≡ r → lowest_deliverable_at old ≡ d → step_or_deliver (machine old.ground) r d ≡ Some e → HasMade old e new
-    → 1 ≤ old.ground.budget → IsRepository old.ground.base → IsLegalOver old.ground old.history → HasTurnedOnce old new
+made_once : (old new : State) (e : Event (machine old.over)) (r d : Option ℕ) → lowest_ready_at old ≡ r → lowest_deliverable_at old ≡ d → step_or_deliver (machine old.over) r d ≡ Some e → HasMade old e new
+    → 1 ≤ old.over.budget → IsRepository old.over.base → IsLegalOver old.over old.history → HasTurnedOnce old new
 made_once old new e r d h f k made some sorted legal =
-    let g = old.ground in
+    let g = old.over in
     let next : step_or_deliver (machine g) (lowest_ready_at old) (lowest_deliverable_at old) ≡ Some e = (λ i. step_or_deliver (machine g) (h i) (f i)) ∙ k in
     let turn : turned g old.history ≡ Some new.history = ap (option_and_then (grown g old.history)) next ∙ made.grows in
-    record { ground = made.ground; history = turn; less = (turn_law g old.history new.history some sorted legal turn).less }
+    record { over = made.over; history = turn; less = (turn_law g old.history new.history some sorted legal turn).less }
 
 -- A step of the lowest ready update is a turn.
-pub step_turns : (old new : State) (i : ℕ) → lowest_ready_at old ≡ Some i → HasMade old (Steps i) new → 1 ≤ old.ground.budget → IsRepository old.ground.base → IsLegalOver old.ground old.history → HasTurnedOnce old new
+pub step_turns : (old new : State) (i : ℕ) → lowest_ready_at old ≡ Some i → HasMade old (Steps i) new → 1 ≤ old.over.budget → IsRepository old.over.base → IsLegalOver old.over old.history → HasTurnedOnce old new
 step_turns old new i h made some sorted legal = made_once old new (Steps i) (Some i) (lowest_deliverable_at old) h refl refl made some sorted legal
 
 -- A delivery to the lowest that can have one is, where none is ready.
-pub delivery_turns : (old new : State) (i : ℕ) → lowest_ready_at old ≡ None → lowest_deliverable_at old ≡ Some i → HasMade old (Delivers i) new → 1 ≤ old.ground.budget → IsRepository old.ground.base → IsLegalOver old.ground old.history
+pub delivery_turns : (old new : State) (i : ℕ) → lowest_ready_at old ≡ None → lowest_deliverable_at old ≡ Some i → HasMade old (Delivers i) new → 1 ≤ old.over.budget → IsRepository old.over.base → IsLegalOver old.over old.history
     → HasTurnedOnce old new
 delivery_turns old new i h f made some sorted legal = made_once old new (Delivers i) None (Some i) h f refl made some sorted legal
 
@@ -102,13 +102,13 @@ pub turned_on : (a b c : State) → HasTurned a b → HasTurnedOnce b c → HasT
 turned_on a b c t u =
     record {
       turns = suc t.turns;
-      ground = u.ground ∙ t.ground;
-      history = turns_more a.ground t.turns a.history b.history c.history t.history (ap (λ (g : Ground). turned g b.history) (sym t.ground) ∙ u.history);
+      over = u.over ∙ t.over;
+      history = turns_more a.over t.turns a.history b.history c.history t.history (ap (λ (g : Ground). turned g b.history) (sym t.over) ∙ u.history);
     }
 
 -- Less work is left after it.
-pub less_left : (a b : State) → HasTurnedOnce a b → suc (work_after b.ground b.history) ≤ work_after a.ground a.history
-less_left a b u = subst (λ (g : Ground). suc (work_after g b.history) ≤ work_after a.ground a.history) (sym u.ground) u.less
+pub less_left : (a b : State) → HasTurnedOnce a b → suc (work_after b.over b.history) ≤ work_after a.over a.history
+less_left a b u = subst (λ (g : Ground). suc (work_after g b.history) ≤ work_after a.over a.history) (sym u.over) u.less
 
 -- Where there was no turn it is quiet.
 pub rests_quiet : (b c : State) → HasRested b c → is_quiet_at c ≡ true

@@ -38,14 +38,14 @@ versions_of : (g : Ground) (v : Kept) (rs : List Record) (H : List PlainEntry) �
 versions_of g v rs H k = record { sorted = k.sorted; stand = k.versions }
 
 -- What is told of the queue is told of the updates of the history.
-tells_of : (g : Ground) (v : Kept) (rs : List Record) (H : List PlainEntry) (s : State) (r : SessionResult) → IsKept g v rs H → record { ground = g; history = H } ≡ s → Tells g.rules g.budget g.base rs r → IsResultOf s r
+tells_of : (g : Ground) (v : Kept) (rs : List Record) (H : List PlainEntry) (s : State) (r : SessionResult) → IsKept g v rs H → record { over = g; history = H } ≡ s → Tells g.rules g.budget g.base rs r → IsResultOf s r
 tells_of g v rs H s r k same t =
     subst (λ (x : State). IsResultOf x r) same
     (t (session_over g) refl
     ∙ ap (λ (us : List (Update (machine g))). result_in (tells g.rules g.budget (session_over g) us (first_stop (machine g) 1 us))) (sym k.left.leaves))
 
 -- So it is of what lies in the core.
-pub result_told : (g : Ground) (v : Kept) (rs : List Record) (H : List PlainEntry) (s : State) (qs : List Record) (r : SessionResult) → IsKept g v rs H → record { ground = g; history = H } ≡ s → qs ≡ rs
+pub result_told : (g : Ground) (v : Kept) (rs : List Record) (H : List PlainEntry) (s : State) (qs : List Record) (r : SessionResult) → IsKept g v rs H → record { over = g; history = H } ≡ s → qs ≡ rs
     → ((ms : List Rule) (B : ℕ) (D : List Fact) → AreVersionsOf ms B D qs v → Tells ms B D qs r) → IsResultOf s r
 result_told g v rs H s qs r k same e t =
     tells_of g v rs H s r k same
@@ -76,17 +76,17 @@ begun s budget c some sorted n count legal =
 
 -- Drained, it has come to what the serial machine comes to.
 pub drained_serially : (s : SessionData) (budget : ℕ) (c : Settings) (n : ℕ) (a b : State) (r : SessionResult) → IsSession s → base_violation s ≡ None → n ≡ length s.updates → a ≡ opened s budget c n
-    → 1 ≤ a.ground.budget → IsRepository a.ground.base → IsLegalOver a.ground a.history → HasTurned a b → is_quiet_at b ≡ true → IsResultOf b r → IsSerialRun budget s r
+    → 1 ≤ a.over.budget → IsRepository a.over.base → IsLegalOver a.over a.history → HasTurned a b → is_quiet_at b ≡ true → IsResultOf b r → IsSerialRun budget s r
 drained_serially s budget c n a b r valid meets count e some sorted legal t quiet told =
     let g = over s budget c in
     let H = admissions_from 1 n in
-    let ground : b.ground ≡ g = t.ground ∙ ap (λ (x : State). x.ground) e in
-    let last : State = record { ground = g; history = b.history } in
-    let same : b ≡ last = λ i. record { ground = ground i; history = b.history } in
-    let some_there : 1 ≤ budget = subst (λ (x : State). 1 ≤ x.ground.budget) e some in
-    let sorted_there : IsRepository s.base = subst (λ (x : State). IsRepository x.ground.base) e sorted in
-    let legal_there : IsLegalOver g H = subst (λ (x : State). IsLegalOver x.ground x.history) e legal in
-    let turns : after_turns g t.turns H ≡ Some b.history = subst (λ (x : State). after_turns x.ground t.turns x.history ≡ Some b.history) e t.history in
+    let over : b.over ≡ g = t.over ∙ ap (λ (x : State). x.over) e in
+    let last : State = record { over = g; history = b.history } in
+    let same : b ≡ last = λ i. record { over = over i; history = b.history } in
+    let some_there : 1 ≤ budget = subst (λ (x : State). 1 ≤ x.over.budget) e some in
+    let sorted_there : IsRepository s.base = subst (λ (x : State). IsRepository x.over.base) e sorted in
+    let legal_there : IsLegalOver g H = subst (λ (x : State). IsLegalOver x.over x.history) e legal in
+    let turns : after_turns g t.turns H ≡ Some b.history = subst (λ (x : State). after_turns x.over t.turns x.history ≡ Some b.history) e t.history in
     let rests : is_quiet_at last ≡ true = subst (λ (x : State). is_quiet_at x ≡ true) same quiet in
     let telling : IsResultOf last r = subst (λ (x : State). IsResultOf x r) same told in
     telling ∙ sym (ap result_in (drained_law s budget c t.turns H b.history valid meets sorted_there some_there (begun s budget c some_there sorted_there n count legal_there) turns rests))

@@ -77,7 +77,7 @@ none_waits rs n e ms B =
 
 -- ---- a core
 
-module _ (g : Ground) (H : List PlainEntry) (rs : List Record) (s : State) (left : Leave g H (updates_of g.rules g.budget rs)) (same : record { ground = g; history = H } ≡ s) where
+module _ (g : Ground) (H : List PlainEntry) (rs : List Record) (s : State) (left : Leave g H (updates_of g.rules g.budget rs)) (same : record { over = g; history = H } ≡ s) where
   pub count_told : length rs ≡ length (updates_at s)
   count_told = sym (mapped_long (update_of g.rules g.budget) rs) ∙ sym (ap (λ us. length us) left.leaves) ∙ ap (λ t. length (updates_at t)) same
 
@@ -117,5 +117,5 @@ module _ (g : Ground) (H : List PlainEntry) (rs : List Record) (s : State) (left
       ∙ sym (ap (λ (us : List (Update (caused_chase g.rules g.budget))). unwrap_or (option_map (λ u. not (is_nil u.inbox)) (numbered_at us n)) false) left.leaves)
       ∙ ap (λ t. has_waiting t n) same
 
-  pub legal_told : IsLegalOver s.ground s.history
-  legal_told = subst (λ (t : State). IsLegalOver t.ground t.history) same left.legal
+  pub legal_told : IsLegalOver s.over s.history
+  legal_told = subst (λ (t : State). IsLegalOver t.over t.history) same left.legal

@@ -6,14 +6,14 @@ use Rattle.yt_core.specs.States.{State, is_quiet_at}
 -- Turns lead from the old state to the new one.
 pub record HasTurned (old new : State) : Type 0 where
   pub turns : ℕ
-  pub ground : new.ground ≡ old.ground
-  pub history : after_turns old.ground turns old.history ≡ Some new.history
+  pub over : new.over ≡ old.over
+  pub history : after_turns old.over turns old.history ≡ Some new.history
 
 -- One turn was made, which lowers the work that is left.
 pub record HasTurnedOnce (old new : State) : Type 0 where
-  pub ground : new.ground ≡ old.ground
-  pub history : turned old.ground old.history ≡ Some new.history
-  pub less : suc (work_after old.ground new.history) ≤ work_after old.ground old.history
+  pub over : new.over ≡ old.over
+  pub history : turned old.over old.history ≡ Some new.history
+  pub less : suc (work_after old.over new.history) ≤ work_after old.over old.history
 
 -- It is quiet, and nothing was done.
 pub record HasRested (old new : State) : Type 0 where

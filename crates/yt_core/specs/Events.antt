@@ -10,10 +10,10 @@ use Rattle.yt_core.specs.declared.refusals.StepRefusal.TheVariants as step
 use Rattle.yt_core.specs.declared.refusals.DeliverRefusal.{DeliverRefusal}
 use Rattle.yt_core.specs.declared.refusals.DeliverRefusal.TheVariants as deliver
 
--- The event was allowed: the history has its entry behind the others, over the same ground.
-pub record HasMade (old : State) (e : Event (machine old.ground)) (new : State) : Type 0 where
-  pub grows : grown old.ground old.history e ≡ Some new.history
-  pub ground : new.ground ≡ old.ground
+-- The event was allowed: the history has its entry behind the others, over the same ones.
+pub record HasMade (old : State) (e : Event (machine old.over)) (new : State) : Type 0 where
+  pub grows : grown old.over old.history e ≡ Some new.history
+  pub over : new.over ≡ old.over
 
 -- What is answered to a step of an update with this standing.
 abbrev pub AnswersStep : Option Standing → Result ℕ StepRefusal → Type 0

@@ -39,7 +39,7 @@ pub record Follows (g : Ground) (e : Event (machine g)) (H : List PlainEntry) (v
   pub grows : grown g H e ≡ Some H'
   pub kept : IsKept g v rs H'
 
--- The ground with these mappings and settings, and any budget, base and updates.
+-- What a history is over, with these mappings and settings, and any budget, base and updates.
 abbrev pub ground_with : List Rule → Settings → ℕ → List Fact → List Request → List Operation → Ground
 ground_with ms s B D requests later =
     record { rules = ms; budget = B; settings = s; base = D; requests = requests; later = later }

@@ -40,4 +40,4 @@ pub record IsKept (g : Ground) (v : Kept) (rs : List Record) (H : List PlainEntr
   pub budget : 1 ≤ g.budget
   pub retries : g.settings.retries ≤ 4
   pub within : AreWithin g.rules
-  pub few : length rs < 2 ^ 32
+  pub few : length rs < 2 ^ 32 - 1

@@ -33,4 +33,4 @@ IsStepAmong ms B D us (suc k) p = IsSomeThat (λ u. IsStepOver ms B (below (caus
 
 -- It is the next step of its update at the state.
 abbrev pub IsStepAt : State → PlanMeant → Type 0
-IsStepAt s p = IsStepAmong s.ground.rules s.ground.budget s.ground.base (updates_at s) p.update p
+IsStepAt s p = IsStepAmong s.over.rules s.over.budget s.over.base (updates_at s) p.update p

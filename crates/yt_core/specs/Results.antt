@@ -9,4 +9,4 @@ use Rattle.yt_core.specs.States.{State, updates_at}
 
 -- This is what is told of its updates: how the committed ones ended, where the lowest that is not committed stops, and the repository that the committed ones left, by outer forms.
 abbrev pub IsResultOf : State → SessionResult → Type 0
-IsResultOf s r = result_of r ≡ result_in (tells s.ground.rules s.ground.budget (session_over s.ground) (updates_at s) (first_stop (machine s.ground) 1 (updates_at s)))
+IsResultOf s r = result_of r ≡ result_in (tells s.over.rules s.over.budget (session_over s.over) (updates_at s) (first_stop (machine s.over) 1 (updates_at s)))

@@ -13,7 +13,7 @@ use Rattle.yt_session.specs.Meanings.{requests_in}
 
 -- What its history is over, and the entries of that history.
 pub record State : Type 0 where
-  pub ground : Ground
+  pub over : Ground
   pub history : List PlainEntry
 
 -- What the history of a session is over, with so many steps for each attempt and these settings.
@@ -28,11 +28,11 @@ admissions_from n (suc k) = WasAdmitted n ∷ admissions_from (suc n) k
 
 -- The core over the session to which all its updates were admitted.
 abbrev pub opened : SessionData → ℕ → Settings → ℕ → State
-opened s budget c count = record { ground = ground_of s budget c; history = admissions_from 1 count }
+opened s budget c count = record { over = ground_of s budget c; history = admissions_from 1 count }
 
 -- The updates that the history left.
-abbrev pub updates_at : (s : State) → List (Update (machine s.ground))
-updates_at s = updates_after s.ground s.history
+abbrev pub updates_at : (s : State) → List (Update (machine s.over))
+updates_at s = updates_after s.over s.history
 
 -- The item of this number, counted from 1, where there is one.
 abbrev pub numbered_at : {A : Type 0} → List A → ℕ → Option A
@@ -41,15 +41,15 @@ numbered_at xs (suc k) = slice_get xs k
 
 -- How many updates are committed.
 abbrev pub committed_at : State → ℕ
-committed_at s = committed (machine s.ground) (updates_at s)
+committed_at s = committed (machine s.over) (updates_at s)
 
 -- The standing of the update of this number, where there is one.
 abbrev pub standing_at : State → ℕ → Option Standing
-standing_at s n = option_map (standing (machine s.ground) s.ground.settings (committed_at s) n) (numbered_at (updates_at s) n)
+standing_at s n = option_map (standing (machine s.over) s.over.settings (committed_at s) n) (numbered_at (updates_at s) n)
 
 -- The question at which it is paused, if it is.
 abbrev pub question_at : State → ℕ → Option Question
-question_at s n = option_and_then (question_of (machine s.ground) s.ground.settings (committed_at s) n) (numbered_at (updates_at s) n)
+question_at s n = option_and_then (question_of (machine s.over) s.over.settings (committed_at s) n) (numbered_at (updates_at s) n)
 
 -- An answer is recorded for it that was not delivered yet.
 abbrev pub has_waiting : State → ℕ → Bool
@@ -57,14 +57,14 @@ has_waiting s n = unwrap_or (option_map (λ u. not (is_nil u.inbox)) (numbered_a
 
 -- The lowest update that is ready, and the lowest to which an answer can be delivered.
 abbrev pub lowest_ready_at : State → Option ℕ
-lowest_ready_at s = standings.lowest_ready (machine s.ground) s.ground.settings (updates_at s)
+lowest_ready_at s = standings.lowest_ready (machine s.over) s.over.settings (updates_at s)
 
 abbrev pub lowest_deliverable_at : State → Option ℕ
-lowest_deliverable_at s = standings.lowest_deliverable (machine s.ground) s.ground.settings (updates_at s)
+lowest_deliverable_at s = standings.lowest_deliverable (machine s.over) s.over.settings (updates_at s)
 
 -- Nothing is ready, and nothing deliverable.
 abbrev pub is_quiet_at : State → Bool
-is_quiet_at s = standings.is_quiet (machine s.ground) s.ground.settings (updates_at s)
+is_quiet_at s = standings.is_quiet (machine s.over) s.over.settings (updates_at s)
 
 -- The lowest of these updates that is ready and has none of these numbers.
 abbrev pub lowest_ready_besides_of : (g : Ground) → List (Update (machine g)) → List ℕ → Option ℕ
@@ -73,4 +73,4 @@ lowest_ready_besides_of g us ns =
 
 -- The lowest update that is ready and has none of these numbers.
 abbrev pub lowest_ready_besides_at : State → List ℕ → Option ℕ
-lowest_ready_besides_at s ns = lowest_ready_besides_of s.ground (updates_at s) ns
+lowest_ready_besides_at s ns = lowest_ready_besides_of s.over (updates_at s) ns

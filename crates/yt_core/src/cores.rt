@@ -56,7 +56,7 @@ impl<'s> Model for Core<'s> {
 
     ghost Value = { State };
 
-    ghost view = { λ c. record { ground = ground_by c.mappings c.budget (settings_of c.settings) c.base.now c.updates.now; history = map entry_of c.history.items } };
+    ghost view = { λ c. record { over = ground_by c.mappings c.budget (settings_of c.settings) c.base.now c.updates.now; history = map entry_of c.history.items } };
 
     ghost invariant = { λ c. IsKept (ground_by c.mappings c.budget (settings_of c.settings) c.base.now c.updates.now) c.versions c.queue.items (map entry_of c.history.items) };
 }
@@ -166,9 +166,9 @@ impl<'s> Core<'s> {
 
     /// What is always true of a core: its history is legal over what it is over. It does nothing but say so.
     pub fn is_legal(&self)
-        ensures legal { IsLegalOver self.now.ground self.now.history }
-        ensures sorted { IsRepository self.now.ground.base }
-        ensures budget { 1 ≤ self.now.ground.budget }
+        ensures legal { IsLegalOver self.now.over self.now.history }
+        ensures sorted { IsRepository self.now.over.base }
+        ensures budget { 1 ≤ self.now.over.budget }
     {
         let _ = &self.queue;
     }

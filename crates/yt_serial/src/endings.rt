@@ -37,12 +37,7 @@ pub(crate) fn finish(program: &Program) -> Finish
 
 /// What is told of the update of this number, which stops at a question for what is lacking. It is refused only for
 /// want of memory.
-pub(crate) fn stop(
-    alloc: Global,
-    program: &Program,
-    number: u32,
-    lack: Lack,
-) -> Result<Stop, Memory>
+pub fn stop(alloc: Global, program: &Program, number: u32, lack: Lack) -> Result<Stop, Memory>
     requires between { program.now.reading ≡ None }
     requires asked { is_some (question_in program.now.attempt.phase) ≡ true }
     ensures told { IfOk result (λ stop.
@@ -65,7 +60,7 @@ pub(crate) fn stop(
 }
 
 /// Tells the finish of an update that has ended, and keeps its writes. It is refused only for want of memory.
-pub(crate) fn end(
+pub fn end(
     finishes: &mut FinishList,
     facts: &mut IndexedFacts,
     program: Program,

@@ -1,14 +1,16 @@
 //! The serial run of a session: its updates taken whole over a repository, one after the other in the order of their
 //! numbers, up to the first that stops at a question. `serial` tells what the serial machine of `yt_steps` tells, and
 //! `trails` what each update leaves written.
+//!
+//! The parts of a turn are public, so that a run which keeps more of its steps is made of the same.
 #![tactic(auto)]
 
-mod endings;
-mod repositories;
+pub mod endings;
+pub mod repositories;
 mod runs;
-mod stepping;
+pub mod stepping;
 mod trailing;
-mod turns;
+pub mod turns;
 mod wholes;
 
 pub use crate::runs::{base_of, mappings_of, serial, serial_over};

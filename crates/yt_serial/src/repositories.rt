@@ -56,7 +56,7 @@ fn make_one(facts: &mut IndexedFacts, write: Write) -> Result<(), Memory>
 
 /// The tuples of the repository in order, without those that say which mappings are in force. It is refused only for
 /// want of memory.
-pub(crate) fn told(alloc: Global, facts: IndexedFacts) -> Result<TupleList, Memory>
+pub fn told(alloc: Global, facts: IndexedFacts) -> Result<TupleList, Memory>
     ensures told { IfOk result (λ tuples. facts_of tuples ≡ answered facts) }
 {
     without_force(alloc, facts.into_list(alloc)?)

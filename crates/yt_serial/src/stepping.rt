@@ -42,8 +42,9 @@ pub(crate) fn step(
     see_all(alloc, view, program.own(), seen)
 }
 
-// Makes the step. The view sees the own writes from before it.
-fn make(
+/// Makes the step. The view sees the own writes from before it still; `see_all` shows it those of the step. It is refused
+/// only for want of memory; the program may then be within the step.
+pub fn make(
     alloc: Global,
     program: &mut Program,
     view: &mut WatchedView<'_, IndexedFacts>,
@@ -65,8 +66,9 @@ fn make(
     answer_all(alloc, program, view, mappings)
 }
 
-// Lets the view see all of the own writes, of which it has seen so many.
-fn see_all(
+/// Lets the view see all of the own writes, of which it has seen so many. It is refused only for want of memory; the view
+/// may then see some of the others.
+pub fn see_all(
     alloc: Global,
     view: &mut WatchedView<'_, IndexedFacts>,
     own: &WriteList,

@@ -15,13 +15,13 @@ use yt_program::{Lack, Program, Want};
 /// What comes next: a step, with the answer where the program is at a question; or a rest, at its end or for what is
 /// lacking.
 #[derive(Clone, Copy)]
-pub(crate) enum Next<'a> {
+pub enum Next<'a> {
     Step(Option<&'a Choice>),
     Rest(Option<Lack>),
 }
 
 /// What comes next, where these are all answers. It takes no memory.
-pub(crate) fn what_next<'a>(program: &Program, answers: &'a ChoiceList) -> Next<'a>
+pub fn what_next<'a>(program: &Program, answers: &'a ChoiceList) -> Next<'a>
     ensures next { next_of result ≡ next_by (wish program.now) program.now.attempt.taken
         (choices_of answers.now) }
 {

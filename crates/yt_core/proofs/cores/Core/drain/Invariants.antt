@@ -8,4 +8,4 @@ invariant-turns l = HasTurned l.initial.self l.self
 
 -- The work that is left.
 abbrev pub decreases-turns : goal.decreases-turns
-decreases-turns l = work_after l.self.ground l.self.history
+decreases-turns l = work_after l.self.over l.self.history

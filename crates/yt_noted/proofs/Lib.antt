@@ -1,0 +1,4 @@
+pub mod OfPhase
+pub mod Writing
+pub mod Noting
+pub mod Turning

@@ -1,0 +1,196 @@
+//! The noted run of a session: its updates taken whole in turn, up to the first that stops.
+ghost use Rattle.std.specs.Prelude.{◌≡◌, ◌≤◌, ◌++◌, [], if◌then◌else◌, length, None, is_some, true, IfOk, OnOk};
+ghost use Rattle.yt_grammar.specs.Validity.{IsSession};
+ghost use Rattle.yt_model.specs.Repository.{IsRepository};
+ghost use Rattle.yt_program.specs.PointMeanings.{want_of};
+ghost use Rattle.yt_program.specs.Results.{result_of};
+ghost use Rattle.yt_provenance.specs.Courses.{is_done_with};
+ghost use Rattle.yt_serial.specs.Meanings.{HasTaken as HasTakenTurn, HasTakenAll, IsSerialRun, requests_of};
+ghost use Rattle.yt_serial.specs.Runs.{told_from};
+ghost use Rattle.yt_session.specs.Base.{base_violation};
+ghost use Rattle.yt_session.specs.Meanings.{session_of};
+ghost use Rattle.yt_steps.specs.Attempts.{outcome_in};
+ghost use Rattle.yt_noted.specs.Meanings.{notes_in};
+ghost use Rattle.yt_noted.specs.Turns.{HasNotedTurn, HasNotedAll, IsNotedRun, noted_from, wants_none_done};
+
+use crate::notes::{NoteList, add_all};
+use crate::wholes::{Taken, take_whole};
+use std::alloc::Global;
+use yt_base::Memory;
+use yt_facts::IndexedFacts;
+use yt_limits::{Budget, Mappings};
+use yt_program::{FinishList, Outcome, Program, SessionResult, Stop, Want};
+use yt_provenance::laws::steps_agree_in_scopes;
+use yt_serial::endings::{end, stop};
+use yt_serial::mappings_of;
+use yt_serial::repositories::told;
+use yt_session::{Session, SessionUpdate, base_holds, sessions_suit_the_chase};
+use yt_steps::laws::serial_scopes_agree;
+
+/// What a run tells, and what was noted of the steps of its updates that are done.
+#[derive(Drop)]
+pub struct NotedRun {
+    pub result: SessionResult,
+    pub notes: NoteList,
+}
+
+/// The serial run of a session over its base, which is handed over as a set of tuples, with its notes. Refused only for
+/// want of memory.
+pub fn noted_serial(
+    alloc: Global,
+    session: &Session,
+    base: IndexedFacts,
+    budget: Budget,
+) -> Result<NotedRun, Memory>
+    requires valid { IsSession (session_of session.now) }
+    requires met { base_violation (session_of session.now) ≡ None }
+    requires base { base ≡ (session_of session.now).base }
+    ensures told { IfOk result (λ run. IsSerialRun budget (session_of session.now) run.result) }
+    ensures noted { IfOk result (IsNotedRun budget (session_of session.now)) }
+{
+    sessions_suit_the_chase();
+    base_holds();
+    serial_scopes_agree();
+    steps_agree_in_scopes();
+    let updates = session.updates.as_slice();
+    budget.is_within();
+    let mappings = mappings_of(session);
+    run(alloc, base, updates, &mappings, budget)
+}
+
+// The run of these updates over the base, the first of them number 1.
+fn run(
+    alloc: Global,
+    base: IndexedFacts,
+    updates: &[SessionUpdate],
+    mappings: &Mappings<'_>,
+    budget: Budget,
+) -> Result<NotedRun, Memory>
+    requires sorted { IsRepository base }
+    requires few { length updates.now ≤ 1000 }
+    ensures told { IfOk result (λ run.
+        result_of run.result ≡ told_from mappings.now budget base 1 (requests_of updates.now)) }
+    ensures noted { IfOk result (λ run.
+        notes_in run.notes ≡ noted_from mappings.now budget base 1 (requests_of updates.now)) }
+{
+    let mut finishes = FinishList::new(alloc);
+    let mut notes = NoteList::new(alloc);
+    let mut facts = base;
+    let stop = take_all(
+        alloc,
+        &mut finishes,
+        &mut notes,
+        &mut facts,
+        updates,
+        mappings,
+        budget,
+    )?;
+    let repository = told(alloc, facts)?;
+    Ok(NotedRun {
+        result: SessionResult {
+            finishes,
+            stop,
+            repository,
+        },
+        notes,
+    })
+}
+
+// Takes the updates whole in turn, up to the first that stops, and gives its stop. It tells their finishes, keeps their
+// notes and keeps their writes.
+fn take_all(
+    alloc: Global,
+    finishes: &mut FinishList,
+    notes: &mut NoteList,
+    facts: &mut IndexedFacts,
+    updates: &[SessionUpdate],
+    mappings: &Mappings<'_>,
+    budget: Budget,
+) -> Result<Option<Stop>, Memory>
+    requires sorted { IsRepository facts.old }
+    requires few { length updates.now ≤ 1000 }
+    ensures told { IfOk result (HasTakenAll mappings.now budget updates.now
+        finishes.old facts.old finishes.new facts.new) }
+    ensures noted { OnOk result (HasNotedAll mappings.now budget updates.now
+        notes.old facts.old notes.new) }
+{
+    let mut number = 1;
+    for update in updates {
+        let over = turn(
+            alloc, finishes, notes, facts, number, update, mappings, budget,
+        )?;
+        if let Some(stop) = over {
+            return Ok(Some(stop));
+        }
+        number += 1;
+    }
+    Ok(None)
+}
+
+// The turn of the update of this number: taken whole, it ends, and its finish is told and its notes and writes are kept,
+// or it stops.
+fn turn(
+    alloc: Global,
+    finishes: &mut FinishList,
+    notes: &mut NoteList,
+    facts: &mut IndexedFacts,
+    number: u32,
+    update: &SessionUpdate,
+    mappings: &Mappings<'_>,
+    budget: Budget,
+) -> Result<Option<Stop>, Memory>
+    requires sorted { IsRepository facts.old }
+    ensures sorted { OnOk result (IsRepository facts.new) }
+    ensures told { IfOk result (HasTakenTurn mappings.now budget number update.now
+        finishes.old facts.old finishes.new facts.new) }
+    ensures noted { IfOk result (HasNotedTurn mappings.now budget number update.now
+        notes.old facts.old notes.new facts.new) }
+{
+    let taken = take_whole(alloc, number, update, facts, mappings, budget)?;
+    match taken.lack {
+        Some(lack) => Ok(Some(stop(alloc, &taken.program, number, lack)?)),
+        None => {
+            let Taken {
+                program,
+                notes: made,
+                ..
+            } = taken;
+            keep(notes, made, &program)?;
+            end(finishes, facts, program)?;
+            Ok(None)
+        }
+    }
+}
+
+// Adds what was noted of an update that has ended, where it is done.
+fn keep(notes: &mut NoteList, made: NoteList, program: &Program) -> Result<(), Memory>
+    requires between { program.now.reading ≡ None }
+    ensures kept { OnOk result (notes_in notes.new ≡ notes_in notes.old ++
+        (if is_done_with (outcome_in program.now.attempt.phase) then notes_in made else [])) }
+{
+    if is_done(program) {
+        return add_all(notes, made);
+    }
+    Ok(())
+}
+
+// Whether the update has ended with its work done.
+fn is_done(program: &Program) -> bool
+    requires between { program.now.reading ≡ None }
+    ensures done { result ≡ is_done_with (outcome_in program.now.attempt.phase) }
+{
+    is_done_at(program.wants())
+}
+
+fn is_done_at(want: Want<'_>) -> bool
+    ensures done { result ≡ wants_none_done (want_of want.entry) }
+{
+    match want {
+        Want::Ended(Outcome::Done) => true,
+        Want::Ended(Outcome::Spent) => false,
+        Want::Ended(Outcome::Refused { .. }) => false,
+        Want::Read(_) => false,
+        Want::Choice(_) => false,
+        Want::NextStep => false,
+    }
+}

@@ -1,0 +1,146 @@
+//! The way of the step that a program takes next.
+ghost use Rattle.std.specs.Prelude.{◌≡◌, None, IfOk};
+ghost use Rattle.std.specs.Option.{option_map, option_copied};
+ghost use Rattle.yt_model.specs.Queries.{holds_null};
+ghost use Rattle.yt_model.specs.Repository.{apply};
+ghost use Rattle.yt_base.specs.Meanings.{choice_of, datum_of, null_of, operation_of};
+ghost use Rattle.yt_chase.specs.Bound.{bound_in};
+ghost use Rattle.yt_chase.specs.BoundMeanings.{bound_of};
+ghost use Rattle.yt_program.specs.Wishes.{wish};
+ghost use Rattle.yt_provenance.specs.Puts.{Generates, image_of, stands_for as stands_for_lem, way_in, way_of_start as way_of_start_lem};
+ghost use Rattle.yt_serial.specs.Turns.{StepsBy};
+ghost use Rattle.yt_noted.specs.Meanings.{way_of};
+ghost use Rattle.yt_noted.specs.Steps.{seen_in, way_of_bound, holders_in};
+ghost use Rattle.yt_steps.specs.Rewriting.{standing_for};
+
+use crate::notes::{Rewriting, Way};
+use std::alloc::Global;
+use yt_base::{Choice, Memory, Null, Operation, TryCopy, TupleList, Value};
+use yt_chase::{Bound, image};
+use yt_eval::WatchedView;
+use yt_facts::IndexedFacts;
+use yt_limits::Mappings;
+use yt_program::{Program, standing_for};
+use yt_query::{Answer, Query};
+
+/// The way of the program's next step over what is seen in the view, with the answer where it is at a question. It is
+/// refused only for want of memory.
+pub(crate) fn way(
+    alloc: Global,
+    program: &Program,
+    view: &mut WatchedView<'_, IndexedFacts>,
+    choice: Option<&Choice>,
+    mappings: &Mappings<'_>,
+) -> Result<Way, Memory>
+    requires between { program.now.reading ≡ None }
+    requires wanted { StepsBy (wish program.now) (option_map choice_of (option_copied choice)) }
+    ensures way { IfOk result (λ way. way_of way ≡
+        way_in mappings.now (seen_in view.old) program.now.attempt.operation
+        (option_map choice_of (option_copied choice.entry)) program.now.attempt.phase) }
+    ensures same { view.new ≡ view.old }
+{
+    if program.is_at_start() {
+        return way_of_start(alloc, view, program.operation());
+    }
+    match program.bound() {
+        Some(bound) => way_of_repair(alloc, program, bound, choice, mappings),
+        None => Ok(Way::Inserts),
+    }
+}
+
+// The way of the first step of an operation over what is seen in the view.
+fn way_of_start(
+    alloc: Global,
+    view: &mut WatchedView<'_, IndexedFacts>,
+    operation: &Operation,
+) -> Result<Way, Memory>
+    ensures way { IfOk result (λ way. way_of way ≡
+        way_of_start_lem (seen_in view.old) (operation_of operation.now)) }
+    ensures same { view.new ≡ view.old }
+{
+    match operation {
+        Operation::Replace(null, value) => {
+            let from = stands(alloc, view, *null)?;
+            let to = stands_for(alloc, view, value)?;
+            Ok(Way::Rewrites(Rewriting::Replaces { from, to }))
+        }
+        Operation::Insert(_) => Ok(Way::Inserts),
+        Operation::Delete(_) => Ok(Way::Inserts),
+        Operation::Enact(_) => Ok(Way::Inserts),
+    }
+}
+
+// What a value of an operation stands for in the view.
+fn stands_for(
+    alloc: Global,
+    view: &mut WatchedView<'_, IndexedFacts>,
+    value: &Value,
+) -> Result<Value, Memory>
+    ensures value { IfOk result (λ known. datum_of known ≡
+        stands_for_lem (seen_in view.old) (datum_of value.now)) }
+    ensures same { view.new ≡ view.old }
+{
+    match value {
+        Value::Null(null) => stands(alloc, view, *null),
+        Value::Int(_) => value.copy(alloc),
+        Value::Word(_) => value.copy(alloc),
+    }
+}
+
+// What a named null stands for in the view.
+fn stands(
+    alloc: Global,
+    view: &mut WatchedView<'_, IndexedFacts>,
+    name: Null,
+) -> Result<Value, Memory>
+    ensures value { IfOk result (λ known. datum_of known ≡
+        standing_for (null_of name) (holders_in (seen_in view.old) (null_of name))) }
+    ensures same { view.new ≡ view.old }
+{
+    match view.eval(&Query::Occurs(name.update, name.place), alloc)? {
+        Answer::Tuples(tuples) => standing_for(alloc, name, &tuples),
+        Answer::Yes => unreachable!(),
+        Answer::No => unreachable!(),
+        Answer::Image(_) => unreachable!(),
+        Answer::Nothing => unreachable!(),
+    }
+}
+
+// The way of a step of the repair in hand, with the answer where the program is at a question.
+fn way_of_repair(
+    alloc: Global,
+    program: &Program,
+    bound: Bound<'_>,
+    choice: Option<&Choice>,
+    mappings: &Mappings<'_>,
+) -> Result<Way, Memory>
+    requires wanted { StepsBy (wish program.now) (option_map choice_of (option_copied choice)) }
+    ensures way { IfOk result (λ way. way_of way ≡
+        way_of_bound mappings.now program.now.attempt.phase (bound_of bound.entry)
+        (option_map choice_of (option_copied choice.entry))) }
+{
+    match choice {
+        Some(Choice::Unify(form)) => {
+            let unifier = program.unifier_with(alloc, form)?;
+            Ok(Way::Rewrites(Rewriting::Unifies(unifier)))
+        }
+        Some(Choice::Expand) => generates(alloc, bound, mappings),
+        Some(Choice::Delete(_)) => generates(alloc, bound, mappings),
+        None => generates(alloc, bound, mappings),
+    }
+}
+
+// That it generates, with the image of the violation under repair.
+fn generates(alloc: Global, bound: Bound<'_>, mappings: &Mappings<'_>) -> Result<Way, Memory>
+    ensures way { IfOk result (λ way. way_of way ≡ Generates (bound_of bound.entry).mapping
+        (image_of mappings.now (bound_of bound.entry).mapping (bound_of bound.entry).values)) }
+{
+    let image = match mappings.get(bound.mapping as usize) {
+        Some(mapping) => image(alloc, bound.values, &mapping.left)?,
+        None => TupleList::new(alloc),
+    };
+    Ok(Way::Generates {
+        mapping: bound.mapping,
+        image,
+    })
+}
