@@ -4,11 +4,11 @@ _youtopia() {
   COMPREPLY=()
   case ${COMP_WORDS[COMP_CWORD - 1]} in
     --deps) COMPREPLY=($(compgen -W "coarse precise" -- "$word")); return ;;
-    --steps|--workers|--retries|--tuple|--query|--count|--seed) return ;;
+    --steps|--query|--workers|--retries|--tuple|--count|--seed) return ;;
   esac
   case $word in
-    -*) COMPREPLY=($(compgen -W "--steps --help --version --workers --deps --retries --tuple --query --count --seed --trace" -- "$word")) ;;
-    *) COMPREPLY=($(compgen -W "run serial format check save upgrade" -- "$word")) ;;
+    -*) COMPREPLY=($(compgen -W "--steps --query --help --version --workers --deps --retries --tuple --count --seed --trace" -- "$word")) ;;
+    *) COMPREPLY=($(compgen -W "run serial format check save upgrade ask" -- "$word")) ;;
   esac
 }
 complete -F _youtopia youtopia

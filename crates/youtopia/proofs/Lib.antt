@@ -1,1 +1,4 @@
+mod Asking
+mod Due
 mod Named
+mod Promised

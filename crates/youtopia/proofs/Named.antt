@@ -1,15 +1,16 @@
--- The row of what a named command means, with a known budget, is that of what the options mean.
+-- What the command that the options name does, with a known budget, is what the options ask for.
 use Rattle.std.proofs.Common.{◌≡◌, ℕ, sym, subst}
 use Rattle.yt_command.specs.Devices.{Change}
 use Rattle.yt_command.specs.Rows.{Row}
 use Rattle.yt_command.specs.declared.statuses.Status.{Status}
-use Rattle.yt_commands.specs.Commands.{of_session}
+use Rattle.yt_commands.specs.Runs.{kept}
 use Rattle.yt_words.specs.declared.names.CommandName.{CommandName}
-use Rattle.youtopia.specs.Calls.{made_by}
+use Rattle.yt_words.specs.declared.names.CommandName.TheVariants.{Save}
+use Rattle.yt_words.specs.declared.reading.Options.{Options}
+use Rattle.yt_commands.specs.Commands.{on_session}
+use Rattle.youtopia.specs.Calls.{Does}
 
-pub row_of : (status : Status) (command known : CommandName) (n steps : ℕ) (source out err : Change) → command ≡ known → n ≡ steps
-    → Row status (λ input output. output ≡ of_session (made_by known n) input) source out err
-    → Row status (λ input output. output ≡ of_session (made_by command steps) input) source out err
-row_of status command known n steps source out err named budget row =
-    subst (λ (k : CommandName). Row status (λ input output. output ≡ of_session (made_by k steps) input) source out err) (sym named)
-    (subst (λ (m : ℕ). Row status (λ input output. output ≡ of_session (made_by known m) input) source out err) budget row)
+pub saves : (options : Options) (status : Status) (n : ℕ) (source out err : Change) → options.command ≡ Save → n ≡ options.steps → Row status (on_session (kept n)) source out err → Does options.command options status source out err
+saves options status n source out err named budget row =
+    subst (λ (k : CommandName). Does k options status source out err) (sym named)
+    (subst (λ (m : ℕ). Row status (on_session (kept m)) source out err) budget row)

@@ -1,17 +1,65 @@
 //! The top call: the words, and then the command that they name.
-ghost use Rattle.std.specs.Prelude.{◌≤◌, map, string_bytes};
+ghost use Rattle.std.specs.Prelude.{◌≤◌, IfNone, IfOk, IfSome, map, string_bytes};
+ghost use Rattle.yt_ask.specs.Bound.{written_of};
 ghost use Rattle.yt_command.specs.Devices.{change};
-ghost use Rattle.yt_command.specs.Rows.{Row};
 ghost use Rattle.yt_words.specs.Meaning.{HasBudget};
-ghost use Rattle.youtopia.specs.Calls.{Calls, Performs, meaning_of};
+ghost use Rattle.youtopia.specs.Calls.{AsksFor, Calls, Does, LacksQuery, Performs};
+ghost use Rattle.youtopia.specs.Promises.{Completes, LeavesWhatHolds, Serves};
 
 use crate::telling::Telling;
 use std::alloc::Global;
+use yt_ask::{RawAsk, parse_ask};
+use yt_base::Memory;
 use yt_command::{Failure, Status, fail, perform, perform_alone};
-use yt_commands::{Check, Format, OnSession, Save, Serial, Upgrade};
+use yt_commands::{
+    Ask, Check, Format, OnSession, Save, Serial, Upgrade, performed_runs_write_what_holds,
+};
 use yt_limits::Budget;
 use yt_text::{Sink, Source};
-use yt_words::{CommandName, HELP, Options, Request, VERSION_LINE, WordsRefusal, read_words};
+use yt_words::{
+    CommandName, HELP, Options, Request, VERSION_LINE, WordsRefusal, read_words,
+    words_are_answered_or_refused, words_ask_for_one_thing,
+};
+
+// The query that the option spells, if it spells one.
+fn query_of(alloc: Global, options: &Options<'_>) -> Result<Option<RawAsk>, Memory>
+    ensures some { IfOk result
+        (λ found. IfSome found (λ raw. AsksFor options.now (written_of raw))) }
+    ensures none { IfOk result (λ found. IfNone found (LacksQuery options.now)) }
+{
+    match options.query {
+        Some(text) => parse_ask(alloc, text.as_bytes()),
+        None => Ok(None),
+    }
+}
+
+// Asks the query of the words between the devices.
+fn ask_query<S: Source, O: Sink, E: Sink>(
+    alloc: Global,
+    options: &Options<'_>,
+    source: &mut S,
+    out: &mut O,
+    err: &mut E,
+) -> Status
+    requires some { 1 ≤ options.now.steps }
+    requires most { options.now.steps ≤ 300 }
+    ensures asks { Does CommandName.Ask options.now result
+        (change S.left S.fault_count source.old source.new)
+        (change O.taken O.fault_count out.old out.new)
+        (change E.taken E.fault_count err.old err.new) }
+{
+    match query_of(alloc, options) {
+        Ok(Some(query)) => {
+            let command = Ask {
+                budget: Budget::new(options.steps),
+                query: &query,
+            };
+            perform(alloc, &OnSession(command), source, out, err)
+        }
+        Ok(None) => fail(Failure::Usage, err),
+        Err(_) => fail(Failure::OutOfMemory, err),
+    }
+}
 
 // Does the command between the devices.
 fn command<S: Source, O: Sink, E: Sink>(
@@ -23,7 +71,7 @@ fn command<S: Source, O: Sink, E: Sink>(
 ) -> Status
     requires some { 1 ≤ options.now.steps }
     requires most { options.now.steps ≤ 300 }
-    ensures row { Row result (meaning_of options.now)
+    ensures does { Does options.now.command options.now result
         (change S.left S.fault_count source.old source.new)
         (change O.taken O.fault_count out.old out.new)
         (change E.taken E.fault_count err.old err.new) }
@@ -36,6 +84,7 @@ fn command<S: Source, O: Sink, E: Sink>(
         CommandName::Check => perform(alloc, &OnSession(Check), source, out, err),
         CommandName::Save => perform(alloc, &OnSession(Save { budget }), source, out, err),
         CommandName::Upgrade => perform(alloc, &OnSession(Upgrade), source, out, err),
+        CommandName::Ask => ask_query(alloc, options, source, out, err),
     }
 }
 
@@ -60,9 +109,8 @@ fn attend<S: Source, O: Sink, E: Sink>(
     }
 }
 
-/// Does what the words after the program's name ask for, from the source to the two sinks, and answers the status with
-/// which the program ends. Each status has its row, which says what was read, what `out` took and what `err` was told.
-pub fn youtopia<S: Source, O: Sink, E: Sink>(
+// Does what the words ask for, or refuses them.
+fn answer<S: Source, O: Sink, E: Sink>(
     alloc: Global,
     words: &[String],
     source: &mut S,
@@ -79,4 +127,36 @@ pub fn youtopia<S: Source, O: Sink, E: Sink>(
         Err(WordsRefusal::Usage) => fail(Failure::Usage, err),
         Err(WordsRefusal::Memory) => fail(Failure::OutOfMemory, err),
     }
+}
+
+/// Does what the words after the program's name ask for, from the source to the two sinks, and answers the status with
+/// which the program ends. Each status has its row, which says what was read, what `out` took and what `err` was told.
+///
+/// Where nothing fails the status is that of the output which is due, or memory was wanting: of a session whose base meets its
+/// mappings a run ends, or stops at a question. In the repository that it writes every mapping in force holds.
+pub fn youtopia<S: Source, O: Sink, E: Sink>(
+    alloc: Global,
+    words: &[String],
+    source: &mut S,
+    out: &mut O,
+    err: &mut E,
+) -> Status
+    ensures calls { Calls (map string_bytes words.now) result
+        (change S.left S.fault_count source.old source.new)
+        (change O.taken O.fault_count out.old out.new)
+        (change E.taken E.fault_count err.old err.new) }
+    ensures complete { Completes (map string_bytes words.now) result
+        (change S.left S.fault_count source.old source.new)
+        (change O.taken O.fault_count out.old out.new) }
+    ensures serves { Serves (map string_bytes words.now) result
+        (change S.left S.fault_count source.old source.new)
+        (change O.taken O.fault_count out.old out.new) }
+    ensures holds { LeavesWhatHolds (map string_bytes words.now) result
+        (change S.left S.fault_count source.old source.new)
+        (change O.taken O.fault_count out.old out.new) }
+{
+    words_are_answered_or_refused();
+    words_ask_for_one_thing();
+    performed_runs_write_what_holds();
+    answer(alloc, words, source, out, err)
 }

@@ -1,1 +1,2 @@
+mod Performed
 mod Unviolated

@@ -1,7 +1,7 @@
 -- What each command on a session makes of its input.
-use Rattle.std.specs.Prelude.{ℕ, List, [], ◌∷◌, ◌++◌, length, Option, Some, None, Result, Ok, Err, codes}
+use Rattle.std.specs.Prelude.{◌≡◌, ℕ, List, [], ◌∷◌, ◌++◌, length, Option, Some, None, Result, Ok, Err, codes}
 use Rattle.std.specs.Fmt.{decimal}
-use Rattle.yt_command.specs.Outputs.{OutputView, Text, Refused}
+use Rattle.yt_command.specs.Outputs.{Meaning, OutputView, Text, Refused}
 use Rattle.yt_command.specs.declared.outputs.Ending.TheVariants.{Ended}
 use Rattle.yt_command.specs.declared.outputs.Refusal.TheVariants.{SessionRefused, BaseViolates}
 use Rattle.yt_grammar.specs.Faults.{Wrong, wrong_text}
@@ -24,6 +24,10 @@ of_read make (Err wrong) = Refused SessionRefused (fault_line wrong)
 -- what is made of the session that an input spells
 abbrev pub of_session : (SessionData → OutputView) → List ℕ → OutputView
 of_session make input = of_read make (read input)
+
+-- a command on sessions, as one on the bytes that spell them
+abbrev pub on_session : (SessionData → OutputView) → Meaning
+on_session make input output = output ≡ of_session make input
 
 -- an output, where the base violates no mapping
 abbrev pub unless_violated : SessionData → OutputView → Option Violated → OutputView

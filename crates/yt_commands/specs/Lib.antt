@@ -1,3 +1,4 @@
+pub mod Asked
 pub mod Base
 pub mod Commands
 pub mod Runs

@@ -1,8 +1,12 @@
 -- What the commands write that run the updates.
-use Rattle.std.specs.Prelude.{◌≡◌, ◌⊎◌, ℕ}
+use Rattle.std.specs.Prelude.{◌≡◌, ◌⊎◌, ℕ, List}
+use Rattle.std.specs.Io.KnownBytes.{Consumes}
+use Rattle.yt_command.specs.Devices.{Change, Takes}
 use Rattle.yt_command.specs.Outputs.{Text}
 use Rattle.yt_command.specs.Statuses.{status_of}
+use Rattle.yt_command.specs.declared.statuses.Status.{Status}
 use Rattle.yt_command.specs.declared.statuses.Status.TheVariants.{Ended, Stuck}
+use Rattle.yt_grammar.specs.Lines.{Spells}
 use Rattle.yt_grammar.specs.Sessions.{SessionData}
 use Rattle.yt_kept.specs.Kept.{InForceHold}
 use Rattle.yt_report.specs.Results.{result_text, serial_told}
@@ -16,3 +20,17 @@ pub record WritesWhatHolds (steps : ℕ) (s : SessionData) : Type 0 where
 -- they end, or stop at a question
 abbrev pub EndsOrStops : ℕ → SessionData → Type 0
 EndsOrStops steps s = (status_of (ran steps s) ≡ Ended) ⊎ (status_of (ran steps s) ≡ Stuck)
+
+-- a call that wrote its text: it ended, or stopped at a question
+abbrev pub HasWritten : Status → Type 0
+HasWritten status = (status ≡ Ended) ⊎ (status ≡ Stuck)
+
+-- The source gave the text of a session, `out` took the result text of what the serial machine tells of it, and in the repository
+-- told every mapping in force holds.
+pub record WroteWhatHolds (steps : ℕ) (source out : Change) : Type 0 where
+  pub input : List ℕ
+  pub session : SessionData
+  pub given : Consumes source.bytes source.bytes_after input
+  pub spelled : Spells input session
+  pub taken : Takes out (result_text session (serial_told steps session))
+  pub hold : InForceHold session (serial_told steps session)

@@ -1,9 +1,15 @@
 //! Laws of what the commands write that run the updates.
-ghost use Rattle.std.specs.Prelude.{ℕ};
-ghost use Rattle.yt_commands.specs.Written.{EndsOrStops, WritesWhatHolds};
+ghost use Rattle.std.specs.Prelude.{◌≤◌, ℕ};
+ghost use Rattle.yt_command.specs.Devices.{Change};
+ghost use Rattle.yt_command.specs.Rows.{Row};
+ghost use Rattle.yt_command.specs.declared.statuses.Status.{Status};
+ghost use Rattle.yt_commands.specs.Commands.{on_session};
+ghost use Rattle.yt_commands.specs.Runs.{ran};
+ghost use Rattle.yt_commands.specs.Written.{EndsOrStops, HasWritten, WritesWhatHolds, WroteWhatHolds};
 ghost use Rattle.yt_grammar.specs.Sessions.{SessionData};
 ghost use Rattle.yt_kept.specs.Kept.{IsRunnable};
 
+use yt_grammar::spelled_sessions_are_valid;
 use yt_kept::runs_meet_their_mappings;
 
 /// Of a valid session whose base meets its mappings, `run` and `serial` write a repository in which every mapping in force
@@ -13,5 +19,16 @@ pub fn runs_write_what_holds()
     ensures written { (steps : ℕ) (s : SessionData) → IsRunnable steps s → WritesWhatHolds steps s }
     ensures status { (steps : ℕ) (s : SessionData) → IsRunnable steps s → EndsOrStops steps s }
 {
+    runs_meet_their_mappings();
+}
+
+/// Where `run` or `serial`, performed with a budget, ends or stops, the repository that it has written is one in which every
+/// mapping in force holds.
+pub fn performed_runs_write_what_holds()
+    ensures { (steps : ℕ) (status : Status) (source out err : Change) → 1 ≤ steps → steps ≤ 300 →
+        HasWritten status → Row status (on_session (ran steps)) source out err →
+        WroteWhatHolds steps source out }
+{
+    spelled_sessions_are_valid();
     runs_meet_their_mappings();
 }

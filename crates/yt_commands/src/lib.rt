@@ -2,9 +2,10 @@
 //!
 //! `specs/Commands.antt` says it in the terms of the language of sessions: `of_session makes input` is what a command
 //! makes of the session that the input spells, or the refusal of an input that spells none. `specs/Runs.antt` says it of
-//! those that run the updates, in the terms of the serial machine.
+//! those that run the updates, in the terms of the serial machine; `specs/Asked.antt` of the one that asks a query.
 #![tactic(auto)]
 
+mod asking;
 mod base;
 mod counts;
 mod laws;
@@ -12,7 +13,8 @@ mod reading;
 mod runs;
 mod sessions;
 
-pub use crate::laws::runs_write_what_holds;
+pub use crate::asking::Ask;
+pub use crate::laws::{performed_runs_write_what_holds, runs_write_what_holds};
 pub use crate::reading::{OnSession, SessionCommand};
 pub use crate::runs::{Save, Serial};
 pub use crate::sessions::{Check, Format, Upgrade};

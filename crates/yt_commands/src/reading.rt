@@ -7,7 +7,7 @@ ghost use Rattle.yt_grammar.specs.Validity.{IsSession};
 ghost use Rattle.yt_command.specs.Outputs.{OutputView};
 ghost use Rattle.yt_reader.specs.Answers.{wrong_of};
 ghost use Rattle.yt_session.specs.Meanings.{session_of};
-ghost use Rattle.yt_commands.specs.Commands.{fault_line, of_session};
+ghost use Rattle.yt_commands.specs.Commands.{fault_line, on_session};
 
 use std::alloc::Global;
 use yt_base::Memory;
@@ -44,7 +44,7 @@ fn fault_line(alloc: Global, fault: &SessionFault) -> Result<Vec<u8>, Memory>
 }
 
 impl<C: SessionCommand> Command for OnSession<C> {
-    ghost gives = { λ c input output. output ≡ of_session (C.makes c.0) input };
+    ghost gives = { λ c. on_session (C.makes c.0) };
 
     fn run(&self, alloc: Global, input: &[u8]) -> Result<Output, Memory> {
         match read_session(alloc, input) {

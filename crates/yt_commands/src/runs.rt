@@ -33,8 +33,8 @@ pub struct Save {
     pub budget: Budget,
 }
 
-// How a command ends whose run told this.
-fn ending_by(told: &SessionResult) -> Ending
+/// How a command ends whose run told this.
+pub(crate) fn ending_by(told: &SessionResult) -> Ending
     ensures { result ≡ ending_by (result_of told.now).stop }
 {
     match told.stop {

@@ -20,10 +20,6 @@ some_of p ms = map from_start (filter p ms)
 one_more : (before : List Name) (n k : Name) → is_one_of (before ++ n ∷ []) k ≡ (is_one_of before k || (same_name k n || false))
 one_more before n k = any_join (same_name k) before (n ∷ [])
 
-no_more : (b : Bool) → (b || false) ≡ b
-no_more true = refl
-no_more false = refl
-
 neither : (a b : Bool) → a ≡ false → b ≡ false → (a || b) ≡ false
 neither a b e f = ap (λ x. x || b) e ∙ f
 

@@ -1,4 +1,3 @@
-pub mod Lines
 pub mod Traces
 pub mod Steps
 pub mod TraceRows

@@ -13,7 +13,7 @@ use Rattle.yt_grammar.specs.Grammar.{choice_words}
 use Rattle.yt_grammar.specs.Layout.{laid_out}
 use Rattle.yt_grammar.specs.Printing.{tuple_text, written_choice}
 use Rattle.yt_grammar.specs.Sessions.{RelationSchema}
-use Rattle.yt_trace.specs.Lines.{items_of}
+use Rattle.yt_json.specs.Lines.{items_of}
 
 -- How a standing is called.
 abbrev pub standing_name : Standing → List ℕ

@@ -1,11 +1,11 @@
 // The causes of an entry.
 ghost use Rattle.std.specs.Prelude.{◌≡◌, map, IfOk};
 ghost use Rattle.yt_entries.specs.Meanings.{cause_of};
-ghost use Rattle.yt_trace.specs.Lines.{with_json, with_all};
+ghost use Rattle.yt_json.specs.Lines.{with_json, with_all};
 ghost use Rattle.yt_trace.specs.Traces.{cause_json, causes_json, conflict_json, dependence_json};
 
-use crate::lines::Line;
 use yt_entries::Cause;
+use yt_json::Line;
 use yt_memory::Memory;
 
 fn with_conflict(line: Line, reader: u32, read: u64, writer: u32) -> Result<Line, Memory>
@@ -52,7 +52,7 @@ fn with_cause(line: Line, cause: &Cause) -> Result<Line, Memory>
     }
 }
 
-#[tactic(auto, using(crate::proofs::Adding::all_more))]
+#[tactic(auto, using(yt_json::proofs::Adding::all_more))]
 fn with_each_cause(mut line: Line, causes: &[Cause]) -> Result<Line, Memory>
     ensures { IfOk result (λ l. l ≡ with_all line (map cause_json (map cause_of causes.now))) }
 {
@@ -63,7 +63,7 @@ fn with_each_cause(mut line: Line, causes: &[Cause]) -> Result<Line, Memory>
 }
 
 // The list of the causes.
-#[tactic(auto, using(crate::proofs::Adding::listed))]
+#[tactic(auto, using(yt_json::proofs::Adding::listed))]
 pub(crate) fn with_causes(line: Line, causes: &[Cause]) -> Result<Line, Memory>
     ensures { IfOk result (λ l. l ≡ with_json line (causes_json (map cause_of causes.now))) }
 {

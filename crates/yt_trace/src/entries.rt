@@ -2,16 +2,16 @@
 ghost use Rattle.std.specs.Prelude.{◌≡◌, map, IfOk};
 ghost use Rattle.yt_base.specs.Meanings.{change_of, choice_of};
 ghost use Rattle.yt_entries.specs.Meanings.{standing_of, cause_of, entry_of};
-ghost use Rattle.yt_trace.specs.Lines.{with_json};
+ghost use Rattle.yt_json.specs.Lines.{with_json};
 ghost use Rattle.yt_trace.specs.Steps.{step_of};
 ghost use Rattle.yt_trace.specs.Traces.{standing_name, choice_text, admitted_json, stepped_json, delivered_json, answered_json, withdrawn_json, entry_json};
 
 use crate::causes::with_causes;
-use crate::lines::Line;
 use crate::writes::with_writes;
 use std::alloc::Global;
 use yt_base::{Choice, Write};
 use yt_entries::{Cause, Entry, Standing};
+use yt_json::Line;
 use yt_memory::Memory;
 use yt_print::with_choice;
 use yt_schema::{Page, Schema};

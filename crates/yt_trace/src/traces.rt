@@ -5,10 +5,10 @@ ghost use Rattle.yt_entries.specs.Meanings.{entry_of};
 ghost use Rattle.yt_trace.specs.Traces.{entry_line as line_of_entry, trace_text as text_of_trace};
 
 use crate::entries::with_entry;
-use crate::lines::Line;
 use itoa::Buffer;
 use std::alloc::Global;
 use yt_entries::Entry;
+use yt_json::Line;
 use yt_memory::Memory;
 use yt_schema::Schema;
 

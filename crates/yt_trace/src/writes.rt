@@ -2,12 +2,12 @@
 ghost use Rattle.std.specs.Prelude.{◌≡◌, true, ◌∷◌, map, IfOk};
 ghost use Rattle.yt_base.specs.Meanings.{change_of, fact_of};
 ghost use Rattle.yt_grammar.specs.Printing.{tuple_text};
-ghost use Rattle.yt_trace.specs.Lines.{with_json, with_all};
+ghost use Rattle.yt_json.specs.Lines.{with_json, with_all};
 ghost use Rattle.yt_trace.specs.Traces.{write_json, write_text, writes_json};
 
-use crate::lines::Line;
 use std::alloc::Global;
 use yt_base::{Tuple, Write};
+use yt_json::Line;
 use yt_memory::Memory;
 use yt_schema::{Schema, print_tuple};
 
@@ -31,7 +31,7 @@ fn write_text(alloc: Global, schema: &Schema, write: &Write) -> Result<Vec<u8>, 
     }
 }
 
-#[tactic(auto, using(crate::proofs::Adding::all_more))]
+#[tactic(auto, using(yt_json::proofs::Adding::all_more))]
 fn with_each_write(
     alloc: Global,
     mut line: Line,
@@ -48,7 +48,7 @@ fn with_each_write(
 }
 
 // The list of the writes.
-#[tactic(auto, using(crate::proofs::Adding::listed))]
+#[tactic(auto, using(yt_json::proofs::Adding::listed))]
 pub(crate) fn with_writes(
     alloc: Global,
     line: Line,

@@ -4,5 +4,6 @@ pub mod FinishedRows
 pub mod Matched
 pub mod Numbers
 pub mod OneFault
+pub mod OneMeaning
 pub mod ParsedRows
 pub mod Refusals

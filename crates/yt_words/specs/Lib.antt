@@ -1,3 +1,4 @@
+pub mod Alike
 pub mod Arguments
 pub mod Meaning
 pub mod Names

@@ -20,9 +20,11 @@ Commands:
   check     check the session and its base, and count its parts
   save      run the updates, and print what they left as a session
   upgrade   print the session in the newest format
+  ask       run the updates; print the certain answers to a query
 
 Options:
   --steps N     how many steps an update may take, 1 to 300 [100]
+  --query TEXT  the query to ask, as in 'q(x): R(x, y), S(y)'
   -h, --help    print this text
   -V, --version print the version
 
@@ -31,7 +33,6 @@ Options that are read and change nothing so far:
   --deps KIND   which writes a read depends on, coarse or precise [precise]
   --retries N   how often an update is tried again, 0 to 4 [3]
   --tuple FACT  the tuple to explain
-  --query TEXT  the query to answer
   --count N     how many updates are generated, 1 to 1000 [60]
   --seed N      the seed of the generator, 0 to 4294967295 [1]
   --trace       print the trace after the result; run refuses it so far
@@ -39,7 +40,7 @@ Options that are read and change nothing so far:
 Statuses:
   0 done   1 stuck at a frontier   2 words refused   3 session refused
   4 base violates a mapping   5 read fault   6 write fault
-  7 out of memory   8 input too long   9 result too large
+  7 out of memory   8 input too long   9 result too large   11 query refused
 
 Example:
   youtopia run --steps 50 < travel.session

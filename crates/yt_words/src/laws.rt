@@ -2,6 +2,7 @@
 
 ghost use Rattle.std.specs.Prelude.{◌≡◌, ◌≤◌, List, false, length};
 ghost use Rattle.clap.specs.Words.{Text};
+ghost use Rattle.yt_words.specs.Alike.{AskTheSame};
 ghost use Rattle.yt_words.specs.Arguments.{faults_of};
 ghost use Rattle.yt_words.specs.Meaning.{Answers, is_refused};
 ghost use Rattle.yt_words.specs.declared.reading.Request.{Request};
@@ -18,4 +19,10 @@ pub fn words_are_answered_or_refused()
         is_refused words ≡ false }
     ensures either { (words : List Text) → is_refused words ≡ false →
         (request : Request) × Answers words request }
+{}
+
+/// Words ask for one thing: for help, for the version, or for one command with one value of each option.
+pub fn words_ask_for_one_thing()
+    ensures { (words : List Text) (one other : Request) → Answers words one → Answers words other →
+        AskTheSame one other }
 {}

@@ -19,6 +19,8 @@ pub enum CommandName {
     Save,
     /// Prints a session in the newest format.
     Upgrade,
+    /// Runs a session's updates one after the other, and prints the certain answers to a query over what they left.
+    Ask,
 }
 
 /// Which of the values that a read depends on count.
@@ -53,6 +55,9 @@ pub(crate) fn command_named(text: &str) -> Option<CommandName>
     }
     if text == "upgrade" {
         return Some(CommandName::Upgrade);
+    }
+    if text == "ask" {
+        return Some(CommandName::Ask);
     }
     None
 }

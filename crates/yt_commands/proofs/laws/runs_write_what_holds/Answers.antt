@@ -5,7 +5,7 @@ use Rattle.yt_command.specs.declared.statuses.Status.TheVariants.{Ended, Stuck}
 use Rattle.yt_program.specs.Results.{StopTold}
 use Rattle.yt_report.specs.Results.{serial_told}
 use Rattle.yt_commands.specs.Commands.{unless_violated}
-use Rattle.yt_commands.specs.Runs.{ending_by, ran, result_output}
+use Rattle.yt_commands.specs.Runs.{ending_by, result_output}
 use Rattle.yt_commands.proofs.laws.runs_write_what_holds.Goals as goal
 
 pub returns-clause-written : goal.returns-clause-written

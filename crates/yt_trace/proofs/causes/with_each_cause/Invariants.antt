@@ -1,6 +1,6 @@
 use Rattle.std.proofs.Common.{◌≡◌, map, take}
 use Rattle.yt_entries.specs.Meanings.{cause_of}
-use Rattle.yt_trace.specs.Lines.{with_all}
+use Rattle.yt_json.specs.Lines.{with_all}
 use Rattle.yt_trace.specs.Traces.{cause_json}
 use Rattle.yt_trace.proofs.causes.with_each_cause.Given as goal
 

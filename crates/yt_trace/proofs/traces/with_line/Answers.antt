@@ -1,4 +1,4 @@
-use Rattle.yt_trace.proofs.Adding.{lined}
+use Rattle.yt_json.proofs.Adding.{lined}
 use Rattle.yt_trace.proofs.traces.with_line.Goals as goal
 
 pub returns : goal.returns

@@ -1,6 +1,6 @@
 use Rattle.std.proofs.Common.{◌≡◌, map, take}
 use Rattle.yt_base.specs.Meanings.{change_of}
-use Rattle.yt_trace.specs.Lines.{with_all}
+use Rattle.yt_json.specs.Lines.{with_all}
 use Rattle.yt_trace.specs.Traces.{write_json}
 use Rattle.yt_trace.proofs.writes.with_each_write.Given as goal
 

@@ -1,0 +1,15 @@
+use Rattle.youtopia.proofs.Promised.{completes, leaves, serves}
+use Rattle.youtopia.proofs.top.youtopia.Goals as goal
+
+pub returns-clause-complete : goal.returns-clause-complete
+returns-clause-complete g c =
+    completes c.words_are_answered_or_refused.ensures.never_both c.words_ask_for_one_thing.ensures _ _ _ _ _ c.answer.ensures.calls
+
+pub returns-clause-serves : goal.returns-clause-serves
+returns-clause-serves g c = serves _ _ _ _
+    (completes c.words_are_answered_or_refused.ensures.never_both c.words_ask_for_one_thing.ensures _ _ _ _ _ c.answer.ensures.calls)
+
+pub returns-clause-holds : goal.returns-clause-holds
+returns-clause-holds g c =
+    leaves c.words_are_answered_or_refused.ensures.never_both c.words_ask_for_one_thing.ensures c.performed_runs_write_what_holds.ensures
+    _ _ _ _ _ c.answer.ensures.calls

@@ -1,0 +1,79 @@
+-- What one call of the program promises beside its rows: its status where nothing fails, and what its runs leave.
+use Rattle.std.specs.Prelude.{◌≡◌, ◌⊎◌, ◌≤◌, ℕ, List, Some, None, length}
+use Rattle.clap.specs.Words.{Text as Letters}
+use Rattle.yt_ask.specs.Written.{WrittenAsk}
+use Rattle.yt_command.specs.Devices.{Change, Fails, no_input}
+use Rattle.yt_command.specs.Outputs.{Meaning, OutputView}
+use Rattle.yt_command.specs.Statuses.{status_of}
+use Rattle.yt_command.specs.declared.performing.TheConstants.{INPUT_LIMIT}
+use Rattle.yt_command.specs.declared.statuses.Status.{Status}
+use Rattle.yt_command.specs.declared.statuses.Status.TheVariants.{Ended, Stuck, OutOfMemory, TooLarge, QueryRefused}
+use Rattle.yt_commands.specs.Written.{HasWritten, WroteWhatHolds}
+use Rattle.yt_grammar.specs.Lines.{Spells}
+use Rattle.yt_grammar.specs.Sessions.{SessionData}
+use Rattle.yt_session.specs.Base.{base_violation}
+use Rattle.yt_words.specs.Meaning.{Answers}
+use Rattle.yt_words.specs.declared.help.TheConstants.{HELP, VERSION_LINE}
+use Rattle.yt_words.specs.declared.names.CommandName.{CommandName}
+use Rattle.yt_words.specs.declared.names.CommandName.TheVariants.{Run, Serial, Save, Ask}
+use Rattle.yt_words.specs.declared.reading.Options.{Options}
+use Rattle.yt_words.specs.declared.reading.Request.{Request}
+use Rattle.yt_words.specs.declared.reading.Request.TheVariants.{Command, Help, Version}
+use Rattle.youtopia.specs.Calls.{AsksFor, makes, telling}
+
+-- what a request makes of an input
+abbrev pub due : Request → Meaning
+due (Command options) = makes options.command options
+due Help = telling HELP.now
+due Version = telling VERSION_LINE.now
+
+-- what a request reads: a command the source, help and the version nothing
+abbrev pub read_by : Request → Change → Change
+read_by (Command options) source = source
+read_by Help source = no_input
+read_by Version source = no_input
+
+-- nothing fails: what is read has this input, no longer than an input may be, and neither that nor `out` fails
+pub record NothingFails (input : List ℕ) (source out : Change) : Type 0 where
+  pub held : source.bytes ≡ Some input
+  pub short : length input ≤ INPUT_LIMIT
+  pub reads : Fails source → ⊥
+  pub writes : Fails out → ⊥
+
+-- Where the words ask for something and nothing fails, the status is that of the output which is due, or memory was wanting.
+abbrev pub Completes : List Letters → Status → Change → Change → Type 0
+Completes words status source out =
+    (request : Request) (input : List ℕ) (output : OutputView) → Answers words request → due request input output
+    → NothingFails input (read_by request source) out → (status ≡ status_of output) ⊎ (status ≡ OutOfMemory)
+
+-- with which status a command may end on a session whose base meets its mappings
+abbrev pub MayEnd : CommandName → Status → Type 0
+MayEnd Run status = (status ≡ Ended) ⊎ (status ≡ Stuck)
+MayEnd Serial status = (status ≡ Ended) ⊎ (status ≡ Stuck)
+MayEnd Save status = (status ≡ Ended) ⊎ ((status ≡ Stuck) ⊎ (status ≡ TooLarge))
+MayEnd Ask status = (status ≡ Ended) ⊎ ((status ≡ Stuck) ⊎ (status ≡ QueryRefused))
+MayEnd command status = status ≡ Ended
+
+-- the words of `ask` spell a query
+abbrev pub HasQuery : CommandName → Options → Type 0
+HasQuery Ask options = (q : WrittenAsk) × AsksFor options q
+HasQuery command options = Unit {0}
+
+-- Accepted words, a session whose base meets its mappings, and nothing fails: the command ends so, or memory was wanting.
+abbrev pub Serves : List Letters → Status → Change → Change → Type 0
+Serves words status source out =
+    (options : Options) (input : List ℕ) (s : SessionData) → Answers words (Command options) → HasQuery options.command options
+    → Spells input s → base_violation s ≡ None → NothingFails input source out
+    → MayEnd options.command status ⊎ (status ≡ OutOfMemory)
+
+-- the commands that write the result of a run
+abbrev pub IsRun : CommandName → Type 0
+IsRun Run = Unit {0}
+IsRun Serial = Unit {0}
+IsRun command = ⊥
+
+-- Where the words ask for `run` or `serial` and that ended or stopped, every mapping in force holds in the repository that it wrote.
+abbrev pub LeavesWhatHolds : List Letters → Status → Change → Change → Type 0
+LeavesWhatHolds words status source out =
+    (options : Options) → Answers words (Command options) → IsRun options.command → HasWritten status
+    → WroteWhatHolds options.steps source out

@@ -1,0 +1,16 @@
+-- The marks of a desk.
+use Rattle.std.specs.Prelude.{ℕ, List, map, Some}
+use Rattle.yt_stamp.specs.declared.history.Made.{Made}
+use Rattle.yt_record.specs.declared.item.Mark.{Mark}
+use Rattle.yt_history.specs.Cores.{Ground}
+use Rattle.yt_history.specs.PlainEntries.{PlainEntry}
+use Rattle.yt_desk.specs.declared.board.Marked.{Marked}
+use Rattle.yt_desk.specs.Shared.{Shared}
+
+-- A mark with its maker.
+abbrev pub made_of : Marked → Made Mark
+made_of m = record { entry = m.mark; maker = Some m.maker }
+
+-- What the seats share, by the fields of a board.
+abbrev pub shared : Ground → List PlainEntry → ℕ → List Marked → List ℕ → ℕ → Shared
+shared g H k ms busy n = record { over = g; history = H; opened = k; marks = map made_of ms; busy = busy; given = n }

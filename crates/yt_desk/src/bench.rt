@@ -1,0 +1,93 @@
+//! A desk as a bench, which workers work at.
+
+use crate::board::Board;
+use crate::cores::Core;
+use crate::desk::Desk;
+use crate::tickets::{Next, Ticket};
+use std::alloc::AllocError;
+use std::sync::Wait;
+use yt_gate::{Bench, Offer};
+use yt_stamp::Seat;
+
+impl<C: Core> Bench for Desk<C> {
+    ghost use Rattle.yt_stamp.specs.declared.history.Made.{Made};
+    ghost use Rattle.yt_stamp.specs.Histories.{sum_made_by};
+    ghost use Rattle.yt_stamp.specs.Seats.{Place, place_of, number_of, seen_of};
+    ghost use Rattle.yt_record.specs.declared.item.Item.{Item};
+    ghost use Rattle.yt_history.specs.Cores.{Ground};
+    ghost use Rattle.yt_history.specs.PlainEntries.{PlainEntry};
+    ghost use Rattle.yt_desk.specs.Turns.{gifts, returns};
+    ghost use Rattle.yt_desk.specs.Seats.{IsSeatOf, IsResting};
+    ghost use Rattle.yt_desk.specs.Calls.{IsOutAt};
+    ghost use Rattle.yt_desk.specs.Tickets.{IsPlanFor};
+
+    type Seat = Seat<Board<C>>;
+
+    type Ticket = Ticket<C::Snapshot>;
+
+    type Plan = C::Plan;
+
+    ghost Lock = { Place };
+
+    ghost Mark = { Made (Item Ground PlainEntry) };
+
+    ghost owns = { IsSeatOf C.over C.history };
+
+    ghost lock = { place_of };
+
+    ghost seat_number = { number_of };
+
+    ghost seen = { seen_of };
+
+    ghost given = { λ s. sum_made_by gifts (number_of s) (seen_of s) };
+
+    ghost spent = { λ s. sum_made_by returns (number_of s) (seen_of s) };
+
+    ghost is_out = { IsOutAt C.over C.is_snapshot };
+
+    ghost is_plan = { IsPlanFor C.is_snapshot C.is_plan };
+
+    ghost rests = { IsResting };
+
+    fn offer<R: Wait>(
+        &self,
+        rt: &R,
+        seat: &mut Seat<Board<C>>,
+    ) -> Result<Offer<Ticket<C::Snapshot>>, AllocError> {
+        match self.next(rt, seat) {
+            Ok(Next::Ticket(ticket)) => Ok(Offer::Ticket(ticket)),
+            Ok(Next::Delivered { update: _ }) => Ok(Offer::Moved),
+            Ok(Next::Idle { in_flight: _ }) => Ok(Offer::Idle),
+            Ok(Next::Quiet) => Ok(Offer::Quiet),
+            Err(_) => Err(AllocError),
+        }
+    }
+
+    fn number(&self, ticket: &Ticket<C::Snapshot>) -> u64 {
+        ticket.number
+    }
+
+    fn evaluate(&self, ticket: &Ticket<C::Snapshot>) -> Result<C::Plan, AllocError> {
+        match Desk::evaluate(self, ticket) {
+            Ok(plan) => Ok(plan),
+            Err(_) => Err(AllocError),
+        }
+    }
+
+    fn finish<R: Wait>(
+        &self,
+        rt: &R,
+        seat: &mut Seat<Board<C>>,
+        ticket: Ticket<C::Snapshot>,
+        plan: C::Plan,
+    ) -> Result<(), (Ticket<C::Snapshot>, AllocError)> {
+        match Desk::finish(self, rt, seat, ticket, plan) {
+            Ok(_) => Ok(()),
+            Err((ticket, _)) => Err((ticket, AllocError)),
+        }
+    }
+
+    fn give_back<R: Wait>(&self, rt: &R, seat: &mut Seat<Board<C>>, ticket: Ticket<C::Snapshot>) {
+        Desk::give_back(self, rt, seat, ticket);
+    }
+}

@@ -1,0 +1,84 @@
+//! Explanations of the tuples that the serial run of a session leaves.
+ghost use Rattle.std.specs.Prelude.{◌≡◌, None, IfOk};
+ghost use Rattle.yt_base.specs.Contents.{facts_of};
+ghost use Rattle.yt_base.specs.Meanings.{fact_of};
+ghost use Rattle.yt_grammar.specs.Validity.{IsSession};
+ghost use Rattle.yt_model.specs.Repository.{has};
+ghost use Rattle.yt_serial.specs.Meanings.{IsSerialRun};
+ghost use Rattle.yt_session.specs.Base.{base_violation};
+ghost use Rattle.yt_session.specs.Meanings.{session_of};
+ghost use Rattle.yt_explain.specs.Meanings.{Explains};
+
+use crate::reasons::Explanation;
+use crate::telling::told_by;
+use std::alloc::Global;
+use yt_base::{Memory, TryCopy, Tuple};
+use yt_facts::IndexedFacts;
+use yt_limits::Budget;
+use yt_noted::noted_serial;
+use yt_program::SessionResult;
+use yt_provenance::laws::notes_tell;
+use yt_serial::base_of;
+use yt_session::Session;
+
+/// What a run tells, and the explanation of a tuple; None exactly where it is not in the repository that the run leaves.
+#[derive(Drop)]
+pub struct Explained {
+    pub result: SessionResult,
+    pub explanation: Option<Explanation>,
+}
+
+/// The explanation of a tuple in the repository that the serial run of the session leaves; None exactly where it is not
+/// there. Its nulls have attempt 0. Refused only for want of memory.
+pub fn explain(
+    alloc: Global,
+    session: &Session,
+    budget: Budget,
+    tuple: &Tuple,
+) -> Result<Option<Explanation>, Memory>
+    requires valid { IsSession (session_of session.now) }
+    requires met { base_violation (session_of session.now) ≡ None }
+    ensures explained { IfOk result (Explains budget (session_of session.now) (fact_of tuple.now)) }
+{
+    let base = base_of(alloc, session)?;
+    let explained = explain_over(alloc, session, base, budget, tuple)?;
+    Ok(explained.explanation)
+}
+
+/// The run of a session over its base, which is handed over as a set of tuples, with the explanation of a tuple. Refused
+/// only for want of memory.
+pub fn explain_over(
+    alloc: Global,
+    session: &Session,
+    base: IndexedFacts,
+    budget: Budget,
+    tuple: &Tuple,
+) -> Result<Explained, Memory>
+    requires valid { IsSession (session_of session.now) }
+    requires met { base_violation (session_of session.now) ≡ None }
+    requires base { base ≡ (session_of session.now).base }
+    ensures told { IfOk result (λ run. IsSerialRun budget (session_of session.now) run.result) }
+    ensures explained { IfOk result (λ run.
+        Explains budget (session_of session.now) (fact_of tuple.now) run.explanation) }
+{
+    notes_tell();
+    let run = noted_serial(alloc, session, base, budget)?;
+    if !is_left(&run.result, tuple) {
+        return Ok(Explained {
+            result: run.result,
+            explanation: None,
+        });
+    }
+    let explanation = told_by(alloc, run.notes, tuple.copy(alloc)?)?;
+    Ok(Explained {
+        result: run.result,
+        explanation: Some(explanation),
+    })
+}
+
+// Whether the tuple is in the repository that a run told.
+fn is_left(told: &SessionResult, tuple: &Tuple) -> bool
+    ensures there { result ≡ has (facts_of told.now.repository) (fact_of tuple.now) }
+{
+    told.repository.as_slice().iter().any(|held| tuple == held)
+}

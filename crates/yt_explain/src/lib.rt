@@ -1,0 +1,17 @@
+//! Why a tuple is in what the serial run of a session leaves: the reasons for it, back to tuples of the base and to what
+//! curators inserted.
+//!
+//! `specs/Meanings.antt` says which reason of `yt_provenance` a `Reason` stands for, `specs/Texts.antt` how one is written.
+//! `Err` is want of memory, of which no clause can say when it comes.
+#![tactic(auto)]
+
+mod explaining;
+mod reasons;
+mod rewriting;
+mod seeking;
+mod telling;
+mod texts;
+
+pub use crate::explaining::{Explained, explain, explain_over};
+pub use crate::reasons::{Explanation, How, Reason};
+pub use crate::texts::explanation_text;
