@@ -149,7 +149,7 @@ pub steps_from : (ms : List Rule) (s : Settings) (k : ℕ) (plan : Plan) (v v' :
 steps_from ms s k plan v v' rs mid rs' es between es' same long e steps B D requests later kept ready planned =
     let us : updates_of ms B mid ≡ updates_of ms B rs = same.updates ms B in
     let kept' : IsKept (ground_with ms s B D requests later) v mid (map entry_of between) =
-        subst (λ (xs : List Entry). IsKept (ground_with ms s B D requests later) v mid (map entry_of xs)) (sym e) (kept_same (ground_with ms s B D requests later) v rs mid (map entry_of es) same long kept) in
+    subst (λ (xs : List Entry). IsKept (ground_with ms s B D requests later) v mid (map entry_of xs)) (sym e) (kept_same (ground_with ms s B D requests later) v rs mid (map entry_of es) same long kept) in
     subst (λ (xs : List Entry). Follows (ground_with ms s B D requests later) (Steps (suc k)) (map entry_of xs) v' rs' (map entry_of es')) e
     (steps B D requests later kept'
     ((λ i. option_map (standing (caused_chase ms B) s (committed (caused_chase ms B) (us i)) (suc k)) (slice_get (us i) k)) ∙ ready)
@@ -159,7 +159,7 @@ pub delivers_from : (s : Settings) (k : ℕ) (rs mid rs' : List Record) (es betw
 delivers_from s k rs mid rs' es between es' same long e delivers ms v B D requests later kept may =
     let us : updates_of ms B mid ≡ updates_of ms B rs = same.updates ms B in
     let kept' : IsKept (ground_with ms s B D requests later) v mid (map entry_of between) =
-        subst (λ (xs : List Entry). IsKept (ground_with ms s B D requests later) v mid (map entry_of xs)) (sym e) (kept_same (ground_with ms s B D requests later) v rs mid (map entry_of es) same long kept) in
+    subst (λ (xs : List Entry). IsKept (ground_with ms s B D requests later) v mid (map entry_of xs)) (sym e) (kept_same (ground_with ms s B D requests later) v rs mid (map entry_of es) same long kept) in
     subst (λ (xs : List Entry). Follows (ground_with ms s B D requests later) (Delivers (suc k)) (map entry_of xs) v rs' (map entry_of es')) e
     (delivers ms v B D requests later kept' ((λ i. option_map (is_deliverable (caused_chase ms B) s (committed (caused_chase ms B) (us i)) (suc k)) (slice_get (us i) k)) ∙ may))
 
@@ -190,10 +190,10 @@ delivers_by s k rs r r' es es' e l spot made place told grew ms v B D requests l
     let at_us : slice_get us k ≡ Some u = slice_get-map (update_of ms B) rs k ∙ ap (option_map (update_of ms B)) (there rs k r l spot) in
     let l' : k < length us = within us k u at_us in
     let yes : is_deliverable (caused_chase ms B) s (committed (caused_chase ms B) us) (suc k) u ≡ true =
-        same_Some _ _ (sym (ap (option_map (is_deliverable (caused_chase ms B) s (committed (caused_chase ms B) us) (suc k))) at_us) ∙ may) in
+    same_Some _ _ (sym (ap (option_map (is_deliverable (caused_chase ms B) s (committed (caused_chase ms B) us) (suc k))) at_us) ∙ may) in
     let us' : updates_of ms B (set rs k r') ≡ x.updates = mapped_set (update_of ms B) rs k r' ∙ ap (λ z. set us k z) (made ms B) ∙ set_is us k w l' in
     let entry : entry_kept ms B (entry_of e) ≡ x.entry =
-        ap (entry_kept ms B) (told ms B r' (set_there rs k r' l)) ∙ (λ i. Delivered (suc k) (standing (caused_chase ms B) s (committed (caused_chase ms B) (us' i)) (suc k) (made ms B i))) in
+    ap (entry_kept ms B) (told ms B r' (set_there rs k r' l)) ∙ (λ i. Delivered (suc k) (standing (caused_chase ms B) s (committed (caused_chase ms B) (us' i)) (suc k) (made ms B i))) in
     follows g (map entry_of es) (map entry_of es') rs (set rs k r') v v (Delivers (suc k)) x (entry_of e) kept
     (allowed_delivery (caused_chase ms B) s (session_over g) us k u at_us yes) us' (put_there rs 1 k r r' kept.numbers l spot place)
     (subst (λ (n : ℕ). n < 2 ^ 32 - 1) (sym (set_long rs k r')) kept.few)

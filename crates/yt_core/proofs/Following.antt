@@ -121,13 +121,13 @@ prepared_at ms s c k v rs r plan p numbers spot counts is B requests later D H r
     let all : us ≡ take k us ++ update_of ms B r ∷ updates_of ms B (drop (suc k) rs) = sym (cut_at us k (update_of ms B r) at_us) ∙ sym (ap (λ (ws : List (Update (caused_chase ms B))). take k us ++ update_of ms B r ∷ ws) upper) in
     let versions : AreVersions ms B D (take k us ++ update_of ms B r ∷ updates_of ms B (drop (suc k) rs)) v = subst (λ (ws : List (Update (caused_chase ms B))). AreVersions ms B D ws v) all (record { sorted = kept.sorted; stand = kept.versions }) in
     let may : is_ready (standing (caused_chase ms B) s (committed (caused_chase ms B) us) (suc k) (update_of ms B r)) ≡ true =
-        ap (λ (q : Record). is_ready (standing (caused_chase ms B) s (committed (caused_chase ms B) us) (suc k) (update_of ms B q))) same ∙ ap is_ready ready in
+    ap (λ (q : Record). is_ready (standing (caused_chase ms B) s (committed (caused_chase ms B) us) (suc k) (update_of ms B q))) same ∙ ap is_ready ready in
     let plan_is : IsPlanOf ms B (below (caused_chase ms B) D us k) r plan = subst (λ (q : Record). IsPlanOf ms B (below (caused_chase ms B) D us k) q plan) (sym same) isplan in
     let left : IsStepLeft ms B s c r.program.attempt.number D (take k us) (update_of ms B r) (updates_of ms B (drop (suc k) rs)) p =
-        is B D (take k us) (committed (caused_chase ms B) us) (suc k) (number ∙ sym (ap suc long)) versions may plan_is in
+    is B D (take k us) (committed (caused_chase ms B) us) (suc k) (number ∙ sym (ap suc long)) versions may plan_is in
     let moved : IsStepLeft ms B s (committed (caused_chase ms B) us) (suc k) D (take k us) (update_of ms B r) (updates_of ms B (drop (suc k) rs)) p =
-        subst (λ (j : ℕ). IsStepLeft ms B s (committed (caused_chase ms B) us) j D (take k us) (update_of ms B r) (updates_of ms B (drop (suc k) rs)) p) number
-        (subst (λ (d : ℕ). IsStepLeft ms B s d r.program.attempt.number D (take k us) (update_of ms B r) (updates_of ms B (drop (suc k) rs)) p) (counts ms B) left) in
+    subst (λ (j : ℕ). IsStepLeft ms B s (committed (caused_chase ms B) us) j D (take k us) (update_of ms B r) (updates_of ms B (drop (suc k) rs)) p) number
+    (subst (λ (d : ℕ). IsStepLeft ms B s d r.program.attempt.number D (take k us) (update_of ms B r) (updates_of ms B (drop (suc k) rs)) p) (counts ms B) left) in
     subst (λ (q : Record). IsStepLeft ms B s (committed (caused_chase ms B) us) (suc k) D (take k us) (update_of ms B q) (drop (suc k) us) p) same
     (subst (λ (ws : List (Update (caused_chase ms B))). IsStepLeft ms B s (committed (caused_chase ms B) us) (suc k) D (take k us) (update_of ms B r) ws p) upper moved)
 
@@ -165,21 +165,21 @@ step_follows ms s B k D requests later es es' rs rs' v v' r plan p a e kept spot
     let left : IsStepLeft ms B s (committed (caused_chase ms B) us) (suc k) D (take k us) u (drop (suc k) us) p = prepared B requests later D (map entry_of es) r kept spot ready isplan in
     let at_us : slice_get us k ≡ Some u = slice_get-map (update_of ms B) rs k ∙ ap (option_map (update_of ms B)) spot in
     let us' : updates_of ms B rs' ≡ x.updates =
-        installed ms B (below (caused_chase ms B) D us k) r (marks_for ms B p.left.fresh.items) spot isplan (marked_so ms B p.left.fresh.items)
-        ∙ ap (λ (ws : List (Update (caused_chase ms B))). take k us ++ w ∷ ws) (left.restarts (marks_for ms B p.left.fresh.items) (marked_so ms B p.left.fresh.items)) in
+    installed ms B (below (caused_chase ms B) D us k) r (marks_for ms B p.left.fresh.items) spot isplan (marked_so ms B p.left.fresh.items)
+    ∙ ap (λ (ws : List (Update (caused_chase ms B))). take k us ++ w ∷ ws) (left.restarts (marks_for ms B p.left.fresh.items) (marked_so ms B p.left.fresh.items)) in
     let l : k < length us = within us k u at_us in
     let at_new : slice_get (updates_of ms B rs') k ≡ Some w = ap (λ (ws : List (Update (caused_chase ms B))). slice_get ws k) us' ∙ put_here us w _ k (omega (arith, l)) in
     let found = from_mapped (update_of ms B) rs' k w at_new in
     let entry : entry_kept ms B (entry_of e) ≡ x.entry =
-        ap (entry_kept ms B) (told ms B found.0 found.1)
-        ∙ (λ i. Stepped (record {
-            update = suc k;
-            attempt = attempt i;
-            standing = standing (caused_chase ms B) s (committed (caused_chase ms B) (us' i)) (suc k) (found.2 i);
-            writes = left.writes i;
-            causes = left.causes i;
-            committed = committed (caused_chase ms B) (us' i);
-          })) in
+    ap (entry_kept ms B) (told ms B found.0 found.1)
+    ∙ (λ i. Stepped (record {
+      update = suc k;
+      attempt = attempt i;
+      standing = standing (caused_chase ms B) s (committed (caused_chase ms B) (us' i)) (suc k) (found.2 i);
+      writes = left.writes i;
+      causes = left.causes i;
+      committed = committed (caused_chase ms B) (us' i);
+    })) in
     follows g (map entry_of es) (map entry_of es') rs rs' v v' (Steps (suc k)) x (entry_of e) kept
     (allowed_step (caused_chase ms B) s (session_over g) us k u at_us (ap is_ready ready)) us' numbers
     (subst (λ (n : ℕ). n < 2 ^ 32 - 1) (sym long) kept.few)
@@ -199,7 +199,7 @@ steps_to ms s k es es' rs rs' v v' r plan p a e spot prepared installed numbers 
     let us : List (Update (caused_chase ms B)) = updates_of ms B rs in
     let at_us : slice_get us k ≡ Some (update_of ms B r) = slice_get-map (update_of ms B) rs k ∙ ap (option_map (update_of ms B)) spot in
     let may : standing (caused_chase ms B) s (committed (caused_chase ms B) us) (suc k) (update_of ms B r) ≡ Ready =
-        same_Some _ _ (sym (ap (option_map (standing (caused_chase ms B) s (committed (caused_chase ms B) us) (suc k))) at_us) ∙ ready) in
+    same_Some _ _ (sym (ap (option_map (standing (caused_chase ms B) s (committed (caused_chase ms B) us) (suc k))) at_us) ∙ ready) in
     let is : IsStepOver ms B (below (caused_chase ms B) D us k) (update_of ms B r) (meant_of (suc k) plan) =
-        subst (λ (o : Option (Update (caused_chase ms B))). IsSomeThat (λ u. IsStepOver ms B (below (caused_chase ms B) D us k) u (meant_of (suc k) plan)) o) at_us planned in
+    subst (λ (o : Option (Update (caused_chase ms B))). IsSomeThat (λ u. IsStepOver ms B (below (caused_chase ms B) D us k) u (meant_of (suc k) plan)) o) at_us planned in
     step_follows ms s B k D requests later es es' rs rs' v v' r plan p a e kept spot may (record { program = is.program; reads = is.reads }) prepared installed numbers long versions attempt told grew

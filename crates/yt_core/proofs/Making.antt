@@ -84,7 +84,7 @@ step_left g v rs H i c n r k spot ready =
     let u : Update (machine g) = update_of g.rules g.budget r in
     let o = (ready_parts (machine g) g.settings c n u ready).0 in
     let more : suc r.program.attempt.steps ≤ g.budget =
-        (counted (machine g) (chase_laws caused g.rules g.budget k.budget) ((history_of g v rs H k).runs i u (update_there g v rs H i r k spot) o.present)).1 o.going in
+    (counted (machine g) (chase_laws caused g.rules g.budget k.budget) ((history_of g v rs H k).runs i u (update_there g v rs H i r k spot) o.present)).1 o.going in
     omega (arith, more)
 
 -- ---- numbers
@@ -163,7 +163,7 @@ plan_placed g v rs H s i r plan kept same spot is =
     let us : List (Update (machine g)) = updates_of g.rules g.budget rs in
     let found : slice_get us i ≡ Some (update_of g.rules g.budget r) = slice_get-map (update_of g.rules g.budget) rs i ∙ ap (option_map (update_of g.rules g.budget)) spot in
     let step : IsStepOver g.rules g.budget (below (machine g) g.base us i) (update_of g.rules g.budget r) (meant_of (suc i) plan) =
-        subst (λ (o : Option (Update (machine g))). IsSomeThat (λ u. IsStepOver g.rules g.budget (below (machine g) g.base us i) u (meant_of (suc i) plan)) o) found (planned_placed g v rs H s i (meant_of (suc i) plan) kept same refl is) in
+    subst (λ (o : Option (Update (machine g))). IsSomeThat (λ u. IsStepOver g.rules g.budget (below (machine g) g.base us i) u (meant_of (suc i) plan)) o) found (planned_placed g v rs H s i (meant_of (suc i) plan) kept same refl is) in
     subst (λ (o : Option Record). IsSomeThat (λ (q : Record). IsPlanFor q plan) o) (sym spot)
     (record { rules = g.rules; budget = g.budget; below = below (machine g) g.base us i; planned = record { program = step.program; reads = step.reads } })
 
@@ -176,9 +176,9 @@ snapshot_is g v rs H s i r p kept same spot is =
     let found : slice_get us i ≡ Some (update_of g.rules g.budget r) = slice_get-map (update_of g.rules g.budget) rs i ∙ ap (option_map (update_of g.rules g.budget)) spot in
     let sees : seen r.program.attempt.number v ≡ below (machine g) g.base us i = ap (λ m. seen m v) number ∙ below_is_seen caused g.rules g.budget v g.base us kept.sorted kept.versions i in
     let here : IsStepOver g.rules g.budget (below (machine g) g.base us i) (update_of g.rules g.budget r) p =
-        subst (λ (D : List Fact). IsStepOver g.rules g.budget D (update_of g.rules g.budget r) p) sees (record { program = is.program; reads = is.reads }) in
+    subst (λ (D : List Fact). IsStepOver g.rules g.budget D (update_of g.rules g.budget r) p) sees (record { program = is.program; reads = is.reads }) in
     let among : IsStepAmong g.rules g.budget g.base us (suc i) p =
-        subst (λ (o : Option (Update (machine g))). IsSomeThat (λ u. IsStepOver g.rules g.budget (below (machine g) g.base us i) u p) o) (sym found) here in
+    subst (λ (o : Option (Update (machine g))). IsSomeThat (λ u. IsStepOver g.rules g.budget (below (machine g) g.base us i) u p) o) (sym found) here in
     subst (λ (t : State). IsStepAt t p) same
     (subst (λ (ws : List (Update (machine g))). IsStepAmong g.rules g.budget g.base ws p.update p) (sym kept.left.leaves)
     (subst (λ (m : ℕ). IsStepAmong g.rules g.budget g.base us m p) (sym (is.update ∙ number)) among))
@@ -189,8 +189,8 @@ pub step_made : (g : Ground) (v v' : Kept) (rs rs' : List Record) (es es' : List
     → n ≡ suc i → standing_at old n ≡ Some Ready → IsStepAt old (meant_of n plan) → StepsTo g.rules g.settings i plan v rs es v' rs' es' → Follows g (Steps n) (map entry_of es) v' rs' (map entry_of es')
 step_made g v v' rs rs' es es' old new i n plan kept same e ready is steps =
     let made : Follows g (Steps (suc i)) (map entry_of es) v' rs' (map entry_of es') =
-        steps g.budget g.base g.requests g.later kept (stands_placed g v rs (map entry_of es) old kept same n Ready ready i e)
-        (planned_placed g v rs (map entry_of es) old i (meant_of (suc i) plan) kept same refl (subst (λ (m : ℕ). IsStepAt old (meant_of m plan)) e is)) in
+    steps g.budget g.base g.requests g.later kept (stands_placed g v rs (map entry_of es) old kept same n Ready ready i e)
+    (planned_placed g v rs (map entry_of es) old i (meant_of (suc i) plan) kept same refl (subst (λ (m : ℕ). IsStepAt old (meant_of m plan)) e is)) in
     subst (λ (m : ℕ). Follows g (Steps m) (map entry_of es) v' rs' (map entry_of es')) (sym e) made
 
 pub has_stepped : (g : Ground) (v : Kept) (rs : List Record) (H H' : List PlainEntry) (old new : State) (n : ℕ) → record { over = g; history = H } ≡ old → record { over = g; history = H' } ≡ new
@@ -213,7 +213,7 @@ opened_kept ms B c base us v rs es n some retries within' sorted few are numbers
     let xs : List (Submission (caused_chase ms B)) = handed_in ms B us.items in
     let all : (session_over g).submissions ≡ xs = ap (submissions ms B) (append-nil (map request_of (map session_update_of us.items))) in
     let many : length xs ≡ length us.items =
-        mapped_long (λ (r : Request). record { operation = r.operation; answers = r.answers }) (map request_of (map session_update_of us.items)) ∙ mapped_long request_of (map session_update_of us.items) ∙ mapped_long session_update_of us.items in
+    mapped_long (λ (r : Request). record { operation = r.operation; answers = r.answers }) (map request_of (map session_update_of us.items)) ∙ mapped_long request_of (map session_update_of us.items) ∙ mapped_long session_update_of us.items in
     let left : Leave g (admissions_from 1 (length xs)) (admitted_from (caused_chase ms B) 1 xs) = all_admitted g some xs all in
     record {
       left =
@@ -236,7 +236,7 @@ record_placed (r ∷ rs) zero l = (r, refl)
 record_placed (r ∷ rs) (suc i) l = record_placed rs i (omega (arith, l))
 
 module _ (g : Ground) (v : Kept) (rs : List Record) (H : List PlainEntry) (s : State) (kept : IsKept g v rs H) (same : record { over = g; history = H } ≡ s) (n : ℕ) (stands : standing_at s n ≡ Some Ready) (i : ℕ) (e : suc i ≡ n) (qs : List Record) (slice : qs ≡ rs)
-  (ms : List Rule) (rules : ms ≡ g.rules) (p : PlanMeant) (taken : AtPlace i qs (λ r. IsSnapshotOf ms g.budget v r p)) where
+    (ms : List Rule) (rules : ms ≡ g.rules) (p : PlanMeant) (taken : AtPlace i qs (λ r. IsSnapshotOf ms g.budget v r p)) where
   taken_there : (r : Record) × (slice_get rs i ≡ Some r) × IsSnapshotOf g.rules g.budget v r p
   taken_there =
       let x = record_placed rs i (placed_within g v rs H s kept same n Ready stands i (sym e)) in
@@ -285,7 +285,7 @@ reading_of : (p q : ProgramState) → p ≡ q → p.reading ≡ q.reading
 reading_of p q e = ap (λ (t : ProgramState). t.reading) e
 
 module _ (g : Ground) (v : Kept) (rs : List Record) (es : List Entry) (s : State) (kept : IsKept g v rs (map entry_of es)) (same : record { over = g; history = map entry_of es } ≡ s) (n : ℕ) (stands : standing_at s n ≡ Some Ready) (i : ℕ) (e : suc i ≡ n) (qs : List Record) (slice : qs ≡ rs)
-  (plan : Plan) (p : PlanMeant) (meant : meant_of n plan ≡ p) (is : IsStepAt s p) where
+    (plan : Plan) (p : PlanMeant) (meant : meant_of n plan ≡ p) (is : IsStepAt s p) where
   step_here : IsStepAt s (meant_of (suc i) plan)
   step_here = subst (λ (m : ℕ). IsStepAt s (meant_of m plan)) (sym e) (subst (λ (q : PlanMeant). IsStepAt s q) (sym meant) is)
 
@@ -347,13 +347,13 @@ module _ (g : Ground) (v : Kept) (rs : List Record) (es : List Entry) (s : State
   core_delivers qs' es' waits delivers =
       let us : List (Update (machine g)) = updates_of g.rules g.budget rs in
       let waits_here : unwrap_or (option_map (λ (u : Update (machine g)). not (is_nil u.inbox)) (slice_get us i)) false ≡ true =
-          ap (λ m. unwrap_or (option_map (λ (u : Update (machine g)). not (is_nil u.inbox)) (numbered_at us m)) false) e
-          ∙ sym (ap (λ (ws : List (Update (machine g))). unwrap_or (option_map (λ (u : Update (machine g)). not (is_nil u.inbox)) (numbered_at ws n)) false) kept.left.leaves)
-          ∙ ap (λ (t : State). has_waiting t n) same ∙ waits in
+      ap (λ m. unwrap_or (option_map (λ (u : Update (machine g)). not (is_nil u.inbox)) (numbered_at us m)) false) e
+      ∙ sym (ap (λ (ws : List (Update (machine g))). unwrap_or (option_map (λ (u : Update (machine g)). not (is_nil u.inbox)) (numbered_at ws n)) false) kept.left.leaves)
+      ∙ ap (λ (t : State). has_waiting t n) same ∙ waits in
       let may : option_map (is_deliverable (machine g) g.settings (committed (machine g) us) (suc i)) (slice_get us i) ≡ Some true =
-          deliverable_if (machine g) g.settings (committed (machine g) us) (suc i) (slice_get us i) (stands_placed g v rs (map entry_of es) s kept same n (Paused Missing) stands i (sym e)) waits_here in
+      deliverable_if (machine g) g.settings (committed (machine g) us) (suc i) (slice_get us i) (stands_placed g v rs (map entry_of es) s kept same n (Paused Missing) stands i (sym e)) waits_here in
       let made : Follows g (Delivers (suc i)) (map entry_of es) v qs' (map entry_of es') =
-          subst (λ (xs : List Record). DeliversTo g.settings i xs es qs' es') slice delivers g.rules v g.budget g.base g.requests g.later kept may in
+      subst (λ (xs : List Record). DeliversTo g.settings i xs es qs' es') slice delivers g.rules v g.budget g.base g.requests g.later kept may in
       subst (λ (m : ℕ). Follows g (Delivers m) (map entry_of es) v qs' (map entry_of es')) e made
 
 -- ---- what a snapshot plans

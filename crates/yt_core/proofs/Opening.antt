@@ -63,12 +63,12 @@ module _ (g : Ground) (some : 1 ≤ g.budget) where
       let long : length us ≡ length before = admitted_long (machine g) 1 before in
       let next : slice_get (session_over g).submissions (length us) ≡ Some x = (λ i. slice_get (all i) (long i)) ∙ next_is before x rest in
       let allowed : effect_after g (admissions_from 1 (length before)) Admits ≡ Some y =
-          ap (λ (ws : List (Update (machine g))). effect (machine g) g.settings (session_over g) ws Admits) h.leaves ∙ ap (option_map (admit_effect (machine g) us)) next in
+      ap (λ (ws : List (Update (machine g))). effect (machine g) g.settings (session_over g) ws Admits) h.leaves ∙ ap (option_map (admit_effect (machine g) us)) next in
       let more : Leave g (admissions_from 1 (length before) ++ plain_entry g.rules g.budget y.entry ∷ []) y.updates = (histories_are_kept g some).grows (admissions_from 1 (length before)) Admits y h.legal allowed in
       let entries : admissions_from 1 (length before) ++ WasAdmitted (suc (length us)) ∷ [] ≡ admissions_from 1 (length (before ++ x ∷ [])) =
-          ap (λ m. admissions_from 1 (length before) ++ WasAdmitted (suc m) ∷ []) long ∙ ap (λ m. admissions_from 1 (length before) ++ WasAdmitted m ∷ []) (next_number (length before)) ∙ one_entry 1 (length before) ∙ ap (admissions_from 1) (sym (one_longer before x)) in
+      ap (λ m. admissions_from 1 (length before) ++ WasAdmitted (suc m) ∷ []) long ∙ ap (λ m. admissions_from 1 (length before) ++ WasAdmitted m ∷ []) (next_number (length before)) ∙ one_entry 1 (length before) ∙ ap (admissions_from 1) (sym (one_longer before x)) in
       let updates : us ++ admitted (machine g) (suc (length us)) x ∷ [] ≡ admitted_from (machine g) 1 (before ++ x ∷ []) =
-          ap (λ m. us ++ admitted (machine g) (suc m) x ∷ []) long ∙ ap (λ m. us ++ admitted (machine g) m x ∷ []) (next_number (length before)) ∙ one_update (machine g) 1 before x in
+      ap (λ m. us ++ admitted (machine g) (suc m) x ∷ []) long ∙ ap (λ m. us ++ admitted (machine g) m x ∷ []) (next_number (length before)) ∙ one_update (machine g) 1 before x in
       subst (λ H. Leave g H (admitted_from (machine g) 1 (before ++ x ∷ []))) entries
       (subst (λ (ws : List (Update (machine g))). Leave g (admissions_from 1 (length before) ++ WasAdmitted (suc (length us)) ∷ []) ws) updates more)
 

@@ -122,7 +122,7 @@ installed_is rs rs' k plan fs r r' l e steps restarts ms B D q xs spot is marks 
     let same : r ≡ q = same_Some r q (sym (there_is rs k r l e) ∙ spot) in
     let there : get_or rs k r ≡ q = sym e ∙ same in
     let made : update_of ms B r' ≡ stepped (caused_chase ms B) D (update_of ms B q) =
-        steps ms B D (subst (λ (p : Record). IsPlanOf ms B D p plan) (sym there) is) ∙ ap (λ (p : Record). stepped (caused_chase ms B) D (update_of ms B p)) there in
+    steps ms B D (subst (λ (p : Record). IsPlanOf ms B D p plan) (sym there) is) ∙ ap (λ (p : Record). stepped (caused_chase ms B) D (update_of ms B p)) there in
     let at_us : slice_get us k ≡ Some (update_of ms B q) = slice_get-map (update_of ms B) rs k ∙ ap (option_map (update_of ms B)) spot in
     let l' : k < length us = within us k (update_of ms B q) at_us in
     let put : updates_of ms B (set rs k r') ≡ set us k (stepped (caused_chase ms B) D (update_of ms B q)) = mapped_set (update_of ms B) rs k r' ∙ ap (λ u. set us k u) made in

@@ -62,13 +62,13 @@ module _ (ms : List Rule) (B : ℕ) (D : List Fact) (u : Update (caused_chase ms
       let o = (ready_parts (caused_chase ms B) s c n u r).0 in
       let after : List Change = (caused_chase ms B).own (stepped (caused_chase ms B) D u).state in
       let left : trail (caused_chase ms B) (stepped (caused_chase ms B) D u) ≡ after =
-          if_is_false u.withdrawn [] (if hides ((caused_chase ms B).outcome (stepped (caused_chase ms B) D u).state) then [] else after) o.present
-          ∙ if_is_false (hides ((caused_chase ms B).outcome (stepped (caused_chase ms B) D u).state)) [] after h in
+      if_is_false u.withdrawn [] (if hides ((caused_chase ms B).outcome (stepped (caused_chase ms B) D u).state) then [] else after) o.present
+      ∙ if_is_false (hides ((caused_chase ms B).outcome (stepped (caused_chase ms B) D u).state)) [] after h in
       let before : trail (caused_chase ms B) u ≡ u.state.own =
-          if_is_false u.withdrawn [] (if hides ((caused_chase ms B).outcome u.state) then [] else u.state.own) o.present
-          ∙ if_is_false (hides ((caused_chase ms B).outcome u.state)) [] u.state.own (ap hides o.going) in
+      if_is_false u.withdrawn [] (if hides ((caused_chase ms B).outcome u.state) then [] else u.state.own) o.present
+      ∙ if_is_false (hides ((caused_chase ms B).outcome u.state)) [] u.state.own (ap hides o.going) in
       let shown : step_writes (caused_chase ms B) D u ≡ (next_move (caused_chase ms B) u.operation D u.answers u.state).writes =
-          if_is_false (hides ((caused_chase ms B).outcome (stepped (caused_chase ms B) D u).state)) [] ((next_move (caused_chase ms B) u.operation D u.answers u.state).writes) h in
+      if_is_false (hides ((caused_chase ms B).outcome (stepped (caused_chase ms B) D u).state)) [] ((next_move (caused_chase ms B) u.operation D u.answers u.state).writes) h in
       left ∙ sym (λ i. before i ++ shown i)
 
 -- The attempt after the step is that of the plan.
@@ -115,9 +115,9 @@ found_in_writes a s old r upper plan found b d n spent f are B E lower e before 
     let j : a.update ≡ suc (length lower) = n ∙ e in
     let law = (walk_law (caused_chase a.rules B) a.deps a.committed (suc (length lower)) D u us).0 in
     let mine : causes_above a.rules B s a.committed (suc (length lower)) E lower u us ≡ causes_of_writes (caused_chase a.rules B) a.deps a.committed (suc (length lower)) D us =
-        ap (λ (x : Deps). causes_of_step (caused_chase a.rules B) x a.committed (suc (length lower)) (laid a.rules B E lower) u v us) (sym d)
-        ∙ if_is_false (is_spent ((caused_chase a.rules B).outcome v.state)) (causes_of_loss (caused_chase a.rules B) a.deps a.committed (suc (length lower)) (laid a.rules B E lower) u us) (causes_of_writes (caused_chase a.rules B) a.deps a.committed (suc (length lower)) D us)
-        (ap (λ (P : Rattle.yt_steps.specs.Attempts.Attempt). is_spent (option_map ending (outcome_in P.phase))) (sym (plan_state a.rules B (laid a.rules B E lower) r plan p)) ∙ sym spent ∙ f) in
+    ap (λ (x : Deps). causes_of_step (caused_chase a.rules B) x a.committed (suc (length lower)) (laid a.rules B E lower) u v us) (sym d)
+    ∙ if_is_false (is_spent ((caused_chase a.rules B).outcome v.state)) (causes_of_loss (caused_chase a.rules B) a.deps a.committed (suc (length lower)) (laid a.rules B E lower) u us) (causes_of_writes (caused_chase a.rules B) a.deps a.committed (suc (length lower)) D us)
+    (ap (λ (P : Rattle.yt_steps.specs.Attempts.Attempt). is_spent (option_map ending (outcome_in P.phase))) (sym (plan_state a.rules B (laid a.rules B E lower) r plan p)) ∙ sym spent ∙ f) in
     found_by a.rules B (causes_above a.rules B s a.committed (suc (length lower)) E lower u us) (suc (suc (length lower))) us found
     (settle (caused_chase a.rules B) a.deps true a.committed (suc (length lower)) D D [] (suc (suc (length lower))) us)
     (are B E lower v j after ∙ (λ i. settle (caused_chase a.rules B) a.deps true a.committed (j i) D D [] (suc (j i)) us))
@@ -137,9 +137,9 @@ found_in_loss a s new r upper plan ws found b d n spent f trail_is are B E lower
     let law = (walk_law (caused_chase a.rules B) a.deps a.committed (suc (length lower)) D u us).1 in
     let S : List (Option (Cause (caused_chase a.rules B))) = settle (caused_chase a.rules B) a.deps false a.committed (suc (length lower)) D' D (record { number = suc (length lower); trail = trail (caused_chase a.rules B) u } ∷ []) (suc (suc (length lower))) us in
     let mine : causes_above a.rules B s a.committed (suc (length lower)) E lower u us ≡ causes_of_loss (caused_chase a.rules B) a.deps a.committed (suc (length lower)) D u us =
-        ap (λ (x : Deps). causes_of_step (caused_chase a.rules B) x a.committed (suc (length lower)) (laid a.rules B E lower) u v us) (sym d)
-        ∙ if_is_true (is_spent ((caused_chase a.rules B).outcome v.state)) (causes_of_loss (caused_chase a.rules B) a.deps a.committed (suc (length lower)) D u us) (causes_of_writes (caused_chase a.rules B) a.deps a.committed (suc (length lower)) (apply D (trail (caused_chase a.rules B) v)) us)
-        (ap (λ (P : Rattle.yt_steps.specs.Attempts.Attempt). is_spent (option_map ending (outcome_in P.phase))) (sym (plan_state a.rules B D r plan p)) ∙ sym spent ∙ f) in
+    ap (λ (x : Deps). causes_of_step (caused_chase a.rules B) x a.committed (suc (length lower)) (laid a.rules B E lower) u v us) (sym d)
+    ∙ if_is_true (is_spent ((caused_chase a.rules B).outcome v.state)) (causes_of_loss (caused_chase a.rules B) a.deps a.committed (suc (length lower)) D u us) (causes_of_writes (caused_chase a.rules B) a.deps a.committed (suc (length lower)) (apply D (trail (caused_chase a.rules B) v)) us)
+    (ap (λ (P : Rattle.yt_steps.specs.Attempts.Attempt). is_spent (option_map ending (outcome_in P.phase))) (sym (plan_state a.rules B D r plan p)) ∙ sym spent ∙ f) in
     found_by a.rules B (causes_above a.rules B s a.committed (suc (length lower)) E lower u us) (suc (suc (length lower))) us found S
     (are B E lower u j (sym (trail_is a.rules B)) before
     ∙ (λ i. settle (caused_chase a.rules B) a.deps false a.committed (j i) D' D (record { number = j i; trail = trail (caused_chase a.rules B) u } ∷ []) (suc (j i)) us))
@@ -160,7 +160,7 @@ step_prepared ms s c old after r upper plan found ws p from shows were cleared t
     let is = were B E lower e versions mid isplan in
     let mid' : AreVersions ms B E ((lower ++ v ∷ []) ++ us) after = subst (λ (xs : List (Update (caused_chase ms B))). AreVersions ms B E xs after) (sym (one_by_one ms B lower v us)) mid in
     let cut : AreVersions ms B E ((lower ++ v ∷ []) ++ restart (caused_chase ms B) (suc (suc (length lower))) (all_found ms B found) us) p.left.versions =
-        versions_cleared ms B (suc (suc (length lower))) E (lower ++ v ∷ []) upper found (all_found ms B found) after p.left.versions (ap suc (more lower v)) (subst (λ (m : ℕ). AreFrom (suc m) upper) e from) (all_marked ms B found) cleared mid' in
+    versions_cleared ms B (suc (suc (length lower))) E (lower ++ v ∷ []) upper found (all_found ms B found) after p.left.versions (ap suc (more lower v)) (subst (λ (m : ℕ). AreFrom (suc m) upper) e from) (all_marked ms B found) cleared mid' in
     subst (λ (j : ℕ). IsStepLeft ms B s c j E lower u us p) (sym e)
     (record {
       causes = ap (λ cs. map (cause_kept ms B) (map cause_of cs)) causes ∙ is.told;

@@ -72,8 +72,7 @@ deliverable_stands s i h =
     let r : Passes M (λ n u. is_deliverable M s.over.settings c n u) 1 us i = lowest_passes M (λ n u. is_deliverable M s.over.settings c n u) 1 us i h in
     let number : i ≡ suc r.place = omega (arith, r.number) in
     let there : numbered_at us i ≡ Some r.update = ap (numbered_at us) number ∙ r.there in
-    let both = and_parts (is_pending (standing M s.over.settings c i r.update)) (not (is_nil r.update.inbox)) r.passes in
-    (
+    let both = and_parts (is_pending (standing M s.over.settings c i r.update)) (not (is_nil r.update.inbox)) r.passes in (
       ap (λ (o : Option (Update M)). option_map (standing M s.over.settings c i) o) there ∙ ap Some (pending_is (standing M s.over.settings c i r.update) both.0),
       ap (λ (o : Option (Update M)). unwrap_or (option_map (λ u. not (is_nil u.inbox)) o) false) there ∙ both.1,
     )

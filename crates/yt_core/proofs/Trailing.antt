@@ -95,7 +95,7 @@ module _ (ms : List Rule) (B : ℕ) where
       let one : AreVersions ms B D (lower ++ restarted_if (is_some x) (suc (length lower)) (update_of ms B r) ∷ updates_of ms B rs) c.0 = cleared_one (is_some x) D lower r (updates_of ms B rs) old c.0 (a.0.number ∙ e) c.1 h in
       let same : restarted_if (is_some x) (suc (length lower)) (update_of ms B r) ≡ w = sym (λ i. restarted_if (b i) (e i) (update_of ms B r)) in
       let mid : AreVersions ms B D ((lower ++ w ∷ []) ++ updates_of ms B rs) c.0 =
-          subst (λ (us : List (Update (caused_chase ms B))). AreVersions ms B D us c.0) ((λ i. lower ++ same i ∷ updates_of ms B rs) ∙ sym (one_by_one lower w (updates_of ms B rs))) one in
+      subst (λ (us : List (Update (caused_chase ms B))). AreVersions ms B D us c.0) ((λ i. lower ++ same i ∷ updates_of ms B rs) ∙ sym (one_by_one lower w (updates_of ms B rs))) one in
       subst (λ (us : List (Update (caused_chase ms B))). AreVersions ms B D us new) (one_by_one lower w (restart (caused_chase ms B) (suc n) ys (updates_of ms B rs)))
       (versions_cleared (suc n) D (lower ++ w ∷ []) rs xs ys c.0 new (ap suc e ∙ ap suc (longer lower w)) a.1 bs c.2 mid)
     where

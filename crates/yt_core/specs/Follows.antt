@@ -90,13 +90,13 @@ abbrev pub TellsStep : Settings → ℕ → ℕ → Listed Write → Listed Caus
 TellsStep s k attempt writes causes rs e =
     (ms : List Rule) (B : ℕ) (r : Record) → slice_get rs k ≡ Some r
     → entry_of e ≡ WasStepped (record {
-        update = suc k;
-        attempt = attempt;
-        standing = standing (caused_chase ms B) s (committed (caused_chase ms B) (updates_of ms B rs)) (suc k) (update_of ms B r);
-        writes = map change_of writes.items;
-        causes = map cause_of causes.items;
-        committed = committed (caused_chase ms B) (updates_of ms B rs);
-      })
+      update = suc k;
+      attempt = attempt;
+      standing = standing (caused_chase ms B) s (committed (caused_chase ms B) (updates_of ms B rs)) (suc k) (update_of ms B r);
+      writes = map change_of writes.items;
+      causes = map cause_of causes.items;
+      committed = committed (caused_chase ms B) (updates_of ms B rs);
+    })
 
 -- The entry is that of a delivery to the update at the place.
 abbrev pub TellsDelivery : Settings → ℕ → List Record → Entry → Type 0

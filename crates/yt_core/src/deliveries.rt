@@ -47,12 +47,7 @@ fn reserve_delivery(
 }
 
 // Delivers the first recorded answer. There is room for it.
-fn make_delivery(
-    settings: Settings,
-    queue: &mut [Record],
-    history: &mut EntryList,
-    place: usize,
-)
+fn make_delivery(settings: Settings, queue: &mut [Record], history: &mut EntryList, place: usize)
     requires place { place < length queue.old }
     requires numbers { AreFrom 1 queue.old }
     requires room { HasAnswerRoomAt place queue.old }

@@ -47,7 +47,9 @@ pub(crate) fn prepare(
     ensures fresh { IfOk result (λ p. AreFresh upper.now p.left.fresh.items) }
 {
     let after = versions_after(alloc, versions, item, plan)?;
-    let found = found(alloc, mappings, settings, committed, versions, &after, item, upper, plan)?;
+    let found = found(
+        alloc, mappings, settings, committed, versions, &after, item, upper, plan,
+    )?;
     let left = settled(alloc, after, upper, found)?;
     let writes = copied(alloc, item.written(plan))?;
     Ok(Prepared { writes, left })
@@ -147,7 +149,9 @@ pub(crate) fn prepare_at(
     let committed = committed(queue);
     let item = &queue[place];
     let upper = above(queue, place);
-    let prepared = prepare(alloc, mappings, settings, committed, versions, item, upper, plan)?;
+    let prepared = prepare(
+        alloc, mappings, settings, committed, versions, item, upper, plan,
+    )?;
     Ok(prepared)
 }
 
@@ -161,12 +165,7 @@ fn above(queue: &[Record], place: usize) -> &[Record]
 
 /// Puts the step of the plan in place, and restarts those of the updates above for which there is an attempt. It takes no
 /// memory.
-pub(crate) fn install(
-    queue: &mut [Record],
-    place: usize,
-    plan: Plan,
-    fresh: Vec<Option<Program>>,
-)
+pub(crate) fn install(queue: &mut [Record], place: usize, plan: Plan, fresh: Vec<Option<Program>>)
     requires place { place < length queue.old }
     requires numbers { AreFrom 1 queue.old }
     requires room { HasRoomAt place plan queue.old }
@@ -295,6 +294,8 @@ pub(crate) fn step_at(
     ensures long { length queue.new ≡ length queue.old }
 {
     reserve_step(queue, history, place, &plan)?;
-    make_step(alloc, mappings, settings, versions, queue, history, place, plan)?;
+    make_step(
+        alloc, mappings, settings, versions, queue, history, place, plan,
+    )?;
     Ok(())
 }
