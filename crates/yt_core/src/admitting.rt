@@ -31,7 +31,8 @@ pub(crate) fn admitted(alloc: Global, updates: &[SessionUpdate]) -> Result<Vec<R
 /// The entries of the admissions of these updates. It is refused only for want of memory.
 pub(crate) fn admissions(alloc: Global, updates: &[SessionUpdate]) -> Result<EntryList, Memory>
     requires few { length updates.now ≤ 1000 }
-    ensures entries { IfOk result (λ history. map entry_of history.items ≡ admissions_from 1 (length updates.now)) }
+    ensures entries { IfOk result (λ history. map entry_of history.items ≡ admissions_from 1
+        (length updates.now)) }
 {
     let mut history = EntryList::new(alloc);
     for i in 0..updates.len() {

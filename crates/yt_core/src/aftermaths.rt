@@ -100,8 +100,10 @@ fn put(
     dependences: &mut CauseList,
     cause: Option<Cause>,
 ) -> Result<(), Memory>
-    ensures conflicts { OnOk result (conflicts.new.items ≡ conflicts.old.items ++ conflict_in cause) }
-    ensures dependences { OnOk result (dependences.new.items ≡ dependences.old.items ++ dependence_in cause) }
+    ensures conflicts { OnOk result (conflicts.new.items ≡ conflicts.old.items ++ conflict_in
+        cause) }
+    ensures dependences { OnOk result (dependences.new.items ≡ dependences.old.items ++
+        dependence_in cause) }
 {
     let Some(cause) = cause else {
         return Ok(());

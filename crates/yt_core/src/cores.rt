@@ -72,7 +72,8 @@ impl<'s> Core<'s> {
     ) -> Result<Core<'s>, Memory>
         requires valid { IsSession (session_of session.now) }
         requires retries { settings.retries ≤ 4 }
-        ensures opened { IfOk result (λ core. core ≡ opened (session_of session.now) budget (settings_of settings) (length session.now.updates.items)) }
+        ensures opened { IfOk result (λ core. core ≡ opened (session_of session.now) budget
+            (settings_of settings) (length session.now.updates.items)) }
     {
         budget.is_within();
         let base = session.base.as_slice();
@@ -117,7 +118,8 @@ impl<'s> Core<'s> {
     /// The question that is put to people for the update of this number: there is one exactly where it is paused. It
     /// takes no memory.
     pub fn question(&self, update: u32) -> Option<&Question>
-        ensures question { option_map inquiry_of (option_copied result) ≡ option_map inquiry_in (question_at self.now update) }
+        ensures question { option_map inquiry_of (option_copied result) ≡ option_map inquiry_in
+            (question_at self.now update) }
     {
         question(&self.queue, self.settings, update)
     }
@@ -231,7 +233,8 @@ impl<'s> Core<'s> {
         ensures made { OnOk result (HasMade self.old (Delivers update) self.new) }
         ensures number { IfOk result (λ n. n ≡ length self.new.history) }
         ensures kept { OnErr result (self.new ≡ self.old) }
-        ensures answer { AnswersDelivery (standing_at self.old update) (has_waiting_lem self.old update) result }
+        ensures answer { AnswersDelivery (standing_at self.old update)
+            (has_waiting_lem self.old update) result }
     {
         match self.standing(update) {
             None => Err(DeliverRefusal::NoSuchUpdate),
@@ -273,7 +276,8 @@ impl<'s> Core<'s> {
         ensures made { OnOk result (HasMade self.old (Delivers update) self.new) }
         ensures number { IfOk result (λ n. n ≡ length self.new.history) }
         ensures kept { OnErr result (self.new ≡ self.old) }
-        ensures answer { AnswersDelivery (standing_at self.old update) (has_waiting_lem self.old update) result }
+        ensures answer { AnswersDelivery (standing_at self.old update)
+            (has_waiting_lem self.old update) result }
     {
         if !self.has_waiting(update) {
             return Err(DeliverRefusal::NoAnswer);

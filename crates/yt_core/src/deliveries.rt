@@ -19,7 +19,8 @@ pub(crate) fn deliver_at(
 ) -> Result<(), Memory>
     requires place { place < length queue.old }
     requires numbers { AreFrom 1 queue.old }
-    ensures made { OnOk result (DeliversTo (settings_of settings) place queue.old history.old.items queue.new history.new.items) }
+    ensures made { OnOk result (DeliversTo (settings_of settings) place queue.old history.old.items
+        queue.new history.new.items) }
     ensures queue { OnErr result (AreSame queue.old queue.new) }
     ensures history { OnErr result (history.new.items ≡ history.old.items) }
     ensures long { length queue.new ≡ length queue.old }
@@ -52,7 +53,8 @@ fn make_delivery(settings: Settings, queue: &mut [Record], history: &mut EntryLi
     requires numbers { AreFrom 1 queue.old }
     requires room { HasAnswerRoomAt place queue.old }
     requires spare { 1 ≤ history.old.spare }
-    ensures made { DeliversTo (settings_of settings) place queue.old history.old.items queue.new history.new.items }
+    ensures made { DeliversTo (settings_of settings) place queue.old history.old.items queue.new
+        history.new.items }
     ensures long { length queue.new ≡ length queue.old }
 {
     queue[place].deliver();

@@ -119,7 +119,8 @@ pub(crate) fn snapshot_at<'s>(
     requires numbers { AreFrom 1 queue.now }
     requires ready { AtPlace place queue.now IsReadySomewhere }
     requires left { AtPlace place queue.now (λ r. r.program.attempt.steps < budget) }
-    ensures taken { IfOk result (λ snapshot. AtPlace place queue.now (λ r. IsSnapshotOf (map rule_of mappings.now.items) budget versions.now r snapshot)) }
+    ensures taken { IfOk result (λ snapshot. AtPlace place queue.now (λ r. IsSnapshotOf
+        (map rule_of mappings.now.items) budget versions.now r snapshot)) }
 {
     let item = &queue[place];
     let snapshot = snapshot_of(alloc, mappings, budget, versions, item)?;
@@ -138,7 +139,8 @@ fn snapshot_of<'s>(
     requires between { IsBetween item.now.program }
     requires ready { IsReadySomewhere item.now }
     requires left { item.now.program.attempt.steps < budget }
-    ensures taken { IfOk result (IsSnapshotOf (map rule_of mappings.now.items) budget versions.now item.now) }
+    ensures taken { IfOk result (IsSnapshotOf (map rule_of mappings.now.items) budget versions.now
+        item.now) }
 {
     let answer = next_answer(alloc, item)?;
     let program = item.program.copy(alloc)?;
@@ -166,7 +168,8 @@ fn next_answer(alloc: Global, item: &Record) -> Result<Option<Choice>, Memory>
 
 // A copy of the answer, if there is one.
 fn copied(alloc: Global, answer: Option<&Choice>) -> Result<Option<Choice>, Memory>
-    ensures same { IfOk result (λ copy. option_map choice_of copy ≡ option_map choice_of (option_copied answer.entry)) }
+    ensures same { IfOk result (λ copy. option_map choice_of copy ≡ option_map choice_of
+        (option_copied answer.entry)) }
 {
     match answer {
         Some(choice) => Ok(Some(choice.copy(alloc)?)),

@@ -27,7 +27,8 @@ pub(crate) fn record_at(queue: &[Record], number: u32) -> Option<&Record>
 /// What the update of this number may do next; None exactly where there is none.
 pub(crate) fn standing(queue: &[Record], settings: Settings, number: u32) -> Option<Standing>
     requires from { AreFrom 1 queue.now }
-    ensures standing { HasStandingAt (settings_of settings) queue.now number (option_map standing_of result) }
+    ensures standing { HasStandingAt (settings_of settings) queue.now number
+        (option_map standing_of result) }
 {
     match record_at(queue, number) {
         Some(record) => Some(record.standing(settings, committed(queue), number)),
@@ -39,7 +40,8 @@ pub(crate) fn standing(queue: &[Record], settings: Settings, number: u32) -> Opt
 /// The question that is put to people for the update of this number, if one is.
 pub(crate) fn question(queue: &[Record], settings: Settings, number: u32) -> Option<&Question>
     requires from { AreFrom 1 queue.now }
-    ensures question { HasQuestionAt (settings_of settings) queue.now number (option_map inquiry_of (option_copied result)) }
+    ensures question { HasQuestionAt (settings_of settings) queue.now number
+        (option_map inquiry_of (option_copied result)) }
 {
     match record_at(queue, number) {
         Some(record) => record.question(settings, committed(queue), number),

@@ -43,7 +43,8 @@ pub(crate) fn prepare(
     requires after { IsBetween plan.now.program }
     requires numbers { AreFrom (suc item.now.program.attempt.number) upper.now }
     requires more { AllHaveOneMore upper.now }
-    ensures prepared { IfOk result (IsPrepared mappings.now (settings_of settings) committed versions.now item.now upper.now plan.now) }
+    ensures prepared { IfOk result (IsPrepared mappings.now (settings_of settings) committed
+        versions.now item.now upper.now plan.now) }
     ensures fresh { IfOk result (λ p. AreFresh upper.now p.left.fresh.items) }
 {
     let after = versions_after(alloc, versions, item, plan)?;
@@ -70,7 +71,9 @@ fn found<'a>(
     requires between { IsBetween item.now.program }
     requires after { IsBetween plan.now.program }
     requires numbers { AreFrom (suc item.now.program.attempt.number) upper.now }
-    ensures found { IfOk result (λ found. WereFound mappings.now (settings_of settings) committed versions.now after.now item.now upper.now plan.now found.items) }
+    ensures found { IfOk result (λ found. WereFound mappings.now
+        (settings_of settings) committed versions.now after.now item.now upper.now plan.now
+        found.items) }
     ensures long { IfOk result (λ found. length found.items ≡ length upper.now) }
 {
     let mut walk = Cascade {
@@ -143,7 +146,8 @@ pub(crate) fn prepare_at(
     requires numbers { AreFrom 1 queue.now }
     requires more { AllHaveOneMore queue.now }
     requires after { IsBetween plan.now.program }
-    ensures prepared { IfOk result (IsPreparedAt mappings.now (settings_of settings) place plan.now versions.now queue.now) }
+    ensures prepared { IfOk result (IsPreparedAt mappings.now
+        (settings_of settings) place plan.now versions.now queue.now) }
     ensures fresh { IfOk result (λ p. AreFresh (drop (suc place) queue.now) p.left.fresh.items) }
 {
     let committed = committed(queue);
@@ -225,7 +229,8 @@ fn make_step(
     requires plan { IsPlanAt place plan queue.old }
     requires after { IsBetween plan.program }
     requires spare { 1 ≤ history.old.spare }
-    ensures made { OnOk result (StepsTo mappings.now (settings_of settings) place plan versions.old queue.old history.old.items versions.new queue.new history.new.items) }
+    ensures made { OnOk result (StepsTo mappings.now (settings_of settings) place plan versions.old
+        queue.old history.old.items versions.new queue.new history.new.items) }
     ensures versions { OnErr result (versions.new ≡ versions.old) }
     ensures queue { OnErr result (queue.new ≡ queue.old) }
     ensures history { OnErr result (history.new ≡ history.old) }
@@ -287,7 +292,8 @@ pub(crate) fn step_at(
     requires more { AllHaveOneMore queue.old }
     requires plan { IsPlanAt place plan queue.old }
     requires after { IsBetween plan.program }
-    ensures made { OnOk result (StepsTo mappings.now (settings_of settings) place plan versions.old queue.old history.old.items versions.new queue.new history.new.items) }
+    ensures made { OnOk result (StepsTo mappings.now (settings_of settings) place plan versions.old
+        queue.old history.old.items versions.new queue.new history.new.items) }
     ensures versions { OnErr result (versions.new ≡ versions.old) }
     ensures queue { OnErr result (AreSame queue.old queue.new) }
     ensures history { OnErr result (history.new.items ≡ history.old.items) }
