@@ -98,7 +98,7 @@ impl<'s> Core<'s> {
     pub fn count(&self) -> u32
         ensures count { result ≡ length (updates_at self.now) }
     {
-        self.queue.len() as u32
+        self.queue.as_slice().len() as u32
     }
 
     /// How many updates are committed. It takes no memory.
