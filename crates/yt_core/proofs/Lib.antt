@@ -1,0 +1,12 @@
+pub mod Trailing
+pub mod Causing
+pub mod Preparing
+pub mod Following
+pub mod Opening
+pub mod Delivering
+pub mod Telling
+pub mod Entering
+pub mod Making
+pub mod Placing
+pub mod Resting
+pub mod Resulting

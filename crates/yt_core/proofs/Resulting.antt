@@ -1,0 +1,92 @@
+-- What is told of a core is told of its updates, and a core that was opened and drained has come to what the serial machine comes to.
+use Rattle.std.proofs.Common.{◌≡◌, ◌∙◌, ap, sym, refl, subst, ℕ, zero, suc, ◌≤◌, ◌+◌, true, Option, Some, None, List, [], ◌∷◌, map, length, arith}
+use Rattle.yt_machine.specs.Bounds.{admissions_in}
+use Rattle.yt_machine.specs.Histories.{event_of}
+use Rattle.yt_machine.specs.Serial.{first_stop}
+use Rattle.yt_machine.specs.Updates.{Settings, Update}
+use Rattle.yt_machine.proofs.Theorem.{history_law}
+use Rattle.yt_model.specs.Mappings.{Rule}
+use Rattle.yt_model.specs.Repository.{IsRepository}
+use Rattle.yt_model.specs.Values.{Fact}
+use Rattle.yt_steps.specs.Chase.{caused}
+use Rattle.yt_steps.proofs.ChaseLaws.{chase_laws}
+use Rattle.yt_history.specs.AnyOrder.{tells}
+use Rattle.yt_history.specs.Cores.{Ground, machine, session_over, entries_over, updates_after, IsLegalOver}
+use Rattle.yt_history.specs.PlainEntries.{PlainEntry}
+use Rattle.yt_grammar.specs.Sessions.{SessionData}
+use Rattle.yt_grammar.specs.Checks.{rules_of}
+use Rattle.yt_grammar.specs.Validity.{IsSession}
+use Rattle.yt_session.specs.Base.{base_violation}
+use Rattle.yt_session.specs.Meanings.{requests_in}
+use Rattle.yt_program.specs.Results.{ResultTold, result_in, result_of}
+use Rattle.yt_program.specs.declared.results.SessionResult.{SessionResult}
+use Rattle.yt_serial.specs.Meanings.{IsSerialRun}
+use Rattle.yt_queue.specs.Queues.{updates_of}
+use Rattle.yt_queue.specs.declared.records.Record.{Record}
+use Rattle.yt_versions.specs.Standing.{Kept}
+use Rattle.yt_told.specs.Told.{Tells, AreVersionsOf}
+use Rattle.yt_drains.specs.Turns.{after_turns}
+use Rattle.yt_drains.specs.Laws.{AreRecorded, IsAdmitted, over}
+use Rattle.yt_drains.proofs.Turning.{drained_law}
+use Rattle.yt_core.specs.Drained.{HasTurned}
+use Rattle.yt_core.specs.Kept.{IsKept}
+use Rattle.yt_core.specs.Results.{IsResultOf}
+use Rattle.yt_core.specs.States.{State, admissions_from, opened, updates_at, is_quiet_at}
+
+-- The versions of a core are those of its queue.
+versions_of : (g : Ground) (v : Kept) (rs : List Record) (H : List PlainEntry) → IsKept g v rs H → AreVersionsOf g.rules g.budget g.base rs v
+versions_of g v rs H k = record { sorted = k.sorted; stand = k.versions }
+
+-- What is told of the queue is told of the updates of the history.
+tells_of : (g : Ground) (v : Kept) (rs : List Record) (H : List PlainEntry) (s : State) (r : SessionResult) → IsKept g v rs H → record { over = g; history = H } ≡ s → Tells g.rules g.budget g.base rs r → IsResultOf s r
+tells_of g v rs H s r k same t =
+    subst (λ (x : State). IsResultOf x r) same
+    (t (session_over g) refl
+    ∙ ap (λ (us : List (Update (machine g))). result_in (tells g.rules g.budget (session_over g) us (first_stop (machine g) 1 us))) (sym k.left.leaves))
+
+-- So it is of what lies in the core.
+pub result_told : (g : Ground) (v : Kept) (rs : List Record) (H : List PlainEntry) (s : State) (qs : List Record) (r : SessionResult) → IsKept g v rs H → record { over = g; history = H } ≡ s → qs ≡ rs
+    → ((ms : List Rule) (B : ℕ) (D : List Fact) → AreVersionsOf ms B D qs v → Tells ms B D qs r) → IsResultOf s r
+result_told g v rs H s qs r k same e t =
+    tells_of g v rs H s r k same
+    (subst (λ (xs : List Record). Tells g.rules g.budget g.base xs r) e
+    (t g.rules g.budget g.base (subst (λ (xs : List Record). AreVersionsOf g.rules g.budget g.base xs v) (sym e) (versions_of g v rs H k))))
+
+-- ---- a core that was opened
+
+admissions_recorded : (g : Ground) (n k : ℕ) → AreRecorded g (admissions_from n k)
+admissions_recorded g n zero = refl
+admissions_recorded g n (suc k) = admissions_recorded g (suc n) k
+
+admissions_count : (g : Ground) (n k : ℕ) → admissions_in (entries_over g (admissions_from n k)) ≡ k
+admissions_count g n zero = refl
+admissions_count g n (suc k) = let rest = admissions_count g (suc n) k in omega (arith, rest)
+
+-- All updates of the session are admitted.
+begun : (s : SessionData) (budget : ℕ) (c : Settings) → 1 ≤ budget → IsRepository s.base → (n : ℕ) → n ≡ length s.updates → IsLegalOver (over s budget c) (admissions_from 1 n) → IsAdmitted s budget c (admissions_from 1 n)
+begun s budget c some sorted n count legal =
+    let g = over s budget c in
+    let H = admissions_from 1 n in
+    let h = history_law (machine g) (chase_laws caused g.rules g.budget some) g.settings (session_over g) (map event_of (entries_over g H)) (record { updates = updates_after g H; entries = entries_over g H }) sorted legal in
+    record {
+      legal = legal;
+      recorded = admissions_recorded g 1 n;
+      all = sym h.admissions ∙ admissions_count g 1 n ∙ count;
+    }
+
+-- Drained, it has come to what the serial machine comes to.
+pub drained_serially : (s : SessionData) (budget : ℕ) (c : Settings) (n : ℕ) (a b : State) (r : SessionResult) → IsSession s → base_violation s ≡ None → n ≡ length s.updates → a ≡ opened s budget c n
+    → 1 ≤ a.over.budget → IsRepository a.over.base → IsLegalOver a.over a.history → HasTurned a b → is_quiet_at b ≡ true → IsResultOf b r → IsSerialRun budget s r
+drained_serially s budget c n a b r valid meets count e some sorted legal t quiet told =
+    let g = over s budget c in
+    let H = admissions_from 1 n in
+    let over : b.over ≡ g = t.over ∙ ap (λ (x : State). x.over) e in
+    let last : State = record { over = g; history = b.history } in
+    let same : b ≡ last = λ i. record { over = over i; history = b.history } in
+    let some_there : 1 ≤ budget = subst (λ (x : State). 1 ≤ x.over.budget) e some in
+    let sorted_there : IsRepository s.base = subst (λ (x : State). IsRepository x.over.base) e sorted in
+    let legal_there : IsLegalOver g H = subst (λ (x : State). IsLegalOver x.over x.history) e legal in
+    let turns : after_turns g t.turns H ≡ Some b.history = subst (λ (x : State). after_turns x.over t.turns x.history ≡ Some b.history) e t.history in
+    let rests : is_quiet_at last ≡ true = subst (λ (x : State). is_quiet_at x ≡ true) same quiet in
+    let telling : IsResultOf last r = subst (λ (x : State). IsResultOf x r) same told in
+    telling ∙ sym (ap result_in (drained_law s budget c t.turns H b.history valid meets sorted_there some_there (begun s budget c some_there sorted_there n count legal_there) turns rests))

@@ -1,0 +1,121 @@
+-- What is told of a core is told of the updates that its history left.
+use Rattle.std.proofs.Common.{◌≡◌, ◌∙◌, ap, refl, sym, subst, ℕ, zero, suc, ◌<◌, ◌+◌, Bool, true, false, not, Option, Some, None, List, [], ◌∷◌, map, length, get_or, arith}
+use Rattle.std.specs.Prelude.{option_map, option_and_then, unwrap_or, slice_get}
+use Rattle.std.proofs.lemmas.Option.{same_Some, none-some, slice_get-map}
+use Rattle.yt_base.specs.Meanings.{choice_of}
+use Rattle.yt_entries.specs.Meanings.{standing_of}
+use Rattle.yt_entries.specs.declared.standings.Standing.{Standing as StandingOfProgram}
+use Rattle.yt_frontier.specs.Inquiries.{Inquiry, inquiry_in}
+use Rattle.yt_history.specs.Cores.{Ground, IsLegalOver}
+use Rattle.yt_history.specs.CoreLaws.{Leave}
+use Rattle.yt_history.specs.PlainEntries.{PlainEntry}
+use Rattle.yt_machine.specs.Standings as standings
+use Rattle.yt_machine.specs.Standings.{Standing, standing, question_of, is_nil}
+use Rattle.yt_machine.specs.Updates.{Settings, Update, committed}
+use Rattle.yt_model.specs.Mappings.{Rule}
+use Rattle.yt_queue.specs.Programs.{IsBetween}
+use Rattle.yt_queue.specs.Queues.{update_of, updates_of, AreFrom}
+use Rattle.yt_queue.specs.Records.{HasStanding, HasQuestion}
+use Rattle.yt_queue.specs.Walks.{HasCommitted, IsLowestReady, IsLowestDeliverable, IsLowestBesides, IsQuiet}
+use Rattle.yt_queue.specs.declared.records.Record.{Record}
+use Rattle.yt_steps.specs.Chase.{caused_chase}
+use Rattle.yt_core.specs.States.{State, updates_at, numbered_at, committed_at, standing_at, question_at, has_waiting, lowest_ready_at, lowest_ready_besides_of, lowest_ready_besides_at, lowest_deliverable_at, is_quiet_at}
+use Rattle.yt_core.specs.Told.{HasStandingAt, HasQuestionAt, HasWaitingAt}
+use Rattle.yt_core.proofs.Following.{there, stands_at, mapped_long}
+
+-- ---- records at places
+
+pub there_is : (rs : List Record) (k : ℕ) (r : Record) → k < length rs → r ≡ get_or rs k r → slice_get rs k ≡ Some r
+there_is rs k r l e = there rs k r l (sym e)
+
+pub between_there : (rs : List Record) (k : ℕ) (r : Record) → AreFrom 1 rs → k < length rs → r ≡ get_or rs k r → IsBetween r.program
+between_there rs k r a l e = (stands_at rs 1 k r a (there_is rs k r l e)).between
+
+pub number_there : (rs : List Record) (k : ℕ) (r : Record) → AreFrom 1 rs → k < length rs → r ≡ get_or rs k r → r.program.attempt.number ≡ suc k
+number_there rs k r a l e = let same : 1 + k ≡ suc k = omega arith in (stands_at rs 1 k r a (there_is rs k r l e)).number ∙ same
+
+pub between_at : (rs : List Record) (n : ℕ) (r : Record) → AreFrom 1 rs → numbered_at rs n ≡ Some r → IsBetween r.program
+between_at rs zero r a e = absurd (none-some r e)
+between_at rs (suc k) r a e = (stands_at rs 1 k r a e).between
+
+numbered_map : {A B : Type 0} (f : A → B) (xs : List A) (n : ℕ) → numbered_at (map f xs) n ≡ option_map f (numbered_at xs n)
+numbered_map f xs zero = refl
+numbered_map f xs (suc k) = slice_get-map f xs k
+
+-- ---- one update
+
+pub standing_is : (s : Settings) (rs : List Record) (n c : ℕ) (r : Record) (st : StandingOfProgram) → numbered_at rs n ≡ Some r → HasCommitted rs c → HasStanding s c n r st → HasStandingAt s rs n (Some (standing_of st))
+standing_is s rs n c r st e counts stands ms B =
+    ap (λ (x : Standing). Some x) (stands ms B ∙ ap (λ d. standing (caused_chase ms B) s d n (update_of ms B r)) (counts ms B))
+    ∙ sym (ap (option_map (standing (caused_chase ms B) s (committed (caused_chase ms B) (updates_of ms B rs)) n)) (numbered_map (update_of ms B) rs n ∙ ap (option_map (update_of ms B)) e))
+
+pub no_standing : (s : Settings) (rs : List Record) (n : ℕ) → numbered_at rs n ≡ None → HasStandingAt s rs n None
+no_standing s rs n e ms B =
+    sym (ap (option_map (standing (caused_chase ms B) s (committed (caused_chase ms B) (updates_of ms B rs)) n)) (numbered_map (update_of ms B) rs n ∙ ap (option_map (update_of ms B)) e))
+
+pub question_is : (s : Settings) (rs : List Record) (n c : ℕ) (r : Record) (q : Option Inquiry) → numbered_at rs n ≡ Some r → HasCommitted rs c → HasQuestion s c n r q → HasQuestionAt s rs n q
+question_is s rs n c r q e counts asks ms B =
+    asks ms B ∙ ap (λ d. option_map inquiry_in (question_of (caused_chase ms B) s d n (update_of ms B r))) (counts ms B)
+    ∙ sym (ap (λ o. option_map inquiry_in (option_and_then (question_of (caused_chase ms B) s (committed (caused_chase ms B) (updates_of ms B rs)) n) o)) (numbered_map (update_of ms B) rs n ∙ ap (option_map (update_of ms B)) e))
+
+pub no_question : (s : Settings) (rs : List Record) (n : ℕ) → numbered_at rs n ≡ None → HasQuestionAt s rs n None
+no_question s rs n e ms B =
+    sym (ap (λ o. option_map inquiry_in (option_and_then (question_of (caused_chase ms B) s (committed (caused_chase ms B) (updates_of ms B rs)) n) o)) (numbered_map (update_of ms B) rs n ∙ ap (option_map (update_of ms B)) e))
+
+nil_map : {A B : Type 0} (f : A → B) (xs : List A) → is_nil (map f xs) ≡ is_nil xs
+nil_map f [] = refl
+nil_map f (x ∷ xs) = refl
+
+pub waiting_is : (rs : List Record) (n : ℕ) (r : Record) (b : Bool) → numbered_at rs n ≡ Some r → b ≡ not (is_nil r.inbox.items) → HasWaitingAt rs n b
+waiting_is rs n r b e is ms B =
+    is ∙ sym (ap not (nil_map choice_of r.inbox.items))
+    ∙ sym (ap (λ o. unwrap_or (option_map (λ (u : Update (caused_chase ms B)). not (is_nil u.inbox)) o) false) (numbered_map (update_of ms B) rs n ∙ ap (option_map (update_of ms B)) e))
+
+pub none_waits : (rs : List Record) (n : ℕ) → numbered_at rs n ≡ None → HasWaitingAt rs n false
+none_waits rs n e ms B =
+    sym (ap (λ o. unwrap_or (option_map (λ (u : Update (caused_chase ms B)). not (is_nil u.inbox)) o) false) (numbered_map (update_of ms B) rs n ∙ ap (option_map (update_of ms B)) e))
+
+-- ---- a core
+
+module _ (g : Ground) (H : List PlainEntry) (rs : List Record) (s : State) (left : Leave g H (updates_of g.rules g.budget rs)) (same : record { over = g; history = H } ≡ s) where
+  pub count_told : length rs ≡ length (updates_at s)
+  count_told = sym (mapped_long (update_of g.rules g.budget) rs) ∙ sym (ap (λ us. length us) left.leaves) ∙ ap (λ t. length (updates_at t)) same
+
+  pub committed_told : (c : ℕ) → HasCommitted rs c → c ≡ committed_at s
+  committed_told c h = h g.rules g.budget ∙ sym (ap (committed (caused_chase g.rules g.budget)) left.leaves) ∙ ap committed_at same
+
+  pub standing_told : (n : ℕ) (o : Option Standing) → HasStandingAt g.settings rs n o → o ≡ standing_at s n
+  standing_told n o h =
+      h g.rules g.budget
+      ∙ sym (ap (λ (us : List (Update (caused_chase g.rules g.budget))). option_map (standing (caused_chase g.rules g.budget) g.settings (committed (caused_chase g.rules g.budget) us) n) (numbered_at us n)) left.leaves)
+      ∙ ap (λ t. standing_at t n) same
+
+  pub question_told : (n : ℕ) (q : Option Inquiry) → HasQuestionAt g.settings rs n q → q ≡ option_map inquiry_in (question_at s n)
+  question_told n q h =
+      h g.rules g.budget
+      ∙ sym (ap (λ (us : List (Update (caused_chase g.rules g.budget))). option_map inquiry_in (option_and_then (question_of (caused_chase g.rules g.budget) g.settings (committed (caused_chase g.rules g.budget) us) n) (numbered_at us n))) left.leaves)
+      ∙ ap (λ t. option_map inquiry_in (question_at t n)) same
+
+  pub ready_told : (o : Option ℕ) → IsLowestReady g.settings rs o → o ≡ lowest_ready_at s
+  ready_told o h = h g.rules g.budget ∙ sym (ap (standings.lowest_ready (caused_chase g.rules g.budget) g.settings) left.leaves) ∙ ap lowest_ready_at same
+
+  pub deliverable_told : (o : Option ℕ) → IsLowestDeliverable g.settings rs o → o ≡ lowest_deliverable_at s
+  deliverable_told o h = h g.rules g.budget ∙ sym (ap (standings.lowest_deliverable (caused_chase g.rules g.budget) g.settings) left.leaves) ∙ ap lowest_deliverable_at same
+
+  pub besides_told : (ns : List ℕ) (o : Option ℕ) → IsLowestBesides ns g.settings rs o → o ≡ lowest_ready_besides_at s ns
+  besides_told ns o h =
+      h g.rules g.budget
+      ∙ sym (ap (λ (us : List (Update (caused_chase g.rules g.budget))). lowest_ready_besides_of g us ns) left.leaves)
+      ∙ ap (λ t. lowest_ready_besides_at t ns) same
+
+  pub quiet_told : (b : Bool) → IsQuiet g.settings rs b → b ≡ is_quiet_at s
+  quiet_told b h = h g.rules g.budget ∙ sym (ap (standings.is_quiet (caused_chase g.rules g.budget) g.settings) left.leaves) ∙ ap is_quiet_at same
+
+  pub waiting_told : (n : ℕ) (b : Bool) → HasWaitingAt rs n b → b ≡ has_waiting s n
+  waiting_told n b h =
+      h g.rules g.budget
+      ∙ sym (ap (λ (us : List (Update (caused_chase g.rules g.budget))). unwrap_or (option_map (λ u. not (is_nil u.inbox)) (numbered_at us n)) false) left.leaves)
+      ∙ ap (λ t. has_waiting t n) same
+
+  pub legal_told : IsLegalOver s.over s.history
+  legal_told = subst (λ (t : State). IsLegalOver t.over t.history) same left.legal

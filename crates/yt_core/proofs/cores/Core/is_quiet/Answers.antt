@@ -1,0 +1,15 @@
+use Rattle.std.proofs.Common.{subst, List}
+use Rattle.yt_entries.specs.Meanings.{standing_of}
+use Rattle.yt_queue.specs.Settings.{settings_of}
+use Rattle.yt_queue.specs.declared.records.Record.{Record}
+use Rattle.yt_queue.specs.Walks.{IsQuiet}
+use Rattle.yt_core.proofs.Telling.{quiet_told}
+use Rattle.yt_core.proofs.cores.Core.is_quiet.Goals as goal
+
+pub returns : goal.returns
+returns c =
+    record {
+      quiet =
+          quiet_told _ _ c.self.inside.queue.items _ c.self.invariant.left c.self.view_is c.is_quiet.result
+          (subst (λ (rs : List Record). IsQuiet (settings_of c.self.inside.settings) rs c.is_quiet.result) c.deref.ensures.value c.is_quiet.ensures.quiet);
+    }

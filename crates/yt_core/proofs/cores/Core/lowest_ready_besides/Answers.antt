@@ -1,0 +1,15 @@
+use Rattle.std.proofs.Common.{subst, List}
+use Rattle.yt_entries.specs.Meanings.{standing_of}
+use Rattle.yt_queue.specs.Settings.{settings_of}
+use Rattle.yt_queue.specs.declared.records.Record.{Record}
+use Rattle.yt_queue.specs.Walks.{IsLowestBesides}
+use Rattle.yt_core.proofs.Telling.{besides_told}
+use Rattle.yt_core.proofs.cores.Core.lowest_ready_besides.Goals as goal
+
+pub returns : goal.returns
+returns c =
+    record {
+      lowest =
+          besides_told _ _ c.self.inside.queue.items _ c.self.invariant.left c.self.view_is c.args.numbers.now c.lowest_ready_besides.result
+          (subst (λ (rs : List Record). IsLowestBesides c.args.numbers.now (settings_of c.self.inside.settings) rs c.lowest_ready_besides.result) c.deref.ensures.value c.lowest_ready_besides.ensures.lowest);
+    }

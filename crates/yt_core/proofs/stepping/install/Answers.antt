@@ -1,0 +1,14 @@
+use Rattle.yt_core.proofs.Placing.{numbers_put, fresh_above, installed_is}
+use Rattle.yt_core.proofs.stepping.install.Goals as goal
+
+pub restart_marked-requires-clause-from : goal.restart_marked-requires-clause-from
+restart_marked-requires-clause-from c =
+    numbers_put c.args.queue.now c.args.place c.args.plan c.index-queue-place.result c.follow.new.self c.requires.numbers c.requires.place c.index-queue-place.is c.requires.plan c.follow.ensures.place
+
+pub restart_marked-requires-clause-fresh : goal.restart_marked-requires-clause-fresh
+restart_marked-requires-clause-fresh c = fresh_above c.args.queue.now c.args.place c.follow.new.self c.args.fresh.items c.requires.fresh
+
+pub returns-clause-installed : goal.returns-clause-installed
+returns-clause-installed c =
+    installed_is c.args.queue.now c.restart_marked.new.queue c.args.place c.args.plan c.args.fresh.items c.index-queue-place.result c.follow.new.self c.requires.place c.index-queue-place.is c.follow.ensures.stepped
+    c.restart_marked.ensures.restarted

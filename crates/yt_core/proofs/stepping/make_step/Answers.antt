@@ -1,0 +1,13 @@
+use Rattle.std.proofs.Common.{refl, ap, sym, ◌∙◌}
+use Rattle.yt_queue.specs.declared.records.Record.{Record}
+use Rattle.yt_queue.specs.Settings.{settings_of}
+use Rattle.yt_core.proofs.Following.{steps_to}
+use Rattle.yt_core.proofs.Telling.{there_is}
+use Rattle.yt_core.proofs.stepping.make_step.Goals as goal
+
+pub returns-clause-made : goal.returns-clause-made
+returns-clause-made c =
+    steps_to c.args.mappings.now (settings_of c.args.settings) c.args.place c.args.history.now.items c.put_last.new.history.items c.args.queue.now c.install.new.queue c.args.versions.now c.in_ok-prepared.prepared.left.versions
+    c.index-queue-place.result c.args.plan c.in_ok-prepared.prepared c.attempt-attempt.result c.step_entry-entry.result
+    (there_is c.args.queue.now c.args.place c.index-queue-place.result c.requires.place c.index-queue-place.is)
+    c.in_ok-prepared.ensures.prepared c.install.ensures.installed c.install.ensures.numbers c.install.ensures.long refl (c.attempt-attempt.ensures.attempt ∙ ap (λ (r : Record). r.program.attempt.attempt) (sym c.index-queue-place.is)) c.step_entry-entry.ensures.told c.put_last.ensures.all

@@ -1,0 +1,23 @@
+use Rattle.yt_queue.specs.Settings.{settings_of}
+use Rattle.yt_core.proofs.Placing.{above_numbers, above_more, above_fresh, above_prepared}
+use Rattle.yt_core.proofs.Telling.{between_there}
+use Rattle.yt_core.proofs.stepping.prepare_at.Goals as goal
+
+pub prepare-requires-clause-between : goal.prepare-requires-clause-between
+prepare-requires-clause-between c = between_there c.args.queue.now c.args.place c.index-queue-place.result c.requires.numbers c.requires.place c.index-queue-place.is
+
+pub prepare-requires-clause-numbers : goal.prepare-requires-clause-numbers
+prepare-requires-clause-numbers c =
+    above_numbers c.args.queue.now c.above-upper.result.now c.args.place c.index-queue-place.result c.requires.numbers c.requires.place c.index-queue-place.is c.above-upper.ensures.rest
+
+pub prepare-requires-clause-more : goal.prepare-requires-clause-more
+prepare-requires-clause-more c = above_more c.args.queue.now c.above-upper.result.now c.args.place c.requires.more c.above-upper.ensures.rest
+
+pub returns-clause-prepared : goal.returns-clause-prepared
+returns-clause-prepared c =
+    above_prepared c.args.mappings.now (settings_of c.args.settings) c.committed-committed.result c.args.place c.args.versions.now c.args.queue.now c.above-upper.result.now c.index-queue-place.result c.args.plan.now
+    c.in_ok-prepared.prepared c.requires.numbers c.requires.place c.index-queue-place.is c.above-upper.ensures.rest c.committed-committed.ensures.committed c.in_ok-prepared.ensures.prepared
+
+pub returns-clause-fresh : goal.returns-clause-fresh
+returns-clause-fresh c =
+    above_fresh c.args.queue.now c.above-upper.result.now c.args.place c.in_ok-prepared.prepared.left.fresh.items c.above-upper.ensures.rest c.in_ok-prepared.ensures.fresh

@@ -1,0 +1,120 @@
+-- What an event makes of the parts of a core.
+use Rattle.std.specs.Prelude.{◌≡◌, ℕ, suc, List, [], ◌∷◌, ◌++◌, map, take, drop, length, Option, Some, is_some, true, slice_get}
+use Rattle.std.specs.Option.{option_map}
+use Rattle.yt_base.specs.Meanings.{change_of}
+use Rattle.yt_base.specs.Listed.{Listed}
+use Rattle.yt_base.specs.declared.updates.Write.{Write}
+use Rattle.yt_entries.specs.Meanings.{cause_of, entry_of}
+use Rattle.yt_entries.specs.declared.causes.Cause.{Cause as CauseOfProgram}
+use Rattle.yt_entries.specs.declared.entries.Entry.{Entry}
+use Rattle.yt_history.specs.Cores.{Ground, machine, grown}
+use Rattle.yt_history.specs.PlainEntries.{PlainEntry, WasStepped, WasDelivered}
+use Rattle.yt_machine.specs.Cascade.{Cause}
+use Rattle.yt_machine.specs.Effects.{Event, Steps, Delivers}
+use Rattle.yt_machine.specs.Settle.{restart}
+use Rattle.yt_machine.specs.Standings.{Standing, Ready, standing, is_deliverable}
+use Rattle.yt_machine.specs.Steps.{stepped}
+use Rattle.yt_machine.specs.Updates.{Settings, Update, committed, below}
+use Rattle.yt_model.specs.Mappings.{Rule}
+use Rattle.yt_model.specs.Updates.{Operation}
+use Rattle.yt_model.specs.Values.{Fact}
+use Rattle.yt_plan.specs.declared.plans.Plan.{Plan}
+use Rattle.yt_program.specs.Courses.{State as ProgramState}
+use Rattle.yt_query.specs.Meanings.{read_of}
+use Rattle.yt_queue.specs.Events.{HasRoom, HasRoomFor}
+use Rattle.yt_queue.specs.Programs.{IsPlanOf}
+use Rattle.yt_queue.specs.Queues.{update_of, updates_of, AreFrom}
+use Rattle.yt_queue.specs.declared.records.Record.{Record}
+use Rattle.yt_steps.specs.Chase.{caused_chase}
+use Rattle.yt_steps.specs.Serial.{Request}
+use Rattle.yt_versions.specs.Standing.{Kept}
+use Rattle.yt_core.specs.Kept.{IsKept}
+use Rattle.yt_core.specs.Planned.{PlanMeant, IsSomeThat, IsStepAmong}
+use Rattle.yt_core.specs.States.{numbered_at}
+use Rattle.yt_core.specs.Steps.{IsStepLeft}
+use Rattle.yt_core.specs.declared.stepping.Prepared.{Prepared}
+
+-- The event was allowed after the entries; these parts are those of a core with its entry behind them.
+pub record Follows (g : Ground) (e : Event (machine g)) (H : List PlainEntry) (v : Kept) (rs : List Record) (H' : List PlainEntry) : Type 0 where
+  pub grows : grown g H e ≡ Some H'
+  pub kept : IsKept g v rs H'
+
+-- What a history is over, with these mappings and settings, and any budget, base and updates.
+abbrev pub ground_with : List Rule → Settings → ℕ → List Fact → List Request → List Operation → Ground
+ground_with ms s B D requests later =
+    record { rules = ms; budget = B; settings = s; base = D; requests = requests; later = later }
+
+-- The records stand for the same updates, in the same places.
+pub record AreSame (rs rs' : List Record) : Type 0 where
+  pub updates : (ms : List Rule) (B : ℕ) → updates_of ms B rs' ≡ updates_of ms B rs
+  pub numbers : AreFrom 1 rs → AreFrom 1 rs'
+
+-- The plan as callers see it.
+abbrev pub meant_of : ℕ → Plan → PlanMeant
+meant_of n plan = record { update = n; program = plan.program; reads = map read_of plan.reads.items }
+
+-- The plan is that of a step of the record, over something.
+pub record IsPlanFor (r : Record) (plan : Plan) : Type 0 where
+  pub rules : List Rule
+  pub budget : ℕ
+  pub below : List Fact
+  pub planned : IsPlanOf rules budget below r plan
+
+-- There is a record at the place, which has room for the reads of the plan, of whose step that is.
+abbrev pub HasRoomAt : ℕ → Plan → List Record → Type 0
+HasRoomAt k plan rs = IsSomeThat (λ (r : Record). HasRoomFor plan r) (slice_get rs k)
+
+abbrev pub IsPlanAt : ℕ → Plan → List Record → Type 0
+IsPlanAt k plan rs = IsSomeThat (λ (r : Record). IsPlanFor r plan) (slice_get rs k)
+
+-- There is one that has room for one more answer.
+abbrev pub HasAnswerRoomAt : ℕ → List Record → Type 0
+HasAnswerRoomAt k rs = IsSomeThat (λ (r : Record). HasRoom r) (slice_get rs k)
+
+-- What was prepared is what the step of the plan leaves, in any history of the queue.
+abbrev pub IsPreparedAt : List Rule → Settings → ℕ → Plan → Kept → List Record → Prepared → Type 0
+IsPreparedAt ms s k plan v rs p =
+    (B : ℕ) (requests : List Request) (later : List Operation) (D : List Fact) (H : List PlainEntry) (r : Record) → IsKept (ground_with ms s B D requests later) v rs H → slice_get rs k ≡ Some r
+    → standing (caused_chase ms B) s (committed (caused_chase ms B) (updates_of ms B rs)) (suc k) (update_of ms B r) ≡ Ready
+    → IsPlanOf ms B (below (caused_chase ms B) D (updates_of ms B rs) k) r plan
+    → IsStepLeft ms B s (committed (caused_chase ms B) (updates_of ms B rs)) (suc k) D (take k (updates_of ms B rs)) (update_of ms B r) (drop (suc k) (updates_of ms B rs)) p
+
+-- The update at the place has made the step of the plan, and those above it have restarted for which there is an attempt.
+abbrev pub IsInstalled : ℕ → Plan → List (Option ProgramState) → List Record → List Record → Type 0
+IsInstalled k plan fresh rs rs' =
+    (ms : List Rule) (B : ℕ) (D : List Fact) (r : Record) (xs : List (Option (Cause (caused_chase ms B)))) → slice_get rs k ≡ Some r → IsPlanOf ms B D r plan → map is_some xs ≡ map is_some fresh
+    → updates_of ms B rs' ≡ take k (updates_of ms B rs) ++ stepped (caused_chase ms B) D (update_of ms B r) ∷ restart (caused_chase ms B) (suc (suc k)) xs (drop (suc k) (updates_of ms B rs))
+
+-- The entry is that of a step of the update at the place, by this attempt, with these writes and causes.
+abbrev pub TellsStep : Settings → ℕ → ℕ → Listed Write → Listed CauseOfProgram → List Record → Entry → Type 0
+TellsStep s k attempt writes causes rs e =
+    (ms : List Rule) (B : ℕ) (r : Record) → slice_get rs k ≡ Some r
+    → entry_of e ≡ WasStepped (record {
+      update = suc k;
+      attempt = attempt;
+      standing = standing (caused_chase ms B) s (committed (caused_chase ms B) (updates_of ms B rs)) (suc k) (update_of ms B r);
+      writes = map change_of writes.items;
+      causes = map cause_of causes.items;
+      committed = committed (caused_chase ms B) (updates_of ms B rs);
+    })
+
+-- The entry is that of a delivery to the update at the place.
+abbrev pub TellsDelivery : Settings → ℕ → List Record → Entry → Type 0
+TellsDelivery s k rs e =
+    (ms : List Rule) (B : ℕ) (r : Record) → slice_get rs k ≡ Some r
+    → entry_of e ≡ WasDelivered (record { update = suc k; standing = standing (caused_chase ms B) s (committed (caused_chase ms B) (updates_of ms B rs)) (suc k) (update_of ms B r) })
+
+-- The step of update k + 1 leads from these parts to those, where it is ready and the plan is that step.
+abbrev pub StepsTo : List Rule → Settings → ℕ → Plan → Kept → List Record → List Entry → Kept → List Record → List Entry → Type 0
+StepsTo ms s k plan v rs es v' rs' es' =
+    (B : ℕ) (D : List Fact) (requests : List Request) (later : List Operation) → IsKept (ground_with ms s B D requests later) v rs (map entry_of es)
+    → option_map (standing (caused_chase ms B) s (committed (caused_chase ms B) (updates_of ms B rs)) (suc k)) (slice_get (updates_of ms B rs) k) ≡ Some Ready
+    → IsStepAmong ms B D (updates_of ms B rs) (suc k) (meant_of (suc k) plan)
+    → Follows (ground_with ms s B D requests later) (Steps (suc k)) (map entry_of es) v' rs' (map entry_of es')
+
+-- The delivery to update k + 1 leads from these parts to those, where it is deliverable.
+abbrev pub DeliversTo : Settings → ℕ → List Record → List Entry → List Record → List Entry → Type 0
+DeliversTo s k rs es rs' es' =
+    (ms : List Rule) (v : Kept) (B : ℕ) (D : List Fact) (requests : List Request) (later : List Operation) → IsKept (ground_with ms s B D requests later) v rs (map entry_of es)
+    → option_map (is_deliverable (caused_chase ms B) s (committed (caused_chase ms B) (updates_of ms B rs)) (suc k)) (slice_get (updates_of ms B rs) k) ≡ Some true
+    → Follows (ground_with ms s B D requests later) (Delivers (suc k)) (map entry_of es) v rs' (map entry_of es')

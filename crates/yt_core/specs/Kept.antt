@@ -1,0 +1,43 @@
+-- What is true of the parts of a core: the queue and the versions are those that its history left.
+use Rattle.std.specs.Prelude.{ℕ, ◌-◌, ◌≤◌, ◌<◌, ◌^◌, List, [], map, length}
+use Rattle.yt_machine.specs.Updates.{Settings, Update, trail}
+use Rattle.yt_model.specs.Mappings.{Rule}
+use Rattle.yt_model.specs.Values.{Fact}
+use Rattle.yt_model.specs.Repository.{IsRepository}
+use Rattle.yt_base.specs.Meanings.{fact_of}
+use Rattle.yt_base.specs.Listed.{Listed}
+use Rattle.yt_base.specs.declared.tuples.Tuple.{Tuple}
+use Rattle.yt_session.specs.Meanings.{request_of, update_of as session_update_of}
+use Rattle.yt_session.specs.declared.sessions.SessionUpdate.{SessionUpdate}
+use Rattle.yt_steps.specs.Chase.{caused_chase}
+use Rattle.yt_versions.specs.Standing.{Kept, StandFor}
+use Rattle.yt_versions.specs.Trails.{numbered}
+use Rattle.yt_queue.specs.Queues.{updates_of, AreFrom}
+use Rattle.yt_queue.specs.declared.records.Record.{Record}
+use Rattle.yt_limits.specs.Within.{AreWithin}
+use Rattle.yt_history.specs.PlainEntries.{PlainEntry}
+use Rattle.yt_history.specs.Cores.{Ground}
+use Rattle.yt_history.specs.CoreLaws.{Leave}
+
+-- What the history of a core with these parts is over.
+abbrev pub ground_by : List Rule → ℕ → Settings → Listed Tuple → Listed SessionUpdate → Ground
+ground_by ms B c base requests =
+    record { rules = ms; budget = B; settings = c; base = map fact_of base.items; requests = map request_of (map session_update_of requests.items); later = [] }
+
+-- The versions have the base and the trails of these updates.
+abbrev pub HaveTrails : (ms : List Rule) (B : ℕ) → List Fact → List (Update (caused_chase ms B)) → Kept → Type 0
+HaveTrails ms B D us v = StandFor v D (numbered (trail (caused_chase ms B)) us)
+
+-- The queue and the versions are what the entries left.
+pub record IsKept (g : Ground) (v : Kept) (rs : List Record) (H : List PlainEntry) : Type 0 where
+  -- the updates are those of the history
+  pub left : Leave g H (updates_of g.rules g.budget rs)
+  -- each stands between two steps, and has the number of its place
+  pub numbers : AreFrom 1 rs
+  -- what an update sees is the base with the trails below it
+  pub versions : HaveTrails g.rules g.budget g.base (updates_of g.rules g.budget rs) v
+  pub sorted : IsRepository g.base
+  pub budget : 1 ≤ g.budget
+  pub retries : g.settings.retries ≤ 4
+  pub within : AreWithin g.rules
+  pub few : length rs < 2 ^ 32 - 1

@@ -1,0 +1,13 @@
+pub mod States
+pub mod Events
+pub mod Planned
+pub mod Snapshots
+pub mod Kept
+pub mod Told
+pub mod Aftermaths
+pub mod Steps
+pub mod Follows
+pub mod Admitted
+pub mod Taken
+pub mod Drained
+pub mod Results

@@ -1,0 +1,23 @@
+-- What a snapshot is of: the step that it plans.
+use Rattle.std.specs.Prelude.{◌≡◌, ◌<◌}
+use Rattle.std.specs.Option.{option_map}
+use Rattle.yt_base.specs.Meanings.{choice_of}
+use Rattle.yt_program.specs.Wishes.{wish}
+use Rattle.yt_plan.specs.Planned.{at_rest, WantsStep, next_attempt, next_reads}
+use Rattle.yt_versions.specs.Standing.{seen}
+use Rattle.yt_core.specs.Planned.{PlanMeant}
+use Rattle.yt_core.specs.declared.plans.Snapshot.TheInside.{Inside}
+
+-- The next step of its program over what the update sees, with the answer where it is at a question.
+abbrev pub planned_by : Inside → PlanMeant
+planned_by v =
+    record {
+      update = v.update;
+      program = at_rest (next_attempt v.mappings v.budget (seen v.update v.versions) v.program.attempt (option_map choice_of v.answer));
+      reads = next_reads v.mappings (seen v.update v.versions) v.program.attempt (option_map choice_of v.answer);
+    }
+
+-- Its program can make a step with the answer.
+pub record CanStep (v : Inside) : Type 0 where
+  pub wanted : WantsStep (wish v.program) (option_map choice_of v.answer)
+  pub left : v.program.attempt.steps < v.budget

@@ -1,0 +1,31 @@
+-- The snapshot that is taken of a record.
+use Rattle.std.specs.Prelude.{◌≡◌, ℕ, true, List, map, Some, slice_get}
+use Rattle.yt_base.specs.Meanings.{choice_of}
+use Rattle.yt_machine.specs.Standings.{standing, is_ready, next_answer}
+use Rattle.yt_machine.specs.Updates.{Settings}
+use Rattle.yt_model.specs.Mappings.{Rule}
+use Rattle.yt_plan.specs.Planned.{at_rest, next_attempt, next_reads}
+use Rattle.yt_queue.specs.Queues.{update_of}
+use Rattle.yt_queue.specs.declared.records.Record.{Record}
+use Rattle.yt_steps.specs.Chase.{caused_chase}
+use Rattle.yt_versions.specs.Standing.{Kept, seen}
+use Rattle.yt_core.specs.Planned.{PlanMeant}
+
+-- The record at the place, if there is one, meets this.
+abbrev pub AtPlace : ℕ → List Record → (Record → Type 0) → Type 0
+AtPlace k rs P = (r : Record) → slice_get rs k ≡ Some r → P r
+
+-- It is ready, beside some number of committed updates.
+pub record IsReadySomewhere (r : Record) : Type 0 where
+  pub rules : List Rule
+  pub budget : ℕ
+  pub settings : Settings
+  pub committed : ℕ
+  pub number : ℕ
+  pub ready : is_ready (standing (caused_chase rules budget) settings committed number (update_of rules budget r)) ≡ true
+
+-- It plans the next step of the record's attempt over what its update sees.
+pub record IsSnapshotOf (ms : List Rule) (B : ℕ) (v : Kept) (r : Record) (p : PlanMeant) : Type 0 where
+  pub update : p.update ≡ r.program.attempt.number
+  pub program : p.program ≡ at_rest (next_attempt ms B (seen r.program.attempt.number v) r.program.attempt (next_answer (caused_chase ms B) (map choice_of r.answers.items) r.program.attempt))
+  pub reads : p.reads ≡ next_reads ms (seen r.program.attempt.number v) r.program.attempt (next_answer (caused_chase ms B) (map choice_of r.answers.items) r.program.attempt)

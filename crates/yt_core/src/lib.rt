@@ -1,0 +1,21 @@
+//! The core: the updates of a session, taken in steps in any order, with the history of all that was done.
+//!
+//! `README.md` has the contract. What a core is to its callers is said in `specs/States.antt`: what its history is over,
+//! and the entries of that history. Each call that changes a core makes one event of that history.
+#![tactic(auto)]
+
+mod admitting;
+mod aftermaths;
+mod cores;
+mod deliveries;
+mod draining;
+mod plans;
+mod refusals;
+mod results;
+mod standings;
+mod stepping;
+
+pub use crate::cores::Core;
+pub use crate::plans::{Plan, Snapshot};
+pub use crate::refusals::{DeliverRefusal, StepRefusal};
+pub use crate::results::drained;

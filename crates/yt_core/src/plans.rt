@@ -1,0 +1,188 @@
+//! The next step of an update, planned while the core goes on.
+ghost use Rattle.std.specs.Option.{option_map, option_copied};
+ghost use Rattle.std.specs.Prelude.{◌≡◌, ◌<◌, length, map, IfOk};
+ghost use Rattle.yt_base.specs.Meanings.{choice_of, rule_of};
+ghost use Rattle.yt_limits.specs.Within.{AreWithin};
+ghost use Rattle.yt_query.specs.Meanings.{read_of};
+ghost use Rattle.yt_queue.specs.Queues.{AreFrom};
+ghost use Rattle.yt_queue.specs.Programs.{IsBetween, HasNext};
+ghost use Rattle.yt_queue.specs.Wants.{WantsNext};
+ghost use Rattle.yt_core.specs.Taken.{AtPlace, IsReadySomewhere, IsSnapshotOf};
+
+use std::alloc::Global;
+use std::marker::Model;
+use yt_base::{Choice, MappingList, Memory, TryCopy};
+use yt_limits::{Budget, Mappings};
+use yt_plan::{Plan as Planned, plan_step};
+use yt_program::Program;
+use yt_query::LoggedRead;
+use yt_queue::Record;
+use yt_versions::Versions;
+
+/// The next step of an update: the attempt after it, and its reads.
+#[derive(Drop)]
+pub struct Plan {
+    pub(crate) update: u32,
+    pub(crate) step: Planned,
+}
+
+impl Model for Plan {
+    ghost use Rattle.std.specs.Prelude.{map};
+    ghost use Rattle.yt_query.specs.Meanings.{read_of};
+    ghost use Rattle.yt_core.specs.Planned.{PlanMeant};
+
+    ghost Value = { PlanMeant };
+
+    ghost view = { λ p. record { update = p.update; program = p.step.program; reads = map read_of p.step.reads.items } };
+}
+
+impl Plan {
+    /// The update's number. It takes no memory.
+    pub fn update(&self) -> u32
+        ensures update { result ≡ self.now.update }
+    {
+        self.update
+    }
+
+    /// The number of the attempt that makes the step. It takes no memory.
+    pub fn attempt(&self) -> u32
+        ensures attempt { result ≡ self.now.program.attempt.attempt }
+    {
+        self.step.program.attempt()
+    }
+
+    /// The reads of the step, in order. It takes no memory.
+    pub fn reads(&self) -> &[LoggedRead]
+        ensures reads { map read_of result.now ≡ self.now.reads }
+    {
+        self.step.reads.as_slice()
+    }
+}
+
+/// What is needed to plan the next step of an update: what lies below it, its program and its next answer. Contracts see the
+/// step that it plans.
+#[derive(Drop)]
+pub struct Snapshot<'s> {
+    pub(crate) mappings: Mappings<'s>,
+    pub(crate) budget: Budget,
+    pub(crate) versions: Versions,
+    pub(crate) update: u32,
+    pub(crate) program: Program,
+    pub(crate) answer: Option<Choice>,
+}
+
+impl<'s> Model for Snapshot<'s> {
+    ghost use Rattle.yt_core.specs.Planned.{PlanMeant};
+    ghost use Rattle.yt_core.specs.Snapshots.{planned_by, CanStep};
+
+    ghost Value = { PlanMeant };
+
+    ghost view = { planned_by };
+
+    ghost invariant = { CanStep };
+}
+
+impl<'s> Snapshot<'s> {
+    /// The plan of the step. It is refused only for want of memory.
+    pub fn plan(&self, alloc: Global) -> Result<Plan, Memory>
+        ensures same { IfOk result (λ plan. plan ≡ self.now) }
+    {
+        let below = self.versions.below(self.update);
+        let answer = lent(&self.answer);
+        let mappings = &self.mappings;
+        let step = plan_step(alloc, &self.program, answer, mappings, self.budget, &below)?;
+        Ok(Plan {
+            update: self.update,
+            step,
+        })
+    }
+
+    /// The update's number. It takes no memory.
+    pub fn update(&self) -> u32
+        ensures update { result ≡ self.now.update }
+    {
+        self.update
+    }
+}
+
+/// A snapshot of the next step of the update at the place, which is ready. It is refused only for want of memory.
+pub(crate) fn snapshot_at<'s>(
+    alloc: Global,
+    mappings: &'s MappingList,
+    budget: Budget,
+    versions: &Versions,
+    queue: &[Record],
+    place: usize,
+) -> Result<Snapshot<'s>, Memory>
+    requires within { AreWithin (map rule_of mappings.now.items) }
+    requires place { place < length queue.now }
+    requires numbers { AreFrom 1 queue.now }
+    requires ready { AtPlace place queue.now IsReadySomewhere }
+    requires left { AtPlace place queue.now (λ r. r.program.attempt.steps < budget) }
+    ensures taken { IfOk result (λ snapshot. AtPlace place queue.now (λ r. IsSnapshotOf
+        (map rule_of mappings.now.items) budget versions.now r snapshot)) }
+{
+    let item = &queue[place];
+    let snapshot = snapshot_of(alloc, mappings, budget, versions, item)?;
+    Ok(snapshot)
+}
+
+// A snapshot of the next step of the record, which is ready.
+fn snapshot_of<'s>(
+    alloc: Global,
+    mappings: &'s MappingList,
+    budget: Budget,
+    versions: &Versions,
+    item: &Record,
+) -> Result<Snapshot<'s>, Memory>
+    requires within { AreWithin (map rule_of mappings.now.items) }
+    requires between { IsBetween item.now.program }
+    requires ready { IsReadySomewhere item.now }
+    requires left { item.now.program.attempt.steps < budget }
+    ensures taken { IfOk result (IsSnapshotOf (map rule_of mappings.now.items) budget versions.now
+        item.now) }
+{
+    let answer = next_answer(alloc, item)?;
+    let program = item.program.copy(alloc)?;
+    let versions = versions.share()?;
+    Ok(Snapshot {
+        mappings: Mappings::of(mappings),
+        budget,
+        versions,
+        update: item.number(),
+        program,
+        answer,
+    })
+}
+
+// A copy of the next answer, if there is one.
+fn next_answer(alloc: Global, item: &Record) -> Result<Option<Choice>, Memory>
+    requires between { IsBetween item.now.program }
+    ensures next { IfOk result (λ answer. HasNext item.now (option_map choice_of answer)) }
+    ensures wanted { IfOk result (λ answer. WantsNext item.now (option_map choice_of answer)) }
+{
+    let found = item.next_answer();
+    let answer = copied(alloc, found)?;
+    Ok(answer)
+}
+
+// A copy of the answer, if there is one.
+fn copied(alloc: Global, answer: Option<&Choice>) -> Result<Option<Choice>, Memory>
+    ensures same { IfOk result (λ copy. option_map choice_of copy ≡ option_map choice_of
+        (option_copied answer.entry)) }
+{
+    match answer {
+        Some(choice) => Ok(Some(choice.copy(alloc)?)),
+        None => Ok(None),
+    }
+}
+
+// The answer, if there is one.
+fn lent(answer: &Option<Choice>) -> Option<&Choice>
+    ensures { option_copied result ≡ answer.now }
+{
+    match answer {
+        Some(choice) => Some(choice),
+        None => None,
+    }
+}

@@ -1,0 +1,27 @@
+//! Why a call of a core changed nothing.
+
+use yt_entries::Standing;
+
+/// Why a step was not made.
+#[derive(Clone, Copy, Debug)]
+pub enum StepRefusal {
+    /// There is no update of this number.
+    NoSuchUpdate,
+    /// The update is not ready.
+    NotReady(Standing),
+    /// There was no memory for it.
+    Memory,
+}
+
+/// Why an answer was not delivered.
+#[derive(Clone, Copy, Debug)]
+pub enum DeliverRefusal {
+    /// There is no update of this number.
+    NoSuchUpdate,
+    /// The update does not wait for an answer.
+    NotPending(Standing),
+    /// No recorded answer waits for it.
+    NoAnswer,
+    /// There was no memory for it.
+    Memory,
+}

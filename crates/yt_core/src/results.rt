@@ -1,0 +1,47 @@
+//! What is told of a core, and what a session comes to whose core is drained.
+ghost use Rattle.std.specs.Prelude.{◌≡◌, ◌≤◌, None, IfOk};
+ghost use Rattle.yt_grammar.specs.Validity.{IsSession};
+ghost use Rattle.yt_session.specs.Base.{base_violation};
+ghost use Rattle.yt_session.specs.Meanings.{session_of};
+ghost use Rattle.yt_serial.specs.Meanings.{IsSerialRun};
+ghost use Rattle.yt_core.specs.Results.{IsResultOf};
+
+use crate::cores::Core;
+use std::alloc::Global;
+use yt_base::Memory;
+use yt_limits::Budget;
+use yt_program::SessionResult;
+use yt_queue::Settings;
+use yt_session::Session;
+use yt_told::told;
+
+impl<'s> Core<'s> {
+    /// How the committed updates ended, where the lowest that is not committed stops, and the repository that the committed
+    /// ones left, nulls by their outer forms. It is refused only for want of memory.
+    pub fn result(&self, alloc: Global) -> Result<SessionResult, Memory>
+        ensures told { IfOk result (IsResultOf self.now) }
+    {
+        let told = told(alloc, &self.queue, &self.versions)?;
+        Ok(told)
+    }
+}
+
+/// What the session comes to by a core that is drained: whatever the settings, that is the serial run. It is refused only
+/// for want of memory.
+pub fn drained(
+    alloc: Global,
+    session: &Session,
+    settings: Settings,
+    budget: Budget,
+) -> Result<SessionResult, Memory>
+    requires valid { IsSession (session_of session.now) }
+    requires met { base_violation (session_of session.now) ≡ None }
+    requires retries { settings.retries ≤ 4 }
+    ensures told { IfOk result (IsSerialRun budget (session_of session.now)) }
+{
+    let mut core = Core::open(alloc, session, settings, budget)?;
+    core.is_legal();
+    core.drain(alloc)?;
+    let told = core.result(alloc)?;
+    Ok(told)
+}

@@ -1,0 +1,307 @@
+//! A step: it is prepared while nothing is changed, and then put in place, which cannot fail.
+ghost use Rattle.std.specs.Prelude.{◌≡◌, ◌<◌, ◌≤◌, suc, [], ◌∷◌, ◌++◌, drop, length, map, IfOk, OnOk, OnErr};
+ghost use Rattle.yt_base.specs.Meanings.{change_of};
+ghost use Rattle.yt_queue.specs.Programs.{IsBetween};
+ghost use Rattle.yt_queue.specs.Queues.{AreFrom};
+ghost use Rattle.yt_queue.specs.Renewals.{AllHaveOneMore, AreFresh};
+ghost use Rattle.yt_queue.specs.Settings.{settings_of};
+ghost use Rattle.yt_core.specs.Aftermaths.{AllBetween};
+ghost use Rattle.yt_core.specs.Follows.{AreSame, HasRoomAt, IsPlanAt, IsPreparedAt, IsInstalled, TellsStep, StepsTo};
+ghost use Rattle.yt_core.specs.Steps.{HasHidden, ShowsStep, WereFound, IsPrepared};
+
+use crate::aftermaths::{Aftermath, settled};
+use std::alloc::Global;
+use yt_base::{Memory, TryCopy, Write, WriteList};
+use yt_cascade::Cascade;
+use yt_entries::{Cause, CauseList, Entry, EntryList};
+use yt_limits::Mappings;
+use yt_plan::Plan;
+use yt_program::{Outcome, Program};
+use yt_queue::{Record, Settings, committed, has_spent, outcome, restart_marked};
+use yt_versions::Versions;
+
+/// What a step leaves: the writes that it shows, and what becomes of the updates above.
+#[derive(Drop)]
+pub(crate) struct Prepared {
+    pub(crate) writes: WriteList,
+    pub(crate) left: Aftermath,
+}
+
+/// What the step of the plan leaves, where `lower` and `upper` are the updates below and above that of the record, and so
+/// many are committed. It is refused only for want of memory.
+pub(crate) fn prepare(
+    alloc: Global,
+    mappings: &Mappings<'_>,
+    settings: Settings,
+    committed: u32,
+    versions: &Versions,
+    item: &Record,
+    upper: &[Record],
+    plan: &Plan,
+) -> Result<Prepared, Memory>
+    requires between { IsBetween item.now.program }
+    requires after { IsBetween plan.now.program }
+    requires numbers { AreFrom (suc item.now.program.attempt.number) upper.now }
+    requires more { AllHaveOneMore upper.now }
+    ensures prepared { IfOk result (IsPrepared mappings.now (settings_of settings) committed
+        versions.now item.now upper.now plan.now) }
+    ensures fresh { IfOk result (λ p. AreFresh upper.now p.left.fresh.items) }
+{
+    let after = versions_after(alloc, versions, item, plan)?;
+    let found = found(
+        alloc, mappings, settings, committed, versions, &after, item, upper, plan,
+    )?;
+    let left = settled(alloc, after, upper, found)?;
+    let writes = copied(alloc, item.written(plan))?;
+    Ok(Prepared { writes, left })
+}
+
+// Why each of the updates above is restarted by the step, if it is. `after` are the versions after it.
+fn found<'a>(
+    alloc: Global,
+    mappings: &'a Mappings<'a>,
+    settings: Settings,
+    committed: u32,
+    versions: &'a Versions,
+    after: &'a Versions,
+    item: &Record,
+    upper: &[Record],
+    plan: &Plan,
+) -> Result<Vec<Option<Cause>>, Memory>
+    requires between { IsBetween item.now.program }
+    requires after { IsBetween plan.now.program }
+    requires numbers { AreFrom (suc item.now.program.attempt.number) upper.now }
+    ensures found { IfOk result (λ found. WereFound mappings.now
+        (settings_of settings) committed versions.now after.now item.now upper.now plan.now
+        found.items) }
+    ensures long { IfOk result (λ found. length found.items ≡ length upper.now) }
+{
+    let mut walk = Cascade {
+        mappings,
+        deps: settings.deps,
+        committed,
+        update: item.number(),
+        whole: after,
+    };
+    if has_spent(&plan.program) {
+        walk.whole = versions;
+        return walk.causes_of_loss(alloc, item.trail(), upper);
+    }
+    walk.causes_of_writes(alloc, upper)
+}
+
+// The versions with the writes that the step shows; without those of the update where it ends by it spent or refused.
+fn versions_after(
+    alloc: Global,
+    versions: &Versions,
+    item: &Record,
+    plan: &Plan,
+) -> Result<Versions, Memory>
+    requires between { IsBetween item.now.program }
+    requires after { IsBetween plan.now.program }
+    ensures shows { IfOk result (ShowsStep item.now plan.now versions.now) }
+{
+    let mut after = versions.share()?;
+    if hides(&plan.program) {
+        after.retract(alloc, item.number(), item.trail())?;
+        return Ok(after);
+    }
+    after.publish(alloc, item.number(), item.written(plan))?;
+    Ok(after)
+}
+
+// Whether the attempt ended spent or refused.
+fn hides(program: &Program) -> bool
+    requires between { IsBetween program.now }
+    ensures hidden { HasHidden program.now result }
+{
+    matches!(
+        outcome(program),
+        Some(Outcome::Spent | Outcome::Refused { .. })
+    )
+}
+
+// Copies of the writes.
+fn copied(alloc: Global, writes: &[Write]) -> Result<WriteList, Memory>
+    ensures same { IfOk result (λ copies. map change_of copies.items ≡ map change_of writes.now) }
+{
+    let mut copies = WriteList::new(alloc);
+    for write in writes {
+        copies.push(write.copy(alloc)?)?;
+    }
+    Ok(copies)
+}
+
+/// What the step of the plan leaves, which is one of the update at the place. It is refused only for want of memory.
+pub(crate) fn prepare_at(
+    alloc: Global,
+    mappings: &Mappings<'_>,
+    settings: Settings,
+    versions: &Versions,
+    queue: &[Record],
+    place: usize,
+    plan: &Plan,
+) -> Result<Prepared, Memory>
+    requires place { place < length queue.now }
+    requires numbers { AreFrom 1 queue.now }
+    requires more { AllHaveOneMore queue.now }
+    requires after { IsBetween plan.now.program }
+    ensures prepared { IfOk result (IsPreparedAt mappings.now
+        (settings_of settings) place plan.now versions.now queue.now) }
+    ensures fresh { IfOk result (λ p. AreFresh (drop (suc place) queue.now) p.left.fresh.items) }
+{
+    let committed = committed(queue);
+    let item = &queue[place];
+    let upper = above(queue, place);
+    let prepared = prepare(
+        alloc, mappings, settings, committed, versions, item, upper, plan,
+    )?;
+    Ok(prepared)
+}
+
+// The updates above the place.
+fn above(queue: &[Record], place: usize) -> &[Record]
+    requires place { place < length queue.now }
+    ensures rest { result.now ≡ drop (suc place) queue.now }
+{
+    &queue[place + 1..]
+}
+
+/// Puts the step of the plan in place, and restarts those of the updates above for which there is an attempt. It takes no
+/// memory.
+pub(crate) fn install(queue: &mut [Record], place: usize, plan: Plan, fresh: Vec<Option<Program>>)
+    requires place { place < length queue.old }
+    requires numbers { AreFrom 1 queue.old }
+    requires room { HasRoomAt place plan queue.old }
+    requires plan { IsPlanAt place plan queue.old }
+    requires fresh { AreFresh (drop (suc place) queue.old) fresh.items }
+    ensures installed { IsInstalled place plan fresh.items queue.old queue.new }
+    ensures numbers { AreFrom 1 queue.new }
+    ensures long { length queue.new ≡ length queue.old }
+{
+    queue[place].follow(plan);
+    restart_marked(queue, place + 1, fresh);
+}
+
+// The entry of the step that the update at the place made.
+fn step_entry(
+    settings: Settings,
+    queue: &[Record],
+    place: usize,
+    attempt: u32,
+    writes: WriteList,
+    causes: CauseList,
+) -> Entry
+    requires place { place < length queue.now }
+    requires numbers { AreFrom 1 queue.now }
+    ensures told { TellsStep (settings_of settings) place attempt writes causes queue.now result }
+{
+    let committed = committed(queue);
+    let record = &queue[place];
+    let update = record.number();
+    let standing = record.standing(settings, committed, update);
+    Entry::Stepped {
+        update,
+        attempt,
+        standing,
+        writes,
+        causes,
+        committed,
+    }
+}
+
+// Makes the step of the plan, which is the next one of the update at the place. There is room for it. It is refused only
+// for want of memory; nothing is then changed.
+fn make_step(
+    alloc: Global,
+    mappings: &Mappings<'_>,
+    settings: Settings,
+    versions: &mut Versions,
+    queue: &mut [Record],
+    history: &mut EntryList,
+    place: usize,
+    plan: Plan,
+) -> Result<(), Memory>
+    requires place { place < length queue.old }
+    requires numbers { AreFrom 1 queue.old }
+    requires more { AllHaveOneMore queue.old }
+    requires room { HasRoomAt place plan queue.old }
+    requires plan { IsPlanAt place plan queue.old }
+    requires after { IsBetween plan.program }
+    requires spare { 1 ≤ history.old.spare }
+    ensures made { OnOk result (StepsTo mappings.now (settings_of settings) place plan versions.old
+        queue.old history.old.items versions.new queue.new history.new.items) }
+    ensures versions { OnErr result (versions.new ≡ versions.old) }
+    ensures queue { OnErr result (queue.new ≡ queue.old) }
+    ensures history { OnErr result (history.new ≡ history.old) }
+    ensures long { length queue.new ≡ length queue.old }
+{
+    let prepared = prepare_at(alloc, mappings, settings, versions, queue, place, &plan)?;
+    let Prepared { writes, left } = prepared;
+    let attempt = queue[place].program.attempt();
+    install(queue, place, plan, left.fresh);
+    *versions = left.versions;
+    let entry = step_entry(settings, queue, place, attempt, writes, left.causes);
+    put_last(history, entry);
+    Ok(())
+}
+
+/// Puts the entry at the end of the history, which has room for it.
+pub(crate) fn put_last(history: &mut EntryList, entry: Entry)
+    requires room { 1 ≤ history.old.spare }
+    ensures all { history.new.items ≡ history.old.items ++ entry ∷ [] }
+{
+    match history.push(entry) {
+        Ok(()) => {}
+        Err(_) => unreachable!(),
+    }
+}
+
+/// Makes room for the step of the plan. It is refused only for want of memory. What queue and history mean stays.
+pub(crate) fn reserve_step(
+    queue: &mut [Record],
+    history: &mut EntryList,
+    place: usize,
+    plan: &Plan,
+) -> Result<(), Memory>
+    requires place { place < length queue.old }
+    ensures room { OnOk result (HasRoomAt place plan.now queue.new) }
+    ensures spare { OnOk result (1 ≤ history.new.spare) }
+    ensures same { AreSame queue.old queue.new }
+    ensures long { length queue.new ≡ length queue.old }
+    ensures history { history.new.items ≡ history.old.items }
+{
+    queue[place].reserve_reads(plan)?;
+    history.reserve(1)
+}
+
+/// Makes the step of the plan, which is the next one of the update at the place. It is refused only for want of memory;
+/// what the queue and the history mean then stays.
+pub(crate) fn step_at(
+    alloc: Global,
+    mappings: &Mappings<'_>,
+    settings: Settings,
+    versions: &mut Versions,
+    queue: &mut [Record],
+    history: &mut EntryList,
+    place: usize,
+    plan: Plan,
+) -> Result<(), Memory>
+    requires place { place < length queue.old }
+    requires numbers { AreFrom 1 queue.old }
+    requires more { AllHaveOneMore queue.old }
+    requires plan { IsPlanAt place plan queue.old }
+    requires after { IsBetween plan.program }
+    ensures made { OnOk result (StepsTo mappings.now (settings_of settings) place plan versions.old
+        queue.old history.old.items versions.new queue.new history.new.items) }
+    ensures versions { OnErr result (versions.new ≡ versions.old) }
+    ensures queue { OnErr result (AreSame queue.old queue.new) }
+    ensures history { OnErr result (history.new.items ≡ history.old.items) }
+    ensures long { length queue.new ≡ length queue.old }
+{
+    reserve_step(queue, history, place, &plan)?;
+    make_step(
+        alloc, mappings, settings, versions, queue, history, place, plan,
+    )?;
+    Ok(())
+}
