@@ -42,7 +42,8 @@ pub struct Journal {
 
 // The mappings that no update adds.
 fn initial_mappings(alloc: Global, mappings: MappingList) -> Result<MappingList, Memory>
-    ensures { IfOk result (λ initial. mappings_of initial ≡ initial_mappings (mappings_of mappings)) }
+    ensures { IfOk result
+        (λ initial. mappings_of initial ≡ initial_mappings (mappings_of mappings)) }
 {
     let mut kept = MappingList::new(alloc);
     for mapping in mappings.into_vec() {
@@ -77,10 +78,13 @@ fn log_commit(
     requires place { IsInHand (state_of disk.old) (session_of session.now) place }
     requires reliable { (state_of disk.old).reliable ≡ true }
     requires next { commit.now.number ≡ place.commits + 1 }
-    requires writes { AllByRecursion (IsWrite session.now.schema) (logged (changes_of commit.now.writes)) }
-    ensures more { IfOk result (λ found. IfSome found (HasOneMore disk.old disk.new (session_of session.now)
+    requires writes { AllByRecursion (IsWrite session.now.schema)
+        (logged (changes_of commit.now.writes)) }
+    ensures more { IfOk result (λ found. IfSome found
+        (HasOneMore disk.old disk.new (session_of session.now)
         (logged (changes_of commit.now.writes)) place)) }
-    ensures none { IfOk result (λ found. IfNone found (IsOneTooMany disk.old (session_of session.now)
+    ensures none { IfOk result (λ found. IfNone found
+        (IsOneTooMany disk.old (session_of session.now)
         (logged (changes_of commit.now.writes)) place)) }
 {
     if disk.bytes().len() > INPUT_LIMIT {
@@ -107,9 +111,11 @@ fn log_all(
     requires writes { AreLogged session.now.schema (commits_of (trails_of trails)) }
     requires few { length trails.items ≤ 1000 }
     ensures fits { IfOk result (λ fits.
-        is_too_long (journal_text (session_of session.now) (commits_of (trails_of trails))) ≡ not fits) }
+        is_too_long (journal_text (session_of session.now) (commits_of (trails_of trails)))
+        ≡ not fits) }
     ensures text { IfOk result (λ fits. fits ≡ true →
-        bytes_of disk.new ≡ journal_text (session_of session.now) (commits_of (trails_of trails))) }
+        bytes_of disk.new
+        ≡ journal_text (session_of session.now) (commits_of (trails_of trails))) }
 {
     let mut gate = place;
     let mut number = 1;
@@ -129,8 +135,10 @@ fn begin(alloc: Global, disk: &mut MemDisk, session: &Session) -> Result<Option<
     requires empty { disk.old ≡ unused_disk [] [] }
     requires session { IsSession (session_of session.now) }
     requires no_updates { (session_of session.now).updates ≡ [] }
-    ensures begun { IfOk result (λ found. IfSome found (HasJournal disk.new (session_of session.now) [])) }
-    ensures none { IfOk result (λ found. IfNone found (is_too_long (journal_text (session_of session.now) []) ≡ true)) }
+    ensures begun { IfOk result
+        (λ found. IfSome found (HasJournal disk.new (session_of session.now) [])) }
+    ensures none { IfOk result (λ found. IfNone found
+        (is_too_long (journal_text (session_of session.now) []) ≡ true)) }
 {
     match create(alloc, disk, session) {
         Ok(place) => Ok(Some(place)),
@@ -154,7 +162,8 @@ fn journal_of(
         (text.items ≡ journal_text (session_of session.now) (commits_of (trails_of trails)))
         × (is_too_long text.items ≡ false))) }
     ensures none { IfOk result (λ found. IfNone found
-        (is_too_long (journal_text (session_of session.now) (commits_of (trails_of trails))) ≡ true)) }
+        (is_too_long (journal_text (session_of session.now) (commits_of (trails_of trails)))
+        ≡ true)) }
 {
     let mut disk = MemDisk::of(alloc, Vec::new(alloc), Vec::new(alloc))?;
     let Some(place) = begin(alloc, &mut disk, session)? else {
@@ -181,7 +190,8 @@ fn journal_output(alloc: Global, session: Session, left: Trailed) -> Result<Outp
     requires session { IsSession (session_of session) }
     requires writes { AreLogged session.schema (commits_of (trails_of left.trails)) }
     requires few { length left.trails.items ≤ 1000 }
-    ensures { IfOk result (λ output. view_of output ≡ journal_output (session_of session) (trailed_of left)) }
+    ensures { IfOk result
+        (λ output. view_of output ≡ journal_output (session_of session) (trailed_of left)) }
 {
     openings_are_sessions();
     let ending = ending_by(&left.stop);

@@ -22,7 +22,8 @@ fn push_lines(
     schema: &Schema,
     tuples: &[Tuple],
 ) -> Result<(), Memory>
-    ensures { OnOk result (text.new.items ≡ text.old.items ++ tuple_lines schema.now (map fact_of tuples.now)) }
+    ensures { OnOk result
+        (text.new.items ≡ text.old.items ++ tuple_lines schema.now (map fact_of tuples.now)) }
 {
     for tuple in tuples {
         text.extend_from_slice(&print_tuple(alloc, schema, tuple, false)?)?;
