@@ -8,7 +8,7 @@ _youtopia() {
   esac
   case $word in
     -*) COMPREPLY=($(compgen -W "--steps --query --help --version --workers --deps --retries --tuple --count --seed --trace" -- "$word")) ;;
-    *) COMPREPLY=($(compgen -W "run serial format check save upgrade ask" -- "$word")) ;;
+    *) COMPREPLY=($(compgen -W "run serial format check save upgrade ask journal recover" -- "$word")) ;;
   esac
 }
 complete -F _youtopia youtopia

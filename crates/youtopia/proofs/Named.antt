@@ -3,9 +3,10 @@ use Rattle.std.proofs.Common.{◌≡◌, ℕ, sym, subst}
 use Rattle.yt_command.specs.Devices.{Change}
 use Rattle.yt_command.specs.Rows.{Row}
 use Rattle.yt_command.specs.declared.statuses.Status.{Status}
+use Rattle.yt_commands.specs.Journaled.{journaled}
 use Rattle.yt_commands.specs.Runs.{kept}
 use Rattle.yt_words.specs.declared.names.CommandName.{CommandName}
-use Rattle.yt_words.specs.declared.names.CommandName.TheVariants.{Save}
+use Rattle.yt_words.specs.declared.names.CommandName.TheVariants.{Save, Journal}
 use Rattle.yt_words.specs.declared.reading.Options.{Options}
 use Rattle.yt_commands.specs.Commands.{on_session}
 use Rattle.youtopia.specs.Calls.{Does}
@@ -14,3 +15,8 @@ pub saves : (options : Options) (status : Status) (n : ℕ) (source out err : Ch
 saves options status n source out err named budget row =
     subst (λ (k : CommandName). Does k options status source out err) (sym named)
     (subst (λ (m : ℕ). Row status (on_session (kept m)) source out err) budget row)
+
+pub journals : (options : Options) (status : Status) (n : ℕ) (source out err : Change) → options.command ≡ Journal → n ≡ options.steps → Row status (on_session (journaled n)) source out err → Does options.command options status source out err
+journals options status n source out err named budget row =
+    subst (λ (k : CommandName). Does k options status source out err) (sym named)
+    (subst (λ (m : ℕ). Row status (on_session (journaled m)) source out err) budget row)

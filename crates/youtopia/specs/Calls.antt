@@ -14,12 +14,13 @@ use Rattle.yt_command.specs.declared.statuses.Status.TheVariants.{Usage, OutOfMe
 use Rattle.yt_ask.specs.Written.{WrittenAsk, SpellsAsk}
 use Rattle.yt_commands.specs.Asked.{asked}
 use Rattle.yt_commands.specs.Commands.{on_session, formatted, upgraded_text, checked}
+use Rattle.yt_commands.specs.Journaled.{journaled, recovering}
 use Rattle.yt_commands.specs.Runs.{ran, kept}
 use Rattle.yt_words.specs.Alike.{text_of}
 use Rattle.yt_words.specs.Meaning.{Answers, is_refused}
 use Rattle.yt_words.specs.declared.help.TheConstants.{HELP, VERSION_LINE}
 use Rattle.yt_words.specs.declared.names.CommandName.{CommandName}
-use Rattle.yt_words.specs.declared.names.CommandName.TheVariants.{Run, Serial, Format, Check, Save, Upgrade, Ask}
+use Rattle.yt_words.specs.declared.names.CommandName.TheVariants.{Run, Serial, Format, Check, Save, Upgrade, Ask, Journal, Recover}
 use Rattle.yt_words.specs.declared.reading.Options.{Options}
 use Rattle.yt_words.specs.declared.reading.Request.{Request}
 use Rattle.yt_words.specs.declared.reading.Request.TheVariants.{Command, Help, Version}
@@ -52,6 +53,8 @@ makes Format options = on_session formatted
 makes Check options = on_session checked
 makes Save options = on_session (kept options.steps)
 makes Upgrade options = on_session upgraded_text
+makes Journal options = on_session (journaled options.steps)
+makes Recover options = recovering
 makes Ask options = λ input output. (q : WrittenAsk) × AsksFor options q × on_session (asked options.steps q) input output
 
 -- what a command with its options does: the row of the status holds; `ask` without a query is refused as wrong words are

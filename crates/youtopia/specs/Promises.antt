@@ -15,7 +15,7 @@ use Rattle.yt_session.specs.Base.{base_violation}
 use Rattle.yt_words.specs.Meaning.{Answers}
 use Rattle.yt_words.specs.declared.help.TheConstants.{HELP, VERSION_LINE}
 use Rattle.yt_words.specs.declared.names.CommandName.{CommandName}
-use Rattle.yt_words.specs.declared.names.CommandName.TheVariants.{Run, Serial, Save, Ask}
+use Rattle.yt_words.specs.declared.names.CommandName.TheVariants.{Run, Serial, Save, Ask, Journal, Recover}
 use Rattle.yt_words.specs.declared.reading.Options.{Options}
 use Rattle.yt_words.specs.declared.reading.Request.{Request}
 use Rattle.yt_words.specs.declared.reading.Request.TheVariants.{Command, Help, Version}
@@ -52,18 +52,25 @@ MayEnd Run status = (status ≡ Ended) ⊎ (status ≡ Stuck)
 MayEnd Serial status = (status ≡ Ended) ⊎ (status ≡ Stuck)
 MayEnd Save status = (status ≡ Ended) ⊎ ((status ≡ Stuck) ⊎ (status ≡ TooLarge))
 MayEnd Ask status = (status ≡ Ended) ⊎ ((status ≡ Stuck) ⊎ (status ≡ QueryRefused))
+MayEnd Journal status = (status ≡ Ended) ⊎ ((status ≡ Stuck) ⊎ (status ≡ TooLarge))
 MayEnd command status = status ≡ Ended
+
+-- the commands that read a session: all but `recover`, which reads a journal
+abbrev pub ReadsSession : CommandName → Type 0
+ReadsSession Recover = ⊥
+ReadsSession command = Unit {0}
 
 -- the words of `ask` spell a query
 abbrev pub HasQuery : CommandName → Options → Type 0
 HasQuery Ask options = (q : WrittenAsk) × AsksFor options q
 HasQuery command options = Unit {0}
 
--- Accepted words, a session whose base meets its mappings, and nothing fails: the command ends so, or memory was wanting.
+-- Accepted words of a command on sessions, a session whose base meets its mappings, and nothing fails: the command ends so,
+-- or memory was wanting.
 abbrev pub Serves : List Letters → Status → Change → Change → Type 0
 Serves words status source out =
-    (options : Options) (input : List ℕ) (s : SessionData) → Answers words (Command options) → HasQuery options.command options
-    → Spells input s → base_violation s ≡ None → NothingFails input source out
+    (options : Options) (input : List ℕ) (s : SessionData) → Answers words (Command options) → ReadsSession options.command
+    → HasQuery options.command options → Spells input s → base_violation s ≡ None → NothingFails input source out
     → MayEnd options.command status ⊎ (status ≡ OutOfMemory)
 
 -- the commands that write the result of a run

@@ -12,7 +12,8 @@ use yt_ask::{RawAsk, parse_ask};
 use yt_base::Memory;
 use yt_command::{Failure, Status, fail, perform, perform_alone};
 use yt_commands::{
-    Ask, Check, Format, OnSession, Save, Serial, Upgrade, performed_runs_write_what_holds,
+    Ask, Check, Format, Journal, OnSession, Recover, Save, Serial, Upgrade,
+    performed_runs_write_what_holds, recovered_inputs_have_one_status,
 };
 use yt_limits::Budget;
 use yt_text::{Sink, Source};
@@ -85,6 +86,8 @@ fn command<S: Source, O: Sink, E: Sink>(
         CommandName::Save => perform(alloc, &OnSession(Save { budget }), source, out, err),
         CommandName::Upgrade => perform(alloc, &OnSession(Upgrade), source, out, err),
         CommandName::Ask => ask_query(alloc, options, source, out, err),
+        CommandName::Journal => perform(alloc, &OnSession(Journal { budget }), source, out, err),
+        CommandName::Recover => perform(alloc, &Recover, source, out, err),
     }
 }
 
@@ -158,5 +161,6 @@ pub fn youtopia<S: Source, O: Sink, E: Sink>(
     words_are_answered_or_refused();
     words_ask_for_one_thing();
     performed_runs_write_what_holds();
+    recovered_inputs_have_one_status();
     answer(alloc, words, source, out, err)
 }

@@ -1,2 +1,5 @@
+mod JournalOutputs
+mod Journals
 mod Performed
+mod RecoverOutputs
 mod Unviolated

@@ -1,15 +1,19 @@
 //! Laws of what the commands write that run the updates.
-ghost use Rattle.std.specs.Prelude.{◌≤◌, ℕ};
+ghost use Rattle.std.specs.Prelude.{◌≡◌, ◌≤◌, ℕ, List};
 ghost use Rattle.yt_command.specs.Devices.{Change};
+ghost use Rattle.yt_command.specs.Outputs.{OutputView};
 ghost use Rattle.yt_command.specs.Rows.{Row};
+ghost use Rattle.yt_command.specs.Statuses.{status_of};
 ghost use Rattle.yt_command.specs.declared.statuses.Status.{Status};
 ghost use Rattle.yt_commands.specs.Commands.{on_session};
+ghost use Rattle.yt_commands.specs.Journaled.{recovering};
 ghost use Rattle.yt_commands.specs.Runs.{ran};
 ghost use Rattle.yt_commands.specs.Written.{EndsOrStops, HasWritten, WritesWhatHolds, WroteWhatHolds};
 ghost use Rattle.yt_grammar.specs.Sessions.{SessionData};
 ghost use Rattle.yt_kept.specs.Kept.{IsRunnable};
 
 use yt_grammar::spelled_sessions_are_valid;
+use yt_journal::damaged_bytes_are_no_journal;
 use yt_kept::runs_meet_their_mappings;
 
 /// Of a valid session whose base meets its mappings, `run` and `serial` write a repository in which every mapping in force
@@ -31,4 +35,12 @@ pub fn performed_runs_write_what_holds()
 {
     spelled_sessions_are_valid();
     runs_meet_their_mappings();
+}
+
+/// An input is a journal or damaged and never both, so that `recover` has one status for it.
+pub fn recovered_inputs_have_one_status()
+    ensures { (input : List ℕ) (output other : OutputView) → recovering input output →
+        recovering input other → status_of output ≡ status_of other }
+{
+    damaged_bytes_are_no_journal();
 }

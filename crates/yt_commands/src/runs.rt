@@ -52,8 +52,8 @@ fn result_output(alloc: Global, session: &Session, told: &SessionResult) -> Resu
     Ok(Output::Text(ending_by(told), text))
 }
 
-// The line that tells that a session is too large.
-fn too_large_line(alloc: Global) -> Result<Vec<u8>, Memory>
+/// The line that tells that an output is too large.
+pub(crate) fn too_large_line(alloc: Global) -> Result<Vec<u8>, Memory>
     ensures { IfOk result (λ line. line.items ≡ too_large_line) }
 {
     let mut line = Vec::new(alloc);

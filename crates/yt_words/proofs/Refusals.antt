@@ -118,6 +118,8 @@ command_is_known command.Check = refl
 command_is_known command.Save = refl
 command_is_known command.Upgrade = refl
 command_is_known command.Ask = refl
+command_is_known command.Journal = refl
+command_is_known command.Recover = refl
 
 deps_are_known : (d : Deps) → is_deps (deps_text d) ≡ true
 deps_are_known deps.Coarse = refl

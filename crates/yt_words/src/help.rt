@@ -21,6 +21,8 @@ Commands:
   save      run the updates, and print what they left as a session
   upgrade   print the session in the newest format
   ask       run the updates; print the certain answers to a query
+  journal   run the updates, and write what they commit as a journal
+  recover   read a journal; print its number of commits and what they left
 
 Options:
   --steps N     how many steps an update may take, 1 to 300 [100]
@@ -41,6 +43,7 @@ Statuses:
   0 done   1 stuck at a frontier   2 words refused   3 session refused
   4 base violates a mapping   5 read fault   6 write fault
   7 out of memory   8 input too long   9 result too large   11 query refused
+  12 journal damaged
 
 Example:
   youtopia run --steps 50 < travel.session

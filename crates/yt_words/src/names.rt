@@ -21,6 +21,10 @@ pub enum CommandName {
     Upgrade,
     /// Runs a session's updates one after the other, and prints the certain answers to a query over what they left.
     Ask,
+    /// Runs a session's updates one after the other, and writes what they commit as a journal.
+    Journal,
+    /// Tells what a journal stands for.
+    Recover,
 }
 
 /// Which of the values that a read depends on count.
@@ -58,6 +62,12 @@ pub(crate) fn command_named(text: &str) -> Option<CommandName>
     }
     if text == "ask" {
         return Some(CommandName::Ask);
+    }
+    if text == "journal" {
+        return Some(CommandName::Journal);
+    }
+    if text == "recover" {
+        return Some(CommandName::Recover);
     }
     None
 }

@@ -3,11 +3,13 @@ use Rattle.youtopia.proofs.top.youtopia.Goals as goal
 
 pub returns-clause-complete : goal.returns-clause-complete
 returns-clause-complete g c =
-    completes c.words_are_answered_or_refused.ensures.never_both c.words_ask_for_one_thing.ensures _ _ _ _ _ c.answer.ensures.calls
+    completes c.words_are_answered_or_refused.ensures.never_both c.words_ask_for_one_thing.ensures c.recovered_inputs_have_one_status.ensures
+    _ _ _ _ _ c.answer.ensures.calls
 
 pub returns-clause-serves : goal.returns-clause-serves
 returns-clause-serves g c = serves _ _ _ _
-    (completes c.words_are_answered_or_refused.ensures.never_both c.words_ask_for_one_thing.ensures _ _ _ _ _ c.answer.ensures.calls)
+    (completes c.words_are_answered_or_refused.ensures.never_both c.words_ask_for_one_thing.ensures c.recovered_inputs_have_one_status.ensures
+    _ _ _ _ _ c.answer.ensures.calls)
 
 pub returns-clause-holds : goal.returns-clause-holds
 returns-clause-holds g c =

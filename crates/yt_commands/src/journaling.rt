@@ -1,0 +1,218 @@
+//! The command `journal`: what a session begins with and what its updates commit, as a journal.
+ghost use Rattle.std.specs.Prelude.{◌≡◌, ◌+◌, ◌≤◌, [], length, map, not, false, true, IfOk, IfSome, IfNone};
+ghost use Rattle.std.specs.List.{AllByRecursion};
+ghost use Rattle.std.specs.Option.{option_map};
+ghost use Rattle.yt_command.specs.Outputs.{view_of};
+ghost use Rattle.yt_grammar.specs.Sessions.{initial_mappings};
+ghost use Rattle.yt_grammar.specs.Validity.{IsSession};
+ghost use Rattle.yt_base.specs.Contents.{changes_of};
+ghost use Rattle.yt_disk.specs.InMemory.{bytes_of, state_of, unused_disk};
+ghost use Rattle.yt_journal.specs.Format.{IsWrite, journal_text, logged};
+ghost use Rattle.yt_journal.specs.Journals.{IsInHand};
+ghost use Rattle.yt_logged.specs.Logged.{AreLogged, commits_of, opening_of};
+ghost use Rattle.yt_program.specs.Results.{stop_of};
+ghost use Rattle.yt_report.specs.Pages.{mappings_of};
+ghost use Rattle.yt_schema.specs.Meanings.{session_mapping_of};
+ghost use Rattle.yt_serial.specs.Trails.{trailed_of, trails_of};
+ghost use Rattle.yt_session.specs.Meanings.{session_of};
+ghost use Rattle.yt_commands.specs.Journaled.{HasJournal, HasOneMore, IsOneTooMany, is_too_long, journal_output, journaled};
+ghost use Rattle.yt_commands.specs.Runs.{ending_by};
+
+use crate::base::{base_refusal, base_violation};
+use crate::reading::SessionCommand;
+use crate::runs::too_large_line;
+use std::alloc::Global;
+use yt_base::{List, MappingList, Memory, WriteList};
+use yt_command::{Ending, INPUT_LIMIT, Output, Refusal};
+use yt_disk::MemDisk;
+use yt_journal::{AppendFault, Commit, CreateFault, Journal as Place, append, create};
+use yt_limits::Budget;
+use yt_logged::{openings_are_sessions, trails_are_logged};
+use yt_program::Stop;
+use yt_serial::{TrailList, Trailed, base_of, trails};
+use yt_session::Session;
+
+/// `journal`: the updates taken whole, one after the other; what the session begins with, and what each of them commits, as
+/// a journal.
+#[derive(Clone, Copy, Debug)]
+pub struct Journal {
+    /// How many steps an update may take.
+    pub budget: Budget,
+}
+
+// The mappings that no update adds.
+fn initial_mappings(alloc: Global, mappings: MappingList) -> Result<MappingList, Memory>
+    ensures { IfOk result
+        (λ initial. mappings_of initial ≡ initial_mappings (mappings_of mappings)) }
+{
+    let mut kept = MappingList::new(alloc);
+    for mapping in mappings.into_vec() {
+        if mapping.since == 0 {
+            kept.push(mapping)?;
+        }
+    }
+    Ok(kept)
+}
+
+// What the session begins with.
+fn opening_of(alloc: Global, session: Session) -> Result<Session, Memory>
+    ensures { IfOk result (λ opening. session_of opening ≡ opening_of (session_of session)) }
+{
+    Ok(Session {
+        format: session.format,
+        schema: session.schema,
+        mappings: initial_mappings(alloc, session.mappings)?,
+        base: session.base,
+        updates: List::new(alloc),
+    })
+}
+
+// Appends a commit. None where the journal is too long with it.
+fn log_commit(
+    alloc: Global,
+    disk: &mut MemDisk,
+    place: Place,
+    session: &Session,
+    commit: &Commit,
+) -> Result<Option<Place>, Memory>
+    requires place { IsInHand (state_of disk.old) (session_of session.now) place }
+    requires reliable { (state_of disk.old).reliable ≡ true }
+    requires next { commit.now.number ≡ place.commits + 1 }
+    requires writes { AllByRecursion (IsWrite session.now.schema)
+        (logged (changes_of commit.now.writes)) }
+    ensures more { IfOk result (λ found. IfSome found
+        (HasOneMore disk.old disk.new (session_of session.now)
+        (logged (changes_of commit.now.writes)) place)) }
+    ensures none { IfOk result (λ found. IfNone found
+        (IsOneTooMany disk.old (session_of session.now)
+        (logged (changes_of commit.now.writes)) place)) }
+{
+    if disk.bytes().len() > INPUT_LIMIT {
+        return Ok(None);
+    }
+    match append(alloc, place, disk, session, commit) {
+        Ok(next) => Ok(Some(next)),
+        Err(AppendFault::TooLarge(_, _)) => Ok(None),
+        Err(AppendFault::DiskFault) => unreachable!(),
+        Err(AppendFault::DiskMemory) => Err(Memory),
+        Err(AppendFault::Memory(_)) => Err(Memory),
+    }
+}
+
+// Appends a commit for each trail; whether the journal is not too long with them.
+fn log_all(
+    alloc: Global,
+    disk: &mut MemDisk,
+    place: Place,
+    session: &Session,
+    trails: TrailList,
+) -> Result<bool, Memory>
+    requires begun { HasJournal disk.old (session_of session.now) [] place }
+    requires writes { AreLogged session.now.schema (commits_of (trails_of trails)) }
+    requires few { length trails.items ≤ 1000 }
+    ensures fits { IfOk result (λ fits.
+        is_too_long (journal_text (session_of session.now) (commits_of (trails_of trails)))
+        ≡ not fits) }
+    ensures text { IfOk result (λ fits. fits ≡ true →
+        bytes_of disk.new
+        ≡ journal_text (session_of session.now) (commits_of (trails_of trails))) }
+{
+    let mut gate = place;
+    let mut number = 1;
+    for writes in trails.into_vec() {
+        let commit = Commit { number, writes };
+        let Some(next) = log_commit(alloc, disk, gate, session, &commit)? else {
+            return Ok(false);
+        };
+        gate = next;
+        number += 1;
+    }
+    Ok(disk.bytes().len() <= INPUT_LIMIT)
+}
+
+// Makes a journal of the session on an empty disk. None where the session is too large.
+fn begin(alloc: Global, disk: &mut MemDisk, session: &Session) -> Result<Option<Place>, Memory>
+    requires empty { disk.old ≡ unused_disk [] [] }
+    requires session { IsSession (session_of session.now) }
+    requires no_updates { (session_of session.now).updates ≡ [] }
+    ensures begun { IfOk result
+        (λ found. IfSome found (HasJournal disk.new (session_of session.now) [])) }
+    ensures none { IfOk result (λ found. IfNone found
+        (is_too_long (journal_text (session_of session.now) []) ≡ true)) }
+{
+    match create(alloc, disk, session) {
+        Ok(place) => Ok(Some(place)),
+        Err(CreateFault::TooLarge(_)) => Ok(None),
+        Err(CreateFault::DiskFault) => unreachable!(),
+        Err(CreateFault::Memory) => Err(Memory),
+    }
+}
+
+// The journal of the session with a commit for each trail; None where it is too long.
+fn journal_of(
+    alloc: Global,
+    session: &Session,
+    trails: TrailList,
+) -> Result<Option<Vec<u8>>, Memory>
+    requires session { IsSession (session_of session.now) }
+    requires no_updates { (session_of session.now).updates ≡ [] }
+    requires writes { AreLogged session.now.schema (commits_of (trails_of trails)) }
+    requires few { length trails.items ≤ 1000 }
+    ensures text { IfOk result (λ found. IfSome found (λ text.
+        (text.items ≡ journal_text (session_of session.now) (commits_of (trails_of trails)))
+        × (is_too_long text.items ≡ false))) }
+    ensures none { IfOk result (λ found. IfNone found
+        (is_too_long (journal_text (session_of session.now) (commits_of (trails_of trails)))
+        ≡ true)) }
+{
+    let mut disk = MemDisk::of(alloc, Vec::new(alloc), Vec::new(alloc))?;
+    let Some(place) = begin(alloc, &mut disk, session)? else {
+        return Ok(None);
+    };
+    if log_all(alloc, &mut disk, place, session, trails)? {
+        return Ok(Some(disk.bytes().to_vec(alloc)?));
+    }
+    Ok(None)
+}
+
+// How a command ends whose updates stopped there, or did not.
+fn ending_by(stop: &Option<Stop>) -> Ending
+    ensures { result ≡ ending_by (option_map stop_of stop.now) }
+{
+    match stop {
+        None => Ending::Ended,
+        Some(_) => Ending::Stuck,
+    }
+}
+
+// The journal of what a run of the session left.
+fn journal_output(alloc: Global, session: Session, left: Trailed) -> Result<Output, Memory>
+    requires session { IsSession (session_of session) }
+    requires writes { AreLogged session.schema (commits_of (trails_of left.trails)) }
+    requires few { length left.trails.items ≤ 1000 }
+    ensures { IfOk result
+        (λ output. view_of output ≡ journal_output (session_of session) (trailed_of left)) }
+{
+    openings_are_sessions();
+    let ending = ending_by(&left.stop);
+    let opening = opening_of(alloc, session)?;
+    match journal_of(alloc, &opening, left.trails)? {
+        Some(text) => Ok(Output::Text(ending, text)),
+        None => Ok(Output::Refused(Refusal::TooLarge, too_large_line(alloc)?)),
+    }
+}
+
+impl SessionCommand for Journal {
+    ghost makes = { λ c s. journaled c.budget s };
+
+    fn make(&self, alloc: Global, session: Session) -> Result<Output, Memory> {
+        trails_are_logged();
+        self.budget.is_within();
+        let base = base_of(alloc, &session)?;
+        if let Some(violated) = base_violation(alloc, &session, &base)? {
+            return base_refusal(alloc, &session.schema, &violated);
+        }
+        let left = trails(alloc, &session, base, self.budget)?;
+        journal_output(alloc, session, left)
+    }
+}
