@@ -221,8 +221,9 @@ impl<C: Core> Board<C> {
             number,
             update,
             stamp: _,
-            snapshot: _,
+            snapshot,
         } = ticket;
+        C::drop_snapshot(snapshot);
         self.marks.push_reserved(Marked {
             mark: Mark::Returning(number),
             maker: seat,
@@ -247,6 +248,7 @@ impl<C: Core> Board<C> {
         ensures same { IfErr result (λ e. e.0 ≡ ticket) }
     {
         if let Some(entry) = self.core.touched(&plan, ticket.stamp) {
+            C::drop_plan(plan);
             self.give_back(seat, ticket);
             return Ok(Finished::Stale { entry });
         }
@@ -256,8 +258,9 @@ impl<C: Core> Board<C> {
                     number: _,
                     update: _,
                     stamp: _,
-                    snapshot: _,
+                    snapshot,
                 } = ticket;
+                C::drop_snapshot(snapshot);
                 Ok(Finished::Stepped { entry })
             }
             Err(memory) => Err((ticket, memory)),
@@ -278,7 +281,10 @@ impl<C: Core> Board<C> {
         ensures step { StepOn seat self.old self.new ticket.now result }
         ensures kept { IfErr result (λ _. items_of self.new ≡ items_of self.old) }
     {
-        self.marks.reserve(self.busy.len() + 2)?;
+        if let Err(memory) = self.marks.reserve(self.busy.len() + 2) {
+            C::drop_plan(plan);
+            return Err(memory.into());
+        }
         self.core.install(alloc, plan)?;
         self.marks.push_reserved(Marked {
             mark: Mark::Next,

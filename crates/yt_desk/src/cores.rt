@@ -14,10 +14,10 @@ pub trait Core {
     ghost use Rattle.yt_desk.specs.Cores.{lowest_idle, lowest_waiting, IsReady, IsPlanOf, HasDelivered, HasStep, HasStayed};
 
     /// What is needed to plan an update's next step, whatever is done meanwhile.
-    type Snapshot: Drop;
+    type Snapshot;
 
     /// The next step of an update.
-    type Plan: Drop;
+    type Plan;
 
     /// What the core's history is over.
     ghost over: { Self → Ground };
@@ -30,6 +30,12 @@ pub trait Core {
 
     /// The plan is the step of the update at the state that these entries leave.
     ghost is_plan: { Self.Plan → Ground → List PlainEntry → ℕ → Type 0 };
+
+    /// Lets a snapshot go.
+    fn drop_snapshot(snapshot: Self::Snapshot);
+
+    /// Lets a plan go.
+    fn drop_plan(plan: Self::Plan);
 
     /// The number of the first entry past so many that is in question for the plan.
     ghost in_question: { Self.Plan → Ground → List PlainEntry → ℕ → Option ℕ };

@@ -30,7 +30,7 @@ pub trait Bench {
     type Ticket;
 
     /// What is worked out for a ticket. Where `finish` fails the plan is dropped.
-    type Plan: Drop;
+    type Plan;
 
     /// What the identity of a seat's lock is.
     ghost Lock: { Type 0 };

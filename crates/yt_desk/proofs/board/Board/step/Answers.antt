@@ -19,12 +19,12 @@ invariant_of-self-2 g c =
     let t = c.args.ticket.now in
     let x : Marked = record { mark = Next; maker = c.args.seat } in
     let y : Marked = record { mark = Returning t.number; maker = c.args.seat } in
-    let marks = c.push_reserved-2.ensures.items ∙ (ap (λ l. l ++ y ∷ []) (c.push_reserved.ensures.items ∙ ap (λ l. l ++ x ∷ []) c.in_ok-reserve.ensures.items) ∙ append_assoc i.marks.items (x ∷ []) (y ∷ [])) in
+    let marks = c.push_reserved-2.ensures.items ∙ (ap (λ l. l ++ y ∷ []) (c.push_reserved.ensures.items ∙ ap (λ l. l ++ x ∷ []) c.in_default.ensures.items) ∙ append_assoc i.marks.items (x ∷ []) (y ∷ [])) in
     let same = shared_more o _ H K i.opened i.marks.items _ (x ∷ y ∷ []) i.busy.items _ i.given i.given c.in_ok-install.ensures.over marks ∙ (λ k. more b (made Next (Some c.args.seat) ∷ made (Returning t.number) (Some c.args.seat) ∷ []) K (c.leave.ensures.left k) i.given) in
     let plan = subst (λ (z : Shared). g.C.Core.is_plan c.args.plan z.over z.history t.update) (sym c.self.view_is) c.requires.plan in
     let p = step_is g.C.Core.is_snapshot {E = Memory} b _ _ c.args.seat t K c.length.result c.self.invariant.0 c.self.view_is c.requires.out (c.in_ok-install.ensures.made t.update plan) same c.length.ensures.length in
     let left = ap length c.leave.ensures.left in
-    (p.0, omega (arith, left, fewer_left t.update i.busy.items, c.self.invariant.1, i.busy.ok, c.leave.new.busy.ok, c.len.ensures, c.in_ok-reserve.ensures.ok, c.in_ok-reserve.ensures.len, c.push_reserved.ensures.len, c.push_reserved.ensures.capacity, c.push_reserved-2.ensures.len, c.push_reserved-2.ensures.capacity))
+    (p.0, omega (arith, left, fewer_left t.update i.busy.items, c.self.invariant.1, i.busy.ok, c.leave.new.busy.ok, c.len.ensures, c.in_default.ensures.ok, c.in_default.ensures.len, c.push_reserved.ensures.len, c.push_reserved.ensures.capacity, c.push_reserved-2.ensures.len, c.push_reserved-2.ensures.capacity))
 
 pub returns-clause-step : goal.returns-clause-step
 returns-clause-step g c =
@@ -36,7 +36,7 @@ returns-clause-step g c =
     let t = c.args.ticket.now in
     let x : Marked = record { mark = Next; maker = c.args.seat } in
     let y : Marked = record { mark = Returning t.number; maker = c.args.seat } in
-    let marks = c.push_reserved-2.ensures.items ∙ (ap (λ l. l ++ y ∷ []) (c.push_reserved.ensures.items ∙ ap (λ l. l ++ x ∷ []) c.in_ok-reserve.ensures.items) ∙ append_assoc i.marks.items (x ∷ []) (y ∷ [])) in
+    let marks = c.push_reserved-2.ensures.items ∙ (ap (λ l. l ++ y ∷ []) (c.push_reserved.ensures.items ∙ ap (λ l. l ++ x ∷ []) c.in_default.ensures.items) ∙ append_assoc i.marks.items (x ∷ []) (y ∷ [])) in
     let same = shared_more o _ H K i.opened i.marks.items _ (x ∷ y ∷ []) i.busy.items _ i.given i.given c.in_ok-install.ensures.over marks ∙ (λ k. more b (made Next (Some c.args.seat) ∷ made (Returning t.number) (Some c.args.seat) ∷ []) K (c.leave.ensures.left k) i.given) in
     let plan = subst (λ (z : Shared). g.C.Core.is_plan c.args.plan z.over z.history t.update) (sym c.self.view_is) c.requires.plan in
     let p = step_is g.C.Core.is_snapshot {E = Memory} b _ _ c.args.seat t K c.length.result c.self.invariant.0 c.self.view_is c.requires.out (c.in_ok-install.ensures.made t.update plan) same c.length.ensures.length in
