@@ -1,5 +1,5 @@
 -- The relations and the mappings of a drilled session are read.
-use Rattle.std.proofs.Common.{◌≡◌, ◌∙◌, refl, subst, sym, ℕ, List, [], Ok, Err}
+use Rattle.std.proofs.Common.{◌≡◌, ◌∙◌, refl, subst, sym, [], Ok, Err}
 use Rattle.yt_grammar.specs.Checks.{add_relation, add_mapping, add_tuple, operation_of, add_update, choice_of, add_answer}
 use Rattle.yt_grammar.specs.Forms.{header_at, relation_at, replace_at, operation_at, update_at, choice_at, answer_at, named_at, statement_at}
 use Rattle.yt_grammar.specs.Layout.{laid_out}
@@ -18,8 +18,8 @@ use Rattle.yt_reader.specs.Answers.{IsTold, wrong_of}
 use Rattle.yt_reader.specs.declared.faults.ReadFailure.{ReadFailure}
 use Rattle.yt_reader.specs.declared.faults.ReadFailure.TheVariants as failure
 use Rattle.yt_reader.specs.declared.faults.SessionFault.{SessionFault}
-use Rattle.yt_grammar.specs.Sessions.{SessionUpdate, SessionData}
-use Rattle.yt_drill.specs.Drilled.{drilled, blank_text, updates_from, with_updates}
+use Rattle.yt_grammar.specs.Sessions.{SessionData}
+use Rattle.yt_drill.specs.Drilled.{blank_text, with_updates}
 
 pub blank_read : read blank_text ≡ Ok (with_updates [])
 unfolding add_relation add_mapping add_tuple operation_of add_update choice_of add_answer header_at relation_at replace_at operation_at update_at choice_at answer_at named_at statement_at laid_out open_line line_with lines_from read relation_of fact_of nulls_within bounded_fact pattern_of mapping_of name_at open_at colon_at end_at whole item_at items_at fact_at atom_at left_atom right_atom last_fact left_at right_at mapping_at facts_at many each tokens_at value_after text_from number_at minus_at point_at null_at token_at digits
@@ -34,8 +34,3 @@ blank_right w e = let same : Err w ≡ Ok (with_updates []) = sym e ∙ blank_re
 
 pub blank_told : (f : ReadFailure) (e : SessionFault) → f ≡ failure.Fault e → IsTold blank_text f → ⊥
 blank_told f e is told = blank_right (wrong_of e) (subst (IsTold blank_text) is told)
-
--- With the updates drawn it is the drilled session.
-pub drilled_is : (s : SessionData) (us : List SessionUpdate) (count seed : ℕ) → s ≡ with_updates [] → us ≡ updates_from 1 count seed
-    → record { format = s.format; relations = s.relations; mappings = s.mappings; base = s.base; updates = us } ≡ drilled count seed
-drilled_is s us count seed e f = λ i. record { format = (e i).format; relations = (e i).relations; mappings = (e i).mappings; base = (e i).base; updates = f i }
