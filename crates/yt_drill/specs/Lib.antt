@@ -1,0 +1,4 @@
+pub mod Draws
+pub mod Drilled
+pub mod Meanings
+pub mod Rows
