@@ -59,7 +59,8 @@ fn attend<R: Threads + Wait + Sync, G: Gate + Sync, S: Send, B: Bench<Seat = S> 
     workers: &mut [Worker<S>],
 )
     requires own { All (λ w. B.owns bench.now w.seat) workers.old }
-    ensures left { EachLeaves (B.owns bench.now) B.lock B.seat_number B.rests workers.old workers.new }
+    ensures left { EachLeaves (B.owns bench.now) B.lock B.seat_number B.rests
+        workers.old workers.new }
 {
     let threads = workers.len().max(1);
     thread::for_each_mut(
@@ -68,7 +69,8 @@ fn attend<R: Threads + Wait + Sync, G: Gate + Sync, S: Send, B: Bench<Seat = S> 
         threads,
         &|_, worker: &mut Worker<S>|
             requires { B.owns bench.now worker.now.seat }
-            ensures { Leaves (B.owns bench.entry.now) B.lock B.seat_number B.rests worker.entry.now worker.exit.now }
+            ensures { Leaves (B.owns bench.entry.now) B.lock B.seat_number B.rests
+                worker.entry.now worker.exit.now }
         { worker.result = work(rt, bench, &mut worker.seat, gate) },
     );
 }

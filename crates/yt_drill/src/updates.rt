@@ -22,7 +22,8 @@ const TOUR: u16 = 3;
 /// So many updates, numbered from 1, drawn from this seed. It is refused only for want of memory.
 pub(crate) fn updates(alloc: Global, count: u32, seed: u64) -> Result<SessionUpdates, Memory>
     requires most { count ≤ 1000 }
-    ensures updates { IfOk result (λ updates. map update_of updates.items ≡ updates_from 1 count seed) }
+    ensures updates { IfOk result (λ updates.
+        map update_of updates.items ≡ updates_from 1 count seed) }
 {
     let mut state = seed;
     let mut updates = SessionUpdates::new(alloc);
