@@ -1,0 +1,4 @@
+pub mod Shown
+pub mod Questions
+pub mod Laws
+pub mod Rows

@@ -1,0 +1,15 @@
+//! Which entry of a history is in question for a step that was worked out at an earlier state.
+//!
+//! It is told by the entries alone: by the writes that they show, the updates that they restart, and what these had shown
+//! before. The definitions stand in `specs/`. The laws of `laws` and `rows` are functions whose contract is the statement and
+//! whose body is empty.
+#![tactic(auto)]
+
+mod laws;
+mod rows;
+mod shown;
+mod touched;
+
+pub use crate::laws::{entries_tell_the_trails, unquestioned_steps_stay};
+pub use crate::rows::small_histories_compute;
+pub use crate::touched::first_in_question;

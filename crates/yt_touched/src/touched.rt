@@ -1,0 +1,153 @@
+//! The first entry that is in question for a step.
+ghost use Rattle.std.specs.Prelude.{◌≡◌, ◌&&◌, nat_lt, map};
+ghost use Rattle.yt_base.specs.Meanings.{rule_of, change_of};
+ghost use Rattle.yt_entries.specs.Meanings.{entry_of};
+ghost use Rattle.yt_query.specs.Meanings.{read_of};
+ghost use Rattle.yt_steps.specs.Chase.{relation_of};
+ghost use Rattle.yt_touched.specs.Shown.{trail_by};
+ghost use Rattle.yt_touched.specs.Questions.{is_read, any_of, adds_below, takes_below, is_questioned_by, first_in_question as first_in_question_lem};
+
+use crate::shown::{causes_in, lost_in, reader_of, restarts, shown_by, takes_away};
+use yt_base::{MappingList, Write};
+use yt_entries::Entry;
+use yt_query::{LoggedRead, mentions};
+
+/// The number of the first entry after so many that is in question for a step of this update with these reads: it wrote, or
+/// took away, in a relation that a read mentions and as a write of an update below, or it restarted the update. Entries are
+/// counted from 1. It takes no memory.
+pub fn first_in_question(
+    mappings: &MappingList,
+    entries: &[Entry],
+    update: u32,
+    reads: &[LoggedRead],
+    since: u64,
+) -> Option<u64>
+    ensures first { result ≡ first_in_question_lem (map rule_of mappings.now.items) update
+        (map read_of reads.now) (map entry_of entries.now) since }
+{
+    if since > entries.len() as u64 {
+        return None;
+    }
+    for place in since as usize..entries.len() {
+        if is_questioned(mappings, &entries[..place], &entries[place], update, reads) {
+            return Some(place as u64 + 1);
+        }
+    }
+    None
+}
+
+// Whether the entry, which comes after those before it, is in question.
+fn is_questioned(
+    mappings: &MappingList,
+    before: &[Entry],
+    entry: &Entry,
+    update: u32,
+    reads: &[LoggedRead],
+) -> bool
+    ensures { result ≡ is_questioned_by (is_read (map rule_of mappings.now.items)
+        (map read_of reads.now)) update (map entry_of before.now) (entry_of entry.now) }
+{
+    restarts(entry, update)
+        || adds_below(mappings, entry, update, reads)
+        || takes_below(mappings, before, entry, update, reads)
+}
+
+// Whether it shows a write, by an update below, of a relation that is read.
+fn adds_below(mappings: &MappingList, entry: &Entry, update: u32, reads: &[LoggedRead]) -> bool
+    ensures { result ≡ adds_below (is_read (map rule_of mappings.now.items)
+        (map read_of reads.now)) update (entry_of entry.now) }
+{
+    match entry {
+        Entry::Stepped {
+            update: by,
+            writes,
+            ..
+        } => *by < update && any_read(mappings, writes.as_slice(), reads),
+        _ => false,
+    }
+}
+
+// Whether it takes such a write away.
+fn takes_below(
+    mappings: &MappingList,
+    before: &[Entry],
+    entry: &Entry,
+    update: u32,
+    reads: &[LoggedRead],
+) -> bool
+    ensures { result ≡ takes_below (is_read (map rule_of mappings.now.items)
+        (map read_of reads.now)) update (map entry_of before.now) (entry_of entry.now) }
+{
+    if let Some(own) = lost_in(entry) {
+        if showed_below(mappings, before, own, update, reads) {
+            return true;
+        }
+    }
+    causes_in(entry).iter().any(|cause| showed_below(
+        mappings,
+        before,
+        reader_of(cause),
+        update,
+        reads,
+    ))
+}
+
+// Whether the update `by` is below, and showed such a write.
+fn showed_below(
+    mappings: &MappingList,
+    before: &[Entry],
+    by: u32,
+    update: u32,
+    reads: &[LoggedRead],
+) -> bool
+    ensures { result ≡ (nat_lt by update && any_of (is_read (map rule_of mappings.now.items)
+        (map read_of reads.now)) (trail_by by (map entry_of before.now))) }
+{
+    by < update && showed(mappings, before, by, reads)
+}
+
+// Whether the update shows such a write after these entries: it is sought from the last of them back to the one that took the
+// update's earlier writes away.
+fn showed(mappings: &MappingList, before: &[Entry], by: u32, reads: &[LoggedRead]) -> bool
+    ensures { result ≡ any_of (is_read (map rule_of mappings.now.items)
+        (map read_of reads.now)) (trail_by by (map entry_of before.now)) }
+{
+    for place in (0..before.len()).rev() {
+        if takes_away(&before[place], by) {
+            return false;
+        }
+        if any_read(mappings, shown_by(&before[place], by), reads) {
+            return true;
+        }
+    }
+    false
+}
+
+// Whether one of the writes is of a relation that is read.
+fn any_read(mappings: &MappingList, writes: &[Write], reads: &[LoggedRead]) -> bool
+    ensures { result ≡ any_of (is_read (map rule_of mappings.now.items)
+        (map read_of reads.now)) (map change_of writes.now) }
+{
+    writes
+        .iter()
+        .any(|write| is_read(mappings, written_relation(write), reads))
+}
+
+// Whether one of the reads mentions the relation.
+fn is_read(mappings: &MappingList, relation: u16, reads: &[LoggedRead]) -> bool
+    ensures { result ≡ is_read (map rule_of mappings.now.items) (map read_of reads.now) relation }
+{
+    reads
+        .iter()
+        .any(|read| mentions(&read.query, mappings, relation))
+}
+
+// The relation of the write.
+fn written_relation(write: &Write) -> u16
+    ensures { result ≡ relation_of (change_of write.now) }
+{
+    match write {
+        Write::Insert(tuple) => tuple.relation,
+        Write::Delete(tuple) => tuple.relation,
+    }
+}
