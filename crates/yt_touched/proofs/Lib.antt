@@ -1,3 +1,4 @@
 pub mod Showing
 pub mod Telling
 pub mod Questioning
+pub mod Walking

@@ -29,7 +29,8 @@ pub fn first_in_question(
         return None;
     }
     for place in since as usize..entries.len() {
-        if is_questioned(mappings, &entries[..place], &entries[place], update, reads) {
+        let entry = &entries[place];
+        if is_questioned(mappings, &entries[..place], entry, update, reads) {
             return Some(place as u64 + 1);
         }
     }
@@ -113,10 +114,11 @@ fn showed(mappings: &MappingList, before: &[Entry], by: u32, reads: &[LoggedRead
         (map read_of reads.now)) (trail_by by (map entry_of before.now)) }
 {
     for place in (0..before.len()).rev() {
-        if takes_away(&before[place], by) {
+        let entry = &before[place];
+        if takes_away(entry, by) {
             return false;
         }
-        if any_read(mappings, shown_by(&before[place], by), reads) {
+        if any_read(mappings, shown_by(entry, by), reads) {
             return true;
         }
     }
