@@ -1,16 +1,16 @@
--- The walks of the code: back through the entries for what an update shows, and on through them for the first in question.
-use Rattle.std.proofs.Common.{◌≡◌, ℕ, suc, ◌≤◌, ◌<◌, ◌+◌, ◌-◌, ap, sym, refl, ◌∙◌, List, [], ◌∷◌, ◌++◌, take, drop, length, map, Bool, true, false, ◌||◌, arith, Option, Some}
-use Rattle.std.specs.Prelude.{if◌then◌else◌, get_or, option_to_list}
+-- The walk back through the entries for what an update shows.
+use Rattle.std.proofs.Common.{◌≡◌, ℕ, ◌≤◌, ◌+◌, ◌-◌, ap, sym, refl, ◌∙◌, List, [], ◌∷◌, ◌++◌, take, length, map, Bool, true, false, ◌||◌, arith}
+use Rattle.std.specs.Prelude.{if◌then◌else◌, get_or}
 use Rattle.std.specs.List.{list_any}
-use Rattle.std.proofs.lemmas.List.{map_more, drop_more}
+use Rattle.std.proofs.lemmas.List.{map_more}
 use Rattle.yt_entries.specs.Meanings.{entry_of}
 use Rattle.yt_entries.specs.declared.entries.Entry.{Entry}
 use Rattle.yt_machine.specs.Cascade.{has_number}
 use Rattle.yt_machine.proofs.Basics.{if_true, if_false}
 use Rattle.yt_model.specs.Repository.{Change}
 use Rattle.yt_history.specs.PlainEntries.{PlainEntry}
-use Rattle.yt_touched.specs.Shown.{lost_in, restarted_in, taken_in, shown_by, trail_by}
-use Rattle.yt_touched.specs.Questions.{any_of, is_questioned_by, first_from}
+use Rattle.yt_touched.specs.Shown.{taken_in, shown_by, trail_by}
+use Rattle.yt_touched.specs.Questions.{any_of}
 use Rattle.yt_touched.proofs.Showing.{trail_more}
 
 or_flat : (a b c : Bool) → (a || (b || c)) ≡ ((a || b) || c)
@@ -50,23 +50,3 @@ module _ (p : ℕ → Bool) (i n : ℕ) (es : List Entry) (d : Entry) (some : 1 
 
   pub not_taken_last : has_number (taken_in (entry_of d)) i ≡ false → any_of p (trail_by i (map entry_of (take n es))) ≡ (any_of p (shown_by i (entry_of d)) || any_of p (trail_by i (map entry_of (take (n - 1) es))))
   not_taken_last h = last_shown ∙ if_false (has_number (taken_in (entry_of d)) i) false _ h
-
--- what is taken away is what the entry's own update loses, or those that it restarts
-pub any_taken : (f : ℕ → Bool) (d : PlainEntry) (own : Option ℕ) → option_to_list own ≡ lost_in d → list_any f (taken_in d) ≡ (list_any f (option_to_list own) || list_any f (restarted_in d))
-any_taken f d own e = any_join f (lost_in d) (restarted_in d) ∙ ap (λ ns. list_any f ns || list_any f (restarted_in d)) (sym e)
-
-module _ (p : ℕ → Bool) (u n : ℕ) (es : List Entry) (d : Entry) (few : n < length es) (is : d ≡ get_or es n d) where
-  first_here : first_from p u (map entry_of (take n es)) (n + 1) (map entry_of (drop n es))
-      ≡ (if is_questioned_by p u (map entry_of (take n es)) (entry_of d) then Some (n + 1) else first_from p u (map entry_of (take (n + 1) es)) (n + 1 + 1) (map entry_of (drop (n + 1) es)))
-  first_here =
-      let more : suc (n + 1) ≡ n + 1 + 1 = omega arith in
-      let before : map entry_of (take n es) ++ entry_of d ∷ [] ≡ map entry_of (take (n + 1) es) = sym (map_more entry_of es n d few ∙ ap (λ x. map entry_of (take n es) ++ entry_of x ∷ []) (sym is)) in
-      ap (λ ds. first_from p u (map entry_of (take n es)) (n + 1) (map entry_of ds)) (drop_more es n d few ∙ ap (λ x. x ∷ drop (n + 1) es) (sym is))
-      ∙ (λ i. if is_questioned_by p u (map entry_of (take n es)) (entry_of d) then Some (n + 1) else first_from p u (before i) (more i) (map entry_of (drop (n + 1) es)))
-
-  pub found_here : is_questioned_by p u (map entry_of (take n es)) (entry_of d) ≡ true → first_from p u (map entry_of (take n es)) (n + 1) (map entry_of (drop n es)) ≡ Some (n + 1)
-  found_here h = first_here ∙ if_true (is_questioned_by p u (map entry_of (take n es)) (entry_of d)) (Some (n + 1)) _ h
-
-  pub passed_here : is_questioned_by p u (map entry_of (take n es)) (entry_of d) ≡ false
-      → first_from p u (map entry_of (take n es)) (n + 1) (map entry_of (drop n es)) ≡ first_from p u (map entry_of (take (n + 1) es)) (n + 1 + 1) (map entry_of (drop (n + 1) es))
-  passed_here h = first_here ∙ if_false (is_questioned_by p u (map entry_of (take n es)) (entry_of d)) (Some (n + 1)) _ h

@@ -1,4 +1,4 @@
-use Rattle.std.proofs.Common.{◌≡◌, ◌≤◌, length, map, take, ◌-◌, ◌||◌, arith, ap, sym, ◌∙◌, true, false}
+use Rattle.std.proofs.Common.{map, take, ◌-◌, ◌||◌, arith, ap, sym, ◌∙◌}
 use Rattle.yt_base.specs.Meanings.{rule_of}
 use Rattle.yt_entries.specs.Meanings.{entry_of}
 use Rattle.yt_query.specs.Meanings.{read_of}
