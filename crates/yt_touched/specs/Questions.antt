@@ -1,12 +1,16 @@
 -- Which entry of a history is in question for a step that was worked out at an earlier state.
-use Rattle.std.specs.Prelude.{ℕ, suc, nat_lt, Bool, false, ◌&&◌, ◌||◌, if◌then◌else◌, List, [], ◌∷◌, ◌++◌, take, drop, Option, Some, None}
+use Rattle.std.specs.Prelude.{ℕ, suc, nat_lt, Bool, false, ◌&&◌, ◌||◌, if◌then◌else◌, List, [], ◌∷◌, ◌++◌, take, drop, map, Option, Some, None}
 use Rattle.std.specs.List.{list_any}
 use Rattle.yt_machine.specs.Cascade.{has_number}
 use Rattle.yt_model.specs.Mappings.{Rule}
 use Rattle.yt_model.specs.Mentions.{mentions}
 use Rattle.yt_model.specs.Repository.{Change}
 use Rattle.yt_steps.specs.Chase.{relation_of}
-use Rattle.yt_query.specs.Meanings.{Read}
+use Rattle.yt_base.specs.Listed.{Listed}
+use Rattle.yt_base.specs.Meanings.{rule_of}
+use Rattle.yt_base.specs.declared.mappings.Mapping.{Mapping}
+use Rattle.yt_query.specs.Meanings.{Read, read_of}
+use Rattle.yt_query.specs.declared.log.LoggedRead.{LoggedRead}
 use Rattle.yt_history.specs.PlainEntries.{PlainEntry, WasAdmitted, WasStepped, WasDelivered, WasAnswered, WasWithdrawn}
 use Rattle.yt_touched.specs.Shown.{restarted_in, taken_in, trail_by}
 
@@ -14,9 +18,17 @@ use Rattle.yt_touched.specs.Shown.{restarted_in, taken_in, trail_by}
 abbrev pub is_read : List Rule → List Read → ℕ → Bool
 is_read ms reads r = list_any (λ (x : Read). mentions ms x.query r) reads
 
+-- The same, of mappings and reads as the program has them.
+abbrev pub mentioned_by : Listed Mapping → List LoggedRead → ℕ → Bool
+mentioned_by mappings reads r = is_read (map rule_of mappings.items) (map read_of reads) r
+
 -- One of the writes is of a relation that passes the test.
 abbrev pub any_of : (ℕ → Bool) → List Change → Bool
 any_of p ws = list_any (λ w. p (relation_of w)) ws
+
+-- Update i is below update n, and shows such a write after these entries.
+abbrev pub shows_below : (ℕ → Bool) → ℕ → List PlainEntry → ℕ → Bool
+shows_below p n H i = nat_lt i n && any_of p (trail_by i H)
 
 -- The entry shows such a write by an update below update n.
 abbrev pub adds_below : (ℕ → Bool) → ℕ → PlainEntry → Bool
@@ -28,7 +40,7 @@ adds_below p n (WasWithdrawn e) = false
 
 -- It takes such a write of an update below update n away, after the entries before it.
 abbrev pub takes_below : (ℕ → Bool) → ℕ → List PlainEntry → PlainEntry → Bool
-takes_below p n before e = list_any (λ i. nat_lt i n && any_of p (trail_by i before)) (taken_in e)
+takes_below p n before e = list_any (shows_below p n before) (taken_in e)
 
 -- It is in question for a step of update n: it restarts update n, or adds or takes away what the step has read.
 abbrev pub is_questioned_by : (ℕ → Bool) → ℕ → List PlainEntry → PlainEntry → Bool

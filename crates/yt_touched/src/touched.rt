@@ -1,12 +1,12 @@
 //! The first entry that is in question for a step.
 ghost use Rattle.std.specs.List.{list_any};
-ghost use Rattle.std.specs.Prelude.{◌≡◌, ◌&&◌, nat_lt, map};
+ghost use Rattle.std.specs.Prelude.{◌≡◌, map};
 ghost use Rattle.yt_base.specs.Meanings.{rule_of, change_of};
 ghost use Rattle.yt_entries.specs.Meanings.{entry_of};
 ghost use Rattle.yt_query.specs.Meanings.{read_of};
 ghost use Rattle.yt_steps.specs.Chase.{relation_of};
 ghost use Rattle.yt_touched.specs.Shown.{lost_in, restarted_in, trail_by};
-ghost use Rattle.yt_touched.specs.Questions.{is_read, any_of, adds_below, takes_below, is_questioned_by, first_in_question as first_in_question_lem};
+ghost use Rattle.yt_touched.specs.Questions.{mentioned_by, any_of, shows_below, adds_below, takes_below, is_questioned_by, first_in_question as first_in_question_lem};
 
 use crate::shown::{causes_in, lost_in, reader_of, restarts, shown_by, takes_away};
 use yt_base::{MappingList, Write};
@@ -46,8 +46,8 @@ fn is_questioned(
     update: u32,
     reads: &[LoggedRead],
 ) -> bool
-    ensures { result ≡ is_questioned_by (is_read (map rule_of mappings.now.items)
-        (map read_of reads.now)) update (map entry_of before.now) (entry_of entry.now) }
+    ensures { result ≡ is_questioned_by (mentioned_by mappings.now reads.now) update
+        (map entry_of before.now) (entry_of entry.now) }
 {
     restarts(entry, update)
         || adds_below(mappings, entry, update, reads)
@@ -56,8 +56,7 @@ fn is_questioned(
 
 // Whether it shows a write, by an update below, of a relation that is read.
 fn adds_below(mappings: &MappingList, entry: &Entry, update: u32, reads: &[LoggedRead]) -> bool
-    ensures { result ≡ adds_below (is_read (map rule_of mappings.now.items)
-        (map read_of reads.now)) update (entry_of entry.now) }
+    ensures { result ≡ adds_below (mentioned_by mappings.now reads.now) update (entry_of entry.now) }
 {
     match entry {
         Entry::Stepped {
@@ -77,8 +76,8 @@ fn takes_below(
     update: u32,
     reads: &[LoggedRead],
 ) -> bool
-    ensures { result ≡ takes_below (is_read (map rule_of mappings.now.items)
-        (map read_of reads.now)) update (map entry_of before.now) (entry_of entry.now) }
+    ensures { result ≡ takes_below (mentioned_by mappings.now reads.now) update
+        (map entry_of before.now) (entry_of entry.now) }
 {
     loses_below(mappings, before, entry, update, reads)
         || restarts_below(mappings, before, entry, update, reads)
@@ -92,9 +91,8 @@ fn loses_below(
     update: u32,
     reads: &[LoggedRead],
 ) -> bool
-    ensures { result ≡ list_any (λ i. nat_lt i update && any_of (is_read
-        (map rule_of mappings.now.items) (map read_of reads.now))
-        (trail_by i (map entry_of before.now))) (lost_in (entry_of entry.now)) }
+    ensures { result ≡ list_any (shows_below (mentioned_by mappings.now reads.now) update
+        (map entry_of before.now)) (lost_in (entry_of entry.now)) }
 {
     match lost_in(entry) {
         Some(by) => showed_below(mappings, before, by, update, reads),
@@ -110,9 +108,8 @@ fn restarts_below(
     update: u32,
     reads: &[LoggedRead],
 ) -> bool
-    ensures { result ≡ list_any (λ i. nat_lt i update && any_of (is_read
-        (map rule_of mappings.now.items) (map read_of reads.now))
-        (trail_by i (map entry_of before.now))) (restarted_in (entry_of entry.now)) }
+    ensures { result ≡ list_any (shows_below (mentioned_by mappings.now reads.now) update
+        (map entry_of before.now)) (restarted_in (entry_of entry.now)) }
 {
     causes_in(entry).iter().any(|cause| showed_below(
         mappings,
@@ -131,8 +128,8 @@ fn showed_below(
     update: u32,
     reads: &[LoggedRead],
 ) -> bool
-    ensures { result ≡ (nat_lt by update && any_of (is_read (map rule_of mappings.now.items)
-        (map read_of reads.now)) (trail_by by (map entry_of before.now))) }
+    ensures { result ≡ shows_below (mentioned_by mappings.now reads.now) update
+        (map entry_of before.now) by }
 {
     by < update && showed(mappings, before, by, reads)
 }
@@ -140,8 +137,8 @@ fn showed_below(
 // Whether the update shows such a write after these entries: it is sought from the last of them back to the one that took the
 // update's earlier writes away.
 fn showed(mappings: &MappingList, before: &[Entry], by: u32, reads: &[LoggedRead]) -> bool
-    ensures { result ≡ any_of (is_read (map rule_of mappings.now.items)
-        (map read_of reads.now)) (trail_by by (map entry_of before.now)) }
+    ensures { result ≡ any_of (mentioned_by mappings.now reads.now)
+        (trail_by by (map entry_of before.now)) }
 {
     for place in (0..before.len()).rev() {
         let entry = &before[place];
@@ -157,8 +154,7 @@ fn showed(mappings: &MappingList, before: &[Entry], by: u32, reads: &[LoggedRead
 
 // Whether one of the writes is of a relation that is read.
 fn any_read(mappings: &MappingList, writes: &[Write], reads: &[LoggedRead]) -> bool
-    ensures { result ≡ any_of (is_read (map rule_of mappings.now.items)
-        (map read_of reads.now)) (map change_of writes.now) }
+    ensures { result ≡ any_of (mentioned_by mappings.now reads.now) (map change_of writes.now) }
 {
     writes
         .iter()
@@ -167,7 +163,7 @@ fn any_read(mappings: &MappingList, writes: &[Write], reads: &[LoggedRead]) -> b
 
 // Whether one of the reads mentions the relation.
 fn is_read(mappings: &MappingList, relation: u16, reads: &[LoggedRead]) -> bool
-    ensures { result ≡ is_read (map rule_of mappings.now.items) (map read_of reads.now) relation }
+    ensures { result ≡ mentioned_by mappings.now reads.now relation }
 {
     reads
         .iter()

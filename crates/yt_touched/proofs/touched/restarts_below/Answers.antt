@@ -7,11 +7,11 @@ use Rattle.yt_base.proofs.Iterated.{mapped_from_slice}
 use Rattle.yt_entries.specs.Meanings.{entry_of, cause_of}
 use Rattle.yt_query.specs.Meanings.{read_of}
 use Rattle.yt_touched.specs.Shown.{reader_in, trail_by}
-use Rattle.yt_touched.specs.Questions.{is_read, any_of}
+use Rattle.yt_touched.specs.Questions.{mentioned_by, shows_below}
 use Rattle.yt_touched.proofs.touched.restarts_below.Goals as goal
 
 pub returns : goal.returns
 returns c =
-    any_from_yields_List (λ i. nat_lt i c.args.update && any_of (is_read (map rule_of c.args.mappings.now.items) (map read_of c.args.reads.now)) (trail_by i (map entry_of c.args.before.now))) c.any.new.self _ _ c.any.ensures.ran
+    any_from_yields_List (shows_below (mentioned_by c.args.mappings.now c.args.reads.now) c.args.update (map entry_of c.args.before.now)) c.any.new.self _ _ c.any.ensures.ran
     (mapped_from_slice (λ x. reader_in (cause_of x)) c.causes_in.result.now cc) (λ x b q k. search (rules, tests))
-    ∙ ap (λ ns. list_any (λ i. nat_lt i c.args.update && any_of (is_read (map rule_of c.args.mappings.now.items) (map read_of c.args.reads.now)) (trail_by i (map entry_of c.args.before.now))) ns) (sym (map-map reader_in cause_of c.causes_in.result.now) ∙ c.causes_in.ensures)
+    ∙ ap (λ ns. list_any (shows_below (mentioned_by c.args.mappings.now c.args.reads.now) c.args.update (map entry_of c.args.before.now)) ns) (sym (map-map reader_in cause_of c.causes_in.result.now) ∙ c.causes_in.ensures)
