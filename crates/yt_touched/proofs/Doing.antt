@@ -1,5 +1,5 @@
 -- An attempt does what its update does.
-use Rattle.std.proofs.Common.{◌≡◌, ℕ, zero, suc, ◌≤◌, ap, refl, sym, subst, ◌∙◌, List, [], ◌∷◌, map, false, Some}
+use Rattle.std.proofs.Common.{◌≡◌, ℕ, zero, suc, ap, refl, subst, ◌∙◌, List, [], ◌∷◌, map, false, Some}
 use Rattle.std.specs.Prelude.{slice_get}
 use Rattle.std.proofs.lemmas.Option.{same_Some, none-some}
 use Rattle.yt_machine.specs.Machine.{Machine}

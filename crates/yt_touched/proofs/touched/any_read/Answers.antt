@@ -1,8 +1,7 @@
-use Rattle.std.proofs.Common.{map, rules, tests}
+use Rattle.std.proofs.Common.{rules, tests}
 use Rattle.std.proofs.lemmas.Iterator.Search.{any_from_yields_List}
-use Rattle.yt_base.specs.Meanings.{change_of, rule_of}
+use Rattle.yt_base.specs.Meanings.{change_of}
 use Rattle.yt_base.proofs.Iterated.{mapped_from_slice}
-use Rattle.yt_query.specs.Meanings.{read_of}
 use Rattle.yt_steps.specs.Chase.{relation_of}
 use Rattle.yt_touched.specs.Questions.{mentioned_by}
 use Rattle.yt_touched.proofs.touched.any_read.Goals as goal

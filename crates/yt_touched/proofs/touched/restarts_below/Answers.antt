@@ -1,12 +1,10 @@
-use Rattle.std.proofs.Common.{ap, sym, ◌∙◌, ◌&&◌, map, nat_lt, rules, tests}
+use Rattle.std.proofs.Common.{ap, sym, ◌∙◌, map, rules, tests}
 use Rattle.std.specs.List.{list_any}
 use Rattle.std.proofs.lemmas.Iterator.Search.{any_from_yields_List}
 use Rattle.std.proofs.lemmas.Simd.{map-map}
-use Rattle.yt_base.specs.Meanings.{rule_of}
 use Rattle.yt_base.proofs.Iterated.{mapped_from_slice}
 use Rattle.yt_entries.specs.Meanings.{entry_of, cause_of}
-use Rattle.yt_query.specs.Meanings.{read_of}
-use Rattle.yt_touched.specs.Shown.{reader_in, trail_by}
+use Rattle.yt_touched.specs.Shown.{reader_in}
 use Rattle.yt_touched.specs.Questions.{mentioned_by, shows_below}
 use Rattle.yt_touched.proofs.touched.restarts_below.Goals as goal
 

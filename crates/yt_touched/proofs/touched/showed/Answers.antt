@@ -1,7 +1,5 @@
 use Rattle.std.proofs.Common.{map, take, ◌-◌, ◌||◌, arith, ap, sym, ◌∙◌}
-use Rattle.yt_base.specs.Meanings.{rule_of}
 use Rattle.yt_entries.specs.Meanings.{entry_of}
-use Rattle.yt_query.specs.Meanings.{read_of}
 use Rattle.yt_touched.specs.Shown.{trail_by}
 use Rattle.yt_touched.specs.Questions.{mentioned_by, any_of}
 use Rattle.yt_touched.proofs.Walking.{taken_last, not_taken_last}
