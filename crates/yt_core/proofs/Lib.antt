@@ -7,6 +7,7 @@ pub mod Delivering
 pub mod Telling
 pub mod Entering
 pub mod Making
+pub mod Replying
 pub mod Placing
 pub mod Resting
 pub mod Resulting

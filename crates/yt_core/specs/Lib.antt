@@ -11,3 +11,5 @@ pub mod Admitted
 pub mod Taken
 pub mod Drained
 pub mod Results
+pub mod LiveCalls
+pub mod Answered

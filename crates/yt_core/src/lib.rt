@@ -6,6 +6,8 @@
 
 mod admitting;
 mod aftermaths;
+mod answering;
+mod answers;
 mod cores;
 mod deliveries;
 mod draining;
@@ -17,5 +19,5 @@ mod stepping;
 
 pub use crate::cores::Core;
 pub use crate::plans::{Plan, Snapshot};
-pub use crate::refusals::{DeliverRefusal, StepRefusal};
+pub use crate::refusals::{AnswerRefusal, DeliverRefusal, StepRefusal};
 pub use crate::results::drained;

@@ -25,3 +25,16 @@ pub enum DeliverRefusal {
     /// There was no memory for it.
     Memory,
 }
+
+/// Why an answer by a person was refused.
+#[derive(Clone, Copy, Debug)]
+pub enum AnswerRefusal {
+    /// There is no update of this number.
+    NoSuchUpdate,
+    /// The update waits for no answer.
+    NotPaused(Standing),
+    /// The choice does not answer its question.
+    Misfit,
+    /// There was no memory for it.
+    Memory,
+}

@@ -1,0 +1,32 @@
+-- What is answered to the calls that people make while updates go on.
+use Rattle.std.specs.Prelude.{◌≡◌, ℕ, Bool, true, false, Option, Some, None, Result, Ok, Err}
+use Rattle.yt_entries.specs.Meanings.{standing_of}
+use Rattle.yt_history.specs.Cores.{machine}
+use Rattle.yt_machine.specs.Effects.{fits_question}
+use Rattle.yt_machine.specs.Standings.{Standing, is_paused}
+use Rattle.yt_model.specs.Updates.{Choice}
+use Rattle.yt_base.specs.declared.updates.Choice.{Choice as ChoiceOfProgram}
+use Rattle.yt_core.specs.States.{State, question_at}
+use Rattle.yt_core.specs.declared.refusals.AnswerRefusal.{AnswerRefusal}
+use Rattle.yt_core.specs.declared.refusals.AnswerRefusal.TheVariants as answer
+
+-- It is paused.
+abbrev pub is_paused_in : Option Standing → Bool
+is_paused_in None = false
+is_paused_in (Some s) = is_paused s
+
+-- The choice answers the question at which the update is paused.
+abbrev pub fits_at : State → ℕ → Choice → Bool
+fits_at s n c = fits_question (machine s.over) (question_at s n) c
+
+-- Why an answer to an update with this standing was refused, where the choice fits its question or does not.
+abbrev pub RefusesAnswer : Option Standing → Bool → AnswerRefusal → Type 0
+RefusesAnswer s fits answer.NoSuchUpdate = s ≡ None
+RefusesAnswer s fits (answer.NotPaused t) = (s ≡ Some (standing_of t)) × (is_paused (standing_of t) ≡ false)
+RefusesAnswer s fits answer.Misfit = (is_paused_in s ≡ true) × (fits ≡ false)
+RefusesAnswer s fits answer.Memory = (is_paused_in s ≡ true) × (fits ≡ true)
+
+-- What is answered to it.
+abbrev pub AnswersAnswer : Option Standing → Bool → Result ℕ (AnswerRefusal × ChoiceOfProgram) → Type 0
+AnswersAnswer s fits (Ok n) = (is_paused_in s ≡ true) × (fits ≡ true)
+AnswersAnswer s fits (Err refused) = RefusesAnswer s fits refused.0
