@@ -131,12 +131,12 @@ prepared_at ms s c k v rs r plan p numbers spot counts is B requests later D H r
 
 -- ---- a step
 
-abbrev marks_for : (ms : List Rule) (B : ℕ) → List (Option ProgramState) → List (Option (Cause (caused_chase ms B)))
+abbrev pub marks_for : (ms : List Rule) (B : ℕ) → List (Option ProgramState) → List (Option (Cause (caused_chase ms B)))
 marks_for ms B [] = []
 marks_for ms B (None ∷ fs) = None ∷ marks_for ms B fs
 marks_for ms B (Some f ∷ fs) = Some (Depends 0 0 0) ∷ marks_for ms B fs
 
-marked_so : (ms : List Rule) (B : ℕ) (fs : List (Option ProgramState)) → map is_some (marks_for ms B fs) ≡ map is_some fs
+pub marked_so : (ms : List Rule) (B : ℕ) (fs : List (Option ProgramState)) → map is_some (marks_for ms B fs) ≡ map is_some fs
 marked_so ms B [] = refl
 marked_so ms B (None ∷ fs) = ap (λ bs. false ∷ bs) (marked_so ms B fs)
 marked_so ms B (Some f ∷ fs) = ap (λ bs. true ∷ bs) (marked_so ms B fs)

@@ -8,6 +8,7 @@ pub mod Telling
 pub mod Entering
 pub mod Making
 pub mod Replying
+pub mod Losing
 pub mod Placing
 pub mod Resting
 pub mod Resulting

@@ -233,7 +233,7 @@ opened_kept ms B c base us v rs es n some retries within' sorted few are numbers
 
 -- ---- snapshots
 
-record_placed : (rs : List Record) (i : ℕ) → i < length rs → (r : Record) × (slice_get rs i ≡ Some r)
+pub record_placed : (rs : List Record) (i : ℕ) → i < length rs → (r : Record) × (slice_get rs i ≡ Some r)
 record_placed [] i l = absurd (omega (arith, l))
 record_placed (r ∷ rs) zero l = (r, refl)
 record_placed (r ∷ rs) (suc i) l = record_placed rs i (omega (arith, l))

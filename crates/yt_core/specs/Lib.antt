@@ -13,3 +13,4 @@ pub mod Drained
 pub mod Results
 pub mod LiveCalls
 pub mod Answered
+pub mod Withdrawals

@@ -38,3 +38,16 @@ pub enum AnswerRefusal {
     /// There was no memory for it.
     Memory,
 }
+
+/// Why an update was not withdrawn.
+#[derive(Clone, Copy, Debug)]
+pub enum WithdrawRefusal {
+    /// There is no update of this number.
+    NoSuchUpdate,
+    /// The update is committed, as are all up to this number.
+    Committed(u32),
+    /// It is withdrawn already.
+    Withdrawn,
+    /// There was no memory for it.
+    Memory,
+}
