@@ -1,7 +1,7 @@
 -- A withdrawal follows, and what lets it.
-use Rattle.std.proofs.Common.{◌≡◌, ◌∙◌, ap, refl, sym, subst, ℕ, suc, ◌<◌, ◌≤◌, ◌+◌, ◌^◌, ◌-◌, Bool, true, false, not, ◌&&◌, Option, Some, None, List, [], ◌∷◌, ◌++◌, map, take, drop, length, get_or, arith}
+use Rattle.std.proofs.Common.{◌≡◌, ◌∙◌, ap, refl, sym, subst, ℕ, suc, ◌<◌, ◌+◌, ◌^◌, ◌-◌, Bool, true, false, not, ◌&&◌, Option, Some, None, List, [], ◌∷◌, ◌++◌, map, take, drop, length, get_or, arith}
 use Rattle.std.proofs.Math.ListN.{set}
-use Rattle.std.specs.Prelude.{if◌then◌else◌, is_some, nat_lt, option_map, option_and_then, slice_get}
+use Rattle.std.specs.Prelude.{if◌then◌else◌, nat_lt, option_map, option_and_then, slice_get}
 use Rattle.std.proofs.lemmas.Option.{same_Some, slice_get-map}
 use Rattle.yt_base.specs.Listed.{Listed}
 use Rattle.yt_base.specs.Meanings.{change_of}
@@ -12,18 +12,13 @@ use Rattle.yt_entries.specs.declared.causes.Cause.{Cause as CauseOfProgram}
 use Rattle.yt_entries.specs.declared.entries.Entry.{Entry}
 use Rattle.yt_entries.specs.declared.entries.Entry.TheVariants as entries
 use Rattle.yt_history.specs.Cores.{Ground, machine, session_over}
-use Rattle.yt_history.specs.PlainEntries.{PlainEntry, WasWithdrawn, plain_entry, entry_kept}
+use Rattle.yt_history.specs.PlainEntries.{WasWithdrawn, plain_entry, entry_kept}
 use Rattle.yt_history.proofs.Keeping.{entry_back}
 use Rattle.yt_machine.specs.Machine.{Machine}
-use Rattle.yt_machine.specs.Cascade.{Cause}
 use Rattle.yt_machine.specs.Effects.{Withdraws, Withdrew, Effect, effect, may_withdraw, withdraw_effect, withdrawn_now}
-use Rattle.yt_machine.specs.Settle.{restart}
 use Rattle.yt_machine.specs.Standings.{Standing, Withdrawn, standing, unless_ended, unless_paused, is_held, lack, Held}
-use Rattle.yt_machine.specs.Updates.{Session, Settings, Update, committed, trail}
+use Rattle.yt_machine.specs.Updates.{Session, Settings, Update, committed}
 use Rattle.yt_model.specs.Mappings.{Rule}
-use Rattle.yt_model.specs.Repository.{Change}
-use Rattle.yt_model.specs.Updates.{Operation}
-use Rattle.yt_model.specs.Values.{Fact}
 use Rattle.yt_program.specs.Courses.{State as ProgramState}
 use Rattle.yt_queue.specs.Events.{HasWithdrawn}
 use Rattle.yt_queue.specs.Queues.{update_of, updates_of, AreFrom}
@@ -32,17 +27,16 @@ use Rattle.yt_queue.specs.Renewals.{AreThere, HaveRestarted}
 use Rattle.yt_queue.specs.Walks.{HasCommitted}
 use Rattle.yt_queue.specs.declared.records.Record.{Record}
 use Rattle.yt_steps.specs.Chase.{caused_chase}
-use Rattle.yt_steps.specs.Serial.{Request}
 use Rattle.yt_versions.specs.Standing.{Kept, Retracted}
 use Rattle.yt_core.specs.Aftermaths.{Cleared, ClearedIf, in_order}
 use Rattle.yt_core.specs.Follows.{Follows, ground_with, AreSame}
 use Rattle.yt_core.specs.Kept.{IsKept, HaveTrails}
 use Rattle.yt_core.specs.LiveCalls.{is_live_in, is_withdrawn}
 use Rattle.yt_core.specs.States.{State, numbered_at, committed_at, standing_at}
-use Rattle.yt_core.specs.Withdrawals.{IsLeft, IsLossLeft, WereLost, IsLossPrepared, IsLossPreparedAt, IsRemoved, TellsWithdrawal, WithdrawsTo}
+use Rattle.yt_core.specs.Withdrawals.{IsLossLeft, WereLost, IsLossPrepared, IsLossPreparedAt, IsRemoved, TellsWithdrawal, WithdrawsTo}
 use Rattle.yt_core.specs.declared.aftermaths.Aftermath.{Aftermath}
 use Rattle.yt_core.proofs.Delivering.{mapped_more}
-use Rattle.yt_core.proofs.Following.{follows, cut_at, dropped_map, marks_for, marked_so, stands_at, taken_long, within}
+use Rattle.yt_core.proofs.Following.{follows, cut_at, dropped_map, marks_for, marked_so, taken_long, within}
 use Rattle.yt_core.proofs.Making.{placed_within, record_placed}
 use Rattle.yt_core.proofs.Placing.{restarted_behind}
 use Rattle.yt_core.proofs.Preparing.{left_by}

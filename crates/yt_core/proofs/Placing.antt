@@ -1,15 +1,14 @@
 -- What is asked at the place of an event's update, and what is put there.
-use Rattle.std.proofs.Common.{◌≡◌, ◌∙◌, ap, refl, sym, subst, ℕ, zero, suc, ◌<◌, ◌≤◌, ◌+◌, Bool, true, false, Option, Some, None, List, [], ◌∷◌, ◌++◌, map, take, drop, length, get_or, arith, drop-cons}
+use Rattle.std.proofs.Common.{◌≡◌, ◌∙◌, ap, refl, sym, subst, ℕ, zero, suc, ◌<◌, ◌+◌, Bool, true, false, Option, Some, List, [], ◌∷◌, ◌++◌, map, take, drop, length, get_or, arith, drop-cons}
 use Rattle.std.proofs.Math.ListN.{set}
-use Rattle.std.proofs.lemmas.Option.{same_Some, none-some, slice_get-map}
-use Rattle.std.specs.Prelude.{Result, Ok, Err, IfOk, OnOk, is_some, slice_get, option_map}
+use Rattle.std.proofs.lemmas.Option.{same_Some, slice_get-map}
+use Rattle.std.specs.Prelude.{Result, Ok, Err, IfOk, is_some, slice_get, option_map}
 use Rattle.yt_entries.specs.declared.causes.Cause.{Cause as CauseOfProgram}
 use Rattle.yt_machine.specs.Cascade.{Cause}
 use Rattle.yt_machine.specs.Settle.{restart}
 use Rattle.yt_machine.specs.Steps.{stepped}
 use Rattle.yt_machine.specs.Updates.{Settings, Update}
 use Rattle.yt_model.specs.Mappings.{Rule}
-use Rattle.yt_model.specs.Values.{Fact}
 use Rattle.yt_plan.specs.declared.plans.Plan.{Plan}
 use Rattle.yt_program.specs.Courses.{State as ProgramState}
 use Rattle.yt_queue.specs.Events.{HasStepped, KeepsPlaceBy}

@@ -1,5 +1,5 @@
 -- What a step leaves, once it is prepared.
-use Rattle.std.proofs.Common.{◌≡◌, ◌∙◌, ap, refl, sym, subst, ℕ, suc, Bool, true, false, Option, Some, None, List, [], ◌∷◌, ◌++◌, append-nil, map, length}
+use Rattle.std.proofs.Common.{◌≡◌, ◌∙◌, ap, refl, sym, subst, ℕ, suc, Bool, true, false, Option, List, [], ◌∷◌, ◌++◌, map, length}
 use Rattle.std.specs.Prelude.{if◌then◌else◌, is_some, option_map}
 use Rattle.yt_base.specs.Meanings.{change_of}
 use Rattle.yt_base.specs.declared.updates.Write.{Write}
@@ -32,7 +32,7 @@ use Rattle.yt_cascade.specs.Held.{AreVersions, laid}
 use Rattle.yt_cascade.specs.Meanings.{Above, all_found}
 use Rattle.yt_versions.specs.Standing.{Kept, Published, Retracted}
 use Rattle.yt_core.specs.Aftermaths.{Cleared, in_order}
-use Rattle.yt_core.specs.Steps.{HasHidden, MayStep, Replaces, IsFound, after_step, causes_above, restarted_above, IsStepLeft, ShowsStep, WereFound, IsPrepared}
+use Rattle.yt_core.specs.Steps.{HasHidden, IsFound, after_step, causes_above, IsStepLeft, ShowsStep, WereFound, IsPrepared}
 use Rattle.yt_core.specs.Withdrawals.{IsLeft, WereLost}
 use Rattle.yt_core.specs.declared.aftermaths.Aftermath.{Aftermath}
 use Rattle.yt_core.specs.declared.stepping.Prepared.{Prepared}

@@ -10,7 +10,7 @@ use Rattle.yt_history.specs.PlainEntries.{PlainEntry, WasWithdrawn, cause_kept}
 use Rattle.yt_machine.specs.Cascade.{Cause, readers, restarted}
 use Rattle.yt_machine.specs.Effects.{Withdraws, causes_of_loss, may_withdraw, withdrawn_now}
 use Rattle.yt_machine.specs.Settle.{restart}
-use Rattle.yt_machine.specs.Updates.{Settings, Update, below, committed}
+use Rattle.yt_machine.specs.Updates.{Settings, Update, committed}
 use Rattle.yt_model.specs.Mappings.{Rule}
 use Rattle.yt_model.specs.Updates.{Operation}
 use Rattle.yt_model.specs.Values.{Fact}
