@@ -1,8 +1,7 @@
 -- The causes that a walk found, in order, are those of the event.
-use Rattle.std.proofs.Common.{◌≡◌, ◌∙◌, ap, refl, sym, ℕ, suc, Bool, true, false, Option, Some, None, List, [], ◌∷◌, ◌++◌, map}
+use Rattle.std.proofs.Common.{◌≡◌, ◌∙◌, ap, refl, ℕ, suc, Bool, true, false, Option, Some, None, List, [], ◌∷◌, ◌++◌, map}
 use Rattle.std.specs.Prelude.{if◌then◌else◌, is_some, ◌&&◌, not, option_map}
 use Rattle.std.specs.List.{flat_map}
-use Rattle.std.proofs.lemmas.List.{map-append}
 use Rattle.yt_entries.specs.Meanings.{cause_of}
 use Rattle.yt_entries.specs.declared.causes.Cause.{Cause as CauseOfProgram}
 use Rattle.yt_entries.specs.declared.causes.Cause.TheVariants.{Conflict as ConflictFound, Depends as DependsFound}
@@ -11,11 +10,11 @@ use Rattle.yt_machine.specs.Machine.{Machine}
 use Rattle.yt_machine.specs.Updates.{Update, Deps, Read, trail}
 use Rattle.yt_machine.specs.Reads.{first_that}
 use Rattle.yt_machine.specs.Standings.{is_nil}
-use Rattle.yt_machine.specs.Cascade.{Cause, Member, Depends, is_live, read_depends, writer_for, dependence_of, with_member, without_member}
+use Rattle.yt_machine.specs.Cascade.{Cause, Member, Depends, is_live, read_depends, writer_for, with_member, without_member}
 use Rattle.yt_machine.specs.Settle.{settle, cause_of as cause_of_update, conflicts_in, dependences_in}
 use Rattle.yt_model.specs.Mappings.{Rule}
 use Rattle.yt_steps.specs.Chase.{caused_chase}
-use Rattle.yt_cascade.specs.Meanings.{all_found, found_of}
+use Rattle.yt_cascade.specs.Meanings.{all_found}
 use Rattle.yt_core.specs.Aftermaths.{conflict_in, dependence_in, in_order}
 
 module _ (ms : List Rule) (B : ℕ) where

@@ -1,19 +1,18 @@
 -- A delivery follows, and changes of records that change nothing of what they mean.
-use Rattle.std.proofs.Common.{◌≡◌, ◌-◌, ◌∙◌, ap, refl, sym, subst, ℕ, zero, suc, ◌<◌, ◌≤◌, ◌+◌, ◌^◌, Bool, true, false, Option, Some, None, List, [], ◌∷◌, ◌++◌, map, take, drop, length, get_or, arith}
+use Rattle.std.proofs.Common.{◌≡◌, ◌-◌, ◌∙◌, ap, refl, sym, subst, ℕ, zero, suc, ◌<◌, ◌+◌, ◌^◌, true, Some, None, List, [], ◌∷◌, ◌++◌, map, take, drop, length, get_or, arith}
 use Rattle.std.proofs.Math.ListN.{set}
 use Rattle.std.specs.Prelude.{if◌then◌else◌, option_map, option_and_then, slice_get}
 use Rattle.std.proofs.lemmas.Option.{same_Some, none-some, slice_get-map}
 use Rattle.yt_entries.specs.Meanings.{entry_of}
 use Rattle.yt_entries.specs.declared.entries.Entry.{Entry}
-use Rattle.yt_history.specs.Cores.{Ground, session_over}
+use Rattle.yt_history.specs.Cores.{Ground, machine, session_over}
 use Rattle.yt_history.specs.CoreLaws.{Leave}
 use Rattle.yt_history.specs.PlainEntries.{PlainEntry, plain_entry, entry_kept}
 use Rattle.yt_history.proofs.Keeping.{entry_back}
 use Rattle.yt_machine.specs.Machine.{Machine}
-use Rattle.yt_machine.specs.Effects.{Steps, Delivers, Delivered, Effect, effect, deliver_effect, delivered, may_deliver}
+use Rattle.yt_machine.specs.Effects.{Event, Steps, Delivers, Delivered, Effect, effect, deliver_effect, delivered, may_deliver}
 use Rattle.yt_machine.specs.Standings.{standing, is_deliverable, next_answer}
 use Rattle.yt_machine.specs.Updates.{Session, Settings, Update, committed, trail}
-use Rattle.yt_machine.proofs.Places.{put_here}
 use Rattle.yt_model.specs.Mappings.{Rule}
 use Rattle.yt_model.specs.Repository.{Change}
 use Rattle.yt_model.specs.Updates.{Operation}
@@ -21,20 +20,18 @@ use Rattle.yt_model.specs.Values.{Fact}
 use Rattle.yt_plan.specs.Planned.{at_rest, next_attempt, next_reads}
 use Rattle.yt_plan.specs.declared.plans.Plan.{Plan}
 use Rattle.yt_queue.specs.Events.{KeepsPlace, IsSame, HasDelivered}
-use Rattle.yt_queue.specs.Programs.{IsPlanOf}
 use Rattle.yt_queue.specs.Queues.{update_of, updates_of, AreFrom}
-use Rattle.yt_queue.specs.Renewals.{HasOneMore, AllHaveOneMore}
+use Rattle.yt_queue.specs.Renewals.{AllHaveOneMore}
 use Rattle.yt_queue.specs.declared.records.Record.{Record}
 use Rattle.yt_queue.proofs.Restarting.{put_there}
-use Rattle.yt_steps.specs.Attempts.{Attempt}
 use Rattle.yt_steps.specs.Chase.{caused_chase}
 use Rattle.yt_steps.specs.Serial.{Request}
 use Rattle.yt_versions.specs.Standing.{Kept, StandFor}
 use Rattle.yt_versions.specs.Trails.{numbered}
 use Rattle.yt_core.specs.Follows.{Follows, ground_with, meant_of, AreSame, IsPlanFor, IsPlanAt, TellsDelivery, DeliversTo, StepsTo}
 use Rattle.yt_core.specs.Kept.{IsKept, HaveTrails}
-use Rattle.yt_core.specs.Planned.{IsSomeThat, IsStepAmong}
-use Rattle.yt_core.proofs.Following.{follows, there, within, cut_at, from_mapped}
+use Rattle.yt_core.specs.Planned.{IsStepAmong}
+use Rattle.yt_core.proofs.Following.{follows, there, within, cut_at}
 
 pub set_is : {A : Type 0} (xs : List A) (k : ℕ) (y : A) → k < length xs → set xs k y ≡ take k xs ++ y ∷ drop (suc k) xs
 set_is [] k y l = absurd (omega (arith, l))
@@ -143,6 +140,13 @@ kept_same g v rs rs' H same long k =
       few = subst (λ (n : ℕ). n < 2 ^ 32 - 1) (sym long) k.few;
     }
 
+-- What follows from such records follows from these.
+pub from_same : (g : Ground) (e : Event (machine g)) (v v' : Kept) (rs mid rs' : List Record) (es between es' : List Entry) → AreSame rs mid → length mid ≡ length rs → between ≡ es → IsKept g v rs (map entry_of es)
+    → (IsKept g v mid (map entry_of between) → Follows g e (map entry_of between) v' rs' (map entry_of es')) → Follows g e (map entry_of es) v' rs' (map entry_of es')
+from_same g e v v' rs mid rs' es between es' same long is kept makes =
+    subst (λ (xs : List Entry). Follows g e (map entry_of xs) v' rs' (map entry_of es')) is
+    (makes (subst (λ (xs : List Entry). IsKept g v mid (map entry_of xs)) (sym is) (kept_same g v rs mid (map entry_of es) same long kept)))
+
 -- A step from such records is one from these.
 pub steps_from : (ms : List Rule) (s : Settings) (k : ℕ) (plan : Plan) (v v' : Kept) (rs mid rs' : List Record) (es between es' : List Entry) → AreSame rs mid → length mid ≡ length rs → between ≡ es
     → StepsTo ms s k plan v mid between v' rs' es' → StepsTo ms s k plan v rs es v' rs' es'
@@ -158,12 +162,10 @@ steps_from ms s k plan v v' rs mid rs' es between es' same long e steps B D requ
 pub delivers_from : (s : Settings) (k : ℕ) (rs mid rs' : List Record) (es between es' : List Entry) → AreSame rs mid → length mid ≡ length rs → between ≡ es → DeliversTo s k mid between rs' es' → DeliversTo s k rs es rs' es'
 delivers_from s k rs mid rs' es between es' same long e delivers ms v B D requests later kept may =
     let us : updates_of ms B mid ≡ updates_of ms B rs = same.updates ms B in
-    let kept' : IsKept (ground_with ms s B D requests later) v mid (map entry_of between) =
-    subst (λ (xs : List Entry). IsKept (ground_with ms s B D requests later) v mid (map entry_of xs)) (sym e) (kept_same (ground_with ms s B D requests later) v rs mid (map entry_of es) same long kept) in
-    subst (λ (xs : List Entry). Follows (ground_with ms s B D requests later) (Delivers (suc k)) (map entry_of xs) v rs' (map entry_of es')) e
-    (delivers ms v B D requests later kept' ((λ i. option_map (is_deliverable (caused_chase ms B) s (committed (caused_chase ms B) (us i)) (suc k)) (slice_get (us i) k)) ∙ may))
+    from_same (ground_with ms s B D requests later) (Delivers (suc k)) v v rs mid rs' es between es' same long e kept
+    (λ kept'. delivers ms v B D requests later kept' ((λ i. option_map (is_deliverable (caused_chase ms B) s (committed (caused_chase ms B) (us i)) (suc k)) (slice_get (us i) k)) ∙ may))
 
--- ---- a delivery
+-- ---- an event that changes one update, and no trail
 
 module _ {X : Type 0} (f : X → List Change) where
   same_trails : (lower : List X) (x y : X) (upper : List X) → f x ≡ f y → (n : ℕ) → numbered f (lower ++ x ∷ upper) n ≡ numbered f (lower ++ y ∷ upper) n
@@ -172,6 +174,33 @@ module _ {X : Type 0} (f : X → List Change) where
   same_trails [] x y upper e (suc (suc k)) = refl
   same_trails (z ∷ lower) x y upper e (suc zero) = refl
   same_trails (z ∷ lower) x y upper e (suc (suc k)) = same_trails lower x y upper e (suc k)
+
+pub mapped_more : (xs : List Entry) (y : Entry) → map entry_of (xs ++ y ∷ []) ≡ map entry_of xs ++ entry_of y ∷ []
+mapped_more [] y = refl
+mapped_more (z ∷ xs) y = ap (λ zs. entry_of z ∷ zs) (mapped_more xs y)
+
+-- It puts an update in the place of one with the same trail.
+pub put_follows : (ms : List Rule) (B : ℕ) (s : Settings) (k : ℕ) (v : Kept) (D : List Fact) (requests : List Request) (later : List Operation) (rs : List Record) (r r' : Record) (es es' : List Entry) (told : Entry)
+    (e : Event (caused_chase ms B)) (x : Effect (caused_chase ms B)) (w : Update (caused_chase ms B)) → IsKept (ground_with ms s B D requests later) v rs (map entry_of es) → k < length rs → get_or rs k r ≡ r → KeepsPlace r r'
+    → update_of ms B r' ≡ w → trail (caused_chase ms B) (update_of ms B r) ≡ trail (caused_chase ms B) w
+    → effect (caused_chase ms B) s (session_over (ground_with ms s B D requests later)) (updates_of ms B rs) e ≡ Some x
+    → x.updates ≡ take k (updates_of ms B rs) ++ w ∷ drop (suc k) (updates_of ms B rs) → (updates_of ms B (set rs k r') ≡ x.updates → entry_kept ms B (entry_of told) ≡ x.entry)
+    → es' ≡ es ++ told ∷ [] → Follows (ground_with ms s B D requests later) e (map entry_of es) v (set rs k r') (map entry_of es')
+put_follows ms B s k v D requests later rs r r' es es' told e x w kept l spot place made trails allowed puts entry grew =
+    let g : Ground = ground_with ms s B D requests later in
+    let us : List (Update (caused_chase ms B)) = updates_of ms B rs in
+    let u : Update (caused_chase ms B) = update_of ms B r in
+    let at_us : slice_get us k ≡ Some u = slice_get-map (update_of ms B) rs k ∙ ap (option_map (update_of ms B)) (there rs k r l spot) in
+    let us' : updates_of ms B (set rs k r') ≡ x.updates = mapped_set (update_of ms B) rs k r' ∙ ap (λ z. set us k z) made ∙ set_is us k w (within us k u at_us) ∙ sym puts in
+    follows g (map entry_of es) (map entry_of es') rs (set rs k r') v v e x (entry_of told) kept allowed us' (put_there rs 1 k r r' kept.numbers l spot place)
+    (subst (λ (n : ℕ). n < 2 ^ 32 - 1) (sym (set_long rs k r')) kept.few)
+    (subst (λ (ws : List (Update (caused_chase ms B))). HaveTrails ms B D ws v) (sym puts)
+    (subst (λ (ts : ℕ → List Change). StandFor v D ts) (λ i n. same_trails (trail (caused_chase ms B)) (take k us) u w (drop (suc k) us) trails n i)
+    (subst (λ (ws : List (Update (caused_chase ms B))). HaveTrails ms B D ws v) (sym (cut_at us k u at_us)) kept.versions)))
+    (ap (plain_entry ms B) (sym (entry us')) ∙ entry_back ms B (entry_of told))
+    (ap (map entry_of) grew ∙ mapped_more es told)
+
+-- ---- a delivery
 
 allowed_delivery : (M : Machine) (s : Settings) (S : Session M) (us : List (Update M)) (k : ℕ) (u : Update M) → slice_get us k ≡ Some u → is_deliverable M s (committed M us) (suc k) u ≡ true
     → effect M s S us (Delivers (suc k)) ≡ Some (deliver_effect M s us k u)
@@ -182,29 +211,14 @@ allowed_delivery M s S us k u spot may =
 delivers_by : (s : Settings) (k : ℕ) (rs : List Record) (r r' : Record) (es es' : List Entry) (e : Entry) → k < length rs → get_or rs k r ≡ r → HasDelivered r r' → KeepsPlace r r'
     → TellsDelivery s k (set rs k r') e → es' ≡ es ++ e ∷ [] → DeliversTo s k rs es (set rs k r') es'
 delivers_by s k rs r r' es es' e l spot made place told grew ms v B D requests later kept may =
-    let g : Ground = ground_with ms s B D requests later in
     let us : List (Update (caused_chase ms B)) = updates_of ms B rs in
     let u : Update (caused_chase ms B) = update_of ms B r in
-    let w : Update (caused_chase ms B) = delivered (caused_chase ms B) u in
-    let x : Effect (caused_chase ms B) = deliver_effect (caused_chase ms B) s us k u in
     let at_us : slice_get us k ≡ Some u = slice_get-map (update_of ms B) rs k ∙ ap (option_map (update_of ms B)) (there rs k r l spot) in
-    let l' : k < length us = within us k u at_us in
     let yes : is_deliverable (caused_chase ms B) s (committed (caused_chase ms B) us) (suc k) u ≡ true =
     same_Some _ _ (sym (ap (option_map (is_deliverable (caused_chase ms B) s (committed (caused_chase ms B) us) (suc k))) at_us) ∙ may) in
-    let us' : updates_of ms B (set rs k r') ≡ x.updates = mapped_set (update_of ms B) rs k r' ∙ ap (λ z. set us k z) (made ms B) ∙ set_is us k w l' in
-    let entry : entry_kept ms B (entry_of e) ≡ x.entry =
-    ap (entry_kept ms B) (told ms B r' (set_there rs k r' l)) ∙ (λ i. Delivered (suc k) (standing (caused_chase ms B) s (committed (caused_chase ms B) (us' i)) (suc k) (made ms B i))) in
-    follows g (map entry_of es) (map entry_of es') rs (set rs k r') v v (Delivers (suc k)) x (entry_of e) kept
-    (allowed_delivery (caused_chase ms B) s (session_over g) us k u at_us yes) us' (put_there rs 1 k r r' kept.numbers l spot place)
-    (subst (λ (n : ℕ). n < 2 ^ 32 - 1) (sym (set_long rs k r')) kept.few)
-    (subst (λ (ts : ℕ → List Change). StandFor v D ts) (λ i n. same_trails (trail (caused_chase ms B)) (take k us) u w (drop (suc k) us) refl n i)
-    (subst (λ (ws : List (Update (caused_chase ms B))). HaveTrails ms B D ws v) (sym (cut_at us k u at_us)) kept.versions))
-    (ap (plain_entry ms B) (sym entry) ∙ entry_back ms B (entry_of e))
-    (ap (map entry_of) grew ∙ mapped_more es e)
-  where
-    mapped_more : (xs : List Entry) (y : Entry) → map entry_of (xs ++ y ∷ []) ≡ map entry_of xs ++ entry_of y ∷ []
-    mapped_more [] y = refl
-    mapped_more (z ∷ xs) y = ap (λ zs. entry_of z ∷ zs) (mapped_more xs y)
+    put_follows ms B s k v D requests later rs r r' es es' e (Delivers (suc k)) (deliver_effect (caused_chase ms B) s us k u) (delivered (caused_chase ms B) u) kept l spot place (made ms B) refl
+    (allowed_delivery (caused_chase ms B) s (session_over (ground_with ms s B D requests later)) us k u at_us yes) refl
+    (λ us'. ap (entry_kept ms B) (told ms B r' (set_there rs k r' l)) ∙ (λ i. Delivered (suc k) (standing (caused_chase ms B) s (committed (caused_chase ms B) (us' i)) (suc k) (made ms B i)))) grew
 
 pub delivers_to : (s : Settings) (k : ℕ) (rs : List Record) (r r' : Record) (es es' : List Entry) (e : Entry) → k < length rs → r ≡ get_or rs k r → HasDelivered (get_or rs k r) r' → KeepsPlace (get_or rs k r) r'
     → TellsDelivery s k (set rs k r') e → es' ≡ es ++ e ∷ [] → DeliversTo s k rs es (set rs k r') es'

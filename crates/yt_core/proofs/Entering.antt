@@ -1,17 +1,16 @@
 -- The entries of events, and the room that is made for them.
-use Rattle.std.proofs.Common.{◌≡◌, ◌∙◌, ap, refl, sym, subst, ℕ, zero, suc, ◌<◌, ◌≤◌, ◌+◌, Option, Some, None, List, [], ◌∷◌, ◌++◌, append_assoc, append-nil, map, drop, length, get_or, arith, drop-cons}
+use Rattle.std.proofs.Common.{◌≡◌, ◌∙◌, ap, refl, sym, subst, ℕ, suc, ◌<◌, ◌+◌, Option, List, [], ◌∷◌, ◌++◌, map, drop, length, get_or, arith, drop-cons}
 use Rattle.std.proofs.Math.ListN.{set}
 use Rattle.std.proofs.lemmas.Option.{same_Some}
-use Rattle.std.specs.Prelude.{Result, Ok, Err, OnOk, slice_get}
+use Rattle.std.specs.Prelude.{Result, Ok, Err, OnOk}
 use Rattle.yt_base.specs.Listed.{Listed}
 use Rattle.yt_base.specs.Meanings.{change_of}
 use Rattle.yt_base.specs.declared.updates.Write.{Write}
-use Rattle.yt_entries.specs.Meanings.{cause_of, entry_of, standing_of}
+use Rattle.yt_entries.specs.Meanings.{cause_of, standing_of}
 use Rattle.yt_entries.specs.declared.causes.Cause.{Cause}
 use Rattle.yt_entries.specs.declared.entries.Entry.TheVariants.{Stepped, Delivered}
 use Rattle.yt_entries.specs.declared.standings.Standing.{Standing}
 use Rattle.yt_history.specs.PlainEntries.{WasStepped, WasDelivered}
-use Rattle.yt_machine.specs.Effects.{admitted}
 use Rattle.yt_machine.specs.Standings.{standing}
 use Rattle.yt_machine.specs.Updates.{Settings, Update, committed}
 use Rattle.yt_model.specs.Mappings.{Rule}
@@ -44,7 +43,7 @@ answer_room_at x rs k r l room = on_ok x (HasAnswerRoomAt k (set rs k r)) (subst
 
 -- ---- entries
 
-standing_there : (s : Settings) (rs : List Record) (k n c : ℕ) (r r' : Record) (st : Standing) → r ≡ r' → n ≡ suc k → HasCommitted rs c → HasStanding s c n r st
+pub standing_there : (s : Settings) (rs : List Record) (k n c : ℕ) (r r' : Record) (st : Standing) → r ≡ r' → n ≡ suc k → HasCommitted rs c → HasStanding s c n r st
     → (ms : List Rule) (B : ℕ) → standing_of st ≡ standing (caused_chase ms B) s (committed (caused_chase ms B) (updates_of ms B rs)) (suc k) (update_of ms B r')
 standing_there s rs k n c r r' st same number counts stands ms B =
     stands ms B ∙ (λ i. standing (caused_chase ms B) s (counts ms B i) (number i) (update_of ms B (same i)))

@@ -1,20 +1,18 @@
 -- An event that was made on the parts of a core follows, and what is left are the parts of a core.
-use Rattle.std.proofs.Common.{◌≡◌, ◌-◌, ◌∙◌, ap, refl, sym, subst, ℕ, zero, suc, ◌<◌, ◌≤◌, ◌+◌, ◌^◌, Bool, true, false, Option, Some, None, List, [], ◌∷◌, ◌++◌, append_assoc, map, take, drop, length, get_or, arith}
+use Rattle.std.proofs.Common.{◌≡◌, ◌-◌, ◌∙◌, ap, refl, sym, subst, ℕ, zero, suc, ◌<◌, ◌≤◌, ◌+◌, ◌^◌, true, false, Option, Some, None, List, [], ◌∷◌, ◌++◌, map, take, drop, length, get_or, arith}
 use Rattle.std.specs.Prelude.{if◌then◌else◌, is_some, option_map, option_and_then, slice_get}
 use Rattle.std.proofs.lemmas.Option.{same_Some, none-some, slice_get-map}
-use Rattle.yt_base.specs.Meanings.{change_of}
-use Rattle.yt_entries.specs.Meanings.{cause_of, entry_of}
+use Rattle.yt_entries.specs.Meanings.{entry_of}
 use Rattle.yt_entries.specs.declared.entries.Entry.{Entry}
-use Rattle.yt_history.specs.Cores.{Ground, machine, session_over, updates_after, effect_after, grown}
+use Rattle.yt_history.specs.Cores.{Ground, machine, session_over, effect_after}
 use Rattle.yt_history.specs.CoreLaws.{Leave}
-use Rattle.yt_history.specs.PlainEntries.{PlainEntry, plain_entry, cause_kept, entry_kept}
+use Rattle.yt_history.specs.PlainEntries.{PlainEntry, plain_entry, entry_kept}
 use Rattle.yt_history.proofs.Keeping.{histories_are_kept, entry_back}
 use Rattle.yt_machine.specs.Machine.{Machine}
 use Rattle.yt_machine.specs.Cascade.{Cause, Depends}
-use Rattle.yt_machine.specs.Effects.{Event, Steps, Effect, effect, step_effect, may_step, put, Stepped}
-use Rattle.yt_machine.specs.Settle.{restart}
-use Rattle.yt_machine.specs.Standings.{Standing, Ready, standing, is_ready}
-use Rattle.yt_machine.specs.Steps.{stepped, step_writes}
+use Rattle.yt_machine.specs.Effects.{Event, Steps, Effect, effect, step_effect, may_step, Stepped}
+use Rattle.yt_machine.specs.Standings.{Ready, standing, is_ready}
+use Rattle.yt_machine.specs.Steps.{stepped}
 use Rattle.yt_machine.specs.Updates.{Settings, Update, committed, below, trail}
 use Rattle.yt_machine.proofs.Places.{put_here}
 use Rattle.yt_model.specs.Mappings.{Rule}
@@ -29,9 +27,9 @@ use Rattle.yt_steps.specs.Chase.{caused_chase}
 use Rattle.yt_steps.specs.Serial.{Request}
 use Rattle.yt_versions.specs.Standing.{Kept}
 use Rattle.yt_cascade.specs.Held.{AreVersions}
-use Rattle.yt_core.specs.Follows.{Follows, ground_with, IsPreparedAt, IsInstalled, TellsStep, StepsTo, meant_of, IsPlanFor}
+use Rattle.yt_core.specs.Follows.{Follows, ground_with, IsPreparedAt, IsInstalled, TellsStep, StepsTo, meant_of}
 use Rattle.yt_core.specs.Kept.{IsKept, HaveTrails}
-use Rattle.yt_core.specs.Planned.{IsSomeThat, IsStepOver, IsStepAmong}
+use Rattle.yt_core.specs.Planned.{IsSomeThat, IsStepOver}
 use Rattle.yt_core.specs.Steps.{IsStepLeft, IsPrepared}
 use Rattle.yt_core.specs.declared.stepping.Prepared.{Prepared}
 
@@ -133,12 +131,12 @@ prepared_at ms s c k v rs r plan p numbers spot counts is B requests later D H r
 
 -- ---- a step
 
-abbrev marks_for : (ms : List Rule) (B : ℕ) → List (Option ProgramState) → List (Option (Cause (caused_chase ms B)))
+abbrev pub marks_for : (ms : List Rule) (B : ℕ) → List (Option ProgramState) → List (Option (Cause (caused_chase ms B)))
 marks_for ms B [] = []
 marks_for ms B (None ∷ fs) = None ∷ marks_for ms B fs
 marks_for ms B (Some f ∷ fs) = Some (Depends 0 0 0) ∷ marks_for ms B fs
 
-marked_so : (ms : List Rule) (B : ℕ) (fs : List (Option ProgramState)) → map is_some (marks_for ms B fs) ≡ map is_some fs
+pub marked_so : (ms : List Rule) (B : ℕ) (fs : List (Option ProgramState)) → map is_some (marks_for ms B fs) ≡ map is_some fs
 marked_so ms B [] = refl
 marked_so ms B (None ∷ fs) = ap (λ bs. false ∷ bs) (marked_so ms B fs)
 marked_so ms B (Some f ∷ fs) = ap (λ bs. true ∷ bs) (marked_so ms B fs)

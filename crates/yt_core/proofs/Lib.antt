@@ -7,6 +7,8 @@ pub mod Delivering
 pub mod Telling
 pub mod Entering
 pub mod Making
+pub mod Replying
+pub mod Losing
 pub mod Placing
 pub mod Resting
 pub mod Resulting

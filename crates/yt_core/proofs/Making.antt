@@ -1,5 +1,5 @@
 -- What holds of the parts of a core by its history, and what its calls made.
-use Rattle.std.proofs.Common.{◌≡◌, ◌∙◌, ap, refl, sym, subst, ℕ, zero, suc, ◌<◌, ◌≤◌, ◌+◌, ◌-◌, ◌^◌, Bool, true, false, not, ◌&&◌, take, Option, Some, None, List, [], ◌∷◌, ◌++◌, append-nil, map, length, get_or, arith}
+use Rattle.std.proofs.Common.{◌≡◌, ◌∙◌, ap, refl, sym, subst, ℕ, zero, suc, ◌<◌, ◌≤◌, ◌+◌, Bool, true, false, not, ◌&&◌, take, Option, Some, None, List, [], ◌∷◌, ◌++◌, append-nil, map, length, arith}
 use Rattle.std.specs.Prelude.{option_map, unwrap_or, slice_get}
 use Rattle.std.proofs.lemmas.Option.{same_Some, none-some, slice_get-map}
 use Rattle.yt_base.specs.Listed.{Listed}
@@ -12,7 +12,7 @@ use Rattle.yt_history.specs.CoreLaws.{Leave}
 use Rattle.yt_history.specs.Histories.{submissions}
 use Rattle.yt_history.specs.PlainEntries.{PlainEntry}
 use Rattle.yt_limits.specs.Within.{AreWithin}
-use Rattle.yt_machine.specs.Effects.{Steps, Delivers}
+use Rattle.yt_machine.specs.Effects.{Event, Steps, Delivers}
 use Rattle.yt_machine.specs.History.{IsHistory}
 use Rattle.yt_machine.specs.Histories.{event_of}
 use Rattle.yt_machine.specs.Standings.{Standing, Ready, Paused, Missing, standing, is_ready, is_pending, is_deliverable, is_nil, next_answer}
@@ -22,7 +22,6 @@ use Rattle.yt_machine.proofs.Standing.{ready_parts}
 use Rattle.yt_machine.proofs.Theorem.{history_law}
 use Rattle.yt_model.specs.Mappings.{Rule}
 use Rattle.yt_model.specs.Repository.{IsRepository}
-use Rattle.yt_model.specs.Updates.{Operation}
 use Rattle.yt_model.specs.Values.{Fact}
 use Rattle.yt_model.specs.Updates.{Choice}
 use Rattle.yt_plan.specs.Planned.{at_rest, WantsStep, next_attempt, next_reads}
@@ -46,17 +45,17 @@ use Rattle.yt_versions.specs.Standing.{Kept, StandFor, seen}
 use Rattle.yt_versions.specs.Trails.{no_trails}
 use Rattle.yt_core.specs.Admitted.{AreAdmitted, admitted_from, handed_in}
 use Rattle.yt_core.specs.Events.{HasMade}
-use Rattle.yt_core.specs.Follows.{Follows, ground_with, meant_of, AreSame, IsPlanFor, IsPlanAt, StepsTo, DeliversTo}
+use Rattle.yt_core.specs.Follows.{Follows, meant_of, AreSame, IsPlanFor, IsPlanAt, StepsTo, DeliversTo}
 use Rattle.yt_core.specs.Kept.{IsKept, HaveTrails, ground_by}
 use Rattle.yt_core.specs.Planned.{PlanMeant, IsSomeThat, IsStepOver, IsStepAmong, IsStepAt}
-use Rattle.yt_core.specs.States.{State, numbered_at, updates_at, standing_at, has_waiting, admissions_from, opened}
+use Rattle.yt_core.specs.States.{State, numbered_at, standing_at, has_waiting, admissions_from, opened}
 use Rattle.yt_grammar.specs.Sessions.{SessionData}
 use Rattle.yt_grammar.specs.Checks.{rules_of}
 use Rattle.yt_core.specs.Taken.{AtPlace, IsReadySomewhere, IsSnapshotOf}
 use Rattle.yt_machine.specs.Machine.{Machine}
 use Rattle.yt_core.proofs.Delivering.{kept_same}
-use Rattle.yt_core.proofs.Following.{there, within, stands_at, mapped_long, from_mapped}
-use Rattle.yt_core.proofs.Opening.{all_admitted, admitted_long, versions_begin}
+use Rattle.yt_core.proofs.Following.{within, stands_at, mapped_long}
+use Rattle.yt_core.proofs.Opening.{all_admitted, versions_begin}
 
 -- ---- by the theorem on histories
 
@@ -193,15 +192,19 @@ step_made g v v' rs rs' es es' old new i n plan kept same e ready is steps =
     (planned_placed g v rs (map entry_of es) old i (meant_of (suc i) plan) kept same refl (subst (λ (m : ℕ). IsStepAt old (meant_of m plan)) e is)) in
     subst (λ (m : ℕ). Follows g (Steps m) (map entry_of es) v' rs' (map entry_of es')) (sym e) made
 
+-- What was made on the parts was made on the core.
+pub has_made : (e : (g : Ground) → Event (machine g)) (g : Ground) (v : Kept) (rs : List Record) (H H' : List PlainEntry) (old new : State) → record { over = g; history = H } ≡ old → record { over = g; history = H' } ≡ new
+    → Follows g (e g) H v rs H' → HasMade old (e old.over) new
+has_made e g v rs H H' old new a b f =
+    subst (λ (o : State). HasMade o (e o.over) new) a (subst (λ (w : State). HasMade (record { over = g; history = H }) (e g) w) b (record { grows = f.grows; over = refl }))
+
 pub has_stepped : (g : Ground) (v : Kept) (rs : List Record) (H H' : List PlainEntry) (old new : State) (n : ℕ) → record { over = g; history = H } ≡ old → record { over = g; history = H' } ≡ new
     → Follows g (Steps n) H v rs H' → HasMade old (Steps n) new
-has_stepped g v rs H H' old new n a b f =
-    subst (λ (o : State). HasMade o (Steps n) new) a (subst (λ (w : State). HasMade (record { over = g; history = H }) (Steps n) w) b (record { grows = f.grows; over = refl }))
+has_stepped g v rs H H' old new n = has_made (λ o. Steps n) g v rs H H' old new
 
 pub has_delivered : (g : Ground) (v : Kept) (rs : List Record) (H H' : List PlainEntry) (old new : State) (n : ℕ) → record { over = g; history = H } ≡ old → record { over = g; history = H' } ≡ new
     → Follows g (Delivers n) H v rs H' → HasMade old (Delivers n) new
-has_delivered g v rs H H' old new n a b f =
-    subst (λ (o : State). HasMade o (Delivers n) new) a (subst (λ (w : State). HasMade (record { over = g; history = H }) (Delivers n) w) b (record { grows = f.grows; over = refl }))
+has_delivered g v rs H H' old new n = has_made (λ o. Delivers n) g v rs H H' old new
 
 -- ---- the opening
 
@@ -230,7 +233,7 @@ opened_kept ms B c base us v rs es n some retries within' sorted few are numbers
 
 -- ---- snapshots
 
-record_placed : (rs : List Record) (i : ℕ) → i < length rs → (r : Record) × (slice_get rs i ≡ Some r)
+pub record_placed : (rs : List Record) (i : ℕ) → i < length rs → (r : Record) × (slice_get rs i ≡ Some r)
 record_placed [] i l = absurd (omega (arith, l))
 record_placed (r ∷ rs) zero l = (r, refl)
 record_placed (r ∷ rs) (suc i) l = record_placed rs i (omega (arith, l))
@@ -327,7 +330,7 @@ kept_err g v v' rs qs qs' ys n es es' l k slice versions same long entries =
 
 -- ---- a delivery of a core
 
-both_true : (a b : Bool) → a ≡ true → b ≡ true → (a && b) ≡ true
+pub both_true : (a b : Bool) → a ≡ true → b ≡ true → (a && b) ≡ true
 both_true a b e f = λ i. e i && f i
 
 deliverable_if : (M : Machine) (s : Settings) (c n : ℕ) (o : Option (Update M)) → option_map (standing M s c n) o ≡ Some (Paused Missing) → unwrap_or (option_map (λ u. not (is_nil u.inbox)) o) false ≡ true

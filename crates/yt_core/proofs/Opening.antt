@@ -1,5 +1,5 @@
 -- The admissions of all updates of a session are a legal history.
-use Rattle.std.proofs.Common.{◌≡◌, ◌∙◌, ap, refl, sym, subst, ℕ, zero, suc, ◌≤◌, ◌+◌, Option, Some, None, List, [], ◌∷◌, ◌++◌, append_assoc, append-nil, map, length, arith}
+use Rattle.std.proofs.Common.{◌≡◌, ◌∙◌, ap, refl, sym, subst, ℕ, zero, suc, ◌≤◌, ◌+◌, Some, List, [], ◌∷◌, ◌++◌, append-nil, map, length, arith}
 use Rattle.std.specs.Prelude.{option_map, slice_get}
 use Rattle.yt_entries.specs.Meanings.{entry_of}
 use Rattle.yt_entries.specs.declared.entries.Entry.{Entry}

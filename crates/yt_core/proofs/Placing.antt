@@ -1,15 +1,14 @@
 -- What is asked at the place of an event's update, and what is put there.
-use Rattle.std.proofs.Common.{◌≡◌, ◌∙◌, ap, refl, sym, subst, ℕ, zero, suc, ◌<◌, ◌≤◌, ◌+◌, Bool, true, false, Option, Some, None, List, [], ◌∷◌, ◌++◌, map, take, drop, length, get_or, arith, drop-cons}
+use Rattle.std.proofs.Common.{◌≡◌, ◌∙◌, ap, refl, sym, subst, ℕ, zero, suc, ◌<◌, ◌+◌, Bool, true, false, Option, Some, List, [], ◌∷◌, ◌++◌, map, take, drop, length, get_or, arith, drop-cons}
 use Rattle.std.proofs.Math.ListN.{set}
-use Rattle.std.proofs.lemmas.Option.{same_Some, none-some, slice_get-map}
-use Rattle.std.specs.Prelude.{Result, Ok, Err, IfOk, OnOk, is_some, slice_get, option_map}
+use Rattle.std.proofs.lemmas.Option.{same_Some, slice_get-map}
+use Rattle.std.specs.Prelude.{Result, Ok, Err, IfOk, is_some, slice_get, option_map}
 use Rattle.yt_entries.specs.declared.causes.Cause.{Cause as CauseOfProgram}
 use Rattle.yt_machine.specs.Cascade.{Cause}
 use Rattle.yt_machine.specs.Settle.{restart}
 use Rattle.yt_machine.specs.Steps.{stepped}
 use Rattle.yt_machine.specs.Updates.{Settings, Update}
 use Rattle.yt_model.specs.Mappings.{Rule}
-use Rattle.yt_model.specs.Values.{Fact}
 use Rattle.yt_plan.specs.declared.plans.Plan.{Plan}
 use Rattle.yt_program.specs.Courses.{State as ProgramState}
 use Rattle.yt_queue.specs.Events.{HasStepped, KeepsPlaceBy}
@@ -115,24 +114,28 @@ regroup (z ∷ xs) x ys = ap (λ zs. z ∷ zs) (regroup xs x ys)
 pub fresh_above : (rs : List Record) (k : ℕ) (r' : Record) (fs : List (Option ProgramState)) → AreFresh (drop (suc k) rs) fs → AreFresh (drop (k + 1) (set rs k r')) fs
 fresh_above rs k r' fs a = subst (λ (qs : List Record). AreFresh qs fs) (sym (dropped_set rs k r')) a
 
-pub installed_is : (rs rs' : List Record) (k : ℕ) (plan : Plan) (fs : List (Option ProgramState)) (r r' : Record) → k < length rs → r ≡ get_or rs k r → HasStepped plan (get_or rs k r) r'
-    → HaveRestarted (k + 1) fs (set rs k r') rs' → IsInstalled k plan fs rs rs'
-installed_is rs rs' k plan fs r r' l e steps restarts ms B D q xs spot is marks =
+-- The update at the place is w now, and those above it have restarted for which there is an attempt.
+pub restarted_behind : (rs rs' : List Record) (k : ℕ) (fs : List (Option ProgramState)) (q r' : Record) (ms : List Rule) (B : ℕ) (w : Update (caused_chase ms B)) (xs : List (Option (Cause (caused_chase ms B)))) → slice_get rs k ≡ Some q → update_of ms B r' ≡ w
+    → HaveRestarted (k + 1) fs (set rs k r') rs' → map is_some xs ≡ map is_some fs
+    → updates_of ms B rs' ≡ take k (updates_of ms B rs) ++ w ∷ restart (caused_chase ms B) (suc (suc k)) xs (drop (suc k) (updates_of ms B rs))
+restarted_behind rs rs' k fs q r' ms B w xs spot made restarts marks =
     let us : List (Update (caused_chase ms B)) = updates_of ms B rs in
-    let same : r ≡ q = same_Some r q (sym (there_is rs k r l e) ∙ spot) in
-    let there : get_or rs k r ≡ q = sym e ∙ same in
-    let made : update_of ms B r' ≡ stepped (caused_chase ms B) D (update_of ms B q) =
-    steps ms B D (subst (λ (p : Record). IsPlanOf ms B D p plan) (sym there) is) ∙ ap (λ (p : Record). stepped (caused_chase ms B) D (update_of ms B p)) there in
     let at_us : slice_get us k ≡ Some (update_of ms B q) = slice_get-map (update_of ms B) rs k ∙ ap (option_map (update_of ms B)) spot in
-    let l' : k < length us = within us k (update_of ms B q) at_us in
-    let put : updates_of ms B (set rs k r') ≡ set us k (stepped (caused_chase ms B) D (update_of ms B q)) = mapped_set (update_of ms B) rs k r' ∙ ap (λ u. set us k u) made in
+    let l : k < length us = within us k (update_of ms B q) at_us in
+    let put : updates_of ms B (set rs k r') ≡ set us k w = mapped_set (update_of ms B) rs k r' ∙ ap (λ u. set us k u) made in
     let one : k + 1 ≡ suc k = omega arith in
-    let w : Update (caused_chase ms B) = stepped (caused_chase ms B) D (update_of ms B q) in
     restarts ms B xs marks
     ∙ (λ t. take (one t) (put t) ++ restart (caused_chase ms B) (suc (one t)) xs (drop (one t) (put t)))
     ∙ ap (λ ws. take (suc k) (set us k w) ++ restart (caused_chase ms B) (suc (suc k)) xs ws) (ap (λ n. drop n (set us k w)) (sym one) ∙ dropped_set us k w)
-    ∙ ap (λ ws. ws ++ restart (caused_chase ms B) (suc (suc k)) xs (drop (suc k) us)) (taken_set us k w l')
+    ∙ ap (λ ws. ws ++ restart (caused_chase ms B) (suc (suc k)) xs (drop (suc k) us)) (taken_set us k w l)
     ∙ regroup (take k us) w (restart (caused_chase ms B) (suc (suc k)) xs (drop (suc k) us))
+
+pub installed_is : (rs rs' : List Record) (k : ℕ) (plan : Plan) (fs : List (Option ProgramState)) (r r' : Record) → k < length rs → r ≡ get_or rs k r → HasStepped plan (get_or rs k r) r'
+    → HaveRestarted (k + 1) fs (set rs k r') rs' → IsInstalled k plan fs rs rs'
+installed_is rs rs' k plan fs r r' l e steps restarts ms B D q xs spot is marks =
+    let there : get_or rs k r ≡ q = sym e ∙ same_Some r q (sym (there_is rs k r l e) ∙ spot) in
+    restarted_behind rs rs' k fs q r' ms B (stepped (caused_chase ms B) D (update_of ms B q)) xs spot
+    (steps ms B D (subst (λ (p : Record). IsPlanOf ms B D p plan) (sym there) is) ∙ ap (λ (p : Record). stepped (caused_chase ms B) D (update_of ms B p)) there) restarts marks
 
 -- ---- what lies above a place
 

@@ -1,5 +1,5 @@
 -- What a step leaves, once it is prepared.
-use Rattle.std.proofs.Common.{◌≡◌, ◌∙◌, ap, refl, sym, subst, ℕ, suc, Bool, true, false, Option, Some, None, List, [], ◌∷◌, ◌++◌, append-nil, map, length}
+use Rattle.std.proofs.Common.{◌≡◌, ◌∙◌, ap, refl, sym, subst, ℕ, suc, Bool, true, false, Option, List, [], ◌∷◌, ◌++◌, map, length}
 use Rattle.std.specs.Prelude.{if◌then◌else◌, is_some, option_map}
 use Rattle.yt_base.specs.Meanings.{change_of}
 use Rattle.yt_base.specs.declared.updates.Write.{Write}
@@ -32,7 +32,9 @@ use Rattle.yt_cascade.specs.Held.{AreVersions, laid}
 use Rattle.yt_cascade.specs.Meanings.{Above, all_found}
 use Rattle.yt_versions.specs.Standing.{Kept, Published, Retracted}
 use Rattle.yt_core.specs.Aftermaths.{Cleared, in_order}
-use Rattle.yt_core.specs.Steps.{HasHidden, MayStep, Replaces, IsFound, after_step, causes_above, restarted_above, IsStepLeft, ShowsStep, WereFound, IsPrepared}
+use Rattle.yt_core.specs.Steps.{HasHidden, IsFound, after_step, causes_above, IsStepLeft, ShowsStep, WereFound, IsPrepared}
+use Rattle.yt_core.specs.Withdrawals.{IsLeft, WereLost}
+use Rattle.yt_core.specs.declared.aftermaths.Aftermath.{Aftermath}
 use Rattle.yt_core.specs.declared.stepping.Prepared.{Prepared}
 use Rattle.yt_core.proofs.Causing.{in_order_is, all_marked, no_conflicts}
 use Rattle.yt_core.proofs.Trailing.{versions_with, versions_cleared, one_by_one}
@@ -124,6 +126,25 @@ found_in_writes a s old r upper plan found b d n spent f are B E lower e before 
     (mine ∙ law.causes)
     (ap (λ cs. restarted (caused_chase a.rules B) (readers cs) (suc (suc (length lower))) us) mine ∙ law.restarts)
 
+-- The causes of a withdrawal.
+pub loss_found : (a : Above) (s : Settings) (r : Record) (upper : List Record) (ws : List Write) (found : List (Option CauseOfProgram)) → a.deps ≡ s.deps → a.update ≡ r.program.attempt.number → HasTrail r ws
+    → AreCausesOfLoss a (map change_of ws) upper found → WereLost a.rules s a.committed a.whole r upper found
+loss_found a s r upper ws found d n trail_is are B E lower e before =
+    let us : List (Update (caused_chase a.rules B)) = updates_of a.rules B upper in
+    let u : Update (caused_chase a.rules B) = update_of a.rules B r in
+    let D : List Fact = laid a.rules B E lower in
+    let D' : List Fact = apply D (trail (caused_chase a.rules B) u) in
+    let j : a.update ≡ suc (length lower) = n ∙ e in
+    let law = (walk_law (caused_chase a.rules B) a.deps a.committed (suc (length lower)) D u us).1 in
+    let S : List (Option (Cause (caused_chase a.rules B))) = settle (caused_chase a.rules B) a.deps false a.committed (suc (length lower)) D' D (record { number = suc (length lower); trail = trail (caused_chase a.rules B) u } ∷ []) (suc (suc (length lower))) us in
+    subst (λ (x : Deps). IsFound a.rules B (causes_of_loss (caused_chase a.rules B) x a.committed (suc (length lower)) D u us) (suc (suc (length lower))) us found) d
+    (found_by a.rules B (causes_of_loss (caused_chase a.rules B) a.deps a.committed (suc (length lower)) D u us) (suc (suc (length lower))) us found S
+    (are B E lower u j (sym (trail_is a.rules B)) before
+    ∙ (λ i. settle (caused_chase a.rules B) a.deps false a.committed (j i) D' D (record { number = j i; trail = trail (caused_chase a.rules B) u } ∷ []) (suc (j i)) us))
+    (law.causes ∙ ap (λ (cs : List (Cause (caused_chase a.rules B))). cs ++ dependences_in S) (sym (no_conflicts (caused_chase a.rules B) a.deps a.committed (suc (length lower)) D' D (record { number = suc (length lower); trail = trail (caused_chase a.rules B) u } ∷ []) (suc (suc (length lower))) us)))
+    law.restarts)
+
+-- A step by which the attempt ends spent has those.
 pub found_in_loss : (a : Above) (s : Settings) (new : Kept) (r : Record) (upper : List Record) (plan : Plan) (ws : List Write) (found : List (Option CauseOfProgram)) (b : Bool)
     → a.deps ≡ s.deps → a.update ≡ r.program.attempt.number → HasSpent plan.program b → b ≡ true → HasTrail r ws → AreCausesOfLoss a (map change_of ws) upper found
     → WereFound a.rules s a.committed a.whole new r upper plan found
@@ -132,21 +153,34 @@ found_in_loss a s new r upper plan ws found b d n spent f trail_is are B E lower
     let u : Update (caused_chase a.rules B) = update_of a.rules B r in
     let v : Update (caused_chase a.rules B) = after_step a.rules B E lower u in
     let D : List Fact = laid a.rules B E lower in
-    let D' : List Fact = apply D (trail (caused_chase a.rules B) u) in
-    let j : a.update ≡ suc (length lower) = n ∙ e in
-    let law = (walk_law (caused_chase a.rules B) a.deps a.committed (suc (length lower)) D u us).1 in
-    let S : List (Option (Cause (caused_chase a.rules B))) = settle (caused_chase a.rules B) a.deps false a.committed (suc (length lower)) D' D (record { number = suc (length lower); trail = trail (caused_chase a.rules B) u } ∷ []) (suc (suc (length lower))) us in
-    let mine : causes_above a.rules B s a.committed (suc (length lower)) E lower u us ≡ causes_of_loss (caused_chase a.rules B) a.deps a.committed (suc (length lower)) D u us =
-    ap (λ (x : Deps). causes_of_step (caused_chase a.rules B) x a.committed (suc (length lower)) (laid a.rules B E lower) u v us) (sym d)
-    ∙ if_is_true (is_spent ((caused_chase a.rules B).outcome v.state)) (causes_of_loss (caused_chase a.rules B) a.deps a.committed (suc (length lower)) D u us) (causes_of_writes (caused_chase a.rules B) a.deps a.committed (suc (length lower)) (apply D (trail (caused_chase a.rules B) v)) us)
+    let mine : causes_above a.rules B s a.committed (suc (length lower)) E lower u us ≡ causes_of_loss (caused_chase a.rules B) s.deps a.committed (suc (length lower)) D u us =
+    if_is_true (is_spent ((caused_chase a.rules B).outcome v.state)) (causes_of_loss (caused_chase a.rules B) s.deps a.committed (suc (length lower)) D u us) (causes_of_writes (caused_chase a.rules B) s.deps a.committed (suc (length lower)) (apply D (trail (caused_chase a.rules B) v)) us)
     (ap (λ (P : Rattle.yt_steps.specs.Attempts.Attempt). is_spent (option_map ending (outcome_in P.phase))) (sym (plan_state a.rules B D r plan p)) ∙ sym spent ∙ f) in
-    found_by a.rules B (causes_above a.rules B s a.committed (suc (length lower)) E lower u us) (suc (suc (length lower))) us found S
-    (are B E lower u j (sym (trail_is a.rules B)) before
-    ∙ (λ i. settle (caused_chase a.rules B) a.deps false a.committed (j i) D' D (record { number = j i; trail = trail (caused_chase a.rules B) u } ∷ []) (suc (j i)) us))
-    (mine ∙ law.causes ∙ ap (λ (cs : List (Cause (caused_chase a.rules B))). cs ++ dependences_in S) (sym (no_conflicts (caused_chase a.rules B) a.deps a.committed (suc (length lower)) D' D (record { number = suc (length lower); trail = trail (caused_chase a.rules B) u } ∷ []) (suc (suc (length lower))) us)))
-    (ap (λ cs. restarted (caused_chase a.rules B) (readers cs) (suc (suc (length lower))) us) mine ∙ law.restarts)
+    subst (λ (cs : List (Cause (caused_chase a.rules B))). IsFound a.rules B cs (suc (suc (length lower))) us found) (sym mine) (loss_found a s r upper ws found d n trail_is are B E lower e before)
 
 -- ---- together
+
+-- What is left of the causes that were found, where update w stands above the lower ones now.
+pub left_by : (ms : List Rule) (B : ℕ) (causes : List (Cause (caused_chase ms B))) (E : List Fact) (lower : List (Update (caused_chase ms B))) (w : Update (caused_chase ms B)) (upper : List Record) (found : List (Option CauseOfProgram)) (mid : Kept) (left : Aftermath)
+    → AreFrom (suc (suc (length lower))) upper → IsFound ms B causes (suc (suc (length lower))) (updates_of ms B upper) found → AreVersions ms B E (lower ++ w ∷ updates_of ms B upper) mid
+    → Cleared upper found mid left.versions → AreThere found left.fresh.items → left.causes.items ≡ in_order found → IsLeft ms B causes E lower w (suc (length lower)) (updates_of ms B upper) left
+left_by ms B causes E lower w upper found mid left from is versions cleared there told =
+    let us : List (Update (caused_chase ms B)) = updates_of ms B upper in
+    let mid' : AreVersions ms B E ((lower ++ w ∷ []) ++ us) mid = subst (λ (xs : List (Update (caused_chase ms B))). AreVersions ms B E xs mid) (sym (one_by_one ms B lower w us)) versions in
+    let cut : AreVersions ms B E ((lower ++ w ∷ []) ++ restart (caused_chase ms B) (suc (suc (length lower))) (all_found ms B found) us) left.versions =
+    versions_cleared ms B (suc (suc (length lower))) E (lower ++ w ∷ []) upper found (all_found ms B found) mid left.versions (ap suc (more lower w)) from (all_marked ms B found) cleared mid' in
+    record {
+      told = ap (λ cs. map (cause_kept ms B) (map cause_of cs)) told ∙ is.told;
+      restarts = λ xs m. is.restarts xs (m ∙ there);
+      versions =
+          subst (λ (xs : List (Update (caused_chase ms B))). AreVersions ms B E xs left.versions)
+          (one_by_one ms B lower w (restart (caused_chase ms B) (suc (suc (length lower))) (all_found ms B found) us)
+          ∙ ap (λ (xs : List (Update (caused_chase ms B))). lower ++ w ∷ xs) (is.restarts (all_found ms B found) (all_marked ms B found))) cut;
+    }
+  where
+    more : {X : Type 0} (xs : List X) (x : X) → suc (length xs) ≡ length (xs ++ x ∷ [])
+    more [] x = refl
+    more (y ∷ xs) x = ap suc (more xs x)
 
 pub step_prepared : (ms : List Rule) (s : Settings) (c : ℕ) (old after : Kept) (r : Record) (upper : List Record) (plan : Plan) (found : List (Option CauseOfProgram)) (ws : List Write) (p : Prepared)
     → AreFrom (suc r.program.attempt.number) upper → ShowsStep r plan old after → WereFound ms s c old after r upper plan found
@@ -157,24 +191,10 @@ step_prepared ms s c old after r upper plan found ws p from shows were cleared t
     let u : Update (caused_chase ms B) = update_of ms B r in
     let v : Update (caused_chase ms B) = after_step ms B E lower u in
     let mid : AreVersions ms B E (lower ++ v ∷ us) after = versions_with ms B r.program.attempt.number E lower u v us old after e (shows ms B (laid ms B E lower) s k n may isplan) versions in
-    let is = were B E lower e versions mid isplan in
-    let mid' : AreVersions ms B E ((lower ++ v ∷ []) ++ us) after = subst (λ (xs : List (Update (caused_chase ms B))). AreVersions ms B E xs after) (sym (one_by_one ms B lower v us)) mid in
-    let cut : AreVersions ms B E ((lower ++ v ∷ []) ++ restart (caused_chase ms B) (suc (suc (length lower))) (all_found ms B found) us) p.left.versions =
-    versions_cleared ms B (suc (suc (length lower))) E (lower ++ v ∷ []) upper found (all_found ms B found) after p.left.versions (ap suc (more lower v)) (subst (λ (m : ℕ). AreFrom (suc m) upper) e from) (all_marked ms B found) cleared mid' in
+    let left : IsLeft ms B (causes_above ms B s c (suc (length lower)) E lower u us) E lower v (suc (length lower)) us p.left =
+    left_by ms B (causes_above ms B s c (suc (length lower)) E lower u us) E lower v upper found after p.left (subst (λ (m : ℕ). AreFrom (suc m) upper) e from) (were B E lower e versions mid isplan) mid cleared there causes in
     subst (λ (j : ℕ). IsStepLeft ms B s c j E lower u us p) (sym e)
-    (record {
-      causes = ap (λ cs. map (cause_kept ms B) (map cause_of cs)) causes ∙ is.told;
-      restarts = λ xs m. is.restarts xs (m ∙ there);
-      versions =
-          subst (λ (xs : List (Update (caused_chase ms B))). AreVersions ms B E xs p.left.versions)
-          (one_by_one ms B lower v (restart (caused_chase ms B) (suc (suc (length lower))) (all_found ms B found) us)
-          ∙ ap (λ (xs : List (Update (caused_chase ms B))). lower ++ v ∷ xs) (is.restarts (all_found ms B found) (all_marked ms B found))) cut;
-      writes = same ∙ written ms B (laid ms B E lower) isplan;
-    })
-  where
-    more : {X : Type 0} (xs : List X) (x : X) → suc (length xs) ≡ length (xs ++ x ∷ [])
-    more [] x = refl
-    more (y ∷ xs) x = ap suc (more xs x)
+    (record { causes = left.told; restarts = left.restarts; versions = left.versions; writes = same ∙ written ms B (laid ms B E lower) isplan })
 
 -- The same where the update's number and the versions were handed over.
 pub shows_hidden_by : (r : Record) (plan : Plan) (ws : List Write) (b : Bool) (n : ℕ) (old copy new : Kept) → HasHidden plan.program b → b ≡ true → HasTrail r ws → n ≡ r.program.attempt.number → copy ≡ old

@@ -7,11 +7,10 @@ use Rattle.yt_machine.specs.Machine.{Machine}
 use Rattle.yt_machine.specs.Updates.{Update}
 use Rattle.yt_machine.specs.Drains.{step_or_deliver}
 use Rattle.yt_machine.specs.Effects.{Event, Steps, Delivers}
-use Rattle.yt_machine.specs.Standings.{Standing, Ready, Held, Paused, Missing, Misfit, Ended, Withdrawn, standing, is_ready, is_pending, is_deliverable, is_nil, lowest_that, lowest_ready, lowest_deliverable}
+use Rattle.yt_machine.specs.Standings.{Standing, Ready, Held, Paused, Missing, Misfit, Ended, Withdrawn, standing, is_ready, is_pending, is_deliverable, is_nil, lowest_that}
 use Rattle.yt_model.specs.Repository.{IsRepository}
 use Rattle.yt_history.specs.Cores.{Ground, machine, IsLegalOver, grown}
-use Rattle.yt_history.specs.PlainEntries.{PlainEntry}
-use Rattle.yt_drains.specs.Turns.{turned, after_turns, work_after}
+use Rattle.yt_drains.specs.Turns.{turned, work_after}
 use Rattle.yt_drains.proofs.Turning.{turn_law, turns_more}
 use Rattle.yt_core.specs.States.{State, updates_at, committed_at, numbered_at, standing_at, has_waiting, lowest_ready_at, lowest_deliverable_at, is_quiet_at}
 use Rattle.yt_core.specs.Events.{HasMade}

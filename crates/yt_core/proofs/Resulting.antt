@@ -1,5 +1,5 @@
 -- What is told of a core is told of its updates, and a core that was opened and drained has come to what the serial machine comes to.
-use Rattle.std.proofs.Common.{◌≡◌, ◌∙◌, ap, sym, refl, subst, ℕ, zero, suc, ◌≤◌, ◌+◌, true, Option, Some, None, List, [], ◌∷◌, map, length, arith}
+use Rattle.std.proofs.Common.{◌≡◌, ◌∙◌, ap, sym, refl, subst, ℕ, zero, suc, ◌≤◌, true, Some, None, List, map, length, arith}
 use Rattle.yt_machine.specs.Bounds.{admissions_in}
 use Rattle.yt_machine.specs.Histories.{event_of}
 use Rattle.yt_machine.specs.Serial.{first_stop}
@@ -14,14 +14,11 @@ use Rattle.yt_history.specs.AnyOrder.{tells}
 use Rattle.yt_history.specs.Cores.{Ground, machine, session_over, entries_over, updates_after, IsLegalOver}
 use Rattle.yt_history.specs.PlainEntries.{PlainEntry}
 use Rattle.yt_grammar.specs.Sessions.{SessionData}
-use Rattle.yt_grammar.specs.Checks.{rules_of}
 use Rattle.yt_grammar.specs.Validity.{IsSession}
 use Rattle.yt_session.specs.Base.{base_violation}
-use Rattle.yt_session.specs.Meanings.{requests_in}
-use Rattle.yt_program.specs.Results.{ResultTold, result_in, result_of}
+use Rattle.yt_program.specs.Results.{result_in}
 use Rattle.yt_program.specs.declared.results.SessionResult.{SessionResult}
 use Rattle.yt_serial.specs.Meanings.{IsSerialRun}
-use Rattle.yt_queue.specs.Queues.{updates_of}
 use Rattle.yt_queue.specs.declared.records.Record.{Record}
 use Rattle.yt_versions.specs.Standing.{Kept}
 use Rattle.yt_told.specs.Told.{Tells, AreVersionsOf}
@@ -31,7 +28,7 @@ use Rattle.yt_drains.proofs.Turning.{drained_law}
 use Rattle.yt_core.specs.Drained.{HasTurned}
 use Rattle.yt_core.specs.Kept.{IsKept}
 use Rattle.yt_core.specs.Results.{IsResultOf}
-use Rattle.yt_core.specs.States.{State, admissions_from, opened, updates_at, is_quiet_at}
+use Rattle.yt_core.specs.States.{State, admissions_from, opened, is_quiet_at}
 
 -- The versions of a core are those of its queue.
 versions_of : (g : Ground) (v : Kept) (rs : List Record) (H : List PlainEntry) → IsKept g v rs H → AreVersionsOf g.rules g.budget g.base rs v

@@ -1,7 +1,7 @@
 -- What is told of a core is told of the updates that its history left.
-use Rattle.std.proofs.Common.{◌≡◌, ◌∙◌, ap, refl, sym, subst, ℕ, zero, suc, ◌<◌, ◌+◌, Bool, true, false, not, Option, Some, None, List, [], ◌∷◌, map, length, get_or, arith}
+use Rattle.std.proofs.Common.{◌≡◌, ◌∙◌, ap, refl, sym, subst, ℕ, zero, suc, ◌<◌, ◌+◌, Bool, false, not, Option, Some, None, List, [], ◌∷◌, map, length, get_or, arith}
 use Rattle.std.specs.Prelude.{option_map, option_and_then, unwrap_or, slice_get}
-use Rattle.std.proofs.lemmas.Option.{same_Some, none-some, slice_get-map}
+use Rattle.std.proofs.lemmas.Option.{none-some, slice_get-map}
 use Rattle.yt_base.specs.Meanings.{choice_of}
 use Rattle.yt_entries.specs.Meanings.{standing_of}
 use Rattle.yt_entries.specs.declared.standings.Standing.{Standing as StandingOfProgram}
@@ -12,7 +12,6 @@ use Rattle.yt_history.specs.PlainEntries.{PlainEntry}
 use Rattle.yt_machine.specs.Standings as standings
 use Rattle.yt_machine.specs.Standings.{Standing, standing, question_of, is_nil}
 use Rattle.yt_machine.specs.Updates.{Settings, Update, committed}
-use Rattle.yt_model.specs.Mappings.{Rule}
 use Rattle.yt_queue.specs.Programs.{IsBetween}
 use Rattle.yt_queue.specs.Queues.{update_of, updates_of, AreFrom}
 use Rattle.yt_queue.specs.Records.{HasStanding, HasQuestion}

@@ -1,5 +1,5 @@
 -- The trails of updates by number, where one of them is another.
-use Rattle.std.proofs.Common.{◌≡◌, ◌∙◌, ap, refl, sym, subst, ℕ, zero, suc, ◌+◌, Bool, true, false, Option, Some, None, List, [], ◌∷◌, ◌++◌, append_assoc, map, take, drop, length, arith}
+use Rattle.std.proofs.Common.{◌≡◌, ◌∙◌, ap, refl, sym, subst, ℕ, zero, suc, Bool, true, false, Option, List, [], ◌∷◌, ◌++◌, map, length}
 use Rattle.std.specs.Prelude.{if◌then◌else◌, is_some}
 use Rattle.yt_machine.specs.Updates.{Update, trail}
 use Rattle.yt_machine.specs.Cascade.{Cause, anew}
@@ -11,10 +11,10 @@ use Rattle.yt_entries.specs.declared.causes.Cause.{Cause as CauseOfProgram}
 use Rattle.yt_steps.specs.Chase.{caused_chase}
 use Rattle.yt_queue.specs.Queues.{update_of, updates_of, AreFrom}
 use Rattle.yt_queue.specs.declared.records.Record.{Record}
-use Rattle.yt_versions.specs.Standing.{Kept, StandFor, Retracted}
-use Rattle.yt_versions.specs.Trails.{SameBut, trail_at, numbered}
+use Rattle.yt_versions.specs.Standing.{Kept}
+use Rattle.yt_versions.specs.Trails.{SameBut, numbered}
 use Rattle.yt_cascade.specs.Held.{AreVersions}
-use Rattle.yt_core.specs.Aftermaths.{trail_of, Cleared, ClearedIf}
+use Rattle.yt_core.specs.Aftermaths.{Cleared, ClearedIf}
 use Rattle.yt_core.specs.Steps.{Replaces}
 
 module _ {X : Type 0} (f : X → List Change) where

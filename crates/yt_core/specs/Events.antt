@@ -2,7 +2,7 @@
 use Rattle.std.specs.Prelude.{◌≡◌, ℕ, true, false, Option, Some, None, Result, Ok, Err, Bool}
 use Rattle.yt_machine.specs.Effects.{Event}
 use Rattle.yt_machine.specs.Standings.{Standing, Ready, Paused, Missing, is_ready, is_pending}
-use Rattle.yt_history.specs.Cores.{Ground, machine, grown}
+use Rattle.yt_history.specs.Cores.{machine, grown}
 use Rattle.yt_entries.specs.Meanings.{standing_of}
 use Rattle.yt_core.specs.States.{State}
 use Rattle.yt_core.specs.declared.refusals.StepRefusal.{StepRefusal}

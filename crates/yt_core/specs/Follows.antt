@@ -1,5 +1,5 @@
 -- What an event makes of the parts of a core.
-use Rattle.std.specs.Prelude.{◌≡◌, ℕ, suc, List, [], ◌∷◌, ◌++◌, map, take, drop, length, Option, Some, is_some, true, slice_get}
+use Rattle.std.specs.Prelude.{◌≡◌, ℕ, suc, List, ◌∷◌, ◌++◌, map, take, drop, Option, Some, is_some, true, slice_get}
 use Rattle.std.specs.Option.{option_map}
 use Rattle.yt_base.specs.Meanings.{change_of}
 use Rattle.yt_base.specs.Listed.{Listed}
@@ -12,9 +12,9 @@ use Rattle.yt_history.specs.PlainEntries.{PlainEntry, WasStepped, WasDelivered}
 use Rattle.yt_machine.specs.Cascade.{Cause}
 use Rattle.yt_machine.specs.Effects.{Event, Steps, Delivers}
 use Rattle.yt_machine.specs.Settle.{restart}
-use Rattle.yt_machine.specs.Standings.{Standing, Ready, standing, is_deliverable}
+use Rattle.yt_machine.specs.Standings.{Ready, standing, is_deliverable}
 use Rattle.yt_machine.specs.Steps.{stepped}
-use Rattle.yt_machine.specs.Updates.{Settings, Update, committed, below}
+use Rattle.yt_machine.specs.Updates.{Settings, committed, below}
 use Rattle.yt_model.specs.Mappings.{Rule}
 use Rattle.yt_model.specs.Updates.{Operation}
 use Rattle.yt_model.specs.Values.{Fact}
@@ -30,7 +30,6 @@ use Rattle.yt_steps.specs.Serial.{Request}
 use Rattle.yt_versions.specs.Standing.{Kept}
 use Rattle.yt_core.specs.Kept.{IsKept}
 use Rattle.yt_core.specs.Planned.{PlanMeant, IsSomeThat, IsStepAmong}
-use Rattle.yt_core.specs.States.{numbered_at}
 use Rattle.yt_core.specs.Steps.{IsStepLeft}
 use Rattle.yt_core.specs.declared.stepping.Prepared.{Prepared}
 

@@ -11,3 +11,6 @@ pub mod Admitted
 pub mod Taken
 pub mod Drained
 pub mod Results
+pub mod LiveCalls
+pub mod Answered
+pub mod Withdrawals

@@ -1,5 +1,5 @@
 -- What a snapshot is of: the step that it plans.
-use Rattle.std.specs.Prelude.{◌≡◌, ◌<◌}
+use Rattle.std.specs.Prelude.{◌<◌}
 use Rattle.std.specs.Option.{option_map}
 use Rattle.yt_base.specs.Meanings.{choice_of}
 use Rattle.yt_program.specs.Wishes.{wish}

@@ -1,5 +1,5 @@
 -- What a core is to its callers, and what it tells of its updates.
-use Rattle.std.specs.Prelude.{◌≡◌, ◌&&◌, ℕ, zero, suc, not, Bool, false, List, [], ◌∷◌, Option, Some, None, option_map, option_and_then, unwrap_or, slice_get}
+use Rattle.std.specs.Prelude.{◌&&◌, ℕ, zero, suc, not, Bool, false, List, [], ◌∷◌, Option, None, option_map, option_and_then, unwrap_or, slice_get}
 use Rattle.yt_machine.specs.Updates.{Update, Settings, committed}
 use Rattle.yt_machine.specs.Standings.{Standing, standing, question_of, is_nil}
 use Rattle.yt_machine.specs.Standings as standings

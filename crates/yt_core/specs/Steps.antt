@@ -12,7 +12,7 @@ use Rattle.yt_machine.specs.Standings.{is_ready, standing}
 use Rattle.yt_machine.specs.Steps.{stepped, step_writes as writes_of_step}
 use Rattle.yt_machine.specs.Updates.{Settings, Update, hides, trail}
 use Rattle.yt_model.specs.Mappings.{Rule}
-use Rattle.yt_model.specs.Repository.{Change, IsRepository}
+use Rattle.yt_model.specs.Repository.{Change}
 use Rattle.yt_model.specs.Values.{Fact}
 use Rattle.yt_plan.specs.declared.plans.Plan.{Plan}
 use Rattle.yt_program.specs.Courses.{State}

@@ -30,8 +30,9 @@ pub(crate) fn deliver_at(
     Ok(())
 }
 
-// Makes room for the delivery. It is refused only for want of memory. What queue and history mean stays.
-fn reserve_delivery(
+/// Makes room for one more answer to the update at the place, and for its entry. It is refused only for want of memory.
+/// What queue and history mean stays.
+pub(crate) fn reserve_delivery(
     queue: &mut [Record],
     history: &mut EntryList,
     place: usize,

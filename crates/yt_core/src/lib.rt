@@ -6,6 +6,8 @@
 
 mod admitting;
 mod aftermaths;
+mod answering;
+mod answers;
 mod cores;
 mod deliveries;
 mod draining;
@@ -14,8 +16,10 @@ mod refusals;
 mod results;
 mod standings;
 mod stepping;
+mod withdrawals;
+mod withdrawing;
 
 pub use crate::cores::Core;
 pub use crate::plans::{Plan, Snapshot};
-pub use crate::refusals::{DeliverRefusal, StepRefusal};
+pub use crate::refusals::{AnswerRefusal, DeliverRefusal, StepRefusal, WithdrawRefusal};
 pub use crate::results::drained;

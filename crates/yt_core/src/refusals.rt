@@ -25,3 +25,29 @@ pub enum DeliverRefusal {
     /// There was no memory for it.
     Memory,
 }
+
+/// Why an answer by a person was refused.
+#[derive(Clone, Copy, Debug)]
+pub enum AnswerRefusal {
+    /// There is no update of this number.
+    NoSuchUpdate,
+    /// The update waits for no answer.
+    NotPaused(Standing),
+    /// The choice does not answer its question.
+    Misfit,
+    /// There was no memory for it.
+    Memory,
+}
+
+/// Why an update was not withdrawn.
+#[derive(Clone, Copy, Debug)]
+pub enum WithdrawRefusal {
+    /// There is no update of this number.
+    NoSuchUpdate,
+    /// The update is committed, as are all up to this number.
+    Committed(u32),
+    /// It is withdrawn already.
+    Withdrawn,
+    /// There was no memory for it.
+    Memory,
+}

@@ -159,8 +159,8 @@ pub(crate) fn prepare_at(
     Ok(prepared)
 }
 
-// The updates above the place.
-fn above(queue: &[Record], place: usize) -> &[Record]
+/// The updates above the place.
+pub(crate) fn above(queue: &[Record], place: usize) -> &[Record]
     requires place { place < length queue.now }
     ensures rest { result.now ≡ drop (suc place) queue.now }
 {

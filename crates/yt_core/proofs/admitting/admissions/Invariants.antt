@@ -1,6 +1,5 @@
-use Rattle.std.proofs.Common.{◌≡◌, ℕ, suc, ◌++◌, ◌+◌, List, map}
+use Rattle.std.proofs.Common.{◌≡◌, map}
 use Rattle.yt_entries.specs.Meanings.{entry_of}
-use Rattle.yt_history.specs.PlainEntries.{PlainEntry}
 use Rattle.yt_core.specs.States.{admissions_from}
 use Rattle.yt_core.proofs.admitting.admissions.Given as goal
 

@@ -1,5 +1,4 @@
-use Rattle.std.proofs.Common.{refl, map, List, Option}
-use Rattle.yt_base.specs.Meanings.{change_of}
+use Rattle.std.proofs.Common.{refl}
 use Rattle.yt_queue.specs.Settings.{settings_of}
 use Rattle.yt_core.proofs.Placing.{if_ok}
 use Rattle.yt_core.proofs.Preparing.{found_in_writes, found_in_loss}

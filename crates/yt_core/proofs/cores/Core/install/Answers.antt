@@ -1,11 +1,11 @@
-use Rattle.std.proofs.Common.{subst, sym, ap, ◌∙◌, refl, arith, length, ◌≡◌, ◌≤◌, ℕ, drop, map, List}
+use Rattle.std.proofs.Common.{subst, sym, ap, ◌∙◌, refl, arith, length, ◌≤◌, ℕ, drop, map, List}
 use Rattle.yt_entries.specs.Meanings.{entry_of}
 use Rattle.yt_query.specs.Meanings.{read_of}
 use Rattle.yt_queue.specs.Queues.{AreFrom}
 use Rattle.yt_queue.specs.Renewals.{AllHaveOneMore}
 use Rattle.yt_queue.specs.declared.records.Record.{Record}
 use Rattle.yt_core.specs.Planned.{PlanMeant}
-use Rattle.yt_core.proofs.Making.{some_number, ready_within, ready_numbers, all_one_more, plan_ready, plan_between, core_steps, kept_ok, kept_err, has_stepped}
+use Rattle.yt_core.proofs.Making.{some_number, ready_within, all_one_more, plan_ready, plan_between, core_steps, kept_ok, kept_err, has_stepped}
 use Rattle.yt_core.proofs.cores.Core.install.Goals as goal
 
 pub place_of-place-requires : goal.place_of-place-requires

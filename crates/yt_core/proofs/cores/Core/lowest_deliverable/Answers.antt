@@ -1,5 +1,4 @@
 use Rattle.std.proofs.Common.{subst, List}
-use Rattle.yt_entries.specs.Meanings.{standing_of}
 use Rattle.yt_queue.specs.Settings.{settings_of}
 use Rattle.yt_queue.specs.declared.records.Record.{Record}
 use Rattle.yt_queue.specs.Walks.{IsLowestDeliverable}

@@ -1,0 +1,11 @@
+use Rattle.std.proofs.Common.{refl}
+use Rattle.yt_queue.specs.Settings.{settings_of}
+use Rattle.yt_core.proofs.Placing.{if_ok}
+use Rattle.yt_core.proofs.Preparing.{loss_found}
+use Rattle.yt_core.proofs.withdrawals.found_lost.Goals as goal
+
+pub returns-clause-found : goal.returns-clause-found
+returns-clause-found c =
+    if_ok c.causes_of_loss.result _ _
+    (λ found are. loss_found _ (settings_of c.args.settings) c.args.item.now c.args.upper.now c.trail.result.now found.items refl c.number.ensures.number c.trail.ensures.trail are)
+    c.causes_of_loss.ensures.causes

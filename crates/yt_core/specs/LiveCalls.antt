@@ -1,0 +1,59 @@
+-- What is answered to the calls that people make while updates go on.
+use Rattle.std.specs.Prelude.{◌≡◌, ◌&&◌, ◌≤◌, ◌<◌, ℕ, Bool, true, false, not, nat_lt, Option, Some, None, is_some, Result, Ok, Err}
+use Rattle.yt_entries.specs.Meanings.{standing_of}
+use Rattle.yt_history.specs.Cores.{machine}
+use Rattle.yt_machine.specs.Effects.{fits_question}
+use Rattle.yt_machine.specs.Standings.{Standing, Ready, Held, Paused, Ended, Withdrawn, is_paused}
+use Rattle.yt_model.specs.Updates.{Choice}
+use Rattle.yt_base.specs.declared.updates.Choice.{Choice as ChoiceOfProgram}
+use Rattle.yt_core.specs.States.{State, question_at}
+use Rattle.yt_core.specs.declared.refusals.AnswerRefusal.{AnswerRefusal}
+use Rattle.yt_core.specs.declared.refusals.AnswerRefusal.TheVariants as answer
+use Rattle.yt_core.specs.declared.refusals.WithdrawRefusal.{WithdrawRefusal}
+use Rattle.yt_core.specs.declared.refusals.WithdrawRefusal.TheVariants as withdraw
+
+-- ---- answers
+
+-- It is paused.
+abbrev pub is_paused_in : Option Standing → Bool
+is_paused_in None = false
+is_paused_in (Some s) = is_paused s
+
+-- The choice answers the question at which the update is paused.
+abbrev pub fits_at : State → ℕ → Choice → Bool
+fits_at s n c = fits_question (machine s.over) (question_at s n) c
+
+-- Why an answer to an update with this standing was refused, where the choice fits its question or does not.
+abbrev pub RefusesAnswer : Option Standing → Bool → AnswerRefusal → Type 0
+RefusesAnswer s fits answer.NoSuchUpdate = s ≡ None
+RefusesAnswer s fits (answer.NotPaused t) = (s ≡ Some (standing_of t)) × (is_paused (standing_of t) ≡ false)
+RefusesAnswer s fits answer.Misfit = (is_paused_in s ≡ true) × (fits ≡ false)
+RefusesAnswer s fits answer.Memory = (is_paused_in s ≡ true) × (fits ≡ true)
+
+-- What is answered to it.
+abbrev pub AnswersAnswer : Option Standing → Bool → Result ℕ (AnswerRefusal × ChoiceOfProgram) → Type 0
+AnswersAnswer s fits (Ok n) = (is_paused_in s ≡ true) × (fits ≡ true)
+AnswersAnswer s fits (Err refused) = RefusesAnswer s fits refused.0
+
+-- ---- withdrawals
+
+-- It is that of a withdrawn update.
+abbrev pub is_withdrawn : Standing → Bool
+is_withdrawn Ready = false
+is_withdrawn (Held c) = false
+is_withdrawn (Paused l) = false
+is_withdrawn (Ended o) = false
+is_withdrawn Withdrawn = true
+
+-- Update n stands so, and is neither committed nor withdrawn, where c updates are committed.
+abbrev pub is_live_in : Option Standing → ℕ → ℕ → Bool
+is_live_in None c n = false
+is_live_in (Some s) c n = nat_lt c n && not (is_withdrawn s)
+
+-- What is answered to the withdrawal of update n with this standing, where c updates are committed.
+abbrev pub AnswersWithdrawal : Option Standing → ℕ → ℕ → Result ℕ WithdrawRefusal → Type 0
+AnswersWithdrawal s c n (Ok m) = is_live_in s c n ≡ true
+AnswersWithdrawal s c n (Err withdraw.NoSuchUpdate) = s ≡ None
+AnswersWithdrawal s c n (Err (withdraw.Committed k)) = (is_some s ≡ true) × (n ≤ c) × (k ≡ c)
+AnswersWithdrawal s c n (Err withdraw.Withdrawn) = (s ≡ Some Withdrawn) × (c < n)
+AnswersWithdrawal s c n (Err withdraw.Memory) = is_live_in s c n ≡ true
