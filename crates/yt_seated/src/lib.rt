@@ -1,0 +1,8 @@
+//! A session run by worker threads: the proved core behind the proved desk, and the serial machine's result.
+//!
+//! `README.md` has the contract. What a run comes to is said in `specs/Runs.antt`.
+#![tactic(auto)]
+
+mod worked;
+
+pub use crate::worked::{Worked, worked};
