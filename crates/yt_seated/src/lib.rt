@@ -3,6 +3,8 @@
 //! `README.md` has the contract. What a run comes to is said in `specs/Runs.antt`.
 #![tactic(auto)]
 
+mod seated;
 mod worked;
 
+pub use crate::seated::Seated;
 pub use crate::worked::{Worked, worked};

@@ -8,6 +8,7 @@ ghost use Rattle.yt_session.specs.Base.{base_violation};
 ghost use Rattle.yt_session.specs.Meanings.{session_of};
 ghost use Rattle.yt_seated.specs.Runs.{IsWholeRun};
 
+use crate::seated::Seated;
 use std::alloc::Global;
 use std::marker::Model;
 use std::sync::Wait;
@@ -19,7 +20,9 @@ use yt_gate::Gate;
 use yt_limits::Budget;
 use yt_program::SessionResult;
 use yt_queue::Settings;
+use yt_serial::mappings_of;
 use yt_session::Session;
+use yt_workers::run;
 
 /// A session that was run to its end. Contracts see the session, the budget and the settings, and the entries of its history.
 #[derive(Drop)]
@@ -57,8 +60,9 @@ impl<'s> Worked<'s> {
     pub fn result(&self, alloc: Global) -> Result<SessionResult, Memory>
         ensures serial { IfOk result (IsSerialRun self.now.budget self.now.session) }
     {
-        let _ = alloc;
-        Err(Memory)
+        self.core.is_legal();
+        let told = self.core.result(alloc)?;
+        Ok(told)
     }
 }
 
@@ -82,6 +86,16 @@ pub fn worked<'s, R: Threads + Wait + Sync, G: Gate + Sync>(
     ensures settings { IfOk result (λ run. run.settings ≡ settings_of settings) }
     ensures whole { IfOk result IsWholeRun }
 {
-    let _ = (rt, gate, alloc, session, settings, budget, seats);
-    Err(Memory)
+    let core = Core::open(alloc, session, settings, budget)?;
+    core.is_legal();
+    let seated = Seated::new(core, mappings_of(session).list());
+    match run(rt, gate, alloc, seated, seats) {
+        Ok(seated) => Ok(Worked {
+            session,
+            settings,
+            budget,
+            core: seated.into_core(),
+        }),
+        Err(_) => Err(Memory),
+    }
 }

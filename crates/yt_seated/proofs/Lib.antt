@@ -1,0 +1,3 @@
+mod Staying
+mod Running
+mod Sent
