@@ -6,7 +6,7 @@ use Rattle.std.proofs.lemmas.Bool.{both_ways, lt-ltb, or_parts, eqb-true}
 use Rattle.std.proofs.lemmas.List.{map_push, take-append-drop, take-map, drop-map, same_from_push}
 use Rattle.std.proofs.lemmas.Option.{same_Some, none-some}
 use Rattle.yt_machine.specs.Machine.{Machine, Laws, Avoids}
-use Rattle.yt_machine.specs.Updates.{Update, Read, Session, Settings, hides, trail, below, committed}
+use Rattle.yt_machine.specs.Updates.{Update, Read, Session, Settings, trail, below, committed}
 use Rattle.yt_machine.specs.Standings.{is_held, lack}
 use Rattle.yt_machine.specs.Cascade.{readers, has_number, Member}
 use Rattle.yt_machine.specs.Steps.{stepped, step_log}
@@ -14,7 +14,7 @@ use Rattle.yt_machine.specs.Effects.{Event, Admits, Steps, Delivers, Answers, Wi
 use Rattle.yt_machine.specs.Histories.{Log, empty_log, after, event_of, causes_in, IsLegal}
 use Rattle.yt_machine.specs.Local.{acts_on}
 use Rattle.yt_machine.specs.CauseLaw.{members_of}
-use Rattle.yt_machine.specs.Stamps.{writes_in, hidden_by, loses, gone_below, IsUntouched}
+use Rattle.yt_machine.specs.Stamps.{writes_in, hidden_by, loses, IsUntouched}
 use Rattle.yt_machine.proofs.Basics.{some_of}
 use Rattle.yt_machine.proofs.Standing.{ready_parts}
 use Rattle.yt_machine.proofs.Places.{allowed_is}
@@ -36,7 +36,7 @@ use Rattle.yt_touched.specs.Shown.{restarted_in, lost_in, taken_in, trail_by}
 use Rattle.yt_touched.specs.Questions.{is_read, any_of, adds_below, takes_below, is_questioned_by, first_from}
 use Rattle.yt_touched.specs.Laws.{UnquestionedStepsStay}
 use Rattle.yt_touched.proofs.Showing.{hidden_is, restarted_plain, plain_kept}
-use Rattle.yt_touched.proofs.Telling.{Tells, legal_tells}
+use Rattle.yt_touched.proofs.Telling.{legal_tells}
 
 -- a number among those of which none passes doesn't pass
 picked : (f : ℕ → Bool) (ns : List ℕ) (n : ℕ) → list_any f ns ≡ false → has_number ns n ≡ true → f n ≡ false

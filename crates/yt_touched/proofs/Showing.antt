@@ -1,9 +1,9 @@
 -- What an entry says of its event, and one entry more.
-use Rattle.std.proofs.Common.{◌≡◌, ap, refl, sym, ◌∙◌, ℕ, List, [], ◌∷◌, ◌++◌, map, Bool, true, false, ◌||◌, ◌==◌, Option, Some, None}
+use Rattle.std.proofs.Common.{◌≡◌, ap, refl, ◌∙◌, ℕ, List, [], ◌∷◌, ◌++◌, map, Bool, true, false, ◌||◌, ◌==◌, Option, Some, None}
 use Rattle.std.specs.Prelude.{if◌then◌else◌}
-use Rattle.yt_machine.specs.Machine.{Machine, Outcome}
-use Rattle.yt_machine.specs.Updates.{Update, hides}
-use Rattle.yt_machine.specs.Standings.{Standing, Held, Withdrawn, Lack, unless_ended, unless_paused}
+use Rattle.yt_machine.specs.Machine.{Outcome}
+use Rattle.yt_machine.specs.Updates.{hides}
+use Rattle.yt_machine.specs.Standings.{Held, Withdrawn, Lack, unless_ended, unless_paused}
 use Rattle.yt_machine.specs.Cascade.{Cause, Conflict, Depends, reader, readers, has_number}
 use Rattle.yt_machine.specs.Effects.{Entry, Admitted, Stepped, Delivered, Answered, Withdrew}
 use Rattle.yt_machine.specs.Histories.{causes_in}

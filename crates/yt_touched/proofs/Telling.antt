@@ -6,8 +6,8 @@ use Rattle.std.proofs.lemmas.List.{map_push}
 use Rattle.std.proofs.lemmas.Option.{same_Some, none-some, option_and_then_some, slice_get_within}
 use Rattle.yt_machine.specs.Machine.{Machine, Laws}
 use Rattle.yt_machine.specs.Updates.{Update, Session, Settings, Submission, hides, trail, below, committed}
-use Rattle.yt_machine.specs.Standings.{standing, is_held, lack}
-use Rattle.yt_machine.specs.Cascade.{readers, has_number, restarted, anew}
+use Rattle.yt_machine.specs.Standings.{is_held, lack}
+use Rattle.yt_machine.specs.Cascade.{readers, has_number, anew}
 use Rattle.yt_machine.specs.Steps.{next_move, stepped, step_writes}
 use Rattle.yt_machine.specs.Effects.{Event, Admits, Steps, Delivers, Answers, Withdraws, Effect, causes_of_loss, causes_of_step, withdrawn_now, delivered, answered, step_effect, withdraw_effect, deliver_effect, answer_effect, admitted, admit_effect, may_step, may_deliver, may_answer, may_withdraw, effect}
 use Rattle.yt_machine.specs.Histories.{Log, empty_log, with_entry, after, causes_in, IsLegal}
@@ -15,7 +15,6 @@ use Rattle.yt_machine.specs.Runs.{AreRuns}
 use Rattle.yt_machine.specs.Local.{acts_on}
 use Rattle.yt_machine.specs.Bounds.{admissions_of}
 use Rattle.yt_machine.specs.CauseLaw.{AreCauses}
-use Rattle.yt_machine.specs.Stamps.{loses}
 use Rattle.yt_machine.proofs.Basics.{if_true, if_false, length_from, some_of, there, last_is, length_more}
 use Rattle.yt_machine.proofs.Standing.{ready_parts}
 use Rattle.yt_machine.proofs.Places.{allowed_is, put_here}
@@ -28,7 +27,7 @@ use Rattle.yt_model.specs.Repository.{Change, IsRepository}
 use Rattle.yt_steps.specs.Chase.{caused, caused_chase}
 use Rattle.yt_steps.proofs.ChaseLaws.{chase_laws}
 use Rattle.yt_history.specs.PlainEntries.{PlainEntry, plain_entry}
-use Rattle.yt_history.specs.Cores.{machine, session_over, entries_over, updates_after}
+use Rattle.yt_history.specs.Cores.{session_over, entries_over, updates_after}
 use Rattle.yt_touched.specs.Shown.{restarted_in, lost_in, taken_in, shown_by, shown_after, trail_by}
 use Rattle.yt_touched.specs.Laws.{EntriesTellTheTrails}
 use Rattle.yt_touched.proofs.Showing.{has_join, trail_more, hidden_is, restarted_plain, plain_kept}

@@ -18,6 +18,12 @@ EntriesTellTheTrails =
     (g : Ground) (H : List PlainEntry) (k : ℕ) (u : Update (machine g)) → 1 ≤ g.budget → IsRepository g.base → IsLegalOver g H
     → slice_get (updates_after g H) k ≡ Some u → trail (machine g) u ≡ trail_by (suc k) H
 
+-- The attempt of an update that is ready does what the update does.
+abbrev pub ReadyAttemptsDoTheirUpdate : Type 0
+ReadyAttemptsDoTheirUpdate =
+    (g : Ground) (H : List PlainEntry) (k : ℕ) (u : Update (machine g)) → 1 ≤ g.budget → IsRepository g.base → IsLegalOver g H
+    → IsReadyAt (machine g) g.settings (updates_after g H) k u → u.state.operation ≡ u.operation
+
 -- The queries of reads, in order.
 abbrev pub queries_of : List Read → List Query
 queries_of reads = map (λ (r : Read). r.query) reads

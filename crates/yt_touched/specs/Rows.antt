@@ -1,6 +1,6 @@
 -- Small histories, worked by hand: which entry is in question for a step of update 3 that has read relation 0.
 use Rattle.std.specs.Prelude.{◌≡◌, ℕ, List, [], ◌∷◌, ◌++◌, Option, Some, None}
-use Rattle.yt_machine.specs.Machine.{Done, Spent}
+use Rattle.yt_machine.specs.Machine.{Spent}
 use Rattle.yt_machine.specs.Standings.{Standing, Ready, Ended}
 use Rattle.yt_model.specs.Values.{Fact}
 use Rattle.yt_model.specs.Repository.{Change, Insert, Delete}

@@ -1,9 +1,14 @@
 //! What the entries of a legal history tell, as the contracts of functions that do nothing.
-ghost use Rattle.yt_touched.specs.Laws.{EntriesTellTheTrails, UnquestionedStepsStay};
+ghost use Rattle.yt_touched.specs.Laws.{EntriesTellTheTrails, ReadyAttemptsDoTheirUpdate, UnquestionedStepsStay};
 
 /// The trail of each update is what the entries show of it since the last of them that took its writes away.
 pub fn entries_tell_the_trails()
     ensures { EntriesTellTheTrails }
+{}
+
+/// The attempt of a ready update is at the update's operation. So the queries of its next step are told by the attempt alone.
+pub fn ready_attempts_do_their_update()
+    ensures { ReadyAttemptsDoTheirUpdate }
 {}
 
 /// A step that was worked out after the first entries of a history is the update's step still, where none of the later

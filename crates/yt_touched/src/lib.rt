@@ -10,6 +10,8 @@ mod rows;
 mod shown;
 mod touched;
 
-pub use crate::laws::{entries_tell_the_trails, unquestioned_steps_stay};
+pub use crate::laws::{
+    entries_tell_the_trails, ready_attempts_do_their_update, unquestioned_steps_stay,
+};
 pub use crate::rows::small_histories_compute;
 pub use crate::touched::first_in_question;

@@ -1,10 +1,11 @@
 //! The first entry that is in question for a step.
+ghost use Rattle.std.specs.List.{list_any};
 ghost use Rattle.std.specs.Prelude.{◌≡◌, ◌&&◌, nat_lt, map};
 ghost use Rattle.yt_base.specs.Meanings.{rule_of, change_of};
 ghost use Rattle.yt_entries.specs.Meanings.{entry_of};
 ghost use Rattle.yt_query.specs.Meanings.{read_of};
 ghost use Rattle.yt_steps.specs.Chase.{relation_of};
-ghost use Rattle.yt_touched.specs.Shown.{trail_by};
+ghost use Rattle.yt_touched.specs.Shown.{lost_in, restarted_in, trail_by};
 ghost use Rattle.yt_touched.specs.Questions.{is_read, any_of, adds_below, takes_below, is_questioned_by, first_in_question as first_in_question_lem};
 
 use crate::shown::{causes_in, lost_in, reader_of, restarts, shown_by, takes_away};
@@ -29,7 +30,8 @@ pub fn first_in_question(
         return None;
     }
     for place in since as usize..entries.len() {
-        if is_questioned(mappings, &entries[..place], &entries[place], update, reads) {
+        let entry = &entries[place];
+        if is_questioned(mappings, &entries[..place], entry, update, reads) {
             return Some(place as u64 + 1);
         }
     }
@@ -78,11 +80,40 @@ fn takes_below(
     ensures { result ≡ takes_below (is_read (map rule_of mappings.now.items)
         (map read_of reads.now)) update (map entry_of before.now) (entry_of entry.now) }
 {
-    if let Some(own) = lost_in(entry) {
-        if showed_below(mappings, before, own, update, reads) {
-            return true;
-        }
+    loses_below(mappings, before, entry, update, reads)
+        || restarts_below(mappings, before, entry, update, reads)
+}
+
+// Whether such a write goes with the entry's own update.
+fn loses_below(
+    mappings: &MappingList,
+    before: &[Entry],
+    entry: &Entry,
+    update: u32,
+    reads: &[LoggedRead],
+) -> bool
+    ensures { result ≡ list_any (λ i. nat_lt i update && any_of (is_read
+        (map rule_of mappings.now.items) (map read_of reads.now))
+        (trail_by i (map entry_of before.now))) (lost_in (entry_of entry.now)) }
+{
+    match lost_in(entry) {
+        Some(by) => showed_below(mappings, before, by, update, reads),
+        None => false,
     }
+}
+
+// Whether one goes with an update that is restarted.
+fn restarts_below(
+    mappings: &MappingList,
+    before: &[Entry],
+    entry: &Entry,
+    update: u32,
+    reads: &[LoggedRead],
+) -> bool
+    ensures { result ≡ list_any (λ i. nat_lt i update && any_of (is_read
+        (map rule_of mappings.now.items) (map read_of reads.now))
+        (trail_by i (map entry_of before.now))) (restarted_in (entry_of entry.now)) }
+{
     causes_in(entry).iter().any(|cause| showed_below(
         mappings,
         before,
@@ -113,10 +144,11 @@ fn showed(mappings: &MappingList, before: &[Entry], by: u32, reads: &[LoggedRead
         (map read_of reads.now)) (trail_by by (map entry_of before.now)) }
 {
     for place in (0..before.len()).rev() {
-        if takes_away(&before[place], by) {
+        let entry = &before[place];
+        if takes_away(entry, by) {
             return false;
         }
-        if any_read(mappings, shown_by(&before[place], by), reads) {
+        if any_read(mappings, shown_by(entry, by), reads) {
             return true;
         }
     }
