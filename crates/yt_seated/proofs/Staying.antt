@@ -3,15 +3,12 @@ use Rattle.std.proofs.Common.{◌≡◌, ◌∙◌, ap, refl, sym, subst, ℕ, s
 use Rattle.std.specs.Prelude.{option_map, slice_get}
 use Rattle.std.proofs.lemmas.List.{take-append-drop, take-map}
 use Rattle.yt_machine.specs.Effects.{Entry}
-use Rattle.yt_machine.specs.Histories.{event_of, IsLegal}
+use Rattle.yt_machine.specs.Histories.{IsLegal}
 use Rattle.yt_machine.specs.Machine.{Machine}
-use Rattle.yt_machine.specs.Runs.{Reached, start, more}
 use Rattle.yt_machine.specs.Standings.{Standing, Ready, Held, Paused, Ended, Withdrawn, standing, is_ready, next_answer}
 use Rattle.yt_machine.specs.Steps.{next_move, step_log}
 use Rattle.yt_machine.specs.Updates.{Update, Read, below, committed}
 use Rattle.yt_machine.proofs.Prefixes.{legal_law}
-use Rattle.yt_machine.proofs.Standing.{ready_parts}
-use Rattle.yt_machine.proofs.Theorem.{history_law}
 use Rattle.yt_model.specs.Mappings.{Rule}
 use Rattle.yt_model.specs.Queries.{Query, Reply}
 use Rattle.yt_model.specs.Repository.{IsRepository}
@@ -31,6 +28,7 @@ use Rattle.yt_stale.specs.Spares.{AllSpare}
 use Rattle.yt_stale.specs.Stale.{IsReadyAt, IsStepStill}
 use Rattle.yt_touched.specs.Laws.{queries_of, WasPlanned}
 use Rattle.yt_touched.specs.Questions.{first_in_question}
+use Rattle.yt_touched.proofs.Doing.{attempts_do}
 use Rattle.yt_touched.proofs.Questioning.{unquestioned_stay}
 use Rattle.yt_desk.specs.Cores.{IsReady, HoldsSince}
 use Rattle.yt_core.specs.Planned.{PlanMeant, IsStepOver, IsSomeThat, IsStepAmong, IsStepAt}
@@ -59,11 +57,6 @@ ready_stands s n r =
 module _ (ms : List Rule) (B : ℕ) where
   abbrev M : Machine
   M = caused_chase ms B
-
-  -- An attempt has the operation of its update.
-  keeps_operation : (D : List Fact) (answers : List Choice) (n a : ℕ) (op : Operation) {P : Attempt} {log : List (Read M)} → Reached M D answers n a op P log → P.operation ≡ op
-  keeps_operation D answers n a op start = refl
-  keeps_operation D answers n a op (more r going able) = keeps_operation D answers n a op r
 
   -- A read of the machine as plain data.
   read_logged : Read M → query.Read
@@ -106,13 +99,7 @@ module _ (ms : List Rule) (B : ℕ) where
 
 -- ---- after later entries
 
-module _ (g : Ground) (some : 1 ≤ g.budget) (sorted : IsRepository g.base) (H : List PlainEntry) (legal : IsLegalOver g H) where
-  operation_kept : (k : ℕ) (u : Update (machine g)) → IsReadyAt (machine g) g.settings (updates_after g H) k u → u.state.operation ≡ u.operation
-  operation_kept k u at =
-      let h = history_law (machine g) (chase_laws caused g.rules g.budget some) g.settings (session_over g) (map event_of (entries_over g H)) (record { updates = updates_after g H; entries = entries_over g H }) sorted legal in
-      let here = (ready_parts (machine g) g.settings (committed (machine g) (updates_after g H)) (suc k) u at.ready).0.present in
-      keeps_operation g.rules g.budget (below (machine g) g.base (updates_after g H) k) u.answers (suc k) u.attempt u.operation (h.runs k u at.there here)
-
+module _ (g : Ground) (some : 1 ≤ g.budget) (H : List PlainEntry) (legal : IsLegalOver g H) where
   -- The first entries of a legal history are one.
   front_legal : (n : ℕ) → IsLegalOver g (take n H)
   front_legal n =
@@ -133,7 +120,7 @@ stayed g H p n m some sorted legal none w =
     let us : List (Update M) = updates_after g (take n H) in
     let vs : List (Update M) = updates_after g H in
     let number : p.update ≡ suc k = was.update ∙ r.number in
-    let same : u.state.operation ≡ u.operation = operation_kept g some sorted (take n H) (front_legal g some sorted H legal n) k u r.ready in
+    let same : u.state.operation ≡ u.operation = attempts_do g (take n H) k u some sorted (front_legal g some H legal n) r.ready in
     let step : IsStepOver g.rules g.budget (below M g.base us k) u p = step_there g.rules g.budget g.base us p.update k u p number r.ready.there was.step in
     let planned : WasPlanned g H n k u p.reads = record {
       stamped = w.stamped;

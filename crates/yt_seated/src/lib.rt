@@ -7,4 +7,4 @@ mod seated;
 mod worked;
 
 pub use crate::seated::Seated;
-pub use crate::worked::{Worked, worked};
+pub use crate::worked::{WorkedSession, worked};

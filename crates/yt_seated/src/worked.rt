@@ -26,14 +26,14 @@ use yt_workers::run;
 
 /// A session that was run to its end. Contracts see the session, the budget and the settings, and the entries of its history.
 #[derive(Drop)]
-pub struct Worked<'s> {
+pub struct WorkedSession<'s> {
     session: &'s Session,
     settings: Settings,
     budget: Budget,
     core: Core<'s>,
 }
 
-impl<'s> Model for Worked<'s> {
+impl<'s> Model for WorkedSession<'s> {
     ghost use Rattle.yt_session.specs.Meanings.{session_of};
     ghost use Rattle.yt_queue.specs.Settings.{settings_of};
     ghost use Rattle.yt_seated.specs.Runs.{Run, IsWorked};
@@ -45,7 +45,7 @@ impl<'s> Model for Worked<'s> {
     ghost invariant = { λ w. IsWorked (session_of w.session.now) w.budget (settings_of w.settings) w.core };
 }
 
-impl<'s> Worked<'s> {
+impl<'s> WorkedSession<'s> {
     /// The entries of the history: first the admissions of all updates, then steps and deliveries, until nothing is ready and
     /// nothing can be delivered. It takes no memory.
     pub fn history(&self) -> &[Entry]
@@ -76,7 +76,7 @@ pub fn worked<'s, R: Threads + Wait + Sync, G: Gate + Sync>(
     settings: Settings,
     budget: Budget,
     seats: u64,
-) -> Result<Worked<'s>, Memory>
+) -> Result<WorkedSession<'s>, Memory>
     requires valid { IsSession (session_of session.now) }
     requires met { base_violation (session_of session.now) ≡ None }
     requires retries { settings.retries ≤ 4 }
@@ -90,7 +90,7 @@ pub fn worked<'s, R: Threads + Wait + Sync, G: Gate + Sync>(
     core.is_legal();
     let seated = Seated::new(core, mappings_of(session).list());
     match run(rt, gate, alloc, seated, seats) {
-        Ok(seated) => Ok(Worked {
+        Ok(seated) => Ok(WorkedSession {
             session,
             settings,
             budget,
