@@ -4,7 +4,7 @@
 #![tactic(auto)]
 
 mod seated;
-mod worked;
+mod sessions;
 
 pub use crate::seated::Seated;
-pub use crate::worked::{WorkedSession, worked};
+pub use crate::sessions::{WorkedSession, worked};
