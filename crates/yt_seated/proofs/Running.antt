@@ -51,8 +51,8 @@ module _ (g : Ground) where
   moves_admit : (H : List PlainEntry) → list_all is_move H ≡ true → admissions_in (entries_over g H) ≡ 0
   moves_admit [] h = refl
   moves_admit (WasAdmitted i ∷ H) h = let never : false ≡ true = h in cc
-  moves_admit (WasStepped e ∷ H) h = moves_admit H h
-  moves_admit (WasDelivered e ∷ H) h = moves_admit H h
+  moves_admit (WasStepped e ∷ H) h = let rest = moves_admit H h in omega (arith, rest)
+  moves_admit (WasDelivered e ∷ H) h = let rest = moves_admit H h in omega (arith, rest)
   moves_admit (WasAnswered e ∷ H) h = let never : false ≡ true = h in cc
   moves_admit (WasWithdrawn e ∷ H) h = let never : false ≡ true = h in cc
 
@@ -152,7 +152,7 @@ worked_serially s budget c core r some sorted w told =
     let some_there : 1 ≤ budget = subst (λ (x : State). 1 ≤ x.over.budget) same some in
     let sorted_there : IsRepository s.base = subst (λ (x : State). IsRepository x.over.base) same sorted in
     let telling : IsResultOf last r = subst (λ (x : State). IsResultOf x r) same told in
-    telling ∙ sym (ap result_in (whole_is_serial budget s c (entries_over g K) (updates_after g K) w.valid w.met some_there w.run.legal record {
+    telling ∙ sym (ap result_in (whole_is_serial budget c s (entries_over g K) (updates_after g K) w.valid w.met some_there w.run.legal record {
       recorded = subst (AreRecorded g) (sym w.run.begins) (all_recorded g 1 (length s.updates) w.run.moves w.run.alone);
       admitted = updates_left g K (length s.updates) w.run.moves some_there sorted_there w.run.legal w.run.begins w.run.alone;
       quiet = w.run.quiet;

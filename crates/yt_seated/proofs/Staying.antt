@@ -1,5 +1,5 @@
 -- A plan at a desk: it is the step of an update that is ready, and stays so where no later entry is in question for it.
-use Rattle.std.proofs.Common.{◌≡◌, ◌∙◌, ap, refl, sym, subst, ℕ, suc, ◌≤◌, true, false, List, [], ◌∷◌, take, drop, map, length, Option, Some, None, ◌×◌}
+use Rattle.std.proofs.Common.{◌≡◌, ◌∙◌, ap, refl, sym, subst, ℕ, suc, ◌≤◌, true, false, List, [], ◌∷◌, ◌++◌, take, drop, map, length, Option, Some, None}
 use Rattle.std.specs.Prelude.{option_map, slice_get}
 use Rattle.std.proofs.lemmas.List.{take-append-drop, take-map}
 use Rattle.yt_machine.specs.Effects.{Entry}
@@ -59,7 +59,7 @@ module _ (ms : List Rule) (B : ℕ) where
   M = caused_chase ms B
 
   -- A read of the machine as plain data.
-  read_logged : Read M → query.Read
+  abbrev read_logged : Read M → query.Read
   read_logged r = record { query = r.query; reply = r.answer; own = r.own }
 
   as_logged : (n : ℕ) (xs : List (Query × Reply)) → map (read_after n) xs ≡ map read_logged (map (λ r. record { query = r.0; answer = r.1; own = n }) xs)

@@ -32,14 +32,14 @@ impl<'s> Seated<'s> {
     /// The core, with the mappings that its history is over. It takes no memory.
     pub fn new(core: Core<'s>, mappings: &'s MappingList) -> Seated<'s>
         requires same { map rule_of mappings.now.items ≡ core.over.rules }
-        ensures core { result ≡ core }
+        ensures core { result ≡ core.entry }
     {
         Seated { core, mappings }
     }
 
     /// The core alone. It takes no memory.
     pub fn into_core(self) -> Core<'s>
-        ensures core { result ≡ self }
+        ensures core { result ≡ self.entry }
     {
         let Seated { core, mappings: _ } = self;
         core
