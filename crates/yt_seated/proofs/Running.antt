@@ -123,21 +123,21 @@ ends_run s budget c n K count e =
       quiet = ap (is_quiet (machine g) c) left.leaves ∙ e.ends.quiet;
     }
 
--- From the opened core to the one that the workers leave.
-pub has_worked : (s : SessionData) (budget : ℕ) (c : Settings) (n : ℕ) (a b : State) → IsSession s → base_violation s ≡ None → n ≡ length s.updates → a ≡ opened s budget c n
-    → 1 ≤ a.over.budget → IsRepository a.over.base → IsLegalOver a.over a.history → b.over ≡ a.over → (IsWhole a.over a.history → Ends a.over a.history b.history) → IsWorked s budget c b
-has_worked s budget c n a b valid meets count e some sorted legal over ends =
+-- From the opened core to the one that the workers leave, where x went to the desk and y came back.
+pub has_worked : (s : SessionData) (budget : ℕ) (c : Settings) (n : ℕ) (a x y b : State) → IsSession s → base_violation s ≡ None → n ≡ length s.updates → a ≡ opened s budget c n
+    → 1 ≤ a.over.budget → IsRepository a.over.base → IsLegalOver a.over a.history → x ≡ a → b ≡ y → y.over ≡ x.over → (IsWhole x.over x.history → Ends x.over x.history y.history) → IsWorked s budget c b
+has_worked s budget c n a x y b valid meets count e some sorted legal went back over ends =
     let g : Ground = ground_of s budget c in
     let H : List PlainEntry = admissions_from 1 n in
     let whole : IsWhole g H =
-    begins_whole s budget c n valid meets count (subst (λ (x : State). 1 ≤ x.over.budget) e some) (subst (λ (x : State). IsRepository x.over.base) e sorted)
-    (subst (λ (x : State). IsLegalOver x.over x.history) e legal) in
-    let ended : IsWhole g H → Ends g H b.history = subst (λ (x : State). IsWhole x.over x.history → Ends x.over x.history b.history) e ends in
+    begins_whole s budget c n valid meets count (subst (λ (z : State). 1 ≤ z.over.budget) e some) (subst (λ (z : State). IsRepository z.over.base) e sorted)
+    (subst (λ (z : State). IsLegalOver z.over z.history) e legal) in
+    let ended : IsWhole g H → Ends g H y.history = subst (λ (z : State). IsWhole z.over z.history → Ends z.over z.history y.history) (went ∙ e) ends in
     record {
       valid = valid;
       met = meets;
-      over = over ∙ ap (λ (x : State). x.over) e;
-      run = ends_run s budget c n b.history count (ended whole);
+      over = ap (λ (z : State). z.over) back ∙ over ∙ ap (λ (z : State). z.over) (went ∙ e);
+      run = subst (λ (z : State). IsRunOf s budget c z.history) (sym back) (ends_run s budget c n y.history count (ended whole));
     }
 
 -- ---- what is told

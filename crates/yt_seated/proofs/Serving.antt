@@ -16,8 +16,8 @@ if_made : {A F P : Type 0} (q : Result A F) → P → IfOk q (λ x. P)
 if_made (Ok a) p = p
 if_made (Err e) p = tt
 
-pub none_made : {A F P : Type 0} (q : Result A F) (e : F) → q ≡ Err e → IfOk q (λ x. P)
-none_made {A} {F} {P} q e is = subst (λ (r : Result A F). IfOk r (λ x. P)) (sym is) tt
+pub none_made : {A F : Type 0} (P : Type 0) (q : Result A F) (e : F) → q ≡ Err e → IfOk q (λ x. P)
+none_made {A} {F} P q e is = subst (λ (r : Result A F). IfOk r (λ x. P)) (sym is) tt
 
 module _ (a s : State) (same : a ≡ s) where
   pub ready_here : (n : ℕ) → IsReady s.over s.history n → standing_at a n ≡ Some Ready
