@@ -1,14 +1,13 @@
 -- A run of a session to its end: how it begins, what it ends with, and that it tells what the serial machine tells.
-use Rattle.std.proofs.Common.{◌≡◌, ◌∙◌, ap, refl, sym, subst, ℕ, zero, suc, ◌≤◌, ◌+◌, Bool, true, false, ◌&&◌, List, [], ◌∷◌, ◌++◌, map, length, append-nil, Option, Some, None, arith}
+use Rattle.std.proofs.Common.{◌≡◌, ◌∙◌, ap, refl, sym, subst, ℕ, zero, suc, ◌≤◌, true, false, List, [], ◌∷◌, ◌++◌, map, length, append-nil, None, arith}
 use Rattle.std.specs.List.{list_all}
 use Rattle.std.proofs.lemmas.List.{map-append}
 use Rattle.yt_machine.specs.Bounds.{admissions_in}
 use Rattle.yt_machine.specs.Effects.{Entry, Admitted, Stepped, Delivered, Answered, Withdrew}
 use Rattle.yt_machine.specs.Histories.{event_of}
 use Rattle.yt_machine.specs.History.{IsHistory}
-use Rattle.yt_machine.specs.Recorded.{is_recorded}
 use Rattle.yt_machine.specs.Standings.{is_quiet}
-use Rattle.yt_machine.specs.Updates.{Settings, Update}
+use Rattle.yt_machine.specs.Updates.{Settings}
 use Rattle.yt_machine.proofs.Theorem.{history_law}
 use Rattle.yt_model.specs.Mappings.{Rule}
 use Rattle.yt_model.specs.Repository.{IsRepository}
@@ -32,7 +31,7 @@ use Rattle.yt_record.specs.Headline as headline
 use Rattle.yt_drains.specs.Laws.{AreRecorded}
 use Rattle.yt_desk.specs.Closing.{IsWhole, Ends}
 use Rattle.yt_core.specs.Results.{IsResultOf}
-use Rattle.yt_core.specs.States.{State, ground_of, admissions_from, opened, is_quiet_at}
+use Rattle.yt_core.specs.States.{State, ground_of, admissions_from, opened}
 use Rattle.yt_touched.proofs.Showing.{plain_kept}
 use Rattle.yt_seated.specs.Runs.{is_move, IsRunOf, IsWorked}
 

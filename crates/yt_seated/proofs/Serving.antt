@@ -1,5 +1,5 @@
 -- What the calls of a desk's core make, by those of the core.
-use Rattle.std.proofs.Common.{◌≡◌, ◌∙◌, sym, subst, ℕ, ◌≤◌, Option, Some, None, Result, Ok, Err}
+use Rattle.std.proofs.Common.{◌≡◌, sym, subst, ℕ, ◌≤◌, Option, Some, None, Result, Ok, Err}
 use Rattle.std.specs.Prelude.{IfOk, IfNone, OnOk}
 use Rattle.yt_machine.specs.Effects.{Steps, Delivers}
 use Rattle.yt_machine.specs.Standings.{Ready}

@@ -1,5 +1,5 @@
 -- A plan at a desk: it is the step of an update that is ready, and stays so where no later entry is in question for it.
-use Rattle.std.proofs.Common.{◌≡◌, ◌∙◌, ap, refl, sym, subst, ℕ, suc, ◌≤◌, true, false, List, [], ◌∷◌, ◌++◌, take, drop, map, length, Option, Some, None}
+use Rattle.std.proofs.Common.{◌≡◌, ◌∙◌, ap, refl, sym, subst, ℕ, suc, ◌≤◌, true, false, List, [], ◌∷◌, ◌++◌, take, drop, map, length, Some, None}
 use Rattle.std.specs.Prelude.{option_map, slice_get}
 use Rattle.std.proofs.lemmas.List.{take-append-drop, take-map}
 use Rattle.yt_machine.specs.Effects.{Entry}
@@ -25,13 +25,13 @@ use Rattle.yt_history.specs.Cores.{Ground, machine, session_over, entries_over, 
 use Rattle.yt_history.specs.PlainEntries.{PlainEntry, entry_kept}
 use Rattle.yt_history.proofs.Keeping.{left_by}
 use Rattle.yt_stale.specs.Spares.{AllSpare}
-use Rattle.yt_stale.specs.Stale.{IsReadyAt, IsStepStill}
+use Rattle.yt_stale.specs.Stale.{IsStepStill}
 use Rattle.yt_touched.specs.Laws.{queries_of, WasPlanned}
 use Rattle.yt_touched.specs.Questions.{first_in_question}
 use Rattle.yt_touched.proofs.Doing.{attempts_do}
 use Rattle.yt_touched.proofs.Questioning.{unquestioned_stay}
 use Rattle.yt_desk.specs.Cores.{IsReady, HoldsSince}
-use Rattle.yt_core.specs.Planned.{PlanMeant, IsStepOver, IsSomeThat, IsStepAmong, IsStepAt}
+use Rattle.yt_core.specs.Planned.{PlanMeant, IsStepOver, IsSomeThat, IsStepAmong}
 use Rattle.yt_core.specs.States.{State, standing_at}
 use Rattle.yt_seated.specs.Steps.{IsStepOf, first_questioned}
 

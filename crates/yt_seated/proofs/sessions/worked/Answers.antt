@@ -8,7 +8,7 @@ use Rattle.yt_seated.proofs.Sent.{seated_send}
 use Rattle.yt_seated.proofs.sessions.worked.Goals as goal
 
 pub run-requires-send-C : goal.run-requires-send-C
-run-requires-send-C g c κs = search (sendable, seated_send)
+run-requires-send-C g c κs within = search (sendable, seated_send)
 
 pub invariant_of-result : goal.invariant_of-result
 invariant_of-result g c =

@@ -1,5 +1,5 @@
 use Rattle.std.proofs.Common.{◌∙◌, ap}
-use Rattle.yt_core.specs.States.{State, lowest_deliverable_at}
+use Rattle.yt_core.specs.States.{lowest_deliverable_at}
 use Rattle.yt_seated.proofs.seated.SeatedCore.lowest_waiting.Goals as goal
 
 pub returns : goal.returns
