@@ -1,0 +1,4 @@
+mod Staying
+mod Serving
+mod Running
+mod Sent

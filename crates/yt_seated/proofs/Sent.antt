@@ -1,0 +1,51 @@
+-- A core may go to other threads.
+use denote.Param.Send.{IsSend, sendable, view_send}
+use denote.Param.SendFields.{declared_send}
+use denote.Ref.{NamedLft}
+use Rattle.std.proofs.Crossing.{crosses}
+use Rattle.yt_versions.proofs.Sent.{versions_send}
+use Rattle.yt_base.specs.contracts.tuples.Tuple as tuples
+use Rattle.yt_base.specs.contracts.updates.Operation as operations
+use Rattle.yt_query.specs.contracts.log.LoggedRead as reads
+use Rattle.yt_chase.specs.contracts.repairs.Repair as repairs
+use Rattle.yt_program.specs.contracts.points.Point as points
+use Rattle.yt_program.specs.contracts.programs.Program as programs
+use Rattle.yt_program.specs.contracts.programs.Program.TheInside as inside
+use Rattle.yt_queue.specs.contracts.records.Record as records
+use Rattle.yt_entries.specs.contracts.entries.Entry as entries
+use Rattle.yt_core.specs.contracts.cores.Core as core
+use Rattle.yt_seated.specs.contracts.seated.Seated as seated
+
+operation_send : IsSend operations.the_row
+operation_send = search (sendable, crosses) depth 60 fits 6000
+
+tuple_send : IsSend tuples.the_row
+tuple_send = search (sendable, crosses) depth 60 fits 6000
+
+repair_send : IsSend repairs.the_row
+repair_send = search (sendable, crosses, tuple_send) depth 60 fits 6000
+
+point_send : IsSend points.the_row
+point_send = search (sendable, crosses, tuple_send, repair_send) depth 60 fits 6000
+
+-- A program by its fields: their number is above what the search takes at once.
+inside_send : IsSend inside.the_row
+inside_send = search (sendable, crosses, operation_send, point_send, declared_send) depth 60 fits 6000
+
+program_send : IsSend programs.the_row
+program_send = view_send _ _ _ _ _ inside_send
+
+read_send : IsSend reads.the_row
+read_send = search (sendable, crosses) depth 60 fits 6000
+
+record_send : IsSend records.the_row
+record_send = search (sendable, crosses, read_send, program_send) depth 60 fits 6000
+
+entry_send : IsSend entries.the_row
+entry_send = search (sendable, crosses) depth 60 fits 6000
+
+core_send : (κ : NamedLft) → IsSend (core.the_row κ)
+core_send κ = search (sendable, crosses, versions_send, record_send, entry_send) depth 60 fits 6000
+
+pub seated_send : (κ : NamedLft) → IsSend (seated.the_row κ)
+seated_send κ = search (sendable, crosses, core_send) depth 60 fits 6000

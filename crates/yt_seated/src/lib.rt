@@ -1,0 +1,10 @@
+//! A session run by worker threads: the proved core behind the proved desk, and the serial machine's result.
+//!
+//! `README.md` has the contract. What a run comes to is said in `specs/Runs.antt`.
+#![tactic(auto)]
+
+mod seated;
+mod sessions;
+
+pub use crate::seated::Seated;
+pub use crate::sessions::{WorkedSession, worked};
