@@ -17,7 +17,7 @@ use Rattle.yt_kept.specs.Kept.{InForceHold}
 use Rattle.yt_report.specs.Results.{serial_told}
 use Rattle.yt_run.specs.Runs.{run_text, running}
 use Rattle.yt_run.specs.Written.{WroteRun}
-use Rattle.yt_seated.specs.Worked.{IsRunHistory}
+use Rattle.yt_seated.specs.Runs.{IsRunOf}
 use Rattle.yt_session.specs.Base.{base_violation}
 use Rattle.yt_words.specs.Alike.{AskTheSame}
 use Rattle.yt_words.specs.Meaning.{Answers}
@@ -75,7 +75,7 @@ told_of : (o : Options) (source out : Change) (input : List ℕ) (s : SessionDat
 told_of o source out input s status spelled fine ended wrote =
     let all = whole input wrote.input source.bytes_after (subst (λ b. Consumes b source.bytes_after wrote.input) fine.held wrote.given) wrote.whole in
     let one : wrote.session ≡ s = one_session input wrote.session s (subst (λ (l : List ℕ). Spells l wrote.session) all wrote.spelled) spelled in
-    let made = subst (λ (t : SessionData). IsRunHistory t o.steps (settings_in o) wrote.history) one wrote.made in
+    let made = subst (λ (t : SessionData). IsRunOf t o.steps (settings_in o) wrote.history) one wrote.made in
     let taken = subst (λ (t : SessionData). Takes out (run_text o.trace o.steps t wrote.history)) one wrote.taken in
     let hold = subst (λ (t : SessionData). InForceHold t (serial_told o.steps t)) one wrote.hold in
     record { history = wrote.history; made = made; taken = taken; status = ended; hold = hold }

@@ -17,7 +17,7 @@ use Rattle.yt_kept.specs.Kept.{InForceHold}
 use Rattle.yt_report.specs.Results.{result_text, serial_told}
 use Rattle.yt_run.specs.Runs.{trace_part}
 use Rattle.yt_run.specs.Written.{WroteRun}
-use Rattle.yt_seated.specs.Worked.{IsRunHistory}
+use Rattle.yt_seated.specs.Runs.{IsRunOf}
 use Rattle.yt_session.specs.Base.{base_violation}
 use Rattle.yt_words.specs.Meaning.{Answers}
 use Rattle.yt_words.specs.declared.help.TheConstants.{HELP, VERSION_LINE}
@@ -103,7 +103,7 @@ pub record WritesSerially (options : Options) (s : SessionData) (status : Status
   -- the history that the workers made: it is legal over the session and the words' settings, begins with the admissions of all
   -- updates, has steps and deliveries after them, and leaves a quiet state
   pub history : List PlainEntry
-  pub made : IsRunHistory s options.steps (settings_in options) history
+  pub made : IsRunOf s options.steps (settings_in options) history
   -- `out` has taken the result text of the serial machine on the session and, with `--trace`, then the text of that history
   pub taken : Takes out (result_text s (serial_told options.steps s) ++ trace_part options.trace s.relations history)
   -- it ended, or stopped where the serial machine stops

@@ -13,15 +13,11 @@ use std::sync::Wait;
 use std::thread::Threads;
 use yt_base::Memory;
 use yt_command::{Failure, Status, fail, perform};
-use yt_commands::{
-    OnSession, performed_runs_write_what_holds, recovered_inputs_have_one_status,
-};
+use yt_commands::{OnSession, performed_runs_write_what_holds, recovered_inputs_have_one_status};
 use yt_gate::Gate;
 use yt_limits::Budget;
 use yt_queue::Settings;
-use yt_run::{
-    Crew, performed_runs_write_their_trace, runs_have_the_serial_status,
-};
+use yt_run::{Crew, performed_runs_write_their_trace, runs_have_the_serial_status};
 use yt_text::{Sink, Source};
 use yt_words::{
     CommandName, Deps, Options, Request, WordsRefusal, read_words, words_are_answered_or_refused,
@@ -39,12 +35,11 @@ fn is_run(command: CommandName) -> bool
 }
 
 // The options of `run`, where the words ask for it.
-fn run_asked_for<'a>(
-    alloc: Global,
-    words: &'a [String],
-) -> Result<Option<Options<'a>>, Memory>
-    ensures some { IfOk result (λ found. IfSome found (AsksForRun (map string_bytes words.entry.now))) }
-    ensures none { IfOk result (λ found. IfNone found (AskForNoRun (map string_bytes words.entry.now))) }
+fn run_asked_for<'a>(alloc: Global, words: &'a [String]) -> Result<Option<Options<'a>>, Memory>
+    ensures some { IfOk result
+        (λ found. IfSome found (AsksForRun (map string_bytes words.entry.now))) }
+    ensures none { IfOk result
+        (λ found. IfNone found (AskForNoRun (map string_bytes words.entry.now))) }
 {
     words_are_answered_or_refused();
     words_ask_for_one_thing();

@@ -8,7 +8,7 @@ use Rattle.yt_grammar.specs.Sessions.{RelationSchema, SessionData}
 use Rattle.yt_history.specs.PlainEntries.{PlainEntry}
 use Rattle.yt_machine.specs.Updates.{Settings}
 use Rattle.yt_report.specs.Results.{result_text, serial_told}
-use Rattle.yt_seated.specs.Worked.{IsRunHistory}
+use Rattle.yt_seated.specs.Runs.{IsRunOf}
 use Rattle.yt_session.specs.Base.{Violated, base_violation}
 use Rattle.yt_trace.specs.Traces.{trace_text}
 
@@ -24,7 +24,7 @@ run_text trace steps s H = result_text s (serial_told steps s) ++ trace_part tra
 -- that is the output, for some history that workers may make of the session
 abbrev pub RunsTo : Bool → ℕ → Settings → SessionData → OutputView → Type 0
 RunsTo trace steps c s output =
-    (H : List PlainEntry) × IsRunHistory s steps c H × (output ≡ Text (ending_by (serial_told steps s).stop) (run_text trace steps s H))
+    (H : List PlainEntry) × IsRunOf s steps c H × (output ≡ Text (ending_by (serial_told steps s).stop) (run_text trace steps s H))
 
 -- an output of these, where the base violates no mapping, else the refusal that tells the violation
 abbrev pub UnlessViolated : SessionData → (OutputView → Type 0) → Option Violated → OutputView → Type 0

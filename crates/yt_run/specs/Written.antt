@@ -9,7 +9,7 @@ use Rattle.yt_kept.specs.Kept.{InForceHold}
 use Rattle.yt_machine.specs.Updates.{Settings}
 use Rattle.yt_report.specs.Results.{serial_told}
 use Rattle.yt_run.specs.Runs.{run_text}
-use Rattle.yt_seated.specs.Worked.{IsRunHistory}
+use Rattle.yt_seated.specs.Runs.{IsRunOf}
 
 -- The source gave the whole text of a session, `out` took what is printed of a run of it, and in the repository that it tells
 -- every mapping in force holds.
@@ -20,6 +20,6 @@ pub record WroteRun (trace : Bool) (steps : ℕ) (c : Settings) (source out : Ch
   pub whole : IsAtEnd source.bytes_after
   pub spelled : Spells input session
   pub history : List PlainEntry
-  pub made : IsRunHistory session steps c history
+  pub made : IsRunOf session steps c history
   pub taken : Takes out (run_text trace steps session history)
   pub hold : InForceHold session (serial_told steps session)

@@ -23,9 +23,9 @@ pub fn untraced_runs_are_serial()
 
 /// With its trace or without, `run` has one status for an input: that of `serial`.
 pub fn runs_have_the_serial_status()
-    ensures { (trace : Bool) (steps : ℕ) (c : Settings) (input : List ℕ) (output other : OutputView) →
-        on_session_by (running trace steps c) input output → on_session (ran steps) input other →
-        status_of output ≡ status_of other }
+    ensures { (trace : Bool) (steps : ℕ) (c : Settings) (input : List ℕ)
+        (output other : OutputView) → on_session_by (running trace steps c) input output →
+        on_session (ran steps) input other → status_of output ≡ status_of other }
 {}
 
 /// Where `run`, performed with a budget, ends or stops, it has written the result text of what the serial machine tells of

@@ -77,7 +77,7 @@ fn run_output(
     worked: &Worked<'_>,
     trace: bool,
 ) -> Result<Output, Memory>
-    requires of { IsWorkOf worked.now (session_of session.now) }
+    requires of { worked.now.session ≡ session_of session.now }
     ensures { IfOk result (λ output. RunsTo trace worked.now.budget worked.now.settings
         (session_of session.now) (view_of output)) }
 {
