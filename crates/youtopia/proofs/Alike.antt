@@ -24,7 +24,7 @@ settings_with retries deps = record { retries = retries; deps = deps }
 same_settings : (o p : Options) → AreAlike o p → settings_in o ≡ settings_in p
 same_settings o p same = ap₂ settings_with same.retries (ap deps_of same.deps)
 
-moved : (P : Bool → ℕ → Settings → Type 0) (t u : Bool) (m n : ℕ) (c d : Settings) → t ≡ u → m ≡ n → c ≡ d → P t m c → P u n d
+pub moved : (P : Bool → ℕ → Settings → Type 0) (t u : Bool) (m n : ℕ) (c d : Settings) → t ≡ u → m ≡ n → c ≡ d → P t m c → P u n d
 moved P t u m n c d trace steps settings it =
     subst (λ (x : Settings). P u n x) settings (subst (λ (k : ℕ). P u k c) steps (subst (λ (b : Bool). P b m c) trace it))
 

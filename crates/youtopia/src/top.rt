@@ -61,6 +61,7 @@ fn run_asked_for<'a>(alloc: Global, words: &'a [String]) -> Result<Option<Option
 // The settings that the options name.
 fn settings_in(options: &Options<'_>) -> Settings
     ensures same { settings_of result ≡ settings_in options.now }
+    ensures retries { result.retries ≡ options.now.retries }
 {
     let deps = match options.deps {
         Deps::Coarse => yt_queue::Deps::Coarse,

@@ -21,7 +21,7 @@ use yt_gate::Gate;
 use yt_limits::Budget;
 use yt_report::result_text;
 use yt_schema::Schema;
-use yt_seated::{Worked, worked};
+use yt_seated::{WorkedSession, worked};
 use yt_serial::base_of;
 use yt_session::Session;
 use yt_trace::trace_text;
@@ -70,20 +70,20 @@ fn with_trace(
     Ok(text)
 }
 
-// What is printed of a run by workers.
+// What is printed of a session that workers ran.
 fn run_output(
     alloc: Global,
     session: &Session,
-    worked: &Worked<'_>,
+    run: &WorkedSession<'_>,
     trace: bool,
 ) -> Result<Output, Memory>
-    requires of { worked.now.session ≡ session_of session.now }
-    ensures { IfOk result (λ output. RunsTo trace worked.now.budget worked.now.settings
+    requires of { run.now.session ≡ session_of session.now }
+    ensures { IfOk result (λ output. RunsTo trace run.now.budget run.now.settings
         (session_of session.now) (view_of output)) }
 {
-    let told = worked.result(alloc)?;
+    let told = run.result(alloc)?;
     let text = result_text(alloc, session, &told)?;
-    let whole = with_trace(alloc, text, &session.schema, worked.history(), trace)?;
+    let whole = with_trace(alloc, text, &session.schema, run.history(), trace)?;
     Ok(Output::Text(ending_by(&told), whole))
 }
 
@@ -96,7 +96,7 @@ impl<'r, R: Threads + Wait + Sync, G: Gate + Sync> Run<'r, R, G> {
             (settings_of self.now.crew.settings) (session_of session.now) (view_of output)) }
     {
         let crew = self.crew;
-        let worked = worked(
+        let run = worked(
             self.rt,
             self.gate,
             alloc,
@@ -105,7 +105,7 @@ impl<'r, R: Threads + Wait + Sync, G: Gate + Sync> Run<'r, R, G> {
             self.budget,
             crew.seats(),
         )?;
-        let output = run_output(alloc, session, &worked, self.trace)?;
+        let output = run_output(alloc, session, &run, self.trace)?;
         Ok(output)
     }
 }
