@@ -4,10 +4,10 @@ _youtopia() {
   COMPREPLY=()
   case ${COMP_WORDS[COMP_CWORD - 1]} in
     --deps) COMPREPLY=($(compgen -W "coarse precise" -- "$word")); return ;;
-    --steps|--query|--workers|--retries|--tuple|--count|--seed) return ;;
+    --workers|--steps|--retries|--query|--tuple|--count|--seed) return ;;
   esac
   case $word in
-    -*) COMPREPLY=($(compgen -W "--steps --query --help --version --workers --deps --retries --tuple --count --seed --trace" -- "$word")) ;;
+    -*) COMPREPLY=($(compgen -W "--workers --deps --steps --retries --trace --query --help --version --tuple --count --seed" -- "$word")) ;;
     *) COMPREPLY=($(compgen -W "run serial format check save upgrade ask journal recover" -- "$word")) ;;
   esac
 }

@@ -58,9 +58,12 @@ def of_session(rng, maker, text):
 
 
 def of_trace(rng, maker, text):
-    """A run whose trace is wanted. On one worker there is one history; on several it is any legal one."""
-    words = ["run", "--trace", "--workers", str(rng.choice([1, 1, 2, 8])), "--steps", str(maker.steps)]
-    return words + option(rng, "deps", rng.choice(["coarse", "precise"])), text
+    """A run whose trace is wanted, mostly of updates that meet. On one worker there is one history; on several it is any legal one."""
+    words = ["run", "--trace", *option(rng, "workers", rng.choice([1, 2, 4, 8])), *option(rng, "retries", rng.randrange(5)),
+             *option(rng, "deps", rng.choice(["coarse", "precise"]))]
+    if rng.random() < 0.6:
+        return words, session_text(busy_session(rng))
+    return words + option(rng, "steps", maker.steps), text
 
 
 def of_spelling(rng, maker, text):

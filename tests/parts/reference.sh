@@ -2,3 +2,5 @@
 check 'the reference tells what the stored rows have' "$(tests/reference tests/rows/* 2>&1)"
 check 'the program tells of 200 random cases what the reference tells' \
   "$(tests/differential 1 200 "$program" > "$stored/differences" 2>&1 || cat "$stored/differences")"
+check 'runs by 1, 2, 4 and 8 workers tell what the serial machine tells, by histories that the auditor takes' \
+  "$(tests/differential 2 100 "$program" trace > "$stored/differences" 2>&1 || cat "$stored/differences")"

@@ -14,7 +14,7 @@ use Rattle.yt_command.specs.declared.statuses.Status.{Status}
 use Rattle.yt_command.specs.declared.statuses.Status.TheVariants.{Ended, Stuck, Usage, SessionRefused, BaseViolates, ReadFault, WriteFault, OutOfMemory, TooLong, TooLarge, Refuted, QueryRefused, Damaged}
 
 -- the source gave the whole input
-whole : (input given : List ℕ) (after : Option (List ℕ)) → Consumes (Some input) after given → IsAtEnd after → given ≡ input
+pub whole : (input given : List ℕ) (after : Option (List ℕ)) → Consumes (Some input) after given → IsAtEnd after → given ≡ input
 whole input given None gave end = absurd gave
 whole input given (Some rest) gave end = sym (gave ∙ ap (λ l. given ++ l) end ∙ append-nil given)
 

@@ -1,4 +1,10 @@
+mod Alike
+mod Asked
 mod Asking
+mod Completed
 mod Due
+mod Headlines
 mod Named
-mod Promised
+mod Plainly
+mod Served
+mod Statuses

@@ -1,5 +1,5 @@
 -- What one call of the program does between its words, its input and its two outputs.
-use Rattle.std.specs.Prelude.{◌≡◌, ◌⊎◌, ℕ, List, Some, true, false}
+use Rattle.std.specs.Prelude.{◌≡◌, ◌⊎◌, ℕ, Bool, true, false, List, Some}
 use Rattle.std.specs.Io.KnownBytes.{Keeps}
 use Rattle.clap.specs.Words.{Text as Letters}
 use Rattle.yt_command.specs.Devices.{Change, no_input, TakesNothing, Tells}
@@ -13,14 +13,18 @@ use Rattle.yt_command.specs.declared.statuses.Status.{Status}
 use Rattle.yt_command.specs.declared.statuses.Status.TheVariants.{Usage, OutOfMemory}
 use Rattle.yt_ask.specs.Written.{WrittenAsk, SpellsAsk}
 use Rattle.yt_commands.specs.Asked.{asked}
-use Rattle.yt_commands.specs.Commands.{on_session, formatted, upgraded_text, checked}
+use Rattle.yt_commands.specs.Commands.{on_session, on_session_by, formatted, upgraded_text, checked}
 use Rattle.yt_commands.specs.Journaled.{journaled, recovering}
 use Rattle.yt_commands.specs.Runs.{ran, kept}
+use Rattle.yt_machine.specs.Updates as machine
+use Rattle.yt_run.specs.Runs.{running}
 use Rattle.yt_words.specs.Alike.{text_of}
-use Rattle.yt_words.specs.Meaning.{Answers, is_refused}
+use Rattle.yt_words.specs.Meaning.{Answers, AreInRange, is_refused}
 use Rattle.yt_words.specs.declared.help.TheConstants.{HELP, VERSION_LINE}
 use Rattle.yt_words.specs.declared.names.CommandName.{CommandName}
 use Rattle.yt_words.specs.declared.names.CommandName.TheVariants.{Run, Serial, Format, Check, Save, Upgrade, Ask, Journal, Recover}
+use Rattle.yt_words.specs.declared.names.Deps.{Deps}
+use Rattle.yt_words.specs.declared.names.Deps.TheVariants.{Coarse, Precise}
 use Rattle.yt_words.specs.declared.reading.Options.{Options}
 use Rattle.yt_words.specs.declared.reading.Request.{Request}
 use Rattle.yt_words.specs.declared.reading.Request.TheVariants.{Command, Help, Version}
@@ -45,9 +49,18 @@ AsksFor options q = (text : List ℕ) × (text_of options.query ≡ Some text) �
 abbrev pub LacksQuery : Options → Type 0
 LacksQuery options = (q : WrittenAsk) → AsksFor options q → ⊥
 
+-- the test of dependences that a word names
+abbrev pub deps_of : Deps → machine.Deps
+deps_of Coarse = machine.Coarse
+deps_of Precise = machine.Precise
+
+-- the settings that the options name
+abbrev pub settings_in : Options → machine.Settings
+settings_in options = record { retries = options.retries; deps = deps_of options.deps }
+
 -- what each command with its options makes of an input; `ask` asks the query that its option spells
 abbrev pub makes : CommandName → Options → Meaning
-makes Run options = on_session (ran options.steps)
+makes Run options = on_session_by (running options.trace options.steps (settings_in options))
 makes Serial options = on_session (ran options.steps)
 makes Format options = on_session formatted
 makes Check options = on_session checked
@@ -70,10 +83,44 @@ Performs (Command options) status source out err = Does options.command options 
 Performs Help status source out err = Row status (telling HELP.now) no_input out err × Unread source
 Performs Version status source out err = Row status (telling VERSION_LINE.now) no_input out err × Unread source
 
--- The words are refused, and that is status 2; or they ask for something, and that is done. Memory may have been
--- wanting for the words.
-abbrev pub Calls : List Letters → Status → Change → Change → Change → Type 0
-Calls words status source out err =
+-- what a command does without threads: the same, but that `run` is refused as wrong words are
+abbrev pub DoesPlainly : CommandName → Options → Status → Change → Change → Change → Type 0
+DoesPlainly Run options status source out err = (status ≡ Usage) × DoesNothing failures.Usage source out err
+DoesPlainly command options status source out err = Does command options status source out err
+
+-- what was asked for is done without threads
+abbrev pub PerformsPlainly : Request → Status → Change → Change → Change → Type 0
+PerformsPlainly (Command options) status source out err = DoesPlainly options.command options status source out err
+PerformsPlainly Help status source out err = Performs Help status source out err
+PerformsPlainly Version status source out err = Performs Version status source out err
+
+-- The words are refused, and that is status 2; or they ask for something, and that is done as is said here. Memory may have
+-- been wanting for the words.
+abbrev pub CallsBy : (Request → Status → Change → Change → Change → Type 0) → List Letters → Status → Change → Change → Change → Type 0
+CallsBy performs words status source out err =
     ((is_refused words ≡ true) × (status ≡ Usage) × DoesNothing failures.Usage source out err)
     ⊎ (((status ≡ OutOfMemory) × DoesNothing failures.OutOfMemory source out err)
-    ⊎ ((request : Request) × (is_refused words ≡ false) × Answers words request × Performs request status source out err))
+    ⊎ ((request : Request) × (is_refused words ≡ false) × Answers words request × performs request status source out err))
+
+-- a call of the program
+abbrev pub Calls : List Letters → Status → Change → Change → Change → Type 0
+Calls = CallsBy Performs
+
+-- a call of its part that has no threads
+abbrev pub CallsPlainly : List Letters → Status → Change → Change → Change → Type 0
+CallsPlainly = CallsBy PerformsPlainly
+
+-- whether the command is `run`
+abbrev pub is_run : CommandName → Bool
+is_run Run = true
+is_run command = false
+
+-- the words ask for `run` with these options
+pub record AsksForRun (words : List Letters) (options : Options) : Type 0 where
+  pub says : Answers words (Command options)
+  pub run : options.command ≡ Run
+  pub ranges : AreInRange options
+
+-- the words ask for no `run`
+abbrev pub AskForNoRun : List Letters → Type 0
+AskForNoRun words = (options : Options) → Answers words (Command options) → options.command ≡ Run → ⊥

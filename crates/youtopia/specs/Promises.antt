@@ -1,16 +1,23 @@
 -- What one call of the program promises beside its rows: its status where nothing fails, and what its runs leave.
-use Rattle.std.specs.Prelude.{◌≡◌, ◌⊎◌, ◌≤◌, ℕ, List, Some, None, length}
+use Rattle.std.specs.Prelude.{◌≡◌, ◌⊎◌, ◌≤◌, ◌++◌, ℕ, List, Some, None, length}
 use Rattle.clap.specs.Words.{Text as Letters}
 use Rattle.yt_ask.specs.Written.{WrittenAsk}
-use Rattle.yt_command.specs.Devices.{Change, Fails, no_input}
+use Rattle.yt_command.specs.Devices.{Change, Fails, Takes, no_input}
 use Rattle.yt_command.specs.Outputs.{Meaning, OutputView}
-use Rattle.yt_command.specs.Statuses.{status_of}
+use Rattle.yt_command.specs.Statuses.{status_of, status_of_ending}
 use Rattle.yt_command.specs.declared.performing.TheConstants.{INPUT_LIMIT}
 use Rattle.yt_command.specs.declared.statuses.Status.{Status}
 use Rattle.yt_command.specs.declared.statuses.Status.TheVariants.{Ended, Stuck, OutOfMemory, TooLarge, QueryRefused}
+use Rattle.yt_commands.specs.Runs.{ending_by}
 use Rattle.yt_commands.specs.Written.{HasWritten, WroteWhatHolds}
 use Rattle.yt_grammar.specs.Lines.{Spells}
 use Rattle.yt_grammar.specs.Sessions.{SessionData}
+use Rattle.yt_history.specs.PlainEntries.{PlainEntry}
+use Rattle.yt_kept.specs.Kept.{InForceHold}
+use Rattle.yt_report.specs.Results.{result_text, serial_told}
+use Rattle.yt_run.specs.Runs.{trace_part}
+use Rattle.yt_run.specs.Written.{WroteRun}
+use Rattle.yt_seated.specs.Runs.{IsRunOf}
 use Rattle.yt_session.specs.Base.{base_violation}
 use Rattle.yt_words.specs.Meaning.{Answers}
 use Rattle.yt_words.specs.declared.help.TheConstants.{HELP, VERSION_LINE}
@@ -19,7 +26,7 @@ use Rattle.yt_words.specs.declared.names.CommandName.TheVariants.{Run, Serial, S
 use Rattle.yt_words.specs.declared.reading.Options.{Options}
 use Rattle.yt_words.specs.declared.reading.Request.{Request}
 use Rattle.yt_words.specs.declared.reading.Request.TheVariants.{Command, Help, Version}
-use Rattle.youtopia.specs.Calls.{AsksFor, makes, telling}
+use Rattle.youtopia.specs.Calls.{AsksFor, makes, settings_in, telling}
 
 -- what a request makes of an input
 abbrev pub due : Request → Meaning
@@ -79,8 +86,35 @@ IsRun Run = Unit {0}
 IsRun Serial = Unit {0}
 IsRun command = ⊥
 
+-- what they have written: the result text of what the serial machine tells, in whose repository every mapping in force holds,
+-- and of `run`, where it is asked for, the trace behind it
+abbrev pub Wrote : CommandName → Options → Change → Change → Type 0
+Wrote Run options source out = WroteRun options.trace options.steps (settings_in options) source out
+Wrote command options source out = WroteWhatHolds options.steps source out
+
 -- Where the words ask for `run` or `serial` and that ended or stopped, every mapping in force holds in the repository that it wrote.
 abbrev pub LeavesWhatHolds : List Letters → Status → Change → Change → Type 0
 LeavesWhatHolds words status source out =
     (options : Options) → Answers words (Command options) → IsRun options.command → HasWritten status
-    → WroteWhatHolds options.steps source out
+    → Wrote options.command options source out
+
+-- What `run` has written of a session whose base meets its mappings.
+pub record WritesSerially (options : Options) (s : SessionData) (status : Status) (out : Change) : Type 0 where
+  -- the history that the workers made: it is legal over the session and the words' settings, begins with the admissions of all
+  -- updates, has steps and deliveries after them, and leaves a quiet state
+  pub history : List PlainEntry
+  pub made : IsRunOf s options.steps (settings_in options) history
+  -- `out` has taken the result text of the serial machine on the session and, with `--trace`, then the text of that history
+  pub taken : Takes out (result_text s (serial_told options.steps s) ++ trace_part options.trace s.relations history)
+  -- it ended, or stopped where the serial machine stops
+  pub status : status ≡ status_of_ending (ending_by (serial_told options.steps s).stop)
+  -- every mapping in force holds in the repository written
+  pub hold : InForceHold s (serial_told options.steps s)
+
+-- The headline. Accepted words of `run`, an input that spells a session whose base meets its mappings, and nothing fails:
+-- whatever the schedule of the workers, that is written, or memory was wanting.
+abbrev pub Headline : List Letters → Status → Change → Change → Type 0
+Headline words status source out =
+    (options : Options) (input : List ℕ) (s : SessionData) → Answers words (Command options) → options.command ≡ Run
+    → Spells input s → base_violation s ≡ None → NothingFails input source out
+    → WritesSerially options s status out ⊎ (status ≡ OutOfMemory)

@@ -1,6 +1,7 @@
 //! The program: one command between standard input, standard output and the standard error stream.
 #![tactic(auto)]
 
+mod plain;
 mod telling;
 mod top;
 
@@ -9,6 +10,7 @@ use std::env;
 use std::io::{self, ErrorKind};
 use std::process::ExitCode;
 use yt_command::{Failure, Status, fail};
+use yt_gate::OpenGate;
 use yt_text::{StdSink, StdSource};
 
 // The words after the program's name. Where one of them is not UTF-8 there are none, which is refused as no words are.
@@ -34,7 +36,15 @@ fn main(rt: HostRuntime) -> ExitCode {
     let mut out = StdSink::new(rt.stdout());
     let mut err = StdSink::new(rt.stderr());
     let status = match words(&rt) {
-        Ok(words) => youtopia(rt.alloc(), &words, &mut source, &mut out, &mut err),
+        Ok(words) => youtopia(
+            &rt,
+            rt.alloc(),
+            &words,
+            &mut source,
+            &mut out,
+            &mut err,
+            &OpenGate,
+        ),
         Err(_) => fail(Failure::OutOfMemory, &mut err),
     };
     ExitCode::from(status.number())

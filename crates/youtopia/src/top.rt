@@ -1,153 +1,152 @@
-//! The top call: the words, and then the command that they name.
-ghost use Rattle.std.specs.Prelude.{◌≤◌, IfNone, IfOk, IfSome, map, string_bytes};
-ghost use Rattle.yt_ask.specs.Bound.{written_of};
+//! The top call: `run` by workers, and every other command as `plain` does it.
+ghost use Rattle.std.specs.Prelude.{◌≡◌, IfNone, IfOk, IfSome, map, string_bytes};
 ghost use Rattle.yt_command.specs.Devices.{change};
-ghost use Rattle.yt_words.specs.Meaning.{HasBudget};
-ghost use Rattle.youtopia.specs.Calls.{AsksFor, Calls, Does, LacksQuery, Performs};
-ghost use Rattle.youtopia.specs.Promises.{Completes, LeavesWhatHolds, Serves};
+ghost use Rattle.yt_queue.specs.Settings.{settings_of};
+ghost use Rattle.yt_words.specs.Meaning.{AreInRange};
+ghost use Rattle.yt_words.specs.declared.names.CommandName.TheVariants.{Run};
+ghost use Rattle.youtopia.specs.Calls.{AskForNoRun, AsksForRun, Calls, Does, is_run, settings_in};
+ghost use Rattle.youtopia.specs.Promises.{Completes, Headline, LeavesWhatHolds, Serves};
 
-use crate::telling::Telling;
+use crate::plain::plain;
 use std::alloc::Global;
-use yt_ask::{RawAsk, parse_ask};
+use std::sync::Wait;
+use std::thread::Threads;
 use yt_base::Memory;
-use yt_command::{Failure, Status, fail, perform, perform_alone};
-use yt_commands::{
-    Ask, Check, Format, Journal, OnSession, Recover, Save, Serial, Upgrade,
-    performed_runs_write_what_holds, recovered_inputs_have_one_status,
-};
+use yt_command::{Failure, Status, fail, perform};
+use yt_commands::{OnSession, performed_runs_write_what_holds, recovered_inputs_have_one_status};
+use yt_gate::Gate;
 use yt_limits::Budget;
+use yt_queue::Settings;
+use yt_run::{Crew, performed_runs_write_their_trace, runs_have_the_serial_status};
 use yt_text::{Sink, Source};
 use yt_words::{
-    CommandName, HELP, Options, Request, VERSION_LINE, WordsRefusal, read_words,
-    words_are_answered_or_refused, words_ask_for_one_thing,
+    CommandName, Deps, Options, Request, WordsRefusal, read_words, words_are_answered_or_refused,
+    words_ask_for_one_thing,
 };
 
-// The query that the option spells, if it spells one.
-fn query_of(alloc: Global, options: &Options<'_>) -> Result<Option<RawAsk>, Memory>
-    ensures some { IfOk result
-        (λ found. IfSome found (λ raw. AsksFor options.now (written_of raw))) }
-    ensures none { IfOk result (λ found. IfNone found (LacksQuery options.now)) }
+// Whether the command is `run`.
+fn is_run(command: CommandName) -> bool
+    ensures { result ≡ is_run command }
 {
-    match options.query {
-        Some(text) => parse_ask(alloc, text.as_bytes()),
-        None => Ok(None),
+    match command {
+        CommandName::Run => true,
+        _ => false,
     }
 }
 
-// Asks the query of the words between the devices.
-fn ask_query<S: Source, O: Sink, E: Sink>(
+// The options of `run`, where the words ask for it.
+fn run_asked_for<'a>(alloc: Global, words: &'a [String]) -> Result<Option<Options<'a>>, Memory>
+    ensures some { IfOk result
+        (λ found. IfSome found (AsksForRun (map string_bytes words.entry.now))) }
+    ensures none { IfOk result
+        (λ found. IfNone found (AskForNoRun (map string_bytes words.entry.now))) }
+{
+    words_are_answered_or_refused();
+    words_ask_for_one_thing();
+    match read_words(alloc, words) {
+        Ok(Request::Command(options)) => {
+            if is_run(options.command) {
+                Ok(Some(options))
+            } else {
+                Ok(None)
+            }
+        }
+        Ok(Request::Help) => Ok(None),
+        Ok(Request::Version) => Ok(None),
+        Err(WordsRefusal::Usage) => Ok(None),
+        Err(WordsRefusal::Memory) => Err(Memory),
+    }
+}
+
+// The settings that the options name.
+fn settings_in(options: &Options<'_>) -> Settings
+    ensures same { settings_of result ≡ settings_in options.now }
+    ensures retries { result.retries ≡ options.now.retries }
+{
+    let deps = match options.deps {
+        Deps::Coarse => yt_queue::Deps::Coarse,
+        Deps::Precise => yt_queue::Deps::Precise,
+    };
+    Settings {
+        retries: options.retries,
+        deps,
+    }
+}
+
+// Does `run` with these options between the devices.
+fn run<R: Threads + Wait + Sync, G: Gate + Sync, S: Source, O: Sink, E: Sink>(
+    rt: &R,
+    gate: &G,
     alloc: Global,
     options: &Options<'_>,
     source: &mut S,
     out: &mut O,
     err: &mut E,
 ) -> Status
-    requires some { 1 ≤ options.now.steps }
-    requires most { options.now.steps ≤ 300 }
-    ensures asks { Does CommandName.Ask options.now result
+    requires ranges { AreInRange options.now }
+    ensures does { Does Run options.now result
         (change S.left S.fault_count source.old source.new)
         (change O.taken O.fault_count out.old out.new)
         (change E.taken E.fault_count err.old err.new) }
 {
-    match query_of(alloc, options) {
-        Ok(Some(query)) => {
-            let command = Ask {
-                budget: Budget::new(options.steps),
-                query: &query,
-            };
-            perform(alloc, &OnSession(command), source, out, err)
-        }
-        Ok(None) => fail(Failure::Usage, err),
+    let command = yt_run::Run {
+        rt,
+        gate,
+        crew: Crew::new(options.workers, settings_in(options)),
+        budget: Budget::new(options.steps),
+        trace: options.trace,
+    };
+    perform(alloc, &OnSession(command), source, out, err)
+}
+
+// Does what the words ask for, or refuses them.
+fn answer<R: Threads + Wait + Sync, G: Gate + Sync, S: Source, O: Sink, E: Sink>(
+    rt: &R,
+    gate: &G,
+    alloc: Global,
+    words: &[String],
+    source: &mut S,
+    out: &mut O,
+    err: &mut E,
+) -> Status
+    ensures calls { Calls (map string_bytes words.now) result
+        (change S.left S.fault_count source.old source.new)
+        (change O.taken O.fault_count out.old out.new)
+        (change E.taken E.fault_count err.old err.new) }
+{
+    words_are_answered_or_refused();
+    match run_asked_for(alloc, words) {
+        Ok(Some(options)) => run(rt, gate, alloc, &options, source, out, err),
+        Ok(None) => plain(alloc, words, source, out, err),
         Err(_) => fail(Failure::OutOfMemory, err),
     }
 }
 
-// Does the command between the devices.
-fn command<S: Source, O: Sink, E: Sink>(
-    alloc: Global,
-    options: &Options<'_>,
-    source: &mut S,
-    out: &mut O,
-    err: &mut E,
-) -> Status
-    requires some { 1 ≤ options.now.steps }
-    requires most { options.now.steps ≤ 300 }
-    ensures does { Does options.now.command options.now result
-        (change S.left S.fault_count source.old source.new)
-        (change O.taken O.fault_count out.old out.new)
-        (change E.taken E.fault_count err.old err.new) }
-{
-    let budget = Budget::new(options.steps);
-    match options.command {
-        CommandName::Run => perform(alloc, &OnSession(Serial { budget }), source, out, err),
-        CommandName::Serial => perform(alloc, &OnSession(Serial { budget }), source, out, err),
-        CommandName::Format => perform(alloc, &OnSession(Format), source, out, err),
-        CommandName::Check => perform(alloc, &OnSession(Check), source, out, err),
-        CommandName::Save => perform(alloc, &OnSession(Save { budget }), source, out, err),
-        CommandName::Upgrade => perform(alloc, &OnSession(Upgrade), source, out, err),
-        CommandName::Ask => ask_query(alloc, options, source, out, err),
-        CommandName::Journal => perform(alloc, &OnSession(Journal { budget }), source, out, err),
-        CommandName::Recover => perform(alloc, &Recover, source, out, err),
-    }
-}
-
-// Does what the words ask for.
-fn attend<S: Source, O: Sink, E: Sink>(
-    alloc: Global,
-    request: Request<'_>,
-    source: &mut S,
-    out: &mut O,
-    err: &mut E,
-) -> Status
-    requires budget { HasBudget request }
-    ensures done { Performs request.entry result
-        (change S.left S.fault_count source.old source.new)
-        (change O.taken O.fault_count out.old out.new)
-        (change E.taken E.fault_count err.old err.new) }
-{
-    match request {
-        Request::Command(options) => command(alloc, &options, source, out, err),
-        Request::Help => perform_alone(alloc, &Telling { text: HELP }, out, err),
-        Request::Version => perform_alone(alloc, &Telling { text: VERSION_LINE }, out, err),
-    }
-}
-
-// Does what the words ask for, or refuses them.
-fn answer<S: Source, O: Sink, E: Sink>(
-    alloc: Global,
-    words: &[String],
-    source: &mut S,
-    out: &mut O,
-    err: &mut E,
-) -> Status
-    ensures calls { Calls (map string_bytes words.now) result
-        (change S.left S.fault_count source.old source.new)
-        (change O.taken O.fault_count out.old out.new)
-        (change E.taken E.fault_count err.old err.new) }
-{
-    match read_words(alloc, words) {
-        Ok(request) => attend(alloc, request, source, out, err),
-        Err(WordsRefusal::Usage) => fail(Failure::Usage, err),
-        Err(WordsRefusal::Memory) => fail(Failure::OutOfMemory, err),
-    }
-}
-
 /// Does what the words after the program's name ask for, from the source to the two sinks, and answers the status with
-/// which the program ends. Each status has its row, which says what was read, what `out` took and what `err` was told.
+/// which the program ends: `run` by as many threads as there are workers, each of which passes the gate around the work at a
+/// ticket, and every other command as `plain` does it. Each status has its row, which says what was read, what `out` took and
+/// what `err` was told. The call may wait.
 ///
-/// Where nothing fails the status is that of the output which is due, or memory was wanting: of a session whose base meets its
-/// mappings a run ends, or stops at a question. In the repository that it writes every mapping in force holds.
-pub fn youtopia<S: Source, O: Sink, E: Sink>(
+/// Whatever the schedule of the workers, `run` writes the serial machine's result on the session that it read, and the trace,
+/// where it is asked for, is the text of a legal history that ends quiet. Where nothing fails the status is that of the output
+/// which is due, or memory was wanting: of a session whose base meets its mappings a run ends, or stops at a question. In the
+/// repository that it writes every mapping in force holds.
+pub fn youtopia<R: Threads + Wait + Sync, G: Gate + Sync, S: Source, O: Sink, E: Sink>(
+    rt: &R,
     alloc: Global,
     words: &[String],
     source: &mut S,
     out: &mut O,
     err: &mut E,
+    gate: &G,
 ) -> Status
     ensures calls { Calls (map string_bytes words.now) result
         (change S.left S.fault_count source.old source.new)
         (change O.taken O.fault_count out.old out.new)
         (change E.taken E.fault_count err.old err.new) }
+    ensures headline { Headline (map string_bytes words.now) result
+        (change S.left S.fault_count source.old source.new)
+        (change O.taken O.fault_count out.old out.new) }
     ensures complete { Completes (map string_bytes words.now) result
         (change S.left S.fault_count source.old source.new)
         (change O.taken O.fault_count out.old out.new) }
@@ -160,7 +159,9 @@ pub fn youtopia<S: Source, O: Sink, E: Sink>(
 {
     words_are_answered_or_refused();
     words_ask_for_one_thing();
+    runs_have_the_serial_status();
+    performed_runs_write_their_trace();
     performed_runs_write_what_holds();
     recovered_inputs_have_one_status();
-    answer(alloc, words, source, out, err)
+    answer(rt, gate, alloc, words, source, out, err)
 }

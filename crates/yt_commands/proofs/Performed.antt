@@ -13,7 +13,7 @@ use Rattle.yt_grammar.specs.Validity.{IsSession}
 use Rattle.yt_kept.specs.Kept.{InForceHold, IsRunnable}
 use Rattle.yt_report.specs.Results.{result_text, serial_told}
 use Rattle.yt_session.specs.Base.{Violated, base_violation}
-use Rattle.yt_commands.specs.Commands.{of_read, on_session, unless_violated}
+use Rattle.yt_commands.specs.Commands.{MadeOf, on_session, unless_violated}
 use Rattle.yt_commands.specs.Runs.{ending_by, ran, result_output}
 use Rattle.yt_commands.specs.Written.{HasWritten, WroteWhatHolds}
 
@@ -24,7 +24,7 @@ one_text : (e f : Ending) (t u : List ℕ) → Text e t ≡ Text f u → t ≡ u
 one_text e f t u is = cc
 
 -- where a text is made of what was read, a session was read
-read_one : (n : ℕ) (e : Ending) (t : List ℕ) (given : Result SessionData Wrong) → Text e t ≡ of_read (ran n) given
+read_one : (n : ℕ) (e : Ending) (t : List ℕ) (given : Result SessionData Wrong) → MadeOf (λ s output. output ≡ ran n s) given (Text e t)
     → (s : SessionData) × (given ≡ Ok s) × (Text e t ≡ ran n s)
 read_one n e t (Ok s) is = (s, refl, is)
 read_one n e t (Err wrong) is = absurd (no_text e t _ _ is)

@@ -16,18 +16,18 @@ use Rattle.yt_commands.specs.Base.{base_line}
 abbrev pub fault_line : Wrong → List ℕ
 fault_line wrong = codes "youtopia: " ++ (wrong_text wrong ++ 10 ∷ [])
 
--- what is made of the session that was read, or the refusal by its first fault
-abbrev pub of_read : (SessionData → OutputView) → Result SessionData Wrong → OutputView
-of_read make (Ok s) = make s
-of_read make (Err wrong) = Refused SessionRefused (fault_line wrong)
+-- an output of the session that was read, or the refusal by its first fault
+abbrev pub MadeOf : (SessionData → OutputView → Type 0) → Result SessionData Wrong → OutputView → Type 0
+MadeOf makes (Ok s) output = makes s output
+MadeOf makes (Err wrong) output = output ≡ Refused SessionRefused (fault_line wrong)
 
--- what is made of the session that an input spells
-abbrev pub of_session : (SessionData → OutputView) → List ℕ → OutputView
-of_session make input = of_read make (read input)
+-- a command that may make several outputs of a session, as one on the bytes that spell it
+abbrev pub on_session_by : (SessionData → OutputView → Type 0) → Meaning
+on_session_by makes input output = MadeOf makes (read input) output
 
--- a command on sessions, as one on the bytes that spell them
+-- a command that makes one output of a session
 abbrev pub on_session : (SessionData → OutputView) → Meaning
-on_session make input output = output ≡ of_session make input
+on_session make = on_session_by (λ s output. output ≡ make s)
 
 -- an output, where the base violates no mapping
 abbrev pub unless_violated : SessionData → OutputView → Option Violated → OutputView

@@ -29,7 +29,7 @@ abbrev pub saved_output : SessionData → ResultTold → OutputView
 saved_output s told =
     if is_too_large (saved s told) then Refused TooLarge too_large_line else Text (ending_by told.stop) (printed (saved s told))
 
--- `run` and `serial` with so many steps for each update: what the serial machine's run is told as, where the base meets the mappings
+-- `serial` with so many steps for each update: what the serial machine's run is told as, where the base meets the mappings
 abbrev pub ran : ℕ → SessionData → OutputView
 ran steps s = unless_violated s (result_output s (serial_told steps s)) (base_violation s)
 

@@ -143,7 +143,7 @@ fn over_base(
 }
 
 impl<'a> SessionCommand for Ask<'a> {
-    ghost makes = { λ c s. asked c.budget (written_of c.query.now) s };
+    ghost makes = { λ c s output. output ≡ asked c.budget (written_of c.query.now) s };
 
     fn make(&self, alloc: Global, session: Session) -> Result<Output, Memory> {
         let base = base_of(alloc, &session)?;

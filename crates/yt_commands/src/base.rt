@@ -19,8 +19,10 @@ use yt_violation::{Scope, first_violation};
 
 /// A mapping that the base violates, and the image of its first violation there.
 #[derive(Drop)]
-pub(crate) struct Violated<'a> {
+pub struct Violated<'a> {
+    /// The mapping.
     pub mapping: &'a Mapping,
+    /// The tuples of the image, in the order of the mapping's left side.
     pub image: TupleList,
 }
 
@@ -62,8 +64,9 @@ fn first_violated<'a, F: Facts>(
     Ok(None)
 }
 
-/// The first violation of the session's base, which is given as a set of tuples.
-pub(crate) fn base_violation<'a>(
+/// The first violation of the session's base, which is given as a set of tuples: that of the first mapping in force from the
+/// start that has one. It is refused only for want of memory.
+pub fn base_violation<'a>(
     alloc: Global,
     session: &'a Session,
     base: &IndexedFacts,
@@ -125,8 +128,8 @@ fn base_line(alloc: Global, schema: &Schema, violated: &Violated<'_>) -> Result<
     Ok(line)
 }
 
-/// The refusal that tells a violation of the base.
-pub(crate) fn base_refusal(
+/// The refusal that tells a violation of the base. It is refused only for want of memory.
+pub fn base_refusal(
     alloc: Global,
     schema: &Schema,
     violated: &Violated<'_>,

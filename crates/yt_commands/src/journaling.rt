@@ -203,7 +203,7 @@ fn journal_output(alloc: Global, session: Session, left: Trailed) -> Result<Outp
 }
 
 impl SessionCommand for Journal {
-    ghost makes = { λ c s. journaled c.budget s };
+    ghost makes = { λ c s output. output ≡ journaled c.budget s };
 
     fn make(&self, alloc: Global, session: Session) -> Result<Output, Memory> {
         trails_are_logged();

@@ -16,9 +16,9 @@ use yt_grammar::spelled_sessions_are_valid;
 use yt_journal::damaged_bytes_are_no_journal;
 use yt_kept::runs_meet_their_mappings;
 
-/// Of a valid session whose base meets its mappings, `run` and `serial` write a repository in which every mapping in force
-/// holds: those in force from the start, and those that an update which is done has put in force. They end with status 0, or
-/// stop at a question with status 1.
+/// Of a valid session whose base meets its mappings, `serial` writes a repository in which every mapping in force
+/// holds: those in force from the start, and those that an update which is done has put in force. It ends with status 0, or
+/// stops at a question with status 1.
 pub fn runs_write_what_holds()
     ensures written { (steps : ℕ) (s : SessionData) → IsRunnable steps s → WritesWhatHolds steps s }
     ensures status { (steps : ℕ) (s : SessionData) → IsRunnable steps s → EndsOrStops steps s }
@@ -26,7 +26,7 @@ pub fn runs_write_what_holds()
     runs_meet_their_mappings();
 }
 
-/// Where `run` or `serial`, performed with a budget, ends or stops, the repository that it has written is one in which every
+/// Where `serial`, performed with a budget, ends or stops, the repository that it has written is one in which every
 /// mapping in force holds.
 pub fn performed_runs_write_what_holds()
     ensures { (steps : ℕ) (status : Status) (source out err : Change) → 1 ≤ steps → steps ≤ 300 →

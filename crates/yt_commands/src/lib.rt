@@ -1,6 +1,6 @@
 //! The commands on a session: what each makes of its input.
 //!
-//! `specs/Commands.antt` says it in the terms of the language of sessions: `of_session makes input` is what a command
+//! `specs/Commands.antt` says it in the terms of the language of sessions: `on_session_by makes` is what a command
 //! makes of the session that the input spells, or the refusal of an input that spells none. `specs/Runs.antt` says it of
 //! those that run the updates, in the terms of the serial machine; `specs/Asked.antt` of the one that asks a
 //! query, `specs/Journaled.antt` of those on journals.
@@ -17,11 +17,12 @@ mod runs;
 mod sessions;
 
 pub use crate::asking::Ask;
+pub use crate::base::{Violated, base_refusal, base_violation};
 pub use crate::journaling::Journal;
 pub use crate::laws::{
     performed_runs_write_what_holds, recovered_inputs_have_one_status, runs_write_what_holds,
 };
 pub use crate::reading::{OnSession, SessionCommand};
 pub use crate::recovering::Recover;
-pub use crate::runs::{Save, Serial};
+pub use crate::runs::{Save, Serial, ending_by};
 pub use crate::sessions::{Check, Format, Upgrade};

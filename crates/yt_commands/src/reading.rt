@@ -7,7 +7,7 @@ ghost use Rattle.yt_grammar.specs.Validity.{IsSession};
 ghost use Rattle.yt_command.specs.Outputs.{OutputView};
 ghost use Rattle.yt_reader.specs.Answers.{wrong_of};
 ghost use Rattle.yt_session.specs.Meanings.{session_of};
-ghost use Rattle.yt_commands.specs.Commands.{fault_line, on_session};
+ghost use Rattle.yt_commands.specs.Commands.{fault_line, on_session_by};
 
 use std::alloc::Global;
 use yt_base::Memory;
@@ -17,14 +17,14 @@ use yt_session::Session;
 
 /// What a command makes of a session.
 pub trait SessionCommand {
-    /// The output for a session.
-    ghost makes: { Self → SessionData → OutputView };
+    /// What it may make of a session: one output where it is a function, and any of several where threads decide.
+    ghost makes: { Self → SessionData → OutputView → Type 0 };
 
-    /// The output for a valid session. Memory for the whole of it is taken here.
+    /// An output for a valid session. Memory for the whole of it is taken here.
     fn make(&self, alloc: Global, session: Session) -> Result<Output, Memory>
         requires valid { IsSession (session_of session) }
-        ensures output { IfOk result (λ output. view_of output ≡
-            makes self.now (session_of session)) };
+        ensures output { IfOk result (λ output. makes self.now (session_of session)
+            (view_of output)) };
 }
 
 /// A command on the session that the input spells. An input that spells none is refused with its first fault.
@@ -44,7 +44,7 @@ fn fault_line(alloc: Global, fault: &SessionFault) -> Result<Vec<u8>, Memory>
 }
 
 impl<C: SessionCommand> Command for OnSession<C> {
-    ghost gives = { λ c. on_session (C.makes c.0) };
+    ghost gives = { λ c. on_session_by (C.makes c.0) };
 
     fn run(&self, alloc: Global, input: &[u8]) -> Result<Output, Memory> {
         match read_session(alloc, input) {

@@ -1,4 +1,4 @@
-//! The commands that run a session's updates: `run` and `serial`, which print the result, and `save`, which prints what
+//! The commands that run a session's updates on one thread: `serial`, which prints the result, and `save`, which prints what
 //! is left as a session.
 ghost use Rattle.std.specs.Prelude.{◌≡◌, IfOk};
 ghost use Rattle.yt_command.specs.Outputs.{view_of};
@@ -18,7 +18,7 @@ use yt_report::{SaveRefusal, result_text, saved};
 use yt_serial::{base_of, serial_over};
 use yt_session::Session;
 
-/// `run` and `serial`: the updates taken whole, one after the other; how each ended, where they stopped, if they did, and
+/// `serial`: the updates taken whole, one after the other; how each ended, where they stopped, if they did, and
 /// the repository that they left.
 #[derive(Clone, Copy, Debug)]
 pub struct Serial {
@@ -33,8 +33,8 @@ pub struct Save {
     pub budget: Budget,
 }
 
-/// How a command ends whose run told this.
-pub(crate) fn ending_by(told: &SessionResult) -> Ending
+/// How a command ends whose run told this: it stopped at a question, or did not.
+pub fn ending_by(told: &SessionResult) -> Ending
     ensures { result ≡ ending_by (result_of told.now).stop }
 {
     match told.stop {
@@ -77,7 +77,7 @@ fn saved_output(alloc: Global, session: Session, told: &SessionResult) -> Result
 }
 
 impl SessionCommand for Serial {
-    ghost makes = { λ c s. ran c.budget s };
+    ghost makes = { λ c s output. output ≡ ran c.budget s };
 
     fn make(&self, alloc: Global, session: Session) -> Result<Output, Memory> {
         let base = base_of(alloc, &session)?;
@@ -90,7 +90,7 @@ impl SessionCommand for Serial {
 }
 
 impl SessionCommand for Save {
-    ghost makes = { λ c s. kept c.budget s };
+    ghost makes = { λ c s output. output ≡ kept c.budget s };
 
     fn make(&self, alloc: Global, session: Session) -> Result<Output, Memory> {
         let base = base_of(alloc, &session)?;

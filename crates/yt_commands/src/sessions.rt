@@ -28,7 +28,7 @@ pub struct Upgrade;
 pub struct Check;
 
 impl SessionCommand for Format {
-    ghost makes = { λ _ s. formatted s };
+    ghost makes = { λ _ s output. output ≡ formatted s };
 
     fn make(&self, alloc: Global, session: Session) -> Result<Output, Memory> {
         Ok(Output::Text(Ending::Ended, print_session(alloc, &session)?))
@@ -36,7 +36,7 @@ impl SessionCommand for Format {
 }
 
 impl SessionCommand for Upgrade {
-    ghost makes = { λ _ s. upgraded_text s };
+    ghost makes = { λ _ s output. output ≡ upgraded_text s };
 
     fn make(&self, alloc: Global, session: Session) -> Result<Output, Memory> {
         Ok(Output::Text(Ending::Ended, print_upgraded(alloc, &session)?))
@@ -44,7 +44,7 @@ impl SessionCommand for Upgrade {
 }
 
 impl SessionCommand for Check {
-    ghost makes = { λ _ s. checked s };
+    ghost makes = { λ _ s output. output ≡ checked s };
 
     fn make(&self, alloc: Global, session: Session) -> Result<Output, Memory> {
         let base = base_of(alloc, &session)?;

@@ -11,7 +11,7 @@ use Rattle.clap.specs.declared.error.kind.ErrorKind.{ErrorKind}
 use Rattle.clap.specs.declared.error.kind.ErrorKind.TheVariants as kind
 use Rattle.clap.proofs.WalkLemmas.{both}
 use Rattle.yt_words.specs.Arguments.{faults_of, flag_at, number_at, rows_at}
-use Rattle.yt_words.specs.Meaning.{Answers, Says, asks_for_trace, can_be_done, is_refused, names_command, names_deps, refuses}
+use Rattle.yt_words.specs.Meaning.{Answers, Says, can_be_done, is_refused, names_command, names_deps, refuses}
 use Rattle.yt_words.specs.Names.{command_text, commands, deps_text, is_command, is_deps}
 use Rattle.yt_words.specs.declared.names.CommandName.{CommandName}
 use Rattle.yt_words.specs.declared.names.Deps.{Deps}
@@ -21,7 +21,7 @@ use Rattle.yt_words.specs.declared.reading.Request.{Request}
 use Rattle.yt_words.specs.declared.reading.Request.TheVariants.{Command, Help, Version}
 use Rattle.yt_words.proofs.Numbers.{number_in}
 use Rattle.yt_words.proofs.OneFault.{one_fault}
-use Rattle.yt_words.proofs.Refusals.{refused_as, traced_as}
+use Rattle.yt_words.proofs.Refusals.{refused_as}
 
 -- ---- the texts that are given
 
@@ -57,8 +57,8 @@ shown_is (Some t) = refl
 -- ---- the request
 
 said : (ws : List Text) → faults_of ws ≡ [] → (c : CommandName) → first_of (codes "command") (rows_at ws) ≡ Some (command_text c)
-    → (d : Deps) → first_of (codes "deps") (rows_at ws) ≡ Some (deps_text d) → asks_for_trace (rows_at ws) ≡ false → (request : Request) × Answers ws request
-said ws takes c command d deps untraced = (Command options, says)
+    → (d : Deps) → first_of (codes "deps") (rows_at ws) ≡ Some (deps_text d) → (request : Request) × Answers ws request
+said ws takes c command d deps = (Command options, says)
   where
     options : Options
     options = record {
@@ -87,24 +87,18 @@ said ws takes c command d deps untraced = (Command options, says)
       tuple = shown_is (first_of (codes "tuple") (rows_at ws));
       query = shown_is (first_of (codes "query") (rows_at ws));
       trace = refl;
-      untraced = sym (traced_as ws c (flag_at (codes "trace") (rows_at ws)) command refl) ∙ untraced;
     }
 
 taken_words : (ws : List Text) → faults_of ws ≡ [] → not (can_be_done (rows_at ws)) ≡ false → (request : Request) × Answers ws request
 taken_words ws takes known =
-    let two = both (names_command (rows_at ws)) (names_deps (rows_at ws) && not (asks_for_trace (rows_at ws))) (never_not _ known) in
-    let three = both (names_deps (rows_at ws)) (not (asks_for_trace (rows_at ws))) two.1 in
+    let two = both (names_command (rows_at ws)) (names_deps (rows_at ws)) (never_not _ known) in
     let command = command_given (first_of (codes "command") (rows_at ws)) two.0 in
-    let deps = deps_given (first_of (codes "deps") (rows_at ws)) three.0 in
-    said ws takes command.0 command.1 deps.0 deps.1 (not_never _ three.1)
+    let deps = deps_given (first_of (codes "deps") (rows_at ws)) two.1 in
+    said ws takes command.0 command.1 deps.0 deps.1
   where
     never_not : (b : Bool) → not b ≡ false → b ≡ true
     never_not true e = refl
     never_not false e = absurd (true≢false e)
-
-    not_never : (b : Bool) → not b ≡ true → b ≡ false
-    not_never true e = sym e
-    not_never false e = refl
 
 called : (ws : List Text) (k : ErrorKind) → faults_of ws ≡ k ∷ [] → refuses k ≡ false → (request : Request) × Answers ws request
 called ws kind.DisplayHelp is e = (Help, is)

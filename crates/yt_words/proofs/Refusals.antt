@@ -19,9 +19,9 @@ use Rattle.yt_words.specs.declared.reading.Request.{Request}
 use Rattle.yt_words.specs.declared.reading.Request.TheVariants.{Command, Help, Version}
 use Rattle.yt_words.specs.declared.reading.WordsRefusal.{WordsRefusal}
 use Rattle.yt_words.specs.declared.reading.WordsRefusal.TheVariants.{Usage, Memory}
-use Rattle.yt_words.specs.Arguments.{faults_of, flag_at, rows_at, youtopia_app}
-use Rattle.yt_words.specs.Meaning.{Answers, HasBudget, Says, answer_to, asks_for_trace, can_be_done, is_refused, names_command, names_deps, refuses}
-use Rattle.yt_words.specs.Names.{command_text, deps_text, is_command, is_deps, is_traced_run}
+use Rattle.yt_words.specs.Arguments.{faults_of, rows_at, youtopia_app}
+use Rattle.yt_words.specs.Meaning.{Answers, HasRanges, Says, answer_to, can_be_done, is_refused, names_command, names_deps, refuses}
+use Rattle.yt_words.specs.Names.{command_text, deps_text, is_command, is_deps}
 use Rattle.yt_words.proofs.OneFault.{one_fault}
 
 ok_is : (p q : Request) → (let s : Result Request WordsRefusal = Ok p in s) ≡ Ok q → p ≡ q
@@ -76,37 +76,16 @@ by_clap ws k one refuses_it = refused_as ws (k ∷ []) (sole k (faults_of ws) (o
 
 unnamed_command : (ws : List Text) → faults_of ws ≡ [] → names_command (rows_at ws) ≡ false → is_refused ws ≡ true
 unnamed_command ws takes unknown =
-    refused_as ws [] takes ∙ ap (λ b. not (b && (names_deps (rows_at ws) && not (asks_for_trace (rows_at ws))))) unknown
+    refused_as ws [] takes ∙ ap (λ b. not (b && names_deps (rows_at ws))) unknown
 
 unnamed_deps : (ws : List Text) → faults_of ws ≡ [] → names_deps (rows_at ws) ≡ false → is_refused ws ≡ true
 unnamed_deps ws takes unknown =
     refused_as ws [] takes
-    ∙ (ap (λ b. not (names_command (rows_at ws) && (b && not (asks_for_trace (rows_at ws))))) unknown ∙ never (names_command (rows_at ws)))
+    ∙ (ap (λ b. not (names_command (rows_at ws) && b)) unknown ∙ never (names_command (rows_at ws)))
   where
     never : (b : Bool) → not (b && false) ≡ true
     never true = refl
     never false = refl
-
--- words that ask for a trace are those of a run with the flag
-pub traced_as : (ws : List Text) (c : CommandName) (trace : Bool) → first_of (codes "command") (rows_at ws) ≡ Some (command_text c)
-    → trace ≡ flag_at (codes "trace") (rows_at ws) → asks_for_trace (rows_at ws) ≡ is_traced_run c trace
-traced_as ws c trace named given =
-    ap (λ o. option_map_or (λ t. bytes_eq t (command_text command.Run)) o false && flag_at (codes "trace") (rows_at ws)) named
-    ∙ (ap (λ b. bytes_eq (command_text c) (command_text command.Run) && b) (sym given) ∙ by c)
-  where
-    by : (d : CommandName) → (bytes_eq (command_text d) (command_text command.Run) && trace) ≡ is_traced_run d trace
-    by command.Run = refl
-    by _ = refl
-
-untraceable : (ws : List Text) → faults_of ws ≡ [] → asks_for_trace (rows_at ws) ≡ true → is_refused ws ≡ true
-untraceable ws takes asked =
-    refused_as ws [] takes
-    ∙ (ap (λ b. not (names_command (rows_at ws) && (names_deps (rows_at ws) && not b))) asked ∙ never (names_command (rows_at ws)) (names_deps (rows_at ws)))
-  where
-    never : (a b : Bool) → not (a && (b && false)) ≡ true
-    never true true = refl
-    never true false = refl
-    never false b = refl
 
 -- ---- what is answered
 
@@ -129,8 +108,7 @@ pub said_not_refused : (ws : List Text) (options : Options) → Says ws options 
 said_not_refused ws options says =
     refused_as ws [] says.taken
     ∙ ap₂ (λ a b. not (a && b)) (ap (λ o. option_map_or is_command o false) says.command ∙ command_is_known options.command)
-    (ap₂ (λ b trace. b && not trace) (ap (λ o. option_map_or is_deps o false) says.deps ∙ deps_are_known options.deps)
-    (traced_as ws options.command options.trace says.command says.trace ∙ says.untraced))
+    (ap (λ o. option_map_or is_deps o false) says.deps ∙ deps_are_known options.deps)
 
 pub not_refused : (ws : List Text) (request : Request) → Answers ws request → is_refused ws ≡ false
 not_refused ws (Command options) says = said_not_refused ws options says
@@ -193,11 +171,7 @@ other_deps ws o t takes given some other =
     let there : first_of (codes "deps") (rows_at ws) ≡ Some t.now = sym given ∙ ap (option_map (λ s. s.now)) some in
     unnamed_deps ws takes (ap (λ x. option_map_or is_deps x false) there ∙ other)
 
-pub traced_run : (ws : List Text) (c : CommandName) (trace : Bool) → faults_of ws ≡ [] → first_of (codes "command") (rows_at ws) ≡ Some (command_text c)
-    → trace ≡ flag_at (codes "trace") (rows_at ws) → is_traced_run c trace ≡ true → is_refused ws ≡ true
-traced_run ws c trace takes named given traced = untraceable ws takes (traced_as ws c trace named given ∙ traced)
+-- ---- the ranges
 
--- ---- the budget
-
-pub said_has_budget : (ws : List Text) (options : Options) → Says ws options → HasBudget (Command options)
-said_has_budget ws options says = (says.steps.1, says.steps.2)
+pub said_has_ranges : (ws : List Text) (options : Options) → Says ws options → HasRanges (Command options)
+said_has_ranges ws options says = record { steps = (says.steps.1, says.steps.2); workers = (says.workers.1, says.workers.2); retries = says.retries.2 }

@@ -7,14 +7,13 @@ use Rattle.clap.specs.Walk.{is_empty}
 use Rattle.clap.specs.Words.{Row, Text, first_of}
 use Rattle.clap.specs.declared.error.kind.ErrorKind.{ErrorKind}
 use Rattle.clap.specs.declared.error.kind.ErrorKind.TheVariants.{DisplayHelp, DisplayVersion, OutOfMemory}
-use Rattle.yt_words.specs.declared.names.CommandName.TheVariants.{Run}
 use Rattle.yt_words.specs.declared.reading.Options.{Options}
 use Rattle.yt_words.specs.declared.reading.Request.{Request}
 use Rattle.yt_words.specs.declared.reading.Request.TheVariants.{Command, Help, Version}
 use Rattle.yt_words.specs.declared.reading.WordsRefusal.{WordsRefusal}
 use Rattle.yt_words.specs.declared.reading.WordsRefusal.TheVariants.{Usage, Memory}
 use Rattle.yt_words.specs.Arguments.{NumberOf, faults_of, flag_at, rows_at}
-use Rattle.yt_words.specs.Names.{command_text, deps_text, is_command, is_deps, is_traced_run}
+use Rattle.yt_words.specs.Names.{command_text, deps_text, is_command, is_deps}
 
 -- what an error of clap's comes to: help and the version are answers, all else but want of memory is refused
 abbrev pub answer_to : ErrorKind → Result Request WordsRefusal
@@ -37,15 +36,11 @@ names_command rows = option_map_or is_command (first_of (codes "command") rows) 
 abbrev pub names_deps : List Row → Bool
 names_deps rows = option_map_or is_deps (first_of (codes "deps") rows) false
 
--- whether the words ask for the trace of a run, which is not there yet
-abbrev pub asks_for_trace : List Row → Bool
-asks_for_trace rows = option_map_or (λ text. bytes_eq text (command_text Run)) (first_of (codes "command") rows) false && flag_at (codes "trace") rows
-
--- whether there is what the words name, and no trace is asked for
+-- whether there is what the words name
 abbrev pub can_be_done : List Row → Bool
-can_be_done rows = names_command rows && (names_deps rows && not (asks_for_trace rows))
+can_be_done rows = names_command rows && names_deps rows
 
--- whether the words are refused: by clap, or, where clap takes them, since there is no such command, no such dependencies or no trace
+-- whether the words are refused: by clap, or, where clap takes them, since there is no such command or no such dependencies
 abbrev pub is_refused : List Text → Bool
 is_refused words = list_any refuses (faults_of words)
     || (is_empty (faults_of words) && not (can_be_done (rows_at words)))
@@ -63,7 +58,6 @@ pub record Says (words : List Text) (options : Options) : Type 0 where
   pub tuple : option_map (λ text. text.now) options.tuple ≡ first_of (codes "tuple") (rows_at words)
   pub query : option_map (λ text. text.now) options.query ≡ first_of (codes "query") (rows_at words)
   pub trace : options.trace ≡ flag_at (codes "trace") (rows_at words)
-  pub untraced : is_traced_run options.command options.trace ≡ false
 
 -- what the words ask for: the text of help or the version where clap's one fault is that call, else what they say
 abbrev pub Answers : List Text → Request → Type 0
@@ -71,8 +65,14 @@ Answers words (Command options) = Says words options
 Answers words Help = faults_of words ≡ DisplayHelp ∷ []
 Answers words Version = faults_of words ≡ DisplayVersion ∷ []
 
--- an update may take from 1 to 300 steps, where a command is asked for
-abbrev pub HasBudget : Request → Type 0
-HasBudget (Command options) = (1 ≤ options.steps) × (options.steps ≤ 300)
-HasBudget Help = Unit {0}
-HasBudget Version = Unit {0}
+-- the numbers by which updates are run lie in their ranges
+pub record AreInRange (options : Options) : Type 0 where
+  pub steps : (1 ≤ options.steps) × (options.steps ≤ 300)
+  pub workers : (1 ≤ options.workers) × (options.workers ≤ 16)
+  pub retries : options.retries ≤ 4
+
+-- they do, where a command is asked for
+abbrev pub HasRanges : Request → Type 0
+HasRanges (Command options) = AreInRange options
+HasRanges Help = Unit {0}
+HasRanges Version = Unit {0}

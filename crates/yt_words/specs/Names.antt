@@ -1,5 +1,5 @@
 -- The names of commands and of kinds of dependencies.
-use Rattle.std.specs.Prelude.{Bool, false, List, [], ◌∷◌, codes}
+use Rattle.std.specs.Prelude.{Bool, List, [], ◌∷◌, codes}
 use Rattle.std.specs.List.{list_any}
 use Rattle.std.specs.Str.{bytes_eq}
 use Rattle.clap.specs.Words.{Text}
@@ -27,11 +27,6 @@ commands = Run ∷ Serial ∷ Format ∷ Check ∷ Save ∷ Upgrade ∷ Ask ∷ 
 -- whether the text is the word of a command
 abbrev pub is_command : Text → Bool
 is_command text = list_any (λ command. bytes_eq text (command_text command)) commands
-
--- whether a command with or without the flag `trace` is a run that is to print its trace
-abbrev pub is_traced_run : CommandName → Bool → Bool
-is_traced_run Run trace = trace
-is_traced_run _ trace = false
 
 -- the word of each kind of dependencies
 abbrev pub deps_text : Deps → Text

@@ -15,7 +15,7 @@ Usage: youtopia COMMAND [OPTIONS] < SESSION
 
 Commands:
   run       run the updates; print how each ended, and the repository they left
-  serial    the same, one update after the other, as run does too so far
+  serial    the same, one update after the other, in one thread
   format    print the session in its own format
   check     check the session and its base, and count its parts
   save      run the updates, and print what they left as a session
@@ -25,19 +25,19 @@ Commands:
   recover   read a journal; print its number of commits and what they left
 
 Options:
+  --workers N   how many workers run updates, 1 to 16 [4]
+  --deps KIND   which writes a read depends on, coarse or precise [precise]
   --steps N     how many steps an update may take, 1 to 300 [100]
+  --retries N   how often an update is tried again before it waits, 0 to 4 [3]
+  --trace       print the trace of the run after the result
   --query TEXT  the query to ask, as in 'q(x): R(x, y), S(y)'
   -h, --help    print this text
   -V, --version print the version
 
 Options that are read and change nothing so far:
-  --workers N   how many workers run updates, 1 to 16 [4]
-  --deps KIND   which writes a read depends on, coarse or precise [precise]
-  --retries N   how often an update is tried again, 0 to 4 [3]
   --tuple FACT  the tuple to explain
   --count N     how many updates are generated, 1 to 1000 [60]
   --seed N      the seed of the generator, 0 to 4294967295 [1]
-  --trace       print the trace after the result; run refuses it so far
 
 Statuses:
   0 done   1 stuck at a frontier   2 words refused   3 session refused

@@ -5,8 +5,7 @@ ghost use Rattle.std.specs.Option.{option_map_or};
 ghost use Rattle.std.specs.Str.{bytes_eq};
 ghost use Rattle.clap.specs.Words.{first_value, found_of, kind_of};
 ghost use Rattle.yt_words.specs.declared.reading.WordsRefusal.TheVariants.{Memory};
-ghost use Rattle.yt_words.specs.Meaning.{Answers, HasBudget, answer_to, is_refused};
-ghost use Rattle.yt_words.specs.Names.{is_traced_run};
+ghost use Rattle.yt_words.specs.Meaning.{Answers, HasRanges, answer_to, is_refused};
 
 use crate::arguments::command_line;
 use crate::names::{CommandName, Deps, command_named, deps_named};
@@ -90,26 +89,16 @@ fn is_given(matches: &ArgMatches<'_>, id: &str) -> bool
     }
 }
 
-// Whether this is a run that is to print its trace.
-fn is_traced_run(command: CommandName, trace: bool) -> bool
-    ensures { result ≡ is_traced_run command trace }
-{
-    match command {
-        CommandName::Run => trace,
-        _ => false,
-    }
-}
-
 /// What the words after the program's name ask for.
 ///
 /// They are read by one command of `clap`'s: a positional, the number options `workers`, `steps`,
 /// `retries`, `count` and `seed` with their ranges and defaults, the texts `deps`, `tuple` and
 /// `query`, and the flag `trace`. The answer is `Err(Usage)` exactly where the words are refused: by
-/// `clap`, or since there is no such command, no such dependencies, or not yet the trace of a run. Want
-/// of memory may come in place of any answer.
+/// `clap`, or since there is no such command or no such dependencies. Want of memory may come in place
+/// of any answer.
 pub fn read_words<'a>(alloc: Global, words: &'a [String]) -> Result<Request<'a>, WordsRefusal>
     ensures answer { IfOk result (Answers (map string_bytes words.entry.now)) }
-    ensures budget { IfOk result HasBudget }
+    ensures ranges { IfOk result HasRanges }
     ensures taken { OnOk result (is_refused (map string_bytes words.entry.now) ≡ false) }
     ensures usage { IfErr result (λ refusal. refusal ≡ WordsRefusal.Usage →
         is_refused (map string_bytes words.entry.now) ≡ true) }
@@ -132,9 +121,6 @@ pub fn read_words<'a>(alloc: Global, words: &'a [String]) -> Result<Request<'a>,
         return Err(WordsRefusal::Usage);
     };
     let trace = is_given(&matches, "trace");
-    if is_traced_run(command, trace) {
-        return Err(WordsRefusal::Usage);
-    }
     let tuple = matches.get_str("tuple");
     let query = matches.get_str("query");
     let workers = matches.get_one::<u32>("workers").unwrap();

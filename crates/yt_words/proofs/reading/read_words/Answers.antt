@@ -2,7 +2,7 @@ use Rattle.std.proofs.Common.{◌∙◌, ℕ, ap, refl, sym, Some, map, string_b
 use Rattle.std.specs.Prelude.{option_map}
 use Rattle.std.specs.Str.Parse.{ParsesUnsigned, ExplainsUnsignedError, HasUnsignedDigitsIfOk}
 use Rattle.yt_words.proofs.Matched.{word_is, workers_are, steps_are, retries_are, count_are, seed_are, unwrapped, there, flag_is}
-use Rattle.yt_words.proofs.Refusals.{asked, asked_not_refused, refused, taken, no_command, other_command, no_deps, other_deps, said_has_budget, said_not_refused, traced_run}
+use Rattle.yt_words.proofs.Refusals.{asked, asked_not_refused, refused, taken, no_command, other_command, no_deps, other_deps, said_has_ranges, said_not_refused}
 use Rattle.yt_words.proofs.reading.read_words.Goals as goal
 
 pub returns-in-Err-clause-answer : goal.returns-in-Err-clause-answer
@@ -73,21 +73,10 @@ returns-clause-answer c =
       tuple = word_is _ words c.in-Ok.matches is c.in-Ok.ensures.matches _ c.get_str-tuple.result c.get_str-tuple.ensures;
       query = word_is _ words c.in-Ok.matches is c.in-Ok.ensures.matches _ c.get_str-query.result c.get_str-query.ensures;
       trace = flag_is _ words c.in-Ok.matches is c.in-Ok.ensures.matches _ c.is_given-trace.result c.is_given-trace.ensures;
-      untraced = sym c.is_traced_run.ensures ∙ c.if-is_traced_run.false;
     }
 
 pub returns-clause-taken : goal.returns-clause-taken
 returns-clause-taken c = said_not_refused (map string_bytes c.args.words.now) _ (returns-clause-answer c)
 
-pub returns-then-is_traced_run-clause-usage : goal.returns-then-is_traced_run-clause-usage
-returns-then-is_traced_run-clause-usage c = λ _.
-    let words = map string_bytes c.args.words.now in
-    let is = c.in_ok-command.ensures in
-    let command = word_is _ words c.in-Ok.matches is c.in-Ok.ensures.matches _ c.get_str.result c.get_str.ensures in
-    traced_run words c.in-Some-command_named.command c.is_given-trace.result (taken _ words is c.in-Ok.ensures.kinds)
-    (sym command ∙ (ap (option_map (λ s. s.now)) c.in-Some.is ∙ ap (λ (t : List ℕ). Some t) (c.in-Some-command_named.ensures.some _ refl)))
-    (flag_is _ words c.in-Ok.matches is c.in-Ok.ensures.matches _ c.is_given-trace.result c.is_given-trace.ensures)
-    (sym c.is_traced_run.ensures ∙ c.if-is_traced_run.true)
-
-pub returns-clause-budget : goal.returns-clause-budget
-returns-clause-budget c = said_has_budget (map string_bytes c.args.words.now) _ (returns-clause-answer c)
+pub returns-clause-ranges : goal.returns-clause-ranges
+returns-clause-ranges c = said_has_ranges (map string_bytes c.args.words.now) _ (returns-clause-answer c)

@@ -1,5 +1,5 @@
 use Rattle.youtopia.proofs.Named.{journals, saves}
-use Rattle.youtopia.proofs.top.command.Goals as goal
+use Rattle.youtopia.proofs.plain.command.Goals as goal
 
 pub returns-in-Save : goal.returns-in-Save
 returns-in-Save g c = record { does = saves _ _ _ _ _ _ c.in-Save.is c.new-budget.ensures.same c.perform-in-Save.ensures.row }

@@ -2,7 +2,7 @@ use Rattle.std.proofs.Common.{◌∙◌, Some, ap, sym}
 use Rattle.clap.specs.Words.{Text as Letters}
 use Rattle.yt_words.specs.Alike.{text_of}
 use Rattle.youtopia.proofs.Asking.{lacking}
-use Rattle.youtopia.proofs.top.query_of.Goals as goal
+use Rattle.youtopia.proofs.plain.query_of.Goals as goal
 
 pub returns-in-Some-clause-none : goal.returns-in-Some-clause-none
 returns-in-Some-clause-none c =

@@ -1,0 +1,55 @@
+-- Options that are alike make the same, and write the same.
+use Rattle.std.proofs.Common.{◌≡◌, ◌∙◌, ℕ, Bool, List, ap, ap₂, sym, subst}
+use Rattle.yt_ask.specs.Written.{WrittenAsk}
+use Rattle.yt_command.specs.Devices.{Change}
+use Rattle.yt_command.specs.Outputs.{OutputView}
+use Rattle.yt_commands.specs.Asked.{asked}
+use Rattle.yt_commands.specs.Commands.{on_session, on_session_by}
+use Rattle.yt_commands.specs.Journaled.{journaled}
+use Rattle.yt_commands.specs.Runs.{kept, ran}
+use Rattle.yt_commands.specs.Written.{WroteWhatHolds}
+use Rattle.yt_machine.specs.Updates.{Deps as Test, Settings}
+use Rattle.yt_run.specs.Runs.{running}
+use Rattle.yt_run.specs.Written.{WroteRun}
+use Rattle.yt_words.specs.Alike.{AreAlike}
+use Rattle.yt_words.specs.declared.names.CommandName.{CommandName}
+use Rattle.yt_words.specs.declared.names.CommandName.TheVariants.{Run, Serial, Format, Check, Save, Upgrade, Ask, Journal, Recover}
+use Rattle.yt_words.specs.declared.reading.Options.{Options}
+use Rattle.youtopia.specs.Calls.{deps_of, makes, settings_in}
+use Rattle.youtopia.specs.Promises.{HasQuery, Wrote}
+
+abbrev settings_with : ℕ → Test → Settings
+settings_with retries deps = record { retries = retries; deps = deps }
+
+same_settings : (o p : Options) → AreAlike o p → settings_in o ≡ settings_in p
+same_settings o p same = ap₂ settings_with same.retries (ap deps_of same.deps)
+
+pub moved : (P : Bool → ℕ → Settings → Type 0) (t u : Bool) (m n : ℕ) (c d : Settings) → t ≡ u → m ≡ n → c ≡ d → P t m c → P u n d
+moved P t u m n c d trace steps settings it =
+    subst (λ (x : Settings). P u n x) settings (subst (λ (k : ℕ). P u k c) steps (subst (λ (b : Bool). P b m c) trace it))
+
+-- what holds of a run with the one options holds with the other, and the other way round
+pub run_like : (P : Bool → ℕ → Settings → Type 0) (o p : Options) → AreAlike o p → P o.trace o.steps (settings_in o) → P p.trace p.steps (settings_in p)
+run_like P o p same it = moved P _ _ _ _ _ _ same.trace same.steps (same_settings o p same) it
+
+pub run_back : (P : Bool → ℕ → Settings → Type 0) (o p : Options) → AreAlike o p → P p.trace p.steps (settings_in p) → P o.trace o.steps (settings_in o)
+run_back P o p same it = moved P _ _ _ _ _ _ (sym same.trace) (sym same.steps) (sym (same_settings o p same)) it
+
+pub same_makes : (k : CommandName) (o p : Options) (input : List ℕ) (x : OutputView) → AreAlike o p → makes k o input x → makes k p input x
+same_makes Ask o p input x same a =
+    (a.0, (a.1.0, sym same.query ∙ a.1.1, a.1.2), subst (λ (n : ℕ). on_session (asked n a.0) input x) same.steps a.2)
+same_makes Run o p input x same a = run_like (λ trace n c. on_session_by (running trace n c) input x) o p same a
+same_makes Serial o p input x same a = subst (λ (n : ℕ). on_session (ran n) input x) same.steps a
+same_makes Save o p input x same a = subst (λ (n : ℕ). on_session (kept n) input x) same.steps a
+same_makes Journal o p input x same a = subst (λ (n : ℕ). on_session (journaled n) input x) same.steps a
+same_makes Format o p input x same a = a
+same_makes _ o p input x same a = a
+
+pub same_query : (k : CommandName) (o p : Options) → AreAlike o p → HasQuery k o → HasQuery k p
+same_query Ask o p same has = (has.0, (has.1.0, sym same.query ∙ has.1.1, has.1.2))
+same_query Run o p same has = has
+same_query _ o p same has = has
+
+pub same_wrote : (k : CommandName) (o p : Options) (source out : Change) → AreAlike o p → Wrote k p source out → Wrote k o source out
+same_wrote Run o p source out same it = run_back (λ trace n c. WroteRun trace n c source out) o p same it
+same_wrote _ o p source out same it = subst (λ (n : ℕ). WroteWhatHolds n source out) (sym same.steps) it

@@ -1,0 +1,77 @@
+-- A command with its options has one status for an input.
+use Rattle.std.proofs.Common.{◌≡◌, ◌∙◌, ℕ, List, Option, Some, Result, Ok, Err, refl, ap, sym, subst}
+use Rattle.yt_ask.specs.Written.{WrittenAsk, SpellsAsk, ask_at}
+use Rattle.yt_command.specs.Outputs.{OutputView, Refused}
+use Rattle.yt_command.specs.Statuses.{status_of}
+use Rattle.yt_command.specs.declared.outputs.Refusal.TheVariants.{SessionRefused}
+use Rattle.yt_commands.specs.Asked.{asked}
+use Rattle.yt_commands.specs.Commands.{MadeOf, on_session, fault_line, formatted, upgraded_text, checked}
+use Rattle.yt_commands.specs.Journaled.{journaled}
+use Rattle.yt_commands.specs.Runs.{kept, ran}
+use Rattle.yt_grammar.specs.Faults.{Wrong}
+use Rattle.yt_grammar.specs.Lines.{Spells, read}
+use Rattle.yt_grammar.specs.Sessions.{SessionData}
+use Rattle.yt_words.specs.declared.names.CommandName.{CommandName}
+use Rattle.yt_words.specs.declared.names.CommandName.TheVariants.{Run, Serial, Format, Check, Save, Upgrade, Ask, Journal, Recover}
+use Rattle.yt_words.specs.declared.reading.Options.{Options}
+use Rattle.youtopia.proofs.Asked.{OneRecovered, OneRun}
+use Rattle.youtopia.specs.Calls.{AsksFor, makes, settings_in}
+
+one_ok : {A E : Type 0} (x y : A) → (let r : Result A E = Ok x in r) ≡ Ok y → x ≡ y
+one_ok x y is = cc
+
+one_some : {A : Type 0} (x y : A) → Some x ≡ Some y → x ≡ y
+one_some x y is = cc
+
+-- bytes spell one session
+pub one_session : (input : List ℕ) (s t : SessionData) → Spells input s → Spells input t → s ≡ t
+one_session input s t a b = one_ok s t (sym a ∙ b)
+
+one_query : (t : List ℕ) (p q : WrittenAsk) → SpellsAsk t p → SpellsAsk t q → p ≡ q
+one_query t p q a b =
+    let words : a.words ≡ b.words = one_ok a.words b.words (sym a.spoken ∙ b.spoken) in
+    one_ok p q (sym a.read ∙ (ap ask_at words ∙ b.read))
+
+one_asked : (options : Options) (p q : WrittenAsk) → AsksFor options p → AsksFor options q → p ≡ q
+one_asked options p q a b =
+    one_query b.0 p q (subst (λ (t : List ℕ). SpellsAsk t p) (one_some a.0 b.0 (sym a.1 ∙ b.1)) a.2) b.2
+
+-- ---- a function makes one output of what was read
+
+one_made : (make : SessionData → OutputView) (given : Result SessionData Wrong) (x y : OutputView) → MadeOf (λ s output. output ≡ make s) given x
+    → MadeOf (λ s output. output ≡ make s) given y → x ≡ y
+one_made make (Ok s) x y a b = a ∙ sym b
+one_made make (Err wrong) x y a b = a ∙ sym b
+
+made_of : (make : SessionData → OutputView) (given : Result SessionData Wrong) → (x : OutputView) × MadeOf (λ s output. output ≡ make s) given x
+made_of make (Ok s) = (make s, refl)
+made_of make (Err wrong) = (Refused SessionRefused (fault_line wrong), refl)
+
+one_of : (make : SessionData → OutputView) (input : List ℕ) (x y : OutputView) → on_session make input x → on_session make input y → status_of x ≡ status_of y
+one_of make input x y a b = ap status_of (one_made make (read input) x y a b)
+
+-- what it makes of the session that an input spells
+pub of_one : (make : SessionData → OutputView) (input : List ℕ) (s : SessionData) → Spells input s → on_session make input (make s)
+of_one make input s spelled = subst (λ given. MadeOf (λ s output. output ≡ make s) given (make s)) (sym spelled) refl
+
+-- ---- the commands
+
+one_run : OneRun → (options : Options) (input : List ℕ) (x y : OutputView) → makes Run options input x → makes Run options input y → status_of x ≡ status_of y
+one_run runs options input x y a b =
+    let z = made_of (ran options.steps) (read input) in
+    runs options.trace options.steps (settings_in options) input x z.0 a z.1
+    ∙ sym (runs options.trace options.steps (settings_in options) input y z.0 b z.1)
+
+pub one_status : OneRecovered → OneRun → (k : CommandName) (options : Options) (input : List ℕ) (x y : OutputView) → makes k options input x
+    → makes k options input y → status_of x ≡ status_of y
+one_status recovered runs Recover options input x y a b = recovered input x y a b
+one_status recovered runs Ask options input x y a b =
+    one_of (asked options.steps b.0) input x y
+    (subst (λ (q : WrittenAsk). on_session (asked options.steps q) input x) (one_asked options a.0 b.0 a.1 b.1) a.2) b.2
+one_status recovered runs Run options input x y a b = one_run runs options input x y a b
+one_status recovered runs Serial options input x y a b = one_of (ran options.steps) input x y a b
+one_status recovered runs Save options input x y a b = one_of (kept options.steps) input x y a b
+one_status recovered runs Journal options input x y a b = one_of (journaled options.steps) input x y a b
+one_status recovered runs Format options input x y a b = one_of formatted input x y a b
+one_status recovered runs Upgrade options input x y a b = one_of upgraded_text input x y a b
+one_status recovered runs Check options input x y a b = one_of checked input x y a b

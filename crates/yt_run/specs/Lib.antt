@@ -1,0 +1,4 @@
+pub mod Crews
+pub mod Refusals
+pub mod Runs
+pub mod Written
