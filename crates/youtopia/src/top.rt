@@ -12,8 +12,8 @@ use std::alloc::Global;
 use std::sync::Wait;
 use std::thread::Threads;
 use yt_base::Memory;
-use yt_command::{Failure, Status, fail, perform};
-use yt_commands::{OnSession, performed_runs_write_what_holds, recovered_inputs_have_one_status};
+use yt_command::{Failure, Status, fail};
+use yt_commands::{performed_runs_write_what_holds, recovered_inputs_have_one_status};
 use yt_gate::Gate;
 use yt_limits::Budget;
 use yt_queue::Settings;
@@ -90,13 +90,11 @@ fn run<R: Threads + Wait + Sync, G: Gate + Sync, S: Source, O: Sink, E: Sink>(
         (change E.taken E.fault_count err.old err.new) }
 {
     let command = yt_run::Run {
-        rt,
-        gate,
         crew: Crew::new(options.workers, settings_in(options)),
         budget: Budget::new(options.steps),
         trace: options.trace,
     };
-    perform(alloc, &OnSession(command), source, out, err)
+    command.perform(rt, gate, alloc, source, out, err)
 }
 
 // Does what the words ask for, or refuses them.

@@ -1,6 +1,5 @@
 -- What is printed of a session that workers ran is an output of `run`.
-use Rattle.std.proofs.Common.{◌≡◌, ◌∙◌, ◌++◌, ℕ, Bool, List, Option, Some, None, Result, IfOk, sym, ap, ap₂, subst}
-use Rattle.std.proofs.lemmas.Result.{IfOk-weaker}
+use Rattle.std.proofs.Common.{◌≡◌, ◌∙◌, ◌++◌, ℕ, Bool, List, Some, None, sym, ap, ap₂, subst}
 use Rattle.yt_command.specs.Outputs.{OutputView, Text, view_of}
 use Rattle.yt_command.specs.declared.outputs.Ending.{Ending}
 use Rattle.yt_command.specs.declared.outputs.Output.{Output}
@@ -21,23 +20,21 @@ pub printed : (trace : Bool) (r : Run) (s : SessionData) (told : ResultTold) (te
 printed trace r s told text whole entries e same run is_told is_text is_whole is_history is_ending =
     let all : told ≡ serial_told r.budget s = is_told ∙ ap (serial_told r.budget) same in
     let behind : text ++ trace_part trace s.relations entries ≡ run_text trace r.budget s r.history =
-        ap₂ (λ (a b : List ℕ). a ++ b) (is_text ∙ ap (result_text s) all) (ap (trace_part trace s.relations) is_history) in
-    (r.history, subst (λ (x : SessionData). IsRunOf x r.budget r.settings r.history) same run,
-    ap₂ (λ (x : Ending) (l : List ℕ). Text x l) (is_ending ∙ ap (λ (x : ResultTold). ending_by x.stop) all) (is_whole ∙ behind))
+    ap₂ (λ (a b : List ℕ). a ++ b) (is_text ∙ ap (result_text s) all) (ap (trace_part trace s.relations) is_history) in (
+      r.history,
+      subst (λ (x : SessionData). IsRunOf x r.budget r.settings r.history) same run,
+      ap₂ (λ (x : Ending) (l : List ℕ). Text x l) (is_ending ∙ ap (λ (x : ResultTold). ending_by x.stop) all) (is_whole ∙ behind),
+    )
 
 -- the budget and the settings of the run are those that were asked for
-pub asked : {E : Type 0} (trace : Bool) (m n : ℕ) (c d : Settings) (s : SessionData) (r : Result Output E) → m ≡ n → c ≡ d
-    → IfOk r (λ output. RunsTo trace m c s (view_of output)) → IfOk r (λ output. RunsTo trace n d s (view_of output))
-asked trace m n c d s r steps settings is =
-    subst (λ (x : Settings). IfOk r (λ output. RunsTo trace n x s (view_of output))) settings
-    (subst (λ (k : ℕ). IfOk r (λ output. RunsTo trace k c s (view_of output))) steps is)
+pub asked_for : (trace : Bool) (m n : ℕ) (c d : Settings) (s : SessionData) (x : OutputView) → m ≡ n → c ≡ d → RunsTo trace m c s x → RunsTo trace n d s x
+asked_for trace m n c d s x steps settings is =
+    subst (λ (y : Settings). RunsTo trace n y s x) settings (subst (λ (k : ℕ). RunsTo trace k c s x) steps is)
 
 -- ---- the base
 
 pub refused : (trace : Bool) (n : ℕ) (c : Settings) (s : SessionData) (output : Output) → IsRefusal s (Some output) → running trace n c s (view_of output)
 refused trace n c s output is = subst (λ found. UnlessViolated s (RunsTo trace n c s) found (view_of output)) (sym is.1) is.2
 
-pub met : {E : Type 0} (trace : Bool) (n : ℕ) (c : Settings) (s : SessionData) (r : Result Output E) → base_violation s ≡ None
-    → IfOk r (λ output. RunsTo trace n c s (view_of output)) → IfOk r (λ output. running trace n c s (view_of output))
-met trace n c s r none is =
-    IfOk-weaker r _ _ (λ output it. subst (λ found. UnlessViolated s (RunsTo trace n c s) found (view_of output)) (sym none) it) is
+pub met : (trace : Bool) (n : ℕ) (c : Settings) (s : SessionData) (x : OutputView) → base_violation s ≡ None → RunsTo trace n c s x → running trace n c s x
+met trace n c s x none is = subst (λ found. UnlessViolated s (RunsTo trace n c s) found x) (sym none) is

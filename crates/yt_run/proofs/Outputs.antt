@@ -1,5 +1,5 @@
 -- What `run` makes beside what `serial` makes.
-use Rattle.std.proofs.Common.{◌≡◌, ◌∙◌, ℕ, Bool, true, false, List, Option, Some, None, Result, Ok, Err, refl, sym, ap, append-nil}
+use Rattle.std.proofs.Common.{◌≡◌, ◌∙◌, ℕ, Bool, false, List, Option, Some, None, Result, Ok, Err, sym, ap, append-nil}
 use Rattle.yt_command.specs.Outputs.{OutputView, Text}
 use Rattle.yt_command.specs.Statuses.{status_of}
 use Rattle.yt_commands.specs.Commands.{MadeOf, on_session, on_session_by, unless_violated}

@@ -1,16 +1,19 @@
 -- What the command `run` makes of a session.
 use Rattle.std.specs.Prelude.{◌≡◌, ℕ, Bool, true, false, List, [], ◌++◌, Option, Some, None}
-use Rattle.yt_command.specs.Outputs.{OutputView, Text, Refused}
+use Rattle.yt_command.specs.Outputs.{Meaning, OutputView, Text, Refused}
 use Rattle.yt_command.specs.declared.outputs.Refusal.TheVariants.{BaseViolates}
 use Rattle.yt_commands.specs.Base.{base_line}
+use Rattle.yt_commands.specs.Commands.{on_session_by}
 use Rattle.yt_commands.specs.Runs.{ending_by}
 use Rattle.yt_grammar.specs.Sessions.{RelationSchema, SessionData}
 use Rattle.yt_history.specs.PlainEntries.{PlainEntry}
 use Rattle.yt_machine.specs.Updates.{Settings}
+use Rattle.yt_queue.specs.Settings.{settings_of}
 use Rattle.yt_report.specs.Results.{result_text, serial_told}
 use Rattle.yt_seated.specs.Runs.{IsRunOf}
 use Rattle.yt_session.specs.Base.{Violated, base_violation}
 use Rattle.yt_trace.specs.Traces.{trace_text}
+use Rattle.yt_run.specs.declared.runs.Run.{Run}
 
 -- the text of the entries where the trace is asked for, else nothing
 abbrev pub trace_part : Bool → List RelationSchema → List PlainEntry → List ℕ
@@ -34,3 +37,7 @@ UnlessViolated s makes (Some v) output = output ≡ Refused BaseViolates (base_l
 -- `run` with or without its trace, with so many steps for each update and these settings
 abbrev pub running : Bool → ℕ → Settings → SessionData → OutputView → Type 0
 running trace steps c s output = UnlessViolated s (RunsTo trace steps c s) (base_violation s) output
+
+-- what the command makes of an input
+abbrev pub meaning : Run → Meaning
+meaning r = on_session_by (running r.trace r.budget (settings_of r.crew.settings))

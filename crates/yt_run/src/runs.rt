@@ -1,39 +1,41 @@
 //! The command `run`.
-ghost use Rattle.std.specs.Prelude.{◌≡◌, ◌++◌, map, None, IfOk};
+ghost use Rattle.std.specs.Prelude.{◌≡◌, ◌≤◌, ◌++◌, length, map, None, IfOk};
+ghost use Rattle.yt_command.specs.Devices.{change};
 ghost use Rattle.yt_command.specs.Outputs.{view_of};
+ghost use Rattle.yt_command.specs.Rows.{Makes, Row};
+ghost use Rattle.yt_command.specs.declared.performing.TheConstants.{INPUT_LIMIT};
+ghost use Rattle.yt_commands.specs.Commands.{on_session_by};
 ghost use Rattle.yt_entries.specs.Meanings.{entry_of};
 ghost use Rattle.yt_grammar.specs.Validity.{IsSession};
 ghost use Rattle.yt_queue.specs.Settings.{settings_of};
 ghost use Rattle.yt_session.specs.Base.{base_violation};
 ghost use Rattle.yt_session.specs.Meanings.{session_of};
 ghost use Rattle.yt_run.specs.Refusals.{IsRefusal};
-ghost use Rattle.yt_run.specs.Runs.{RunsTo, running, trace_part};
+ghost use Rattle.yt_run.specs.Runs.{RunsTo, meaning, running, trace_part};
 
 use crate::crews::Crew;
 use std::alloc::Global;
 use std::sync::Wait;
 use std::thread::Threads;
 use yt_base::Memory;
-use yt_command::Output;
-use yt_commands::{SessionCommand, base_refusal, base_violation, ending_by};
+use yt_command::{Command, Failure, INPUT_LIMIT, Output, Status, deliver, fail};
+use yt_commands::{Format, OnSession, base_refusal, base_violation, ending_by};
 use yt_entries::Entry;
 use yt_gate::Gate;
 use yt_limits::Budget;
+use yt_reader::{ReadFailure, read_session};
 use yt_report::result_text;
 use yt_schema::Schema;
 use yt_seated::{WorkedSession, worked};
 use yt_serial::base_of;
 use yt_session::Session;
+use yt_text::{Sink, Source, read_all};
 use yt_trace::trace_text;
 
 /// `run`: the updates taken by workers, each in a thread of its own; how each update ended, where they stopped, if they did,
 /// and the repository that they left. Where it is asked for, the trace of the workers' history follows.
-#[derive(Drop)]
-pub struct Run<'r, R: Threads + Wait + Sync, G: Gate + Sync> {
-    /// By which threads are made, and waited for.
-    pub rt: &'r R,
-    /// What each worker passes around the work at a ticket.
-    pub gate: &'r G,
+#[derive(Clone, Copy, Debug)]
+pub struct Run {
     /// By how many workers the updates are taken, and by which settings.
     pub crew: Crew,
     /// How many steps an update may take.
@@ -44,6 +46,7 @@ pub struct Run<'r, R: Threads + Wait + Sync, G: Gate + Sync> {
 
 // The refusal of a session whose base violates a mapping.
 fn refusal(alloc: Global, session: &Session) -> Result<Option<Output>, Memory>
+    requires valid { IsSession (session_of session.now) }
     ensures { IfOk result (IsRefusal (session_of session.now)) }
 {
     let base = base_of(alloc, session)?;
@@ -87,36 +90,99 @@ fn run_output(
     Ok(Output::Text(ending_by(&told), whole))
 }
 
-impl<'r, R: Threads + Wait + Sync, G: Gate + Sync> Run<'r, R, G> {
+impl Run {
     // Lets the workers take the updates of the session, whose base meets its mappings.
-    fn work(&self, alloc: Global, session: &Session) -> Result<Output, Memory>
+    fn work<R: Threads + Wait + Sync, G: Gate + Sync>(
+        self,
+        rt: &R,
+        gate: &G,
+        alloc: Global,
+        session: &Session,
+    ) -> Result<Output, Memory>
         requires valid { IsSession (session_of session.now) }
         requires met { base_violation (session_of session.now) ≡ None }
-        ensures { IfOk result (λ output. RunsTo self.now.trace self.now.budget
-            (settings_of self.now.crew.settings) (session_of session.now) (view_of output)) }
+        ensures { IfOk result (λ output. RunsTo self.trace self.budget
+            (settings_of self.crew.settings) (session_of session.now) (view_of output)) }
     {
-        let crew = self.crew;
-        let run = worked(
-            self.rt,
-            self.gate,
-            alloc,
-            session,
-            crew.settings(),
-            self.budget,
-            crew.seats(),
-        )?;
+        let settings = self.crew.settings();
+        let seats = self.crew.seats();
+        let run = worked(rt, gate, alloc, session, settings, self.budget, seats)?;
         let output = run_output(alloc, session, &run, self.trace)?;
         Ok(output)
     }
-}
 
-impl<'r, R: Threads + Wait + Sync, G: Gate + Sync> SessionCommand for Run<'r, R, G> {
-    ghost makes = { λ c s. running c.trace c.budget (settings_of c.crew.settings) s };
-
-    fn make(&self, alloc: Global, session: Session) -> Result<Output, Memory> {
-        match refusal(alloc, &session)? {
+    // What it makes of a session.
+    fn make<R: Threads + Wait + Sync, G: Gate + Sync>(
+        self,
+        rt: &R,
+        gate: &G,
+        alloc: Global,
+        session: &Session,
+    ) -> Result<Output, Memory>
+        requires valid { IsSession (session_of session.now) }
+        ensures { IfOk result (λ output. running self.trace self.budget
+            (settings_of self.crew.settings) (session_of session.now) (view_of output)) }
+    {
+        match refusal(alloc, session)? {
             Some(refused) => Ok(refused),
-            None => Ok(self.work(alloc, &session)?),
+            None => Ok(self.work(rt, gate, alloc, session)?),
+        }
+    }
+
+    // What it makes of an input. One that spells no session is refused as every command on sessions refuses it.
+    fn make_of<R: Threads + Wait + Sync, G: Gate + Sync>(
+        self,
+        rt: &R,
+        gate: &G,
+        alloc: Global,
+        input: &[u8],
+    ) -> Result<Output, Memory>
+        requires short { length input.now ≤ INPUT_LIMIT }
+        ensures { IfOk result (λ output. meaning self input.now (view_of output)) }
+    {
+        match read_session(alloc, input) {
+            Ok(session) => Ok(self.make(rt, gate, alloc, &session)?),
+            Err(ReadFailure::Fault(_)) => Ok(OnSession(Format).run(alloc, input)?),
+            Err(ReadFailure::Memory) => Err(Memory),
+        }
+    }
+
+    // Reads all that the source has, and makes the output of it.
+    fn read_and_run<R: Threads + Wait + Sync, G: Gate + Sync, S: Source>(
+        self,
+        rt: &R,
+        gate: &G,
+        alloc: Global,
+        source: &mut S,
+    ) -> Result<Output, Failure>
+        ensures { Makes result (meaning self)
+            (change S.left S.fault_count source.old source.new) }
+    {
+        let input = read_all(alloc, source, INPUT_LIMIT)?;
+        let output = self.make_of(rt, gate, alloc, &input)?;
+        Ok(output)
+    }
+
+    /// Reads all of `source`, runs the session that it spells, and writes the text to `out` or the refusal to `err`, as
+    /// `yt_command::perform` does it for a command without threads: each status has its row. Each worker passes the gate around the
+    /// work at a ticket. The call may wait.
+    pub fn perform<R: Threads + Wait + Sync, G: Gate + Sync, S: Source, O: Sink, E: Sink>(
+        self,
+        rt: &R,
+        gate: &G,
+        alloc: Global,
+        source: &mut S,
+        out: &mut O,
+        err: &mut E,
+    ) -> Status
+        ensures row { Row result (meaning self)
+            (change S.left S.fault_count source.old source.new)
+            (change O.taken O.fault_count out.old out.new)
+            (change E.taken E.fault_count err.old err.new) }
+    {
+        match self.read_and_run(rt, gate, alloc, source) {
+            Ok(output) => deliver(output, out, err),
+            Err(failure) => fail(failure, err),
         }
     }
 }
