@@ -1,5 +1,5 @@
 -- The admission of one more update follows, and is one of the core.
-use Rattle.std.proofs.Common.{◌≡◌, ◌∙◌, ap, refl, sym, subst, ℕ, zero, suc, ◌<◌, ◌+◌, ◌-◌, ◌^◌, Some, List, [], ◌∷◌, ◌++◌, map, length, arith}
+use Rattle.std.proofs.Common.{◌≡◌, ◌∙◌, ap, refl, sym, subst, ℕ, zero, suc, ◌<◌, ◌+◌, Some, List, [], ◌∷◌, ◌++◌, map, length, arith}
 use Rattle.std.specs.Prelude.{option_map, slice_get}
 use Rattle.yt_base.specs.Listed.{Listed}
 use Rattle.yt_base.specs.Meanings.{choice_of, operation_of}
@@ -9,7 +9,7 @@ use Rattle.yt_base.specs.declared.updates.Update.{Update as UpdateOfProgram}
 use Rattle.yt_entries.specs.Meanings.{entry_of}
 use Rattle.yt_entries.specs.declared.entries.Entry.{Entry}
 use Rattle.yt_entries.specs.declared.entries.Entry.TheVariants.{Admitted as AdmittedEntry}
-use Rattle.yt_history.specs.Cores.{Ground, machine, session_over, updates_after, effect_after}
+use Rattle.yt_history.specs.Cores.{Ground, session_over, updates_after, effect_after}
 use Rattle.yt_history.specs.CoreLaws.{Leave, handed}
 use Rattle.yt_history.specs.PlainEntries.{PlainEntry, WasAdmitted, plain_entry}
 use Rattle.yt_history.proofs.Keeping.{histories_are_kept}
@@ -30,7 +30,7 @@ use Rattle.yt_core.specs.Admissions.{AdmitsTo, IsNew}
 use Rattle.yt_core.specs.Follows.{Follows, ground_with}
 use Rattle.yt_core.specs.Kept.{IsKept, HaveTrails, ground_by}
 use Rattle.yt_core.specs.LiveCalls.{HasAdmitted}
-use Rattle.yt_core.specs.States.{State, updates_at}
+use Rattle.yt_core.specs.States.{State}
 use Rattle.yt_core.proofs.Delivering.{mapped_more}
 use Rattle.yt_core.proofs.Following.{mapped_long}
 use Rattle.yt_core.proofs.Opening.{from_more, one_longer}

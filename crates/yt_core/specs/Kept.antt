@@ -1,5 +1,5 @@
 -- What is true of the parts of a core: the queue and the versions are those that its history left.
-use Rattle.std.specs.Prelude.{◌≡◌, ℕ, ◌+◌, ◌-◌, ◌≤◌, ◌<◌, ◌^◌, List, [], map, length}
+use Rattle.std.specs.Prelude.{◌≡◌, ℕ, ◌+◌, ◌-◌, ◌≤◌, ◌<◌, ◌^◌, List, map, length}
 use Rattle.yt_machine.specs.Updates.{Settings, Update, trail}
 use Rattle.yt_model.specs.Mappings.{Rule}
 use Rattle.yt_model.specs.Values.{Fact}
