@@ -138,6 +138,7 @@ kept_same g v rs rs' H same long k =
       retries = k.retries;
       within = k.within;
       few = subst (λ (n : ℕ). n < 2 ^ 32 - 1) (sym long) k.few;
+      all = long ∙ k.all;
     }
 
 -- What follows from such records follows from these.
@@ -193,7 +194,7 @@ put_follows ms B s k v D requests later rs r r' es es' told e x w kept l spot pl
     let at_us : slice_get us k ≡ Some u = slice_get-map (update_of ms B) rs k ∙ ap (option_map (update_of ms B)) (there rs k r l spot) in
     let us' : updates_of ms B (set rs k r') ≡ x.updates = mapped_set (update_of ms B) rs k r' ∙ ap (λ z. set us k z) made ∙ set_is us k w (within us k u at_us) ∙ sym puts in
     follows g (map entry_of es) (map entry_of es') rs (set rs k r') v v e x (entry_of told) kept allowed us' (put_there rs 1 k r r' kept.numbers l spot place)
-    (subst (λ (n : ℕ). n < 2 ^ 32 - 1) (sym (set_long rs k r')) kept.few)
+    (set_long rs k r')
     (subst (λ (ws : List (Update (caused_chase ms B))). HaveTrails ms B D ws v) (sym puts)
     (subst (λ (ts : ℕ → List Change). StandFor v D ts) (λ i n. same_trails (trail (caused_chase ms B)) (take k us) u w (drop (suc k) us) trails n i)
     (subst (λ (ws : List (Update (caused_chase ms B))). HaveTrails ms B D ws v) (sym (cut_at us k u at_us)) kept.versions)))

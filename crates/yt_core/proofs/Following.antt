@@ -37,9 +37,9 @@ use Rattle.yt_core.specs.declared.stepping.Prepared.{Prepared}
 
 pub follows : (g : Ground) (H H' : List PlainEntry) (rs rs' : List Record) (v v' : Kept) (e : Event (machine g)) (x : Effect (machine g)) (told : PlainEntry)
     → IsKept g v rs H → effect (machine g) g.settings (session_over g) (updates_of g.rules g.budget rs) e ≡ Some x
-    → updates_of g.rules g.budget rs' ≡ x.updates → AreFrom 1 rs' → length rs' < 2 ^ 32 - 1 → HaveTrails g.rules g.budget g.base x.updates v'
+    → updates_of g.rules g.budget rs' ≡ x.updates → AreFrom 1 rs' → length rs' ≡ length rs → HaveTrails g.rules g.budget g.base x.updates v'
     → plain_entry g.rules g.budget x.entry ≡ told → H' ≡ H ++ told ∷ [] → Follows g e H v' rs' H'
-follows g H H' rs rs' v v' e x told k made us numbers few trails entry longer =
+follows g H H' rs rs' v v' e x told k made us numbers long trails entry longer =
     let allowed : effect_after g H e ≡ Some x = ap (λ (ws : List (Update (machine g))). effect (machine g) g.settings (session_over g) ws e) k.left.leaves ∙ made in
     let more : Leave g (H ++ plain_entry g.rules g.budget x.entry ∷ []) x.updates = (histories_are_kept g k.budget).grows H e x k.left.legal allowed in
     let same : H ++ plain_entry g.rules g.budget x.entry ∷ [] ≡ H' = (λ i. H ++ entry i ∷ []) ∙ sym longer in
@@ -53,7 +53,8 @@ follows g H H' rs rs' v v' e x told k made us numbers few trails entry longer =
         budget = k.budget;
         retries = k.retries;
         within = k.within;
-        few = few;
+        few = subst (λ (n : ℕ). n < 2 ^ 32 - 1) (sym long) k.few;
+        all = long ∙ k.all;
       };
     }
 
@@ -180,7 +181,7 @@ step_follows ms s B k D requests later es es' rs rs' v v' r plan p a e kept spot
     })) in
     follows g (map entry_of es) (map entry_of es') rs rs' v v' (Steps (suc k)) x (entry_of e) kept
     (allowed_step (caused_chase ms B) s (session_over g) us k u at_us (ap is_ready ready)) us' numbers
-    (subst (λ (n : ℕ). n < 2 ^ 32 - 1) (sym long) kept.few)
+    long
     (subst (λ (y : Kept). HaveTrails ms B D x.updates y) (sym versions) left.versions.stand)
     (ap (plain_entry ms B) (sym entry) ∙ entry_back ms B (entry_of e))
     (ap (map entry_of) grew ∙ mapped_more es e)

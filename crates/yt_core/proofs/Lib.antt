@@ -9,6 +9,7 @@ pub mod Entering
 pub mod Making
 pub mod Replying
 pub mod Losing
+pub mod Arriving
 pub mod Placing
 pub mod Resting
 pub mod Resulting

@@ -1,5 +1,5 @@
 -- A withdrawal follows, and what lets it.
-use Rattle.std.proofs.Common.{◌≡◌, ◌∙◌, ap, refl, sym, subst, ℕ, suc, ◌<◌, ◌+◌, ◌^◌, ◌-◌, Bool, true, false, not, ◌&&◌, Option, Some, None, List, [], ◌∷◌, ◌++◌, map, take, drop, length, get_or, arith}
+use Rattle.std.proofs.Common.{◌≡◌, ◌∙◌, ap, refl, sym, subst, ℕ, suc, ◌<◌, ◌+◌, Bool, true, false, not, ◌&&◌, Option, Some, None, List, [], ◌∷◌, ◌++◌, map, take, drop, length, get_or, arith}
 use Rattle.std.proofs.Math.ListN.{set}
 use Rattle.std.specs.Prelude.{if◌then◌else◌, nat_lt, option_map, option_and_then, slice_get}
 use Rattle.std.proofs.lemmas.Option.{same_Some, slice_get-map}
@@ -117,7 +117,7 @@ withdraws_to ms s k es es' rs rs' v v' left e l prepared removed numbers long ve
     ∙ ap (λ (ws : List (Update (caused_chase ms B))). take k us ++ withdrawn_now (caused_chase ms B) u ∷ ws) (is.restarts (marks_for ms B left.fresh.items) (marked_so ms B left.fresh.items)) in
     let entry : entry_kept ms B (entry_of e) ≡ x.entry = ap (entry_kept ms B) (told ms B) ∙ (λ i. Withdrew (suc k) (is.told i) (committed (caused_chase ms B) (us' i))) in
     follows g (map entry_of es) (map entry_of es') rs rs' v v' (Withdraws (suc k)) x (entry_of e) kept (allowed_withdrawal (caused_chase ms B) s (session_over g) us k u at_us may) us' numbers
-    (subst (λ (n : ℕ). n < 2 ^ 32 - 1) (sym long) kept.few) (subst (λ (y : Kept). HaveTrails ms B D x.updates y) (sym versions) is.versions.stand)
+    long (subst (λ (y : Kept). HaveTrails ms B D x.updates y) (sym versions) is.versions.stand)
     (ap (plain_entry ms B) (sym entry) ∙ entry_back ms B (entry_of e)) (ap (map entry_of) grew ∙ mapped_more es e)
 
 -- With the room that was made in the history.

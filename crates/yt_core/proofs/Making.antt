@@ -3,8 +3,9 @@ use Rattle.std.proofs.Common.{◌≡◌, ◌∙◌, ap, refl, sym, subst, ℕ, z
 use Rattle.std.specs.Prelude.{option_map, unwrap_or, slice_get}
 use Rattle.std.proofs.lemmas.Option.{same_Some, none-some, slice_get-map}
 use Rattle.yt_base.specs.Listed.{Listed}
-use Rattle.yt_base.specs.Meanings.{fact_of, choice_of}
+use Rattle.yt_base.specs.Meanings.{fact_of, choice_of, operation_of}
 use Rattle.yt_base.specs.declared.tuples.Tuple.{Tuple}
+use Rattle.yt_base.specs.declared.updates.Update.{Update as UpdateOfProgram}
 use Rattle.yt_entries.specs.Meanings.{entry_of}
 use Rattle.yt_entries.specs.declared.entries.Entry.{Entry}
 use Rattle.yt_history.specs.Cores.{Ground, machine, session_over, entries_over, updates_after}
@@ -23,7 +24,7 @@ use Rattle.yt_machine.proofs.Theorem.{history_law}
 use Rattle.yt_model.specs.Mappings.{Rule}
 use Rattle.yt_model.specs.Repository.{IsRepository}
 use Rattle.yt_model.specs.Values.{Fact}
-use Rattle.yt_model.specs.Updates.{Choice}
+use Rattle.yt_model.specs.Updates.{Choice, Operation}
 use Rattle.yt_plan.specs.Planned.{at_rest, WantsStep, next_attempt, next_reads}
 use Rattle.yt_program.specs.Wishes.{wish}
 use Rattle.yt_queue.specs.Programs.{HasNext}
@@ -208,13 +209,17 @@ has_delivered g v rs H H' old new n = has_made (λ o. Delivers n) g v rs H H' ol
 
 -- ---- the opening
 
-pub opened_kept : (ms : List Rule) (B : ℕ) (c : Settings) (base : Listed Tuple) (us : Listed SessionUpdate) (v : Kept) (rs : List Record) (es : List Entry) (n : ℕ) → 1 ≤ B → c.retries ≤ 4 → AreWithin ms → IsRepository (map fact_of base.items)
+pub opened_kept : (ms : List Rule) (B : ℕ) (c : Settings) (base : Listed Tuple) (us : Listed SessionUpdate) (later : Listed UpdateOfProgram) (v : Kept) (rs : List Record) (es : List Entry) (n : ℕ) → later.items ≡ [] → 1 ≤ B → c.retries ≤ 4 → AreWithin ms → IsRepository (map fact_of base.items)
     → length us.items ≤ 1000 → AreAdmitted us.items rs → AreFrom 1 rs → length rs ≡ length us.items → n ≡ length us.items → map entry_of es ≡ admissions_from 1 n → StandFor v (map fact_of base.items) no_trails
-    → IsKept (ground_by ms B c base us) v rs (map entry_of es)
-opened_kept ms B c base us v rs es n some retries within' sorted few are numbers long count entries stands =
-    let g : Ground = ground_by ms B c base us in
+    → IsKept (ground_by ms B c base us later) v rs (map entry_of es)
+opened_kept ms B c base us later v rs es n none some retries within' sorted few are numbers long count entries stands =
+    let g : Ground = ground_by ms B c base us later in
     let xs : List (Submission (caused_chase ms B)) = handed_in ms B us.items in
-    let all : (session_over g).submissions ≡ xs = ap (submissions ms B) (append-nil (map request_of (map session_update_of us.items))) in
+    let all : (session_over g).submissions ≡ xs =
+    (λ i. submissions ms B (map request_of (map session_update_of us.items) ++ map (λ (o : Operation). record { operation = o; answers = [] }) (map (λ (u : UpdateOfProgram). operation_of u.operation) (none i))))
+    ∙ ap (submissions ms B) (append-nil (map request_of (map session_update_of us.items))) in
+    let handed : length (map request_of (map session_update_of us.items)) ≡ length us.items = mapped_long request_of (map session_update_of us.items) ∙ mapped_long session_update_of us.items in
+    let further : length (map (λ (u : UpdateOfProgram). operation_of u.operation) later.items) ≡ 0 = ap (λ (ws : List UpdateOfProgram). length (map (λ (u : UpdateOfProgram). operation_of u.operation) ws)) none in
     let many : length xs ≡ length us.items =
     mapped_long (λ (r : Request). record { operation = r.operation; answers = r.answers }) (map request_of (map session_update_of us.items)) ∙ mapped_long request_of (map session_update_of us.items) ∙ mapped_long session_update_of us.items in
     let left : Leave g (admissions_from 1 (length xs)) (admitted_from (caused_chase ms B) 1 xs) = all_admitted g some xs all in
@@ -229,6 +234,7 @@ opened_kept ms B c base us v rs es n some retries within' sorted few are numbers
       retries = retries;
       within = within';
       few = omega (arith, long, few);
+      all = omega (arith, long, handed, further);
     }
 
 -- ---- snapshots
@@ -256,19 +262,19 @@ module _ (g : Ground) (v : Kept) (rs : List Record) (H : List PlainEntry) (s : S
 pub few_updates : (us xs : List SessionUpdate) → xs ≡ us → length (map session_update_of us) ≤ 1000 → length xs ≤ 1000
 few_updates us xs e h = let l : length xs ≡ length us = ap (λ ys. length ys) e in omega (arith, h, l, mapped_long session_update_of us)
 
-pub opened_by : (ms : List Rule) (B : ℕ) (c : Settings) (base : Listed Tuple) (us : Listed SessionUpdate) (ts : List Tuple) (xs : List SessionUpdate) (v : Kept) (rs : List Record) (es : List Entry) → 1 ≤ B → c.retries ≤ 4 → AreWithin ms → IsRepository (map fact_of base.items)
+pub opened_by : (ms : List Rule) (B : ℕ) (c : Settings) (base : Listed Tuple) (us : Listed SessionUpdate) (later : Listed UpdateOfProgram) (ts : List Tuple) (xs : List SessionUpdate) (v : Kept) (rs : List Record) (es : List Entry) → later.items ≡ [] → 1 ≤ B → c.retries ≤ 4 → AreWithin ms → IsRepository (map fact_of base.items)
     → length xs ≤ 1000 → ts ≡ base.items → xs ≡ us.items → AreAdmitted xs rs → AreFrom 1 rs → length rs ≡ length xs → map entry_of es ≡ admissions_from 1 (length xs) → StandFor v (map fact_of ts) no_trails
-    → IsKept (ground_by ms B c base us) v rs (map entry_of es)
-opened_by ms B c base us ts xs v rs es some retries within' sorted few tuples updates are numbers long entries stands =
-    opened_kept ms B c base us v rs es (length xs) some retries within' sorted (subst (λ (ys : List SessionUpdate). length ys ≤ 1000) updates few) (subst (λ (ys : List SessionUpdate). AreAdmitted ys rs) updates are) numbers
+    → IsKept (ground_by ms B c base us later) v rs (map entry_of es)
+opened_by ms B c base us later ts xs v rs es none some retries within' sorted few tuples updates are numbers long entries stands =
+    opened_kept ms B c base us later v rs es (length xs) none some retries within' sorted (subst (λ (ys : List SessionUpdate). length ys ≤ 1000) updates few) (subst (λ (ys : List SessionUpdate). AreAdmitted ys rs) updates are) numbers
     (long ∙ ap (λ ys. length ys) updates) (ap (λ ys. length ys) updates) entries (subst (λ (ys : List Tuple). StandFor v (map fact_of ys) no_trails) tuples stands)
 
-pub opened_is : (s : SessionData) (ms : List Rule) (B : ℕ) (c : Settings) (base : Listed Tuple) (us : Listed SessionUpdate) (xs : List SessionUpdate) (es : List Entry) → ms ≡ rules_of s.mappings → xs ≡ us.items
+pub opened_is : (s : SessionData) (ms : List Rule) (B : ℕ) (c : Settings) (base : Listed Tuple) (us : Listed SessionUpdate) (later : Listed UpdateOfProgram) (xs : List SessionUpdate) (es : List Entry) → later.items ≡ [] → ms ≡ rules_of s.mappings → xs ≡ us.items
     → map entry_of es ≡ admissions_from 1 (length xs) → s.base ≡ map fact_of base.items → requests_in s ≡ map request_of (map session_update_of us.items)
-    → record { over = ground_by ms B c base us; history = map entry_of es } ≡ opened s B c (length us.items)
-opened_is s ms B c base us xs es rules updates entries tuples requests =
+    → record { over = ground_by ms B c base us later; history = map entry_of es } ≡ opened s B c (length us.items)
+opened_is s ms B c base us later xs es none rules updates entries tuples requests =
     λ i. record {
-      over = record { rules = rules i; budget = B; settings = c; base = sym tuples i; requests = sym requests i; later = [] };
+      over = record { rules = rules i; budget = B; settings = c; base = sym tuples i; requests = sym requests i; later = map (λ (u : UpdateOfProgram). operation_of u.operation) (none i) };
       history = (entries ∙ ap (λ ys. admissions_from 1 (length ys)) updates) i;
     }
 

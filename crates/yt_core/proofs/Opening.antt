@@ -41,7 +41,7 @@ next_is : {A : Type 0} (xs : List A) (x : A) (ys : List A) → slice_get (xs ++ 
 next_is [] x ys = refl
 next_is (z ∷ xs) x ys = next_is xs x ys
 
-one_longer : {A : Type 0} (xs : List A) (x : A) → length (xs ++ x ∷ []) ≡ suc (length xs)
+pub one_longer : {A : Type 0} (xs : List A) (x : A) → length (xs ++ x ∷ []) ≡ suc (length xs)
 one_longer [] x = refl
 one_longer (y ∷ xs) x = ap suc (one_longer xs x)
 

@@ -1,12 +1,13 @@
 -- What is true of the parts of a core: the queue and the versions are those that its history left.
-use Rattle.std.specs.Prelude.{ℕ, ◌-◌, ◌≤◌, ◌<◌, ◌^◌, List, [], map, length}
+use Rattle.std.specs.Prelude.{◌≡◌, ℕ, ◌+◌, ◌-◌, ◌≤◌, ◌<◌, ◌^◌, List, map, length}
 use Rattle.yt_machine.specs.Updates.{Settings, Update, trail}
 use Rattle.yt_model.specs.Mappings.{Rule}
 use Rattle.yt_model.specs.Values.{Fact}
 use Rattle.yt_model.specs.Repository.{IsRepository}
-use Rattle.yt_base.specs.Meanings.{fact_of}
+use Rattle.yt_base.specs.Meanings.{fact_of, operation_of}
 use Rattle.yt_base.specs.Listed.{Listed}
 use Rattle.yt_base.specs.declared.tuples.Tuple.{Tuple}
+use Rattle.yt_base.specs.declared.updates.Update.{Update as UpdateOfProgram}
 use Rattle.yt_session.specs.Meanings.{request_of, update_of as session_update_of}
 use Rattle.yt_session.specs.declared.sessions.SessionUpdate.{SessionUpdate}
 use Rattle.yt_steps.specs.Chase.{caused_chase}
@@ -20,9 +21,9 @@ use Rattle.yt_history.specs.Cores.{Ground}
 use Rattle.yt_history.specs.CoreLaws.{Leave}
 
 -- What the history of a core with these parts is over.
-abbrev pub ground_by : List Rule → ℕ → Settings → Listed Tuple → Listed SessionUpdate → Ground
-ground_by ms B c base requests =
-    record { rules = ms; budget = B; settings = c; base = map fact_of base.items; requests = map request_of (map session_update_of requests.items); later = [] }
+abbrev pub ground_by : List Rule → ℕ → Settings → Listed Tuple → Listed SessionUpdate → Listed UpdateOfProgram → Ground
+ground_by ms B c base requests later =
+    record { rules = ms; budget = B; settings = c; base = map fact_of base.items; requests = map request_of (map session_update_of requests.items); later = map (λ (u : UpdateOfProgram). operation_of u.operation) later.items }
 
 -- The versions have the base and the trails of these updates.
 abbrev pub HaveTrails : (ms : List Rule) (B : ℕ) → List Fact → List (Update (caused_chase ms B)) → Kept → Type 0
@@ -41,3 +42,5 @@ pub record IsKept (g : Ground) (v : Kept) (rs : List Record) (H : List PlainEntr
   pub retries : g.settings.retries ≤ 4
   pub within : AreWithin g.rules
   pub few : length rs < 2 ^ 32 - 1
+  -- each update that was handed in is admitted
+  pub all : length rs ≡ length g.requests + length g.later

@@ -14,3 +14,4 @@ pub mod Results
 pub mod LiveCalls
 pub mod Answered
 pub mod Withdrawals
+pub mod Admissions

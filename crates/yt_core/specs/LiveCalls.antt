@@ -1,12 +1,16 @@
 -- What is answered to the calls that people make while updates go on.
-use Rattle.std.specs.Prelude.{◌≡◌, ◌&&◌, ◌≤◌, ◌<◌, ℕ, Bool, true, false, not, nat_lt, Option, Some, None, is_some, Result, Ok, Err}
+use Rattle.std.specs.Prelude.{◌≡◌, ◌&&◌, ◌≤◌, ◌<◌, ℕ, suc, Bool, true, false, not, nat_lt, Option, Some, None, is_some, Result, Ok, Err}
 use Rattle.yt_entries.specs.Meanings.{standing_of}
-use Rattle.yt_history.specs.Cores.{machine}
-use Rattle.yt_machine.specs.Effects.{fits_question}
+use Rattle.yt_history.specs.Cores.{grown, machine}
+use Rattle.yt_history.specs.CoreLaws.{handed}
+use Rattle.yt_machine.specs.Effects.{Admits, fits_question}
 use Rattle.yt_machine.specs.Standings.{Standing, Ready, Held, Paused, Ended, Withdrawn, is_paused}
-use Rattle.yt_model.specs.Updates.{Choice}
+use Rattle.yt_model.specs.Updates.{Choice, Operation}
 use Rattle.yt_base.specs.declared.updates.Choice.{Choice as ChoiceOfProgram}
+use Rattle.yt_base.specs.declared.updates.Update.{Update}
 use Rattle.yt_core.specs.States.{State, question_at}
+use Rattle.yt_core.specs.declared.refusals.AdmitRefusal.{AdmitRefusal}
+use Rattle.yt_core.specs.declared.refusals.AdmitRefusal.TheVariants as admit
 use Rattle.yt_core.specs.declared.refusals.AnswerRefusal.{AnswerRefusal}
 use Rattle.yt_core.specs.declared.refusals.AnswerRefusal.TheVariants as answer
 use Rattle.yt_core.specs.declared.refusals.WithdrawRefusal.{WithdrawRefusal}
@@ -57,3 +61,20 @@ AnswersWithdrawal s c n (Err withdraw.NoSuchUpdate) = s ≡ None
 AnswersWithdrawal s c n (Err (withdraw.Committed k)) = (is_some s ≡ true) × (n ≤ c) × (k ≡ c)
 AnswersWithdrawal s c n (Err withdraw.Withdrawn) = (s ≡ Some Withdrawn) × (c < n)
 AnswersWithdrawal s c n (Err withdraw.Memory) = is_live_in s c n ≡ true
+
+-- ---- admissions
+
+-- One more update was handed in and admitted: the history is over it too, and has its entry behind the others.
+pub record HasAdmitted (old : State) (op : Operation) (new : State) : Type 0 where
+  pub over : new.over ≡ handed old.over op
+  pub grows : grown (handed old.over op) old.history Admits ≡ Some new.history
+
+-- Why one more update was refused, where there are so many.
+abbrev pub RefusesAdmission : ℕ → AdmitRefusal → Type 0
+RefusesAdmission n admit.Full = 1000 ≤ n
+RefusesAdmission n admit.Memory = n < 1000
+
+-- What is answered to it.
+abbrev pub AnswersAdmission : ℕ → Result ℕ (AdmitRefusal × Update) → Type 0
+AnswersAdmission n (Ok number) = (number ≡ suc n) × (n < 1000)
+AnswersAdmission n (Err refused) = RefusesAdmission n refused.0

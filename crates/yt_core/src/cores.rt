@@ -22,7 +22,7 @@ use crate::standings::{has_waiting, place_of, question, standing};
 use crate::stepping::step_at;
 use std::alloc::Global;
 use std::marker::Model;
-use yt_base::{Memory, TupleList};
+use yt_base::{Memory, TupleList, UpdateList};
 use yt_entries::{Entry, EntryList, Standing};
 use yt_frontier::Question;
 use yt_limits::{Budget, Mappings};
@@ -42,6 +42,7 @@ pub struct Core<'s> {
     pub(crate) settings: Settings,
     pub(crate) base: &'s TupleList,
     pub(crate) updates: &'s SessionUpdates,
+    pub(crate) later: UpdateList,
     pub(crate) versions: Versions,
     pub(crate) queue: Vec<Record>,
     pub(crate) history: EntryList,
@@ -56,9 +57,9 @@ impl<'s> Model for Core<'s> {
 
     ghost Value = { State };
 
-    ghost view = { λ c. record { over = ground_by c.mappings c.budget (settings_of c.settings) c.base.now c.updates.now; history = map entry_of c.history.items } };
+    ghost view = { λ c. record { over = ground_by c.mappings c.budget (settings_of c.settings) c.base.now c.updates.now c.later; history = map entry_of c.history.items } };
 
-    ghost invariant = { λ c. IsKept (ground_by c.mappings c.budget (settings_of c.settings) c.base.now c.updates.now) c.versions c.queue.items (map entry_of c.history.items) };
+    ghost invariant = { λ c. IsKept (ground_by c.mappings c.budget (settings_of c.settings) c.base.now c.updates.now c.later) c.versions c.queue.items (map entry_of c.history.items) };
 }
 
 impl<'s> Core<'s> {
@@ -82,12 +83,14 @@ impl<'s> Core<'s> {
         let queue = admitted(alloc, updates)?;
         let history = admissions(alloc, updates)?;
         let mappings = mappings_of(session);
+        let later = UpdateList::new(alloc);
         Ok(Core {
             mappings,
             budget,
             settings,
             base: &session.base,
             updates: &session.updates,
+            later,
             versions,
             queue,
             history,

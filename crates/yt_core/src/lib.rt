@@ -4,7 +4,9 @@
 //! and the entries of that history. Each call that changes a core makes one event of that history.
 #![tactic(auto)]
 
+mod admissions;
 mod admitting;
+mod admitting_later;
 mod aftermaths;
 mod answering;
 mod answers;
@@ -21,5 +23,7 @@ mod withdrawing;
 
 pub use crate::cores::Core;
 pub use crate::plans::{Plan, Snapshot};
-pub use crate::refusals::{AnswerRefusal, DeliverRefusal, StepRefusal, WithdrawRefusal};
+pub use crate::refusals::{
+    AdmitRefusal, AnswerRefusal, DeliverRefusal, StepRefusal, WithdrawRefusal,
+};
 pub use crate::results::drained;

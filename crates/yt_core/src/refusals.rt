@@ -51,3 +51,12 @@ pub enum WithdrawRefusal {
     /// There was no memory for it.
     Memory,
 }
+
+/// Why an update was not admitted.
+#[derive(Clone, Copy, Debug)]
+pub enum AdmitRefusal {
+    /// There are 1,000 updates.
+    Full,
+    /// There was no memory for it.
+    Memory,
+}

@@ -1,0 +1,50 @@
+//! Updates that are admitted while others go on.
+ghost use Rattle.std.specs.Prelude.{◌≡◌, ◌<◌, suc, length, IfOk, IfErr, OnOk, OnErr};
+ghost use Rattle.yt_base.specs.Meanings.{operation_of};
+ghost use Rattle.yt_core.specs.LiveCalls.{AnswersAdmission, HasAdmitted};
+ghost use Rattle.yt_core.specs.States.{updates_at};
+
+use crate::admissions::admit_at;
+use crate::cores::Core;
+use crate::refusals::AdmitRefusal;
+use std::alloc::Global;
+use yt_base::Update;
+
+impl<'s> Core<'s> {
+    /// Admits one more update, behind the others and with no recorded answers. It gives its number. Where it is refused the
+    /// update is handed back, and the core is unchanged. Whether it fits the schema and names nulls of lower updates alone
+    /// is for the caller to test.
+    pub fn admit(&mut self, alloc: Global, update: Update) -> Result<u32, (AdmitRefusal, Update)>
+        ensures made { OnOk result (HasAdmitted self.old (operation_of update.operation) self.new) }
+        ensures kept { OnErr result (self.new ≡ self.old) }
+        ensures answer { AnswersAdmission (length (updates_at self.old)) result }
+        ensures back { IfErr result (λ refused. refused.1 ≡ update) }
+    {
+        if self.count() >= 1000 {
+            return Err((AdmitRefusal::Full, update));
+        }
+        match self.make_admission(alloc, update) {
+            Ok(number) => Ok(number),
+            Err(update) => Err((AdmitRefusal::Memory, update)),
+        }
+    }
+
+    // Admits one more update; there are fewer than the most. It is refused only for want of memory, and then hands the
+    // update back.
+    fn make_admission(&mut self, alloc: Global, update: Update) -> Result<u32, Update>
+        requires few { length (updates_at self.old) < 1000 }
+        ensures made { OnOk result (HasAdmitted self.old (operation_of update.operation) self.new) }
+        ensures number { IfOk result (λ n. n ≡ suc (length (updates_at self.old))) }
+        ensures kept { OnErr result (self.new ≡ self.old) }
+        ensures back { IfErr result (λ back. back ≡ update) }
+    {
+        let number = admit_at(
+            alloc,
+            &mut self.queue,
+            &mut self.history,
+            &mut self.later,
+            update,
+        )?;
+        Ok(number)
+    }
+}
