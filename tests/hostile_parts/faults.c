@@ -10,7 +10,10 @@
    FAULTS_ERROR=E      the number of the error that a refused read or write tells; 0: a write takes nothing
    FAULTS_MUTE=1       all writes to err are refused besides
    FAULTS_INSIDE=1     for programs with one thread: instead of a run from the start for each N, the one run is split in two at each call,
-                       and the half in which the call is refused is taken to its end first */
+                       and the half in which the call is refused is taken to its end first
+
+   FAULTS_SHAKE=S      without FAULTS: nothing is refused, but threads sleep a moment at some of their requests of memory, by numbers
+                       drawn with the seed S, so that they meet in other orders */
 #define _GNU_SOURCE
 #include <dlfcn.h>
 #include <errno.h>
@@ -195,6 +198,22 @@ static bool refuses(enum kind which) {
   return true;
 }
 
+/* ---- shaking ---- */
+
+static unsigned long shaken;        /* the seed; 0: threads are let alone */
+
+/* Every eighth time or so, sleeps up to 60 microseconds. */
+static void shake(void) {
+  static _Thread_local unsigned long drawn;
+  if (drawn == 0) drawn = (shaken + (unsigned long)atomic_fetch_add(&calls, 1)) * 0x9E3779B97F4A7C15 | 1;
+  drawn ^= drawn << 13;
+  drawn ^= drawn >> 7;
+  drawn ^= drawn << 17;
+  if (drawn % 8 == 0) usleep(drawn / 8 % 60);
+}
+
+/* ---- starting ---- */
+
 static bool says(const char *name) {
   return getenv(name) != NULL;
 }
@@ -222,6 +241,7 @@ static void read_plan(const char *name) {
 /* Before main: all runs from the start, or the beginning of the one that is split. */
 __attribute__((constructor)) static void start(void) {
   const char *name = getenv("FAULTS");
+  if (says("FAULTS_SHAKE")) shaken = strtoul(getenv("FAULTS_SHAKE"), NULL, 10);
   if (name == NULL) return;
   report = fcntl(1, F_DUPFD_CLOEXEC, 100);
   read_plan(name);
@@ -253,6 +273,7 @@ static void *none(void) {
 }
 
 void *malloc(size_t size) {
+  if (shaken) shake();
   return refuses(MEMORY) ? none() : __libc_malloc(size);
 }
 

@@ -1,15 +1,16 @@
 #!/usr/bin/env python3
 """long.py PROGRAM [cheap]: inputs at and one beyond the limits, and long in every other way, each within 4 GiB and 20 seconds.
 
-What is right is written down beside each, or the reference tells it where it is quick. Last come sessions whose matching explodes: only
-the clock of whoever runs them ends them, and then nothing was written. The last line is 'N passed, M failed'.
+What is right is written down beside each, or the reference tells it where it is quick. Then a large session with less and less memory, and
+last sessions whose matching explodes: only the clock of whoever runs them ends them, and then nothing was written. The last line is
+'N passed, M failed'.
 """
 import sys
 
 from running import Tally, told_within, youtopia
 
 LIMIT = 16777216
-GIGABYTES, SECONDS = 4, 20
+MEGABYTES, SECONDS = 4096, 20
 ONE = b"youtopia 1\nrelation A 1\n"
 TWO = b"youtopia 2\nrelation A 1\n"
 END = b"end\n"
@@ -203,6 +204,20 @@ def at_output_limit():
             (9, b"", b"youtopia: output too large\n") if beyond else ended(sized(head + tuples + END) + b"\1" + sized(commit) + b"\0"))
 
 
+# ---- little memory ----
+
+def narrow(tally, program):
+    """A session of 50,000 tuples with less and less memory, so that the system refuses some of it."""
+    head = b"youtopia 2\nrelation A 3\nrelation B 2\nmapping m: B(x, y) -> A(x, y, z)\n"
+    base = [b'base A(%d, %d, "%s")\n' % (number, number, b"x" * 100) for number in range(50000)]
+    data = head + b"".join(base) + b"update a ann insert B(7, 8)\n" + END
+    saved = ended(head + b"".join(base[:8]) + b"base A(7, 8, ?0.1)\n" + b"".join(base[8:]) + b"base B(7, 8)\n" + END)
+    for megabytes in (*range(8, 256, 8), MEGABYTES):
+        told = told_within(program, ["save"], data, megabytes, SECONDS)
+        wants = megabytes < MEGABYTES and told[0] == 7
+        tally.compare(f"{megabytes} MiB", (7, b"", b"youtopia: out of memory\n") if wants else saved, told)
+
+
 # ---- matching that explodes ----
 
 def explosions():
@@ -224,12 +239,14 @@ def main():
     for series in (tokens, statements):
         for name, words, data in series():
             if not cheap or len(data) < 100000:
-                tally.compare(f"{name}, {words[0]}", youtopia(words, data), told_within(program, words, data, GIGABYTES, SECONDS))
+                tally.compare(f"{name}, {words[0]}", youtopia(words, data), told_within(program, words, data, MEGABYTES, SECONDS))
     for series in () if cheap else (wholes, sessions, at_output_limit):
         for name, words, data, wanted in series():
-            tally.compare(f"{name}, {words[0]}", wanted, told_within(program, words, data, GIGABYTES, SECONDS))
+            tally.compare(f"{name}, {words[0]}", wanted, told_within(program, words, data, MEGABYTES, SECONDS))
+    if not cheap:
+        narrow(tally, program)
     for name, words, data in explosions():
-        tally.compare(f"{name}, {words[0]}", (-9, b"", b""), told_within(program, words, data, GIGABYTES, 1))
+        tally.compare(f"{name}, {words[0]}", (-9, b"", b""), told_within(program, words, data, MEGABYTES, 1))
     tally.end()
 
 

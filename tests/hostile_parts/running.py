@@ -32,20 +32,20 @@ def taken_from(file):
         return opened.read()
 
 
-def told_by(program, words, data):
+def told_by(program, words, data, **environment):
     """The status and what both streams took; the status is below 0 where a signal ended the program."""
     files = [file_of(data), file_of(b""), file_of(b"")]
     actions = [(os.POSIX_SPAWN_DUP2, file, place) for place, file in enumerate(files)]
-    run = os.posix_spawn(program, [program, *words], os.environ, file_actions=actions)
+    run = os.posix_spawn(program, [program, *words], {**os.environ, **environment}, file_actions=actions)
     status = os.waitstatus_to_exitcode(os.waitpid(run, 0)[1])
     os.close(files[0])
     return status, taken_from(files[1]), taken_from(files[2])
 
 
-def told_within(program, words, data, gigabytes, seconds):
+def told_within(program, words, data, megabytes, seconds):
     """The same under limits of memory and of processor time."""
     def limit():
-        resource.setrlimit(resource.RLIMIT_AS, (gigabytes << 30,) * 2)
+        resource.setrlimit(resource.RLIMIT_AS, (megabytes << 20,) * 2)
         resource.setrlimit(resource.RLIMIT_CPU, (seconds,) * 2)
         resource.setrlimit(resource.RLIMIT_CORE, (0, 0))
     run = subprocess.run([program, *words], input=data, capture_output=True, preexec_fn=limit)
