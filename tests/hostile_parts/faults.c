@@ -1,5 +1,5 @@
 /* Faults from outside, preloaded into a program: for N = 1, 2, .. the program is run with its N-th call of one kind refused, up to
-   the first N that it does not come to. What each run tells is compared with what the row tells undisturbed, and with what is said
+   the first N that it does not come to or at which it hangs. What each run tells is compared with what the row tells undisturbed, and with what is said
    of that kind of fault. The last line on the standard output is 'N passed, M failed, U undisturbed': of the refused calls.
 
    FAULTS=memory|thread|read|write|told   the kind: requests of memory, starts of threads, reads of the input, writes to out or err
@@ -20,6 +20,7 @@
 #include <fcntl.h>
 #include <limits.h>
 #include <pthread.h>
+#include <signal.h>
 #include <stdarg.h>
 #include <stdatomic.h>
 #include <stdbool.h>
@@ -34,7 +35,7 @@
 enum kind { MEMORY, THREAD, READ, WRITE, TOLD, KINDS };
 static const char *const NAMES[KINDS] = {"memory", "thread", "read", "write", "told"};
 
-enum { SECONDS = 60, SHOWN = 20 };
+enum { SECONDS = 60, SHOWN = 20, HUNG = 1000 + SIGALRM };
 
 /* What a run tells. */
 struct telling {
@@ -133,6 +134,10 @@ static bool is_right(const struct telling *told, long number) {
   }
 }
 
+static void sum_up(void) {
+  say("%ld passed, %ld failed, %ld undisturbed\n", passed, failed, undisturbed);
+}
+
 static void judge(const struct telling *told, long number) {
   bool right = *reached ? is_right(told, number) : same(told, &own);
   if (right) {
@@ -140,6 +145,10 @@ static void judge(const struct telling *told, long number) {
   } else if (failed++ < SHOWN) {
     say("FAILED %s %ld%s: status %d, %zu bytes on out, on err: %.*s\n", NAMES[kind], number, *reached ? "" : ", which was not reached",
         told->status, told->out_size, (int)(told->err_size < 100 ? told->err_size : 100), told->err);
+  }
+  if (told->status == HUNG) {
+    sum_up();
+    _exit(1);
   }
 }
 
@@ -182,10 +191,6 @@ static bool attack(long number) {
   close(err);
   lseek(0, place, SEEK_SET);
   return false;
-}
-
-static void sum_up(void) {
-  say("%ld passed, %ld failed, %ld undisturbed\n", passed, failed, undisturbed);
 }
 
 /* Whether this call, of this kind, is to be refused. */

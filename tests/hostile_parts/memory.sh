@@ -24,12 +24,14 @@ done
 if [ -n "$cheap" ]; then
   attack tests/rows/travel FAULTS=memory FAULTS_LASTING=1
   attack tests/rows/one-repair FAULTS=memory FAULTS_MUTE=1
-  attack tests/rows/chain-of-fifty FAULTS=memory FAULTS_INSIDE=1 FAULTS_MOST=500
+  made_row fifty serial < tests/rows/chain-of-fifty/session
+  attack "$row" FAULTS=memory FAULTS_INSIDE=1 FAULTS_MOST=500
   return
 fi
 
 # Larger sessions, by commands with one thread.
-attack tests/rows/longest-cycle-stuck FAULTS=memory FAULTS_INSIDE=1
+made_row cycle serial --steps 300 < tests/rows/longest-cycle-stuck/session
+attack "$row" FAULTS=memory FAULTS_INSIDE=1
 made_row random serial < <(bench/sessions.py random --count 200)
 attack "$row" FAULTS=memory FAULTS_INSIDE=1
 attack "$row" FAULTS=memory FAULTS_INSIDE=1 FAULTS_LASTING=1
