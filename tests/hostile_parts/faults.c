@@ -1,6 +1,7 @@
 /* Faults from outside, preloaded into a program: for N = 1, 2, .. the program is run with its N-th call of one kind refused, up to
-   the first N that it does not come to or at which it hangs. What each run tells is compared with what the row tells undisturbed, and with what is said
-   of that kind of fault. The last line on the standard output is 'N passed, M failed, U undisturbed': of the refused calls.
+   the first N that it does not come to, or at which it hangs. What each run tells is compared with what the row tells undisturbed,
+   and with what is said of that kind of fault. The last line on the standard output is 'N passed, M failed, U undisturbed': of the
+   refused calls.
 
    FAULTS=memory|thread|read|write|told   the kind: requests of memory, starts of threads, reads of the input, writes to out or err
    FAULTS_ROW=FOLDER   `out`, `err` and `status` there are what the program tells undisturbed; the input is a file

@@ -1,6 +1,8 @@
 """Runs the program as a test wants it, and counts what it told rightly."""
 import os
 import resource
+import select
+import signal
 import subprocess
 import sys
 from pathlib import Path
@@ -14,6 +16,7 @@ sys.path.insert(0, str(TESTS))
 from oracle.commands import youtopia     # noqa: E402
 
 SHOWN = 200
+DEADLINE = 300      # seconds after which a program hangs
 
 
 def file_of(data):
@@ -32,12 +35,21 @@ def taken_from(file):
         return opened.read()
 
 
+def end_of(run):
+    """The status of a run, which is killed where it hangs; below 0 where a signal ended it."""
+    ending = os.pidfd_open(run)
+    if not select.select([ending], [], [], DEADLINE)[0]:
+        os.kill(run, signal.SIGKILL)
+    os.close(ending)
+    return os.waitstatus_to_exitcode(os.waitpid(run, 0)[1])
+
+
 def told_by(program, words, data, **environment):
-    """The status and what both streams took; the status is below 0 where a signal ended the program."""
+    """The status and what both streams took."""
     files = [file_of(data), file_of(b""), file_of(b"")]
     actions = [(os.POSIX_SPAWN_DUP2, file, place) for place, file in enumerate(files)]
     run = os.posix_spawn(program, [program, *words], {**os.environ, **environment}, file_actions=actions)
-    status = os.waitstatus_to_exitcode(os.waitpid(run, 0)[1])
+    status = end_of(run)
     os.close(files[0])
     return status, taken_from(files[1]), taken_from(files[2])
 
@@ -48,7 +60,7 @@ def told_within(program, words, data, megabytes, seconds):
         resource.setrlimit(resource.RLIMIT_AS, (megabytes << 20,) * 2)
         resource.setrlimit(resource.RLIMIT_CPU, (seconds,) * 2)
         resource.setrlimit(resource.RLIMIT_CORE, (0, 0))
-    run = subprocess.run([program, *words], input=data, capture_output=True, preexec_fn=limit)
+    run = subprocess.run([program, *words], input=data, capture_output=True, preexec_fn=limit, timeout=DEADLINE)
     return run.returncode, run.stdout, run.stderr
 
 

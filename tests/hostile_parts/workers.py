@@ -2,8 +2,8 @@
 """workers.py PROGRAM SHIM [cheap]: runs by 2, 4, 8 and 16 workers on updates that conflict.
 
 Each run has to give the bytes of the serial run, and with --trace a history behind them of which the reference's auditor says that
-it is legal and ends quiet. Every second run is shaken by faults.c, so that the workers meet in other orders. A program whose runs have no
-trace yet is left alone. The last line is 'N passed, M failed'.
+it is legal and ends quiet. The runs with a trace and half of the others are shaken by faults.c, so that the workers meet in other
+orders. A program whose runs have no trace yet is left alone. The last line is 'N passed, M failed'.
 """
 import random
 import subprocess
@@ -16,7 +16,6 @@ from oracle.sessions import busy_session, random_session
 
 WORKERS = (2, 4, 8, 16)
 SESSION = b"youtopia 1\nrelation A 1\nupdate a ann insert A(1)\nend\n"
-DEADLINE = 60
 
 
 def crowded(rng, seed):
