@@ -13,7 +13,7 @@ BASH = $(DESTDIR)$(PREFIX)/share/bash-completion/completions/$(NAME)
 ZSH = $(DESTDIR)$(PREFIX)/share/zsh/site-functions/_$(NAME)
 FISH = $(DESTDIR)$(PREFIX)/share/fish/vendor_completions.d/$(NAME).fish
 
-.PHONY: help run build install uninstall share quick checks differential test
+.PHONY: help run build install uninstall share quick checks differential hostile test
 
 help:
 	@echo 'make run               run the first example, by the program as proved, or by the quick run without proof'
@@ -27,6 +27,7 @@ help:
 	@echo 'make checks            what needs no prover: pages, figures, stored rows and tables of the built program'
 	@echo 'make differential SEED=1 COUNT=1000'
 	@echo '                       compare the built program with the reference in Python on random sessions'
+	@echo 'make hostile           attack the built program: refused memory, failing devices, cut and long inputs, workers'
 	@echo 'make share             make the man page and the completions from share/words.tsv'
 	@echo 'make test              the gate: prove every crate, try every must-fail edit, run every test, program and check'
 
@@ -66,6 +67,9 @@ checks: $(PROGRAM)
 
 differential: $(PROGRAM)
 	tests/differential $(SEED) $(COUNT)
+
+hostile: $(PROGRAM)
+	tests/hostile
 
 test:
 	.ci/run

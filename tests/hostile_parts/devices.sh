@@ -1,0 +1,20 @@
+# Devices: each call of the input, of out and of err fails in turn, with pieces of 1, 7 and 20 bytes or with none. A failed read is
+# status 5 and nothing on out, a failed write status 6 and a prefix of the text; where err fails the status stays.
+rows=(one-repair conflict-abort travel travel-save ask-travel journal-travel recover-travel travel-format stuck-missing
+  base-violates refused-no-number recover-cut)
+if [ -n "$cheap" ]; then
+  rows=(one-repair travel recover-travel stuck-missing base-violates)
+fi
+for row in "${rows[@]}"; do
+  for piece in 1 7 20 1000000; do
+    for kind in read write told; do
+      attack "tests/rows/$row" FAULTS=$kind FAULTS_PIECE=$piece
+    done
+  done
+  # A write that takes nothing (0), a full disk, a pipe that nobody reads; and err, which fails besides.
+  for error in 0 28 32; do
+    attack "tests/rows/$row" FAULTS=write FAULTS_PIECE=20 FAULTS_ERROR=$error
+  done
+  attack "tests/rows/$row" FAULTS=write FAULTS_PIECE=20 FAULTS_MUTE=1
+  attack "tests/rows/$row" FAULTS=read FAULTS_PIECE=20 FAULTS_MUTE=1 FAULTS_LASTING=1
+done
