@@ -5,6 +5,5 @@ mod Completed
 mod Due
 mod Headlines
 mod Named
-mod Plainly
 mod Served
 mod Statuses

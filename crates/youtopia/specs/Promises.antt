@@ -107,7 +107,7 @@ pub record WritesSerially (options : Options) (s : SessionData) (status : Status
   -- `out` has taken the result text of the serial machine on the session and, with `--trace`, then the text of that history
   pub taken : Takes out (result_text s (serial_told options.steps s) ++ trace_part options.trace s.relations history)
   -- it ended, or stopped where the serial machine stops
-  pub status : status ≡ status_of_ending (ending_by (serial_told options.steps s).stop)
+  pub ending : status ≡ status_of_ending (ending_by (serial_told options.steps s).stop)
   -- every mapping in force holds in the repository written
   pub hold : InForceHold s (serial_told options.steps s)
 
