@@ -20,7 +20,8 @@ pub(crate) fn take_out(
 ) -> Result<TupleList, Memory>
     requires sorted { IsRepository sought.old }
     ensures taken { IfOk result (λ taken. facts_of taken ≡ filter (has (facts_of tuples)) sought.old) }
-    ensures left { OnOk result (sought.new ≡ filter (λ t. not (has (facts_of tuples) t)) sought.old) }
+    ensures left { OnOk result (sought.new ≡
+        filter (λ t. not (has (facts_of tuples) t)) sought.old) }
 {
     let mut taken = PlainFacts::new(alloc);
     for tuple in tuples.into_vec() {
@@ -34,7 +35,8 @@ pub(crate) fn take_out(
 fn take_one(sought: &mut PlainFacts, taken: &mut PlainFacts, tuple: Tuple) -> Result<(), Memory>
     ensures left { OnOk result (sought.new ≡ change sought.old (Delete (fact_of tuple))) }
     ensures taken { OnOk result (taken.new ≡
-        (if has sought.old (fact_of tuple) then change taken.old (Insert (fact_of tuple)) else taken.old)) }
+        (if has sought.old (fact_of tuple)
+        then change taken.old (Insert (fact_of tuple)) else taken.old)) }
 {
     if sought.remove(&tuple) {
         taken.insert(tuple)?;
