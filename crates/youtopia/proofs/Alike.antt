@@ -1,6 +1,5 @@
 -- Options that are alike make the same, and write the same.
 use Rattle.std.proofs.Common.{◌≡◌, ◌∙◌, ℕ, Bool, List, ap, ap₂, sym, subst}
-use Rattle.yt_ask.specs.Written.{WrittenAsk}
 use Rattle.yt_command.specs.Devices.{Change}
 use Rattle.yt_command.specs.Outputs.{OutputView}
 use Rattle.yt_commands.specs.Asked.{asked}
@@ -13,7 +12,7 @@ use Rattle.yt_run.specs.Runs.{running}
 use Rattle.yt_run.specs.Written.{WroteRun}
 use Rattle.yt_words.specs.Alike.{AreAlike}
 use Rattle.yt_words.specs.declared.names.CommandName.{CommandName}
-use Rattle.yt_words.specs.declared.names.CommandName.TheVariants.{Run, Serial, Format, Check, Save, Upgrade, Ask, Journal, Recover}
+use Rattle.yt_words.specs.declared.names.CommandName.TheVariants.{Run, Serial, Format, Save, Ask, Journal}
 use Rattle.yt_words.specs.declared.reading.Options.{Options}
 use Rattle.youtopia.specs.Calls.{deps_of, makes, settings_in}
 use Rattle.youtopia.specs.Promises.{HasQuery, Wrote}

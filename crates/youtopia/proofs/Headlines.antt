@@ -12,7 +12,6 @@ use Rattle.yt_commands.specs.Runs.{ending_by, ran, result_output}
 use Rattle.yt_commands.specs.Written.{HasWritten}
 use Rattle.yt_grammar.specs.Lines.{Spells}
 use Rattle.yt_grammar.specs.Sessions.{SessionData}
-use Rattle.yt_history.specs.PlainEntries.{PlainEntry}
 use Rattle.yt_kept.specs.Kept.{InForceHold}
 use Rattle.yt_report.specs.Results.{serial_told}
 use Rattle.yt_run.specs.Runs.{run_text, running}

@@ -1,5 +1,5 @@
 -- How a command may end on a session whose base meets its mappings.
-use Rattle.std.proofs.Common.{◌≡◌, ◌⊎◌, ℕ, List, Option, Some, None, Result, Ok, Err, refl, inl, inr, ap, sym, subst, true, false, Bool, if◌then◌else◌}
+use Rattle.std.proofs.Common.{◌≡◌, ◌⊎◌, ℕ, List, Option, Some, None, Result, Ok, Err, refl, inl, inr, sym, subst, true, false, Bool, if◌then◌else◌}
 use Rattle.clap.specs.Words.{Text as Letters}
 use Rattle.yt_ask.specs.Bound.{bound_ask}
 use Rattle.yt_certain.specs.Certain.{ConjunctiveQuery}
@@ -9,7 +9,7 @@ use Rattle.yt_command.specs.Statuses.{status_of, status_of_ending}
 use Rattle.yt_command.specs.declared.statuses.Status.{Status}
 use Rattle.yt_command.specs.declared.statuses.Status.TheVariants.{Ended, Stuck, OutOfMemory, TooLarge, QueryRefused}
 use Rattle.yt_commands.specs.Asked.{asked, asked_over}
-use Rattle.yt_commands.specs.Commands.{on_session, formatted, upgraded_text, checked, unless_violated}
+use Rattle.yt_commands.specs.Commands.{formatted, upgraded_text, checked, unless_violated}
 use Rattle.yt_commands.specs.Journaled.{is_too_long, journal_output, journaled, left_of}
 use Rattle.yt_commands.specs.Runs.{ending_by, kept, ran, saved_output}
 use Rattle.yt_grammar.specs.Faults.{Kind}

@@ -1,5 +1,5 @@
 -- A command with its options has one status for an input.
-use Rattle.std.proofs.Common.{◌≡◌, ◌∙◌, ℕ, List, Option, Some, Result, Ok, Err, refl, ap, sym, subst}
+use Rattle.std.proofs.Common.{◌≡◌, ◌∙◌, ℕ, List, Some, Result, Ok, Err, refl, ap, sym, subst}
 use Rattle.yt_ask.specs.Written.{WrittenAsk, SpellsAsk, ask_at}
 use Rattle.yt_command.specs.Outputs.{OutputView, Refused}
 use Rattle.yt_command.specs.Statuses.{status_of}

@@ -126,10 +126,10 @@ fn told<R: Abort + Threads + Wait + Sync>(
 
 // How often the part stands in the text.
 fn count_of(text: &[u8], part: &[u8]) -> usize {
-    let mut count = 0;
+    let mut count: usize = 0;
     for place in 0..text.len() {
         if text[place..].starts_with(part) {
-            count += 1;
+            count = count.saturating_add(1);
         }
     }
     count
