@@ -1,3 +1,4 @@
+pub mod Comparing
 pub mod Naming
 pub mod Sought
 pub mod Told

@@ -1,5 +1,5 @@
 -- What reasons mean, and which list explains a tuple.
-use Rattle.std.specs.Prelude.{◌≡◌, ℕ, List, ◌++◌, map, filter, Option}
+use Rattle.std.specs.Prelude.{◌≡◌, ℕ, List, ◌++◌, map, filter, Option, Some}
 use Rattle.std.specs.Option.{option_map}
 use Rattle.yt_model.specs.Values.{Fact}
 use Rattle.yt_model.specs.Repository.{has}
@@ -11,7 +11,7 @@ use Rattle.yt_grammar.specs.Sessions.{SessionData}
 use Rattle.yt_session.specs.Meanings.{requests_in}
 use Rattle.yt_provenance.specs.Notes.{Noted, reason_by}
 use Rattle.yt_provenance.specs.Reasons as meant
-use Rattle.yt_provenance.specs.Reasons.{explanation, sought_before}
+use Rattle.yt_provenance.specs.Reasons.{explanation, sought_before, IsExplanation}
 use Rattle.yt_explain.specs.declared.reasons.How.{How}
 use Rattle.yt_explain.specs.declared.reasons.How.TheVariants.{Base, Inserted, Generated, Rewritten}
 use Rattle.yt_explain.specs.declared.reasons.Reason.{Reason}
@@ -34,6 +34,14 @@ reasons_in rs = map reason_of rs.items
 -- This is the explanation of the tuple in what the serial machine leaves of the session, with so many steps for each update; none where it is not there.
 abbrev pub Explains : ℕ → SessionData → Fact → Option (Listed Reason) → Type 0
 Explains B s t e = option_map reasons_in e ≡ explanation (rules_of s.mappings) B s.base (requests_in s) t
+
+-- This is the explanation of its first tuple there.
+abbrev pub IsExplained : ℕ → SessionData → Listed Reason → Type 0
+IsExplained B s rs = IsExplanation (rules_of s.mappings) B s.base (requests_in s) (reasons_in rs)
+
+-- This explains the tuple there.
+abbrev pub IsTold : ℕ → SessionData → Fact → Listed Reason → Type 0
+IsTold B s t rs = explanation (rules_of s.mappings) B s.base (requests_in s) t ≡ Some (reasons_in rs)
 
 -- The reasons for the tuples sought that this step put were told; what they rest on is sought in their place.
 abbrev pub HasTold : Noted → Listed Reason → List Fact → Listed Reason → List Fact → Type 0

@@ -5,6 +5,7 @@
 //! `Err` is want of memory, of which no clause can say when it comes.
 #![tactic(auto)]
 
+mod checking;
 mod explaining;
 mod reasons;
 mod rewriting;
@@ -12,6 +13,7 @@ mod seeking;
 mod telling;
 mod texts;
 
+pub use crate::checking::check_explanation;
 pub use crate::explaining::{Explained, explain, explain_over};
 pub use crate::reasons::{Explanation, How, Reason};
 pub use crate::texts::explanation_text;

@@ -3,7 +3,7 @@ use yt_base::{List, Tuple, TupleList};
 
 /// How a tuple came to be there: it is of the base; this step of this update inserted it, generated it by a mapping for
 /// an image of its left side, or rewrote that tuple to it.
-#[derive(Debug, Drop)]
+#[derive(Debug, Drop, PartialEq, Eq)]
 pub enum How {
     Base,
     Inserted {
@@ -24,7 +24,7 @@ pub enum How {
 }
 
 /// The reason for a tuple.
-#[derive(Debug, Drop)]
+#[derive(Debug, Drop, PartialEq, Eq)]
 pub struct Reason {
     pub tuple: Tuple,
     pub how: How,

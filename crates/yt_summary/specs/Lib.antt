@@ -1,0 +1,4 @@
+pub mod Meanings
+pub mod Totals
+pub mod Summaries
+pub mod Rows
