@@ -1,10 +1,9 @@
 -- Reasons that are the same part by part are those that mean the same.
-use Rattle.std.proofs.Common.{◌≡◌, ◌∙◌, ap, subst, sym, ℕ, Bool, true, ◌&&◌, ◌↔◌, List, map, Option, Some}
+use Rattle.std.proofs.Common.{◌≡◌, ◌∙◌, ap, subst, sym, Bool, true, ◌↔◌, List, map, Option, Some}
 use Rattle.std.specs.Bool.{Decides}
 use Rattle.std.specs.Cmp.Lexicographic.{pointwise}
 use Rattle.std.proofs.lemmas.Bool.Decides.{Decides-and, Decides-eqb}
 use Rattle.yt_base.specs.Meanings.{fact_of}
-use Rattle.yt_base.specs.Contents.{facts_of}
 use Rattle.yt_base.proofs.Exact.{same_fact_decides, pointwise_decides}
 use Rattle.yt_provenance.specs.Reasons as meant
 use Rattle.yt_base.specs.Listed.{Listed}

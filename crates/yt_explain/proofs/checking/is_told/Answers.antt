@@ -1,4 +1,4 @@
-use Rattle.std.proofs.Common.{◌≡◌, ◌∙◌, ap, sym, option_map}
+use Rattle.std.proofs.Common.{◌∙◌, ap, sym, option_map}
 use Rattle.yt_explain.specs.Meanings.{reasons_in}
 use Rattle.yt_explain.proofs.Comparing.{told_alike}
 use Rattle.yt_explain.proofs.checking.is_told.Goals as goal
