@@ -7,12 +7,13 @@ use Rattle.yt_commands.specs.Commands.{on_session, on_session_by}
 use Rattle.yt_commands.specs.Journaled.{journaled}
 use Rattle.yt_commands.specs.Runs.{kept, ran}
 use Rattle.yt_commands.specs.Written.{WroteWhatHolds}
+use Rattle.yt_explaining.specs.Explained.{explained}
 use Rattle.yt_machine.specs.Updates.{Deps as Test, Settings}
 use Rattle.yt_run.specs.Runs.{running}
 use Rattle.yt_run.specs.Written.{WroteRun}
 use Rattle.yt_words.specs.Alike.{AreAlike}
 use Rattle.yt_words.specs.declared.names.CommandName.{CommandName}
-use Rattle.yt_words.specs.declared.names.CommandName.TheVariants.{Run, Serial, Format, Save, Ask, Journal}
+use Rattle.yt_words.specs.declared.names.CommandName.TheVariants.{Run, Serial, Format, Save, Ask, Explain, Journal}
 use Rattle.yt_words.specs.declared.reading.Options.{Options}
 use Rattle.youtopia.specs.Calls.{deps_of, makes, settings_in}
 use Rattle.youtopia.specs.Promises.{HasQuery, Wrote}
@@ -37,6 +38,8 @@ run_back P o p same it = moved P _ _ _ _ _ _ (sym same.trace) (sym same.steps) (
 pub same_makes : (k : CommandName) (o p : Options) (input : List ℕ) (x : OutputView) → AreAlike o p → makes k o input x → makes k p input x
 same_makes Ask o p input x same a =
     (a.0, (a.1.0, sym same.query ∙ a.1.1, a.1.2), subst (λ (n : ℕ). on_session (asked n a.0) input x) same.steps a.2)
+same_makes Explain o p input x same a =
+    (a.0, (a.1.0, sym same.tuple ∙ a.1.1, a.1.2), subst (λ (n : ℕ). on_session (explained n a.0) input x) same.steps a.2)
 same_makes Run o p input x same a = run_like (λ trace n c. on_session_by (running trace n c) input x) o p same a
 same_makes Serial o p input x same a = subst (λ (n : ℕ). on_session (ran n) input x) same.steps a
 same_makes Save o p input x same a = subst (λ (n : ℕ). on_session (kept n) input x) same.steps a
@@ -46,6 +49,7 @@ same_makes _ o p input x same a = a
 
 pub same_query : (k : CommandName) (o p : Options) → AreAlike o p → HasQuery k o → HasQuery k p
 same_query Ask o p same has = (has.0, (has.1.0, sym same.query ∙ has.1.1, has.1.2))
+same_query Explain o p same has = (has.0, (has.1.0, sym same.tuple ∙ has.1.1, has.1.2))
 same_query Run o p same has = has
 same_query _ o p same has = has
 

@@ -9,7 +9,7 @@ use Rattle.yt_command.specs.declared.statuses.Status.{Status}
 use Rattle.yt_command.specs.declared.statuses.Status.TheVariants.{OutOfMemory}
 use Rattle.yt_words.specs.Alike.{AskTheSame}
 use Rattle.yt_words.specs.declared.names.CommandName.{CommandName}
-use Rattle.yt_words.specs.declared.names.CommandName.TheVariants.{Run, Ask}
+use Rattle.yt_words.specs.declared.names.CommandName.TheVariants.{Run, Ask, Explain}
 use Rattle.yt_words.specs.declared.reading.Options.{Options}
 use Rattle.yt_words.specs.declared.reading.Request.{Request}
 use Rattle.yt_words.specs.declared.reading.Request.TheVariants.{Command, Help, Version}
@@ -22,6 +22,7 @@ use Rattle.youtopia.specs.Promises.{Completes, HasQuery, NothingFails, due, read
 
 query_in : (k : CommandName) (p : Options) (input : List ℕ) (x : OutputView) → makes k p input x → HasQuery k p
 query_in Ask p input x made = (made.0, made.1)
+query_in Explain p input x made = (made.0, made.1)
 query_in Run p input x made = tt
 query_in _ p input x made = tt
 
@@ -30,6 +31,8 @@ pub row_done : (k : CommandName) (p : Options) (status : Status) (source out err
     → Does k p status source out err → Row status (makes k p) source out err
 row_done Ask p status source out err has (inl refused) = absurd (refused.1 has.0 has.1)
 row_done Ask p status source out err has (inr row) = row
+row_done Explain p status source out err has (inl refused) = absurd (refused.1 has.0 has.1)
+row_done Explain p status source out err has (inr row) = row
 row_done Run p status source out err has row = row
 row_done _ p status source out err has row = row
 

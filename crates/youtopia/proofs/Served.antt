@@ -12,6 +12,7 @@ use Rattle.yt_commands.specs.Asked.{asked, asked_over}
 use Rattle.yt_commands.specs.Commands.{formatted, upgraded_text, checked, unless_violated}
 use Rattle.yt_commands.specs.Journaled.{is_too_long, journal_output, journaled, left_of}
 use Rattle.yt_commands.specs.Runs.{ending_by, kept, ran, saved_output}
+use Rattle.yt_explaining.specs.Explained.{explained}
 use Rattle.yt_grammar.specs.Faults.{Kind}
 use Rattle.yt_grammar.specs.Lines.{Spells}
 use Rattle.yt_grammar.specs.Sessions.{SessionData}
@@ -23,7 +24,7 @@ use Rattle.yt_serial.specs.Trails.{TrailsTold}
 use Rattle.yt_session.specs.Base.{base_violation}
 use Rattle.yt_words.specs.Alike.{AskTheSame}
 use Rattle.yt_words.specs.declared.names.CommandName.{CommandName}
-use Rattle.yt_words.specs.declared.names.CommandName.TheVariants.{Run, Serial, Format, Check, Save, Upgrade, Ask, Journal, Recover}
+use Rattle.yt_words.specs.declared.names.CommandName.TheVariants.{Run, Serial, Format, Check, Save, Upgrade, Ask, Explain, Journal, Recover}
 use Rattle.yt_words.specs.declared.reading.Options.{Options}
 use Rattle.yt_words.specs.declared.reading.Request.{Request}
 use Rattle.yt_words.specs.declared.reading.Request.TheVariants.{Command, Help, Version}
@@ -91,6 +92,9 @@ served recovered runs Save o input s reads has spelled met =
 served recovered runs Ask o input s reads has spelled met =
     by_output recovered runs Ask o input (asked o.steps has.0 s) (has.0, has.1, of_one (asked o.steps has.0) input s spelled)
     (met_ends Ask s _ met (asked_ends (serial_told o.steps s) (bound_ask s.relations has.0)))
+served recovered runs Explain o input s reads has spelled met =
+    by_output recovered runs Explain o input (explained o.steps has.0 s) (has.0, has.1, of_one (explained o.steps has.0) input s spelled)
+    (met_ends Explain s _ met (ends_or_stops (serial_told o.steps s).stop))
 served recovered runs Format o input s reads has spelled met =
     by_output recovered runs Format o input (formatted s) (of_one formatted input s spelled) refl
 served recovered runs Upgrade o input s reads has spelled met =

@@ -8,14 +8,17 @@ use Rattle.yt_commands.specs.Asked.{asked}
 use Rattle.yt_commands.specs.Commands.{MadeOf, on_session, fault_line, formatted, upgraded_text, checked}
 use Rattle.yt_commands.specs.Journaled.{journaled}
 use Rattle.yt_commands.specs.Runs.{kept, ran}
+use Rattle.yt_explaining.specs.Explained.{explained}
 use Rattle.yt_grammar.specs.Faults.{Wrong}
 use Rattle.yt_grammar.specs.Lines.{Spells, read}
 use Rattle.yt_grammar.specs.Sessions.{SessionData}
+use Rattle.yt_grammar.specs.Statements.{WrittenFact}
+use Rattle.yt_reader.specs.Facts.{SpellsFact}
 use Rattle.yt_words.specs.declared.names.CommandName.{CommandName}
-use Rattle.yt_words.specs.declared.names.CommandName.TheVariants.{Run, Serial, Format, Check, Save, Upgrade, Ask, Journal, Recover}
+use Rattle.yt_words.specs.declared.names.CommandName.TheVariants.{Run, Serial, Format, Check, Save, Upgrade, Ask, Explain, Journal, Recover}
 use Rattle.yt_words.specs.declared.reading.Options.{Options}
 use Rattle.youtopia.proofs.Asked.{OneRecovered, OneRun}
-use Rattle.youtopia.specs.Calls.{AsksFor, makes, settings_in}
+use Rattle.youtopia.specs.Calls.{AsksFor, AsksWhy, makes, settings_in}
 
 one_ok : {A E : Type 0} (x y : A) → (let r : Result A E = Ok x in r) ≡ Ok y → x ≡ y
 one_ok x y is = cc
@@ -35,6 +38,13 @@ one_query t p q a b =
 one_asked : (options : Options) (p q : WrittenAsk) → AsksFor options p → AsksFor options q → p ≡ q
 one_asked options p q a b =
     one_query b.0 p q (subst (λ (t : List ℕ). SpellsAsk t p) (one_some a.0 b.0 (sym a.1 ∙ b.1)) a.2) b.2
+
+one_fact : (t : List ℕ) (p q : WrittenFact) → SpellsFact t p → SpellsFact t q → p ≡ q
+one_fact t p q a b = one_ok p q (sym a.words ∙ b.words)
+
+one_why : (options : Options) (p q : WrittenFact) → AsksWhy options p → AsksWhy options q → p ≡ q
+one_why options p q a b =
+    one_fact b.0 p q (subst (λ (t : List ℕ). SpellsFact t p) (one_some a.0 b.0 (sym a.1 ∙ b.1)) a.2) b.2
 
 -- ---- a function makes one output of what was read
 
@@ -68,6 +78,9 @@ one_status recovered runs Recover options input x y a b = recovered input x y a 
 one_status recovered runs Ask options input x y a b =
     one_of (asked options.steps b.0) input x y
     (subst (λ (q : WrittenAsk). on_session (asked options.steps q) input x) (one_asked options a.0 b.0 a.1 b.1) a.2) b.2
+one_status recovered runs Explain options input x y a b =
+    one_of (explained options.steps b.0) input x y
+    (subst (λ (fact : WrittenFact). on_session (explained options.steps fact) input x) (one_why options a.0 b.0 a.1 b.1) a.2) b.2
 one_status recovered runs Run options input x y a b = one_run runs options input x y a b
 one_status recovered runs Serial options input x y a b = one_of (ran options.steps) input x y a b
 one_status recovered runs Save options input x y a b = one_of (kept options.steps) input x y a b

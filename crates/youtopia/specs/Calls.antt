@@ -16,13 +16,16 @@ use Rattle.yt_commands.specs.Asked.{asked}
 use Rattle.yt_commands.specs.Commands.{on_session, on_session_by, formatted, upgraded_text, checked}
 use Rattle.yt_commands.specs.Journaled.{journaled, recovering}
 use Rattle.yt_commands.specs.Runs.{ran, kept}
+use Rattle.yt_explaining.specs.Explained.{explained}
+use Rattle.yt_grammar.specs.Statements.{WrittenFact}
 use Rattle.yt_machine.specs.Updates as machine
+use Rattle.yt_reader.specs.Facts.{SpellsFact}
 use Rattle.yt_run.specs.Runs.{running}
 use Rattle.yt_words.specs.Alike.{text_of}
 use Rattle.yt_words.specs.Meaning.{Answers, AreInRange, is_refused}
 use Rattle.yt_words.specs.declared.help.TheConstants.{HELP, VERSION_LINE}
 use Rattle.yt_words.specs.declared.names.CommandName.{CommandName}
-use Rattle.yt_words.specs.declared.names.CommandName.TheVariants.{Run, Serial, Format, Check, Save, Upgrade, Ask, Journal, Recover}
+use Rattle.yt_words.specs.declared.names.CommandName.TheVariants.{Run, Serial, Format, Check, Save, Upgrade, Ask, Explain, Journal, Recover}
 use Rattle.yt_words.specs.declared.names.Deps.{Deps}
 use Rattle.yt_words.specs.declared.names.Deps.TheVariants.{Coarse, Precise}
 use Rattle.yt_words.specs.declared.reading.Options.{Options}
@@ -49,6 +52,14 @@ AsksFor options q = (text : List ℕ) × (text_of options.query ≡ Some text) �
 abbrev pub LacksQuery : Options → Type 0
 LacksQuery options = (q : WrittenAsk) → AsksFor options q → ⊥
 
+-- the option `tuple` spells the fact
+abbrev pub AsksWhy : Options → WrittenFact → Type 0
+AsksWhy options fact = (text : List ℕ) × (text_of options.tuple ≡ Some text) × SpellsFact text fact
+
+-- it spells none
+abbrev pub LacksFact : Options → Type 0
+LacksFact options = (fact : WrittenFact) → AsksWhy options fact → ⊥
+
 -- the test of dependences that a word names
 abbrev pub deps_of : Deps → machine.Deps
 deps_of Coarse = machine.Coarse
@@ -58,7 +69,7 @@ deps_of Precise = machine.Precise
 abbrev pub settings_in : Options → machine.Settings
 settings_in options = record { retries = options.retries; deps = deps_of options.deps }
 
--- what each command with its options makes of an input; `ask` asks the query that its option spells
+-- what each command with its options makes of an input; `ask` asks the query that its option spells, `explain` explains the fact
 abbrev pub makes : CommandName → Options → Meaning
 makes Run options = on_session_by (running options.trace options.steps (settings_in options))
 makes Serial options = on_session (ran options.steps)
@@ -68,13 +79,17 @@ makes Save options = on_session (kept options.steps)
 makes Upgrade options = on_session upgraded_text
 makes Journal options = on_session (journaled options.steps)
 makes Recover options = recovering
+makes Explain options = λ input output. (fact : WrittenFact) × AsksWhy options fact × on_session (explained options.steps fact) input output
 makes Ask options = λ input output. (q : WrittenAsk) × AsksFor options q × on_session (asked options.steps q) input output
 
--- what a command with its options does: the row of the status holds; `ask` without a query is refused as wrong words are
+-- what a command with its options does: the row of the status holds; `ask` without a query and `explain` without a fact are refused as wrong words are
 abbrev pub Does : CommandName → Options → Status → Change → Change → Change → Type 0
 Does Ask options status source out err =
     ((status ≡ Usage) × LacksQuery options × DoesNothing failures.Usage source out err)
     ⊎ Row status (makes Ask options) source out err
+Does Explain options status source out err =
+    ((status ≡ Usage) × LacksFact options × DoesNothing failures.Usage source out err)
+    ⊎ Row status (makes Explain options) source out err
 Does command options status source out err = Row status (makes command options) source out err
 
 -- what was asked for is done; help and the version leave the input alone

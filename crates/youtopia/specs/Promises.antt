@@ -12,6 +12,7 @@ use Rattle.yt_commands.specs.Runs.{ending_by}
 use Rattle.yt_commands.specs.Written.{HasWritten, WroteWhatHolds}
 use Rattle.yt_grammar.specs.Lines.{Spells}
 use Rattle.yt_grammar.specs.Sessions.{SessionData}
+use Rattle.yt_grammar.specs.Statements.{WrittenFact}
 use Rattle.yt_history.specs.PlainEntries.{PlainEntry}
 use Rattle.yt_kept.specs.Kept.{InForceHold}
 use Rattle.yt_report.specs.Results.{result_text, serial_told}
@@ -22,11 +23,11 @@ use Rattle.yt_session.specs.Base.{base_violation}
 use Rattle.yt_words.specs.Meaning.{Answers}
 use Rattle.yt_words.specs.declared.help.TheConstants.{HELP, VERSION_LINE}
 use Rattle.yt_words.specs.declared.names.CommandName.{CommandName}
-use Rattle.yt_words.specs.declared.names.CommandName.TheVariants.{Run, Serial, Save, Ask, Journal, Recover}
+use Rattle.yt_words.specs.declared.names.CommandName.TheVariants.{Run, Serial, Save, Ask, Explain, Journal, Recover}
 use Rattle.yt_words.specs.declared.reading.Options.{Options}
 use Rattle.yt_words.specs.declared.reading.Request.{Request}
 use Rattle.yt_words.specs.declared.reading.Request.TheVariants.{Command, Help, Version}
-use Rattle.youtopia.specs.Calls.{AsksFor, makes, settings_in, telling}
+use Rattle.youtopia.specs.Calls.{AsksFor, AsksWhy, makes, settings_in, telling}
 
 -- what a request makes of an input
 abbrev pub due : Request → Meaning
@@ -59,6 +60,7 @@ MayEnd Run status = (status ≡ Ended) ⊎ (status ≡ Stuck)
 MayEnd Serial status = (status ≡ Ended) ⊎ (status ≡ Stuck)
 MayEnd Save status = (status ≡ Ended) ⊎ ((status ≡ Stuck) ⊎ (status ≡ TooLarge))
 MayEnd Ask status = (status ≡ Ended) ⊎ ((status ≡ Stuck) ⊎ (status ≡ QueryRefused))
+MayEnd Explain status = (status ≡ Ended) ⊎ (status ≡ Stuck)
 MayEnd Journal status = (status ≡ Ended) ⊎ ((status ≡ Stuck) ⊎ (status ≡ TooLarge))
 MayEnd command status = status ≡ Ended
 
@@ -67,9 +69,10 @@ abbrev pub ReadsSession : CommandName → Type 0
 ReadsSession Recover = ⊥
 ReadsSession command = Unit {0}
 
--- the words of `ask` spell a query
+-- the words of `ask` spell a query, those of `explain` a fact
 abbrev pub HasQuery : CommandName → Options → Type 0
 HasQuery Ask options = (q : WrittenAsk) × AsksFor options q
+HasQuery Explain options = (fact : WrittenFact) × AsksWhy options fact
 HasQuery command options = Unit {0}
 
 -- Accepted words of a command on sessions, a session whose base meets its mappings, and nothing fails: the command ends so,

@@ -5,6 +5,7 @@ ghost use Rattle.yt_command.specs.Devices.{change};
 ghost use Rattle.yt_words.specs.Meaning.{HasRanges};
 ghost use Rattle.youtopia.specs.Calls.{AsksFor, CallsPlainly, Does, DoesPlainly, LacksQuery, PerformsPlainly};
 
+use crate::explaining::explain_fact;
 use crate::telling::Telling;
 use std::alloc::Global;
 use yt_ask::{RawAsk, parse_ask};
@@ -79,6 +80,7 @@ fn command<S: Source, O: Sink, E: Sink>(
         CommandName::Save => perform(alloc, &OnSession(Save { budget }), source, out, err),
         CommandName::Upgrade => perform(alloc, &OnSession(Upgrade), source, out, err),
         CommandName::Ask => ask_query(alloc, options, source, out, err),
+        CommandName::Explain => explain_fact(alloc, options, source, out, err),
         CommandName::Journal => perform(alloc, &OnSession(Journal { budget }), source, out, err),
         CommandName::Recover => perform(alloc, &Recover, source, out, err),
     }

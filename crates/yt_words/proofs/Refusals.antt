@@ -97,6 +97,7 @@ command_is_known command.Check = refl
 command_is_known command.Save = refl
 command_is_known command.Upgrade = refl
 command_is_known command.Ask = refl
+command_is_known command.Explain = refl
 command_is_known command.Journal = refl
 command_is_known command.Recover = refl
 

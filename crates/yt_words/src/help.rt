@@ -21,6 +21,7 @@ Commands:
   save      run the updates, and print what they left as a session
   upgrade   print the session in the newest format
   ask       run the updates; print the certain answers to a query
+  explain   run the updates; print why a tuple is in what they left
   journal   run the updates, and write what they commit as a journal
   recover   read a journal; print its number of commits and what they left
 
@@ -31,11 +32,11 @@ Options:
   --retries N   how often an update is tried again before it waits, 0 to 4 [3]
   --trace       print the trace of the run after the result
   --query TEXT  the query to ask, as in 'q(x): R(x, y), S(y)'
+  --tuple FACT  the tuple to explain, as in 'R(1, ?2.1)'
   -h, --help    print this text
   -V, --version print the version
 
 Options that are read and change nothing so far:
-  --tuple FACT  the tuple to explain
   --count N     how many updates are generated, 1 to 1000 [60]
   --seed N      the seed of the generator, 0 to 4294967295 [1]
 

@@ -21,6 +21,8 @@ pub enum CommandName {
     Upgrade,
     /// Runs a session's updates one after the other, and prints the certain answers to a query over what they left.
     Ask,
+    /// Runs a session's updates one after the other, and prints why a tuple is in what they left.
+    Explain,
     /// Runs a session's updates one after the other, and writes what they commit as a journal.
     Journal,
     /// Tells what a journal stands for.
@@ -62,6 +64,9 @@ pub(crate) fn command_named(text: &str) -> Option<CommandName>
     }
     if text == "ask" {
         return Some(CommandName::Ask);
+    }
+    if text == "explain" {
+        return Some(CommandName::Explain);
     }
     if text == "journal" {
         return Some(CommandName::Journal);

@@ -1,0 +1,112 @@
+//! The command `explain`: the reasons for a tuple in what a session's updates leave.
+ghost use Rattle.std.specs.Prelude.{◌≡◌, None, IfOk};
+ghost use Rattle.std.specs.Option.{option_map};
+ghost use Rattle.yt_base.specs.Meanings.{fact_of as tuple_meant};
+ghost use Rattle.yt_command.specs.Outputs.{view_of};
+ghost use Rattle.yt_explain.specs.Meanings.{reasons_in};
+ghost use Rattle.yt_forms.specs.Views.{fact_of as fact_meant};
+ghost use Rattle.yt_grammar.specs.Validity.{IsSession};
+ghost use Rattle.yt_program.specs.Results.{result_of};
+ghost use Rattle.yt_report.specs.Results.{serial_told};
+ghost use Rattle.yt_session.specs.Base.{base_violation};
+ghost use Rattle.yt_session.specs.Meanings.{session_of};
+ghost use Rattle.yt_explaining.specs.Explained.{absent_text, explained, explained_of, explanation_in, reasons_output, reasons_text};
+
+use std::alloc::Global;
+use yt_base::{Memory, Tuple};
+use yt_command::Output;
+use yt_commands::{SessionCommand, base_refusal, base_violation, ending_by};
+use yt_explain::{Explained, Explanation, explain_over, explanation_text};
+use yt_facts::IndexedFacts;
+use yt_limits::Budget;
+use yt_program::SessionResult;
+use yt_reader::{RawFact, tuple_in};
+use yt_serial::{base_of, serial_over};
+use yt_session::Session;
+
+/// `explain`: the updates taken whole, one after the other; why a tuple is in the repository that they left, or that it is
+/// absent.
+#[derive(Drop)]
+pub struct Explain<'a> {
+    /// How many steps an update may take.
+    pub budget: Budget,
+    /// The tuple, as a fact spells it.
+    pub fact: &'a RawFact,
+}
+
+// What is told of a tuple that is not there.
+fn absent_text(alloc: Global) -> Result<Vec<u8>, Memory>
+    ensures { IfOk result (λ text. text.items ≡ absent_text) }
+{
+    let mut text = Vec::new(alloc);
+    text.extend_from_slice(b"absent\n")?;
+    Ok(text)
+}
+
+// The lines of the reasons, or that there are none.
+fn reasons_text(
+    alloc: Global,
+    session: &Session,
+    explanation: &Option<Explanation>,
+) -> Result<Vec<u8>, Memory>
+    ensures { IfOk result (λ text. text.items ≡
+        reasons_text (session_of session.now) (option_map reasons_in explanation.now)) }
+{
+    match explanation {
+        Some(reasons) => explanation_text(alloc, session, reasons),
+        None => absent_text(alloc),
+    }
+}
+
+// What is printed of a run with these reasons.
+fn reasons_output(
+    alloc: Global,
+    session: &Session,
+    told: &SessionResult,
+    explanation: &Option<Explanation>,
+) -> Result<Output, Memory>
+    ensures { IfOk result (λ output. view_of output ≡
+        reasons_output (session_of session.now) (result_of told.now)
+        (option_map reasons_in explanation.now)) }
+{
+    let text = reasons_text(alloc, session, explanation)?;
+    Ok(Output::Text(ending_by(told), text))
+}
+
+// What is made of a session whose base violates no mapping.
+fn over_base(
+    alloc: Global,
+    session: &Session,
+    base: IndexedFacts,
+    budget: Budget,
+    fact: &RawFact,
+) -> Result<Output, Memory>
+    requires valid { IsSession (session_of session.now) }
+    requires met { base_violation (session_of session.now) ≡ None }
+    requires base { base ≡ (session_of session.now).base }
+    ensures { IfOk result (λ output. view_of output ≡
+        explained_of budget (fact_meant fact.now) (session_of session.now)) }
+{
+    match tuple_in(alloc, &session.schema, fact)? {
+        Some(tuple) => {
+            let run = explain_over(alloc, session, base, budget, &tuple)?;
+            reasons_output(alloc, session, &run.result, &run.explanation)
+        }
+        None => {
+            let told = serial_over(alloc, session, base, budget)?;
+            reasons_output(alloc, session, &told, &None)
+        }
+    }
+}
+
+impl<'a> SessionCommand for Explain<'a> {
+    ghost makes = { λ c s output. output ≡ explained c.budget (fact_meant c.fact.now) s };
+
+    fn make(&self, alloc: Global, session: Session) -> Result<Output, Memory> {
+        let base = base_of(alloc, &session)?;
+        if let Some(violated) = base_violation(alloc, &session, &base)? {
+            return base_refusal(alloc, &session.schema, &violated);
+        }
+        over_base(alloc, &session, base, self.budget, self.fact)
+    }
+}
