@@ -136,6 +136,9 @@ static bool is_right(const struct telling *told, long number) {
 }
 
 static void sum_up(void) {
+  static bool done;
+  if (done) return;
+  done = true;
   say("%ld passed, %ld failed, %ld undisturbed\n", passed, failed, undisturbed);
 }
 
@@ -269,6 +272,13 @@ __attribute__((constructor)) static void start(void) {
 /* Behind main: the end of the one that is split. */
 __attribute__((destructor)) static void stop(void) {
   if (inside && !attacked && kind != KINDS) sum_up();
+}
+
+/* So ends a program with threads, without its destructors. */
+void _exit(int status) {
+  stop();
+  syscall(SYS_exit_group, status);
+  __builtin_unreachable();
 }
 
 /* ---- the calls ---- */
