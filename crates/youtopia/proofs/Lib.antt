@@ -2,6 +2,7 @@ mod Alike
 mod Asked
 mod Asking
 mod Completed
+mod Drilled
 mod Due
 mod Headlines
 mod Named
