@@ -97,7 +97,7 @@ pub(crate) fn drill<R: Threads + Wait + Sync, G: Gate + Sync, O: Sink, E: Sink>(
         crew: Crew::new(options.workers, settings_in(options)),
         budget: Budget::new(options.steps),
         count: Count::new(options.count),
-        seed: options.seed,
+        seed: u64::from(options.seed),
     };
     command.perform(rt, gate, alloc, out, err)
 }

@@ -32,14 +32,14 @@ pub struct Drill {
     /// How many updates are generated.
     pub count: Count,
     /// The seed of the generator.
-    pub seed: u32,
+    pub seed: u64,
 }
 
 // What is printed of a run of the generated session.
 fn summary_output(
     alloc: Global,
     count: Count,
-    seed: u32,
+    seed: u64,
     told: &SessionResult,
 ) -> Result<Output, Memory>
     ensures { IfOk result (λ output. view_of output ≡
@@ -60,7 +60,7 @@ impl Drill {
         ensures { IfOk result (λ told. result_of told ≡
             drill_told self.budget self.count self.seed) }
     {
-        let session = drill(alloc, self.count, u64::from(self.seed))?;
+        let session = drill(alloc, self.count, self.seed)?;
         let settings = self.crew.settings();
         let seats = self.crew.seats();
         let run = worked(rt, gate, alloc, &session, settings, self.budget, seats)?;
