@@ -20,8 +20,8 @@ STEPS = 100
 # Rows with different sessions, whose bases meet their mappings.
 ROWS = """
 added-mapping already-there ask ask-null ask-stuck ask-travel budget-unify cascade conflict-abort explain
-explain-image-unified explain-last-put format-2-upgrade journal-empty negative-frontier-misfit negative-
-frontier-one one-repair refused-null repeated-variable replace-merges taken-null two-inserts unifier-cycle
+explain-image-unified explain-last-put format-2-upgrade journal-empty negative-frontier-misfit
+negative-frontier-one one-repair refused-null repeated-variable replace-merges taken-null two-inserts unifier-cycle
 """
 
 
