@@ -16,14 +16,8 @@ use Rattle.yt_run.specs.Runs.{running}
 use Rattle.yt_run.specs.Written.{WroteRun}
 use Rattle.yt_words.specs.Alike.{AskTheSame}
 use Rattle.yt_words.specs.Meaning.{Answers, is_refused}
-use Rattle.yt_words.specs.declared.names.CommandName.{CommandName}
-use Rattle.yt_words.specs.declared.names.CommandName.TheVariants.{Run, Drill}
-use Rattle.yt_words.specs.declared.reading.Options.{Options}
 use Rattle.yt_words.specs.declared.reading.Request.{Request}
-use Rattle.yt_words.specs.declared.reading.Request.TheVariants.{Command}
-use Rattle.youtopia.specs.declared.workers.ByWorkers.{ByWorkers}
-use Rattle.youtopia.specs.declared.workers.ByWorkers.TheVariants as workers
-use Rattle.youtopia.specs.Calls.{AskFor, AskForWork, Calls, Does, DoesWork, Performs}
+use Rattle.youtopia.specs.Calls.{Calls, Performs}
 
 -- words that are answered are not refused, and ask for one thing
 abbrev pub NeverBoth : Type 0
@@ -61,20 +55,3 @@ pub done : NeverBoth → OneThing → (words : List Letters) (status : Status) (
 done never one words status source out err request asks (inl refused) = absurd (not_both (is_refused words) refused.0 (never words request asks))
 done never one words status source out err request asks (inr (inl wanting)) = inl wanting.0
 done never one words status source out err request asks (inr (inr did)) = inr (did.0, one words request did.0 asks did.2, did.2, did.3)
-
--- a command that was asked for is done
-asked_calls : NeverBoth → (words : List Letters) (k : CommandName) (o : Options) (status : Status) (source out err : Change) → AskFor words k o
-    → Does k o status source out err → Calls words status source out err
-asked_calls never words k o status source out err asks did =
-    inr (inr (Command o, never words (Command o) asks.says, asks.says, subst (λ (x : CommandName). Does x o status source out err) (sym asks.named) did))
-
--- work that was asked for is done
-work_done : NeverBoth → (words : List Letters) (work : ByWorkers) (status : Status) (source out err : Change) → AskForWork words work
-    → DoesWork work status source out err → Calls words status source out err
-work_done never words (workers.Run o) status source out err asks did = asked_calls never words Run o status source out err asks did
-work_done never words (workers.Drill o) status source out err asks did = asked_calls never words Drill o status source out err asks did
-
-pub work_calls : NeverBoth → (words : List Letters) (found : Option ByWorkers) (work : ByWorkers) (status : Status) (source out err : Change) → found ≡ Some work
-    → IfSome found (AskForWork words) → DoesWork work status source out err → Calls words status source out err
-work_calls never words found work status source out err is asked did =
-    work_done never words work status source out err (subst (λ (x : Option ByWorkers). IfSome x (AskForWork words)) is asked) did

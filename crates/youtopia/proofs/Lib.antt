@@ -8,3 +8,4 @@ mod Headlines
 mod Named
 mod Served
 mod Statuses
+mod Work

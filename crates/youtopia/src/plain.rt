@@ -73,7 +73,8 @@ fn command<S: Source, O: Sink, E: Sink>(
 {
     let budget = Budget::new(options.steps);
     match options.command {
-        CommandName::Run | CommandName::Drill => fail(Failure::Usage, err),
+        CommandName::Run => fail(Failure::Usage, err),
+        CommandName::Drill => fail(Failure::Usage, err),
         CommandName::Serial => perform(alloc, &OnSession(Serial { budget }), source, out, err),
         CommandName::Format => perform(alloc, &OnSession(Format), source, out, err),
         CommandName::Check => perform(alloc, &OnSession(Check), source, out, err),

@@ -1,4 +1,4 @@
-use Rattle.youtopia.proofs.Asked.{work_calls}
+use Rattle.youtopia.proofs.Work.{work_calls}
 use Rattle.youtopia.proofs.top.answer.Goals as goal
 
 pub returns-in-Ok-Some-Run : goal.returns-in-Ok-Some-Run
