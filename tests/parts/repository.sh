@@ -23,3 +23,10 @@ check 'the brute-force script writes the stored cases of violations' \
   "$(python3 tests/violation_cases.py 2>&1 > /dev/null
      for file in stdin stdout; do cmp "$stored/$file" "crates/yt_violation_table/$file" 2>&1; done)"
 cp "$stored"/std* crates/yt_violation_table/
+
+# The stored explanations are judged as the reference does.
+cp crates/yt_explanation_table/stdin crates/yt_explanation_table/stdout "$stored"
+check 'the reference judges the stored explanations, whole and broken, as it is stored' \
+  "$(python3 tests/explanation_cases.py 2>&1 > /dev/null
+     for file in stdin stdout; do cmp "$stored/$file" "crates/yt_explanation_table/$file" 2>&1; done)"
+cp "$stored"/std* crates/yt_explanation_table/

@@ -15,7 +15,7 @@ use Rattle.yt_grammar.specs.Sessions.{SessionData}
 use Rattle.yt_grammar.specs.Statements.{WrittenFact}
 use Rattle.yt_reader.specs.Facts.{SpellsFact}
 use Rattle.yt_words.specs.declared.names.CommandName.{CommandName}
-use Rattle.yt_words.specs.declared.names.CommandName.TheVariants.{Run, Serial, Format, Check, Save, Upgrade, Ask, Explain, Journal, Recover}
+use Rattle.yt_words.specs.declared.names.CommandName.TheVariants.{Run, Serial, Format, Check, Save, Upgrade, Ask, Explain, Drill, Journal, Recover}
 use Rattle.yt_words.specs.declared.reading.Options.{Options}
 use Rattle.youtopia.proofs.Asked.{OneRecovered, OneRun}
 use Rattle.youtopia.specs.Calls.{AsksFor, AsksWhy, makes, settings_in}
@@ -84,6 +84,7 @@ one_status recovered runs Explain options input x y a b =
 one_status recovered runs Run options input x y a b = one_run runs options input x y a b
 one_status recovered runs Serial options input x y a b = one_of (ran options.steps) input x y a b
 one_status recovered runs Save options input x y a b = one_of (kept options.steps) input x y a b
+one_status recovered runs Drill options input x y a b = ap status_of (a ∙ sym b)
 one_status recovered runs Journal options input x y a b = one_of (journaled options.steps) input x y a b
 one_status recovered runs Format options input x y a b = one_of formatted input x y a b
 one_status recovered runs Upgrade options input x y a b = one_of upgraded_text input x y a b

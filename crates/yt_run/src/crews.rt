@@ -36,14 +36,15 @@ impl Crew {
     }
 
     /// How many workers there are.
-    pub(crate) fn seats(self) -> u64
+    pub fn seats(self) -> u64
+        ensures same { result ≡ self.workers }
         ensures few { (1 ≤ result) × (result ≤ 16) }
     {
         u64::from(self.workers)
     }
 
     /// Their settings.
-    pub(crate) fn settings(self) -> Settings
+    pub fn settings(self) -> Settings
         ensures same { result ≡ self.settings }
         ensures retries { result.retries ≤ 4 }
     {

@@ -1,6 +1,10 @@
-use Rattle.youtopia.proofs.Asked.{run_calls}
+use Rattle.youtopia.proofs.Work.{work_calls}
 use Rattle.youtopia.proofs.top.answer.Goals as goal
 
-pub returns-in-Ok-Some : goal.returns-in-Ok-Some
-returns-in-Ok-Some g c =
-    record { calls = run_calls c.words_are_answered_or_refused.ensures.never_both _ _ _ _ _ _ _ c.in-Ok-Some.field-0-is c.in-Ok-Some.ensures.some c.run.ensures.does }
+pub returns-in-Ok-Some-Run : goal.returns-in-Ok-Some-Run
+returns-in-Ok-Some-Run g c =
+    record { calls = work_calls c.words_are_answered_or_refused.ensures.never_both _ _ _ _ _ _ _ c.in-Ok-Some-Run.field-0-is c.in-Ok-Some-Run.ensures.some c.run.ensures.does }
+
+pub returns-in-Ok-Some-Drill : goal.returns-in-Ok-Some-Drill
+returns-in-Ok-Some-Drill g c =
+    record { calls = ? }

@@ -1,0 +1,6 @@
+use Rattle.yt_drilling.proofs.Told.{tells}
+use Rattle.yt_drilling.proofs.drills.Drill.work.Goals as goal
+
+pub returns : goal.returns
+returns g c =
+    tells _ _ _ _ _ _ _ c.in_ok-told.ensures.serial c.in_ok-run.ensures.budget c.in_ok-run.ensures.session c.in_ok-session.ensures.drilled

@@ -1,0 +1,79 @@
+//! What the checker says of explanations.
+ghost use Rattle.std.specs.Prelude.{◌≡◌, None};
+ghost use Rattle.yt_grammar.specs.Validity.{IsSession};
+ghost use Rattle.yt_session.specs.Base.{base_violation};
+ghost use Rattle.yt_session.specs.Meanings.{session_of};
+
+use crate::breaking::{BREAKS, Break, broken};
+use std::alloc::Global;
+use yt_base::{Memory, Tuple};
+use yt_explain::{Explanation, check_explanation, explain};
+use yt_limits::Budget;
+use yt_serial::serial;
+use yt_session::Session;
+
+const STEPS: u32 = 100;
+
+/// The lines of all tuples that the session's serial run leaves, in order, numbered from 1.
+pub(crate) fn table(alloc: Global, session: &Session) -> Result<String, Memory>
+    requires valid { IsSession (session_of session.now) }
+    requires met { base_violation (session_of session.now) ≡ None }
+{
+    let told = serial(alloc, session, Budget::new(STEPS))?;
+    let mut text = String::new(alloc);
+    for (before, tuple) in told.repository.as_slice().iter().enumerate() {
+        tell(alloc, &mut text, session, before + 1, tuple)?;
+    }
+    Ok(text)
+}
+
+// Tells of the explanation of a tuple, whole and then broken.
+fn tell(
+    alloc: Global,
+    text: &mut String,
+    session: &Session,
+    number: usize,
+    tuple: &Tuple,
+) -> Result<(), Memory>
+    requires valid { IsSession (session_of session.now) }
+    requires met { base_violation (session_of session.now) ≡ None }
+{
+    let Some(whole) = explain(alloc, session, Budget::new(STEPS), tuple)? else {
+        return Ok(());
+    };
+    let taken = check_explanation(alloc, session, Budget::new(STEPS), &whole)?;
+    text.push_str(&format!(in alloc; "{number} whole {}\n", said(taken))?)?;
+    for place in 0..whole.len() {
+        for (way, name) in BREAKS {
+            let taken = is_taken(alloc, session, tuple, place, way)?;
+            text.push_str(&format!(in alloc; "{number} {name} {place} {}\n", said(taken))?)?;
+        }
+    }
+    Ok(())
+}
+
+fn said(taken: bool) -> &'static str {
+    if taken { "taken" } else { "refused" }
+}
+
+// Whether the checker takes the tuple's explanation with the reason at the place broken.
+fn is_taken(
+    alloc: Global,
+    session: &Session,
+    tuple: &Tuple,
+    place: usize,
+    way: Break,
+) -> Result<bool, Memory>
+    requires valid { IsSession (session_of session.now) }
+    requires met { base_violation (session_of session.now) ≡ None }
+{
+    let one = explain(alloc, session, Budget::new(STEPS), tuple)?;
+    let same = explain(alloc, session, Budget::new(STEPS), tuple)?;
+    match (one, same) {
+        (Some(one), Some(same)) => {
+            let reasons: Explanation = broken(one, same, place, way)?;
+            check_explanation(alloc, session, Budget::new(STEPS), &reasons)
+        }
+        _ => Ok(false),
+    }
+}
