@@ -54,8 +54,9 @@ unmet_values_stay ms (Occurs u k) own scope trails D E a h =
 
 -- ---- which repositories agree but for some writes
 
-pub agree_alone : (D : List Fact) → IsRepository D → AgreeBut [] D D
-agree_alone D z = record { sorted = z; also = z; same = λ t h. refl }
+-- Each repository does with itself.
+pub agree_alone : (trails : List (List Change)) (D : List Fact) → IsRepository D → AgreeBut trails D D
+agree_alone trails D z = record { sorted = z; also = z; same = λ t h. refl }
 
 -- After the same writes they still do.
 pub agree_after : (trails : List (List Change)) (D E : List Fact) (vs : List Change) → AgreeBut trails D E → AgreeBut trails (apply D vs) (apply E vs)
