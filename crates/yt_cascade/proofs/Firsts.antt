@@ -11,8 +11,9 @@ use Rattle.yt_model.specs.Mappings.{Rule}
 use Rattle.yt_query.specs.Meanings.{Read}
 use Rattle.yt_queue.specs.Queues.{logged}
 use Rattle.yt_steps.specs.Chase.{caused_chase}
-use Rattle.yt_cascade.specs.declared.lost.Member.{Member}
-use Rattle.yt_cascade.specs.Meanings.{members_of, trail_of, trails_of}
+use Rattle.yt_conflict.specs.Trails.{writes_of, trails_of}
+use Rattle.yt_conflict.specs.declared.concerns.Trail.{Trail}
+use Rattle.yt_cascade.specs.Meanings.{members_of}
 use Rattle.yt_cascade.specs.Reached.{is_reached, any_reached, least_writer}
 
 module _ (ms : List Rule) (B : ℕ) where
@@ -53,11 +54,11 @@ module _ (ms : List Rule) (B : ℕ) where
   first_is p q h rs = from_that p q h 0 rs ∙ raised_none (first_that q (map (logged ms B) rs))
 
   -- The read is reached by one of the members' trails just where it is by one of the history's members.
-  pub reached_is : (ks : List Member) (r : Read) → any_reached ms (trails_of ks) r ≡ list_any (λ m. reads_of (caused_chase ms B) (logged ms B r) m.trail) (members_of ms B ks)
+  pub reached_is : (ks : List Trail) (r : Read) → any_reached ms (trails_of ks) r ≡ list_any (λ m. reads_of (caused_chase ms B) (logged ms B r) m.trail) (members_of ms B ks)
   reached_is [] r = refl
-  reached_is (m ∷ ks) r = ap (λ b. is_reached ms r (trail_of m) || b) (reached_is ks r)
+  reached_is (m ∷ ks) r = ap (λ b. is_reached ms r (writes_of m) || b) (reached_is ks r)
 
   -- The least member that wrote a relation which the read mentions.
-  pub writer_is : (ks : List Member) (r : Read) → writer_for (caused_chase ms B) (logged ms B r) (members_of ms B ks) ≡ least_writer ms r ks
+  pub writer_is : (ks : List Trail) (r : Read) → writer_for (caused_chase ms B) (logged ms B r) (members_of ms B ks) ≡ least_writer ms r ks
   writer_is [] r = refl
-  writer_is (m ∷ ks) r = ap (λ n. if is_reached ms r (trail_of m) then m.number else n) (writer_is ks r)
+  writer_is (m ∷ ks) r = ap (λ n. if is_reached ms r (writes_of m) then m.update else n) (writer_is ks r)

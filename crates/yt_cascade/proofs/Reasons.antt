@@ -1,31 +1,43 @@
 -- What is found for one reader is its cause in a history.
-use Rattle.std.proofs.Common.{◌≡◌, ◌∙◌, ap, refl, sym, ℕ, Bool, true, false, not, ◌&&◌, ◌↔◌, List, [], ◌∷◌, map, take, Option, Some, None, nat_lt}
-use Rattle.std.proofs.lemmas.Bool.{and_parts}
+use Rattle.std.proofs.Common.{◌≡◌, ◌∙◌, ap, refl, sym, subst, ℕ, suc, ◌≤◌, Bool, true, false, not, ◌&&◌, ◌↔◌, List, [], ◌∷◌, map, take, Option, Some, None, nat_lt}
+use Rattle.std.proofs.lemmas.Bool.{and_parts, and_from}
+use Rattle.std.proofs.lemmas.Option.{none-some}
 use Rattle.std.specs.Prelude.{if◌then◌else◌}
+use Rattle.std.specs.List.{list_all, AllByRecursion}
 use Rattle.std.specs.Option.{option_map}
-use Rattle.yt_conflict.specs.Changes.{Numbered, Changed, first_from, is_changed}
+use Rattle.yt_conflict.specs.Changes.{Numbered, Changed, first_from, is_changed, is_met_and_changed, value_now}
+use Rattle.yt_conflict.specs.Concerns.{AgreeBut, is_met}
+use Rattle.yt_conflict.specs.Trails.{trails_of}
+use Rattle.yt_conflict.specs.declared.concerns.Trail.{Trail}
+use Rattle.yt_conflict.proofs.Staying.{unmet_values_stay}
 use Rattle.yt_entries.specs.Meanings.{cause_of as plain_of}
 use Rattle.yt_entries.specs.declared.causes.Cause.{Cause as CauseOfProgram}
 use Rattle.yt_history.specs.PlainEntries.{PlainCause, cause_kept}
 use Rattle.yt_machine.specs.Cascade.{Cause, Conflict, Depends, read_depends, writer_for}
 use Rattle.yt_machine.specs.Reads.{Changed as ChangedOfHistory, changed_read, first_that, is_valid}
+use Rattle.yt_machine.specs.Runs.{IsRun}
 use Rattle.yt_machine.specs.Settle.{or_else}
 use Rattle.yt_machine.specs.Standings.{is_nil}
 use Rattle.yt_machine.specs.Updates.{Read as ReadOfHistory, Deps, Precise, Coarse}
 use Rattle.yt_model.specs.Mappings.{Rule}
-use Rattle.yt_model.specs.Updates.{direction_of}
-use Rattle.yt_query.specs.Meanings.{read_of}
+use Rattle.yt_machine.proofs.Settling.{run_valid}
+use Rattle.yt_model.specs.Queries.{Reply, same_reply}
+use Rattle.yt_model.specs.Repository.{Change}
+use Rattle.yt_model.specs.Updates.{Operation, direction_of}
+use Rattle.yt_model.specs.Values.{Fact}
+use Rattle.yt_model.specs.Violations.{Caused}
+use Rattle.yt_query.specs.Meanings.{Read, read_of}
 use Rattle.yt_query.specs.declared.log.LoggedRead.{LoggedRead}
 use Rattle.yt_queue.specs.Queues.{logged, update_of}
 use Rattle.yt_queue.specs.Records.{IsLive}
 use Rattle.yt_queue.specs.declared.records.Record.{Record}
-use Rattle.yt_steps.specs.Chase.{caused_chase}
+use Rattle.yt_steps.proofs.ChaseLaws.{chase_laws}
+use Rattle.yt_steps.specs.Chase.{caused_chase, caused}
 use Rattle.yt_versions.specs.Standing.{Kept, seen}
 use Rattle.yt_cascade.specs.declared.lost.Lost.{Lost}
-use Rattle.yt_cascade.specs.declared.lost.Member.{Member}
-use Rattle.yt_cascade.specs.Meanings.{Above, found_of, members_of, trails_of}
+use Rattle.yt_cascade.specs.Meanings.{Above, found_of, members_of}
 use Rattle.yt_cascade.specs.Reached.{any_reached, first_changed_in, first_by}
-use Rattle.yt_cascade.specs.Walks.{number_of, is_live_in, may_have_cause, conflict_meant, dependence_meant, IsConflictWhere, IsDependenceFor, IsCauseFor}
+use Rattle.yt_cascade.specs.Walks.{number_of, is_live_in, may_have_cause, conflict_meant, dependence_meant, IsConflictFor, IsDependenceFor, IsCauseFor, LooksFor, RanBelow}
 use Rattle.yt_cascade.proofs.Firsts.{paired, first_is, reached_is, writer_is}
 
 -- ---- where a cause is looked for
@@ -53,7 +65,80 @@ by_dependence false true some X Y o l f e = e
 by_dependence true false some X Y o l f e = absurd (cc)
 by_dependence false false some X Y o l f e = absurd (cc)
 
+-- ---- the first read that passes, of those that are met
+
+same_test : (m b : Bool) → (m ≡ false → b ≡ false) → (m && b) ≡ b
+same_test true b h = refl
+same_test false b h = sym (h refl)
+
+-- It is the first of all, where none that is not met passes.
+first_met : (p met : Read → Bool) (n : ℕ) (rs : List Read) → AllByRecursion (λ r. met r ≡ false → p r ≡ false) rs → first_from (λ r. met r && p r) n rs ≡ first_from p n rs
+first_met p met n [] h = refl
+first_met p met n (r ∷ rs) h = λ i. if same_test (met r) (p r) h.0 i then Some (record { number = n; read = r }) else first_met p met (suc n) rs h.1 i
+
+-- Where nothing is written none is met.
+none_met : (ms : List Rule) (op : Operation) (D : List Fact) (own : List Change) (n : ℕ) (rs : List Read) → first_from (is_met_and_changed ms (direction_of op) D own ([] ∷ [])) n rs ≡ None
+none_met ms op D own n [] = refl
+none_met ms op D own n (r ∷ rs) = none_met ms op D own (suc n) rs
+
+unmapped : {A B : Type 0} (f : A → B) (o : Option A) → None ≡ option_map f o → o ≡ None
+unmapped f None e = refl
+unmapped f (Some x) e = absurd (none-some (f x) e)
+
 module _ (ms : List Rule) (B : ℕ) where
+  -- ---- reads that keep their values
+
+  -- Reads that were valid have not changed where no write meets them.
+  keeps : (op : Operation) (own : List Change) (trails : List (List Change)) (D E : List Fact) → AgreeBut trails D E → (rs : List Read) → list_all (is_valid (caused_chase ms B) op D own) (map (logged ms B) rs) ≡ true
+      → AllByRecursion (λ r. is_met ms trails r.query ≡ false → is_changed ms (direction_of op) E own r ≡ false) rs
+  keeps op own trails D E a [] v = tt
+  keeps op own trails D E a (r ∷ rs) v =
+      let parts = and_parts (is_valid (caused_chase ms B) op D own (logged ms B r)) (list_all (is_valid (caused_chase ms B) op D own) (map (logged ms B) rs)) v in (
+        λ m. ap (λ (x : Reply). not (same_reply r.reply x)) (sym (unmet_values_stay ms r.query (take r.own own) (Caused (direction_of op)) trails D E a m)) ∙ ap not parts.0,
+        keeps op own trails D E a rs parts.1,
+      )
+
+  was_not : (b : Bool) → not b ≡ false → b ≡ true
+  was_not true e = refl
+  was_not false e = absurd (cc)
+
+  -- Where none has changed they are valid.
+  all_valid_now : (op : Operation) (own : List Change) (E : List Fact) (n : ℕ) (rs : List Read) → first_from (is_changed ms (direction_of op) E own) n rs ≡ None → list_all (is_valid (caused_chase ms B) op E own) (map (logged ms B) rs) ≡ true
+  all_valid_now op own E n [] h = refl
+  all_valid_now op own E n (r ∷ rs) h = by (is_changed ms (direction_of op) E own r) refl h (λ g. all_valid_now op own E (suc n) rs g)
+    where
+      by : (b : Bool) → is_changed ms (direction_of op) E own r ≡ b → (if b then Some (record { number = n; read = r }) else first_from (is_changed ms (direction_of op) E own) (suc n) rs) ≡ None
+          → (first_from (is_changed ms (direction_of op) E own) (suc n) rs ≡ None → list_all (is_valid (caused_chase ms B) op E own) (map (logged ms B) rs) ≡ true)
+          → list_all (is_valid (caused_chase ms B) op E own) (map (logged ms B) (r ∷ rs)) ≡ true
+      by true e g rest = absurd (none-some (record { number = n; read = r }) (sym g))
+      by false e g rest = and_from (is_valid (caused_chase ms B) op E own (logged ms B r)) (list_all (is_valid (caused_chase ms B) op E own) (map (logged ms B) rs)) (was_not (is_valid (caused_chase ms B) op E own (logged ms B r)) e) (rest g)
+
+  -- The reads of a record's log.
+  abbrev reads : Record → List Read
+  reads r = map read_of r.log.items
+
+  -- They are valid over this.
+  abbrev pub ValidOver : List Fact → Record → Type 0
+  ValidOver D r = list_all (is_valid (caused_chase ms B) r.program.attempt.operation D r.program.attempt.own) (map (logged ms B) (reads r)) ≡ true
+
+  -- Those of a run are, over what it is a run of.
+  run_is_valid : 1 ≤ B → (D : List Fact) (n : ℕ) (r : Record) → r.withdrawn ≡ false → IsRun (caused_chase ms B) D n (update_of ms B r) → ValidOver D r
+  run_is_valid few D n r w q = run_valid (caused_chase ms B) (chase_laws caused ms B few) D n (update_of ms B r) w q
+
+  -- The first that has changed, whether met or not.
+  abbrev pub first_of_all : Kept → Record → Option Numbered
+  first_of_all v r = first_from (is_changed ms (direction_of r.program.attempt.operation) (seen (number_of r) v) r.program.attempt.own) 1 (reads r)
+
+  abbrev pub now_in : Kept → Record → Numbered → Changed
+  now_in v r t = record { number = t.number; read = t.read; now = value_now ms (direction_of r.program.attempt.operation) (seen (number_of r) v) r.program.attempt.own t.read }
+
+  -- It is the first of those that are met, where the reads were valid before.
+  met_first : (v : Kept) (trails : List (List Change)) (D : List Fact) (r : Record) → AgreeBut trails D (seen (number_of r) v) → ValidOver D r → first_changed_in ms v trails r ≡ option_map (now_in v r) (first_of_all v r)
+  met_first v trails D r a valid =
+      ap (option_map (now_in v r))
+      (first_met (is_changed ms (direction_of r.program.attempt.operation) (seen (number_of r) v) r.program.attempt.own) (λ t. is_met ms trails t.query) 1 (reads r)
+      (keeps r.program.attempt.operation r.program.attempt.own trails D (seen (number_of r) v) a (reads r) valid))
+
   -- ---- conflicts
 
   -- The conflict of reader n with update j.
@@ -61,7 +146,7 @@ module _ (ms : List Rule) (B : ℕ) where
   conflict_at j n t = Conflict n t.read j t.old t.new
 
   -- The dependence of reader n.
-  abbrev pub depends_at : List Member → ℕ → ℕ × ReadOfHistory (caused_chase ms B) → Cause (caused_chase ms B)
+  abbrev pub depends_at : List Trail → ℕ → ℕ × ReadOfHistory (caused_chase ms B) → Cause (caused_chase ms B)
   depends_at ks n t = Depends n t.0 (writer_for (caused_chase ms B) t.1 (members_of ms B ks))
 
   abbrev depends_on : ℕ → ℕ → ℕ → Option (Cause (caused_chase ms B))
@@ -78,19 +163,19 @@ module _ (ms : List Rule) (B : ℕ) where
 
   -- The first changed read of a log makes the conflict of its update.
   pub conflict_is : (j : ℕ) (v : Kept) (r : Record)
-      → option_map (cause_kept ms B) (option_map (conflict_meant j (number_of r)) (first_changed_in ms v r))
+      → option_map (cause_kept ms B) (option_map (conflict_meant j (number_of r)) (option_map (now_in v r) (first_of_all v r)))
       ≡ option_map (conflict_at j (number_of r)) (changed_read (caused_chase ms B) (seen (number_of r) v) (update_of ms B r))
   conflict_is j v r =
       let D = seen (number_of r) v in
       let op = r.program.attempt.operation in
       let own = r.program.attempt.own in
-      as_changed j (number_of r) _ (λ t. record { read = t.0; old = t.1.answer; new = (caused_chase ms B).value op t.1.query D (take t.1.own own) }) (λ t. refl) (first_from (is_changed ms (direction_of op) D own) 1 (map read_of r.log.items))
+      as_changed j (number_of r) (now_in v r) (λ t. record { read = t.0; old = t.1.answer; new = (caused_chase ms B).value op t.1.query D (take t.1.own own) }) (λ t. refl) (first_of_all v r)
       ∙ ap (λ o. option_map (conflict_at j (number_of r)) (option_map (λ t. record { read = t.0; old = t.1.answer; new = (caused_chase ms B).value op t.1.query D (take t.1.own own) }) o))
-      (first_is ms B (is_changed ms (direction_of op) D own) (λ q. not (is_valid (caused_chase ms B) op D own q)) (λ q. refl) (map read_of r.log.items))
+      (first_is ms B (is_changed ms (direction_of op) D own) (λ q. not (is_valid (caused_chase ms B) op D own q)) (λ q. refl) (reads r))
 
   -- ---- dependences
 
-  as_depends : (ks : List Member) (n : ℕ) (o : Option Numbered)
+  as_depends : (ks : List Trail) (n : ℕ) (o : Option Numbered)
       → option_map (cause_kept ms B) (option_map (dependence_meant ms ks n) o)
       ≡ option_map (depends_at ks n) (option_map (paired ms B) o)
   as_depends ks n None = refl
@@ -101,17 +186,18 @@ module _ (ms : List Rule) (B : ℕ) where
   as_numbered g e None = refl
   as_numbered g e (Some t) = ap Some (e t)
 
-  -- The first read that depends on what is lost.
-  first_depends : (deps : Deps) (lost : Lost) (r : Record)
+  -- The first read that depends on what is lost, where the reads are valid over the whole.
+  pub first_depends : (deps : Deps) (E : List Fact) (lost : Lost) (r : Record) → AgreeBut (trails_of lost.members.items) E (seen (number_of r) lost.without) → ValidOver E r
       → option_map (paired ms B) (first_by deps ms lost r)
       ≡ first_that (read_depends (caused_chase ms B) deps r.program.attempt.operation (seen (number_of r) lost.without) r.program.attempt.own (members_of ms B lost.members.items)) (update_of ms B r).log
-  first_depends Precise lost r =
+  first_depends Precise E lost r a valid =
       let D = seen (number_of r) lost.without in
       let op = r.program.attempt.operation in
       let own = r.program.attempt.own in
-      ap (option_map (paired ms B)) (as_numbered _ (λ t. refl) (first_from (is_changed ms (direction_of op) D own) 1 (map read_of r.log.items)))
-      ∙ first_is ms B (is_changed ms (direction_of op) D own) (read_depends (caused_chase ms B) Precise op D own (members_of ms B lost.members.items)) (λ q. refl) (map read_of r.log.items)
-  first_depends Coarse lost r =
+      ap (λ o. option_map (paired ms B) (option_map (λ (c : Changed). record { number = c.number; read = c.read }) o)) (met_first lost.without (trails_of lost.members.items) E r a valid)
+      ∙ ap (option_map (paired ms B)) (as_numbered (now_in lost.without r) (λ t. refl) (first_of_all lost.without r))
+      ∙ first_is ms B (is_changed ms (direction_of op) D own) (read_depends (caused_chase ms B) Precise op D own (members_of ms B lost.members.items)) (λ q. refl) (reads r)
+  first_depends Coarse E lost r a valid =
       first_is ms B (any_reached ms (trails_of lost.members.items))
       (read_depends (caused_chase ms B) Coarse r.program.attempt.operation (seen (number_of r) lost.without) r.program.attempt.own (members_of ms B lost.members.items))
       (λ q. reached_is ms B lost.members.items q) (map read_of r.log.items)
@@ -127,17 +213,17 @@ module _ (ms : List Rule) (B : ℕ) where
   conflict_in j v r =
       option_map (conflict_at j (number_of r)) (changed_read (caused_chase ms B) (seen (number_of r) v) (update_of ms B r))
 
-  where_members : (X : Option PlainCause) (Y : Option (Cause (caused_chase ms B))) (ks : List Member) → option_map (cause_kept ms B) X ≡ Y
+  where_members : (X : Option PlainCause) (Y : Option (Cause (caused_chase ms B))) (ks : List Trail) → option_map (cause_kept ms B) X ≡ Y
       → option_map (cause_kept ms B) (if is_nil ks then None else X) ≡ (if not (is_nil (members_of ms B ks)) then Y else None)
   where_members X Y [] e = refl
   where_members X Y (k ∷ ks) e = e
 
-  pub dependence_is : (deps : Deps) (lost : Lost) (r : Record)
+  pub dependence_is : (deps : Deps) (E : List Fact) (lost : Lost) (r : Record) → AgreeBut (trails_of lost.members.items) E (seen (number_of r) lost.without) → ValidOver E r
       → option_map (cause_kept ms B) (if is_nil lost.members.items then None else option_map (dependence_meant ms lost.members.items (number_of r)) (first_by deps ms lost r))
       ≡ (if not (is_nil (members_of ms B lost.members.items)) then dependence_in deps lost r else None)
-  dependence_is deps lost r =
+  dependence_is deps E lost r a valid =
       where_members (option_map (dependence_meant ms lost.members.items (number_of r)) (first_by deps ms lost r)) (dependence_in deps lost r) lost.members.items
-      (as_depends lost.members.items (number_of r) (first_by deps ms lost r) ∙ ap (option_map (depends_at lost.members.items (number_of r))) (first_depends deps lost r))
+      (as_depends lost.members.items (number_of r) (first_by deps ms lost r) ∙ ap (option_map (depends_at lost.members.items (number_of r))) (first_depends deps E lost r a valid))
 
   nothing_changed : (j : ℕ) (v : Kept) (r : Record) (ls : List LoggedRead) → r.log.items ≡ ls → is_nil ls ≡ true → conflict_in j v r ≡ None
   nothing_changed j v r [] e h = ap (λ ls. option_map (conflict_at j (number_of r)) (option_map (λ t. record { read = t.0; old = t.1.answer; new = (caused_chase ms B).value r.program.attempt.operation t.1.query (seen (number_of r) v) (take t.1.own r.program.attempt.own) }) (first_that (λ q. not (is_valid (caused_chase ms B) r.program.attempt.operation (seen (number_of r) v) r.program.attempt.own q)) (map (logged ms B) (map read_of ls))))) e
@@ -177,8 +263,8 @@ not_live c n r live h e l =
 -- ---- the cause of one reader
 
 -- One that isn't live or has read nothing has none.
-pub none_for : (a : Above) (conflicting : Bool) (lost : Lost) (r : Record) → may_have_cause a.committed r ≡ false → IsCauseFor a conflicting lost r None
-none_for a conflicting lost r h B =
+pub none_for : (a : Above) (ws : List Change) (lost : Lost) (r : Record) → may_have_cause a.committed r ≡ false → IsCauseFor a ws lost r None
+none_for a ws lost r h B conflicting few looks q =
     sym (idle conflicting (is_live_in a.committed r) (not (is_nil (members_of a.rules B lost.members.items))) (conflict_in a.rules B a.update a.whole r) (dependence_in a.rules B a.deps lost r)
     (λ l. nothing_changed a.rules B a.update a.whole r r.log.items refl (live_of (is_live_in a.committed r) (is_nil r.log.items) h l))
     (λ l. nothing_depends a.rules B a.deps lost r r.log.items refl (live_of (is_live_in a.committed r) (is_nil r.log.items) h l)))
@@ -186,20 +272,48 @@ none_for a conflicting lost r h B =
 live_is : (a : Above) (r : Record) → may_have_cause a.committed r ≡ true → is_live_in a.committed r ≡ true
 live_is a r h = (and_parts (is_live_in a.committed r) (not (is_nil r.log.items)) h).0
 
--- A conflict comes first.
-pub conflict_first : (a : Above) (conflicting : Bool) (lost : Lost) (r : Record) (x : CauseOfProgram) → may_have_cause a.committed r ≡ true → IsConflictWhere conflicting a r (Some x) → IsCauseFor a conflicting lost r (Some x)
-conflict_first a true lost r x l h B =
-    by_conflict (is_live_in a.committed r) (not (is_nil (members_of a.rules B lost.members.items))) (cause_kept a.rules B (plain_of x)) (conflict_in a.rules B a.update a.whole r) (dependence_in a.rules B a.deps lost r) (live_is a r l)
-    (ap (option_map (cause_kept a.rules B)) h ∙ conflict_is a.rules B a.update a.whole r)
-conflict_first a false lost r x l h B = let no : Some x ≡ None = h in absurd (cc)
+not_true : (b : Bool) → not b ≡ true → b ≡ false
+not_true true e = absurd (cc)
+not_true false e = refl
 
-unless_conflict : (a : Above) (conflicting : Bool) (r : Record) (B : ℕ) → IsConflictWhere conflicting a r None → conflicting ≡ true → None ≡ conflict_in a.rules B a.update a.whole r
-unless_conflict a true r B h e = ap (option_map (cause_kept a.rules B)) h ∙ conflict_is a.rules B a.update a.whole r
-unless_conflict a false r B h e = absurd (cc)
+-- It is not withdrawn.
+stays_in : (a : Above) (r : Record) → may_have_cause a.committed r ≡ true → r.withdrawn ≡ false
+stays_in a r h = not_true r.withdrawn (and_parts (nat_lt a.committed (number_of r)) (not r.withdrawn) (live_is a r h)).1
+
+module _ (a : Above) (ws : List Change) (lost : Lost) (r : Record) (l : may_have_cause a.committed r ≡ true) (B : ℕ) (few : 1 ≤ B)
+    (q : RanBelow a.rules B ws (trails_of lost.members.items) (seen (number_of r) a.whole) (seen (number_of r) lost.without) (number_of r) (update_of a.rules B r)) where
+  -- Its first changed read is one that the writes meet.
+  met_by_writes : first_changed_in a.rules a.whole (ws ∷ []) r ≡ option_map (now_in a.rules B a.whole r) (first_of_all a.rules B a.whole r)
+  met_by_writes = met_first a.rules B a.whole (ws ∷ []) q.before r q.event (run_is_valid a.rules B few q.before (number_of r) r (stays_in a r l) q.run)
+
+  -- The conflict that was found is that of the history.
+  conflict_found : (x : Option CauseOfProgram) → IsConflictFor a ws r x → found_of a.rules B x ≡ conflict_in a.rules B a.update a.whole r
+  conflict_found x h =
+      ap (option_map (cause_kept a.rules B)) (h ∙ ap (option_map (conflict_meant a.update (number_of r))) met_by_writes) ∙ conflict_is a.rules B a.update a.whole r
+
+  -- Where there is none the reads are valid over the whole.
+  valid_still : IsConflictFor a ws r None → ValidOver a.rules B (seen (number_of r) a.whole) r
+  valid_still h =
+      all_valid_now a.rules B r.program.attempt.operation r.program.attempt.own (seen (number_of r) a.whole) 1 (map read_of r.log.items)
+      (unmapped (now_in a.rules B a.whole r) (first_of_all a.rules B a.whole r) (sym (unmapped (conflict_meant a.update (number_of r)) (first_changed_in a.rules a.whole (ws ∷ []) r) h) ∙ met_by_writes))
+
+-- Without writes there is no conflict.
+pub no_conflict : (a : Above) (ws : List Change) (r : Record) → ws ≡ [] → IsConflictFor a ws r None
+no_conflict a ws r e =
+    sym (ap (λ vs. option_map (conflict_meant a.update (number_of r)) (first_changed_in a.rules a.whole (vs ∷ []) r)) e
+    ∙ ap (λ o. option_map (conflict_meant a.update (number_of r)) (option_map (λ (t : Numbered). record { number = t.number; read = t.read; now = value_now a.rules (direction_of r.program.attempt.operation) (seen (number_of r) a.whole) r.program.attempt.own t.read }) o))
+    (none_met a.rules r.program.attempt.operation (seen (number_of r) a.whole) r.program.attempt.own 1 (map read_of r.log.items)))
+
+-- A conflict comes first.
+pub conflict_first : (a : Above) (ws : List Change) (lost : Lost) (r : Record) (x : CauseOfProgram) → may_have_cause a.committed r ≡ true → IsConflictFor a ws r (Some x) → IsCauseFor a ws lost r (Some x)
+conflict_first a ws lost r x l h B true few looks q =
+    by_conflict (is_live_in a.committed r) (not (is_nil (members_of a.rules B lost.members.items))) (cause_kept a.rules B (plain_of x)) (conflict_in a.rules B a.update a.whole r) (dependence_in a.rules B a.deps lost r) (live_is a r l)
+    (conflict_found a ws lost r l B few q (Some x) h)
+conflict_first a ws lost r x l h B false few looks q = absurd (none-some (plain_of x) (no_conflict a ws r (looks refl) ∙ sym h))
 
 -- Else it is a dependence.
-pub dependence_then : (a : Above) (conflicting : Bool) (lost : Lost) (r : Record) (x : Option CauseOfProgram) → may_have_cause a.committed r ≡ true → IsConflictWhere conflicting a r None → IsDependenceFor a lost r x → IsCauseFor a conflicting lost r x
-dependence_then a conflicting lost r x l f h B =
+pub dependence_then : (a : Above) (ws : List Change) (lost : Lost) (r : Record) (x : Option CauseOfProgram) → may_have_cause a.committed r ≡ true → IsConflictFor a ws r None → IsDependenceFor a lost r x → IsCauseFor a ws lost r x
+dependence_then a ws lost r x l f h B conflicting few looks q =
     by_dependence conflicting (is_live_in a.committed r) (not (is_nil (members_of a.rules B lost.members.items))) (conflict_in a.rules B a.update a.whole r) (dependence_in a.rules B a.deps lost r) (found_of a.rules B x) (live_is a r l)
-    (unless_conflict a conflicting r B f)
-    (ap (option_map (cause_kept a.rules B)) h ∙ dependence_is a.rules B a.deps lost r)
+    (λ e. conflict_found a ws lost r l B few q None f)
+    (ap (option_map (cause_kept a.rules B)) h ∙ dependence_is a.rules B a.deps (seen (number_of r) a.whole) lost r q.lost (valid_still a ws lost r l B few q f))

@@ -1,30 +1,39 @@
 -- One turn of the walk upwards.
-use Rattle.std.proofs.Common.{◌≡◌, ◌∙◌, ap, refl, sym, subst, ℕ, suc, ◌+◌, ◌<◌, ◌≤◌, Bool, true, false, List, [], ◌∷◌, ◌++◌, Option, Some, None, is_some, append_assoc, append-nil, length, drop, get_or}
+use Rattle.std.proofs.Common.{◌≡◌, ◌∙◌, ap, refl, sym, subst, ℕ, suc, ◌+◌, ◌<◌, ◌≤◌, Bool, true, false, List, [], ◌∷◌, ◌++◌, Option, Some, None, is_some, append_assoc, append-nil, length, drop, get_or, map}
+use Rattle.std.proofs.lemmas.Bool.{both_ways}
 use Rattle.std.proofs.lemmas.List.{map-append, drop_all}
+use Rattle.yt_conflict.specs.Concerns.{AgreeBut}
+use Rattle.yt_conflict.specs.Trails.{writes_of, trails_of}
+use Rattle.yt_conflict.specs.declared.concerns.Trail.{Trail}
+use Rattle.yt_conflict.proofs.Staying.{agree_alone, agree_after, agree_more}
 use Rattle.yt_entries.specs.declared.causes.Cause.{Cause as CauseOfProgram}
 use Rattle.yt_machine.specs.Cascade.{Cause, Member, with_member, without_member}
 use Rattle.yt_machine.specs.Machine.{Machine}
+use Rattle.yt_machine.specs.Runs.{AreRuns}
 use Rattle.yt_machine.specs.Settle.{cause_of, settle}
 use Rattle.yt_machine.specs.Updates.{Update, Deps, trail}
-use Rattle.yt_model.specs.Repository.{Change, apply}
+use Rattle.yt_model.proofs.Sets.{apply_in_order}
+use Rattle.yt_model.specs.Mappings.{Rule}
+use Rattle.yt_model.specs.Repository.{Change, IsRepository, apply}
+use Rattle.yt_model.specs.Values.{Fact}
+use Rattle.std.specs.List.{flat_map}
 use Rattle.yt_queue.specs.Queues.{update_of, updates_of, AreFrom, StandsAt}
 use Rattle.yt_queue.specs.declared.records.Record.{Record}
 use Rattle.yt_steps.specs.Chase.{caused_chase}
 use Rattle.yt_versions.proofs.Noting.{next_drop}
 use Rattle.yt_versions.specs.Standing.{Kept, seen, Retracted}
 use Rattle.yt_cascade.specs.declared.lost.Lost.{Lost}
-use Rattle.yt_cascade.specs.Held.{HoldFrom, laid}
+use Rattle.yt_cascade.specs.Held.{HoldFrom, AreVersions, laid, above}
 use Rattle.yt_cascade.specs.Meanings.{Above, found_of, all_found, members_of}
 use Rattle.yt_cascade.specs.Causes.{AreCausesOfWrites, AreCausesOfLoss}
-use Rattle.yt_cascade.specs.Walks.{IsCauseFor, Loses, LosesWhere, LeavesLost, AreFound, number_of}
+use Rattle.yt_cascade.specs.Walks.{IsCauseFor, Loses, LosesWhere, LeavesLost, LooksFor, RanBelow, StandAbove, AreFound, number_of}
 use Rattle.yt_cascade.proofs.Holding.{below_next, hold_next, hold_without, below_without, trails_held}
 
 -- Once some of the readers have their say: what is found so far and what the walk finds of those that are left are all.
-pub record Turn (a : Above) (conflicting : Bool) (B : ℕ) (all : List (Option (Cause (caused_chase a.rules B)))) (lost : Lost) (rs : List Record) (xs : List (Option CauseOfProgram)) : Type 0 where
+pub record Turn (a : Above) (conflicting : Bool) (B : ℕ) (ws : List Change) (all : List (Option (Cause (caused_chase a.rules B)))) (lost : Lost) (rs : List Record) (xs : List (Option CauseOfProgram)) : Type 0 where
   pub number : ℕ
   pub from : AreFrom number rs
-  pub whole : HoldFrom a.rules B number (updates_of a.rules B rs) a.whole
-  pub without : HoldFrom a.rules B number (updates_of a.rules B rs) lost.without
+  pub stand : StandAbove a B ws lost number rs
   pub rest :
       all_found a.rules B xs ++ settle (caused_chase a.rules B) a.deps conflicting a.committed a.update (seen number a.whole) (seen number lost.without) (members_of a.rules B lost.members.items) number (updates_of a.rules B rs)
       ≡ all
@@ -50,75 +59,132 @@ settle_on M deps conflicting c j E N F G ks ls n u us b x before all ex eb ef eg
 pub later_from : (n i : ℕ) (rs : List Record) (r : Record) → i < length rs → r ≡ get_or rs i r → AreFrom n (drop i rs) → StandsAt n r × AreFrom (suc n) (drop (i + 1) rs)
 later_from n i rs r l e f = subst (AreFrom n) (next_drop rs i r l e) f
 
-module _ (a : Above) (conflicting : Bool) (B : ℕ) where
+-- The trails of members are those of the history's.
+trails_are : (ms : List Rule) (B : ℕ) (ks : List Trail) → trails_of ks ≡ map (λ m. m.trail) (members_of ms B ks)
+trails_are ms B [] = refl
+trails_are ms B (k ∷ ks) = ap (λ ts. writes_of k ∷ ts) (trails_are ms B ks)
+
+-- What differs between the two versions below the next update, once this one has its say.
+gone_next : (ms : List Rule) (B : ℕ) (b : Bool) (E N F G : List Fact) (ks ls : List Trail) (n : ℕ) (u : Update (caused_chase ms B)) → F ≡ apply E (trail (caused_chase ms B) u) → G ≡ without_member (caused_chase ms B) b N u
+    → members_of ms B ls ≡ with_member (caused_chase ms B) b (members_of ms B ks) n u → AgreeBut (trails_of ks) E N → AgreeBut (trails_of ls) F G
+gone_next ms B true E N F G ks ls n u ef eg el a =
+    let tr : List Change = trail (caused_chase ms B) u in
+    let ts : trails_of ls ≡ trails_of ks ++ tr ∷ [] =
+    trails_are ms B ls ∙ ap (map (λ (m : Member (caused_chase ms B)). m.trail)) el ∙ map-append (λ (m : Member (caused_chase ms B)). m.trail) (members_of ms B ks) (record { number = n; trail = tr } ∷ [])
+    ∙ ap (λ zs. zs ++ tr ∷ []) (sym (trails_are ms B ks)) in
+    subst (λ zs. AgreeBut zs F G) (sym ts) (subst (λ X. AgreeBut (trails_of ks ++ tr ∷ []) X G) (sym ef) (subst (λ X. AgreeBut (trails_of ks ++ tr ∷ []) (apply E tr) X) (sym eg) (agree_more (trails_of ks) E N tr a)))
+gone_next ms B false E N F G ks ls n u ef eg el a =
+    let ts : trails_of ls ≡ trails_of ks = trails_are ms B ls ∙ ap (map (λ (m : Member (caused_chase ms B)). m.trail)) el ∙ sym (trails_are ms B ks) in
+    subst (λ zs. AgreeBut zs F G) (sym ts) (subst (λ X. AgreeBut (trails_of ks) X G) (sym ef) (subst (λ X. AgreeBut (trails_of ks) (apply E (trail (caused_chase ms B) u)) X) (sym eg) (agree_after (trails_of ks) E N (trail (caused_chase ms B) u) a)))
+
+module _ (a : Above) (conflicting : Bool) (B : ℕ) (ws : List Change) where
   found_some : (x : Option CauseOfProgram) → is_some (found_of a.rules B x) ≡ is_some x
   found_some None = refl
   found_some (Some c) = refl
 
   -- Before any of them has.
-  pub at_start : (lost : Lost) (rs : List Record) (xs : List (Option CauseOfProgram)) → xs ≡ [] → AreFrom (suc a.update) rs → HoldFrom a.rules B (suc a.update) (updates_of a.rules B rs) a.whole
-      → HoldFrom a.rules B (suc a.update) (updates_of a.rules B rs) lost.without → Turn a conflicting B (all_of a conflicting B lost rs) lost rs xs
-  at_start lost rs xs e f w o = record { number = suc a.update; from = f; whole = w; without = o; rest = ap (λ zs. all_found a.rules B zs ++ all_of a conflicting B lost rs) e }
+  pub at_start : (lost : Lost) (rs : List Record) (xs : List (Option CauseOfProgram)) → xs ≡ [] → AreFrom (suc a.update) rs → StandAbove a B ws lost (suc a.update) rs → Turn a conflicting B ws (all_of a conflicting B lost rs) lost rs xs
+  at_start lost rs xs e f s = record { number = suc a.update; from = f; stand = s; rest = ap (λ zs. all_found a.rules B zs ++ all_of a conflicting B lost rs) e }
+
+  -- Those that are left stand above the next one.
+  stand_next : (lost left : Lost) (n : ℕ) (r : Record) (rs : List Record) (b : Bool) → StandAbove a B ws lost n (r ∷ rs) → LeavesLost a.rules B b n (update_of a.rules B r) (updates_of a.rules B rs) lost left → StandAbove a B ws left (suc n) rs
+  stand_next lost left n r rs b s after =
+      let u = update_of a.rules B r in
+      let us = updates_of a.rules B rs in
+      let below : seen (suc n) a.whole ≡ apply (seen n a.whole) (trail (caused_chase a.rules B) u) = below_next a.rules B n u us a.whole s.whole in
+      record {
+        whole = hold_next a.rules B n u us a.whole s.whole;
+        without = after.held;
+        before = apply s.before (trail (caused_chase a.rules B) u);
+        runs = s.runs.1;
+        event = subst (λ X. AgreeBut (ws ∷ []) (apply s.before (trail (caused_chase a.rules B) u)) X) (sym below) (agree_after (ws ∷ []) s.before (seen n a.whole) (trail (caused_chase a.rules B) u) s.event);
+        gone = gone_next a.rules B b (seen n a.whole) (seen n lost.without) (seen (suc n) a.whole) (seen (suc n) left.without) lost.members.items left.members.items n u below after.below after.members s.gone;
+      }
 
   -- Once the next one has.
-  pub next : (all : List (Option (Cause (caused_chase a.rules B)))) (lost left : Lost) (r : Record) (rs : List Record) (xs : List (Option CauseOfProgram)) (x : Option CauseOfProgram)
-      → Turn a conflicting B all lost (r ∷ rs) xs → IsCauseFor a conflicting lost r x → LosesWhere (is_some x) r lost left → Turn a conflicting B all left rs (xs ++ x ∷ [])
-  next all lost left r rs xs x t cause loses =
+  pub next : 1 ≤ B → LooksFor conflicting ws → (all : List (Option (Cause (caused_chase a.rules B)))) (lost left : Lost) (r : Record) (rs : List Record) (xs : List (Option CauseOfProgram)) (x : Option CauseOfProgram)
+      → Turn a conflicting B ws all lost (r ∷ rs) xs → IsCauseFor a ws lost r x → LosesWhere (is_some x) r lost left → Turn a conflicting B ws all left rs (xs ++ x ∷ [])
+  next few looks all lost left r rs xs x t cause loses =
       let n = t.number in
       let u = update_of a.rules B r in
       let us = updates_of a.rules B rs in
+      let s = t.stand in
       let e : number_of r ≡ n = t.from.0.number in
+      let here : RanBelow a.rules B ws (trails_of lost.members.items) (seen n a.whole) (seen n lost.without) n u = record { before = s.before; run = s.runs.0; event = s.event; lost = s.gone } in
       let is : found_of a.rules B x ≡ cause_of (caused_chase a.rules B) a.deps conflicting a.committed a.update (seen n a.whole) (seen n lost.without) (members_of a.rules B lost.members.items) n u =
-      subst (λ k. found_of a.rules B x ≡ cause_of (caused_chase a.rules B) a.deps conflicting a.committed a.update (seen k a.whole) (seen k lost.without) (members_of a.rules B lost.members.items) k u) e (cause B) in
+      subst (λ k. found_of a.rules B x ≡ cause_of (caused_chase a.rules B) a.deps conflicting a.committed a.update (seen k a.whole) (seen k lost.without) (members_of a.rules B lost.members.items) k u) e
+      (cause B conflicting few looks (subst (λ k. RanBelow a.rules B ws (trails_of lost.members.items) (seen k a.whole) (seen k lost.without) k u) (sym e) here)) in
       let after : LeavesLost a.rules B (is_some x) n u us lost left =
-      subst (λ k. LeavesLost a.rules B (is_some x) k u us lost left) e (loses a.rules B us (subst (λ k. HoldFrom a.rules B k (u ∷ us) lost.without) (sym e) t.without)) in
+      subst (λ k. LeavesLost a.rules B (is_some x) k u us lost left) e (loses a.rules B us (subst (λ k. HoldFrom a.rules B k (u ∷ us) lost.without) (sym e) s.without)) in
       record {
         number = suc n;
         from = t.from.1;
-        whole = hold_next a.rules B n u us a.whole t.whole;
-        without = after.held;
+        stand = stand_next lost left n r rs (is_some x) s after;
         rest =
             ap (λ zs. zs ++ settle (caused_chase a.rules B) a.deps conflicting a.committed a.update (seen (suc n) a.whole) (seen (suc n) left.without) (members_of a.rules B left.members.items) (suc n) us) (map-append (found_of a.rules B) xs (x ∷ []))
             ∙ settle_on (caused_chase a.rules B) a.deps conflicting a.committed a.update (seen n a.whole) (seen n lost.without) (seen (suc n) a.whole) (seen (suc n) left.without)
             (members_of a.rules B lost.members.items) (members_of a.rules B left.members.items) n u us (is_some x) (found_of a.rules B x) (all_found a.rules B xs) all
-            is (found_some x) (below_next a.rules B n u us a.whole t.whole) after.below after.members t.rest;
+            is (found_some x) (below_next a.rules B n u us a.whole s.whole) after.below after.members t.rest;
       }
 
   -- That one is next in the list.
-  pub next_in : (all : List (Option (Cause (caused_chase a.rules B)))) (lost left : Lost) (i : ℕ) (rs : List Record) (r : Record) (xs ys : List (Option CauseOfProgram)) (x : Option CauseOfProgram) (b : Bool)
-      → i < length rs → r ≡ get_or rs i r → ys ≡ xs ++ x ∷ [] → b ≡ is_some x → IsCauseFor a conflicting lost r x → LosesWhere b r lost left → Turn a conflicting B all lost (drop i rs) xs → Turn a conflicting B all left (drop (i + 1) rs) ys
-  next_in all lost left i rs r xs ys x b l e f g cause loses t =
-      subst (Turn a conflicting B all left (drop (i + 1) rs)) (sym f)
-      (next all lost left r (drop (i + 1) rs) xs x (subst (λ zs. Turn a conflicting B all lost zs xs) (next_drop rs i r l e) t) cause (subst (λ z. LosesWhere z r lost left) g loses))
+  pub next_in : 1 ≤ B → LooksFor conflicting ws → (all : List (Option (Cause (caused_chase a.rules B)))) (lost left : Lost) (i : ℕ) (rs : List Record) (r : Record) (xs ys : List (Option CauseOfProgram)) (x : Option CauseOfProgram) (b : Bool)
+      → i < length rs → r ≡ get_or rs i r → ys ≡ xs ++ x ∷ [] → b ≡ is_some x → IsCauseFor a ws lost r x → LosesWhere b r lost left → Turn a conflicting B ws all lost (drop i rs) xs → Turn a conflicting B ws all left (drop (i + 1) rs) ys
+  next_in few looks all lost left i rs r xs ys x b l e f g cause loses t =
+      subst (Turn a conflicting B ws all left (drop (i + 1) rs)) (sym f)
+      (next few looks all lost left r (drop (i + 1) rs) xs x (subst (λ zs. Turn a conflicting B ws all lost zs xs) (next_drop rs i r l e) t) cause (subst (λ z. LosesWhere z r lost left) g loses))
 
   -- Once all have.
-  pub at_end : (all : List (Option (Cause (caused_chase a.rules B)))) (lost : Lost) (i : ℕ) (rs : List Record) (xs : List (Option CauseOfProgram)) → length rs ≤ i → Turn a conflicting B all lost (drop i rs) xs → all_found a.rules B xs ≡ all
+  pub at_end : (all : List (Option (Cause (caused_chase a.rules B)))) (lost : Lost) (i : ℕ) (rs : List Record) (xs : List (Option CauseOfProgram)) → length rs ≤ i → Turn a conflicting B ws all lost (drop i rs) xs → all_found a.rules B xs ≡ all
   at_end all lost i rs xs l t =
-      let done : Turn a conflicting B all lost [] xs = subst (λ zs. Turn a conflicting B all lost zs xs) (drop_all i rs l) t in sym (append-nil (all_found a.rules B xs)) ∙ done.rest
+      let done : Turn a conflicting B ws all lost [] xs = subst (λ zs. Turn a conflicting B ws all lost zs xs) (drop_all i rs l) t in sym (append-nil (all_found a.rules B xs)) ∙ done.rest
 
 -- ---- the walks of the two events
 
 -- Where the event's update wrote.
-pub of_writes : (a : Above) (lost : Lost) (rs : List Record) (xs : List (Option CauseOfProgram)) → lost.without ≡ a.whole → lost.members.items ≡ [] → AreFound a true lost rs xs → AreCausesOfWrites a rs xs
-of_writes a lost rs xs w k f B D lower v e h =
+pub of_writes : (a : Above) (ws : List Change) (lost : Lost) (rs : List Record) (xs : List (Option CauseOfProgram)) → lost.without ≡ a.whole → lost.members.items ≡ [] → AreFound a ws lost rs xs → AreCausesOfWrites a ws rs xs
+of_writes a ws lost rs xs w k f B D lower u v few e h runs agree =
     let us = updates_of a.rules B rs in
     let t = trails_held a.rules B D lower (v ∷ us) a.whole h in
     let whole : HoldFrom a.rules B (suc a.update) us a.whole = subst (λ n. HoldFrom a.rules B (suc n) us a.whole) (sym e) (hold_next a.rules B (suc (length lower)) v us a.whole t.held) in
-    let below : seen (suc a.update) a.whole ≡ apply (laid a.rules B D lower) (trail (caused_chase a.rules B) v) =
+    let below : seen (suc a.update) a.whole ≡ above a.rules B D lower v =
     ap (λ n. seen (suc n) a.whole) e ∙ below_next a.rules B (suc (length lower)) v us a.whole t.held ∙ ap (λ E. apply E (trail (caused_chase a.rules B) v)) t.below in
-    f B whole (subst (HoldFrom a.rules B (suc a.update) us) (sym w) whole)
+    let sorted : IsRepository (seen (suc a.update) a.whole) = subst (λ X. IsRepository X) (sym below) agree.also in
+    f B true few (λ c. absurd (both_ways true c refl))
+    (record {
+      whole = whole;
+      without = subst (HoldFrom a.rules B (suc a.update) us) (sym w) whole;
+      before = above a.rules B D lower u;
+      runs = runs;
+      event = subst (λ X. AgreeBut (ws ∷ []) (above a.rules B D lower u) X) (sym below) agree;
+      gone = subst (λ (z : Kept). AgreeBut (trails_of lost.members.items) (seen (suc a.update) a.whole) (seen (suc a.update) z)) (sym w) (agree_alone (trails_of lost.members.items) (seen (suc a.update) a.whole) sorted);
+    })
     ∙ (λ i. settle (caused_chase a.rules B) a.deps true a.committed a.update (below i) ((ap (seen (suc a.update)) w ∙ below) i) (members_of a.rules B (k i)) (suc a.update) us)
 
 -- Where it lost its trail.
-pub of_loss : (a : Above) (none lost : Lost) (ws : List Change) (rs : List Record) (xs : List (Option CauseOfProgram)) → none.without ≡ a.whole → none.members.items ≡ [] → Loses a.update ws none lost → AreFound a false lost rs xs → AreCausesOfLoss a ws rs xs
-of_loss a none lost ws rs xs w k l f B D lower u e eu h =
+pub of_loss : (a : Above) (none lost : Lost) (ws : List Change) (rs : List Record) (xs : List (Option CauseOfProgram)) → none.without ≡ a.whole → none.members.items ≡ [] → Loses a.update ws none lost → AreFound a [] lost rs xs → AreCausesOfLoss a ws rs xs
+of_loss a none lost ws rs xs w k l f B D lower u few e eu h runs =
     let us = updates_of a.rules B rs in
+    let tr : List Change = trail (caused_chase a.rules B) u in
+    let base : List Fact = laid a.rules B D lower in
     let t = trails_held a.rules B D lower (u ∷ us) a.whole h in
     let held : HoldFrom a.rules B a.update (u ∷ us) a.whole = subst (λ n. HoldFrom a.rules B n (u ∷ us) a.whole) (sym e) t.held in
-    let gone : Retracted a.update (trail (caused_chase a.rules B) u) a.whole lost.without = subst (λ (z : Kept). Retracted a.update (trail (caused_chase a.rules B) u) z lost.without) w (subst (λ ts. Retracted a.update ts none.without lost.without) (sym eu) l.retracted) in
-    let below : seen a.update a.whole ≡ laid a.rules B D lower = ap (λ n. seen n a.whole) e ∙ t.below in
-    f B (hold_next a.rules B a.update u us a.whole held) (hold_without a.rules B a.update u us a.whole lost.without held gone)
-    ∙ (λ i. settle (caused_chase a.rules B) a.deps false a.committed a.update
-    ((below_next a.rules B a.update u us a.whole held ∙ ap (λ E. apply E (trail (caused_chase a.rules B) u)) below) i)
-    ((below_without a.rules B a.update u us a.whole lost.without held gone ∙ below) i)
-    ((l.joined a.rules B ∙ (λ j. members_of a.rules B (k j) ++ record { number = a.update; trail = sym eu j } ∷ [])) i) (suc a.update) us)
+    let gone : Retracted a.update tr a.whole lost.without = subst (λ (z : Kept). Retracted a.update tr z lost.without) w (subst (λ ts. Retracted a.update ts none.without lost.without) (sym eu) l.retracted) in
+    let below : seen a.update a.whole ≡ base = ap (λ n. seen n a.whole) e ∙ t.below in
+    let with_it : seen (suc a.update) a.whole ≡ apply base tr = below_next a.rules B a.update u us a.whole held ∙ ap (λ E. apply E tr) below in
+    let without_it : seen (suc a.update) lost.without ≡ base = below_without a.rules B a.update u us a.whole lost.without held gone ∙ below in
+    let sorted : IsRepository base = apply_in_order D (flat_map (trail (caused_chase a.rules B)) lower) h.sorted in
+    let members : members_of a.rules B lost.members.items ≡ record { number = a.update; trail = tr } ∷ [] = l.joined a.rules B ∙ (λ j. members_of a.rules B (k j) ++ record { number = a.update; trail = sym eu j } ∷ []) in
+    let ts : trails_of lost.members.items ≡ tr ∷ [] = trails_are a.rules B lost.members.items ∙ ap (map (λ (m : Member (caused_chase a.rules B)). m.trail)) members in
+    f B false few (λ c. refl)
+    (record {
+      whole = hold_next a.rules B a.update u us a.whole held;
+      without = hold_without a.rules B a.update u us a.whole lost.without held gone;
+      before = apply base tr;
+      runs = runs;
+      event = subst (λ X. AgreeBut ([] ∷ []) (apply base tr) X) (sym with_it) (agree_alone ([] ∷ []) (apply base tr) (apply_in_order base tr sorted));
+      gone =
+          subst (λ zs. AgreeBut zs (seen (suc a.update) a.whole) (seen (suc a.update) lost.without)) (sym ts)
+          (subst (λ X. AgreeBut (tr ∷ []) X (seen (suc a.update) lost.without)) (sym with_it) (subst (λ X. AgreeBut (tr ∷ []) (apply base tr) X) (sym without_it) (agree_more [] base base tr (agree_alone [] base sorted))));
+    })
+    ∙ (λ i. settle (caused_chase a.rules B) a.deps false a.committed a.update (with_it i) (without_it i) (members i) (suc a.update) us)

@@ -1,30 +1,37 @@
 -- What is found above an event: the causes that one walk upwards finds in the history.
-use Rattle.std.specs.Prelude.{◌≡◌, ℕ, suc, true, false, List, [], ◌∷◌, ◌++◌, length, Option}
+use Rattle.std.specs.Prelude.{◌≡◌, ◌≤◌, ℕ, suc, true, false, List, [], ◌∷◌, ◌++◌, length, Option}
+use Rattle.yt_conflict.specs.Concerns.{AgreeBut}
 use Rattle.yt_entries.specs.declared.causes.Cause.{Cause}
+use Rattle.yt_machine.specs.Runs.{AreRuns}
 use Rattle.yt_machine.specs.Settle.{settle}
 use Rattle.yt_machine.specs.Updates.{Update, trail}
-use Rattle.yt_model.specs.Repository.{Change, apply}
+use Rattle.yt_model.specs.Repository.{Change}
 use Rattle.yt_model.specs.Values.{Fact}
 use Rattle.yt_queue.specs.Queues.{updates_of}
 use Rattle.yt_queue.specs.declared.records.Record.{Record}
 use Rattle.yt_steps.specs.Chase.{caused_chase}
-use Rattle.yt_cascade.specs.Held.{AreVersions, laid}
+use Rattle.yt_cascade.specs.Held.{AreVersions, laid, above}
 use Rattle.yt_cascade.specs.Meanings.{Above, all_found}
 
--- In any history whose update above the lower ones is the event's, and is v once it wrote: conflicts with its writes, and
--- dependences on what is restarted. D is the base, and the versions are those after the writes.
-abbrev pub AreCausesOfWrites : Above → List Record → List (Option Cause) → Type 0
-AreCausesOfWrites a upper xs =
-    (B : ℕ) (D : List Fact) (lower : List (Update (caused_chase a.rules B))) (v : Update (caused_chase a.rules B))
+-- In any history whose update above the lower ones is the event's, which was u and is v: conflicts with the writes that came
+-- or went, and dependences on what is restarted. Those above ran over what lay below them before the event. D is the base,
+-- and the versions are those after the writes.
+abbrev pub AreCausesOfWrites : Above → List Change → List Record → List (Option Cause) → Type 0
+AreCausesOfWrites a ws upper xs =
+    (B : ℕ) (D : List Fact) (lower : List (Update (caused_chase a.rules B))) (u v : Update (caused_chase a.rules B)) → 1 ≤ B
     → a.update ≡ suc (length lower) → AreVersions a.rules B D (lower ++ v ∷ updates_of a.rules B upper) a.whole
+    → AreRuns (caused_chase a.rules B) (above a.rules B D lower u) (suc a.update) (updates_of a.rules B upper)
+    → AgreeBut (ws ∷ []) (above a.rules B D lower u) (above a.rules B D lower v)
     → all_found a.rules B xs
-    ≡ settle (caused_chase a.rules B) a.deps true a.committed a.update (apply (laid a.rules B D lower) (trail (caused_chase a.rules B) v)) (apply (laid a.rules B D lower) (trail (caused_chase a.rules B) v)) [] (suc a.update) (updates_of a.rules B upper)
+    ≡ settle (caused_chase a.rules B) a.deps true a.committed a.update (above a.rules B D lower v) (above a.rules B D lower v) [] (suc a.update) (updates_of a.rules B upper)
 
 -- In any history whose update above the lower ones is the event's, and was u before it lost its trail: dependences on it
--- and on what is restarted. D is the base, and the versions are those before the loss.
+-- and on what is restarted. Those above ran over what lay below them. D is the base, and the versions are those before the
+-- loss.
 abbrev pub AreCausesOfLoss : Above → List Change → List Record → List (Option Cause) → Type 0
 AreCausesOfLoss a ws upper xs =
-    (B : ℕ) (D : List Fact) (lower : List (Update (caused_chase a.rules B))) (u : Update (caused_chase a.rules B))
+    (B : ℕ) (D : List Fact) (lower : List (Update (caused_chase a.rules B))) (u : Update (caused_chase a.rules B)) → 1 ≤ B
     → a.update ≡ suc (length lower) → trail (caused_chase a.rules B) u ≡ ws → AreVersions a.rules B D (lower ++ u ∷ updates_of a.rules B upper) a.whole
+    → AreRuns (caused_chase a.rules B) (above a.rules B D lower u) (suc a.update) (updates_of a.rules B upper)
     → all_found a.rules B xs
-    ≡ settle (caused_chase a.rules B) a.deps false a.committed a.update (apply (laid a.rules B D lower) (trail (caused_chase a.rules B) u)) (laid a.rules B D lower) (record { number = a.update; trail = trail (caused_chase a.rules B) u } ∷ []) (suc a.update) (updates_of a.rules B upper)
+    ≡ settle (caused_chase a.rules B) a.deps false a.committed a.update (above a.rules B D lower u) (laid a.rules B D lower) (record { number = a.update; trail = trail (caused_chase a.rules B) u } ∷ []) (suc a.update) (updates_of a.rules B upper)

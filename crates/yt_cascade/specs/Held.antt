@@ -32,6 +32,10 @@ module _ (ms : List Rule) (B : ℕ) where
   abbrev pub laid : List Fact → List (Update (caused_chase ms B)) → List Fact
   laid D lower = apply D (flat_map (trail (caused_chase ms B)) lower)
 
+  -- What lies above the next update too.
+  abbrev pub above : List Fact → List (Update (caused_chase ms B)) → Update (caused_chase ms B) → List Fact
+  above D lower u = apply (laid D lower) (trail (caused_chase ms B) u)
+
 -- Versions of a history's updates hold the trails of the upper ones, and what the first of these sees is what the lower
 -- ones leave.
 pub record TrailsHeld (ms : List Rule) (B : ℕ) (D : List Fact) (lower upper : List (Update (caused_chase ms B))) (v : Kept) : Type 0 where

@@ -1,19 +1,18 @@
 -- What a cascade, the causes that it finds and what is lost mean.
 use Rattle.std.specs.Prelude.{ℕ, List, map, Option}
 use Rattle.std.specs.Option.{option_map}
-use Rattle.yt_base.specs.Meanings.{change_of}
+use Rattle.yt_conflict.specs.Trails.{writes_of}
+use Rattle.yt_conflict.specs.declared.concerns.Trail.{Trail}
 use Rattle.yt_entries.specs.Meanings.{cause_of}
 use Rattle.yt_entries.specs.declared.causes.Cause.{Cause as CauseOfProgram}
 use Rattle.yt_history.specs.PlainEntries.{cause_kept}
 use Rattle.yt_machine.specs.Cascade.{Cause, Member}
 use Rattle.yt_machine.specs.Updates.{Deps}
 use Rattle.yt_model.specs.Mappings.{Rule}
-use Rattle.yt_model.specs.Repository.{Change}
 use Rattle.yt_queue.specs.Settings.{deps_of}
 use Rattle.yt_steps.specs.Chase.{caused_chase}
 use Rattle.yt_versions.specs.Standing.{Kept}
 use Rattle.yt_cascade.specs.declared.cascades.Cascade.{Cascade}
-use Rattle.yt_cascade.specs.declared.lost.Member.{Member as MemberOfProgram}
 
 -- What a walk upwards goes by: the mappings, how dependences are tested, how many updates were committed when the event
 -- began, the number of the event's update, and the versions with all trails.
@@ -29,21 +28,13 @@ abbrev pub above_of : Cascade → Above
 above_of c =
     record { rules = c.mappings.now; deps = deps_of c.deps; committed = c.committed; update = c.update; whole = c.whole.now }
 
--- The trail that a member lost.
-abbrev pub trail_of : MemberOfProgram → List Change
-trail_of m = map change_of m.trail.now
-
--- Those of all members.
-abbrev pub trails_of : List MemberOfProgram → List (List Change)
-trails_of ks = map trail_of ks
-
 module _ (ms : List Rule) (B : ℕ) where
-  -- The member of a history that a `Member` stands for.
-  abbrev pub member_of : MemberOfProgram → Member (caused_chase ms B)
-  member_of m = record { number = m.number; trail = trail_of m }
+  -- The member of a history whose trail this is.
+  abbrev pub member_of : Trail → Member (caused_chase ms B)
+  member_of t = record { number = t.update; trail = writes_of t }
 
   -- Those of all members.
-  abbrev pub members_of : List MemberOfProgram → List (Member (caused_chase ms B))
+  abbrev pub members_of : List Trail → List (Member (caused_chase ms B))
   members_of ks = map member_of ks
 
   -- The cause in a history that was found, if one was.

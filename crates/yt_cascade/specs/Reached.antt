@@ -3,6 +3,8 @@ use Rattle.std.specs.Prelude.{ℕ, List, [], ◌∷◌, map, Bool, if◌then◌e
 use Rattle.std.specs.List.{list_any}
 use Rattle.std.specs.Option.{option_map}
 use Rattle.yt_conflict.specs.Changes.{Changed, Numbered, first_from, first_changed}
+use Rattle.yt_conflict.specs.Trails.{writes_of, trails_of}
+use Rattle.yt_conflict.specs.declared.concerns.Trail.{Trail}
 use Rattle.yt_machine.specs.Updates.{Deps, Precise, Coarse}
 use Rattle.yt_model.specs.Mappings.{Rule}
 use Rattle.yt_model.specs.Mentions.{mentions}
@@ -13,9 +15,8 @@ use Rattle.yt_queue.specs.declared.records.Record.{Record}
 use Rattle.yt_steps.specs.Chase.{relation_of}
 use Rattle.yt_versions.specs.Standing.{Kept, seen}
 use Rattle.yt_cascade.specs.declared.lost.Lost.{Lost}
-use Rattle.yt_cascade.specs.declared.lost.Member.{Member}
 use Rattle.yt_cascade.specs.declared.reads.Numbered.{Numbered as NumberedOfProgram}
-use Rattle.yt_cascade.specs.Meanings.{Above, trail_of, trails_of}
+use Rattle.yt_cascade.specs.Meanings.{Above}
 
 -- The read mentions a relation of which one of the writes is.
 abbrev pub is_reached : List Rule → Read → List Change → Bool
@@ -26,30 +27,31 @@ abbrev pub any_reached : List Rule → List (List Change) → Read → Bool
 any_reached ms trails r = list_any (λ ws. is_reached ms r ws) trails
 
 -- The first member that wrote a relation which the read mentions; 0 where none did.
-abbrev pub least_writer : List Rule → Read → List Member → ℕ
+abbrev pub least_writer : List Rule → Read → List Trail → ℕ
 least_writer ms r [] = 0
-least_writer ms r (m ∷ ks) = if is_reached ms r (trail_of m) then m.number else least_writer ms r ks
+least_writer ms r (t ∷ ts) = if is_reached ms r (writes_of t) then t.update else least_writer ms r ts
 
 -- The numbered read that a `Numbered` stands for.
 abbrev pub numbered_of : NumberedOfProgram → Numbered
 numbered_of x = record { number = x.number; read = read_of x.read.now }
 
--- The first logged read of the record that has another value over what its update sees of the versions.
-abbrev pub first_changed_in : List Rule → Kept → Record → Option Changed
-first_changed_in ms v r =
-    first_changed ms (direction_of r.program.attempt.operation) (seen r.program.attempt.number v) r.program.attempt.own (map read_of r.log.items)
+-- The first logged read of the record that a write of these trails meets and that has another value over what its update
+-- sees of the versions.
+abbrev pub first_changed_in : List Rule → Kept → List (List Change) → Record → Option Changed
+first_changed_in ms v trails r =
+    first_changed ms (direction_of r.program.attempt.operation) (seen r.program.attempt.number v) r.program.attempt.own trails (map read_of r.log.items)
 
--- The same without its value there.
-abbrev pub first_invalid : List Rule → Kept → Record → Option Numbered
-first_invalid ms v r = option_map (λ c. record { number = c.number; read = c.read }) (first_changed_in ms v r)
+-- The same without its value there, where these trails are lost.
+abbrev pub first_invalid : List Rule → Kept → List Trail → Record → Option Numbered
+first_invalid ms v ts r = option_map (λ c. record { number = c.number; read = c.read }) (first_changed_in ms v (trails_of ts) r)
 
 -- The first of these reads that mentions a relation which one of the members wrote.
-abbrev pub first_reached : List Rule → List Member → List Read → Option Numbered
-first_reached ms ks rs = first_from (any_reached ms (trails_of ks)) 1 rs
+abbrev pub first_reached : List Rule → List Trail → List Read → Option Numbered
+first_reached ms ts rs = first_from (any_reached ms (trails_of ts)) 1 rs
 
 -- The first that depends on what is lost.
 abbrev pub first_by : Deps → List Rule → Lost → Record → Option Numbered
-first_by Precise ms lost r = first_invalid ms lost.without r
+first_by Precise ms lost r = first_invalid ms lost.without lost.members.items r
 first_by Coarse ms lost r = first_reached ms lost.members.items (map read_of r.log.items)
 
 -- By the test of the walk.

@@ -1,24 +1,28 @@
 -- What each part of the walk finds and leaves.
-use Rattle.std.specs.Prelude.{◌≡◌, ℕ, suc, nat_lt, Bool, true, false, not, ◌&&◌, List, [], ◌∷◌, ◌++◌, Option, None, if◌then◌else◌}
+use Rattle.std.specs.Prelude.{◌≡◌, ◌≤◌, ℕ, suc, nat_lt, Bool, true, false, not, ◌&&◌, List, [], ◌∷◌, ◌++◌, Option, None, if◌then◌else◌}
 use Rattle.std.specs.Option.{option_map}
 use Rattle.yt_conflict.specs.Changes.{Changed, Numbered}
+use Rattle.yt_conflict.specs.Concerns.{AgreeBut}
+use Rattle.yt_conflict.specs.Trails.{trails_of}
+use Rattle.yt_conflict.specs.declared.concerns.Trail.{Trail}
 use Rattle.yt_conflict.specs.Meanings.{changed_of}
 use Rattle.yt_conflict.specs.declared.changes.Changed.{Changed as ChangedOfProgram}
 use Rattle.yt_entries.specs.Meanings.{cause_of as plain_of}
 use Rattle.yt_entries.specs.declared.causes.Cause.{Cause}
 use Rattle.yt_history.specs.PlainEntries.{PlainCause, InConflict, Dependent}
 use Rattle.yt_machine.specs.Cascade.{with_member, without_member}
+use Rattle.yt_machine.specs.Runs.{IsRun, AreRuns}
 use Rattle.yt_machine.specs.Settle.{cause_of, settle}
 use Rattle.yt_machine.specs.Standings.{is_nil}
 use Rattle.yt_machine.specs.Updates.{Update}
 use Rattle.yt_model.specs.Mappings.{Rule}
 use Rattle.yt_model.specs.Repository.{Change}
+use Rattle.yt_model.specs.Values.{Fact}
 use Rattle.yt_queue.specs.Queues.{update_of, updates_of}
 use Rattle.yt_queue.specs.declared.records.Record.{Record}
 use Rattle.yt_steps.specs.Chase.{caused_chase}
 use Rattle.yt_versions.specs.Standing.{seen, Retracted}
 use Rattle.yt_cascade.specs.declared.lost.Lost.{Lost}
-use Rattle.yt_cascade.specs.declared.lost.Member.{Member}
 use Rattle.yt_cascade.specs.Held.{HoldFrom}
 use Rattle.yt_cascade.specs.Meanings.{Above, found_of, all_found, members_of}
 use Rattle.yt_cascade.specs.Reached.{least_writer, first_changed_in, first_dependent}
@@ -43,17 +47,12 @@ conflict_meant j n c = InConflict (record { reader = n; read = c.number; writer 
 abbrev pub IsConflict : ℕ → ℕ → Option ChangedOfProgram → Option Cause → Type 0
 IsConflict j n c x = option_map plain_of x ≡ option_map (conflict_meant j n) (option_map changed_of c)
 
--- It is the conflict of the reader, if that is live.
-abbrev pub IsConflictFor : Above → Record → Option Cause → Type 0
-IsConflictFor a r x = option_map plain_of x ≡ option_map (conflict_meant a.update (number_of r)) (first_changed_in a.rules a.whole r)
-
--- The same where conflicts are looked for, and else none.
-abbrev pub IsConflictWhere : Bool → Above → Record → Option Cause → Type 0
-IsConflictWhere true a r x = IsConflictFor a r x
-IsConflictWhere false a r x = x ≡ None
+-- It is the conflict of the reader with these writes, if that is live.
+abbrev pub IsConflictFor : Above → List Change → Record → Option Cause → Type 0
+IsConflictFor a ws r x = option_map plain_of x ≡ option_map (conflict_meant a.update (number_of r)) (first_changed_in a.rules a.whole (ws ∷ []) r)
 
 -- The dependence of the reader of this number, by its read.
-abbrev pub dependence_meant : List Rule → List Member → ℕ → Numbered → PlainCause
+abbrev pub dependence_meant : List Rule → List Trail → ℕ → Numbered → PlainCause
 dependence_meant ms ks n t = Dependent (record { reader = n; read = t.number; on = least_writer ms t.read ks })
 
 -- It is the dependence of the reader on what is lost below it, if that is live.
@@ -62,10 +61,23 @@ IsDependenceFor a lost r x =
     option_map plain_of x
     ≡ (if is_nil lost.members.items then None else option_map (dependence_meant a.rules lost.members.items (number_of r)) (first_dependent a lost r))
 
+-- Update n was its run over what lay below it before the event. Since then these writes came or went there, which gave the
+-- whole; and these trails are lost, which leaves what is without them.
+pub record RanBelow (ms : List Rule) (B : ℕ) (ws : List Change) (trails : List (List Change)) (whole without : List Fact) (n : ℕ) (u : Update (caused_chase ms B)) : Type 0 where
+  pub before : List Fact
+  pub run : IsRun (caused_chase ms B) before n u
+  pub event : AgreeBut (ws ∷ []) before whole
+  pub lost : AgreeBut trails whole without
+
+-- Without writes there is no conflict to look for.
+abbrev pub LooksFor : Bool → List Change → Type 0
+LooksFor conflicting ws = conflicting ≡ false → ws ≡ []
+
 -- It is why the reader is restarted.
-abbrev pub IsCauseFor : Above → Bool → Lost → Record → Option Cause → Type 0
-IsCauseFor a conflicting lost r x =
-    (B : ℕ)
+abbrev pub IsCauseFor : Above → List Change → Lost → Record → Option Cause → Type 0
+IsCauseFor a ws lost r x =
+    (B : ℕ) (conflicting : Bool) → 1 ≤ B → LooksFor conflicting ws
+    → RanBelow a.rules B ws (trails_of lost.members.items) (seen (number_of r) a.whole) (seen (number_of r) lost.without) (number_of r) (update_of a.rules B r)
     → found_of a.rules B x
     ≡ cause_of (caused_chase a.rules B) a.deps conflicting a.committed a.update (seen (number_of r) a.whole) (seen (number_of r) lost.without) (members_of a.rules B lost.members.items) (number_of r) (update_of a.rules B r)
 
@@ -86,9 +98,19 @@ LosesWhere restarts r old new =
     (ms : List Rule) (B : ℕ) (us : List (Update (caused_chase ms B))) → HoldFrom ms B (number_of r) (update_of ms B r ∷ us) old.without
     → LeavesLost ms B restarts (number_of r) (update_of ms B r) us old new
 
+-- The records' updates, the first of which has number n, ran over what lay below them before the event. Both versions have
+-- their trails; these writes came or went below them, and the trails of the members are lost.
+pub record StandAbove (a : Above) (B : ℕ) (ws : List Change) (lost : Lost) (n : ℕ) (rs : List Record) : Type 0 where
+  pub whole : HoldFrom a.rules B n (updates_of a.rules B rs) a.whole
+  pub without : HoldFrom a.rules B n (updates_of a.rules B rs) lost.without
+  pub before : List Fact
+  pub runs : AreRuns (caused_chase a.rules B) before n (updates_of a.rules B rs)
+  pub event : AgreeBut (ws ∷ []) before (seen n a.whole)
+  pub gone : AgreeBut (trails_of lost.members.items) (seen n a.whole) (seen n lost.without)
+
 -- These are why each of the records' updates is restarted, which are those above the event's.
-abbrev pub AreFound : Above → Bool → Lost → List Record → List (Option Cause) → Type 0
-AreFound a conflicting lost rs xs =
-    (B : ℕ) → HoldFrom a.rules B (suc a.update) (updates_of a.rules B rs) a.whole → HoldFrom a.rules B (suc a.update) (updates_of a.rules B rs) lost.without
+abbrev pub AreFound : Above → List Change → Lost → List Record → List (Option Cause) → Type 0
+AreFound a ws lost rs xs =
+    (B : ℕ) (conflicting : Bool) → 1 ≤ B → LooksFor conflicting ws → StandAbove a B ws lost (suc a.update) rs
     → all_found a.rules B xs
     ≡ settle (caused_chase a.rules B) a.deps conflicting a.committed a.update (seen (suc a.update) a.whole) (seen (suc a.update) lost.without) (members_of a.rules B lost.members.items) (suc a.update) (updates_of a.rules B rs)

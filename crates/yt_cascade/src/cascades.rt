@@ -27,20 +27,22 @@ pub struct Cascade<'a> {
 
 impl<'a> Cascade<'a> {
     /// Why each of the updates above is restarted, if it is, where the event's update wrote: a conflict with its writes, or
-    /// else a dependence on a lower one that is restarted. There is one answer for each, in order. It is refused only for
-    /// want of memory.
+    /// else a dependence on a lower one that is restarted. Handed in are the writes that came or went by the event. There is
+    /// one answer for each, in order. It is refused only for want of memory.
     pub fn causes_of_writes(
         &self,
         alloc: Global,
+        written: &[Write],
         upper: &[Record],
     ) -> Result<Vec<Option<Cause>>, Memory>
         requires from { AreFrom (suc self.now.update) upper.now }
         ensures long { IfOk result (λ causes. length causes.items ≡ length upper.now) }
         ensures causes { IfOk result (λ causes.
-            AreCausesOfWrites (above_of self.now) upper.now causes.items) }
+            AreCausesOfWrites (above_of self.now) (map change_of written.now) upper.now
+            causes.items) }
     {
         let lost = Lost::none(alloc, self.whole)?;
-        let found = self.walk(alloc, true, lost, upper)?;
+        let found = self.walk(alloc, written, lost, upper)?;
         Ok(found)
     }
 
@@ -60,27 +62,28 @@ impl<'a> Cascade<'a> {
     {
         let mut lost = Lost::none(alloc, self.whole)?;
         lost.lose(alloc, self.update, trail)?;
-        let found = self.walk(alloc, false, lost, upper)?;
+        let found = self.walk(alloc, &[], lost, upper)?;
         Ok(found)
     }
 
-    // Why each of the updates above is restarted, if it is, where these trails are lost below them. Conflicts are looked for
-    // or not.
+    // Why each of the updates above is restarted, if it is, where these writes came or went and these trails are lost below
+    // them.
     fn walk<'r>(
         &self,
         alloc: Global,
-        conflicting: bool,
+        written: &[Write],
         mut lost: Lost<'r>,
         upper: &'r [Record],
     ) -> Result<Vec<Option<Cause>>, Memory>
         requires from { AreFrom (suc self.now.update) upper.now }
         ensures long { IfOk result (λ found. length found.items ≡ length upper.now) }
         ensures found { IfOk result (λ found.
-            AreFound (above_of self.now) conflicting lost.entry upper.now found.items) }
+            AreFound (above_of self.now) (map change_of written.now) lost.entry upper.now
+            found.items) }
     {
         let mut found = Vec::new(alloc);
         'readers: for reader in upper {
-            let cause = self.cause_for(alloc, conflicting, &lost, reader)?;
+            let cause = self.cause_for(alloc, written, &lost, reader)?;
             lost.lose_where(alloc, cause.is_some(), reader)?;
             found.push(cause)?;
         }

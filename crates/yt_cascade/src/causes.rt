@@ -1,33 +1,34 @@
 //! Why one update is restarted.
-ghost use Rattle.std.specs.Prelude.{◌≡◌, IfOk};
+ghost use Rattle.std.specs.Prelude.{◌≡◌, map, IfOk};
+ghost use Rattle.yt_base.specs.Meanings.{change_of};
 ghost use Rattle.yt_cascade.specs.Meanings.{above_of};
-ghost use Rattle.yt_cascade.specs.Walks.{IsCauseFor, IsConflict, IsConflictFor, IsConflictWhere, IsDependenceFor, may_have_cause as may_have_cause_lem};
+ghost use Rattle.yt_cascade.specs.Walks.{IsCauseFor, IsConflict, IsConflictFor, IsDependenceFor, may_have_cause as may_have_cause_lem};
 
 use crate::cascades::Cascade;
 use crate::lost::Lost;
 use std::alloc::Global;
-use yt_base::{Memory, TryCopy};
-use yt_conflict::{Changed, first_changed};
+use yt_base::{Memory, TryCopy, Write};
+use yt_conflict::{Changed, Trail, first_changed};
 use yt_entries::Cause;
 use yt_queue::Record;
 
 impl<'a> Cascade<'a> {
-    /// Why the reader is restarted, if it is: for its conflict, where those are looked for, or else for a dependence on the
-    /// trails that are lost below it. It is refused only for want of memory.
+    /// Why the reader is restarted, if it is: for its conflict with the writes, or else for a dependence on the trails that
+    /// are lost below it. It is refused only for want of memory.
     pub(crate) fn cause_for(
         &self,
         alloc: Global,
-        conflicting: bool,
+        written: &[Write],
         lost: &Lost<'_>,
         reader: &Record,
     ) -> Result<Option<Cause>, Memory>
         ensures cause { IfOk result
-            (IsCauseFor (above_of self.now) conflicting lost.now reader.now) }
+            (IsCauseFor (above_of self.now) (map change_of written.now) lost.now reader.now) }
     {
         if !self.may_have_cause(reader) {
             return Ok(None);
         }
-        if let Some(cause) = self.conflict_where(alloc, conflicting, reader)? {
+        if let Some(cause) = self.conflict_where(alloc, written, reader)? {
             return Ok(Some(cause));
         }
         let cause = self.dependence_for(alloc, lost, reader)?;
@@ -44,32 +45,51 @@ impl<'a> Cascade<'a> {
         !reader.log.is_empty()
     }
 
-    // The conflict of the live reader, where those are looked for.
+    // The conflict of the live reader with the writes, if there are any.
     fn conflict_where(
         &self,
         alloc: Global,
-        conflicting: bool,
+        written: &[Write],
         reader: &Record,
     ) -> Result<Option<Cause>, Memory>
         ensures conflict { IfOk result
-            (IsConflictWhere conflicting (above_of self.now) reader.now) }
+            (IsConflictFor (above_of self.now) (map change_of written.now) reader.now) }
     {
-        if !conflicting {
+        if written.is_empty() {
             return Ok(None);
         }
-        let cause = self.conflict_for(alloc, reader)?;
+        let cause = self.conflict_for(alloc, written, reader)?;
         Ok(cause)
     }
 
-    // The first read of the live reader that has another value over what lies below it, if there is one.
-    fn conflict_for(&self, alloc: Global, reader: &Record) -> Result<Option<Cause>, Memory>
-        ensures conflict { IfOk result (IsConflictFor (above_of self.now) reader.now) }
+    // The first read of the live reader that one of the writes meets and that has another value over what lies below it, if
+    // there is one.
+    fn conflict_for(
+        &self,
+        alloc: Global,
+        written: &[Write],
+        reader: &Record,
+    ) -> Result<Option<Cause>, Memory>
+        ensures conflict { IfOk result
+            (IsConflictFor (above_of self.now) (map change_of written.now) reader.now) }
     {
         let below = self.whole.below(reader.number());
         let own = reader.program.own();
         let mappings = self.mappings.list();
         let direction = reader.program.direction();
-        let changed = first_changed(alloc, &reader.log, mappings, &below, own, direction)?;
+        let trails = [Trail {
+            update: self.update,
+            writes: written,
+        }];
+        let changed = first_changed(
+            alloc,
+            &reader.log,
+            mappings,
+            &below,
+            own,
+            direction,
+            &trails,
+        )?;
         self.conflict_by(alloc, reader.number(), changed)
     }
 

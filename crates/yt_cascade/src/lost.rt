@@ -7,28 +7,22 @@ ghost use Rattle.yt_queue.specs.Programs.{IsBetween};
 ghost use Rattle.yt_query.specs.Meanings.{read_of};
 ghost use Rattle.yt_steps.specs.Chase.{relation_of};
 ghost use Rattle.yt_cascade.specs.Reached.{is_reached, any_reached, least_writer, numbered_of, first_reached as first_reached_lem};
-ghost use Rattle.yt_cascade.specs.Meanings.{trails_of};
+ghost use Rattle.yt_conflict.specs.Trails.{trails_of};
 ghost use Rattle.yt_cascade.specs.Walks.{Loses, LosesWhere};
 
 use crate::reads::Numbered;
 use std::alloc::Global;
 use yt_base::{MappingList, Memory, Write};
+use yt_conflict::Trail;
 use yt_query::{LoggedRead, mentions};
 use yt_queue::Record;
 use yt_versions::Versions;
-
-/// An update whose trail is lost, with the trail that it had.
-#[derive(Drop)]
-pub(crate) struct Member<'r> {
-    pub(crate) number: u32,
-    pub(crate) trail: &'r [Write],
-}
 
 /// The versions without the trails that are lost, and the updates whose trails these were, in number order.
 #[derive(Drop)]
 pub(crate) struct Lost<'r> {
     pub(crate) without: Versions,
-    pub(crate) members: Vec<Member<'r>>,
+    pub(crate) members: Vec<Trail<'r>>,
 }
 
 impl<'r> Lost<'r> {
@@ -53,7 +47,10 @@ impl<'r> Lost<'r> {
         ensures lost { OnOk result (Loses number (map change_of trail.now) self.old self.new) }
     {
         self.without.retract(alloc, number, trail)?;
-        self.members.push(Member { number, trail })?;
+        self.members.push(Trail {
+            update: number,
+            writes: trail,
+        })?;
         Ok(())
     }
 
@@ -99,8 +96,8 @@ impl<'r> Lost<'r> {
             least_writer (rules_in mappings.now) (read_of read.now) self.now.members.items }
     {
         for member in &self.members {
-            if reaches(member.trail, mappings, read) {
-                return member.number;
+            if reaches(member.writes, mappings, read) {
+                return member.update;
             }
         }
         0
@@ -108,13 +105,13 @@ impl<'r> Lost<'r> {
 }
 
 // Whether the read mentions a relation that one of the members wrote.
-fn reaches_any(members: &[Member<'_>], mappings: &MappingList, read: &LoggedRead) -> bool
+fn reaches_any(members: &[Trail<'_>], mappings: &MappingList, read: &LoggedRead) -> bool
     ensures { result ≡
         any_reached (rules_in mappings.now) (trails_of members.now) (read_of read.now) }
 {
     members
         .iter()
-        .any(|member| reaches(member.trail, mappings, read))
+        .any(|member| reaches(member.writes, mappings, read))
 }
 
 // Whether the read mentions a relation of which one of the writes is.

@@ -45,13 +45,24 @@ impl<'a> Cascade<'a> {
         reader: &'l Record,
     ) -> Result<Option<Numbered<'l>>, Memory>
         ensures first { IfOk result (λ found. option_map numbered_of found ≡
-            first_invalid_lem self.now.mappings.now lost.now.without reader.now) }
+            first_invalid_lem self.now.mappings.now lost.now.without lost.now.members.items
+            reader.now) }
     {
         let below = lost.without.below(reader.number());
         let own = reader.program.own();
         let mappings = self.mappings.list();
         let direction = reader.program.direction();
-        match first_changed(alloc, &reader.log, mappings, &below, own, direction)? {
+        let members = lost.members.as_slice();
+        let changed = first_changed(
+            alloc,
+            &reader.log,
+            mappings,
+            &below,
+            own,
+            direction,
+            members,
+        )?;
+        match changed {
             Some(changed) => Ok(Some(Numbered {
                 number: changed.number,
                 read: changed.read,

@@ -1,12 +1,13 @@
 -- Which of an attempt's logged reads have another value now.
 use Rattle.std.specs.Option.{option_map}
-use Rattle.std.specs.Prelude.{ℕ, suc, Bool, not, if◌then◌else◌, List, [], ◌∷◌, take, Option, Some, None}
+use Rattle.std.specs.Prelude.{ℕ, suc, Bool, not, ◌&&◌, if◌then◌else◌, List, [], ◌∷◌, take, Option, Some, None}
 use Rattle.yt_model.specs.Values.{Fact}
 use Rattle.yt_model.specs.Repository.{Change}
 use Rattle.yt_model.specs.Mappings.{Rule}
 use Rattle.yt_model.specs.Violations.{Direction, Caused}
 use Rattle.yt_model.specs.Queries.{Reply, same_reply, value}
 use Rattle.yt_query.specs.Meanings.{Read}
+use Rattle.yt_conflict.specs.Concerns.{is_met}
 
 -- The value of the read over D, by an attempt in this direction whose own writes are these: those count that were made when it asked.
 abbrev pub value_now : List Rule → Direction → List Fact → List Change → Read → Reply
@@ -32,6 +33,11 @@ pub record Changed : Type 0 where
   pub read : Read
   pub now : Reply
 
--- The first read of the log that has another value over D.
-abbrev pub first_changed : List Rule → Direction → List Fact → List Change → List Read → Option Changed
-first_changed ms h D own log = option_map (λ r. record { number = r.number; read = r.read; now = value_now ms h D own r.read }) (first_from (is_changed ms h D own) 1 log)
+-- A write of the trails meets the read, and it has another value over D.
+abbrev pub is_met_and_changed : List Rule → Direction → List Fact → List Change → List (List Change) → Read → Bool
+is_met_and_changed ms h D own trails r = is_met ms trails r.query && is_changed ms h D own r
+
+-- The first read of the log that a write of these trails meets and that has another value over D.
+abbrev pub first_changed : List Rule → Direction → List Fact → List Change → List (List Change) → List Read → Option Changed
+first_changed ms h D own trails log =
+    option_map (λ r. record { number = r.number; read = r.read; now = value_now ms h D own r.read }) (first_from (is_met_and_changed ms h D own trails) 1 log)

@@ -1,2 +1,4 @@
+pub mod Concerns
+pub mod Trails
 pub mod Changes
 pub mod Meanings

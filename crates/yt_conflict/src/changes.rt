@@ -5,7 +5,10 @@ ghost use Rattle.yt_base.specs.Meanings.{change_of, heading_of, rule_of};
 ghost use Rattle.yt_query.specs.Meanings.{read_of};
 ghost use Rattle.yt_conflict.specs.Changes.{first_changed as first_changed_lem};
 ghost use Rattle.yt_conflict.specs.Meanings.{changed_of};
+ghost use Rattle.yt_conflict.specs.Trails.{trails_of};
+ghost use Rattle.yt_base.specs.Contents.{changes_of, rules_in};
 
+use crate::concerns::{Trail, is_met};
 use crate::views::{see, standing_then};
 use std::alloc::Global;
 use yt_base::{Direction, Facts, MappingList, Memory, Write, WriteList};
@@ -21,8 +24,8 @@ pub struct Changed<'a> {
     pub now: Answer,
 }
 
-/// The first read of the log that has another value now, by an attempt in this direction with these own writes, where the
-/// facts lie below it. It is refused only for want of memory.
+/// The first read of the log that a write of these trails meets and that has another value now, by an attempt in this
+/// direction with these own writes, where the facts lie below it. It is refused only for want of memory.
 pub fn first_changed<'a, F: Facts>(
     alloc: Global,
     log: &'a ReadLog,
@@ -30,17 +33,15 @@ pub fn first_changed<'a, F: Facts>(
     below: &F,
     own: &WriteList,
     direction: Direction,
+    trails: &[Trail<'_>],
 ) -> Result<Option<Changed<'a>>, Memory>
-    ensures first { IfOk result (λ found. option_map changed_of found ≡ first_changed_lem (map rule_of mappings.now.items) (heading_of direction) (F.tuples below.now) (map change_of own.now.items) (map read_of log.now.items)) }
+    ensures first { IfOk result (λ found. option_map changed_of found ≡
+        first_changed_lem (rules_in mappings.now) (heading_of direction) (F.tuples below.now)
+        (changes_of own.now) (trails_of trails.now) (map read_of log.now.items)) }
 {
-    first_in(
-        alloc,
-        log.as_slice(),
-        mappings,
-        below,
-        own.as_slice(),
-        direction,
-    )
+    let log = log.as_slice();
+    let own = own.as_slice();
+    first_in(alloc, log, mappings, below, own, direction, trails)
 }
 
 // The same of a slice.
@@ -51,17 +52,23 @@ fn first_in<'a, F: Facts>(
     below: &F,
     own: &[Write],
     direction: Direction,
+    trails: &[Trail<'_>],
 ) -> Result<Option<Changed<'a>>, Memory>
-    ensures first { IfOk result (λ found. option_map changed_of found ≡ first_changed_lem (map rule_of mappings.now.items) (heading_of direction) (F.tuples below.now) (map change_of own.now) (map read_of log.now)) }
+    ensures first { IfOk result (λ found. option_map changed_of found ≡
+        first_changed_lem (rules_in mappings.now) (heading_of direction) (F.tuples below.now)
+        (map change_of own.now) (trails_of trails.now) (map read_of log.now)) }
 {
     let mut view = View::new(alloc, below);
     let mut seen = 0;
     let mut number = 0;
     'reads: for read in log {
+        number += 1;
+        if !is_met(trails, mappings, &read.query) {
+            continue;
+        }
         let count = standing_then(read.own, own);
         see(alloc, &mut view, below, own, seen, count)?;
         seen = count;
-        number += 1;
         let now = view.eval(&read.query, mappings, direction, alloc)?;
         if !now.is_same(&read.answer) {
             return Ok(Some(Changed { number, read, now }));

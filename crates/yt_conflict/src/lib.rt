@@ -1,7 +1,14 @@
 //! Whether the reads that an attempt has logged still have their values over what lies below it now.
+//!
+//! Between two moments writes came or went below the attempt. A read that none of them concerns has the value that it had, by
+//! the law `unmet_values_stay`; only the others are evaluated anew.
 #![tactic(auto)]
 
 mod changes;
+mod concerns;
+mod laws;
 mod views;
 
 pub use crate::changes::{Changed, first_changed};
+pub use crate::concerns::Trail;
+pub use crate::laws::unmet_values_stay;

@@ -30,7 +30,8 @@ use Rattle.yt_cascade.specs.Held.{AreVersions}
 use Rattle.yt_core.specs.Follows.{Follows, ground_with, IsPreparedAt, IsInstalled, TellsStep, StepsTo, meant_of}
 use Rattle.yt_core.specs.Kept.{IsKept, HaveTrails}
 use Rattle.yt_core.specs.Planned.{IsSomeThat, IsStepOver}
-use Rattle.yt_core.specs.Steps.{IsStepLeft, IsPrepared}
+use Rattle.yt_core.specs.Steps.{IsStepLeft, IsPrepared, RanAbove}
+use Rattle.yt_core.proofs.Running.{ran_above}
 use Rattle.yt_core.specs.declared.stepping.Prepared.{Prepared}
 
 -- ---- any event
@@ -123,7 +124,8 @@ prepared_at ms s c k v rs r plan p numbers spot counts is B requests later D H r
     ap (λ (q : Record). is_ready (standing (caused_chase ms B) s (committed (caused_chase ms B) us) (suc k) (update_of ms B q))) same ∙ ap is_ready ready in
     let plan_is : IsPlanOf ms B (below (caused_chase ms B) D us k) r plan = subst (λ (q : Record). IsPlanOf ms B (below (caused_chase ms B) D us k) q plan) (sym same) isplan in
     let left : IsStepLeft ms B s c r.program.attempt.number D (take k us) (update_of ms B r) (updates_of ms B (drop (suc k) rs)) p =
-    is B D (take k us) (committed (caused_chase ms B) us) (suc k) (number ∙ sym (ap suc long)) versions may plan_is in
+    is B D (take k us) (committed (caused_chase ms B) us) (suc k) kept.budget (number ∙ sym (ap suc long))
+    (subst (λ (ws : List (Update (caused_chase ms B))). RanAbove ms B D (take k us) (update_of ms B r) ws) (sym upper) (ran_above (ground_with ms s B D requests later) v rs H kept k (update_of ms B r) at_us long)) versions may plan_is in
     let moved : IsStepLeft ms B s (committed (caused_chase ms B) us) (suc k) D (take k us) (update_of ms B r) (updates_of ms B (drop (suc k) rs)) p =
     subst (λ (j : ℕ). IsStepLeft ms B s (committed (caused_chase ms B) us) j D (take k us) (update_of ms B r) (updates_of ms B (drop (suc k) rs)) p) number
     (subst (λ (d : ℕ). IsStepLeft ms B s d r.program.attempt.number D (take k us) (update_of ms B r) (updates_of ms B (drop (suc k) rs)) p) (counts ms B) left) in

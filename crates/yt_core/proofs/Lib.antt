@@ -1,5 +1,6 @@
 pub mod Trailing
 pub mod Causing
+pub mod Running
 pub mod Preparing
 pub mod Following
 pub mod Opening

@@ -33,6 +33,8 @@ use Rattle.yt_core.specs.Follows.{Follows, ground_with, AreSame}
 use Rattle.yt_core.specs.Kept.{IsKept, HaveTrails}
 use Rattle.yt_core.specs.LiveCalls.{is_live_in, is_withdrawn}
 use Rattle.yt_core.specs.States.{State, numbered_at, committed_at, standing_at}
+use Rattle.yt_core.proofs.Running.{ran_above}
+use Rattle.yt_core.specs.Steps.{RanAbove}
 use Rattle.yt_core.specs.Withdrawals.{IsLossLeft, WereLost, IsLossPrepared, IsLossPreparedAt, IsRemoved, TellsWithdrawal, WithdrawsTo}
 use Rattle.yt_core.specs.declared.aftermaths.Aftermath.{Aftermath}
 use Rattle.yt_core.proofs.Delivering.{mapped_more}
@@ -54,11 +56,11 @@ trail_lost n r ws old copy new number same trail_is taken =
 pub loss_prepared : (ms : List Rule) (s : Settings) (c : ℕ) (old after : Kept) (r : Record) (upper : List Record) (found : List (Option CauseOfProgram)) (left : Aftermath)
     → AreFrom (suc r.program.attempt.number) upper → ClearedIf true r old after → WereLost ms s c old r upper found
     → Cleared upper found after left.versions → AreThere found left.fresh.items → left.causes.items ≡ in_order found → IsLossPrepared ms s c old r upper left
-loss_prepared ms s c old after r upper found left from lost were cleared there causes B E lower e versions =
+loss_prepared ms s c old after r upper found left from lost were cleared there causes B E lower few e ran versions =
     let us : List (Update (caused_chase ms B)) = updates_of ms B upper in
     let u : Update (caused_chase ms B) = update_of ms B r in
     let mid : AreVersions ms B E (lower ++ withdrawn_now (caused_chase ms B) u ∷ us) after = versions_with ms B r.program.attempt.number E lower u (withdrawn_now (caused_chase ms B) u) us old after e lost versions in
-    left_by ms B _ E lower (withdrawn_now (caused_chase ms B) u) upper found after left (subst (λ (m : ℕ). AreFrom (suc m) upper) e from) (were B E lower e versions) mid cleared there causes
+    left_by ms B _ E lower (withdrawn_now (caused_chase ms B) u) upper found after left (subst (λ (m : ℕ). AreFrom (suc m) upper) e from) (were B E lower few e ran versions) mid cleared there causes
 
 pub loss_prepared_at : (ms : List Rule) (s : Settings) (c k : ℕ) (v : Kept) (rs up : List Record) (r : Record) (left : Aftermath) → AreFrom 1 rs → k < length rs → r ≡ get_or rs k r → up ≡ drop (suc k) rs
     → HasCommitted rs c → IsLossPrepared ms s c v r up left → IsLossPreparedAt ms s k v rs left
@@ -72,7 +74,8 @@ loss_prepared_at ms s c k v rs up r left numbers l spot above counts is B reques
     let all : us ≡ take k us ++ update_of ms B r ∷ updates_of ms B up = sym (cut_at us k (update_of ms B r) at_us) ∙ sym (ap (λ (ws : List (Update (caused_chase ms B))). take k us ++ update_of ms B r ∷ ws) upper) in
     let versions : AreVersions ms B D (take k us ++ update_of ms B r ∷ updates_of ms B up) v = subst (λ (ws : List (Update (caused_chase ms B))). AreVersions ms B D ws v) all (record { sorted = kept.sorted; stand = kept.versions }) in
     let here : IsLossLeft ms B s c (suc (length (take k us))) D (take k us) (update_of ms B r) (updates_of ms B up) left =
-    is B D (take k us) (number_there rs k r numbers l spot ∙ sym (ap suc long)) versions in
+    is B D (take k us) kept.budget (number_there rs k r numbers l spot ∙ sym (ap suc long))
+    (subst (λ (ws : List (Update (caused_chase ms B))). RanAbove ms B D (take k us) (update_of ms B r) ws) (sym upper) (ran_above (ground_with ms s B D requests later) v rs H kept k (update_of ms B r) at_us long)) versions in
     subst (λ (q : Record). IsLossLeft ms B s (committed (caused_chase ms B) us) (suc k) D (take k us) (update_of ms B q) (drop (suc k) us) left) same
     (subst (λ (ws : List (Update (caused_chase ms B))). IsLossLeft ms B s (committed (caused_chase ms B) us) (suc k) D (take k us) (update_of ms B r) ws left) upper
     (subst (λ (d : ℕ). IsLossLeft ms B s d (suc k) D (take k us) (update_of ms B r) (updates_of ms B up) left) (counts ms B)

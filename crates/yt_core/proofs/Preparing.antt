@@ -1,21 +1,26 @@
 -- What a step leaves, once it is prepared.
-use Rattle.std.proofs.Common.{◌≡◌, ◌∙◌, ap, refl, sym, subst, ℕ, suc, Bool, true, false, Option, List, [], ◌∷◌, ◌++◌, map, length}
+use Rattle.std.proofs.Common.{◌≡◌, ◌∙◌, ap, refl, sym, subst, ℕ, suc, ◌≤◌, Bool, true, false, Option, List, [], ◌∷◌, ◌++◌, map, length}
 use Rattle.std.specs.Prelude.{if◌then◌else◌, is_some, option_map}
+use Rattle.std.specs.List.{flat_map}
 use Rattle.yt_base.specs.Meanings.{change_of}
 use Rattle.yt_base.specs.declared.updates.Write.{Write}
+use Rattle.yt_conflict.specs.Concerns.{AgreeBut}
+use Rattle.yt_conflict.proofs.Staying.{agree_alone, agree_back, agree_more}
 use Rattle.yt_entries.specs.Meanings.{cause_of}
 use Rattle.yt_entries.specs.declared.causes.Cause.{Cause as CauseOfProgram}
 use Rattle.yt_history.specs.PlainEntries.{cause_kept}
 use Rattle.yt_machine.specs.Machine.{Machine}
 use Rattle.yt_machine.specs.Cascade.{Cause, readers, restarted}
 use Rattle.yt_machine.specs.Effects.{is_spent, causes_of_loss, causes_of_writes, causes_of_step}
+use Rattle.yt_machine.specs.Runs.{AreRuns}
 use Rattle.yt_machine.specs.Settle.{settle, restart, conflicts_in, dependences_in}
 use Rattle.yt_machine.specs.Steps.{stepped, step_writes, next_move}
 use Rattle.yt_machine.specs.Updates.{Settings, Update, Deps, hides, trail}
 use Rattle.yt_machine.proofs.Standing.{ready_parts}
 use Rattle.yt_machine.proofs.Walks.{walk_law}
 use Rattle.yt_model.specs.Mappings.{Rule}
-use Rattle.yt_model.specs.Repository.{Change, apply}
+use Rattle.yt_model.proofs.Sets.{apply_in_order}
+use Rattle.yt_model.specs.Repository.{Change, IsRepository, apply}
 use Rattle.yt_model.specs.Values.{Fact}
 use Rattle.yt_plan.specs.declared.plans.Plan.{Plan}
 use Rattle.yt_program.specs.Courses.{State}
@@ -25,14 +30,15 @@ use Rattle.yt_queue.specs.Queues.{update_of, updates_of, AreFrom}
 use Rattle.yt_queue.specs.Renewals.{AreThere}
 use Rattle.yt_queue.specs.declared.records.Record.{Record}
 use Rattle.yt_queue.proofs.Restarting.{restart_by, restart_is}
+use Rattle.yt_steps.proofs.Steady.{apply_join}
 use Rattle.yt_steps.specs.Attempts.{outcome_in}
 use Rattle.yt_steps.specs.Chase.{caused_chase, ending}
 use Rattle.yt_cascade.specs.Causes.{AreCausesOfWrites, AreCausesOfLoss}
-use Rattle.yt_cascade.specs.Held.{AreVersions, laid}
+use Rattle.yt_cascade.specs.Held.{AreVersions, laid, above}
 use Rattle.yt_cascade.specs.Meanings.{Above, all_found}
 use Rattle.yt_versions.specs.Standing.{Kept, Published, Retracted}
 use Rattle.yt_core.specs.Aftermaths.{Cleared, in_order}
-use Rattle.yt_core.specs.Steps.{HasHidden, IsFound, after_step, causes_above, IsStepLeft, ShowsStep, WereFound, IsPrepared}
+use Rattle.yt_core.specs.Steps.{HasHidden, HasTurned, IsFound, RanAbove, after_step, causes_above, IsStepLeft, ShowsStep, WereFound, IsPrepared}
 use Rattle.yt_core.specs.Withdrawals.{IsLeft, WereLost}
 use Rattle.yt_core.specs.declared.aftermaths.Aftermath.{Aftermath}
 use Rattle.yt_core.specs.declared.stepping.Prepared.{Prepared}
@@ -91,6 +97,25 @@ shows_more r plan ws b old new hidden t written put ms B D s c n may p E before 
     ∙ sym (λ i. was i ++ written ms B D p i))
     same
 
+-- What came or went by it: all that the attempt showed, where it hides its writes then.
+pub turned_hidden : (r : Record) (plan : Plan) (ws : List Write) (b : Bool) → HasHidden plan.program b → b ≡ true → HasTrail r ws → HasTurned r plan ws
+turned_hidden r plan ws b hidden t trail_is ms B D E s c n may p sorted =
+    let after : trail (caused_chase ms B) (stepped (caused_chase ms B) D (update_of ms B r)) ≡ [] =
+    hidden_trail ms B D (update_of ms B r) (ap (λ (P : Rattle.yt_steps.specs.Attempts.Attempt). hides (option_map ending (outcome_in P.phase))) (sym (plan_state ms B D r plan p)) ∙ sym hidden ∙ t) in
+    subst (λ vs. AgreeBut (map change_of ws ∷ []) (apply E vs) (apply E (trail (caused_chase ms B) (stepped (caused_chase ms B) D (update_of ms B r))))) (trail_is ms B)
+    (subst (λ vs. AgreeBut (map change_of ws ∷ []) (apply E (map change_of ws)) (apply E vs)) (sym after) (agree_more [] E E (map change_of ws) (agree_alone [] E sorted)))
+
+-- Else the writes of the step.
+pub turned_more : (r : Record) (plan : Plan) (ws : List Write) (b : Bool) → HasHidden plan.program b → b ≡ false → HasWritten r plan ws → HasTurned r plan ws
+turned_more r plan ws b hidden t written ms B D E s c n may p sorted =
+    let before : List Fact = apply E (trail (caused_chase ms B) (update_of ms B r)) in
+    let after : trail (caused_chase ms B) (stepped (caused_chase ms B) D (update_of ms B r)) ≡ trail (caused_chase ms B) (update_of ms B r) ++ map change_of ws =
+    longer_trail ms B D (update_of ms B r) s c n may (ap (λ (P : Rattle.yt_steps.specs.Attempts.Attempt). hides (option_map ending (outcome_in P.phase))) (sym (plan_state ms B D r plan p)) ∙ sym hidden ∙ t)
+    ∙ ap (λ vs. trail (caused_chase ms B) (update_of ms B r) ++ vs) (sym (written ms B D p)) in
+    let sorted_then : IsRepository before = apply_in_order E (trail (caused_chase ms B) (update_of ms B r)) sorted in
+    subst (λ X. AgreeBut (map change_of ws ∷ []) before X) (sym (ap (apply E) after ∙ apply_join E (trail (caused_chase ms B) (update_of ms B r)) (map change_of ws)))
+    (agree_back (map change_of ws ∷ []) (apply before (map change_of ws)) before (agree_more [] before before (map change_of ws) (agree_alone [] before sorted_then)))
+
 -- ---- the causes
 
 module _ (ms : List Rule) (B : ℕ) where
@@ -104,10 +129,10 @@ module _ (ms : List Rule) (B : ℕ) where
         ∙ sym (restart_is (caused_chase ms B) n S us) ∙ sym r;
   }
 
-pub found_in_writes : (a : Above) (s : Settings) (old : Kept) (r : Record) (upper : List Record) (plan : Plan) (found : List (Option CauseOfProgram)) (b : Bool)
-    → a.deps ≡ s.deps → a.update ≡ r.program.attempt.number → HasSpent plan.program b → b ≡ false → AreCausesOfWrites a upper found
+pub found_in_writes : (a : Above) (s : Settings) (old : Kept) (r : Record) (upper : List Record) (plan : Plan) (ws : List Write) (found : List (Option CauseOfProgram)) (b : Bool)
+    → a.deps ≡ s.deps → a.update ≡ r.program.attempt.number → HasSpent plan.program b → b ≡ false → HasTurned r plan ws → AreCausesOfWrites a (map change_of ws) upper found
     → WereFound a.rules s a.committed old a.whole r upper plan found
-found_in_writes a s old r upper plan found b d n spent f are B E lower e before after p =
+found_in_writes a s old r upper plan ws found b d n spent f turned are B E lower c m few e ran may before after p =
     let ms = a.rules in
     let M : Machine = caused_chase a.rules B in
     let us : List (Update (caused_chase a.rules B)) = updates_of a.rules B upper in
@@ -122,14 +147,16 @@ found_in_writes a s old r upper plan found b d n spent f are B E lower e before 
     (ap (λ (P : Rattle.yt_steps.specs.Attempts.Attempt). is_spent (option_map ending (outcome_in P.phase))) (sym (plan_state a.rules B (laid a.rules B E lower) r plan p)) ∙ sym spent ∙ f) in
     found_by a.rules B (causes_above a.rules B s a.committed (suc (length lower)) E lower u us) (suc (suc (length lower))) us found
     (settle (caused_chase a.rules B) a.deps true a.committed (suc (length lower)) D D [] (suc (suc (length lower))) us)
-    (are B E lower v j after ∙ (λ i. settle (caused_chase a.rules B) a.deps true a.committed (j i) D D [] (suc (j i)) us))
+    (are B E lower u v few j after (subst (λ (i : ℕ). AreRuns (caused_chase a.rules B) (above a.rules B E lower u) (suc i) us) (sym j) ran)
+    (turned a.rules B (laid a.rules B E lower) (laid a.rules B E lower) s c m may p (apply_in_order E (flat_map (trail (caused_chase a.rules B)) lower) after.sorted))
+    ∙ (λ i. settle (caused_chase a.rules B) a.deps true a.committed (j i) D D [] (suc (j i)) us))
     (mine ∙ law.causes)
     (ap (λ cs. restarted (caused_chase a.rules B) (readers cs) (suc (suc (length lower))) us) mine ∙ law.restarts)
 
 -- The causes of a withdrawal.
 pub loss_found : (a : Above) (s : Settings) (r : Record) (upper : List Record) (ws : List Write) (found : List (Option CauseOfProgram)) → a.deps ≡ s.deps → a.update ≡ r.program.attempt.number → HasTrail r ws
     → AreCausesOfLoss a (map change_of ws) upper found → WereLost a.rules s a.committed a.whole r upper found
-loss_found a s r upper ws found d n trail_is are B E lower e before =
+loss_found a s r upper ws found d n trail_is are B E lower few e ran before =
     let us : List (Update (caused_chase a.rules B)) = updates_of a.rules B upper in
     let u : Update (caused_chase a.rules B) = update_of a.rules B r in
     let D : List Fact = laid a.rules B E lower in
@@ -139,7 +166,7 @@ loss_found a s r upper ws found d n trail_is are B E lower e before =
     let S : List (Option (Cause (caused_chase a.rules B))) = settle (caused_chase a.rules B) a.deps false a.committed (suc (length lower)) D' D (record { number = suc (length lower); trail = trail (caused_chase a.rules B) u } ∷ []) (suc (suc (length lower))) us in
     subst (λ (x : Deps). IsFound a.rules B (causes_of_loss (caused_chase a.rules B) x a.committed (suc (length lower)) D u us) (suc (suc (length lower))) us found) d
     (found_by a.rules B (causes_of_loss (caused_chase a.rules B) a.deps a.committed (suc (length lower)) D u us) (suc (suc (length lower))) us found S
-    (are B E lower u j (sym (trail_is a.rules B)) before
+    (are B E lower u few j (sym (trail_is a.rules B)) before (subst (λ (i : ℕ). AreRuns (caused_chase a.rules B) (above a.rules B E lower u) (suc i) us) (sym j) ran)
     ∙ (λ i. settle (caused_chase a.rules B) a.deps false a.committed (j i) D' D (record { number = j i; trail = trail (caused_chase a.rules B) u } ∷ []) (suc (j i)) us))
     (law.causes ∙ ap (λ (cs : List (Cause (caused_chase a.rules B))). cs ++ dependences_in S) (sym (no_conflicts (caused_chase a.rules B) a.deps a.committed (suc (length lower)) D' D (record { number = suc (length lower); trail = trail (caused_chase a.rules B) u } ∷ []) (suc (suc (length lower))) us)))
     law.restarts)
@@ -148,7 +175,7 @@ loss_found a s r upper ws found d n trail_is are B E lower e before =
 pub found_in_loss : (a : Above) (s : Settings) (new : Kept) (r : Record) (upper : List Record) (plan : Plan) (ws : List Write) (found : List (Option CauseOfProgram)) (b : Bool)
     → a.deps ≡ s.deps → a.update ≡ r.program.attempt.number → HasSpent plan.program b → b ≡ true → HasTrail r ws → AreCausesOfLoss a (map change_of ws) upper found
     → WereFound a.rules s a.committed a.whole new r upper plan found
-found_in_loss a s new r upper plan ws found b d n spent f trail_is are B E lower e before after p =
+found_in_loss a s new r upper plan ws found b d n spent f trail_is are B E lower c m few e ran may before after p =
     let us : List (Update (caused_chase a.rules B)) = updates_of a.rules B upper in
     let u : Update (caused_chase a.rules B) = update_of a.rules B r in
     let v : Update (caused_chase a.rules B) = after_step a.rules B E lower u in
@@ -156,7 +183,7 @@ found_in_loss a s new r upper plan ws found b d n spent f trail_is are B E lower
     let mine : causes_above a.rules B s a.committed (suc (length lower)) E lower u us ≡ causes_of_loss (caused_chase a.rules B) s.deps a.committed (suc (length lower)) D u us =
     if_is_true (is_spent ((caused_chase a.rules B).outcome v.state)) (causes_of_loss (caused_chase a.rules B) s.deps a.committed (suc (length lower)) D u us) (causes_of_writes (caused_chase a.rules B) s.deps a.committed (suc (length lower)) (apply D (trail (caused_chase a.rules B) v)) us)
     (ap (λ (P : Rattle.yt_steps.specs.Attempts.Attempt). is_spent (option_map ending (outcome_in P.phase))) (sym (plan_state a.rules B D r plan p)) ∙ sym spent ∙ f) in
-    subst (λ (cs : List (Cause (caused_chase a.rules B))). IsFound a.rules B cs (suc (suc (length lower))) us found) (sym mine) (loss_found a s r upper ws found d n trail_is are B E lower e before)
+    subst (λ (cs : List (Cause (caused_chase a.rules B))). IsFound a.rules B cs (suc (suc (length lower))) us found) (sym mine) (loss_found a s r upper ws found d n trail_is are B E lower few e ran before)
 
 -- ---- together
 
@@ -186,13 +213,13 @@ pub step_prepared : (ms : List Rule) (s : Settings) (c : ℕ) (old after : Kept)
     → AreFrom (suc r.program.attempt.number) upper → ShowsStep r plan old after → WereFound ms s c old after r upper plan found
     → Cleared upper found after p.left.versions → AreThere found p.left.fresh.items → p.left.causes.items ≡ in_order found → HasWritten r plan ws → map change_of p.writes.items ≡ map change_of ws
     → IsPrepared ms s c old r upper plan p
-step_prepared ms s c old after r upper plan found ws p from shows were cleared there causes written same B E lower k n e versions may isplan =
+step_prepared ms s c old after r upper plan found ws p from shows were cleared there causes written same B E lower k n few e ran versions may isplan =
     let us : List (Update (caused_chase ms B)) = updates_of ms B upper in
     let u : Update (caused_chase ms B) = update_of ms B r in
     let v : Update (caused_chase ms B) = after_step ms B E lower u in
     let mid : AreVersions ms B E (lower ++ v ∷ us) after = versions_with ms B r.program.attempt.number E lower u v us old after e (shows ms B (laid ms B E lower) s k n may isplan) versions in
     let left : IsLeft ms B (causes_above ms B s c (suc (length lower)) E lower u us) E lower v (suc (length lower)) us p.left =
-    left_by ms B (causes_above ms B s c (suc (length lower)) E lower u us) E lower v upper found after p.left (subst (λ (m : ℕ). AreFrom (suc m) upper) e from) (were B E lower e versions mid isplan) mid cleared there causes in
+    left_by ms B (causes_above ms B s c (suc (length lower)) E lower u us) E lower v upper found after p.left (subst (λ (m : ℕ). AreFrom (suc m) upper) e from) (were B E lower k n few e ran may versions mid isplan) mid cleared there causes in
     subst (λ (j : ℕ). IsStepLeft ms B s c j E lower u us p) (sym e)
     (record { causes = left.told; restarts = left.restarts; versions = left.versions; writes = same ∙ written ms B (laid ms B E lower) isplan })
 

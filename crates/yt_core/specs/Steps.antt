@@ -1,18 +1,21 @@
 -- What a step leaves, before and after it is put in place.
-use Rattle.std.specs.Prelude.{◌≡◌, ℕ, suc, Bool, true, List, ◌∷◌, ◌++◌, map, length, Option, is_some}
+use Rattle.std.specs.Prelude.{◌≡◌, ◌≤◌, ℕ, suc, Bool, true, List, [], ◌∷◌, ◌++◌, map, length, Option, is_some}
 use Rattle.std.specs.Option.{option_map}
 use Rattle.yt_base.specs.Meanings.{change_of}
+use Rattle.yt_base.specs.declared.updates.Write.{Write}
+use Rattle.yt_conflict.specs.Concerns.{AgreeBut}
 use Rattle.yt_entries.specs.Meanings.{cause_of}
 use Rattle.yt_entries.specs.declared.causes.Cause.{Cause as CauseOfProgram}
 use Rattle.yt_history.specs.PlainEntries.{cause_kept}
 use Rattle.yt_machine.specs.Cascade.{Cause, readers, restarted}
 use Rattle.yt_machine.specs.Effects.{causes_of_step}
+use Rattle.yt_machine.specs.Runs.{AreRuns}
 use Rattle.yt_machine.specs.Settle.{restart}
 use Rattle.yt_machine.specs.Standings.{is_ready, standing}
 use Rattle.yt_machine.specs.Steps.{stepped, step_writes as writes_of_step}
 use Rattle.yt_machine.specs.Updates.{Settings, Update, hides, trail}
 use Rattle.yt_model.specs.Mappings.{Rule}
-use Rattle.yt_model.specs.Repository.{Change}
+use Rattle.yt_model.specs.Repository.{Change, IsRepository, apply}
 use Rattle.yt_model.specs.Values.{Fact}
 use Rattle.yt_plan.specs.declared.plans.Plan.{Plan}
 use Rattle.yt_program.specs.Courses.{State}
@@ -21,7 +24,7 @@ use Rattle.yt_queue.specs.Queues.{update_of, updates_of}
 use Rattle.yt_queue.specs.declared.records.Record.{Record}
 use Rattle.yt_steps.specs.Attempts.{outcome_in}
 use Rattle.yt_steps.specs.Chase.{caused_chase, ending}
-use Rattle.yt_cascade.specs.Held.{AreVersions, laid}
+use Rattle.yt_cascade.specs.Held.{AreVersions, laid, above}
 use Rattle.yt_versions.specs.Standing.{Kept, StandFor}
 use Rattle.yt_versions.specs.Trails.{SameBut}
 use Rattle.yt_core.specs.Aftermaths.{in_order}
@@ -74,11 +77,22 @@ ShowsStep r plan old new =
     (ms : List Rule) (B : ℕ) (D : List Fact) (s : Settings) (c n : ℕ) → MayStep ms B s c n r → IsPlanOf ms B D r plan
     → Replaces ms B r.program.attempt.number (trail (caused_chase ms B) (update_of ms B r)) (trail (caused_chase ms B) (stepped (caused_chase ms B) D (update_of ms B r))) old new
 
--- In any history of these mappings where the update stands above the lower ones, and the plan is that of its step: this was
--- found. The versions are those before the step and those after it, but for restarts.
+-- In any such history: but for the tuples of these writes the same tuples lie above the update before and after the step.
+abbrev pub HasTurned : Record → Plan → List Write → Type 0
+HasTurned r plan ws =
+    (ms : List Rule) (B : ℕ) (D E : List Fact) (s : Settings) (c n : ℕ) → MayStep ms B s c n r → IsPlanOf ms B D r plan → IsRepository E
+    → AgreeBut (map change_of ws ∷ []) (apply E (trail (caused_chase ms B) (update_of ms B r))) (apply E (trail (caused_chase ms B) (stepped (caused_chase ms B) D (update_of ms B r))))
+
+-- Each of the upper updates was its run over what lay below it before the event, where u stands above the lower ones.
+abbrev pub RanAbove : (ms : List Rule) (B : ℕ) → List Fact → List (Update (caused_chase ms B)) → Update (caused_chase ms B) → List (Update (caused_chase ms B)) → Type 0
+RanAbove ms B E lower u upper = AreRuns (caused_chase ms B) (above ms B E lower u) (suc (suc (length lower))) upper
+
+-- In any history of these mappings where the update stands above the lower ones and is ready, and the plan is that of its
+-- step: this was found. The versions are those before the step and those after it, but for restarts.
 abbrev pub WereFound : List Rule → Settings → ℕ → Kept → Kept → Record → List Record → Plan → List (Option CauseOfProgram) → Type 0
 WereFound ms s c old new r upper plan found =
-    (B : ℕ) (E : List Fact) (lower : List (Update (caused_chase ms B))) → r.program.attempt.number ≡ suc (length lower)
+    (B : ℕ) (E : List Fact) (lower : List (Update (caused_chase ms B))) (k n : ℕ) → 1 ≤ B → r.program.attempt.number ≡ suc (length lower)
+    → RanAbove ms B E lower (update_of ms B r) (updates_of ms B upper) → MayStep ms B s k n r
     → AreVersions ms B E (lower ++ update_of ms B r ∷ updates_of ms B upper) old → AreVersions ms B E (lower ++ after_step ms B E lower (update_of ms B r) ∷ updates_of ms B upper) new
     → IsPlanOf ms B (laid ms B E lower) r plan
     → IsFound ms B (causes_above ms B s c (suc (length lower)) E lower (update_of ms B r) (updates_of ms B upper)) (suc (suc (length lower))) (updates_of ms B upper) found
@@ -87,6 +101,7 @@ WereFound ms s c old new r upper plan found =
 -- of its step: what was prepared is what the step leaves.
 abbrev pub IsPrepared : List Rule → Settings → ℕ → Kept → Record → List Record → Plan → Prepared → Type 0
 IsPrepared ms s c v r upper plan p =
-    (B : ℕ) (E : List Fact) (lower : List (Update (caused_chase ms B))) (k n : ℕ) → r.program.attempt.number ≡ suc (length lower)
+    (B : ℕ) (E : List Fact) (lower : List (Update (caused_chase ms B))) (k n : ℕ) → 1 ≤ B → r.program.attempt.number ≡ suc (length lower)
+    → RanAbove ms B E lower (update_of ms B r) (updates_of ms B upper)
     → AreVersions ms B E (lower ++ update_of ms B r ∷ updates_of ms B upper) v → MayStep ms B s k n r
     → IsPlanOf ms B (laid ms B E lower) r plan → IsStepLeft ms B s c r.program.attempt.number E lower (update_of ms B r) (updates_of ms B upper) p

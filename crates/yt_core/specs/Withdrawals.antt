@@ -1,5 +1,5 @@
 -- What a withdrawal leaves, before and after it is put in place.
-use Rattle.std.specs.Prelude.{◌≡◌, ℕ, suc, true, List, ◌∷◌, ◌++◌, map, take, drop, length, Option, Some, is_some, slice_get}
+use Rattle.std.specs.Prelude.{◌≡◌, ◌≤◌, ℕ, suc, true, List, ◌∷◌, ◌++◌, map, take, drop, length, Option, Some, is_some, slice_get}
 use Rattle.std.specs.Option.{option_map}
 use Rattle.yt_base.specs.Listed.{Listed}
 use Rattle.yt_cascade.specs.Held.{AreVersions, laid}
@@ -22,7 +22,7 @@ use Rattle.yt_steps.specs.Serial.{Request}
 use Rattle.yt_versions.specs.Standing.{Kept}
 use Rattle.yt_core.specs.Follows.{Follows, ground_with}
 use Rattle.yt_core.specs.Kept.{IsKept}
-use Rattle.yt_core.specs.Steps.{IsFound}
+use Rattle.yt_core.specs.Steps.{IsFound, RanAbove}
 use Rattle.yt_core.specs.declared.aftermaths.Aftermath.{Aftermath}
 
 module _ (ms : List Rule) (B : ℕ) where
@@ -40,14 +40,16 @@ module _ (ms : List Rule) (B : ℕ) where
 -- In any history of these mappings where the update stands above the lower ones: this was found where it loses its trail.
 abbrev pub WereLost : List Rule → Settings → ℕ → Kept → Record → List Record → List (Option CauseOfProgram) → Type 0
 WereLost ms s c v r upper found =
-    (B : ℕ) (E : List Fact) (lower : List (Update (caused_chase ms B))) → r.program.attempt.number ≡ suc (length lower)
+    (B : ℕ) (E : List Fact) (lower : List (Update (caused_chase ms B))) → 1 ≤ B → r.program.attempt.number ≡ suc (length lower)
+    → RanAbove ms B E lower (update_of ms B r) (updates_of ms B upper)
     → AreVersions ms B E (lower ++ update_of ms B r ∷ updates_of ms B upper) v
     → IsFound ms B (causes_of_loss (caused_chase ms B) s.deps c (suc (length lower)) (laid ms B E lower) (update_of ms B r) (updates_of ms B upper)) (suc (suc (length lower))) (updates_of ms B upper) found
 
 -- In any such history: what was prepared is what its withdrawal leaves.
 abbrev pub IsLossPrepared : List Rule → Settings → ℕ → Kept → Record → List Record → Aftermath → Type 0
 IsLossPrepared ms s c v r upper left =
-    (B : ℕ) (E : List Fact) (lower : List (Update (caused_chase ms B))) → r.program.attempt.number ≡ suc (length lower)
+    (B : ℕ) (E : List Fact) (lower : List (Update (caused_chase ms B))) → 1 ≤ B → r.program.attempt.number ≡ suc (length lower)
+    → RanAbove ms B E lower (update_of ms B r) (updates_of ms B upper)
     → AreVersions ms B E (lower ++ update_of ms B r ∷ updates_of ms B upper) v
     → IsLossLeft ms B s c (suc (length lower)) E lower (update_of ms B r) (updates_of ms B upper) left
 

@@ -7,7 +7,7 @@ ghost use Rattle.yt_queue.specs.Renewals.{AllHaveOneMore, AreFresh};
 ghost use Rattle.yt_queue.specs.Settings.{settings_of};
 ghost use Rattle.yt_core.specs.Aftermaths.{AllBetween};
 ghost use Rattle.yt_core.specs.Follows.{AreSame, HasRoomAt, IsPlanAt, IsPreparedAt, IsInstalled, TellsStep, StepsTo};
-ghost use Rattle.yt_core.specs.Steps.{HasHidden, ShowsStep, WereFound, IsPrepared};
+ghost use Rattle.yt_core.specs.Steps.{HasHidden, HasTurned, ShowsStep, WereFound, IsPrepared};
 
 use crate::aftermaths::{Aftermath, settled};
 use std::alloc::Global;
@@ -87,7 +87,19 @@ fn found<'a>(
         walk.whole = versions;
         return walk.causes_of_loss(alloc, item.trail(), upper);
     }
-    walk.causes_of_writes(alloc, upper)
+    walk.causes_of_writes(alloc, turned(item, plan), upper)
+}
+
+// The writes that come by the step, or that go where the attempt ends by it spent or refused.
+fn turned<'a>(item: &'a Record, plan: &'a Plan) -> &'a [Write]
+    requires between { IsBetween item.now.program }
+    requires after { IsBetween plan.now.program }
+    ensures turned { HasTurned item.now plan.now result.now }
+{
+    if hides(&plan.program) {
+        return item.trail();
+    }
+    item.written(plan)
 }
 
 // The versions with the writes that the step shows; without those of the update where it ends by it spent or refused.

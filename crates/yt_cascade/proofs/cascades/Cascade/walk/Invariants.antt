@@ -1,7 +1,8 @@
-use Rattle.std.proofs.Common.{◌≡◌, ℕ, suc, length, drop}
-use Rattle.yt_queue.specs.Queues.{updates_of, AreFrom}
-use Rattle.yt_cascade.specs.Held.{HoldFrom}
+use Rattle.std.proofs.Common.{◌≡◌, ◌≤◌, ℕ, suc, Bool, length, drop, map}
+use Rattle.yt_base.specs.Meanings.{change_of}
+use Rattle.yt_queue.specs.Queues.{AreFrom}
 use Rattle.yt_cascade.specs.Meanings.{above_of}
+use Rattle.yt_cascade.specs.Walks.{LooksFor, StandAbove}
 use Rattle.yt_cascade.proofs.Turns.{Turn, all_of}
 use Rattle.yt_cascade.proofs.cascades.Cascade.walk.Given as goal
 
@@ -11,7 +12,6 @@ invariant-readers l = record {
   long : length l.found.items ≡ l.reader-index;
   from : (n : ℕ) × AreFrom n (drop l.reader-index l.upper);
   turns :
-      (B : ℕ) → HoldFrom (above_of l.self).rules B (suc l.self.update) (updates_of (above_of l.self).rules B l.upper) (above_of l.self).whole
-      → HoldFrom (above_of l.self).rules B (suc l.self.update) (updates_of (above_of l.self).rules B l.upper) l.fn.lost.without
-      → Turn (above_of l.self) l.conflicting B (all_of (above_of l.self) l.conflicting B l.fn.lost l.upper) l.lost (drop l.reader-index l.upper) l.found.items;
+      (B : ℕ) (conflicting : Bool) → 1 ≤ B → LooksFor conflicting (map change_of l.written) → StandAbove (above_of l.self) B (map change_of l.written) l.fn.lost (suc l.self.update) l.upper
+      → Turn (above_of l.self) conflicting B (map change_of l.written) (all_of (above_of l.self) conflicting B l.fn.lost l.upper) l.lost (drop l.reader-index l.upper) l.found.items;
 }

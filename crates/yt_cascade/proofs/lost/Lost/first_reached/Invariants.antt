@@ -2,7 +2,7 @@ use Rattle.std.proofs.Common.{◌≡◌, suc, map, drop}
 use Rattle.yt_base.specs.Meanings.{rule_of}
 use Rattle.yt_query.specs.Meanings.{read_of}
 use Rattle.yt_conflict.specs.Changes.{first_from}
-use Rattle.yt_cascade.specs.Meanings.{trails_of}
+use Rattle.yt_conflict.specs.Trails.{trails_of}
 use Rattle.yt_cascade.specs.Reached.{any_reached}
 use Rattle.yt_cascade.proofs.lost.Lost.first_reached.Given as goal
 
