@@ -14,3 +14,5 @@ pub mod Arriving
 pub mod Placing
 pub mod Resting
 pub mod Resulting
+pub mod Committing
+pub mod Untouched

@@ -316,7 +316,7 @@ module _ (g : Ground) (v : Kept) (rs : List Record) (es : List Entry) (s : State
 
 -- ---- records in place
 
-front : {A : Type 0} (xs ys : List A) (n : ℕ) → length xs ≡ n → take n (xs ++ ys) ≡ xs
+pub front : {A : Type 0} (xs ys : List A) (n : ℕ) → length xs ≡ n → take n (xs ++ ys) ≡ xs
 front [] [] zero h = refl
 front [] (y ∷ ys) zero h = refl
 front [] ys (suc n) h = absurd (omega (arith, h))

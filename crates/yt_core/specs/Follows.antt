@@ -1,5 +1,5 @@
 -- What an event makes of the parts of a core.
-use Rattle.std.specs.Prelude.{◌≡◌, ℕ, suc, List, ◌∷◌, ◌++◌, map, take, drop, Option, Some, is_some, true, slice_get}
+use Rattle.std.specs.Prelude.{◌≡◌, ◌≤◌, ℕ, suc, List, ◌∷◌, ◌++◌, map, take, drop, Option, Some, is_some, true, slice_get}
 use Rattle.std.specs.Option.{option_map}
 use Rattle.yt_base.specs.Meanings.{change_of}
 use Rattle.yt_base.specs.Listed.{Listed}
@@ -24,6 +24,7 @@ use Rattle.yt_query.specs.Meanings.{read_of}
 use Rattle.yt_queue.specs.Events.{HasRoom, HasRoomFor}
 use Rattle.yt_queue.specs.Programs.{IsPlanOf}
 use Rattle.yt_queue.specs.Queues.{update_of, updates_of, AreFrom}
+use Rattle.yt_queue.specs.Walks.{CommitsAtLeast}
 use Rattle.yt_queue.specs.declared.records.Record.{Record}
 use Rattle.yt_steps.specs.Chase.{caused_chase}
 use Rattle.yt_steps.specs.Serial.{Request}
@@ -77,6 +78,10 @@ IsPreparedAt ms s k plan v rs p =
     → standing (caused_chase ms B) s (committed (caused_chase ms B) (updates_of ms B rs)) (suc k) (update_of ms B r) ≡ Ready
     → IsPlanOf ms B (below (caused_chase ms B) D (updates_of ms B rs) k) r plan
     → IsStepLeft ms B s (committed (caused_chase ms B) (updates_of ms B rs)) (suc k) D (take k (updates_of ms B rs)) (update_of ms B r) (drop (suc k) (updates_of ms B rs)) p
+
+-- Those that were committed before are so still, as far as they stand below the place.
+abbrev pub KeepsCommitted : ℕ → List Record → List Record → Type 0
+KeepsCommitted k rs rs' = (c : ℕ) → c ≤ k → CommitsAtLeast rs c → CommitsAtLeast rs' c
 
 -- The update at the place has made the step of the plan, and those above it have restarted for which there is an attempt.
 abbrev pub IsInstalled : ℕ → Plan → List (Option ProgramState) → List Record → List Record → Type 0

@@ -38,6 +38,7 @@ impl<'s> Core<'s> {
         ensures kept { OnErr result (self.new ≡ self.old) }
         ensures back { IfErr result (λ back. back ≡ update) }
     {
+        self.least = 0;
         let number = admit_at(
             alloc,
             &mut self.queue,

@@ -83,6 +83,7 @@ impl<'s> Core<'s> {
         ensures back { IfErr result (λ back. choice_of back ≡ choice_of choice) }
     {
         let place = place_of(update);
+        self.least = 0;
         answer_at(
             alloc,
             self.settings,

@@ -27,7 +27,8 @@ use yt_entries::{Entry, EntryList, Standing};
 use yt_frontier::Question;
 use yt_limits::{Budget, Mappings};
 use yt_queue::{
-    Record, Settings, committed, is_quiet, lowest_deliverable, lowest_ready, lowest_ready_besides,
+    Record, Settings, committed_from, is_quiet, lowest_deliverable, lowest_ready,
+    lowest_ready_besides,
 };
 use yt_serial::mappings_of;
 use yt_session::{Session, SessionUpdates};
@@ -46,6 +47,8 @@ pub struct Core<'s> {
     pub(crate) versions: Versions,
     pub(crate) queue: Vec<Record>,
     pub(crate) history: EntryList,
+    // At least so many updates are committed; the walks over the queue begin behind them.
+    pub(crate) least: u32,
 }
 
 impl<'s> Model for Core<'s> {
@@ -53,13 +56,14 @@ impl<'s> Model for Core<'s> {
     ghost use Rattle.yt_entries.specs.Meanings.{entry_of};
     ghost use Rattle.yt_queue.specs.Settings.{settings_of};
     ghost use Rattle.yt_core.specs.States.{State};
+    ghost use Rattle.yt_queue.specs.Walks.{CommitsAtLeast};
     ghost use Rattle.yt_core.specs.Kept.{ground_by, IsKept};
 
     ghost Value = { State };
 
     ghost view = { λ c. record { over = ground_by c.mappings c.budget (settings_of c.settings) c.base.now c.updates.now c.later; history = map entry_of c.history.items } };
 
-    ghost invariant = { λ c. IsKept (ground_by c.mappings c.budget (settings_of c.settings) c.base.now c.updates.now c.later) c.versions c.queue.items (map entry_of c.history.items) };
+    ghost invariant = { λ c. IsKept (ground_by c.mappings c.budget (settings_of c.settings) c.base.now c.updates.now c.later) c.versions c.queue.items (map entry_of c.history.items) × CommitsAtLeast c.queue.items c.least };
 }
 
 impl<'s> Core<'s> {
@@ -94,6 +98,7 @@ impl<'s> Core<'s> {
             versions,
             queue,
             history,
+            least: 0,
         })
     }
 
@@ -108,7 +113,7 @@ impl<'s> Core<'s> {
     pub fn committed(&self) -> u32
         ensures committed { result ≡ committed_at self.now }
     {
-        committed(&self.queue)
+        committed_from(&self.queue, self.least)
     }
 
     /// What the update of this number may do next; None exactly where there is none. It takes no memory.
@@ -138,28 +143,28 @@ impl<'s> Core<'s> {
     pub fn lowest_ready(&self) -> Option<u32>
         ensures lowest { result ≡ lowest_ready_at self.now }
     {
-        lowest_ready(&self.queue, self.settings)
+        lowest_ready(&self.queue, self.settings, self.least)
     }
 
     /// The lowest update that is ready and is none of these, if there is one. It takes no memory.
     pub fn lowest_ready_besides(&self, numbers: &[u32]) -> Option<u32>
         ensures lowest { result ≡ lowest_ready_besides_at self.now numbers.now }
     {
-        lowest_ready_besides(&self.queue, self.settings, numbers)
+        lowest_ready_besides(&self.queue, self.settings, self.least, numbers)
     }
 
     /// The lowest update to which a recorded answer can be delivered, if there is one. It takes no memory.
     pub fn lowest_deliverable(&self) -> Option<u32>
         ensures lowest { result ≡ lowest_deliverable_at self.now }
     {
-        lowest_deliverable(&self.queue, self.settings)
+        lowest_deliverable(&self.queue, self.settings, self.least)
     }
 
     /// Whether nothing is ready, and nothing deliverable. It takes no memory.
     pub fn is_quiet(&self) -> bool
         ensures quiet { result ≡ is_quiet_at self.now }
     {
-        is_quiet(&self.queue, self.settings)
+        is_quiet(&self.queue, self.settings, self.least)
     }
 
     /// The entries of the history. It takes no memory.
@@ -203,16 +208,20 @@ impl<'s> Core<'s> {
     {
         let Plan { update, step } = plan;
         let place = place_of(update);
-        step_at(
+        let least = self.least;
+        self.least = 0;
+        let committed = step_at(
             alloc,
             &self.mappings,
             self.settings,
+            least,
             &mut self.versions,
             &mut self.queue,
             &mut self.history,
             place,
             step,
         )?;
+        self.least = committed;
         Ok(self.history.len() as u64)
     }
 
@@ -300,6 +309,7 @@ impl<'s> Core<'s> {
         ensures kept { OnErr result (self.new ≡ self.old) }
     {
         let place = place_of(update);
+        self.least = 0;
         deliver_at(self.settings, &mut self.queue, &mut self.history, place)?;
         Ok(self.history.len() as u64)
     }

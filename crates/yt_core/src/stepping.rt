@@ -5,8 +5,9 @@ ghost use Rattle.yt_queue.specs.Programs.{IsBetween};
 ghost use Rattle.yt_queue.specs.Queues.{AreFrom};
 ghost use Rattle.yt_queue.specs.Renewals.{AllHaveOneMore, AreFresh};
 ghost use Rattle.yt_queue.specs.Settings.{settings_of};
+ghost use Rattle.yt_queue.specs.Walks.{CommitsAtLeast, HasCommitted};
 ghost use Rattle.yt_core.specs.Aftermaths.{AllBetween};
-ghost use Rattle.yt_core.specs.Follows.{AreSame, HasRoomAt, IsPlanAt, IsPreparedAt, IsInstalled, TellsStep, StepsTo};
+ghost use Rattle.yt_core.specs.Follows.{AreSame, HasRoomAt, IsPlanAt, IsPreparedAt, IsInstalled, KeepsCommitted, TellsStep, StepsTo};
 ghost use Rattle.yt_core.specs.Steps.{HasHidden, HasTurned, ShowsStep, WereFound, IsPrepared};
 
 use crate::aftermaths::{Aftermath, settled};
@@ -17,7 +18,7 @@ use yt_entries::{Cause, CauseList, Entry, EntryList};
 use yt_limits::Mappings;
 use yt_plan::Plan;
 use yt_program::{Outcome, Program};
-use yt_queue::{Record, Settings, committed, has_spent, outcome, restart_marked};
+use yt_queue::{Record, Settings, committed_from, has_spent, outcome, restart_marked};
 use yt_versions::Versions;
 
 /// What a step leaves: the writes that it shows, and what becomes of the updates above.
@@ -144,11 +145,13 @@ fn copied(alloc: Global, writes: &[Write]) -> Result<WriteList, Memory>
     Ok(copies)
 }
 
-/// What the step of the plan leaves, which is one of the update at the place. It is refused only for want of memory.
+/// What the step of the plan leaves, which is one of the update at the place, where at least so many are committed. It is
+/// refused only for want of memory.
 pub(crate) fn prepare_at(
     alloc: Global,
     mappings: &Mappings<'_>,
     settings: Settings,
+    least: u32,
     versions: &Versions,
     queue: &[Record],
     place: usize,
@@ -156,13 +159,14 @@ pub(crate) fn prepare_at(
 ) -> Result<Prepared, Memory>
     requires place { place < length queue.now }
     requires numbers { AreFrom 1 queue.now }
+    requires least { CommitsAtLeast queue.now least }
     requires more { AllHaveOneMore queue.now }
     requires after { IsBetween plan.now.program }
     ensures prepared { IfOk result (IsPreparedAt mappings.now
         (settings_of settings) place plan.now versions.now queue.now) }
     ensures fresh { IfOk result (λ p. AreFresh (drop (suc place) queue.now) p.left.fresh.items) }
 {
-    let committed = committed(queue);
+    let committed = committed_from(queue, least);
     let item = &queue[place];
     let upper = above(queue, place);
     let prepared = prepare(
@@ -188,6 +192,7 @@ pub(crate) fn install(queue: &mut [Record], place: usize, plan: Plan, fresh: Vec
     requires plan { IsPlanAt place plan queue.old }
     requires fresh { AreFresh (drop (suc place) queue.old) fresh.items }
     ensures installed { IsInstalled place plan fresh.items queue.old queue.new }
+    ensures least { KeepsCommitted place queue.old queue.new }
     ensures numbers { AreFrom 1 queue.new }
     ensures long { length queue.new ≡ length queue.old }
 {
@@ -195,9 +200,10 @@ pub(crate) fn install(queue: &mut [Record], place: usize, plan: Plan, fresh: Vec
     restart_marked(queue, place + 1, fresh);
 }
 
-// The entry of the step that the update at the place made.
+// The entry of the step that the update at the place made, where so many are committed.
 fn step_entry(
     settings: Settings,
+    committed: u32,
     queue: &[Record],
     place: usize,
     attempt: u32,
@@ -206,9 +212,9 @@ fn step_entry(
 ) -> Entry
     requires place { place < length queue.now }
     requires numbers { AreFrom 1 queue.now }
+    requires committed { HasCommitted queue.now committed }
     ensures told { TellsStep (settings_of settings) place attempt writes causes queue.now result }
 {
-    let committed = committed(queue);
     let record = &queue[place];
     let update = record.number();
     let standing = record.standing(settings, committed, update);
@@ -222,20 +228,22 @@ fn step_entry(
     }
 }
 
-// Makes the step of the plan, which is the next one of the update at the place. There is room for it. It is refused only
-// for want of memory; nothing is then changed.
+// Makes the step of the plan, which is the next one of the update at the place, where at least so many are committed, and
+// gives how many are then. There is room for it. It is refused only for want of memory; nothing is then changed.
 fn make_step(
     alloc: Global,
     mappings: &Mappings<'_>,
     settings: Settings,
+    least: u32,
     versions: &mut Versions,
     queue: &mut [Record],
     history: &mut EntryList,
     place: usize,
     plan: Plan,
-) -> Result<(), Memory>
+) -> Result<u32, Memory>
     requires place { place < length queue.old }
     requires numbers { AreFrom 1 queue.old }
+    requires least { CommitsAtLeast queue.old least }
     requires more { AllHaveOneMore queue.old }
     requires room { HasRoomAt place plan queue.old }
     requires plan { IsPlanAt place plan queue.old }
@@ -243,19 +251,31 @@ fn make_step(
     requires spare { 1 ≤ history.old.spare }
     ensures made { OnOk result (StepsTo mappings.now (settings_of settings) place plan versions.old
         queue.old history.old.items versions.new queue.new history.new.items) }
+    ensures committed { IfOk result (CommitsAtLeast queue.new) }
     ensures versions { OnErr result (versions.new ≡ versions.old) }
     ensures queue { OnErr result (queue.new ≡ queue.old) }
     ensures history { OnErr result (history.new ≡ history.old) }
     ensures long { length queue.new ≡ length queue.old }
 {
-    let prepared = prepare_at(alloc, mappings, settings, versions, queue, place, &plan)?;
+    let prepared = prepare_at(
+        alloc, mappings, settings, least, versions, queue, place, &plan,
+    )?;
     let Prepared { writes, left } = prepared;
     let attempt = queue[place].program.attempt();
     install(queue, place, plan, left.fresh);
     *versions = left.versions;
-    let entry = step_entry(settings, queue, place, attempt, writes, left.causes);
+    let committed = committed_from(queue, least_below(least, place));
+    let entry = step_entry(settings, committed, queue, place, attempt, writes, left.causes);
     put_last(history, entry);
-    Ok(())
+    Ok(committed)
+}
+
+// So many, where they are all below the place.
+fn least_below(least: u32, place: usize) -> u32
+    ensures least { result ≤ least }
+    ensures below { result ≤ place }
+{
+    if least as usize <= place { least } else { 0 }
 }
 
 /// Puts the entry at the end of the history, which has room for it.
@@ -287,33 +307,36 @@ pub(crate) fn reserve_step(
     history.reserve(1)
 }
 
-/// Makes the step of the plan, which is the next one of the update at the place. It is refused only for want of memory;
-/// what the queue and the history mean then stays.
+/// Makes the step of the plan, which is the next one of the update at the place, where at least so many are committed, and
+/// gives how many are at least then. It is refused only for want of memory; what the queue and the history mean then stays.
 pub(crate) fn step_at(
     alloc: Global,
     mappings: &Mappings<'_>,
     settings: Settings,
+    least: u32,
     versions: &mut Versions,
     queue: &mut [Record],
     history: &mut EntryList,
     place: usize,
     plan: Plan,
-) -> Result<(), Memory>
+) -> Result<u32, Memory>
     requires place { place < length queue.old }
     requires numbers { AreFrom 1 queue.old }
+    requires least { CommitsAtLeast queue.old least }
     requires more { AllHaveOneMore queue.old }
     requires plan { IsPlanAt place plan queue.old }
     requires after { IsBetween plan.program }
     ensures made { OnOk result (StepsTo mappings.now (settings_of settings) place plan versions.old
         queue.old history.old.items versions.new queue.new history.new.items) }
+    ensures committed { IfOk result (CommitsAtLeast queue.new) }
     ensures versions { OnErr result (versions.new ≡ versions.old) }
     ensures queue { OnErr result (AreSame queue.old queue.new) }
     ensures history { OnErr result (history.new.items ≡ history.old.items) }
     ensures long { length queue.new ≡ length queue.old }
 {
     reserve_step(queue, history, place, &plan)?;
-    make_step(
-        alloc, mappings, settings, versions, queue, history, place, plan,
+    let committed = make_step(
+        alloc, mappings, settings, least, versions, queue, history, place, plan,
     )?;
-    Ok(())
+    Ok(committed)
 }

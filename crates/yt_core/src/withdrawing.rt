@@ -68,6 +68,7 @@ impl<'s> Core<'s> {
         ensures kept { OnErr result (self.new ≡ self.old) }
     {
         let place = place_of(update);
+        self.least = 0;
         withdraw_at(
             alloc,
             &self.mappings,

@@ -1,13 +1,18 @@
 -- Walks over a queue, record by record.
-use Rattle.std.proofs.Common.{◌≡◌, ◌∙◌, ap, sym, subst, ℕ, suc, ◌≤◌, ◌<◌, ◌+◌, Bool, true, false, Option, Some, None, List, ◌∷◌, length, get_or, drop, arith}
+use Rattle.std.proofs.Common.{◌≡◌, ◌∙◌, ap, refl, sym, subst, ℕ, zero, suc, [], map, ◌&&◌, not, ◌≤◌, ◌<◌, ◌+◌, Bool, true, false, Option, Some, None, List, ◌∷◌, length, get_or, drop, arith}
 use Rattle.std.specs.Prelude.{if◌then◌else◌}
+use Rattle.std.proofs.lemmas.Bool.{both_ways}
 use Rattle.std.proofs.lemmas.List.{drop_more, drop_all}
-use Rattle.yt_machine.specs.Updates.{Update, committed}
-use Rattle.yt_machine.specs.Standings.{lowest_that}
+use Rattle.yt_machine.specs.Machine.{Machine}
+use Rattle.yt_machine.specs.Cascade.{has_number}
+use Rattle.yt_machine.specs.Updates.{Settings, Update, committed, is_over}
+use Rattle.yt_machine.specs.Standings.{is_deliverable, is_nil, is_pending, is_ready, lowest_that, standing}
+use Rattle.yt_machine.proofs.Standing.{not_over, pending_parts, ready_parts}
 use Rattle.yt_model.specs.Mappings.{Rule}
 use Rattle.yt_steps.specs.Chase.{caused_chase}
 use Rattle.yt_queue.specs.Queues.{update_of, updates_of, StandsAt, AreFrom}
 use Rattle.yt_queue.specs.Records.{IsOver}
+use Rattle.yt_queue.specs.Walks.{CommitsAtLeast, CommitsOn, HasCommitted}
 use Rattle.yt_queue.specs.declared.records.Record.{Record}
 
 -- What is left of a queue is the record at the place, and what is left behind it.
@@ -93,3 +98,131 @@ pub all_over : (ms : List Rule) (B : ℕ) (rs : List Record) (i c all : ℕ) →
 all_over ms B rs i c all h g =
     let here : committed (caused_chase ms B) (updates_of ms B (drop i rs)) ≡ 0 = ap (λ (xs : List Record). committed (caused_chase ms B) (updates_of ms B xs)) (drop_all i rs h) in
     omega (arith, here, g)
+
+-- ---- behind those that are committed
+
+dropped : {X Y : Type 0} (f : X → Y) (xs : List X) (k : ℕ) → map f (drop k xs) ≡ drop k (map f xs)
+dropped f [] zero = refl
+dropped f [] (suc k) = refl
+dropped f (x ∷ xs) zero = refl
+dropped f (x ∷ xs) (suc k) = dropped f xs k
+
+-- There are as many as are committed.
+many : (M : Machine) (us : List (Update M)) → committed M us ≤ length us
+many M [] = omega arith
+many M (u ∷ us) = by (is_over M u) (many M us)
+  where
+    by : (b : Bool) → committed M us ≤ length us → (if b then suc (committed M us) else 0) ≤ suc (length us)
+    by true h = omega (arith, h)
+    by false h = omega arith
+
+mapped : {X Y : Type 0} (f : X → Y) (xs : List X) → length (map f xs) ≡ length xs
+mapped f [] = refl
+mapped f (x ∷ xs) = ap suc (mapped f xs)
+
+pub long_enough : (rs : List Record) (c : ℕ) → CommitsAtLeast rs c → c ≤ length rs
+long_enough rs c h = let all = many (caused_chase [] 0) (updates_of [] 0 rs) in let same = mapped (update_of [] 0) rs in let least = h [] 0 in omega (arith, all, same, least)
+
+-- Those behind the first stand behind them.
+pub from_behind : (rs : List Record) (n c : ℕ) → c ≤ length rs → AreFrom n rs → AreFrom (c + n) (drop c rs)
+from_behind rs n zero h a = let same : n ≡ 0 + n = omega arith in subst (λ (m : ℕ). AreFrom m rs) same a
+from_behind [] n (suc c) h a = absurd (omega (arith, h))
+from_behind (r ∷ rs) n (suc c) h a =
+    let l : c ≤ length rs = omega (arith, h) in
+    let same : c + suc n ≡ suc c + n = omega arith in subst (λ (m : ℕ). AreFrom m (drop c rs)) same (from_behind rs (suc n) c l a.1)
+
+pub behind_from : (rs rest : List Record) (c : ℕ) → CommitsAtLeast rs c → AreFrom 1 rs → rest ≡ drop c rs → AreFrom (suc c) rest
+behind_from rs rest c h a e =
+    let one : c + 1 ≡ suc c = omega arith in
+    subst (λ (xs : List Record). AreFrom (suc c) xs) (sym e) (subst (λ (m : ℕ). AreFrom m (drop c rs)) one (from_behind rs 1 c (long_enough rs c h) a))
+
+-- What is committed are the first, and what of the others is.
+split : (M : Machine) (us : List (Update M)) (c : ℕ) → c ≤ committed M us → c + committed M (drop c us) ≡ committed M us
+split M us zero h = omega arith
+split M [] (suc c) h = absurd (omega (arith, h))
+split M (u ∷ us) (suc c) h = by (is_over M u) h (split M us c)
+  where
+    by : (b : Bool) → suc c ≤ (if b then suc (committed M us) else 0) → (c ≤ committed M us → c + committed M (drop c us) ≡ committed M us) → suc c + committed M (drop c us) ≡ (if b then suc (committed M us) else 0)
+    by true l rest = let less : c ≤ committed M us = omega (arith, l) in let same = rest less in omega (arith, same)
+    by false l rest = absurd (omega (arith, l))
+
+pub counted_behind : (rs rest : List Record) (c k : ℕ) → CommitsAtLeast rs c → rest ≡ drop c rs → CommitsOn c rest k → HasCommitted rs k
+counted_behind rs rest c k h e on ms B =
+    let M = caused_chase ms B in
+    on ms B ∙ ap (λ (xs : List Record). c + committed M (updates_of ms B xs)) e ∙ ap (λ (us : List (Update M)). c + committed M us) (dropped (update_of ms B) rs c) ∙ split M (updates_of ms B rs) c (h ms B)
+
+pub none_committed : (rs : List Record) → CommitsAtLeast rs 0
+none_committed rs ms B = omega arith
+
+pub commits_so : (rs : List Record) (c : ℕ) → HasCommitted rs c → CommitsAtLeast rs c
+commits_so rs c h ms B = let same = h ms B in omega (arith, same)
+
+-- Where a test fails for all that are over, the first that passes it is behind those that are committed.
+skipped : (M : Machine) (p : ℕ → Update M → Bool) → ((n : ℕ) (u : Update M) → is_over M u ≡ true → p n u ≡ false) → (us : List (Update M)) (n c : ℕ) → c ≤ committed M us
+    → lowest_that {M = M} p n us ≡ lowest_that {M = M} p (n + c) (drop c us)
+skipped M p over us n zero h = let same : n ≡ n + 0 = omega arith in ap (λ (m : ℕ). lowest_that {M = M} p m us) same
+skipped M p over [] n (suc c) h = absurd (omega (arith, h))
+skipped M p over (u ∷ us) n (suc c) h = by (is_over M u) refl h (skipped M p over us (suc n) c)
+  where
+    by : (b : Bool) → is_over M u ≡ b → suc c ≤ (if b then suc (committed M us) else 0) → (c ≤ committed M us → lowest_that {M = M} p (suc n) us ≡ lowest_that {M = M} p (suc n + c) (drop c us))
+        → lowest_that {M = M} p n (u ∷ us) ≡ lowest_that {M = M} p (n + suc c) (drop c us)
+    by true e l rest =
+        let less : c ≤ committed M us = omega (arith, l) in
+        let same : suc n + c ≡ n + suc c = omega arith in
+        ap (λ (b : Bool). if b then Some n else lowest_that {M = M} p (suc n) us) (over n u e) ∙ rest less ∙ ap (λ (m : ℕ). lowest_that {M = M} p m (drop c us)) same
+    by false e l rest = absurd (omega (arith, l))
+
+-- The test fails for all that are over.
+abbrev pub FailsOver : Test → Type 0
+FailsOver p = (ms : List Rule) (B n : ℕ) (u : Update (caused_chase ms B)) → is_over (caused_chase ms B) u ≡ true → p ms B n u ≡ false
+
+pub first_behind : (p : Test) → FailsOver p → (rs rest : List Record) (c : ℕ) (o : Option ℕ) → CommitsAtLeast rs c → rest ≡ drop c rs → IsFirst p (suc c) rest o → IsFirst p 1 rs o
+first_behind p over rs rest c o h e first ms B =
+    let M = caused_chase ms B in
+    let one : suc c ≡ 1 + c = omega arith in
+    first ms B
+    ∙ ap (λ (xs : List Record). lowest_that {M = M} (p ms B) (suc c) (updates_of ms B xs)) e
+    ∙ ap (λ (us : List (Update M)). lowest_that {M = M} (p ms B) (suc c) us) (dropped (update_of ms B) rs c)
+    ∙ ap (λ (m : ℕ). lowest_that {M = M} (p ms B) m (drop c (updates_of ms B rs))) one
+    ∙ sym (skipped M (p ms B) (over ms B) (updates_of ms B rs) 1 c (h ms B))
+
+-- What is over is neither ready nor deliverable.
+pub ready_fails : (M : Machine) (s : Settings) (c n : ℕ) (u : Update M) → is_over M u ≡ true → is_ready (standing M s c n u) ≡ false
+ready_fails M s c n u e = by (is_ready (standing M s c n u)) refl
+  where
+    by : (b : Bool) → is_ready (standing M s c n u) ≡ b → b ≡ false
+    by true f = absurd (both_ways _ (not_over M s c n u (ready_parts M s c n u f).0) e)
+    by false f = refl
+
+pub deliverable_fails : (M : Machine) (s : Settings) (c n : ℕ) (u : Update M) → is_over M u ≡ true → is_deliverable M s c n u ≡ false
+deliverable_fails M s c n u e = by (is_pending (standing M s c n u)) refl
+  where
+    by : (b : Bool) → is_pending (standing M s c n u) ≡ b → (b && not (is_nil u.inbox)) ≡ false
+    by true f = absurd (both_ways _ (not_over M s c n u (pending_parts M s c n u f).0) e)
+    by false f = refl
+
+abbrev pub ready_test : Settings → ℕ → Test
+ready_test s c ms B i u = is_ready (standing (caused_chase ms B) s c i u)
+
+abbrev pub deliverable_test : Settings → ℕ → Test
+deliverable_test s c ms B i u = is_deliverable (caused_chase ms B) s c i u
+
+abbrev pub besides_test : List ℕ → Settings → ℕ → Test
+besides_test ns s c ms B i u = is_ready (standing (caused_chase ms B) s c i u) && not (has_number ns i)
+
+pub ready_behind : (s : Settings) (rs rest : List Record) (c : ℕ) (o : Option ℕ) → HasCommitted rs c → rest ≡ drop c rs → IsFirst (ready_test s c) (suc c) rest o → IsFirst (ready_test s c) 1 rs o
+ready_behind s rs rest c o h e first = first_behind (ready_test s c) (λ ms B n u. ready_fails (caused_chase ms B) s c n u) rs rest c o (commits_so rs c h) e first
+
+pub deliverable_behind : (s : Settings) (rs rest : List Record) (c : ℕ) (o : Option ℕ) → HasCommitted rs c → rest ≡ drop c rs → IsFirst (deliverable_test s c) (suc c) rest o → IsFirst (deliverable_test s c) 1 rs o
+deliverable_behind s rs rest c o h e first = first_behind (deliverable_test s c) (λ ms B n u. deliverable_fails (caused_chase ms B) s c n u) rs rest c o (commits_so rs c h) e first
+
+pub besides_behind : (ns : List ℕ) (s : Settings) (rs rest : List Record) (c : ℕ) (o : Option ℕ) → HasCommitted rs c → rest ≡ drop c rs → IsFirst (besides_test ns s c) (suc c) rest o → IsFirst (besides_test ns s c) 1 rs o
+besides_behind ns s rs rest c o h e first =
+    first_behind (besides_test ns s c) (λ ms B n u over. ap (λ (b : Bool). b && not (has_number ns n)) (ready_fails (caused_chase ms B) s c n u over)) rs rest c o (commits_so rs c h) e first
+
+-- The next place and the next number.
+pub next_number : (i c : ℕ) → i + 1 + suc c ≡ suc (i + suc c)
+next_number i c = omega arith
+
+pub first_number : (c : ℕ) → suc c ≡ 0 + suc c
+first_number c = omega arith

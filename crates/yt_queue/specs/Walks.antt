@@ -1,5 +1,5 @@
 -- What is told of a queue, for the machine of any mappings and any budget.
-use Rattle.std.specs.Prelude.{◌≡◌, ℕ, Bool, not, ◌&&◌, List, Option}
+use Rattle.std.specs.Prelude.{◌≡◌, ◌+◌, ◌≤◌, ℕ, Bool, not, ◌&&◌, List, Option}
 use Rattle.yt_machine.specs.Cascade.{has_number}
 use Rattle.yt_machine.specs.Standings.{standing, is_ready, is_deliverable, lowest_that, lowest_ready, lowest_deliverable, is_quiet}
 use Rattle.yt_machine.specs.Updates.{Settings, committed}
@@ -11,6 +11,14 @@ use Rattle.yt_queue.specs.declared.records.Record.{Record}
 -- So many updates are committed.
 abbrev pub HasCommitted : List Record → ℕ → Type 0
 HasCommitted rs c = (ms : List Rule) (B : ℕ) → c ≡ committed (caused_chase ms B) (updates_of ms B rs)
+
+-- At least so many are.
+abbrev pub CommitsAtLeast : List Record → ℕ → Type 0
+CommitsAtLeast rs c = (ms : List Rule) (B : ℕ) → c ≤ committed (caused_chase ms B) (updates_of ms B rs)
+
+-- So many are, where c updates are committed and these come behind them.
+abbrev pub CommitsOn : ℕ → List Record → ℕ → Type 0
+CommitsOn c rs k = (ms : List Rule) (B : ℕ) → k ≡ c + committed (caused_chase ms B) (updates_of ms B rs)
 
 -- The least number of a ready update, where c updates are committed and the first of them has number n.
 abbrev pub IsFirstReady : Settings → ℕ → ℕ → List Record → Option ℕ → Type 0

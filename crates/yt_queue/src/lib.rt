@@ -20,5 +20,5 @@ pub use crate::records::Record;
 pub use crate::renewals::{fresh_programs, restart_marked};
 pub use crate::settings::{Deps, Settings};
 pub use crate::walks::{
-    committed, is_quiet, lowest_deliverable, lowest_ready, lowest_ready_besides,
+    committed, committed_from, is_quiet, lowest_deliverable, lowest_ready, lowest_ready_besides,
 };

@@ -1,10 +1,10 @@
 //! Which of the updates come first.
-ghost use Rattle.std.specs.Prelude.{◌≡◌, is_none as is_none_lem};
+ghost use Rattle.std.specs.Prelude.{◌≡◌, suc, drop, is_none as is_none_lem};
 ghost use Rattle.yt_machine.specs.Cascade.{has_number};
 ghost use Rattle.yt_queue.specs.Settings.{settings_of};
 ghost use Rattle.yt_queue.specs.Queues.{AreFrom};
 ghost use Rattle.yt_queue.specs.Programs.{IsBetween};
-ghost use Rattle.yt_queue.specs.Walks.{HasCommitted, IsFirstReady, IsFirstDeliverable, IsFirstBesides, IsReadyBesides, IsLowestReady, IsLowestDeliverable, IsLowestBesides, IsQuiet};
+ghost use Rattle.yt_queue.specs.Walks.{HasCommitted, CommitsAtLeast, CommitsOn, IsFirstReady, IsFirstDeliverable, IsFirstBesides, IsReadyBesides, IsLowestReady, IsLowestDeliverable, IsLowestBesides, IsQuiet};
 
 use crate::records::Record;
 use crate::settings::Settings;
@@ -14,8 +14,84 @@ pub fn committed(queue: &[Record]) -> u32
     requires from { AreFrom 1 queue.now }
     ensures committed { HasCommitted queue.now result }
 {
-    let mut count = 0;
-    for record in queue {
+    committed_from(queue, 0)
+}
+
+/// How many updates are committed, where at least so many are; those are not looked at. It takes no memory.
+pub fn committed_from(queue: &[Record], least: u32) -> u32
+    requires from { AreFrom 1 queue.now }
+    requires least { CommitsAtLeast queue.now least }
+    ensures committed { HasCommitted queue.now result }
+{
+    counted(behind(queue, least), least)
+}
+
+/// The least number of a ready update, if one is ready, where at least so many are committed. It takes no memory.
+pub fn lowest_ready(queue: &[Record], settings: Settings, least: u32) -> Option<u32>
+    requires from { AreFrom 1 queue.now }
+    requires least { CommitsAtLeast queue.now least }
+    ensures lowest { IsLowestReady (settings_of settings) queue.now result }
+{
+    let committed = committed_from(queue, least);
+    first_ready(behind(queue, committed), settings, committed)
+}
+
+/// The least number of an update to which a recorded answer may be delivered, if there is one, where at least so many are
+/// committed. It takes no memory.
+pub fn lowest_deliverable(queue: &[Record], settings: Settings, least: u32) -> Option<u32>
+    requires from { AreFrom 1 queue.now }
+    requires least { CommitsAtLeast queue.now least }
+    ensures lowest { IsLowestDeliverable (settings_of settings) queue.now result }
+{
+    let committed = committed_from(queue, least);
+    first_deliverable(behind(queue, committed), settings, committed)
+}
+
+/// The least number of a ready update that is none of these, if there is one, where at least so many are committed. It
+/// takes no memory.
+pub fn lowest_ready_besides(
+    queue: &[Record],
+    settings: Settings,
+    least: u32,
+    numbers: &[u32],
+) -> Option<u32>
+    requires from { AreFrom 1 queue.now }
+    requires least { CommitsAtLeast queue.now least }
+    ensures lowest { IsLowestBesides numbers.now (settings_of settings) queue.now result }
+{
+    let committed = committed_from(queue, least);
+    first_besides(behind(queue, committed), settings, committed, numbers)
+}
+
+/// Whether nothing is ready, and nothing is deliverable, where at least so many are committed. It takes no memory.
+pub fn is_quiet(queue: &[Record], settings: Settings, least: u32) -> bool
+    requires from { AreFrom 1 queue.now }
+    requires least { CommitsAtLeast queue.now least }
+    ensures quiet { IsQuiet (settings_of settings) queue.now result }
+{
+    let committed = committed_from(queue, least);
+    let rest = behind(queue, committed);
+    let none_ready = is_none(first_ready(rest, settings, committed));
+    let none_deliverable = is_none(first_deliverable(rest, settings, committed));
+    none_ready && none_deliverable
+}
+
+#[tactic(auto, using(crate::proofs::Walking::long_enough))]
+// The updates behind the first of them, so many.
+fn behind(queue: &[Record], first: u32) -> &[Record]
+    requires first { CommitsAtLeast queue.now first }
+    ensures rest { result.now ≡ drop first queue.now }
+{
+    &queue[first as usize..]
+}
+
+// How many updates are committed, where so many are, and these come behind them.
+fn counted(rest: &[Record], committed: u32) -> u32
+    requires from { AreFrom (suc committed) rest.now }
+    ensures committed { CommitsOn committed rest.now result }
+{
+    let mut count = committed;
+    for record in rest {
         if !record.is_over() {
             return count;
         }
@@ -24,47 +100,12 @@ pub fn committed(queue: &[Record]) -> u32
     count
 }
 
-/// The least number of a ready update, if one is ready. It takes no memory.
-pub fn lowest_ready(queue: &[Record], settings: Settings) -> Option<u32>
-    requires from { AreFrom 1 queue.now }
-    ensures lowest { IsLowestReady (settings_of settings) queue.now result }
+// The least number of a ready update, where so many are committed, and these come behind them.
+fn first_ready(rest: &[Record], settings: Settings, committed: u32) -> Option<u32>
+    requires from { AreFrom (suc committed) rest.now }
+    ensures first { IsFirstReady (settings_of settings) committed (suc committed) rest.now result }
 {
-    first_ready(queue, settings, committed(queue))
-}
-
-/// The least number of an update to which a recorded answer may be delivered, if there is one. It takes no memory.
-pub fn lowest_deliverable(queue: &[Record], settings: Settings) -> Option<u32>
-    requires from { AreFrom 1 queue.now }
-    ensures lowest { IsLowestDeliverable (settings_of settings) queue.now result }
-{
-    first_deliverable(queue, settings, committed(queue))
-}
-
-/// The least number of a ready update that is none of these, if there is one. It takes no memory.
-pub fn lowest_ready_besides(queue: &[Record], settings: Settings, numbers: &[u32]) -> Option<u32>
-    requires from { AreFrom 1 queue.now }
-    ensures lowest { IsLowestBesides numbers.now (settings_of settings) queue.now result }
-{
-    first_besides(queue, settings, committed(queue), numbers)
-}
-
-/// Whether nothing is ready, and nothing is deliverable. It takes no memory.
-pub fn is_quiet(queue: &[Record], settings: Settings) -> bool
-    requires from { AreFrom 1 queue.now }
-    ensures quiet { IsQuiet (settings_of settings) queue.now result }
-{
-    let committed = committed(queue);
-    let none_ready = is_none(first_ready(queue, settings, committed));
-    let none_deliverable = is_none(first_deliverable(queue, settings, committed));
-    none_ready && none_deliverable
-}
-
-// The least number of a ready update, where so many are committed.
-fn first_ready(queue: &[Record], settings: Settings, committed: u32) -> Option<u32>
-    requires from { AreFrom 1 queue.now }
-    ensures first { IsFirstReady (settings_of settings) committed 1 queue.now result }
-{
-    for record in queue {
+    for record in rest {
         let number = record.number();
         if record.is_ready(settings, committed, number) {
             return Some(number);
@@ -73,12 +114,13 @@ fn first_ready(queue: &[Record], settings: Settings, committed: u32) -> Option<u
     None
 }
 
-// The least number of a deliverable update, where so many are committed.
-fn first_deliverable(queue: &[Record], settings: Settings, committed: u32) -> Option<u32>
-    requires from { AreFrom 1 queue.now }
-    ensures first { IsFirstDeliverable (settings_of settings) committed 1 queue.now result }
+// The least number of a deliverable update, where so many are committed, and these come behind them.
+fn first_deliverable(rest: &[Record], settings: Settings, committed: u32) -> Option<u32>
+    requires from { AreFrom (suc committed) rest.now }
+    ensures first { IsFirstDeliverable (settings_of settings) committed (suc committed) rest.now
+        result }
 {
-    for record in queue {
+    for record in rest {
         let number = record.number();
         if record.is_deliverable(settings, committed, number) {
             return Some(number);
@@ -87,17 +129,18 @@ fn first_deliverable(queue: &[Record], settings: Settings, committed: u32) -> Op
     None
 }
 
-// The least number of a ready update that is none of these, where so many are committed.
+// The least number of a ready update that is none of these, where so many are committed, and those come behind them.
 fn first_besides(
-    queue: &[Record],
+    rest: &[Record],
     settings: Settings,
     committed: u32,
     numbers: &[u32],
 ) -> Option<u32>
-    requires from { AreFrom 1 queue.now }
-    ensures first { IsFirstBesides numbers.now (settings_of settings) committed 1 queue.now result }
+    requires from { AreFrom (suc committed) rest.now }
+    ensures first { IsFirstBesides numbers.now (settings_of settings) committed (suc committed)
+        rest.now result }
 {
-    for record in queue {
+    for record in rest {
         let number = record.number();
         if is_ready_besides(record, settings, committed, number, numbers) {
             return Some(number);

@@ -1,4 +1,5 @@
 use Rattle.yt_core.proofs.Placing.{numbers_put, fresh_above, installed_is}
+use Rattle.yt_core.proofs.Committing.{committed_kept}
 use Rattle.yt_core.proofs.stepping.install.Goals as goal
 
 pub restart_marked-requires-clause-from : goal.restart_marked-requires-clause-from
@@ -12,3 +13,6 @@ pub returns-clause-installed : goal.returns-clause-installed
 returns-clause-installed c =
     installed_is c.args.queue.now c.restart_marked.new.queue c.args.place c.args.plan c.args.fresh.items c.index-queue-place.result c.follow.new.self c.requires.place c.index-queue-place.is c.follow.ensures.stepped
     c.restart_marked.ensures.restarted
+
+pub returns-clause-least : goal.returns-clause-least
+returns-clause-least c = committed_kept c.args.queue.now c.restart_marked.new.queue c.args.place c.follow.new.self c.args.fresh.items c.restart_marked.ensures.restarted

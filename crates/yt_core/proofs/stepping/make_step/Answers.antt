@@ -3,6 +3,8 @@ use Rattle.yt_queue.specs.declared.records.Record.{Record}
 use Rattle.yt_queue.specs.Settings.{settings_of}
 use Rattle.yt_core.proofs.Following.{steps_to}
 use Rattle.yt_core.proofs.Telling.{there_is}
+use Rattle.yt_queue.proofs.Walking.{commits_so}
+use Rattle.yt_core.proofs.Committing.{fewer_committed}
 use Rattle.yt_core.proofs.stepping.make_step.Goals as goal
 
 pub returns-clause-made : goal.returns-clause-made
@@ -11,3 +13,10 @@ returns-clause-made c =
     c.index-queue-place.result c.args.plan c.in_ok-prepared.prepared c.attempt-attempt.result c.step_entry-entry.result
     (there_is c.args.queue.now c.args.place c.index-queue-place.result c.requires.place c.index-queue-place.is)
     c.in_ok-prepared.ensures.prepared c.install.ensures.installed c.install.ensures.numbers c.install.ensures.long refl (c.attempt-attempt.ensures.attempt ∙ ap (λ (r : Record). r.program.attempt.attempt) (sym c.index-queue-place.is)) c.step_entry-entry.ensures.told c.put_last.ensures.all
+
+pub committed_from-committed-requires-clause-least : goal.committed_from-committed-requires-clause-least
+committed_from-committed-requires-clause-least c =
+    c.install.ensures.least c.least_below.result c.least_below.ensures.below (fewer_committed c.args.queue.now c.args.least c.least_below.result c.least_below.ensures.least c.requires.least)
+
+pub returns-clause-committed : goal.returns-clause-committed
+returns-clause-committed c = commits_so c.install.new.queue c.committed_from-committed.result c.committed_from-committed.ensures.committed

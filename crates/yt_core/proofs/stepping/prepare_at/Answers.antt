@@ -15,8 +15,8 @@ prepare-requires-clause-more c = above_more c.args.queue.now c.above-upper.resul
 
 pub returns-clause-prepared : goal.returns-clause-prepared
 returns-clause-prepared c =
-    above_prepared c.args.mappings.now (settings_of c.args.settings) c.committed-committed.result c.args.place c.args.versions.now c.args.queue.now c.above-upper.result.now c.index-queue-place.result c.args.plan.now
-    c.in_ok-prepared.prepared c.requires.numbers c.requires.place c.index-queue-place.is c.above-upper.ensures.rest c.committed-committed.ensures.committed c.in_ok-prepared.ensures.prepared
+    above_prepared c.args.mappings.now (settings_of c.args.settings) c.committed_from-committed.result c.args.place c.args.versions.now c.args.queue.now c.above-upper.result.now c.index-queue-place.result c.args.plan.now
+    c.in_ok-prepared.prepared c.requires.numbers c.requires.place c.index-queue-place.is c.above-upper.ensures.rest c.committed_from-committed.ensures.committed c.in_ok-prepared.ensures.prepared
 
 pub returns-clause-fresh : goal.returns-clause-fresh
 returns-clause-fresh c =

@@ -1,6 +1,7 @@
 use Rattle.std.proofs.Common.{[]}
 use Rattle.yt_queue.specs.Settings.{settings_of}
 use Rattle.yt_core.proofs.Delivering.{same_more, same_plan, steps_from}
+use Rattle.yt_core.proofs.Committing.{same_committed}
 use Rattle.yt_core.proofs.stepping.step_at.Goals as goal
 
 pub make_step-requires-clause-more : goal.make_step-requires-clause-more
@@ -12,4 +13,7 @@ make_step-requires-clause-plan c = same_plan c.args.queue.now c.reserve_step.new
 pub returns-clause-made : goal.returns-clause-made
 returns-clause-made c =
     steps_from c.args.mappings.now (settings_of c.args.settings) c.args.place c.args.plan c.args.versions.now c.make_step.new.versions c.args.queue.now c.reserve_step.new.queue c.make_step.new.queue c.args.history.now.items
-    c.reserve_step.new.history.items c.make_step.new.history.items c.reserve_step.ensures.same c.reserve_step.ensures.long c.reserve_step.ensures.history c.in_ok-make_step.ensures.made
+    c.reserve_step.new.history.items c.make_step.new.history.items c.reserve_step.ensures.same c.reserve_step.ensures.long c.reserve_step.ensures.history c.in_ok-committed.ensures.made
+
+pub make_step-requires-clause-least : goal.make_step-requires-clause-least
+make_step-requires-clause-least c = same_committed c.args.queue.now c.reserve_step.new.queue c.args.least c.reserve_step.ensures.same c.requires.least

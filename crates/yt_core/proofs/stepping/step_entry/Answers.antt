@@ -11,6 +11,6 @@ pub returns : goal.returns
 returns c =
     record {
       told =
-          step_told (settings_of c.args.settings) c.args.place c.number-update.result c.args.attempt c.committed-committed.result c.args.writes c.args.causes c.args.queue.now c.index-queue-place.result c.standing-standing.result
-          c.requires.numbers c.requires.place c.index-queue-place.is c.number-update.ensures.number c.committed-committed.ensures.committed c.standing-standing.ensures.standing;
+          step_told (settings_of c.args.settings) c.args.place c.number-update.result c.args.attempt c.args.committed c.args.writes c.args.causes c.args.queue.now c.index-queue-place.result c.standing-standing.result
+          c.requires.numbers c.requires.place c.index-queue-place.is c.number-update.ensures.number c.requires.committed c.standing-standing.ensures.standing;
     }

@@ -1,4 +1,4 @@
-use Rattle.std.proofs.Common.{ℕ, ◌+◌, drop, Option}
+use Rattle.std.proofs.Common.{ℕ, suc, ◌+◌, drop, Option}
 use Rattle.yt_queue.specs.Settings.{settings_of}
 use Rattle.yt_queue.specs.Queues.{AreFrom}
 use Rattle.yt_queue.specs.Walks.{IsFirstBesides}
@@ -6,6 +6,6 @@ use Rattle.yt_queue.proofs.walks.first_besides.Given as goal
 
 abbrev pub invariant-loop-record : goal.invariant-loop-record
 invariant-loop-record l = record {
-  from : AreFrom (l.record-index + 1) (drop l.record-index l.queue);
-  left : (o : Option ℕ) → IsFirstBesides l.numbers (settings_of l.settings) l.committed (l.record-index + 1) (drop l.record-index l.queue) o → IsFirstBesides l.numbers (settings_of l.settings) l.committed 1 l.queue o;
+  from : AreFrom (l.record-index + suc l.committed) (drop l.record-index l.rest);
+  left : (o : Option ℕ) → IsFirstBesides l.numbers (settings_of l.settings) l.committed (l.record-index + suc l.committed) (drop l.record-index l.rest) o → IsFirstBesides l.numbers (settings_of l.settings) l.committed (suc l.committed) l.rest o;
 }

@@ -1,28 +1,32 @@
-use Rattle.std.proofs.Common.{◌+◌, add-one}
-use Rattle.yt_machine.specs.Standings.{is_deliverable}
-use Rattle.yt_steps.specs.Chase.{caused_chase}
+use Rattle.std.proofs.Common.{subst, sym, ℕ, suc}
 use Rattle.yt_queue.specs.Settings.{settings_of}
-use Rattle.yt_queue.proofs.Walking.{Test, found, passed, ended, stand_behind}
+use Rattle.yt_queue.specs.Queues.{AreFrom}
+use Rattle.yt_queue.specs.Walks.{IsFirstDeliverable}
+use Rattle.yt_queue.proofs.Walking.{deliverable_test, found, passed, ended, first_number, next_number, stand_behind}
 use Rattle.yt_queue.proofs.walks.first_deliverable.Goals as goal
+
+pub loop-record-init : goal.loop-record-init
+loop-record-init c =
+    record {
+      from = subst (λ (n : ℕ). AreFrom n c.args.rest.now) (first_number c.args.committed) c.requires.from;
+      left = λ o first. subst (λ (n : ℕ). IsFirstDeliverable (settings_of c.args.settings) c.args.committed n c.args.rest.now o) (sym (first_number c.args.committed)) first;
+    }
 
 pub returns-then-is_deliverable : goal.returns-then-is_deliverable
 returns-then-is_deliverable c =
-    let test : Test = λ ms B i u. is_deliverable (caused_chase ms B) (settings_of c.args.settings) c.args.committed i u in
     record {
       first = c.loop-record.invariant.left _
-          (found test c.args.queue.now c.loop-record.record-index _ c.number-number.result c.record-item.result c.is_deliverable.result c.loop-record-test.true c.record-item.is c.loop-record.invariant.from c.number-number.ensures.number c.is_deliverable.ensures.deliverable c.if-is_deliverable.true);
+          (found (deliverable_test (settings_of c.args.settings) c.args.committed) c.args.rest.now c.loop-record.record-index _ c.number-number.result c.record-item.result c.is_deliverable.result c.loop-record-test.true c.record-item.is c.loop-record.invariant.from c.number-number.ensures.number c.is_deliverable.ensures.deliverable c.if-is_deliverable.true);
     }
 
 pub loop-record-preserved : goal.loop-record-preserved
 loop-record-preserved c =
-    let test : Test = λ ms B i u. is_deliverable (caused_chase ms B) (settings_of c.args.settings) c.args.committed i u in
     record {
-      from = stand_behind c.args.queue.now c.loop-record.record-index _ _ c.record-item.result c.loop-record-test.true c.record-item.is (add-one (c.loop-record.record-index + 1)) c.loop-record.invariant.from;
+      from = stand_behind c.args.rest.now c.loop-record.record-index _ _ c.record-item.result c.loop-record-test.true c.record-item.is (next_number c.loop-record.record-index c.args.committed) c.loop-record.invariant.from;
       left = λ o first. c.loop-record.invariant.left o
-          (passed test c.args.queue.now c.loop-record.record-index _ _ c.number-number.result c.record-item.result c.is_deliverable.result o c.loop-record-test.true c.record-item.is c.loop-record.invariant.from c.number-number.ensures.number c.is_deliverable.ensures.deliverable c.if-is_deliverable.false (add-one (c.loop-record.record-index + 1)) first);
+          (passed (deliverable_test (settings_of c.args.settings) c.args.committed) c.args.rest.now c.loop-record.record-index _ _ c.number-number.result c.record-item.result c.is_deliverable.result o c.loop-record-test.true c.record-item.is c.loop-record.invariant.from c.number-number.ensures.number c.is_deliverable.ensures.deliverable c.if-is_deliverable.false (next_number c.loop-record.record-index c.args.committed) first);
     }
 
 pub returns : goal.returns
 returns c =
-    let test : Test = λ ms B i u. is_deliverable (caused_chase ms B) (settings_of c.args.settings) c.args.committed i u in
-    record { first = c.loop-record.invariant.left _ (ended test c.args.queue.now c.loop-record.record-index _ c.loop-record-test.false) }
+    record { first = c.loop-record.invariant.left _ (ended (deliverable_test (settings_of c.args.settings) c.args.committed) c.args.rest.now c.loop-record.record-index _ c.loop-record-test.false) }

@@ -1,6 +1,6 @@
-use Rattle.std.proofs.Common.{subst, List}
+use Rattle.std.proofs.Common.{subst, sym, List}
 use Rattle.yt_queue.specs.declared.records.Record.{Record}
-use Rattle.yt_queue.specs.Walks.{HasCommitted}
+use Rattle.yt_queue.specs.Walks.{CommitsAtLeast, HasCommitted}
 use Rattle.yt_core.proofs.Telling.{committed_told}
 use Rattle.yt_core.proofs.cores.Core.committed.Goals as goal
 
@@ -8,6 +8,9 @@ pub returns : goal.returns
 returns c =
     record {
       committed =
-          committed_told _ _ c.self.inside.queue.items _ c.self.invariant.left c.self.view_is c.committed.result
-          (subst (λ (rs : List Record). HasCommitted rs c.committed.result) c.deref.ensures.value c.committed.ensures.committed);
+          committed_told _ _ c.self.inside.queue.items _ c.self.invariant.0.left c.self.view_is c.committed_from.result
+          (subst (λ (rs : List Record). HasCommitted rs c.committed_from.result) c.deref.ensures.value c.committed_from.ensures.committed);
     }
+
+pub committed_from-requires-clause-least : goal.committed_from-requires-clause-least
+committed_from-requires-clause-least c = subst (λ (rs : List Record). CommitsAtLeast rs c.self.inside.least) (sym c.deref.ensures.value) c.self.invariant.1

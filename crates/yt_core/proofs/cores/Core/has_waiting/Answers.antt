@@ -8,6 +8,6 @@ pub returns : goal.returns
 returns c =
     record {
       waiting =
-          waiting_told _ _ c.self.inside.queue.items _ c.self.invariant.left c.self.view_is c.args.update c.has_waiting.result
+          waiting_told _ _ c.self.inside.queue.items _ c.self.invariant.0.left c.self.view_is c.args.update c.has_waiting.result
           (subst (λ (rs : List Record). HasWaitingAt rs c.args.update c.has_waiting.result) c.deref.ensures.value c.has_waiting.ensures.waiting);
     }

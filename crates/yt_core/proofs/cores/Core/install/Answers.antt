@@ -6,6 +6,8 @@ use Rattle.yt_queue.specs.Renewals.{AllHaveOneMore}
 use Rattle.yt_queue.specs.declared.records.Record.{Record}
 use Rattle.yt_core.specs.Planned.{PlanMeant}
 use Rattle.yt_core.proofs.Making.{some_number, ready_within, all_one_more, plan_ready, plan_between, core_steps, kept_ok, kept_err, has_stepped}
+use Rattle.yt_queue.proofs.Walking.{none_committed}
+use Rattle.yt_core.proofs.Committing.{least_ok}
 use Rattle.yt_core.proofs.cores.Core.install.Goals as goal
 
 pub place_of-place-requires : goal.place_of-place-requires
@@ -13,46 +15,52 @@ place_of-place-requires c = subst (λ (n : ℕ). 1 ≤ n) (sym (ap (λ (p : Plan
 
 pub step_at-requires-clause-place : goal.step_at-requires-clause-place
 step_at-requires-clause-place c =
-    ready_within _ c.self.inside.versions c.self.inside.queue.items _ _ c.self.invariant c.self.view_is c.args.plan.update c.requires.ready c.place_of-place.result (c.place_of-place.ensures ∙ ap (λ (p : PlanMeant). p.update) c.plan.view_is)
+    ready_within _ c.self.inside.versions c.self.inside.queue.items _ _ c.self.invariant.0 c.self.view_is c.args.plan.update c.requires.ready c.place_of-place.result (c.place_of-place.ensures ∙ ap (λ (p : PlanMeant). p.update) c.plan.view_is)
     c.deref_mut.result.now c.deref_mut.ensures.value
 
 pub step_at-requires-clause-numbers : goal.step_at-requires-clause-numbers
-step_at-requires-clause-numbers c = subst (λ (rs : List Record). AreFrom 1 rs) (sym c.deref_mut.ensures.value) c.self.invariant.numbers
+step_at-requires-clause-numbers c = subst (λ (rs : List Record). AreFrom 1 rs) (sym c.deref_mut.ensures.value) c.self.invariant.0.numbers
 
 pub step_at-requires-clause-more : goal.step_at-requires-clause-more
 step_at-requires-clause-more c =
-    subst (λ (rs : List Record). AllHaveOneMore rs) (sym c.deref_mut.ensures.value) (all_one_more _ c.self.inside.versions c.self.inside.queue.items _ c.self.invariant)
+    subst (λ (rs : List Record). AllHaveOneMore rs) (sym c.deref_mut.ensures.value) (all_one_more _ c.self.inside.versions c.self.inside.queue.items _ c.self.invariant.0)
 
 pub step_at-requires-clause-plan : goal.step_at-requires-clause-plan
 step_at-requires-clause-plan c =
-    plan_ready _ c.self.inside.versions c.self.inside.queue.items c.self.inside.history.items _ c.self.invariant c.self.view_is c.args.plan.update c.requires.ready c.place_of-place.result
+    plan_ready _ c.self.inside.versions c.self.inside.queue.items c.self.inside.history.items _ c.self.invariant.0 c.self.view_is c.args.plan.update c.requires.ready c.place_of-place.result
     (c.place_of-place.ensures ∙ ap (λ (p : PlanMeant). p.update) c.plan.view_is) c.deref_mut.result.now c.deref_mut.ensures.value c.plan.inside.step c.args.plan
     (ap (λ (n : ℕ). record { update = n; program = c.plan.inside.step.program; reads = map read_of c.plan.inside.step.reads.items }) (sym (ap (λ (p : PlanMeant). p.update) c.plan.view_is)) ∙ c.plan.view_is) c.requires.step
 
 pub step_at-requires-clause-after : goal.step_at-requires-clause-after
 step_at-requires-clause-after c =
-    plan_between _ c.self.inside.versions c.self.inside.queue.items c.self.inside.history.items _ c.self.invariant c.self.view_is c.args.plan.update c.requires.ready c.place_of-place.result
+    plan_between _ c.self.inside.versions c.self.inside.queue.items c.self.inside.history.items _ c.self.invariant.0 c.self.view_is c.args.plan.update c.requires.ready c.place_of-place.result
     (c.place_of-place.ensures ∙ ap (λ (p : PlanMeant). p.update) c.plan.view_is) c.deref_mut.result.now c.deref_mut.ensures.value c.plan.inside.step c.args.plan
     (ap (λ (n : ℕ). record { update = n; program = c.plan.inside.step.program; reads = map read_of c.plan.inside.step.reads.items }) (sym (ap (λ (p : PlanMeant). p.update) c.plan.view_is)) ∙ c.plan.view_is) c.requires.step
 
 pub invariant_of-self : goal.invariant_of-self
 invariant_of-self c =
-    kept_err _ c.self.inside.versions c.step_at.new.versions c.self.inside.queue.items c.deref_mut.result.now c.step_at.new.queue (drop (length c.step_at.new.queue) c.self.inside.queue.items) c.self.inside.queue.len
-    c.self.inside.history.items c.step_at.new.history.items (omega arith) c.self.invariant c.deref_mut.ensures.value c.in_err-step_at.ensures.versions c.in_err-step_at.ensures.queue c.step_at.ensures.long
-    c.in_err-step_at.ensures.history
+    (
+        kept_err _ c.self.inside.versions c.step_at.new.versions c.self.inside.queue.items c.deref_mut.result.now c.step_at.new.queue (drop (length c.step_at.new.queue) c.self.inside.queue.items) c.self.inside.queue.len
+    c.self.inside.history.items c.step_at.new.history.items (omega arith) c.self.invariant.0 c.deref_mut.ensures.value c.in_err-committed.ensures.versions c.in_err-committed.ensures.queue c.step_at.ensures.long
+    c.in_err-committed.ensures.history,
+        none_committed _,
+    )
 
 pub invariant_of-self-2 : goal.invariant_of-self-2
 invariant_of-self-2 c =
-    kept_ok _ c.step_at.new.versions c.step_at.new.queue (drop (length c.step_at.new.queue) c.self.inside.queue.items) c.self.inside.queue.len (map entry_of c.step_at.new.history.items) (omega arith)
-    (core_steps _ c.self.inside.versions c.self.inside.queue.items c.self.inside.history.items _ c.self.invariant c.self.view_is c.args.plan.update c.requires.ready c.place_of-place.result
+    (
+        kept_ok _ c.step_at.new.versions c.step_at.new.queue (drop (length c.step_at.new.queue) c.self.inside.queue.items) c.self.inside.queue.len (map entry_of c.step_at.new.history.items) (omega arith)
+    (core_steps _ c.self.inside.versions c.self.inside.queue.items c.self.inside.history.items _ c.self.invariant.0 c.self.view_is c.args.plan.update c.requires.ready c.place_of-place.result
     (c.place_of-place.ensures ∙ ap (λ (p : PlanMeant). p.update) c.plan.view_is) c.deref_mut.result.now c.deref_mut.ensures.value c.plan.inside.step c.args.plan
     (ap (λ (n : ℕ). record { update = n; program = c.plan.inside.step.program; reads = map read_of c.plan.inside.step.reads.items }) (sym (ap (λ (p : PlanMeant). p.update) c.plan.view_is)) ∙ c.plan.view_is) c.requires.step
-    c.step_at.new.versions c.step_at.new.queue c.step_at.new.history.items c.in_ok-step_at.ensures.made).kept
+    c.step_at.new.versions c.step_at.new.queue c.step_at.new.history.items c.in_ok-committed.ensures.made).kept,
+        least_ok c.step_at.new.queue (drop (length c.step_at.new.queue) c.self.inside.queue.items) c.self.inside.queue.len c.in_ok-committed.committed (omega arith) c.in_ok-committed.ensures.committed,
+    )
 
 pub returns-clause-made : goal.returns-clause-made
 returns-clause-made c =
     has_stepped _ c.step_at.new.versions c.step_at.new.queue (map entry_of c.self.inside.history.items) (map entry_of c.step_at.new.history.items) c.args.self.now _ c.args.plan.update c.self.view_is refl
-    (core_steps _ c.self.inside.versions c.self.inside.queue.items c.self.inside.history.items _ c.self.invariant c.self.view_is c.args.plan.update c.requires.ready c.place_of-place.result
+    (core_steps _ c.self.inside.versions c.self.inside.queue.items c.self.inside.history.items _ c.self.invariant.0 c.self.view_is c.args.plan.update c.requires.ready c.place_of-place.result
     (c.place_of-place.ensures ∙ ap (λ (p : PlanMeant). p.update) c.plan.view_is) c.deref_mut.result.now c.deref_mut.ensures.value c.plan.inside.step c.args.plan
     (ap (λ (n : ℕ). record { update = n; program = c.plan.inside.step.program; reads = map read_of c.plan.inside.step.reads.items }) (sym (ap (λ (p : PlanMeant). p.update) c.plan.view_is)) ∙ c.plan.view_is) c.requires.step
-    c.step_at.new.versions c.step_at.new.queue c.step_at.new.history.items c.in_ok-step_at.ensures.made)
+    c.step_at.new.versions c.step_at.new.queue c.step_at.new.history.items c.in_ok-committed.ensures.made)

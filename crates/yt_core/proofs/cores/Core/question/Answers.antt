@@ -11,6 +11,6 @@ pub returns : goal.returns
 returns c =
     record {
       question =
-          question_told _ _ c.self.inside.queue.items _ c.self.invariant.left c.self.view_is c.args.update (option_map inquiry_of (option_copied c.question.result))
+          question_told _ _ c.self.inside.queue.items _ c.self.invariant.0.left c.self.view_is c.args.update (option_map inquiry_of (option_copied c.question.result))
           (subst (λ (rs : List Record). HasQuestionAt (settings_of c.self.inside.settings) rs c.args.update (option_map inquiry_of (option_copied c.question.result))) c.deref.ensures.value c.question.ensures.question);
     }

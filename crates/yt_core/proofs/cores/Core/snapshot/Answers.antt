@@ -8,29 +8,29 @@ place_of-place-requires c = some_number c.args.self.now c.args.update _ c.requir
 
 pub snapshot_at-requires-clause-place : goal.snapshot_at-requires-clause-place
 snapshot_at-requires-clause-place c =
-    ready_within _ c.self.inside.versions c.self.inside.queue.items _ _ c.self.invariant c.self.view_is c.args.update c.requires.ready c.place_of-place.result c.place_of-place.ensures c.deref.result.now c.deref.ensures.value
+    ready_within _ c.self.inside.versions c.self.inside.queue.items _ _ c.self.invariant.0 c.self.view_is c.args.update c.requires.ready c.place_of-place.result c.place_of-place.ensures c.deref.result.now c.deref.ensures.value
 
 pub snapshot_at-requires-clause-numbers : goal.snapshot_at-requires-clause-numbers
 snapshot_at-requires-clause-numbers c =
-    ready_numbers _ c.self.inside.versions c.self.inside.queue.items _ _ c.self.invariant c.self.view_is c.args.update c.requires.ready c.place_of-place.result c.place_of-place.ensures c.deref.result.now c.deref.ensures.value
+    ready_numbers _ c.self.inside.versions c.self.inside.queue.items _ _ c.self.invariant.0 c.self.view_is c.args.update c.requires.ready c.place_of-place.result c.place_of-place.ensures c.deref.result.now c.deref.ensures.value
 
 pub snapshot_at-requires-clause-ready : goal.snapshot_at-requires-clause-ready
 snapshot_at-requires-clause-ready c =
-    ready_placed _ c.self.inside.versions c.self.inside.queue.items _ _ c.self.invariant c.self.view_is c.args.update c.requires.ready c.place_of-place.result c.place_of-place.ensures c.deref.result.now c.deref.ensures.value
+    ready_placed _ c.self.inside.versions c.self.inside.queue.items _ _ c.self.invariant.0 c.self.view_is c.args.update c.requires.ready c.place_of-place.result c.place_of-place.ensures c.deref.result.now c.deref.ensures.value
 
 pub snapshot_at-requires-clause-left : goal.snapshot_at-requires-clause-left
 snapshot_at-requires-clause-left c =
-    left_placed _ c.self.inside.versions c.self.inside.queue.items _ _ c.self.invariant c.self.view_is c.args.update c.requires.ready c.place_of-place.result c.place_of-place.ensures c.deref.result.now c.deref.ensures.value
+    left_placed _ c.self.inside.versions c.self.inside.queue.items _ _ c.self.invariant.0 c.self.view_is c.args.update c.requires.ready c.place_of-place.result c.place_of-place.ensures c.deref.result.now c.deref.ensures.value
 
 pub returns-clause-update : goal.returns-clause-update
 returns-clause-update c =
-    snapshot_update _ c.self.inside.versions c.self.inside.queue.items _ _ c.self.invariant c.self.view_is c.args.update c.requires.ready c.place_of-place.result c.place_of-place.ensures c.deref.result.now c.deref.ensures.value
+    snapshot_update _ c.self.inside.versions c.self.inside.queue.items _ _ c.self.invariant.0 c.self.view_is c.args.update c.requires.ready c.place_of-place.result c.place_of-place.ensures c.deref.result.now c.deref.ensures.value
     _ c.list-mappings.ensures.rules c.in_ok-snapshot.snapshot c.in_ok-snapshot.ensures.taken
 
 pub returns-clause-step : goal.returns-clause-step
 returns-clause-step c =
-    snapshot_step _ c.self.inside.versions c.self.inside.queue.items _ _ c.self.invariant c.self.view_is c.args.update c.requires.ready c.place_of-place.result c.place_of-place.ensures c.deref.result.now c.deref.ensures.value
+    snapshot_step _ c.self.inside.versions c.self.inside.queue.items _ _ c.self.invariant.0 c.self.view_is c.args.update c.requires.ready c.place_of-place.result c.place_of-place.ensures c.deref.result.now c.deref.ensures.value
     _ c.list-mappings.ensures.rules c.in_ok-snapshot.snapshot c.in_ok-snapshot.ensures.taken
 
 pub snapshot_at-requires-clause-within : goal.snapshot_at-requires-clause-within
-snapshot_at-requires-clause-within c = subst AreWithin (sym c.list-mappings.ensures.rules) c.self.invariant.within
+snapshot_at-requires-clause-within c = subst AreWithin (sym c.list-mappings.ensures.rules) c.self.invariant.0.within

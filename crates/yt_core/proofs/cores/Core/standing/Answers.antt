@@ -11,6 +11,6 @@ pub returns : goal.returns
 returns c =
     record {
       standing =
-          standing_told _ _ c.self.inside.queue.items _ c.self.invariant.left c.self.view_is c.args.update (option_map standing_of c.standing.result)
+          standing_told _ _ c.self.inside.queue.items _ c.self.invariant.0.left c.self.view_is c.args.update (option_map standing_of c.standing.result)
           (subst (λ (rs : List Record). HasStandingAt (settings_of c.self.inside.settings) rs c.args.update (option_map standing_of c.standing.result)) c.deref.ensures.value c.standing.ensures.standing);
     }

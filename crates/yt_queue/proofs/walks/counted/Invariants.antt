@@ -3,10 +3,10 @@ use Rattle.yt_machine.specs.Updates.{committed}
 use Rattle.yt_model.specs.Mappings.{Rule}
 use Rattle.yt_steps.specs.Chase.{caused_chase}
 use Rattle.yt_queue.specs.Queues.{updates_of, AreFrom}
-use Rattle.yt_queue.proofs.walks.committed.Given as goal
+use Rattle.yt_queue.proofs.walks.counted.Given as goal
 
 abbrev pub invariant-loop-record : goal.invariant-loop-record
 invariant-loop-record l = record {
-  from : AreFrom (suc l.count) (drop l.record-index l.queue);
-  left : (ms : List Rule) (B : ℕ) → l.count + committed (caused_chase ms B) (updates_of ms B (drop l.record-index l.queue)) ≡ committed (caused_chase ms B) (updates_of ms B l.queue);
+  from : AreFrom (suc l.count) (drop l.record-index l.rest);
+  left : (ms : List Rule) (B : ℕ) → l.count + committed (caused_chase ms B) (updates_of ms B (drop l.record-index l.rest)) ≡ l.committed + committed (caused_chase ms B) (updates_of ms B l.rest);
 }
