@@ -1,0 +1,84 @@
+//! The calls of a case, made on a core.
+use crate::answers::{
+    with_counts, with_last, with_later, with_question, with_refusal, with_result, with_standing,
+};
+use crate::calls::{Asked, Call, read_call};
+use crate::case::Case;
+use crate::events::{admit, answer, deliver, step, withdraw};
+use crate::refusals::CaseRefusal;
+use std::alloc::Global;
+use yt_core::Core;
+use yt_limits::Budget;
+use yt_queue::Settings;
+use yt_reader::read_session;
+use yt_session::Session;
+
+/// What the calls of the case answer, in lines. It is refused where the case is not spelled as it should be, and for want of
+/// memory.
+pub fn told(alloc: Global, case: &Case) -> Result<Vec<u8>, CaseRefusal> {
+    let Some((budget, settings)) = case.settings else {
+        return Err(CaseRefusal::Spelling);
+    };
+    if 16_777_216 < case.session.len() || 4 < settings.retries {
+        return Err(CaseRefusal::Spelling);
+    }
+    let session = read_session(alloc, case.session.as_slice())?;
+    let mut core = Core::open(alloc, &session, settings, budget)?;
+    let mut text = Vec::new(alloc);
+    for line in case.calls.as_slice() {
+        let call = read_call(alloc, &session.schema, line.as_str())?;
+        text = with_answer(alloc, text, &session, &mut core, call)?;
+    }
+    Ok(text)
+}
+
+// Makes the call, and adds what it answers.
+fn with_answer(
+    alloc: Global,
+    text: Vec<u8>,
+    session: &Session,
+    core: &mut Core<'_>,
+    call: Call,
+) -> Result<Vec<u8>, CaseRefusal> {
+    let refused = match call {
+        Call::Step(update) => step(alloc, core, update)?,
+        Call::Deliver(update) => deliver(core, update)?,
+        Call::Answer(update, choice) => answer(alloc, core, update, choice)?,
+        Call::Withdraw(update) => withdraw(alloc, core, update)?,
+        Call::Admit(update) => admit(alloc, core, update)?,
+        Call::Drain => return drained(alloc, text, session, core),
+        Call::Ask(question) => return told_of(alloc, text, session, core, question),
+    };
+    match refused {
+        Some(refusal) => with_refusal(alloc, text, refusal),
+        None => with_last(alloc, text, &session.schema, core.history()),
+    }
+}
+
+// Drains the core, and adds the lines of the events.
+fn drained(
+    alloc: Global,
+    text: Vec<u8>,
+    session: &Session,
+    core: &mut Core<'_>,
+) -> Result<Vec<u8>, CaseRefusal> {
+    let before = core.history().len();
+    core.drain(alloc)?;
+    with_later(alloc, text, &session.schema, core.history(), before)
+}
+
+// Adds what is asked of the core.
+fn told_of(
+    alloc: Global,
+    text: Vec<u8>,
+    session: &Session,
+    core: &Core<'_>,
+    question: Asked,
+) -> Result<Vec<u8>, CaseRefusal> {
+    match question {
+        Asked::Standing(update) => with_standing(alloc, text, core.standing(update)),
+        Asked::Question(update) => with_question(alloc, text, session, core.question(update)),
+        Asked::Counts => with_counts(alloc, text, core),
+        Asked::Result => with_result(alloc, text, session, core),
+    }
+}
