@@ -10,8 +10,8 @@ use yt_schema::Schema;
 use yt_session::Session;
 use yt_trace::entry_line;
 
-// Adds the words as a line.
-fn with_line(mut text: Vec<u8>, line: &str) -> Result<Vec<u8>, CaseRefusal> {
+/// Adds the words as a line.
+pub fn with_line(mut text: Vec<u8>, line: &str) -> Result<Vec<u8>, CaseRefusal> {
     text.extend_from_slice(line.as_bytes())?;
     text.push(b'\n')?;
     Ok(text)

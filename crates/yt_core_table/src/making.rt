@@ -1,6 +1,7 @@
 //! The calls of a case, made on a core.
 use crate::answers::{
-    with_counts, with_last, with_later, with_question, with_refusal, with_result, with_standing,
+    with_counts, with_last, with_later, with_line, with_question, with_refusal, with_result,
+    with_standing,
 };
 use crate::calls::{Asked, Call, read_call};
 use crate::case::Case;
@@ -26,10 +27,24 @@ pub fn told(alloc: Global, case: &Case) -> Result<Vec<u8>, CaseRefusal> {
     let mut core = Core::open(alloc, &session, settings, budget)?;
     let mut text = Vec::new(alloc);
     for line in case.calls.as_slice() {
-        let call = read_call(alloc, &session.schema, line.as_str())?;
-        text = with_answer(alloc, text, &session, &mut core, call)?;
+        text = with_told(alloc, text, &session, &mut core, line.as_str())?;
     }
     Ok(text)
+}
+
+// Makes the call of the line, and adds what it answers. A line that begins with `#` is no call, and told as it is.
+fn with_told(
+    alloc: Global,
+    text: Vec<u8>,
+    session: &Session,
+    core: &mut Core<'_>,
+    line: &str,
+) -> Result<Vec<u8>, CaseRefusal> {
+    if line.starts_with('#') {
+        return with_line(text, line);
+    }
+    let call = read_call(alloc, &session.schema, line)?;
+    with_answer(alloc, text, session, core, call)
 }
 
 // Makes the call, and adds what it answers.
