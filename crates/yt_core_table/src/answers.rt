@@ -1,21 +1,13 @@
 //! What is told of the answers of calls, in lines.
 use crate::events::{Refusal, Stands};
-use crate::refusals::CaseRefusal;
 use std::alloc::Global;
+use yt_cases::{CaseRefusal, with_entries, with_line};
 use yt_core::Core;
 use yt_entries::{Entry, Standing};
 use yt_frontier::Question;
 use yt_report::{question_lines, result_text};
 use yt_schema::Schema;
 use yt_session::Session;
-use yt_trace::entry_line;
-
-/// Adds the words as a line.
-pub fn with_line(mut text: Vec<u8>, line: &str) -> Result<Vec<u8>, CaseRefusal> {
-    text.extend_from_slice(line.as_bytes())?;
-    text.push(b'\n')?;
-    Ok(text)
-}
 
 /// Adds the line of a refusal.
 pub fn with_refusal(
@@ -27,20 +19,6 @@ pub fn with_refusal(
     with_line(text, line.as_str())
 }
 
-/// Adds the lines of the entries from this place on, counted from 0.
-pub fn with_later(
-    alloc: Global,
-    mut text: Vec<u8>,
-    schema: &Schema,
-    history: &[Entry],
-    place: usize,
-) -> Result<Vec<u8>, CaseRefusal> {
-    for entry in history.iter().skip(place) {
-        text.extend_from_slice(entry_line(alloc, schema, entry)?.as_slice())?;
-    }
-    Ok(text)
-}
-
 /// Adds the line of the last entry.
 pub fn with_last(
     alloc: Global,
@@ -49,7 +27,7 @@ pub fn with_last(
     history: &[Entry],
 ) -> Result<Vec<u8>, CaseRefusal> {
     let place = history.len().saturating_sub(1);
-    with_later(alloc, text, schema, history, place)
+    with_entries(alloc, text, schema, history, place)
 }
 
 /// Adds how an update stands.

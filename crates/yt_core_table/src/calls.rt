@@ -1,8 +1,8 @@
 //! Calls as lines of text.
-use crate::refusals::CaseRefusal;
 use crate::statements::{Said, read_statement};
 use std::alloc::Global;
 use yt_base::{Choice, Update};
+use yt_cases::{CaseRefusal, number_of};
 use yt_schema::Schema;
 
 /// A call on a core.
@@ -36,11 +36,11 @@ pub fn read_call(alloc: Global, schema: &Schema, line: &str) -> Result<Call, Cas
         _ => {}
     }
     match line.split_once(' ') {
-        Some(("step", name)) => Ok(Call::Step(number_of(name)?)),
-        Some(("deliver", name)) => Ok(Call::Deliver(number_of(name)?)),
-        Some(("withdraw", name)) => Ok(Call::Withdraw(number_of(name)?)),
-        Some(("standing", name)) => Ok(Call::Ask(Asked::Standing(number_of(name)?))),
-        Some(("question", name)) => Ok(Call::Ask(Asked::Question(number_of(name)?))),
+        Some(("step", name)) => Ok(Call::Step(number_of(name, 'u')?)),
+        Some(("deliver", name)) => Ok(Call::Deliver(number_of(name, 'u')?)),
+        Some(("withdraw", name)) => Ok(Call::Withdraw(number_of(name, 'u')?)),
+        Some(("standing", name)) => Ok(Call::Ask(Asked::Standing(number_of(name, 'u')?))),
+        Some(("question", name)) => Ok(Call::Ask(Asked::Question(number_of(name, 'u')?))),
         _ => stated(alloc, schema, line),
     }
 }
@@ -50,16 +50,8 @@ fn stated(alloc: Global, schema: &Schema, line: &str) -> Result<Call, CaseRefusa
     match read_statement(alloc, schema, line)? {
         Said::Answer(label, choice) => {
             let name = std::str::from_utf8(label.as_slice())?;
-            Ok(Call::Answer(number_of(name)?, choice))
+            Ok(Call::Answer(number_of(name, 'u')?, choice))
         }
         Said::Update(update) => Ok(Call::Admit(update)),
-    }
-}
-
-// The number of the update of this name, as `u3`.
-fn number_of(name: &str) -> Result<u32, CaseRefusal> {
-    match name.strip_prefix('u') {
-        Some(number) => Ok(number.parse::<u32>()?),
-        None => Err(CaseRefusal::Spelling),
     }
 }

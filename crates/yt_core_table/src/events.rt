@@ -1,8 +1,8 @@
 //! The calls that may make an event, and why they are refused.
-use crate::refusals::CaseRefusal;
 use std::alloc::Global;
 use std::fmt;
 use yt_base::{Choice, Update};
+use yt_cases::CaseRefusal;
 use yt_core::{AdmitRefusal, AnswerRefusal, Core, DeliverRefusal, StepRefusal, WithdrawRefusal};
 use yt_entries::Standing;
 

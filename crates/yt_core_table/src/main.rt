@@ -11,22 +11,13 @@
 
 mod answers;
 mod calls;
-mod case;
 mod events;
 mod making;
-mod refusals;
 mod statements;
 
-use crate::case::Case;
 use crate::making::told;
-use crate::refusals::CaseRefusal;
-use yt_text::{Sink, StdSink, write_all};
-
-// Writes the text.
-fn tell<O: Sink>(out: &mut O, text: &[u8]) -> Result<(), CaseRefusal> {
-    write_all(out, text)?;
-    Ok(())
-}
+use yt_cases::{Case, tell};
+use yt_text::StdSink;
 
 fn main(rt: HostRuntime) -> anyhow::Result<()> {
     let alloc = rt.alloc();
@@ -38,7 +29,7 @@ fn main(rt: HostRuntime) -> anyhow::Result<()> {
             tell(&mut out, told(alloc, &case)?.as_slice())?;
             case = Case::new(alloc);
         } else {
-            case.take(alloc, line)?;
+            case.take(line)?;
         }
     }
     Ok(())

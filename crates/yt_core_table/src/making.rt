@@ -1,32 +1,22 @@
 //! The calls of a case, made on a core.
 use crate::answers::{
-    with_counts, with_last, with_later, with_line, with_question, with_refusal, with_result,
-    with_standing,
+    with_counts, with_last, with_question, with_refusal, with_result, with_standing,
 };
 use crate::calls::{Asked, Call, read_call};
-use crate::case::Case;
 use crate::events::{admit, answer, deliver, step, withdraw};
-use crate::refusals::CaseRefusal;
 use std::alloc::Global;
+use yt_cases::{Case, CaseRefusal, with_entries, with_line};
 use yt_core::Core;
-use yt_limits::Budget;
-use yt_queue::Settings;
-use yt_reader::read_session;
 use yt_session::Session;
 
 /// What the calls of the case answer, in lines. It is refused where the case is not spelled as it should be, and for want of
 /// memory.
 pub fn told(alloc: Global, case: &Case) -> Result<Vec<u8>, CaseRefusal> {
-    let Some((budget, settings)) = case.settings else {
-        return Err(CaseRefusal::Spelling);
-    };
-    if 16_777_216 < case.session.len() || 4 < settings.retries {
-        return Err(CaseRefusal::Spelling);
-    }
-    let session = read_session(alloc, case.session.as_slice())?;
+    let (budget, settings) = case.settings()?;
+    let session = case.session(alloc)?;
     let mut core = Core::open(alloc, &session, settings, budget)?;
     let mut text = Vec::new(alloc);
-    for line in case.calls.as_slice() {
+    for line in case.calls() {
         text = with_told(alloc, text, &session, &mut core, line.as_str())?;
     }
     Ok(text)
@@ -79,7 +69,7 @@ fn drained(
 ) -> Result<Vec<u8>, CaseRefusal> {
     let before = core.history().len();
     core.drain(alloc)?;
-    with_later(alloc, text, &session.schema, core.history(), before)
+    with_entries(alloc, text, &session.schema, core.history(), before)
 }
 
 // Adds what is asked of the core.

@@ -1,7 +1,7 @@
 //! Answers and updates, spelled as in a session.
-use crate::refusals::CaseRefusal;
 use std::alloc::Global;
 use yt_base::{Choice, Name, Operation, Tuple, TupleList, Update};
+use yt_cases::CaseRefusal;
 use yt_forms::{
     RawChoice, RawFact, RawFactList, RawOperation, RawStatement, Section, Words, statement_at,
 };

@@ -18,6 +18,9 @@ pub enum CaseRefusal {
     /// The output took not all that was told.
     #[error("write fault")]
     Output,
+    /// Its calls have no end.
+    #[error("the calls have no end")]
+    Endless,
     /// There was not enough memory.
     #[error("out of memory")]
     Memory,
