@@ -1,8 +1,11 @@
-"""A desk over a core, one call after the other: tickets with the plan of a step, which is made later or found stale; and drawn calls."""
+"""A desk over a core, one call after the other: tickets with the plan of a step, which is made later or found stale.
+
+Calls are drawn at random, or the seats come in every order."""
 from .core import Core
 from .matching import mentions
 from .printing import session_text
-from .traces import entry_line
+from .results import result_text
+from .traces import entry_line, trace_text
 
 
 class Ticket:
@@ -117,3 +120,47 @@ def drawn(rng, maker, retries, precise):
         if desk.told(calls[-1]) == "quiet":
             break
     return case_told(maker.session, maker.steps, retries, precise, calls)
+
+
+class Order:
+    """An order of seats, one picked at each of the first calls. A seat that is idle comes again once something was done."""
+
+    def __init__(self, seats, calls):
+        self.seats, self.calls, self.picks = seats, calls, []
+
+    def played(self, desk):
+        """Has the seats of a desk come in this order until nothing is left to do."""
+        place, idle, told = 0, set(), ""
+        while told != "quiet":
+            there = [f"s{i + 1}" for i in range(self.seats) if f"s{i + 1}" not in idle]
+            if place < self.calls and place == len(self.picks):
+                self.picks.append((0, len(there)))
+            seat = there[self.picks[place][0] if place < self.calls else 0]
+            told, place = desk.told(f"{desk.due(seat)} {seat}"), place + 1
+            if told.startswith("idle"):
+                idle.add(seat)
+            elif told.startswith(("stepped", "stale", "delivered")):
+                idle.clear()
+
+    def goes_on(self):
+        """The next order, if there is one."""
+        while self.picks:
+            taken, count = self.picks.pop()
+            if taken + 1 < count:
+                self.picks.append((taken + 1, count))
+                return True
+        return False
+
+
+def explored(session, steps, retries, precise, seats, calls):
+    """A case that explores, and what is told of it: the number of schedules and of ends, and the ends in order."""
+    order, ends, count, goes_on = Order(seats, calls), set(), 0, True
+    while goes_on:
+        desk = Desk(session, steps, retries, precise)
+        order.played(desk)
+        ends.add(result_text(session, desk.core.result()) + trace_text(session.relations, desk.core.history))
+        count, goes_on = count + 1, order.goes_on()
+    head = b"case %d %d %s\n" % (steps, retries, b"precise" if precise else b"coarse")
+    case = head + session_text(session) + b"explore %d %d 1000000\ndone\n" % (seats, calls)
+    told = b"schedules %d, ends %d\n" % (count, len(ends)) + b"".join(sorted(ends))
+    return case, told.splitlines()

@@ -10,12 +10,9 @@
 #![tactic(auto)]
 
 mod explored;
-mod hands;
-mod leads;
 mod paths;
 mod played;
 mod scripts;
-mod tables;
 
 use crate::played::told;
 use yt_cases::{Case, tell};

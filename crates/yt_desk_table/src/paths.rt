@@ -1,9 +1,7 @@
 //! Every order in which the seats of a desk can come, one after the other.
-use crate::hands::{Move, Told};
-use crate::leads::{Lead, Turn};
-use crate::tables::Side;
 use std::alloc::Global;
 use yt_cases::CaseRefusal;
+use yt_play::{Lead, Move, Side, Told, Turn};
 
 // One that was taken of so many seats, counted from 0.
 #[derive(Clone, Copy)]

@@ -1,23 +1,18 @@
 //! A desk over the core of a session, played to its end.
 use crate::explored::{Extent, explored};
-use crate::leads::Lead;
 use crate::scripts::{Script, read_script};
-use crate::tables::Table;
 use std::alloc::Global;
 use std::sync::Wait;
 use yt_cases::{Case, CaseRefusal};
-use yt_core::Core as SessionCore;
-use yt_desk::{Core, Desk};
+use yt_core::Core;
 use yt_limits::Budget;
+use yt_play::{Lead, play};
 use yt_queue::Settings;
 use yt_report::result_text;
 use yt_seated::Seated;
 use yt_serial::mappings_of;
 use yt_session::Session;
 use yt_trace::trace_text;
-
-// No desk of a session has so many calls, if every seat is let go on.
-const MOST_CALLS: u32 = 1_000_000;
 
 /// What the case tells, in lines. It is refused where the case is not spelled as it should be, and for want of memory.
 pub fn told<R: Wait>(rt: &R, alloc: Global, case: &Case) -> Result<Vec<u8>, CaseRefusal> {
@@ -41,8 +36,8 @@ pub fn ended<'s, R: Wait, L: Lead>(
     settings: Settings,
     budget: Budget,
     lead: &mut L,
-) -> Result<SessionCore<'s>, CaseRefusal> {
-    let core = SessionCore::open(alloc, session, settings, budget)?;
+) -> Result<Core<'s>, CaseRefusal> {
+    let core = Core::open(alloc, session, settings, budget)?;
     core.is_legal();
     let seated = Seated::new(core, mappings_of(session).list());
     let (seated, result) = play(rt, alloc, seated, lead);
@@ -54,55 +49,9 @@ pub fn ended<'s, R: Wait, L: Lead>(
 }
 
 /// What the core came to, and its trace.
-pub fn end_text(
-    alloc: Global,
-    session: &Session,
-    core: &SessionCore<'_>,
-) -> Result<Vec<u8>, CaseRefusal> {
+pub fn end_text(alloc: Global, session: &Session, core: &Core<'_>) -> Result<Vec<u8>, CaseRefusal> {
     let mut text = result_text(alloc, session, &core.result(alloc)?)?;
     let trace = trace_text(alloc, &session.schema, core.history())?;
     text.extend_from_slice(trace.as_slice())?;
     Ok(text)
-}
-
-// Has the seats of a desk over the core come as the lead says, and gives the core.
-fn play<R: Wait, C: Core, L: Lead>(
-    rt: &R,
-    alloc: Global,
-    core: C,
-    lead: &mut L,
-) -> (C, Result<(), CaseRefusal>) {
-    let Ok(room) = Vec::with_capacity(alloc, 3) else {
-        return (core, Err(CaseRefusal::Memory));
-    };
-    let (desk, seats) = match Desk::new(alloc, core, 3) {
-        Ok(opened) => opened,
-        Err((core, _)) => return (core, Err(CaseRefusal::Memory)),
-    };
-    let (table, result) = led(rt, &desk, Table::of(seats), lead);
-    let seats = table.into_seats(rt, &desk, room);
-    (desk.close(seats), result)
-}
-
-// Makes the calls that the lead says.
-fn led<R: Wait, C: Core, L: Lead>(
-    rt: &R,
-    desk: &Desk<C>,
-    mut table: Table<C>,
-    lead: &mut L,
-) -> (Table<C>, Result<(), CaseRefusal>) {
-    for _ in 0..MOST_CALLS {
-        let due = table.due();
-        let turn = match lead.next(due) {
-            Ok(Some(turn)) => turn,
-            Ok(None) => return (table, Ok(())),
-            Err(refusal) => return (table, Err(refusal)),
-        };
-        let (next, told) = table.go(rt, desk, turn.side, turn.call);
-        table = next;
-        if let Err(refusal) = lead.hear(turn, told) {
-            return (table, Err(refusal));
-        }
-    }
-    (table, Err(CaseRefusal::Endless))
 }

@@ -1,11 +1,9 @@
 //! Calls of seats, one a line, and what is told of them.
-use crate::hands::{Move, Told};
-use crate::leads::{Lead, Turn};
-use crate::tables::Side;
 use std::alloc::Global;
 use std::fmt;
 use yt_cases::{CaseRefusal, number_of, with_entries, with_line};
 use yt_entries::Entry;
+use yt_play::{Lead, Move, Side, Told, Turn};
 use yt_schema::Schema;
 
 /// Calls in their order, how many of them were made, and what they answered.

@@ -1,8 +1,8 @@
 //! The three seats of a desk.
-ghost use Rattle.std.specs.Prelude.{◌≡◌, All, length, map};
+ghost use Rattle.std.specs.Prelude.{◌≡◌, ◌≤◌, [], All, length, map, vec_capacity};
 ghost use Rattle.yt_stamp.specs.Seats.{place_of};
 ghost use Rattle.yt_desk.specs.Seats.{IsSeatOf};
-ghost use Rattle.yt_desk_table.specs.Hands.{IsHand};
+ghost use Rattle.yt_play.specs.Hands.{IsTable, seats_on};
 
 use crate::hands::{Hand, Move, Told};
 use std::sync::Wait;
@@ -48,8 +48,11 @@ pub struct Table<C: Core> {
 
 impl<C: Core> Table<C> {
     /// The seats, none of which has anything in hand.
-    pub fn of(mut seats: Vec<Seat<Board<C>>>) -> Table<C>
+    pub fn of(_desk: &Desk<C>, mut seats: Vec<Seat<Board<C>>>) -> Table<C>
         requires three { length seats.items ≡ 3 }
+        requires own { All (IsSeatOf C.over C.history _desk.now) seats.items }
+        ensures own { IsTable C.over C.history C.is_snapshot C.is_plan _desk.now result }
+        ensures seats { seats_on result ≡ seats.items }
     {
         let (Some(third), Some(second), Some(first)) = (seats.pop(), seats.pop(), seats.pop())
         else {
@@ -68,7 +71,11 @@ impl<C: Core> Table<C> {
     }
 
     /// Makes the call of the seat.
-    pub fn go<R: Wait>(self, rt: &R, desk: &Desk<C>, side: Side, call: Move) -> (Table<C>, Told) {
+    pub fn go<R: Wait>(self, rt: &R, desk: &Desk<C>, side: Side, call: Move) -> (Table<C>, Told)
+        requires own { IsTable C.over C.history C.is_snapshot C.is_plan desk.now self }
+        ensures own { IsTable C.over C.history C.is_snapshot C.is_plan desk.now result.0 }
+        ensures places { map place_of (seats_on result.0) ≡ map place_of (seats_on self) }
+    {
         let Table {
             first,
             second,
@@ -111,13 +118,19 @@ impl<C: Core> Table<C> {
         }
     }
 
-    /// The seats; tickets in hand are given back.
+    /// The seats, in `room`; tickets in hand are given back.
     pub fn into_seats<R: Wait>(
         self,
         rt: &R,
         desk: &Desk<C>,
         mut room: Vec<Seat<Board<C>>>,
-    ) -> Vec<Seat<Board<C>>> {
+    ) -> Vec<Seat<Board<C>>>
+        requires own { IsTable C.over C.history C.is_snapshot C.is_plan desk.now self }
+        requires empty { room.items ≡ [] }
+        requires room { 3 ≤ vec_capacity room }
+        ensures own { All (IsSeatOf C.over C.history desk.now) result.items }
+        ensures places { map place_of result.items ≡ map place_of (seats_on self) }
+    {
         let Table {
             first,
             second,

@@ -4,7 +4,7 @@ ghost use Rattle.yt_stamp.specs.Seats.{place_of};
 ghost use Rattle.yt_desk.specs.Calls.{IsOutAt};
 ghost use Rattle.yt_desk.specs.Seats.{IsSeatOf};
 ghost use Rattle.yt_desk.specs.Tickets.{IsPlanFor};
-ghost use Rattle.yt_desk_table.specs.Hands.{IsHand};
+ghost use Rattle.yt_play.specs.Hands.{IsHand};
 
 use std::sync::Wait;
 use yt_desk::{Board, Core, Desk, Finished, Next, Ticket};
