@@ -1,0 +1,10 @@
+//! Cases as text, which the programs that try a core read: settings, a session, and calls.
+#![tactic(auto)]
+
+mod cases;
+mod refusals;
+mod texts;
+
+pub use crate::cases::Case;
+pub use crate::refusals::CaseRefusal;
+pub use crate::texts::{number_of, tell, with_entries, with_line};

@@ -1,0 +1,36 @@
+//! Lists of calls on a core: each is made, and its answer is told.
+//!
+//! The input has cases, one after the other. A case is a line `case STEPS RETRIES DEPS`, a session up to its line `end`, calls, one
+//! a line, and the line `done`. The update of number 3 is named `u3`. The calls that may make an event are `step u3`, `deliver u3`,
+//! `answer u3 CHOICE`, `withdraw u3`, `update LABEL CURATOR OPERATION`, which admits one more update, and `drain`; the calls that ask
+//! are `standing u3`, `question u3`, `counts` and `result`. Choices and operations are spelled as in a session.
+//!
+//! An event is told by its line of the trace, a drain by the lines of its events, a refusal by the word `refused` and its cause, and
+//! a question, and the result of a core without later updates, as the program `youtopia` tells them.
+#![tactic(auto)]
+
+mod answers;
+mod calls;
+mod events;
+mod making;
+mod statements;
+
+use crate::making::told;
+use yt_cases::{Case, tell};
+use yt_text::StdSink;
+
+fn main(rt: HostRuntime) -> anyhow::Result<()> {
+    let alloc = rt.alloc();
+    let mut out = StdSink::new(rt.stdout());
+    let mut case = Case::new(alloc);
+    for line in rt.lines(alloc) {
+        let line = line?;
+        if line.as_str() == "done" {
+            tell(&mut out, told(alloc, &case)?.as_slice())?;
+            case = Case::new(alloc);
+        } else {
+            case.take(line)?;
+        }
+    }
+    Ok(())
+}
