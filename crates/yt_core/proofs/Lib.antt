@@ -14,4 +14,3 @@ pub mod Placing
 pub mod Resting
 pub mod Resulting
 pub mod Committing
-pub mod Untouched
