@@ -15,4 +15,3 @@ pub mod Placing
 pub mod Resting
 pub mod Resulting
 pub mod Committing
-pub mod Untouched

@@ -23,7 +23,7 @@ use Rattle.yt_program.specs.Courses.{State as ProgramState}
 use Rattle.yt_queue.specs.Events.{HasWithdrawn}
 use Rattle.yt_queue.specs.Queues.{update_of, updates_of, AreFrom}
 use Rattle.yt_queue.specs.Records.{HasTrail}
-use Rattle.yt_queue.specs.Renewals.{RestartAlike, HaveRestarted}
+use Rattle.yt_queue.specs.Renewals.{AreThere, HaveRestarted}
 use Rattle.yt_queue.specs.Walks.{HasCommitted}
 use Rattle.yt_queue.specs.declared.records.Record.{Record}
 use Rattle.yt_steps.specs.Chase.{caused_chase}
@@ -55,7 +55,7 @@ trail_lost n r ws old copy new number same trail_is taken =
 
 pub loss_prepared : (ms : List Rule) (s : Settings) (c : ℕ) (old after : Kept) (r : Record) (upper : List Record) (found : List (Option CauseOfProgram)) (left : Aftermath)
     → AreFrom (suc r.program.attempt.number) upper → ClearedIf true r old after → WereLost ms s c old r upper found
-    → Cleared upper found after left.versions → RestartAlike found left.fresh.items → left.causes.items ≡ in_order found → IsLossPrepared ms s c old r upper left
+    → Cleared upper found after left.versions → AreThere found left.fresh.items → left.causes.items ≡ in_order found → IsLossPrepared ms s c old r upper left
 loss_prepared ms s c old after r upper found left from lost were cleared there causes B E lower few e ran versions =
     let us : List (Update (caused_chase ms B)) = updates_of ms B upper in
     let u : Update (caused_chase ms B) = update_of ms B r in

@@ -27,9 +27,9 @@ use Rattle.yt_program.specs.Courses.{State}
 use Rattle.yt_queue.specs.Programs.{IsPlanOf, HasSpent, HasWritten}
 use Rattle.yt_queue.specs.Records.{HasTrail}
 use Rattle.yt_queue.specs.Queues.{update_of, updates_of, AreFrom}
-use Rattle.yt_queue.specs.Renewals.{RestartAlike, restart_by}
+use Rattle.yt_queue.specs.Renewals.{AreThere}
 use Rattle.yt_queue.specs.declared.records.Record.{Record}
-use Rattle.yt_queue.proofs.Restarting.{restart_is}
+use Rattle.yt_queue.proofs.Restarting.{restart_by, restart_is}
 use Rattle.yt_steps.proofs.Steady.{apply_join}
 use Rattle.yt_steps.specs.Attempts.{outcome_in}
 use Rattle.yt_steps.specs.Chase.{caused_chase, ending}
@@ -190,7 +190,7 @@ found_in_loss a s new r upper plan ws found b d n spent f trail_is are B E lower
 -- What is left of the causes that were found, where update w stands above the lower ones now.
 pub left_by : (ms : List Rule) (B : ℕ) (causes : List (Cause (caused_chase ms B))) (E : List Fact) (lower : List (Update (caused_chase ms B))) (w : Update (caused_chase ms B)) (upper : List Record) (found : List (Option CauseOfProgram)) (mid : Kept) (left : Aftermath)
     → AreFrom (suc (suc (length lower))) upper → IsFound ms B causes (suc (suc (length lower))) (updates_of ms B upper) found → AreVersions ms B E (lower ++ w ∷ updates_of ms B upper) mid
-    → Cleared upper found mid left.versions → RestartAlike found left.fresh.items → left.causes.items ≡ in_order found → IsLeft ms B causes E lower w (suc (length lower)) (updates_of ms B upper) left
+    → Cleared upper found mid left.versions → AreThere found left.fresh.items → left.causes.items ≡ in_order found → IsLeft ms B causes E lower w (suc (length lower)) (updates_of ms B upper) left
 left_by ms B causes E lower w upper found mid left from is versions cleared there told =
     let us : List (Update (caused_chase ms B)) = updates_of ms B upper in
     let mid' : AreVersions ms B E ((lower ++ w ∷ []) ++ us) mid = subst (λ (xs : List (Update (caused_chase ms B))). AreVersions ms B E xs mid) (sym (one_by_one ms B lower w us)) versions in
@@ -198,11 +198,7 @@ left_by ms B causes E lower w upper found mid left from is versions cleared ther
     versions_cleared ms B (suc (suc (length lower))) E (lower ++ w ∷ []) upper found (all_found ms B found) mid left.versions (ap suc (more lower w)) from (all_marked ms B found) cleared mid' in
     record {
       told = ap (λ cs. map (cause_kept ms B) (map cause_of cs)) told ∙ is.told;
-      restarts =
-          λ xs m. restart_is (caused_chase ms B) (suc (suc (length lower))) xs us
-          ∙ ap (λ bs. restart_by (caused_chase ms B) (suc (suc (length lower))) bs us) m ∙ there ms B (suc (suc (length lower))) us
-          ∙ ap (λ bs. restart_by (caused_chase ms B) (suc (suc (length lower))) bs us) (sym (all_marked ms B found))
-          ∙ sym (restart_is (caused_chase ms B) (suc (suc (length lower))) (all_found ms B found) us) ∙ is.restarts (all_found ms B found) (all_marked ms B found);
+      restarts = λ xs m. is.restarts xs (m ∙ there);
       versions =
           subst (λ (xs : List (Update (caused_chase ms B))). AreVersions ms B E xs left.versions)
           (one_by_one ms B lower w (restart (caused_chase ms B) (suc (suc (length lower))) (all_found ms B found) us)
@@ -215,7 +211,7 @@ left_by ms B causes E lower w upper found mid left from is versions cleared ther
 
 pub step_prepared : (ms : List Rule) (s : Settings) (c : ℕ) (old after : Kept) (r : Record) (upper : List Record) (plan : Plan) (found : List (Option CauseOfProgram)) (ws : List Write) (p : Prepared)
     → AreFrom (suc r.program.attempt.number) upper → ShowsStep r plan old after → WereFound ms s c old after r upper plan found
-    → Cleared upper found after p.left.versions → RestartAlike found p.left.fresh.items → p.left.causes.items ≡ in_order found → HasWritten r plan ws → map change_of p.writes.items ≡ map change_of ws
+    → Cleared upper found after p.left.versions → AreThere found p.left.fresh.items → p.left.causes.items ≡ in_order found → HasWritten r plan ws → map change_of p.writes.items ≡ map change_of ws
     → IsPrepared ms s c old r upper plan p
 step_prepared ms s c old after r upper plan found ws p from shows were cleared there causes written same B E lower k n few e ran versions may isplan =
     let us : List (Update (caused_chase ms B)) = updates_of ms B upper in

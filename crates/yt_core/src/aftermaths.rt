@@ -1,8 +1,7 @@
 //! What an event leaves of the versions and of the updates above it, made before anything is changed.
-ghost use Rattle.std.specs.List.{list_any};
-ghost use Rattle.std.specs.Prelude.{◌≡◌, ◌++◌, [], length, is_some, not, IfOk, OnOk};
+ghost use Rattle.std.specs.Prelude.{◌≡◌, ◌++◌, length, is_some, IfOk, OnOk};
 ghost use Rattle.yt_queue.specs.Programs.{IsBetween};
-ghost use Rattle.yt_queue.specs.Renewals.{AllHaveOneMore, AreFresh, RestartAlike};
+ghost use Rattle.yt_queue.specs.Renewals.{AllHaveOneMore, AreFresh, AreThere};
 ghost use Rattle.yt_core.specs.Aftermaths.{Cleared, ClearedIf, AllBetween, in_order as in_order_lem, conflict_in, dependence_in, is_conflict as is_conflict_lem};
 
 use std::alloc::Global;
@@ -33,12 +32,9 @@ pub(crate) fn settled(
     requires between { AllBetween upper.now }
     ensures cleared { IfOk result (λ left. Cleared upper.now found.items versions left.versions) }
     ensures fresh { IfOk result (λ left. AreFresh upper.now left.fresh.items) }
-    ensures there { IfOk result (λ left. RestartAlike found.items left.fresh.items) }
+    ensures there { IfOk result (λ left. AreThere found.items left.fresh.items) }
     ensures causes { IfOk result (λ left. left.causes.items ≡ in_order_lem found.items) }
 {
-    if is_empty(&found) {
-        return Ok(untouched(alloc, versions));
-    }
     let fresh = fresh_programs(alloc, upper, &found)?;
     let versions = without_restarted(alloc, versions, upper, &found)?;
     let causes = in_order(alloc, found)?;
@@ -47,26 +43,6 @@ pub(crate) fn settled(
         fresh,
         causes,
     })
-}
-
-// What is left where none restarts.
-fn untouched(alloc: Global, versions: Versions) -> Aftermath
-    ensures versions { result.versions ≡ versions }
-    ensures fresh { result.fresh.items ≡ [] }
-    ensures causes { result.causes.items ≡ [] }
-{
-    Aftermath {
-        versions,
-        fresh: Vec::new(alloc),
-        causes: CauseList::new(alloc),
-    }
-}
-
-// Whether no cause was found.
-fn is_empty(found: &[Option<Cause>]) -> bool
-    ensures { result ≡ not (list_any is_some found.now) }
-{
-    !found.iter().any(|cause| cause.is_some())
 }
 
 // The versions without the trails of the updates that have a cause.

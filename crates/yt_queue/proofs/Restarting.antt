@@ -12,8 +12,14 @@ use Rattle.yt_program.specs.Courses.{State}
 use Rattle.yt_steps.specs.Chase.{caused_chase}
 use Rattle.yt_queue.specs.Queues.{update_of, updates_of, StandsAt, AreFrom}
 use Rattle.yt_queue.specs.Events.{KeepsPlace}
-use Rattle.yt_queue.specs.Renewals.{AreFresh, HasRestartedIf, restart_by}
+use Rattle.yt_queue.specs.Renewals.{AreFresh, HasRestartedIf}
 use Rattle.yt_queue.specs.declared.records.Record.{Record}
+
+-- The updates, of which those with a mark are restarted; the first is update n.
+abbrev pub restart_by : (M : Machine) → ℕ → List Bool → List (Update M) → List (Update M)
+restart_by M n bs [] = []
+restart_by M n [] (u ∷ us) = u ∷ us
+restart_by M n (b ∷ bs) (u ∷ us) = (if b then anew M n u else u) ∷ restart_by M (suc n) bs us
 
 pub restart_is : (M : Machine) (n : ℕ) (xs : List (Option (Cause M))) (us : List (Update M)) → restart M n xs us ≡ restart_by M n (map is_some xs) us
 restart_is M n xs [] = refl

@@ -1,11 +1,9 @@
 -- Restarts: fresh attempts, made before anything is changed, and the records that take them over.
-use Rattle.std.specs.Prelude.{◌≡◌, ℕ, suc, Bool, ◌+◌, ◌<◌, ◌^◌, List, [], ◌∷◌, ◌++◌, map, take, drop, Option, Some, None, is_some, if◌then◌else◌}
+use Rattle.std.specs.Prelude.{◌≡◌, ℕ, suc, ◌+◌, ◌<◌, ◌^◌, List, [], ◌∷◌, ◌++◌, map, take, drop, Option, Some, None, is_some, if◌then◌else◌}
 use Rattle.yt_entries.specs.declared.causes.Cause.{Cause}
 use Rattle.yt_machine.specs.Cascade as machine
 use Rattle.yt_machine.specs.Cascade.{anew}
-use Rattle.yt_machine.specs.Machine.{Machine}
 use Rattle.yt_machine.specs.Settle.{restart}
-use Rattle.yt_machine.specs.Updates.{Update}
 use Rattle.yt_model.specs.Mappings.{Rule}
 use Rattle.yt_program.specs.Courses.{State, between}
 use Rattle.yt_steps.specs.Attempts.{begun}
@@ -31,27 +29,16 @@ abbrev pub IsFreshIf : Record → Option State → Type 0
 IsFreshIf r None = Unit {0}
 IsFreshIf r (Some s) = IsFresh r s
 
--- For each of the first records its next attempt, or none; those behind them have none.
+-- For each of the records its next attempt, or none.
 abbrev pub AreFresh : List Record → List (Option State) → Type 0
 AreFresh [] [] = Unit {0}
 AreFresh [] (f ∷ fs) = ⊥
-AreFresh (r ∷ rs) [] = Unit {0}
+AreFresh (r ∷ rs) [] = ⊥
 AreFresh (r ∷ rs) (f ∷ fs) = IsFreshIf r f × AreFresh rs fs
 
 -- There is one exactly where there is a cause.
 abbrev pub AreThere : List (Option Cause) → List (Option State) → Type 0
 AreThere cs fs = map is_some fs ≡ map is_some cs
-
--- The updates, of which those with a mark are restarted; the first is update n.
-abbrev pub restart_by : (M : Machine) → ℕ → List Bool → List (Update M) → List (Update M)
-restart_by M n bs [] = []
-restart_by M n [] (u ∷ us) = u ∷ us
-restart_by M n (b ∷ bs) (u ∷ us) = (if b then anew M n u else u) ∷ restart_by M (suc n) bs us
-
--- Of whatever updates, those restart for which there is a next attempt that have a cause.
-abbrev pub RestartAlike : List (Option Cause) → List (Option State) → Type 0
-RestartAlike cs fs =
-    (ms : List Rule) (B n : ℕ) (us : List (Update (caused_chase ms B))) → restart_by (caused_chase ms B) n (map is_some fs) us ≡ restart_by (caused_chase ms B) n (map is_some cs) us
 
 -- The update begins its next attempt.
 abbrev pub HasRestarted : Record → Record → Type 0

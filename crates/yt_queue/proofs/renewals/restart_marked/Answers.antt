@@ -7,9 +7,9 @@ use Rattle.yt_program.specs.Courses.{State}
 use Rattle.yt_steps.specs.Chase.{caused_chase}
 use Rattle.yt_queue.specs.Queues.{updates_of}
 use Rattle.yt_queue.specs.Events.{KeepsPlace}
-use Rattle.yt_queue.specs.Renewals.{AreFresh, HasRestartedIf, restart_by}
+use Rattle.yt_queue.specs.Renewals.{AreFresh, HasRestartedIf}
 use Rattle.yt_queue.specs.declared.records.Record.{Record}
-use Rattle.yt_queue.proofs.Restarting.{put_there, fresh_within, fresh_rest, turned, restarted}
+use Rattle.yt_queue.proofs.Restarting.{restart_by, put_there, fresh_within, fresh_rest, turned, restarted}
 use Rattle.yt_queue.proofs.renewals.restart_marked.Goals as goal
 
 pub loop-program-preserved : goal.loop-program-preserved

@@ -4,7 +4,8 @@ use Rattle.std.specs.Vec.Iter.{into_iter_items, into_iter_len}
 use Rattle.yt_model.specs.Mappings.{Rule}
 use Rattle.yt_steps.specs.Chase.{caused_chase}
 use Rattle.yt_queue.specs.Queues.{updates_of, AreFrom}
-use Rattle.yt_queue.specs.Renewals.{AreFresh, restart_by}
+use Rattle.yt_queue.specs.Renewals.{AreFresh}
+use Rattle.yt_queue.proofs.Restarting.{restart_by}
 use Rattle.yt_queue.proofs.renewals.restart_marked.Given as goal
 
 abbrev pub invariant-loop-program : goal.invariant-loop-program
