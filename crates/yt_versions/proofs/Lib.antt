@@ -11,3 +11,4 @@ pub mod Noting
 pub mod Holding
 pub mod Sent
 pub mod Walking
+pub mod Basing

@@ -11,7 +11,7 @@ use Rattle.yt_model.specs.Cursors.{is_of, is_beyond, is_datum}
 use Rattle.yt_model.specs.Values.{Datum, Fact}
 use Rattle.yt_model.proofs.Order.{datum_total}
 use Rattle.yt_versions.specs.Cells.{value_in, values_cmp}
-use Rattle.yt_versions.specs.Zones.{place_beyond, place_of, place_in}
+use Rattle.yt_versions.specs.Zones.{place_beyond, place_of, place_in, place_lead}
 
 pub is_equal : (x y : ℕ) → is_eq (nat_cmp x y) ≡ (x == y)
 is_equal x y = by (nat_cmp x y) (ranked x y (nat_cmp x y) refl)
@@ -45,3 +45,12 @@ cell_is_in r c d past x =
     (sym (tied_then (values_cmp (value_in x) (Some d)) (place_of r past x.1))
     ∙ ap (λ b. b && is_eq (place_of r past x.1)) (value_is (value_in x) d)
     ∙ ap (λ b. is_datum d (value_in x) && b) (zone_is r past x.1))
+
+pub lead_is : (r : ℕ) (d : Datum) (past : Option Fact) (u : Fact) → is_eq (place_lead r d past u) ≡ (is_of r u && (is_datum d (value_in (0, u)) && is_beyond past u))
+lead_is r d past u =
+    sym (tied_then (nat_cmp u.relation r) (ordering_then (values_cmp (value_in (0, u)) (Some d)) (place_beyond past u)))
+    ∙ ap (λ b. b && is_eq (ordering_then (values_cmp (value_in (0, u)) (Some d)) (place_beyond past u))) (is_equal u.relation r)
+    ∙ ap (λ b. is_of r u && b)
+    (sym (tied_then (values_cmp (value_in (0, u)) (Some d)) (place_beyond past u))
+    ∙ ap (λ b. b && is_eq (place_beyond past u)) (value_is (value_in (0, u)) d)
+    ∙ ap (λ b. is_datum d (value_in (0, u)) && b) (beyond_is past u))

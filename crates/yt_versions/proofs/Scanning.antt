@@ -23,7 +23,7 @@ use Rattle.yt_tree.specs.Orders.{IsOrdered, is_sought}
 use Rattle.yt_tree.proofs.Sides.{sides}
 use Rattle.yt_versions.specs.Cells.{value_in, values_cmp, cell_cmp, same_cell, cell_total}
 use Rattle.yt_versions.specs.Chains.{AreRows}
-use Rattle.yt_versions.specs.Indexed.{cell_of, cell_marks, IsIndex}
+use Rattle.yt_versions.specs.Indexed.{cell_of, cell_marks, is_further, IsIndex}
 use Rattle.yt_versions.specs.Marked.{marks_at, no_marks, stands, visible}
 use Rattle.yt_versions.specs.Zones.{place_in}
 use Rattle.yt_versions.specs.declared.cells.Cell.{Cell}
@@ -132,6 +132,9 @@ module _ (n r c : ℕ) (d : Datum) (past : Option Fact) where
       lt-ltb c (length u.values)
       (long_enough u.values c (datum_there d (slice_get u.values c) (second (is_beyond past u) (has_at c d u) (second (is_of r u) (is_beyond past u && has_at c d u) h))))
 
+  further : (u : Fact) → scanned u ≡ true → nat_lt 0 c ≡ true → is_further c (length u.values) ≡ true
+  further u h later = both (nat_lt 0 c) (nat_lt c (length u.values)) later (has_column u h)
+
   regroup : (a b e : Bool) → (a && (b && e)) ≡ true → (b && (e && a)) ≡ true
   regroup a b e h =
       both b (e && a) (first b e (second a (b && e) h)) (both e a (second b e (second a (b && e) h)) (first a (b && e) h))
@@ -164,7 +167,7 @@ module _ (n r c : ℕ) (d : Datum) (past : Option Fact) where
 
   -- ---- the index
 
-  module _ (rows : List (Tuple × Marks)) (cells : List (Cell × Marks)) (order : AreRows rows) (sorted : IsOrdered (on cell_of cell_cmp) cells) (index : IsIndex rows cells) where
+  module _ (rows : List (Tuple × Marks)) (cells : List (Cell × Marks)) (order : AreRows rows) (sorted : IsOrdered (on cell_of cell_cmp) cells) (index : IsIndex rows cells) (later : nat_lt 0 c ≡ true) where
     -- The cell of a tuple that is seen and scanned.
     pub record Held (u : Fact) : Type 0 where
       pub cell : Cell × Marks
@@ -173,7 +176,7 @@ module _ (n r c : ℕ) (d : Datum) (past : Option Fact) where
       pub passes : sought cell ≡ true
 
     held : (u : Fact) → has (visible n rows) u ≡ true → scanned u ≡ true → Held u
-    held u h k = by (find (λ e. same_cell (c, u) (cell_of e.0)) cells) refl (ap (stands n) (index c u ∙ ap (λ b. cond b (marks_at rows u) no_marks) (has_column u k)) ∙ sym (seen_stands n rows order.order u) ∙ h)
+    held u h k = by (find (λ e. same_cell (c, u) (cell_of e.0)) cells) refl (ap (stands n) (index c u ∙ ap (λ b. cond b (marks_at rows u) no_marks) (further u k later)) ∙ sym (seen_stands n rows order.order u) ∙ h)
       where
         by : (o : Option (Cell × Marks)) → find (λ e. same_cell (c, u) (cell_of e.0)) cells ≡ o → stands n (unwrap_or (option_map (λ (e : Cell × Marks). e.1) o) no_marks) ≡ true → Held u
         by None f s = differ s
@@ -195,7 +198,7 @@ module _ (n r c : ℕ) (d : Datum) (past : Option Fact) where
         let at : cell_marks cells e.0.column u ≡ e.1 =
         ap (λ o. unwrap_or (option_map (λ (z : Cell × Marks). z.1) o) no_marks) (found_at (on_total cell_of cell_total) sought cells sorted f) in
         let same : marks_at rows u ≡ e.1 =
-        sym (index e.0.column u ∙ ap (λ b. cond b (marks_at rows u) no_marks) (ap (λ k. nat_lt k (length u.values)) (sought_column e h) ∙ has_column u (sought_tuple e h))) ∙ at in
+        sym (index e.0.column u ∙ ap (λ b. cond b (marks_at rows u) no_marks) (ap (λ k. is_further k (length u.values)) (sought_column e h) ∙ further u (sought_tuple e h) later)) ∙ at in
         seen_stands n rows order.order u ∙ ap (stands n) same ∙ sought_stands e h
 
     lower : (u : Fact) (e f : Cell × Marks) → (c, u) ≡ cell_of f.0 → sought e ≡ true → scanned u ≡ true → fact_cmp u (fact_of e.0.tuple) ≡ Less → cell_cmp (cell_of f.0) (cell_of e.0) ≡ Less

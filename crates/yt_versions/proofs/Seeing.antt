@@ -9,15 +9,16 @@ use Rattle.std.specs.declared.cmp.Ordering.{Ordering}
 use Rattle.std.specs.declared.cmp.Ordering.TheVariants.{Less}
 use Rattle.yt_base.specs.Meanings.{fact_of}
 use Rattle.yt_base.specs.declared.tuples.Tuple.{Tuple}
-use Rattle.yt_model.specs.Values.{Fact, fact_cmp}
+use Rattle.yt_model.specs.Values.{Datum, Fact, fact_cmp}
 use Rattle.yt_model.specs.Repository.{IsRepository}
-use Rattle.yt_model.specs.Cursors.{is_of, is_past, is_beyond}
+use Rattle.yt_model.specs.Cursors.{is_of, is_past, is_beyond, is_datum, is_scanned}
 use Rattle.yt_model.proofs.Bools.{and-true}
 use Rattle.yt_tree.specs.Orders.{IsOrdered, is_sought}
+use Rattle.yt_versions.specs.Cells.{value_in}
 use Rattle.yt_versions.specs.Marked.{stands, visible}
-use Rattle.yt_versions.specs.Zones.{place_beyond, place_of}
+use Rattle.yt_versions.specs.Zones.{place_beyond, place_lead, place_of}
 use Rattle.yt_versions.specs.declared.marks.Marks.{Marks}
-use Rattle.yt_versions.proofs.Placing.{beyond_is, zone_is}
+use Rattle.yt_versions.proofs.Placing.{beyond_is, lead_is, zone_is}
 
 -- ---- order
 
@@ -85,6 +86,11 @@ first_same n r e = zone_same n r None e ∙ ap (λ b. stands n e.1 && b) (and-tr
 
 pub after_same : (n : ℕ) (t : Fact) (e : Tuple × Marks) → is_sought (λ k. place_of t.relation (Some t) (fact_of k)) (λ f. stands n f.1) e ≡ (stands n e.1 && is_past t (fact_of e.0))
 after_same n t e = zone_same n t.relation (Some t) e
+
+pub lead_same : (n r : ℕ) (d : Datum) (past : Option Fact) (e : Tuple × Marks) → is_sought (λ k. place_lead r d past (fact_of k)) (λ f. stands n f.1) e ≡ (stands n e.1 && is_scanned r 0 d past (fact_of e.0))
+lead_same n r d past e =
+    let u = fact_of e.0 in
+    ap (λ b. b && stands n e.1) (lead_is r d past u ∙ ap (λ b. is_of r u && b) (swap (is_datum d (value_in (0, u))) (is_beyond past u))) ∙ swap (is_scanned r 0 d past u) (stands n e.1)
 
 -- The same of what is kept.
 pub seen_in_order : (n : ℕ) {inside es : List (Tuple × Marks)} → inside ≡ es → IsOrdered (on fact_of fact_cmp) inside → IsRepository (visible n es)

@@ -15,7 +15,7 @@ use Rattle.yt_model.proofs.Order.{datum_total, fact_total}
 use Rattle.yt_model.proofs.Bools.{and-false}
 use Rattle.yt_model.proofs.Sets.{same_exact}
 use Rattle.yt_versions.specs.Cells.{value_in, values_cmp, cell_cmp, same_cell, cell_total}
-use Rattle.yt_versions.specs.Indexed.{cell_of, cell_marks, IsIndex, CellsHave, set_entry}
+use Rattle.yt_versions.specs.Indexed.{cell_of, cell_marks, is_further, IsIndex, CellHas, CellsHave, set_entry}
 use Rattle.yt_versions.specs.Marked.{marks_at, no_marks}
 use Rattle.yt_versions.specs.declared.cells.Cell.{Cell}
 use Rattle.yt_versions.specs.declared.marks.Marks.{Marks}
@@ -86,26 +86,49 @@ below_next c i = by (nat_cmp c i) (ranked c i (nat_cmp c i) refl)
     by Equal m = lt-ltb c (i + 1) (omega arith)
     by Greater m = le-ltb c (i + 1) (omega arith) ∙ sym (le-ltb c i (omega arith))
 
--- No column lies below the first.
+-- No further column lies below the first.
 pub have_none : (s : Fact) (m : Marks) (cells : List (Cell × Marks)) → CellsHave s 0 m cells cells
-have_none s m cells c t = ap (λ b. cond b m (cell_marks cells c t)) (sym (ap (λ b. same_fact t s && b) (le-ltb c 0 (omega arith)) ∙ and-false (same_fact t s)))
+have_none s m cells c t = ap (λ b. cond b m (cell_marks cells c t)) (sym (ap (λ b. same_fact t s && (nat_lt 0 c && b)) (le-ltb c 0 (omega arith)) ∙ ap (λ b. same_fact t s && b) (and-false (nat_lt 0 c)) ∙ and-false (same_fact t s)))
+
+-- The first column has no cell.
+pub has_first : (s : Fact) (i : ℕ) (m : Marks) (cells : List (Cell × Marks)) → i ≡ 0 → CellHas s i m cells cells
+has_first s i m cells e c t = ap (λ b. cond b m (cell_marks cells c t)) (sym (ap (λ b. same_fact t s && b) (ap (λ k. nat_lt 0 c && is_eq (nat_cmp c k)) e ∙ none c) ∙ and-false (same_fact t s)))
+  where
+    by : (c : ℕ) (o : Ordering) → MatchOrdering o (c < 0) (c ≡ 0) (0 < c) → (nat_lt 0 c && is_eq o) ≡ false
+    by c Less m = and-false (nat_lt 0 c)
+    by c Equal m = ap (λ b. b && true) (le-ltb 0 c (omega (arith, m)))
+    by c Greater m = and-false (nat_lt 0 c)
+
+    none : (c : ℕ) → (nat_lt 0 c && is_eq (nat_cmp c 0)) ≡ false
+    none c = by c (nat_cmp c 0) (ranked c 0 (nat_cmp c 0) refl)
+
+-- A further column has its cell, once the marks are set there.
+pub has_further : (s : Fact) (i : ℕ) (m : Marks) (old new : List (Cell × Marks)) (k : Cell) (n : Marks) → 0 < i → new ≡ set_entry (on cell_of cell_cmp) old k n
+    → k.column ≡ i → fact_of k.tuple ≡ s → n ≡ m → CellHas s i m old new
+has_further s i m old new k n later set column tuple marks c t =
+    ap (λ es. cell_marks es c t) set
+    ∙ marks_set (on_total cell_of cell_total) (λ x. same_cell (c, t) (cell_of x)) (λ y z h. one_cell (c, t) y z h) old k n
+    ∙ ap (λ z. cond (same_cell (c, t) (cell_of k)) z (cell_marks old c t)) marks
+    ∙ ap (λ b. cond b m (cell_marks old c t)) (ap (λ z. same_cell (c, t) (z, fact_of k.tuple)) column ∙ ap (λ z. same_cell (c, t) (i, z)) tuple ∙ same_cell_is c i t s ∙ ap (λ b. same_fact t s && b) (more (nat_cmp c i) (ranked c i (nat_cmp c i) refl)))
+  where
+    more : (o : Ordering) → MatchOrdering o (c < i) (c ≡ i) (i < c) → is_eq o ≡ (nat_lt 0 c && is_eq o)
+    more Less m = sym (and-false (nat_lt 0 c))
+    more Equal m = ap (λ b. b && true) (sym (lt-ltb 0 c (omega (arith, later, m))))
+    more Greater m = sym (and-false (nat_lt 0 c))
 
 -- With the marks at one column more.
-pub have_more : (s : Fact) (i : ℕ) (m : Marks) (old mid new : List (Cell × Marks)) (k : Cell) (n : Marks) → CellsHave s i m old mid → new ≡ set_entry (on cell_of cell_cmp) mid k n
-    → k.column ≡ i → fact_of k.tuple ≡ s → n ≡ m → CellsHave s (i + 1) m old new
-have_more s i m old mid new k n had set column tuple marks c t =
-    ap (λ es. cell_marks es c t) set
-    ∙ marks_set (on_total cell_of cell_total) (λ x. same_cell (c, t) (cell_of x)) (λ y z h. one_cell (c, t) y z h) mid k n
-    ∙ ap (λ z. cond (same_cell (c, t) (cell_of k)) z (cell_marks mid c t)) marks
-    ∙ ap (λ b. cond b m (cell_marks mid c t)) (ap (λ z. same_cell (c, t) (z, fact_of k.tuple)) column ∙ ap (λ z. same_cell (c, t) (i, z)) tuple ∙ same_cell_is c i t s)
-    ∙ ap (cond (same_fact t s && is_eq (nat_cmp c i)) m) (had c t)
-    ∙ by (same_fact t s) (is_eq (nat_cmp c i)) (nat_lt c i)
-    ∙ ap (λ b. cond (same_fact t s && b) m (cell_marks old c t)) (sym (below_next c i))
+pub have_more : (s : Fact) (i : ℕ) (m : Marks) (old mid new : List (Cell × Marks)) → CellsHave s i m old mid → CellHas s i m mid new → CellsHave s (i + 1) m old new
+have_more s i m old mid new had has c t =
+    has c t
+    ∙ ap (cond (same_fact t s && (nat_lt 0 c && is_eq (nat_cmp c i))) m) (had c t)
+    ∙ by (same_fact t s) (nat_lt 0 c) (is_eq (nat_cmp c i)) (nat_lt c i)
+    ∙ ap (λ b. cond (same_fact t s && (nat_lt 0 c && b)) m (cell_marks old c t)) (sym (below_next c i))
   where
-    by : (a b e : Bool) → cond (a && b) m (cond (a && e) m (cell_marks old c t)) ≡ cond (a && (b || e)) m (cell_marks old c t)
-    by true true e = refl
-    by true false e = refl
-    by false b e = refl
+    by : (a f b e : Bool) → cond (a && (f && b)) m (cond (a && (f && e)) m (cell_marks old c t)) ≡ cond (a && (f && (b || e))) m (cell_marks old c t)
+    by true true true e = refl
+    by true true false e = refl
+    by true false b e = refl
+    by false f b e = refl
 
 -- ---- rows
 
@@ -128,20 +151,20 @@ pub index_kept : (s : Fact) (m : Marks) (rows more : List (Tuple × Marks)) (cel
     → ((t : Fact) → marks_at more t ≡ cond (same_fact t s) m (marks_at rows t)) → IsIndex more after
 index_kept s m rows more cells after index have set c t = have c t ∙ by (same_fact t s) refl
   where
-    at : (b : Bool) → nat_lt c (length t.values) ≡ b → same_fact t s ≡ true → cond b m (cell_marks cells c t) ≡ cond b (marks_at more t) no_marks
+    at : (b : Bool) → is_further c (length t.values) ≡ b → same_fact t s ≡ true → cond b m (cell_marks cells c t) ≡ cond b (marks_at more t) no_marks
     at true e h = sym (set t ∙ ap (λ z. cond z m (marks_at rows t)) h)
     at false e h = index c t ∙ ap (λ z. cond z (marks_at rows t) no_marks) e
 
-    by : (b : Bool) → same_fact t s ≡ b → cond (b && nat_lt c (length s.values)) m (cell_marks cells c t) ≡ cond (nat_lt c (length t.values)) (marks_at more t) no_marks
+    by : (b : Bool) → same_fact t s ≡ b → cond (b && is_further c (length s.values)) m (cell_marks cells c t) ≡ cond (is_further c (length t.values)) (marks_at more t) no_marks
     by true h =
-        ap (λ u. cond (nat_lt c (length u.values)) m (cell_marks cells c t)) (sym (same_exact t s h)) ∙ at (nat_lt c (length t.values)) refl h
+        ap (λ u. cond (is_further c (length u.values)) m (cell_marks cells c t)) (sym (same_exact t s h)) ∙ at (is_further c (length t.values)) refl h
     by false h =
-        index c t ∙ ap (λ z. cond (nat_lt c (length t.values)) z no_marks) (sym (set t ∙ ap (λ z. cond z m (marks_at rows t)) h))
+        index c t ∙ ap (λ z. cond (is_further c (length t.values)) z no_marks) (sym (set t ∙ ap (λ z. cond z m (marks_at rows t)) h))
 
 -- Nothing is indexed where there is nothing.
 pub index_empty : {rows : List (Tuple × Marks)} {cells : List (Cell × Marks)} → rows ≡ [] → cells ≡ [] → IsIndex rows cells
 index_empty {rows} {cells} e f c t =
-    ap (λ es. cell_marks es c t) f ∙ by (nat_lt c (length t.values)) ∙ ap (λ es. cond (nat_lt c (length t.values)) (marks_at es t) no_marks) (sym e)
+    ap (λ es. cell_marks es c t) f ∙ by (is_further c (length t.values)) ∙ ap (λ es. cond (is_further c (length t.values)) (marks_at es t) no_marks) (sym e)
   where
     by : (b : Bool) → no_marks ≡ cond b no_marks no_marks
     by true = refl

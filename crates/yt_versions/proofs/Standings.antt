@@ -18,10 +18,11 @@ use Rattle.yt_tree.specs.Orders.{is_at, without}
 use Rattle.yt_versions.specs.Chains.{newest_cmp, AreRows}
 use Rattle.yt_versions.specs.Marked.{marks_at, no_marks}
 use Rattle.yt_versions.specs.Standing.{Kept, StandFor, Published, Retracted, Folded, mark_in, written, last_written, wrote_in}
-use Rattle.yt_versions.specs.Touches.{touched, touched_at, based_at, written_at, unwritten_at, published_at, retracted_at, settled_at, folded_at}
+use Rattle.yt_versions.specs.Based.{base_marks, based_at}
+use Rattle.yt_versions.specs.Touches.{touched, touched_at, written_at, unwritten_at, published_at, retracted_at, settled_at, folded_at}
 use Rattle.yt_versions.specs.Trails.{SameBut, no_trails, writes_to}
 use Rattle.yt_versions.specs.declared.marks.Marks.{Marks}
-use Rattle.yt_versions.specs.declared.marks.Touch.TheVariants.{Mark, Unmark, Settle, Found}
+use Rattle.yt_versions.specs.declared.marks.Touch.TheVariants.{Mark, Unmark, Settle}
 use Rattle.yt_versions.proofs.Looking.{look_insert, look_without}
 
 -- ---- one marker
@@ -242,27 +243,18 @@ module _ (n : ℕ) (ws : List Change) (old new : Kept) (rows : AreRows new.rows)
 
 -- ---- put into the base
 
-based_base : (ss : List Fact) (t : Fact) (m : Marks) → (based_at ss t m).in_base ≡ (has ss t || m.in_base)
-based_base [] t m = refl
-based_base (s ∷ ss) t m = based_base ss t (touched_at Found s t m) ∙ by (same_fact t s) (has ss t)
-  where
-    by : (b h : Bool) → (h || (cond b (touched Found m) m).in_base) ≡ ((b || h) || m.in_base)
-    by true true = refl
-    by true false = refl
-    by false h = refl
+based_base : (b : Bool) → (cond b base_marks no_marks).in_base ≡ b
+based_base true = refl
+based_base false = refl
 
-based_chain : (n : ℕ) (ss : List Fact) (t : Fact) (m : Marks) → mark_in (based_at ss t m) n ≡ mark_in m n
-based_chain n [] t m = refl
-based_chain n (s ∷ ss) t m = based_chain n ss t (touched_at Found s t m) ∙ kept_by (λ k. mark_in k n) (touched Found) m refl (same_fact t s)
+based_chain : (n : ℕ) (b : Bool) → mark_in (cond b base_marks no_marks) n ≡ None
+based_chain n true = refl
+based_chain n false = refl
 
-or_nothing : (a : Bool) → (a || false) ≡ a
-or_nothing true = refl
-or_nothing false = refl
-
-pub based_stands : (D : List Fact) (v : Kept) → AreRows v.rows → ((t : Fact) → marks_at v.rows t ≡ based_at D t no_marks) → v.wrote ≡ [] → StandFor v D no_trails
+pub based_stands : (D : List Fact) (v : Kept) → AreRows v.rows → ((t : Fact) → marks_at v.rows t ≡ based_at D t) → v.wrote ≡ [] → StandFor v D no_trails
 based_stands D v rows made none = record {
   rows = rows;
-  base = λ t. ap (λ (m : Marks). m.in_base) (made t) ∙ based_base D t no_marks ∙ or_nothing (has D t);
-  marks = λ n t. ap (λ m. mark_in m n) (made t) ∙ based_chain n D t no_marks;
+  base = λ t. ap (λ (m : Marks). m.in_base) (made t) ∙ based_base (has D t);
+  marks = λ n t. ap (λ m. mark_in m n) (made t) ∙ based_chain n (has D t);
   relations = λ n r. ap (λ (es : List (ℕ × List ℕ)). wrote_in es n r) none;
 }

@@ -1,7 +1,8 @@
--- An index by cells: each tuple with its marks once more for each of its columns.
-use Rattle.std.specs.Prelude.{◌≡◌, ℕ, ◌&&◌, cond, List, find, length, nat_lt, unwrap_or}
+-- An index by cells: each tuple with its marks once more for each of its further columns. By the first the rows are in order.
+use Rattle.std.specs.Prelude.{◌≡◌, ℕ, Bool, ◌&&◌, cond, List, find, length, nat_lt, unwrap_or}
 use Rattle.std.specs.BTreeMap.{insert_entry}
 use Rattle.std.specs.Option.{option_map}
+use Rattle.std.specs.Ordering.{is_eq, nat_cmp}
 use Rattle.std.specs.declared.cmp.Ordering.{Ordering}
 use Rattle.yt_base.specs.declared.tuples.Tuple.{Tuple}
 use Rattle.yt_base.specs.Meanings.{fact_of}
@@ -20,13 +21,21 @@ cell_of c = (c.column, fact_of c.tuple)
 abbrev pub cell_marks : List (Cell × Marks) → ℕ → Fact → Marks
 cell_marks cells c t = unwrap_or (option_map (λ e. e.1) (find (λ e. same_cell (c, t) (cell_of e.0)) cells)) no_marks
 
--- Each tuple has its marks at each of its columns, and there is nothing else.
-abbrev pub IsIndex : List (Tuple × Marks) → List (Cell × Marks) → Type 0
-IsIndex rows cells = (c : ℕ) (t : Fact) → cell_marks cells c t ≡ cond (nat_lt c (length t.values)) (marks_at rows t) no_marks
+-- Column c is not the first, and below n.
+abbrev pub is_further : ℕ → ℕ → Bool
+is_further c n = nat_lt 0 c && nat_lt c n
 
--- Tuple s has the marks m at each of its columns below n, and the others have what they had.
+-- Each tuple has its marks at each of its further columns, and there is nothing else.
+abbrev pub IsIndex : List (Tuple × Marks) → List (Cell × Marks) → Type 0
+IsIndex rows cells = (c : ℕ) (t : Fact) → cell_marks cells c t ≡ cond (is_further c (length t.values)) (marks_at rows t) no_marks
+
+-- Tuple s has the marks m at each of its further columns below n, and the others have what they had.
 abbrev pub CellsHave : Fact → ℕ → Marks → List (Cell × Marks) → List (Cell × Marks) → Type 0
-CellsHave s n m old new = (c : ℕ) (t : Fact) → cell_marks new c t ≡ cond (same_fact t s && nat_lt c n) m (cell_marks old c t)
+CellsHave s n m old new = (c : ℕ) (t : Fact) → cell_marks new c t ≡ cond (same_fact t s && is_further c n) m (cell_marks old c t)
+
+-- The same at column i alone, if that is a further one.
+abbrev pub CellHas : Fact → ℕ → Marks → List (Cell × Marks) → List (Cell × Marks) → Type 0
+CellHas s i m old new = (c : ℕ) (t : Fact) → cell_marks new c t ≡ cond (same_fact t s && (nat_lt 0 c && is_eq (nat_cmp c i))) m (cell_marks old c t)
 
 -- The entries with m at the key, or without it where m says that the tuple is nowhere.
 abbrev pub set_entry : {K : Type 0} → (K → K → Ordering) → List (K × Marks) → K → Marks → List (K × Marks)

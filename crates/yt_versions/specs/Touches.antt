@@ -7,23 +7,17 @@ use Rattle.yt_tree.specs.Orders.{without}
 use Rattle.yt_versions.specs.Chains.{newest_cmp}
 use Rattle.yt_versions.specs.declared.marks.Marks.{Marks}
 use Rattle.yt_versions.specs.declared.marks.Touch.{Touch}
-use Rattle.yt_versions.specs.declared.marks.Touch.TheVariants.{Mark, Unmark, Settle, Found}
+use Rattle.yt_versions.specs.declared.marks.Touch.TheVariants.{Mark, Unmark, Settle}
 
 -- The marks after a touch.
 abbrev pub touched : Touch → Marks → Marks
 touched (Mark n b) m = record { in_base = m.in_base; chain = insert_entry newest_cmp m.chain (record { 0 = n }) b }
 touched (Unmark n) m = record { in_base = m.in_base; chain = without newest_cmp (record { 0 = n }) m.chain }
 touched (Settle n b) m = record { in_base = b; chain = without newest_cmp (record { 0 = n }) m.chain }
-touched Found m = record { in_base = true; chain = m.chain }
 
 -- The marks of t after a touch of s.
 abbrev pub touched_at : Touch → Fact → Fact → Marks → Marks
 touched_at c s t m = cond (same_fact t s) (touched c m) m
-
--- The marks of t after these tuples are put into the base.
-abbrev pub based_at : List Fact → Fact → Marks → Marks
-based_at [] t m = m
-based_at (s ∷ ss) t m = based_at ss t (touched_at Found s t m)
 
 -- The marks of t after one write of update n.
 abbrev pub written_at : ℕ → Change → Fact → Marks → Marks

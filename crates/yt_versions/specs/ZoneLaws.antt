@@ -1,19 +1,19 @@
 -- What lies before what is looked for, or past it, stays so on the way down or up.
-use Rattle.std.proofs.Common.{◌≡◌, ℕ, ◌≤◌, arith, ap, refl, sym, ◌∙◌, Bool, true, false, cond, Option, Some, None}
+use Rattle.std.proofs.Common.{◌≡◌, ℕ, ◌≤◌, arith, ap, refl, sym, ◌∙◌, Bool, true, false, cond, Option, Some, None, List, [], ◌∷◌, slice_get}
 use Rattle.std.specs.Cmp.{IsTotalOrder, nat_cmp_total}
-use Rattle.std.specs.Cmp.Lexicographic.{options_total}
+use Rattle.std.specs.Cmp.Lexicographic.{options_total, slice_cmp}
 use Rattle.std.proofs.lemmas.Bool.{leb-true, le-leb}
 use Rattle.std.specs.Ordering.{is_le, nat_cmp, ordering_reverse, ordering_then}
 use Rattle.std.specs.Prelude.{nat_le}
 use Rattle.yt_model.proofs.Ranges.{relation_le}
 use Rattle.std.specs.declared.cmp.Ordering.{Ordering}
 use Rattle.std.specs.declared.cmp.Ordering.TheVariants.{Less, Equal, Greater}
-use Rattle.yt_model.specs.Values.{Datum, Fact, fact_cmp}
+use Rattle.yt_model.specs.Values.{Datum, Fact, datum_cmp, fact_cmp}
 use Rattle.yt_model.specs.Cursors.{is_beyond}
 use Rattle.yt_model.proofs.Order.{datum_total, fact_total}
 use Rattle.yt_tree.specs.Rising.{lt_rises}
 use Rattle.yt_versions.specs.Cells.{value_in, values_cmp, cell_cmp}
-use Rattle.yt_versions.specs.Zones.{place_beyond, place_of, place_in}
+use Rattle.yt_versions.specs.Zones.{place_beyond, place_of, place_in, place_lead}
 
 -- ---- one comparison, and then another
 
@@ -128,6 +128,30 @@ pub in_before : (r c : ℕ) (d : Datum) (past : Option Fact) (x y : ℕ × Fact)
 in_before r c d past x y h =
     then_before nat_cmp_total (λ (z : ℕ × Fact). z.0) c (by_value r d past) x y (first_up (nat_cmp x.0 y.0) _ h)
     (λ e. value_before r d past x y (then_second (nat_cmp x.0 y.0) _ h e))
+
+-- ---- at a value in the first column
+
+first_value : (x y : Fact) → slice_cmp datum_cmp x.values y.values ≡ Less → values_cmp (value_in (0, x)) (value_in (0, y)) ≡ Greater → ⊥
+first_value x y h g = by x.values y.values h g
+  where
+    by : (xs ys : List Datum) → slice_cmp datum_cmp xs ys ≡ Less → values_cmp (slice_get xs 0) (slice_get ys 0) ≡ Greater → ⊥
+    by [] [] h g = cc
+    by [] (y ∷ ys) h g = cc
+    by (x ∷ xs) [] h g = cc
+    by (x ∷ xs) (y ∷ ys) h g = first_up (datum_cmp x y) _ h g
+
+abbrev by_lead : Datum → Option Fact → Fact → Ordering
+by_lead d past u = ordering_then (values_cmp (value_in (0, u)) (Some d)) (place_beyond past u)
+
+pub lead_past : (r : ℕ) (d : Datum) (past : Option Fact) (x y : Fact) → fact_cmp x y ≡ Less → place_lead r d past x ≡ Greater → place_lead r d past y ≡ Greater
+lead_past r d past x y h =
+    then_past nat_cmp_total (λ (t : Fact). t.relation) r (by_lead d past) x y (first_up (nat_cmp x.relation y.relation) _ h)
+    (λ e. then_past (options_total datum_total) (λ (t : Fact). value_in (0, t)) (Some d) (place_beyond past) x y (first_value x y (then_second (nat_cmp x.relation y.relation) _ h e)) (λ _. beyond_past past x y h))
+
+pub lead_before : (r : ℕ) (d : Datum) (past : Option Fact) (x y : Fact) → fact_cmp x y ≡ Less → place_lead r d past y ≡ Less → place_lead r d past x ≡ Less
+lead_before r d past x y h =
+    then_before nat_cmp_total (λ (t : Fact). t.relation) r (by_lead d past) x y (first_up (nat_cmp x.relation y.relation) _ h)
+    (λ e. then_before (options_total datum_total) (λ (t : Fact). value_in (0, t)) (Some d) (place_beyond past) x y (first_value x y (then_second (nat_cmp x.relation y.relation) _ h e)) (λ _. beyond_before past x y h))
 
 -- ---- from a relation on
 

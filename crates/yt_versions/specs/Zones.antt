@@ -18,3 +18,7 @@ place_of r past u = ordering_then (nat_cmp u.relation r) (place_beyond past u)
 -- To the cells of such tuples that have the value d in column c.
 abbrev pub place_in : ℕ → ℕ → Datum → Option Fact → ℕ × Fact → Ordering
 place_in r c d past x = ordering_then (nat_cmp x.0 c) (ordering_then (values_cmp (value_in x) (Some d)) (place_of r past x.1))
+
+-- To the tuples of relation r that have the value d in the first column and come after the given tuple, if one is given.
+abbrev pub place_lead : ℕ → Datum → Option Fact → Fact → Ordering
+place_lead r d past u = ordering_then (nat_cmp u.relation r) (ordering_then (values_cmp (value_in (0, u)) (Some d)) (place_beyond past u))

@@ -1,6 +1,7 @@
 //! What is known of one tuple.
 ghost use Rattle.std.specs.Prelude.{◌≡◌, OnOk};
 ghost use Rattle.yt_versions.specs.Chains.{AreMarks};
+ghost use Rattle.yt_versions.specs.Based.{base_marks};
 ghost use Rattle.yt_versions.specs.Touches.{touched};
 ghost use Rattle.yt_versions.specs.Marked.{no_marks, is_nowhere as is_nowhere_lem, stands as stands_lem};
 ghost use Rattle.yt_versions.specs.Unders.{is_under, under_rises};
@@ -21,14 +22,12 @@ pub struct Marks {
     pub chain: Chain,
 }
 
-/// What is done to the marks of a tuple: an update's marker is put in or taken out, or goes over into the base, or the tuple
-/// is found in the base.
+/// What is done to the marks of a tuple: an update's marker is put in or taken out, or goes over into the base.
 #[derive(Clone, Copy)]
 pub enum Touch {
     Mark(u32, bool),
     Unmark(u32),
     Settle(u32, bool),
-    Found,
 }
 
 impl Share for Marks {
@@ -66,6 +65,16 @@ impl Marks {
         }
     }
 
+    /// The marks of a tuple that the base has and no update wrote.
+    pub fn based() -> Marks
+        ensures based { result ≡ base_marks }
+    {
+        Marks {
+            in_base: true,
+            chain: TreeMap::new(),
+        }
+    }
+
     /// Touches the marks. It is refused only for want of memory.
     pub fn touch(&mut self, alloc: Global, touch: Touch) -> Result<(), Memory>
         ensures ok { OnOk result (self.new ≡ touched touch self.old) }
@@ -85,10 +94,6 @@ impl Marks {
             Touch::Settle(number, inserted) => {
                 self.chain.remove(&Reverse(number))?;
                 self.in_base = inserted;
-                return Ok(());
-            }
-            Touch::Found => {
-                self.in_base = true;
                 return Ok(());
             }
         }

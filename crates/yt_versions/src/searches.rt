@@ -5,8 +5,8 @@ ghost use Rattle.yt_model.specs.Values.{fact_cmp};
 ghost use Rattle.yt_base.specs.Meanings.{fact_of, datum_of};
 ghost use Rattle.yt_versions.specs.Indexed.{cell_of};
 ghost use Rattle.yt_versions.specs.Marked.{stands};
-ghost use Rattle.yt_versions.specs.Zones.{place_beyond, place_of, place_in};
-ghost use Rattle.yt_versions.specs.ZoneLaws.{at_before, at_past, beyond_before, beyond_past, of_before, of_past, in_before, in_past, from_rises};
+ghost use Rattle.yt_versions.specs.Zones.{place_beyond, place_of, place_in, place_lead};
+ghost use Rattle.yt_versions.specs.ZoneLaws.{at_before, at_past, beyond_before, beyond_past, of_before, of_past, in_before, in_past, lead_before, lead_past, from_rises};
 ghost use Rattle.yt_versions.specs.Walks.{is_from};
 
 use crate::cells::{Cell, values_order};
@@ -83,6 +83,43 @@ impl<'c> Search<Shared<Tuple>, Marks> for Zone<'c> {
 
     fn place(&self, key: &Shared<Tuple>) -> Ordering {
         place_in_relation(self.relation, self.past, key.get())
+    }
+
+    fn passes(&self, entry: &(Shared<Tuple>, Marks)) -> bool {
+        entry.1.stands(self.number)
+    }
+}
+
+/// What is of the relation, has the value in its first column, comes after a tuple, where one is given, and is there for the
+/// update.
+#[derive(Drop)]
+pub struct Lead<'c> {
+    pub number: u32,
+    pub relation: u16,
+    pub value: &'c Value,
+    pub past: Option<&'c Tuple>,
+}
+
+impl<'c> Search<Shared<Tuple>, Marks> for Lead<'c> {
+    ghost place = { λ s k. place_lead s.relation (datum_of s.value.now) (option_map fact_of (option_copied s.past)) (fact_of k) };
+
+    ghost passes = { λ s e. stands s.number e.1 };
+
+    ghost stays_past = { λ s x y. lead_past s.relation (datum_of s.value.now) (option_map fact_of (option_copied s.past)) (fact_of x) (fact_of y) };
+
+    ghost stays_before = { λ s x y. lead_before s.relation (datum_of s.value.now) (option_map fact_of (option_copied s.past)) (fact_of x) (fact_of y) };
+
+    fn place(&self, key: &Shared<Tuple>) -> Ordering {
+        let tuple = key.get();
+        match tuple.relation.cmp(&self.relation) {
+            Ordering::Less => Ordering::Less,
+            Ordering::Equal => match values_order(tuple.values.get(0), Some(self.value)) {
+                Ordering::Less => Ordering::Less,
+                Ordering::Equal => place_after(self.past, tuple),
+                Ordering::Greater => Ordering::Greater,
+            },
+            Ordering::Greater => Ordering::Greater,
+        }
     }
 
     fn passes(&self, entry: &(Shared<Tuple>, Marks)) -> bool {

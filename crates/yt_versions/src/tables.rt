@@ -3,13 +3,14 @@ ghost use Rattle.std.specs.Prelude.{◌≡◌, [], length, map, IfOk, OnOk};
 ghost use Rattle.yt_base.specs.Meanings.{fact_of};
 ghost use Rattle.yt_tree.specs.Orders.{IsOrdered};
 ghost use Rattle.yt_versions.specs.Chains.{AreMarks, AreRows};
-ghost use Rattle.yt_versions.specs.Indexed.{CellsHave, set_entry};
+ghost use Rattle.yt_versions.specs.Indexed.{CellHas, CellsHave, IsIndex, set_entry};
+ghost use Rattle.yt_versions.specs.Based.{base_marks, AreBased};
 ghost use Rattle.yt_versions.specs.Marked.{marks_at};
 ghost use Rattle.std.specs.Option.{option_map, option_copied};
 
 use crate::cells::Cell;
 use crate::marks::{Marks, Touch};
-use crate::searches::{Beyond, From, Held, Scan, Zone};
+use crate::searches::{Beyond, From, Held, Lead, Scan, Zone};
 use std::alloc::{AllocError, Global};
 use std::marker::Model;
 use yt_base::{List, TryCopy, Tuple, TupleList, Value};
@@ -39,18 +40,22 @@ impl Model for Table {
 }
 
 impl Table {
+    ghost use Rattle.yt_model.specs.Repository.{IsRepository};
     ghost use Rattle.yt_model.specs.Values.{Fact};
+    ghost use Rattle.yt_versions.specs.Based.{based_at};
     ghost use Rattle.yt_versions.specs.Touches.{touched_at};
 
-    /// No tuples.
-    pub fn new() -> Table
-        ensures empty { result ≡ [] }
-        ensures in_order { AreRows result }
+    /// The table of these tuples, all of them in the base, made in as many steps as there are rows. It is refused only for want
+    /// of memory.
+    pub fn of(alloc: Global, base: &[Tuple]) -> Result<Table, Memory>
+        requires sorted { IsRepository (map fact_of base.now) }
+        ensures marks { IfOk result (λ table. (t : Fact) → marks_at table t ≡ based_at (map fact_of base.now) t) }
+        ensures in_order { IfOk result AreRows }
     {
-        Table {
-            rows: TreeMap::new(),
-            cells: TreeMap::new(),
-        }
+        let mut cells = TreeMap::new();
+        let entries = all_based(&mut cells, alloc, base)?;
+        let rows = TreeMap::from_sorted(alloc, entries)?;
+        Ok(Table { rows, cells })
     }
 
     /// Another handle to the same table.
@@ -182,6 +187,16 @@ impl Table {
         ensures found { option_map fact_of (option_copied result) ≡ scan_of (visible number self.now) relation column (datum_of value.now) (option_map fact_of (option_copied past.entry)) }
         ensures in_order { IsRepository (visible number self.now) }
     {
+        if column == 0 {
+            return tuple_in(
+                self.rows.find_in(&Lead {
+                    number,
+                    relation,
+                    value,
+                    past,
+                }),
+            );
+        }
         let found = self.cells.find_in(&Scan {
             number,
             relation,
@@ -240,7 +255,7 @@ fn set<K: Ord + Share>(
     }
 }
 
-// Puts the marks at each cell of the tuple.
+// Puts the marks at each further cell of the tuple.
 fn set_cells(
     cells: &mut TreeMap<Cell, Marks>,
     alloc: Global,
@@ -250,13 +265,67 @@ fn set_cells(
     ensures ok { OnOk result (CellsHave (fact_of tuple.now) (length (fact_of tuple.now).values) marks.now cells.old cells.new) }
 {
     for column in 0..tuple.get().values.len() {
-        let cell = Cell {
-            column,
-            tuple: tuple.share()?,
-        };
-        set(cells, alloc, cell, marks.share()?)?;
+        set_cell(cells, alloc, tuple, column, marks)?;
     }
     Ok(())
+}
+
+// Puts the marks at the cell of the tuple in this column, if it is not the first.
+fn set_cell(
+    cells: &mut TreeMap<Cell, Marks>,
+    alloc: Global,
+    tuple: &Shared<Tuple>,
+    column: usize,
+    marks: &Marks,
+) -> Result<(), Memory>
+    ensures ok { OnOk result (CellHas (fact_of tuple.now) column marks.now cells.old cells.new) }
+{
+    if column == 0 {
+        return Ok(());
+    }
+    let cell = Cell {
+        column,
+        tuple: tuple.share()?,
+    };
+    set(cells, alloc, cell, marks.share()?)?;
+    Ok(())
+}
+
+// The entry of a tuple of the base, with its cells. It is refused only for want of memory.
+fn based(
+    cells: &mut TreeMap<Cell, Marks>,
+    alloc: Global,
+    tuple: &Tuple,
+) -> Result<(Shared<Tuple>, Marks), Memory>
+    ensures tuple { IfOk result (λ e. fact_of e.0 ≡ fact_of tuple.now) }
+    ensures marks { IfOk result (λ e. e.1 ≡ base_marks) }
+    ensures cells { OnOk result (CellsHave (fact_of tuple.now) (length (fact_of tuple.now).values)
+        base_marks cells.old cells.new) }
+{
+    let marks = Marks::based();
+    let Ok(key) = Shared::new(alloc, tuple.copy(alloc)?) else {
+        return Err(Memory);
+    };
+    set_cells(cells, alloc, &key, &marks)?;
+    Ok((key, marks))
+}
+
+// The entries of the tuples of the base, with their cells. It is refused only for want of memory.
+fn all_based(
+    cells: &mut TreeMap<Cell, Marks>,
+    alloc: Global,
+    base: &[Tuple],
+) -> Result<Vec<(Shared<Tuple>, Marks)>, Memory>
+    requires empty { cells.old ≡ [] }
+    ensures entries { IfOk result (λ es. AreBased (map fact_of base.now) es.items) }
+    ensures index { IfOk result (λ es. IsIndex es.items cells.new) }
+{
+    let mut entries = Vec::new(alloc);
+    for tuple in base {
+        let entry = based(cells, alloc, tuple)?;
+        entries.push(entry)?;
+    }
+    Ok(entries)
 }
 
 // The tuple of a row.

@@ -6,7 +6,7 @@ ghost use Rattle.yt_versions.specs.Chains.{AreRows};
 ghost use Rattle.yt_versions.specs.Marked.{marks_at};
 ghost use Rattle.yt_versions.specs.Standing.{StandFor, Published, Retracted, Folded, Wrote, seen};
 ghost use Rattle.yt_model.specs.Values.{Fact};
-ghost use Rattle.yt_versions.specs.Touches.{based_at, written_at, published_at, unwritten_at, retracted_at, settled_at, folded_at};
+ghost use Rattle.yt_versions.specs.Touches.{written_at, published_at, unwritten_at, retracted_at, settled_at, folded_at};
 ghost use Rattle.yt_versions.specs.Trails.{no_trails};
 
 use crate::below::Below;
@@ -41,7 +41,7 @@ impl Versions {
         requires sorted { IsRepository (map fact_of base.now) }
         ensures base { IfOk result (λ versions. StandFor versions (map fact_of base.now) no_trails) }
     {
-        let table = with_base(Table::new(), alloc, base)?;
+        let table = Table::of(alloc, base)?;
         Ok(Versions {
             table,
             notes: TreeMap::new(),
@@ -125,18 +125,6 @@ impl Versions {
     {
         self.table.list(alloc, number)
     }
-}
-
-// The table with these tuples in the base.
-fn with_base(mut table: Table, alloc: Global, base: &[Tuple]) -> Result<Table, Memory>
-    requires { AreRows table }
-    ensures marks { IfOk result (λ new. (t : Fact) → marks_at new t ≡ based_at (map fact_of base.now) t (marks_at table t)) }
-    ensures in_order { IfOk result AreRows }
-{
-    for tuple in base {
-        table = table.touched(alloc, tuple, Touch::Found)?;
-    }
-    Ok(table)
 }
 
 // The table with these writes of the update.
