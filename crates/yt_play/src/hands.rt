@@ -73,16 +73,6 @@ pub enum Told {
 }
 
 impl<C: Core> Hand<C> {
-    /// The seat, with nothing in hand.
-    pub fn free(seat: Seat<Board<C>>) -> Hand<C>
-        ensures seat { result.seat ≡ seat }
-    {
-        Hand {
-            seat,
-            work: Work::Free,
-        }
-    }
-
     /// The call that a seat makes next which gives no ticket back.
     pub fn due(&self) -> Move {
         match &self.work {

@@ -1,10 +1,10 @@
 //! The three seats of a desk.
-ghost use Rattle.std.specs.Prelude.{◌≡◌, ◌≤◌, [], All, length, map, vec_capacity};
+ghost use Rattle.std.specs.Prelude.{◌≡◌, ◌≤◌, [], ◌∷◌, ◌++◌, All, length, map, vec_capacity};
 ghost use Rattle.yt_stamp.specs.Seats.{place_of};
 ghost use Rattle.yt_desk.specs.Seats.{IsSeatOf};
 ghost use Rattle.yt_play.specs.Hands.{IsTable, seats_on};
 
-use crate::hands::{Hand, Move, Told};
+use crate::hands::{Hand, Move, Told, Work};
 use std::sync::Wait;
 use yt_desk::{Board, Core, Desk};
 use yt_stamp::Seat;
@@ -54,14 +54,22 @@ impl<C: Core> Table<C> {
         ensures own { IsTable C.over C.history C.is_snapshot C.is_plan _desk.now result }
         ensures seats { seats_on result ≡ seats.items }
     {
-        let (Some(third), Some(second), Some(first)) = (seats.pop(), seats.pop(), seats.pop())
-        else {
-            unreachable!()
-        };
+        let third = take_last(&mut seats);
+        let second = take_last(&mut seats);
+        let first = take_last(&mut seats);
         Table {
-            first: Hand::free(first),
-            second: Hand::free(second),
-            third: Hand::free(third),
+            first: Hand {
+                seat: first,
+                work: Work::Free,
+            },
+            second: Hand {
+                seat: second,
+                work: Work::Free,
+            },
+            third: Hand {
+                seat: third,
+                work: Work::Free,
+            },
         }
     }
 
@@ -140,5 +148,16 @@ impl<C: Core> Table<C> {
         room.push_reserved(second.into_seat(rt, desk));
         room.push_reserved(third.into_seat(rt, desk));
         room
+    }
+}
+
+// Takes the last seat of the list.
+fn take_last<S>(seats: &mut Vec<S>) -> S
+    requires some { 1 ≤ length seats.old.items }
+    ensures last { seats.old.items ≡ seats.new.items ++ result ∷ [] }
+{
+    match seats.pop() {
+        Some(seat) => seat,
+        None => unreachable!(),
     }
 }
