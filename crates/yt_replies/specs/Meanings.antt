@@ -1,5 +1,5 @@
 -- What the types of the program mean, and what is said of a reply.
-use Rattle.std.specs.Prelude.{◌≡◌, ℕ, List, false, Vec}
+use Rattle.std.specs.Prelude.{◌≡◌, ℕ, List, false}
 use Rattle.yt_entries.specs.Meanings.{standing_of}
 use Rattle.yt_forms.specs.Statements.{choice_of, operation_of}
 use Rattle.yt_replies.specs.Commands.{Asked, AskUpdate, AskStep, AskDelivery, AskAnswer, AskWithdrawal, AskQuestion, AskEnd, Saying, Nothing, NoForm, Asks}
@@ -44,6 +44,10 @@ refusal_meant refusal.Misfit = why.Misfits
 abbrev pub IsTold : Turn → List ℕ → Live → Type 0
 IsTold turn text next = turn ≡ record { reply = text; next = next; last = false }
 
+-- this is the turn, with its reply
+abbrev pub IsReply : Turn → Live → Reply → Type 0
+IsReply turn next r = turn ≡ record { reply = r.text.items; next = next; last = r.last }
+
 -- the reply is that of the line, after which the session is so
 abbrev pub IsReplyTo : Live → List ℕ → Live → Reply → Type 0
-IsReplyTo L line next r = line_turn L line ≡ record { reply = r.text.items; next = next; last = r.last }
+IsReplyTo L line next r = IsReply (line_turn L line) next r

@@ -98,13 +98,16 @@ question_turn L n = says L (question_text L.session (option_map inquiry_in (ques
 
 -- ---- update
 
+-- the operation is handed in under the label, and admitted
+abbrev pub admission : Live → Name → Operation → Turn
+admission L label op = made L (handed L.core.over op) (L.labels ++ label ∷ []) (grown (handed L.core.over op) L.core.history Admits)
+
 -- The operation under the label, which is new: it is refused where there are as many updates as there may be, and then
 -- where it names a null that is not of a lower update.
 abbrev pub update_turn : Live → Name → Operation → Turn
 update_turn L label op =
     if nat_le 1000 (length (updates_at L.core)) then refuses L Full
-    else if admits L.session.relations (length (updates_at L.core)) op
-    then made L (handed L.core.over op) (L.labels ++ label ∷ []) (grown (handed L.core.over op) L.core.history Admits)
+    else if admits L.session.relations (length (updates_at L.core)) op then admission L label op
     else refuses L BadNull
 
 -- the operation, if its fact is known

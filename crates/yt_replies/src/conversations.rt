@@ -1,12 +1,13 @@
 //! A session at which curators work, line by line.
-ghost use Rattle.std.specs.Prelude.{◌≡◌, ◌≤◌, length, map, IfOk};
+ghost use Rattle.std.specs.Prelude.{◌≡◌, ◌≤◌, true, Some, codes, length, map, IfOk};
 ghost use Rattle.yt_core.specs.States.{lowest_deliverable_at, lowest_ready_at, updates_at};
 ghost use Rattle.yt_grammar.specs.Names.{firsts, same_name};
 ghost use Rattle.yt_grammar.specs.Sessions.{labels};
 ghost use Rattle.yt_grammar.specs.Validity.{IsSession};
 ghost use Rattle.yt_queue.specs.Settings.{settings_of};
 ghost use Rattle.yt_session.specs.Meanings.{session_of, update_of};
-ghost use Rattle.yt_replies.specs.Meanings.{IsReplyTo, IsTold, command_meant};
+ghost use Rattle.yt_replies.specs.Commands.{AskQuestion};
+ghost use Rattle.yt_replies.specs.Meanings.{IsReply, IsReplyTo, IsTold, command_meant};
 ghost use Rattle.yt_replies.specs.Texts.{last_line};
 ghost use Rattle.yt_replies.specs.Turns.{begun, command_turn, delivery_turn, number_in, number_of, question_turn, step_turn};
 
@@ -49,16 +50,25 @@ pub struct Reply {
     pub last: bool,
 }
 
-// The labels of the updates, in order. It is refused only for want of memory.
+// The labels of the updates, each once, in order. It is refused only for want of memory.
 fn labels_of(alloc: Global, updates: &[SessionUpdate]) -> Result<Names, Memory>
     ensures { IfOk result (λ names. names.items ≡
         firsts same_name (labels (map update_of updates.now))) }
 {
-    let mut labels = Names::new(alloc);
+    let mut names = Names::new(alloc);
     for update in updates {
-        labels.note(update.update.label.copy(alloc)?.into_vec())?;
+        let label = update.update.label.copy(alloc)?;
+        names.note(label.into_vec())?;
     }
-    Ok(labels)
+    Ok(names)
+}
+
+// The reply to the wish to end.
+fn bye(alloc: Global) -> Result<Reply, Memory>
+    ensures { IfOk result (λ reply. (reply.text.items ≡ codes "bye\n") × (reply.last ≡ true)) }
+{
+    let text = words(alloc, b"bye\n")?;
+    Ok(Reply { text, last: true })
 }
 
 impl<'s> Conversation<'s> {
@@ -112,7 +122,9 @@ impl<'s> Conversation<'s> {
         ensures { IfOk result (IsReply (command_turn self.old (command_meant command)) self.new) }
     {
         let text = match command {
-            Command::Update(label, _, operation) => self.update(alloc, label, operation)?,
+            Command::Update(label, curator, operation) => {
+                self.update(alloc, label, curator, operation)?
+            }
             Command::Step => self.step(alloc)?,
             Command::Deliver => self.deliver(alloc)?,
             Command::Answer(label, choice) => self.answer(alloc, &label, choice)?,
@@ -125,12 +137,20 @@ impl<'s> Conversation<'s> {
 
     // A step of the lowest update that is ready.
     fn step(&mut self, alloc: Global) -> Result<Vec<u8>, Memory>
-        ensures { IfOk result (λ text. IsTold (step_turn self.old (lowest_ready_at self.old.core))
-            text.items self.new) }
+        ensures { IfOk result (λ text. IsTold (step_turn self.old
+            (lowest_ready_at self.old.core)) text.items self.new) }
     {
-        let Some(update) = self.core.lowest_ready() else {
-            return words(alloc, b"idle\n");
-        };
+        match self.core.lowest_ready() {
+            Some(update) => self.step_of(alloc, update),
+            None => words(alloc, b"idle\n"),
+        }
+    }
+
+    // A step of the update.
+    fn step_of(&mut self, alloc: Global, update: u32) -> Result<Vec<u8>, Memory>
+        ensures { IfOk result (λ text. IsTold (step_turn self.old (Some update)) text.items
+            self.new) }
+    {
         match self.core.step(alloc, update) {
             Ok(_) => self.told(alloc),
             Err(_) => Err(Memory),
@@ -142,9 +162,17 @@ impl<'s> Conversation<'s> {
         ensures { IfOk result (λ text. IsTold (delivery_turn self.old
             (lowest_deliverable_at self.old.core)) text.items self.new) }
     {
-        let Some(update) = self.core.lowest_deliverable() else {
-            return words(alloc, b"idle\n");
-        };
+        match self.core.lowest_deliverable() {
+            Some(update) => self.deliver_to(alloc, update),
+            None => words(alloc, b"idle\n"),
+        }
+    }
+
+    // A delivery to the update.
+    fn deliver_to(&mut self, alloc: Global, update: u32) -> Result<Vec<u8>, Memory>
+        ensures { IfOk result (λ text. IsTold (delivery_turn self.old (Some update)) text.items
+            self.new) }
+    {
         match self.core.deliver(update) {
             Ok(_) => self.told(alloc),
             Err(_) => Err(Memory),
@@ -153,11 +181,19 @@ impl<'s> Conversation<'s> {
 
     // The question of the update with the label.
     fn question(&self, alloc: Global, label: &Name) -> Result<Vec<u8>, Memory>
-        ensures { IfOk result (IsReply self.now (AskQuestion label.now.items) self.now) }
+        ensures { IfOk result (λ text. IsTold (command_turn self.now (AskQuestion label.now.items))
+            text.items self.now) }
     {
-        let Some(update) = self.number(label) else {
-            return refused(alloc, Refusal::Label);
-        };
+        match self.number(label) {
+            Some(update) => self.question_of(alloc, update),
+            None => refused(alloc, Refusal::Label),
+        }
+    }
+
+    // The question of the update.
+    fn question_of(&self, alloc: Global, update: u32) -> Result<Vec<u8>, Memory>
+        ensures { IfOk result (λ text. IsTold (question_turn self.now update) text.items self.now) }
+    {
         match self.core.question(update) {
             Some(question) => question_lines(alloc, self.session, question),
             None => words(alloc, b"none\n"),
@@ -166,10 +202,10 @@ impl<'s> Conversation<'s> {
 
     /// The number of the update with the label; None exactly where none has it. It takes no memory.
     pub(crate) fn number(&self, label: &Name) -> Option<u32>
-        ensures number { result ≡ label_number self.now label.now.items }
+        ensures number { result ≡ number_of self.now label.now.items }
     {
         match self.labels.find(label) {
-            Some(place) => numbered(place, self.core.count()),
+            Some(place) => number_at(place, self.core.count()),
             None => None,
         }
     }
@@ -187,8 +223,8 @@ impl<'s> Conversation<'s> {
 }
 
 // The number of the update at the place, where there are so many.
-fn numbered(place: usize, count: u32) -> Option<u32>
-    ensures { result ≡ numbered place count }
+fn number_at(place: usize, count: u32) -> Option<u32>
+    ensures { result ≡ number_in count (Some place) }
 {
     if place < count as usize {
         return Some(place as u32 + 1);
