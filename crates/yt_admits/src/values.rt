@@ -16,9 +16,12 @@ pub(crate) fn fits_null(before: u32, null: Null) -> bool
 
 /// Whether bytes are UTF-8.
 pub fn is_text(bytes: &[u8]) -> bool
-    ensures text { result ≡ is_text bytes.now }
+    ensures { result ≡ is_text bytes.now }
 {
-    utf8_end(bytes).is_none()
+    match utf8_end(bytes) {
+        None => true,
+        Some(_) => false,
+    }
 }
 
 // At most 256 bytes of UTF-8.
