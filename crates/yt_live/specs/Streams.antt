@@ -43,6 +43,10 @@ parted [] = None
 parted (line ∷ lines) =
     if is_end line then Some (record { text = line ++ 10 ∷ []; commands = lines }) else option_map (with_line line) (parted lines)
 
+-- a last line as a part of a session's text: behind `end` stands a line feed
+abbrev pub last_line : List ℕ → List ℕ
+last_line line = if is_end line then line ++ 10 ∷ [] else line
+
 -- ---- the replies
 
 -- how the lines end: they are all served, one asks to end, the session is refused, or its base violates a mapping

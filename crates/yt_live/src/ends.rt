@@ -1,5 +1,8 @@
 //! How a stream of lines ends.
-use std::alloc::Global;
+ghost use Rattle.std.specs.Prelude.{◌≡◌};
+ghost use Rattle.yt_live.specs.Ends.{of_line_refusal, of_read_failure, status_of};
+ghost use Rattle.yt_live.specs.declared.ends.LiveEnd.TheVariants.{Memory as WantOfMemory};
+
 use yt_base::{Memory, Name, TupleList};
 use yt_command::Status;
 use yt_lines::LineRefusal;
@@ -30,12 +33,16 @@ pub enum LiveEnd {
 }
 
 impl From<Memory> for LiveEnd {
+    ghost from_gives = { λ _ end. end ≡ WantOfMemory };
+
     fn from(_: Memory) -> LiveEnd {
         LiveEnd::Memory
     }
 }
 
 impl From<LineRefusal> for LiveEnd {
+    ghost from_gives = { λ refusal end. end ≡ of_line_refusal refusal };
+
     fn from(refusal: LineRefusal) -> LiveEnd {
         match refusal {
             LineRefusal::ReadFault => LiveEnd::ReadFault,
@@ -46,6 +53,8 @@ impl From<LineRefusal> for LiveEnd {
 }
 
 impl From<ReadFailure> for LiveEnd {
+    ghost from_gives = { λ failure end. end ≡ of_read_failure failure };
+
     fn from(failure: ReadFailure) -> LiveEnd {
         match failure {
             ReadFailure::Fault(fault) => LiveEnd::SessionRefused(fault),
@@ -56,7 +65,9 @@ impl From<ReadFailure> for LiveEnd {
 
 impl LiveEnd {
     /// The status with which the program ends.
-    pub fn status(&self) -> Status {
+    pub(crate) fn status(&self) -> Status
+        ensures { result ≡ status_of self.now }
+    {
         match self {
             LiveEnd::Ended => Status::Ended,
             LiveEnd::ReadFault => Status::ReadFault,

@@ -1,0 +1,4 @@
+pub mod Splitting
+pub mod Opening
+pub mod Prefixes
+pub mod Serving
