@@ -162,12 +162,17 @@ Converses S before ends.WriteFault source out =
 Converses S before ends.TooLong source out =
     (took : List ℕ) × (extra : ℕ) × Consumes source.bytes source.bytes_after (took ++ extra ∷ [])
     × (length took ≡ before.room) × GoesOnSoFar (S (whole_lines (before.bytes ++ took))) out
-Converses S before (ends.SessionRefused fault) source out =
-    Gave source (λ took. (S (lines_of (before.bytes ++ took))).ending ≡ RefusesSession (wrong_of fault)) × TakesNothing out
-Converses S before (ends.BaseViolates mapping image session) source out =
-    Gave source (λ took. IsViolation (S (lines_of (before.bytes ++ took))).ending mapping.items (map fact_of image.items)) × TakesNothing out
 Converses S before ends.Memory source out =
     Gave source (λ took. TookPrefix (λ bytes. S (lines_of bytes)) (before.bytes ++ took) source out)
+Converses S before e source out = ⊥
+
+-- the same, or the session is refused
+abbrev pub ServesText : (List (List ℕ) → Served) → Kept → LiveEnd → Change → Change → Type 0
+ServesText S before (ends.SessionRefused fault) source out =
+    Gave source (λ took. (S (lines_of (before.bytes ++ took))).ending ≡ RefusesSession (wrong_of fault)) × TakesNothing out
+ServesText S before (ends.BaseViolates mapping image session) source out =
+    Gave source (λ took. IsViolation (S (lines_of (before.bytes ++ took))).ending mapping.items (map fact_of image.items)) × TakesNothing out
+ServesText S before e source out = Converses S before e source out
 
 -- what a session without commands comes to, of which s says what is served
 abbrev pub EndsAlone : Served → LiveEnd → Change → Type 0

@@ -5,7 +5,7 @@ ghost use Rattle.yt_command.specs.Devices.{Takes, change};
 ghost use Rattle.yt_grammar.specs.Lines.{read};
 ghost use Rattle.yt_queue.specs.Settings.{settings_of};
 ghost use Rattle.yt_replies.specs.Turns.{line_turn};
-ghost use Rattle.yt_live.specs.Ends.{Converses, EndsAlone, FailsReply, HasReplied, Serves, end_of};
+ghost use Rattle.yt_live.specs.Ends.{Converses, EndsAlone, FailsReply, HasReplied, Serves, ServesText, end_of};
 ghost use Rattle.yt_live.specs.Streams.{attended, opened_with, ready_line, served};
 
 use crate::ends::LiveEnd;
@@ -131,7 +131,7 @@ fn serve_text<S: Source, O: Sink>(
 ) -> Result<(), LiveEnd>
     requires retries { settings.retries ≤ 4 }
     requires short { length text.now ≤ INPUT_LIMIT + 1 }
-    ensures serves { Converses (opened_with budget (settings_of settings) (read text.now)) lines.old
+    ensures serves { ServesText (opened_with budget (settings_of settings) (read text.now)) lines.old
         (end_of result) (change S.left S.fault_count source.old source.new)
         (change O.taken O.fault_count sink.old sink.new) }
 {

@@ -84,7 +84,7 @@ fn command_at(
     rest: Words<'_>,
     words: Words<'_>,
 ) -> Result<Said, Memory>
-    requires first { words_of words.entry ≡ name first.now ∷ words_of rest.entry }
+    requires first { words_of words ≡ name first.now ∷ words_of rest }
     ensures { IfOk result (λ said. said_meant said ≡ command_at first.now (words_of rest.entry)) }
 {
     if same_name(first, b"step") {

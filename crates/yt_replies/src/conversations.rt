@@ -101,6 +101,7 @@ impl<'s> Conversation<'s> {
     }
 
     /// What the line says is done, and replied. It is refused only for want of memory; what was done then stays.
+    #[tactic(auto, unfolding(crate::specs::Turns::line_turn))]
     pub fn turn(&mut self, alloc: Global, line: &[u8]) -> Result<Reply, Memory>
         ensures turn { IfOk result (IsReplyTo self.old line.now self.new) }
     {
@@ -147,6 +148,7 @@ impl<'s> Conversation<'s> {
     }
 
     // A step of the update.
+    #[tactic(auto, using(crate::proofs::Making::event_turn))]
     fn step_of(&mut self, alloc: Global, update: u32) -> Result<Vec<u8>, Memory>
         ensures { IfOk result (λ text. IsTold (step_turn self.old (Some update)) text.items
             self.new) }
@@ -169,6 +171,7 @@ impl<'s> Conversation<'s> {
     }
 
     // A delivery to the update.
+    #[tactic(auto, using(crate::proofs::Making::event_turn))]
     fn deliver_to(&mut self, alloc: Global, update: u32) -> Result<Vec<u8>, Memory>
         ensures { IfOk result (λ text. IsTold (delivery_turn self.old (Some update)) text.items
             self.new) }
@@ -211,6 +214,7 @@ impl<'s> Conversation<'s> {
     }
 
     /// The line of the last event. It is refused only for want of memory.
+    #[tactic(auto, using(crate::proofs::Listing::last_told))]
     pub(crate) fn told(&self, alloc: Global) -> Result<Vec<u8>, Memory>
         ensures told { IfOk result (λ text. text.items ≡
             last_line self.now.session.relations self.now.core.history) }
