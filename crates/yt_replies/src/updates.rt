@@ -1,0 +1,97 @@
+//! Updates that are admitted while others go on.
+ghost use Rattle.std.specs.Prelude.{◌≡◌, ◌<◌, false, length, IfOk};
+ghost use Rattle.yt_base.specs.Meanings.{operation_of};
+ghost use Rattle.yt_core.specs.States.{updates_at};
+ghost use Rattle.yt_forms.specs.Statements.{operation_of as operation_meant};
+ghost use Rattle.yt_grammar.specs.Names.{is_one_of};
+ghost use Rattle.yt_replies.specs.Commands.{AskUpdate};
+ghost use Rattle.yt_replies.specs.Known.{known_operation};
+ghost use Rattle.yt_replies.specs.Meanings.{IsTold};
+ghost use Rattle.yt_replies.specs.Turns.{admission, command_turn, update_known, update_turn};
+
+use crate::conversations::Conversation;
+use crate::operations::known_operation;
+use crate::refusals::{Refusal, refused};
+use std::alloc::Global;
+use yt_admits::admits;
+use yt_base::{Memory, Name, Operation, TryCopy, Update};
+use yt_forms::RawOperation;
+
+impl<'s> Conversation<'s> {
+    /// Admits an update, where its label is new, its relation is known, there is room and it names nulls of lower updates
+    /// alone. It is refused only for want of memory.
+    pub(crate) fn update(
+        &mut self,
+        alloc: Global,
+        label: Name,
+        curator: Name,
+        written: RawOperation,
+    ) -> Result<Vec<u8>, Memory>
+        ensures { IfOk result (λ text. IsTold (command_turn self.old
+            (AskUpdate label.items curator.items (operation_meant written))) text.items self.new) }
+    {
+        if self.labels.has(&label) {
+            return refused(alloc, Refusal::Label);
+        }
+        self.update_new(alloc, label, curator, written)
+    }
+
+    // The same, where the label is new.
+    fn update_new(
+        &mut self,
+        alloc: Global,
+        label: Name,
+        curator: Name,
+        written: RawOperation,
+    ) -> Result<Vec<u8>, Memory>
+        requires new { is_one_of self.old.labels label.items ≡ false }
+        ensures { IfOk result (λ text. IsTold (update_known self.old label.items
+            (known_operation self.old.session.relations (operation_meant written))) text.items
+            self.new) }
+    {
+        match known_operation(alloc, &self.session.schema, written)? {
+            Some(operation) => self.update_known(
+                alloc,
+                Update {
+                    label,
+                    curator,
+                    operation,
+                },
+            ),
+            None => refused(alloc, Refusal::Fact),
+        }
+    }
+
+    // The same, where the relation is known.
+    fn update_known(&mut self, alloc: Global, update: Update) -> Result<Vec<u8>, Memory>
+        requires new { is_one_of self.old.labels update.label.items ≡ false }
+        ensures { IfOk result (λ text. IsTold (update_turn self.old update.label.items
+            (operation_of update.operation)) text.items self.new) }
+    {
+        if self.core.count() >= 1000 {
+            return refused(alloc, Refusal::Full);
+        }
+        if !admits(&self.session.schema, self.core.count(), &update.operation) {
+            return refused(alloc, Refusal::Null);
+        }
+        self.admit(alloc, update)
+    }
+
+    // Admits the update, which has a new label.
+    fn admit(&mut self, alloc: Global, update: Update) -> Result<Vec<u8>, Memory>
+        requires new { is_one_of self.old.labels update.label.items ≡ false }
+        requires room { length (updates_at self.old.core) < 1000 }
+        ensures { IfOk result (λ text. IsTold (admission self.old update.label.items
+            (operation_of update.operation)) text.items self.new) }
+    {
+        let label = update.label.copy(alloc)?;
+        self.labels.reserve()?;
+        match self.core.admit(alloc, update) {
+            Ok(_) => {
+                self.labels.note(label.into_vec())?;
+                self.told(alloc)
+            }
+            Err(_) => Err(Memory),
+        }
+    }
+}
