@@ -3,6 +3,7 @@ use Rattle.yt_entries.specs.Meanings.{entry_of}
 use Rattle.yt_query.specs.Meanings.{read_of}
 use Rattle.yt_queue.specs.Queues.{AreFrom}
 use Rattle.yt_queue.specs.Renewals.{AllHaveOneMore}
+use Rattle.yt_queue.specs.Walks.{CommitsAtLeast}
 use Rattle.yt_queue.specs.declared.records.Record.{Record}
 use Rattle.yt_core.specs.Planned.{PlanMeant}
 use Rattle.yt_core.proofs.Making.{some_number, ready_within, all_one_more, plan_ready, plan_between, core_steps, kept_ok, kept_err, has_stepped}
@@ -17,6 +18,9 @@ pub step_at-requires-clause-place : goal.step_at-requires-clause-place
 step_at-requires-clause-place c =
     ready_within _ c.self.inside.versions c.self.inside.queue.items _ _ c.self.invariant.0 c.self.view_is c.args.plan.update c.requires.ready c.place_of-place.result (c.place_of-place.ensures ∙ ap (λ (p : PlanMeant). p.update) c.plan.view_is)
     c.deref_mut.result.now c.deref_mut.ensures.value
+
+pub step_at-requires-clause-least : goal.step_at-requires-clause-least
+step_at-requires-clause-least c = subst (λ (rs : List Record). CommitsAtLeast rs c.self.inside.least) (sym c.deref_mut.ensures.value) c.self.invariant.1
 
 pub step_at-requires-clause-numbers : goal.step_at-requires-clause-numbers
 step_at-requires-clause-numbers c = subst (λ (rs : List Record). AreFrom 1 rs) (sym c.deref_mut.ensures.value) c.self.invariant.0.numbers

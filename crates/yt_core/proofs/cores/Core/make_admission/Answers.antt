@@ -1,4 +1,4 @@
-use Rattle.std.proofs.Common.{◌∙◌, ap, refl, sym, subst, ℕ, suc, ◌<◌}
+use Rattle.std.proofs.Common.{◌∙◌, ap, refl, sym, subst, ℕ, suc, ◌<◌, rules}
 use Rattle.yt_queue.specs.Settings.{settings_of}
 use Rattle.yt_core.proofs.Arriving.{admission_kept, has_admitted}
 use Rattle.yt_core.proofs.Telling.{count_told}
@@ -7,6 +7,9 @@ use Rattle.yt_core.proofs.cores.Core.make_admission.Goals as goal
 
 pub admit_at-requires-clause-few : goal.admit_at-requires-clause-few
 admit_at-requires-clause-few c = subst (λ (n : ℕ). n < 1000) (sym (count_told _ _ c.self.inside.queue.items _ c.self.invariant.0.left c.self.view_is)) c.requires.few
+
+pub invariant_of-self : goal.invariant_of-self
+invariant_of-self c = (search (rules), none_committed _)
 
 pub invariant_of-self-2 : goal.invariant_of-self-2
 invariant_of-self-2 c =
