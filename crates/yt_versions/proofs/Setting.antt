@@ -1,5 +1,5 @@
 -- Marks that are set at a tuple and at each of its cells keep the index.
-use Rattle.std.proofs.Common.{◌≡◌, ℕ, ◌+◌, ◌<◌, ap, refl, sym, subst, ◌∙◌, List, [], Bool, true, false, ◌&&◌, ◌||◌, cond, length, arith}
+use Rattle.std.proofs.Common.{◌≡◌, ℕ, zero, suc, ◌+◌, ◌<◌, ap, refl, sym, subst, ◌∙◌, List, [], Bool, true, false, ◌&&◌, ◌||◌, cond, length, arith}
 use Rattle.std.proofs.lemmas.Bool.{lt-ltb, le-ltb}
 use Rattle.std.proofs.lemmas.Cmp.{ranked}
 use Rattle.std.specs.Prelude.{nat_lt}
@@ -101,6 +101,10 @@ has_first s i m cells e c t = ap (λ b. cond b m (cell_marks cells c t)) (sym (a
 
     none : (c : ℕ) → (nat_lt 0 c && is_eq (nat_cmp c 0)) ≡ false
     none c = by c (nat_cmp c 0) (ranked c 0 (nat_cmp c 0) refl)
+
+pub positive : (c : ℕ) → (c ≡ 0 → ⊥) → 0 < c
+positive zero h = absurd (h refl)
+positive (suc c) h = omega arith
 
 -- A further column has its cell, once the marks are set there.
 pub has_further : (s : Fact) (i : ℕ) (m : Marks) (old new : List (Cell × Marks)) (k : Cell) (n : Marks) → 0 < i → new ≡ set_entry (on cell_of cell_cmp) old k n
