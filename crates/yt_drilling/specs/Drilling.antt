@@ -8,7 +8,7 @@ use Rattle.yt_report.specs.Results.{serial_told}
 use Rattle.yt_summary.specs.Summaries.{summary_text}
 
 -- what the serial machine tells of the generated session, with so many steps for each update
-abbrev pub drill_told : ℕ → ℕ → ℕ → ResultTold
+unfoldable pub drill_told : ℕ → ℕ → ℕ → ResultTold
 drill_told steps count seed = serial_told steps (drilled count seed)
 
 -- what is printed of a run of the generated session that told this: its summary

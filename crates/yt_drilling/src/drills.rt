@@ -1,9 +1,13 @@
 //! The command `drill`.
-ghost use Rattle.std.specs.Prelude.{◌≡◌, IfOk};
+ghost use Rattle.std.specs.Prelude.{◌≡◌, None, IfOk};
 ghost use Rattle.yt_command.specs.Devices.{change, no_input};
 ghost use Rattle.yt_command.specs.Outputs.{view_of};
 ghost use Rattle.yt_command.specs.Rows.{Row};
+ghost use Rattle.yt_grammar.specs.Validity.{IsSession};
 ghost use Rattle.yt_program.specs.Results.{result_of};
+ghost use Rattle.yt_report.specs.Results.{serial_told};
+ghost use Rattle.yt_session.specs.Base.{base_violation};
+ghost use Rattle.yt_session.specs.Meanings.{session_of};
 ghost use Rattle.yt_drilling.specs.Drilling.{drill_told, drilling, summary_output};
 
 use std::alloc::Global;
@@ -18,6 +22,7 @@ use yt_limits::Budget;
 use yt_program::SessionResult;
 use yt_run::Crew;
 use yt_seated::worked;
+use yt_session::Session;
 use yt_summary::summary_text;
 use yt_text::Sink;
 
@@ -50,7 +55,27 @@ fn summary_output(
 }
 
 impl Drill {
-    // Lets the workers take the updates of the generated session.
+    // Lets the workers take the updates of a session, and gives what that comes to.
+    fn take<R: Threads + Wait + Sync, G: Gate + Sync>(
+        self,
+        rt: &R,
+        gate: &G,
+        alloc: Global,
+        session: &Session,
+    ) -> Result<SessionResult, Memory>
+        requires valid { IsSession (session_of session.now) }
+        requires met { base_violation (session_of session.now) ≡ None }
+        ensures { IfOk result (λ told. result_of told ≡
+            serial_told self.budget (session_of session.now)) }
+    {
+        let settings = self.crew.settings();
+        let seats = self.crew.seats();
+        let run = worked(rt, gate, alloc, session, settings, self.budget, seats)?;
+        let told = run.result(alloc)?;
+        Ok(told)
+    }
+
+    // Lets them take those of the generated session.
     fn work<R: Threads + Wait + Sync, G: Gate + Sync>(
         self,
         rt: &R,
@@ -61,10 +86,7 @@ impl Drill {
             drill_told self.budget self.count self.seed) }
     {
         let session = drill(alloc, self.count, self.seed)?;
-        let settings = self.crew.settings();
-        let seats = self.crew.seats();
-        let run = worked(rt, gate, alloc, &session, settings, self.budget, seats)?;
-        let told = run.result(alloc)?;
+        let told = self.take(rt, gate, alloc, &session)?;
         Ok(told)
     }
 
