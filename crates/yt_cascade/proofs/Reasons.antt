@@ -25,7 +25,6 @@ use Rattle.yt_model.specs.Queries.{Reply, same_reply}
 use Rattle.yt_model.specs.Repository.{Change}
 use Rattle.yt_model.specs.Updates.{Operation, direction_of}
 use Rattle.yt_model.specs.Values.{Fact}
-use Rattle.yt_model.specs.Violations.{Caused}
 use Rattle.yt_query.specs.Meanings.{Read, read_of}
 use Rattle.yt_query.specs.declared.log.LoggedRead.{LoggedRead}
 use Rattle.yt_queue.specs.Queues.{logged, update_of}
@@ -90,11 +89,11 @@ module _ (ms : List Rule) (B : ℕ) where
 
   -- Reads that were valid have not changed where no write meets them.
   keeps : (op : Operation) (own : List Change) (trails : List (List Change)) (D E : List Fact) → AgreeBut trails D E → (rs : List Read) → list_all (is_valid (caused_chase ms B) op D own) (map (logged ms B) rs) ≡ true
-      → AllByRecursion (λ r. is_met ms trails r.query ≡ false → is_changed ms (direction_of op) E own r ≡ false) rs
+      → AllByRecursion (λ r. is_met ms (direction_of op) own trails r.query ≡ false → is_changed ms (direction_of op) E own r ≡ false) rs
   keeps op own trails D E a [] v = tt
   keeps op own trails D E a (r ∷ rs) v =
       let parts = and_parts (is_valid (caused_chase ms B) op D own (logged ms B r)) (list_all (is_valid (caused_chase ms B) op D own) (map (logged ms B) rs)) v in (
-        λ m. ap (λ (x : Reply). not (same_reply r.reply x)) (sym (unmet_values_stay ms r.query (take r.own own) (Caused (direction_of op)) trails D E a m)) ∙ ap not parts.0,
+        λ m. ap (λ (x : Reply). not (same_reply r.reply x)) (sym (unmet_values_stay ms (direction_of op) own r.query r.own trails D E a m)) ∙ ap not parts.0,
         keeps op own trails D E a rs parts.1,
       )
 
@@ -136,7 +135,7 @@ module _ (ms : List Rule) (B : ℕ) where
   met_first : (v : Kept) (trails : List (List Change)) (D : List Fact) (r : Record) → AgreeBut trails D (seen (number_of r) v) → ValidOver D r → first_changed_in ms v trails r ≡ option_map (now_in v r) (first_of_all v r)
   met_first v trails D r a valid =
       ap (option_map (now_in v r))
-      (first_met (is_changed ms (direction_of r.program.attempt.operation) (seen (number_of r) v) r.program.attempt.own) (λ t. is_met ms trails t.query) 1 (reads r)
+      (first_met (is_changed ms (direction_of r.program.attempt.operation) (seen (number_of r) v) r.program.attempt.own) (λ t. is_met ms (direction_of r.program.attempt.operation) r.program.attempt.own trails t.query) 1 (reads r)
       (keeps r.program.attempt.operation r.program.attempt.own trails D (seen (number_of r) v) a (reads r) valid))
 
   -- ---- conflicts

@@ -49,12 +49,12 @@ seen_then ms h D own r v n a e f k = k ∙ ap (λ (w : Seen). value ms (read_of 
 
 -- So the test tells whether a read that is met has changed.
 pub test_tells : (ms : List Rule) (h : Direction) (D : List Fact) (own : List Change) (ts : List (List Change)) (r : LoggedRead) (t : Bool) (a : Reply)
-    → is_met ms ts (read_of r).query ≡ true → a ≡ value_now ms h D own (read_of r) → (t ≡ true) ↔ (a ≡ reply_of r.answer) → is_met_and_changed ms h D own ts (read_of r) ≡ not t
+    → is_met ms h own ts (read_of r).query ≡ true → a ≡ value_now ms h D own (read_of r) → (t ≡ true) ↔ (a ≡ reply_of r.answer) → is_met_and_changed ms h D own ts (read_of r) ≡ not t
 test_tells ms h D own ts r t a m e s = (λ i. m i && is_changed ms h D own (read_of r)) ∙ changed_is t a (reply_of r.answer) (value_now ms h D own (read_of r)) s e
 
 -- A read that has changed is the first.
 pub first_here : (ms : List Rule) (h : Direction) (D : List Fact) (own : List Change) (ts : List (List Change)) (n i : ℕ) (rs : List LoggedRead) (r : LoggedRead) (t : Bool) (a : Reply) → i < length rs → r ≡ get_or rs i r
-    → is_met ms ts (read_of r).query ≡ true → a ≡ value_now ms h D own (read_of r) → (t ≡ true) ↔ (a ≡ reply_of r.answer) → t ≡ false
+    → is_met ms h own ts (read_of r).query ≡ true → a ≡ value_now ms h D own (read_of r) → (t ≡ true) ↔ (a ≡ reply_of r.answer) → t ≡ false
     → first_from (is_met_and_changed ms h D own ts) 1 (map read_of rs) ≡ first_from (is_met_and_changed ms h D own ts) (suc n) (map read_of (drop i rs))
     → Some (record { number = n + 1; read = read_of r; now = a }) ≡ first_changed ms h D own ts (map read_of rs)
 first_here ms h D own ts n i rs r t a l e m v s f w =
@@ -73,14 +73,14 @@ first_past ms h D own ts n i rs r l e f w =
 
 -- So is one that has its value still.
 pub first_on : (ms : List Rule) (h : Direction) (D : List Fact) (own : List Change) (ts : List (List Change)) (n i : ℕ) (rs : List LoggedRead) (r : LoggedRead) (t : Bool) (a : Reply) → i < length rs → r ≡ get_or rs i r
-    → is_met ms ts (read_of r).query ≡ true → a ≡ value_now ms h D own (read_of r) → (t ≡ true) ↔ (a ≡ reply_of r.answer) → t ≡ true
+    → is_met ms h own ts (read_of r).query ≡ true → a ≡ value_now ms h D own (read_of r) → (t ≡ true) ↔ (a ≡ reply_of r.answer) → t ≡ true
     → first_from (is_met_and_changed ms h D own ts) 1 (map read_of rs) ≡ first_from (is_met_and_changed ms h D own ts) (suc n) (map read_of (drop i rs))
     → first_from (is_met_and_changed ms h D own ts) 1 (map read_of rs) ≡ first_from (is_met_and_changed ms h D own ts) (suc (n + 1)) (map read_of (drop (i + 1) rs))
 first_on ms h D own ts n i rs r t a l e m v s f w = first_past ms h D own ts n i rs r l e (test_tells ms h D own ts r t a m v s ∙ ap not f) w
 
 -- And one that no write meets.
 pub first_unmet : (ms : List Rule) (h : Direction) (D : List Fact) (own : List Change) (ts : List (List Change)) (n i : ℕ) (rs : List LoggedRead) (r : LoggedRead) → i < length rs → r ≡ get_or rs i r
-    → is_met ms ts (read_of r).query ≡ false
+    → is_met ms h own ts (read_of r).query ≡ false
     → first_from (is_met_and_changed ms h D own ts) 1 (map read_of rs) ≡ first_from (is_met_and_changed ms h D own ts) (suc n) (map read_of (drop i rs))
     → first_from (is_met_and_changed ms h D own ts) 1 (map read_of rs) ≡ first_from (is_met_and_changed ms h D own ts) (suc (n + 1)) (map read_of (drop (i + 1) rs))
 first_unmet ms h D own ts n i rs r l e m w = first_past ms h D own ts n i rs r l e (λ j. m j && is_changed ms h D own (read_of r)) w

@@ -1,3 +1,5 @@
 pub mod Seeing
+pub mod Joining
 pub mod Staying
+pub mod Sides
 pub mod Firsts

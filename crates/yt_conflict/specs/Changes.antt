@@ -35,7 +35,7 @@ pub record Changed : Type 0 where
 
 -- A write of the trails meets the read, and it has another value over D.
 abbrev pub is_met_and_changed : List Rule → Direction → List Fact → List Change → List (List Change) → Read → Bool
-is_met_and_changed ms h D own trails r = is_met ms trails r.query && is_changed ms h D own r
+is_met_and_changed ms h D own trails r = is_met ms h own trails r.query && is_changed ms h D own r
 
 -- The first read of the log that a write of these trails meets and that has another value over D.
 abbrev pub first_changed : List Rule → Direction → List Fact → List Change → List (List Change) → List Read → Option Changed

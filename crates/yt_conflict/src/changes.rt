@@ -8,7 +8,7 @@ ghost use Rattle.yt_conflict.specs.Meanings.{changed_of};
 ghost use Rattle.yt_conflict.specs.Trails.{trails_of};
 ghost use Rattle.yt_base.specs.Contents.{changes_of, rules_in};
 
-use crate::concerns::{Trail, is_met};
+use crate::concerns::{Reader, Trail};
 use crate::views::{see, standing_then};
 use std::alloc::Global;
 use yt_base::{Direction, Facts, MappingList, Memory, Write, WriteList};
@@ -58,12 +58,17 @@ fn first_in<'a, F: Facts>(
         first_changed_lem (rules_in mappings.now) (heading_of direction) (F.tuples below.now)
         (map change_of own.now) (trails_of trails.now) (map read_of log.now)) }
 {
+    let reader = Reader {
+        mappings,
+        direction,
+        own,
+    };
     let mut view = View::new(alloc, below);
     let mut seen = 0;
     let mut number = 0;
     'reads: for read in log {
         number += 1;
-        if !is_met(trails, mappings, &read.query) {
+        if !reader.is_met(trails, &read.query) {
             continue;
         }
         let count = standing_then(read.own, own);

@@ -1,14 +1,15 @@
 //! Which writes may change the value of a query.
 ghost use Rattle.std.specs.Prelude.{◌≡◌, map};
 ghost use Rattle.yt_base.specs.Contents.{rules_in};
-ghost use Rattle.yt_base.specs.Meanings.{change_of, datum_of, fact_of};
+ghost use Rattle.yt_base.specs.Meanings.{change_of, datum_of, fact_of, heading_of};
 ghost use Rattle.yt_model.specs.Queries.{holds_null as holds_null_lem, is_named as is_named_lem};
 ghost use Rattle.yt_query.specs.Meanings.{query_of};
-ghost use Rattle.yt_conflict.specs.Concerns.{concerns as concerns_lem, is_met as is_met_lem, is_met_by as is_met_by_lem, tuple_of as tuple_of_lem};
+ghost use Rattle.yt_conflict.specs.Concerns.{concerns as concerns_lem, is_met as is_met_lem, is_hit_by, tuple_of as tuple_of_lem};
 ghost use Rattle.yt_conflict.specs.Trails.{trails_of};
 
-use yt_base::{MappingList, Tuple, Value, Write};
-use yt_query::{Query, mentions};
+use crate::joins::may_decide;
+use yt_base::{Direction, MappingList, Tuple, Value, Write};
+use yt_query::Query;
 use yt_unifier::is_more_specific;
 
 /// Writes of one update, with its number.
@@ -18,47 +19,63 @@ pub struct Trail<'r> {
     pub writes: &'r [Write],
 }
 
-/// Whether a write of one of the trails is of a tuple that concerns the query. It takes no memory.
-pub(crate) fn is_met(trails: &[Trail<'_>], mappings: &MappingList, query: &Query) -> bool
-    ensures { result ≡
-        is_met_lem (rules_in mappings.now) (trails_of trails.now) (query_of query.now) }
-{
-    trails
-        .iter()
-        .any(|trail| is_met_by(trail.writes, mappings, query))
+/// What the reads of an attempt are asked by: the mappings, the direction of the attempt, and its own writes.
+#[derive(Drop)]
+pub(crate) struct Reader<'r> {
+    pub(crate) mappings: &'r MappingList,
+    pub(crate) direction: Direction,
+    pub(crate) own: &'r [Write],
 }
 
-// Whether one of the writes is of a tuple that concerns the query.
-fn is_met_by(writes: &[Write], mappings: &MappingList, query: &Query) -> bool
-    ensures { result ≡
-        is_met_by_lem (rules_in mappings.now) (query_of query.now) (map change_of writes.now) }
-{
-    writes
-        .iter()
-        .any(|write| concerns(query, mappings, tuple_of(write)))
+impl<'r> Reader<'r> {
+    /// Whether a write of one of the trails is of a tuple that concerns the query. It takes no memory.
+    pub(crate) fn is_met(&self, trails: &[Trail<'_>], query: &Query) -> bool
+        ensures { result ≡ is_met_lem (rules_in self.now.mappings.now)
+            (heading_of self.now.direction) (map change_of self.now.own.now)
+            (trails_of trails.now) (query_of query.now) }
+    {
+        trails
+            .iter()
+            .any(|trail| self.is_met_by(trail.writes, query))
+    }
+
+    // Whether one of the writes is of a tuple that concerns the query.
+    fn is_met_by(&self, writes: &[Write], query: &Query) -> bool
+        ensures { result ≡ is_hit_by (concerns_lem (rules_in self.now.mappings.now)
+            (heading_of self.now.direction) (map change_of self.now.own.now)
+            (query_of query.now)) (map change_of writes.now) }
+    {
+        writes
+            .iter()
+            .any(|write| self.concerns(query, tuple_of(write)))
+    }
+
+    // Whether the tuple concerns the query: it is the one asked for, it may decide the violation asked for, it is more
+    // specific than the one asked for, or it holds the null asked for.
+    fn concerns(&self, query: &Query, tuple: &Tuple) -> bool
+        ensures { result ≡ concerns_lem (rules_in self.now.mappings.now)
+            (heading_of self.now.direction) (map change_of self.now.own.now)
+            (query_of query.now) (fact_of tuple.now) }
+    {
+        match query {
+            Query::Present(asked) => asked == tuple,
+            Query::Violation(number) => {
+                let mapping = self.mappings.get(*number as usize);
+                may_decide(mapping, self.direction, self.own, tuple)
+            }
+            Query::Specific(asked) => is_more_specific(asked, tuple),
+            Query::Occurs(update, place) => holds_null(tuple, *update, *place),
+        }
+    }
 }
 
-// The tuple that is written.
-fn tuple_of(write: &Write) -> &Tuple
+/// The tuple that is written.
+pub(crate) fn tuple_of(write: &Write) -> &Tuple
     ensures { fact_of result.now ≡ tuple_of_lem (change_of write.now) }
 {
     match write {
         Write::Insert(tuple) => tuple,
         Write::Delete(tuple) => tuple,
-    }
-}
-
-// Whether the tuple concerns the query: it is the one asked for, of a relation of the mapping, more specific than the one
-// asked for, or it holds the null asked for.
-fn concerns(query: &Query, mappings: &MappingList, tuple: &Tuple) -> bool
-    ensures { result ≡
-        concerns_lem (rules_in mappings.now) (query_of query.now) (fact_of tuple.now) }
-{
-    match query {
-        Query::Present(asked) => asked == tuple,
-        Query::Violation(_) => mentions(query, mappings, tuple.relation),
-        Query::Specific(asked) => is_more_specific(asked, tuple),
-        Query::Occurs(update, place) => holds_null(tuple, *update, *place),
     }
 }
 

@@ -6,6 +6,7 @@
 
 mod changes;
 mod concerns;
+mod joins;
 mod laws;
 mod views;
 

@@ -1,0 +1,18 @@
+use Rattle.std.proofs.Common.{◌∙◌, ap, map, List, ◌==◌}
+use Rattle.std.specs.List.{list_any}
+use Rattle.yt_base.specs.Meanings.{pattern_of}
+use Rattle.yt_base.specs.declared.mappings.Atom.{Atom}
+use Rattle.yt_model.specs.Mappings.{Pattern}
+use Rattle.yt_conflict.proofs.Sides.{found_left, found_right}
+use Rattle.yt_conflict.proofs.joins.is_of.Goals as goal
+
+pub returns-then-stands_in : goal.returns-then-stands_in
+returns-then-stands_in c =
+    found_left (λ a. a.relation == c.args.relation) (map pattern_of c.args.mapping.now.left.items) (map pattern_of c.args.mapping.now.right.items) c.stands_in.result
+    (c.stands_in.ensures ∙ ap (λ (as' : List Atom). list_any (λ a. a.relation == c.args.relation) (map pattern_of as')) c.as_slice.ensures.items) c.if-stands_in.true
+
+pub returns : goal.returns
+returns c =
+    found_right (λ a. a.relation == c.args.relation) (map pattern_of c.args.mapping.now.left.items) (map pattern_of c.args.mapping.now.right.items) c.stands_in.result c.stands_in-2.result
+    (c.stands_in.ensures ∙ ap (λ (as' : List Atom). list_any (λ a. a.relation == c.args.relation) (map pattern_of as')) c.as_slice.ensures.items) c.if-stands_in.false
+    (c.stands_in-2.ensures ∙ ap (λ (as' : List Atom). list_any (λ a. a.relation == c.args.relation) (map pattern_of as')) c.as_slice-2.ensures.items)

@@ -1,0 +1,184 @@
+//! Which tuples may decide the first violation of a mapping that own writes caused.
+ghost use Rattle.std.specs.Option.{option_copied, option_map};
+ghost use Rattle.std.specs.Prelude.{◌≡◌, ◌==◌, ◌++◌, map, Some};
+ghost use Rattle.std.specs.List.{list_all, list_any};
+ghost use Rattle.yt_base.specs.Meanings.{change_of, datum_of, fact_of, heading_of, pattern_of, rule_of, slot_of};
+ghost use Rattle.yt_model.specs.Mentions.{rule_mentions};
+ghost use Rattle.yt_model.specs.Violations.{Forward};
+ghost use Rattle.yt_conflict.specs.Concerns.{agree, columns, concerns_rule, joins as joins_lem, may_be as may_be_lem, may_enact as may_enact_lem, may_join as may_join_lem, stand_together as stand_together_lem};
+
+use crate::concerns::tuple_of;
+use yt_base::{Atom, Direction, Mapping, Term, Tuple, Value, Write};
+
+// The relation of the tuples that say which mappings are in force.
+const FORCE_RELATION: u16 = 65535;
+
+/// Whether the tuple may decide which violation of the mapping is the first that the own writes caused in this direction.
+/// Forward it joins with a tuple that they insert, or it is of a relation of the mapping and they put mappings in force;
+/// backward it is of a relation of the mapping. It takes no memory.
+pub(crate) fn may_decide(
+    mapping: Option<&Mapping>,
+    direction: Direction,
+    own: &[Write],
+    tuple: &Tuple,
+) -> bool
+    ensures { result ≡ concerns_rule (heading_of direction) (map change_of own.now)
+        (option_map rule_of (option_copied mapping.entry)) (fact_of tuple.now) }
+{
+    let Some(mapping) = mapping else {
+        return false;
+    };
+    match direction {
+        Direction::Forward => may_decide_forward(mapping, own, tuple),
+        Direction::Backward => is_of(mapping, tuple.relation),
+    }
+}
+
+// The same forward.
+fn may_decide_forward(mapping: &Mapping, own: &[Write], tuple: &Tuple) -> bool
+    ensures { result ≡ concerns_rule Forward (map change_of own.now)
+        (Some (rule_of mapping.now)) (fact_of tuple.now) }
+{
+    if may_enact_any(own) && is_of(mapping, tuple.relation) {
+        return true;
+    }
+    joins_any(mapping, own, tuple)
+}
+
+// Whether one of the writes may put a mapping in force.
+fn may_enact_any(own: &[Write]) -> bool
+    ensures { result ≡ list_any may_enact_lem (map change_of own.now) }
+{
+    own.iter().any(|write| may_enact(write))
+}
+
+// Whether the write may put a mapping in force.
+fn may_enact(write: &Write) -> bool
+    ensures { result ≡ may_enact_lem (change_of write.now) }
+{
+    tuple_of(write).relation == FORCE_RELATION
+}
+
+// Whether an atom of the mapping is of the relation.
+fn is_of(mapping: &Mapping, relation: u16) -> bool
+    ensures { result ≡ rule_mentions (Some (rule_of mapping.now)) relation }
+{
+    if stands_in(mapping.left.as_slice(), relation) {
+        return true;
+    }
+    stands_in(mapping.right.as_slice(), relation)
+}
+
+// Whether one of the atoms is of the relation.
+fn stands_in(atoms: &[Atom], relation: u16) -> bool
+    ensures { result ≡ list_any (λ a. a.relation == relation) (map pattern_of atoms.now) }
+{
+    atoms.iter().any(|atom| atom.relation == relation)
+}
+
+// Whether one of the writes inserts a tuple that may join with this one.
+fn joins_any(mapping: &Mapping, own: &[Write], tuple: &Tuple) -> bool
+    ensures { result ≡ list_any (joins_lem (rule_of mapping.now) (fact_of tuple.now))
+        (map change_of own.now) }
+{
+    own.iter().any(|write| joins(mapping, write, tuple))
+}
+
+// Whether the write inserts a tuple that may join with this one.
+fn joins(mapping: &Mapping, write: &Write, tuple: &Tuple) -> bool
+    ensures { result ≡
+        joins_lem (rule_of mapping.now) (fact_of tuple.now) (change_of write.now) }
+{
+    match write {
+        Write::Insert(own) => may_join(mapping, own, tuple),
+        Write::Delete(_) => false,
+    }
+}
+
+// Whether, with the first tuple at a left atom of the mapping, the second may stand at some atom of it.
+fn may_join(mapping: &Mapping, own: &Tuple, tuple: &Tuple) -> bool
+    ensures { result ≡
+        may_join_lem (rule_of mapping.now) (fact_of own.now) (fact_of tuple.now) }
+{
+    mapping
+        .left
+        .as_slice()
+        .iter()
+        .any(|atom| joins_at(mapping, atom, own, tuple))
+}
+
+// Whether, with the first tuple at this atom, the second may stand at some atom of the mapping.
+fn joins_at(mapping: &Mapping, atom: &Atom, own: &Tuple, tuple: &Tuple) -> bool
+    ensures { result ≡ list_any (λ c. stand_together_lem (pattern_of atom.now)
+        (fact_of own.now) c (fact_of tuple.now))
+        ((rule_of mapping.now).left ++ (rule_of mapping.now).right) }
+{
+    if joins_among(mapping.left.as_slice(), atom, own, tuple) {
+        return true;
+    }
+    joins_among(mapping.right.as_slice(), atom, own, tuple)
+}
+
+// Whether, with the first tuple at this atom, the second may stand at one of the others.
+fn joins_among(others: &[Atom], atom: &Atom, own: &Tuple, tuple: &Tuple) -> bool
+    ensures { result ≡ list_any (λ c. stand_together_lem (pattern_of atom.now)
+        (fact_of own.now) c (fact_of tuple.now)) (map pattern_of others.now) }
+{
+    others
+        .iter()
+        .any(|other| stand_together(atom, own, other, tuple))
+}
+
+// Whether one binding may make the first atom the first tuple and the second the second.
+fn stand_together(atom: &Atom, own: &Tuple, other: &Atom, tuple: &Tuple) -> bool
+    ensures { result ≡ stand_together_lem (pattern_of atom.now) (fact_of own.now)
+        (pattern_of other.now) (fact_of tuple.now) }
+{
+    if other.relation != tuple.relation {
+        return false;
+    }
+    if atom.relation != own.relation {
+        return false;
+    }
+    all_agree(atom, own, other, tuple)
+}
+
+// Whether no variable that both atoms have stands for two values.
+fn all_agree(atom: &Atom, own: &Tuple, other: &Atom, tuple: &Tuple) -> bool
+    ensures { result ≡ list_all (λ p. list_all (agree p)
+        (columns (pattern_of other.now) (fact_of tuple.now)))
+        (columns (pattern_of atom.now) (fact_of own.now)) }
+{
+    atom.terms
+        .as_slice()
+        .iter()
+        .zip(own.values.as_slice())
+        .all(|(term, value)| agrees(term, value, other, tuple))
+}
+
+// Whether the term, where it stands for the value, agrees with the atom, where that is the tuple.
+fn agrees(term: &Term, value: &Value, other: &Atom, tuple: &Tuple) -> bool
+    ensures { result ≡ list_all (agree (slot_of term.now, datum_of value.now))
+        (columns (pattern_of other.now) (fact_of tuple.now)) }
+{
+    other
+        .terms
+        .as_slice()
+        .iter()
+        .zip(tuple.values.as_slice())
+        .all(|(its_term, its_value)| may_be(term, value, its_term, its_value))
+}
+
+// Whether one binding may give the two terms these values.
+fn may_be(term: &Term, value: &Value, other: &Term, its_value: &Value) -> bool
+    ensures { result ≡ may_be_lem (slot_of term.now) (datum_of value.now)
+        (slot_of other.now) (datum_of its_value.now) }
+{
+    match term {
+        Term::Var(variable) => match other {
+            Term::Var(its_variable) => variable != its_variable || value == its_value,
+            Term::Const(_) => true,
+        },
+        Term::Const(_) => true,
+    }
+}
