@@ -18,8 +18,11 @@ pub(crate) fn see<'a, F: Facts>(
 ) -> Result<(), Memory>
     requires few { count ≤ length own.now }
     requires some { seen ≤ length own.now }
-    requires seen { view.old ≡ record { below = F.tuples below.now; own = take seen (map change_of own.now) } }
-    ensures seen { OnOk result (view.new ≡ record { below = F.tuples below.now; own = take count (map change_of own.now) }) }
+    requires seen { view.old
+        ≡ record { below = F.tuples below.now; own = take seen (map change_of own.now) } }
+    ensures seen { OnOk result
+        (view.new
+         ≡ record { below = F.tuples below.now; own = take count (map change_of own.now) }) }
 {
     if count < seen {
         *view = View::new(alloc, below);

@@ -19,7 +19,8 @@ pub(crate) fn take_out(
     tuples: TupleList,
 ) -> Result<TupleList, Memory>
     requires sorted { IsRepository sought.old }
-    ensures taken { IfOk result (λ taken. facts_of taken ≡ filter (has (facts_of tuples)) sought.old) }
+    ensures taken { IfOk result (λ taken.
+        facts_of taken ≡ filter (has (facts_of tuples)) sought.old) }
     ensures left { OnOk result (sought.new ≡
         filter (λ t. not (has (facts_of tuples) t)) sought.old) }
 {
@@ -62,7 +63,8 @@ pub(crate) fn seek(alloc: Global, sought: &mut PlainFacts, how: &How) -> Result<
 
 // Seeks also these tuples.
 fn seek_all(alloc: Global, sought: &mut PlainFacts, tuples: &[Tuple]) -> Result<(), Memory>
-    ensures sought { OnOk result (sought.new ≡ apply sought.old (map Insert (map fact_of tuples.now))) }
+    ensures sought { OnOk result
+        (sought.new ≡ apply sought.old (map Insert (map fact_of tuples.now))) }
 {
     for tuple in tuples {
         sought.insert(tuple.copy(alloc)?)?;

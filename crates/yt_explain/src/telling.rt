@@ -40,7 +40,8 @@ fn tell(
 ) -> Result<(), Memory>
     requires sorted { IsRepository sought.old }
     ensures sorted { OnOk result (IsRepository sought.new) }
-    ensures told { OnOk result (HasTold (note_of note.now) reasons.old sought.old reasons.new sought.new) }
+    ensures told { OnOk result
+        (HasTold (note_of note.now) reasons.old sought.old reasons.new sought.new) }
 {
     let puts = note.puts.copy(alloc)?;
     let taken = take_out(alloc, sought, puts)?;
@@ -80,7 +81,8 @@ fn reason_by(alloc: Global, note: &Note, tuple: Tuple) -> Result<Reason, Memory>
 
 // How the note's step came to the tuple.
 fn how_by(alloc: Global, note: &Note, tuple: &Tuple) -> Result<How, Memory>
-    ensures how { IfOk result (λ how. how_of how ≡ (reason_by_lem (note_of note.now) (fact_of tuple.now)).how) }
+    ensures how { IfOk result (λ how.
+        how_of how ≡ (reason_by_lem (note_of note.now) (fact_of tuple.now)).how) }
 {
     let update = note.update;
     let step = note.step;
@@ -102,7 +104,8 @@ fn how_by(alloc: Global, note: &Note, tuple: &Tuple) -> Result<How, Memory>
 
 // Tells that the tuples are of the base.
 fn root(alloc: Global, reasons: &mut Explanation, sought: PlainFacts) -> Result<(), Memory>
-    ensures rooted { OnOk result (reasons_in reasons.new ≡ reasons_in reasons.old ++ map rooted sought) }
+    ensures rooted { OnOk result
+        (reasons_in reasons.new ≡ reasons_in reasons.old ++ map rooted sought) }
 {
     for tuple in sought.into_list(alloc)?.into_vec() {
         reasons.push(Reason {

@@ -125,7 +125,8 @@ fn with_rewriting(
     update: u32,
     step: u32,
 ) -> Result<Line, Memory>
-    ensures json { IfOk result (λ l. l ≡ with_json line (rewritten_json update step from.now tuple.now)) }
+    ensures json { IfOk result (λ l.
+        l ≡ with_json line (rewritten_json update step from.now tuple.now)) }
 {
     line.begin_object()?
         .key(b"from")?

@@ -38,8 +38,10 @@ pub fn create<D: Disk>(
     requires settled { IsSettled (D.state disk.old) }
     requires session { IsSession (session_of session.now) }
     requires no_updates { (session_of session.now).updates ≡ [] }
-    ensures made { IfOk result (λ journal. IsAt (D.state disk.new) (session_of session.now) [] journal) }
-    ensures bytes { OnOk result ((D.state disk.new).bytes ≡ journal_text (session_of session.now) []) }
+    ensures made { IfOk result (λ journal.
+        IsAt (D.state disk.new) (session_of session.now) [] journal) }
+    ensures bytes { OnOk result
+        ((D.state disk.new).bytes ≡ journal_text (session_of session.now) []) }
     ensures told { CreateTold (length (printed (session_of session.now))) disk.old disk.new
         (D.state disk.old) (D.state disk.new) result }
     ensures reliable { (D.state disk.new).reliable ≡ (D.state disk.old).reliable }
@@ -76,15 +78,24 @@ pub fn append<D: Disk>(
     requires next { commit.now.number ≡ journal.commits + 1 }
     requires writes { AllByRecursion (IsWrite session.now.schema) (writes_of commit.now) }
     requires small { length (D.state disk.old).bytes < 2 ^ 63 }
-    ensures images { (commits : List (List Change)) → IsAt (D.state disk.old) (session_of session.now) commits journal
-        → IsAppending (session_of session.now) commits (writes_of commit.now) (D.state disk.old) (D.state disk.new) }
-    ensures acknowledged { (commits : List (List Change)) → IsAt (D.state disk.old) (session_of session.now) commits journal
-        → IfOk result (λ next. IsAt (D.state disk.new) (session_of session.now) (commits ++ writes_of commit.now ∷ []) next) }
-    ensures bytes { (commits : List (List Change)) → IsAt (D.state disk.old) (session_of session.now) commits journal
+    ensures images { (commits : List (List Change))
+        → IsAt (D.state disk.old) (session_of session.now) commits journal
+        → IsAppending (session_of session.now) commits (writes_of commit.now) (D.state disk.old)
+            (D.state disk.new) }
+    ensures acknowledged { (commits : List (List Change))
+        → IsAt (D.state disk.old) (session_of session.now) commits journal
+        → IfOk result (λ next.
+            IsAt (D.state disk.new) (session_of session.now) (commits ++ writes_of commit.now ∷ [])
+            next) }
+    ensures bytes { (commits : List (List Change))
+        → IsAt (D.state disk.old) (session_of session.now) commits journal
         → (D.state disk.old).bytes ≡ journal_text (session_of session.now) commits
-        → OnOk result ((D.state disk.new).bytes ≡ journal_text (session_of session.now) (commits ++ writes_of commit.now ∷ [])) }
-    ensures told { AppendTold journal (length (commit_text session.now.schema commit.now.number (writes_of commit.now)))
-        disk.old disk.new (D.state disk.old) (D.state disk.new) result }
+        → OnOk result
+            ((D.state disk.new).bytes
+             ≡ journal_text (session_of session.now) (commits ++ writes_of commit.now ∷ [])) }
+    ensures told { AppendTold journal
+        (length (commit_text session.now.schema commit.now.number (writes_of commit.now))) disk.old
+        disk.new (D.state disk.old) (D.state disk.new) result }
     ensures reliable { (D.state disk.new).reliable ≡ (D.state disk.old).reliable }
 {
     numbers_fit(commit.number);

@@ -23,7 +23,9 @@ pub(crate) fn with_gate(alloc: Global, payload: &[u8]) -> Result<Vec<u8>, Memory
 pub(crate) fn split_frame(bytes: &[u8]) -> Option<(&[u8], &[u8])>
     ensures some { IfSome result (λ parts. bytes.now ≡ framed parts.0.now ++ parts.1.now) }
     ensures short { IfSome result (λ parts. length parts.0.now < 2 ^ 32) }
-    ensures none { IfNone result ((payload rest : List ℕ) → length payload < 2 ^ 32 → bytes.now ≡ framed payload ++ rest → ⊥) }
+    ensures none { IfNone result
+        ((payload rest : List ℕ) → length payload < 2 ^ 32 → bytes.now ≡ framed payload ++ rest
+         → ⊥) }
 {
     if bytes.len() < 4 {
         return None;

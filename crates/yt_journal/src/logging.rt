@@ -18,12 +18,14 @@ pub(crate) fn write_synced<D: Disk>(
     ensures images { LeavesOnly (D.state disk.old) (D.state disk.new)
         (IsTorn (range_of at bytes.now) (D.state disk.old).bytes) }
     ensures lasts { OnOk result (IsSettled (D.state disk.new)) }
-    ensures written { OnOk result ((D.state disk.new).bytes ≡ written at bytes.now (D.state disk.old).bytes) }
+    ensures written { OnOk result
+        ((D.state disk.new).bytes ≡ written at bytes.now (D.state disk.old).bytes) }
     ensures time { GoesOn (D.state disk.old) (D.state disk.new) }
     ensures read { IsLeft (D.state disk.new) (D.state disk.new).bytes }
     ensures later { (D.state disk.old).faults ≤ (D.state disk.new).faults }
     ensures reliable { (D.state disk.new).reliable ≡ (D.state disk.old).reliable }
-    ensures failed { IsErrOf result DiskRefusal.Failed → HasFailed (D.state disk.old) (D.state disk.new) }
+    ensures failed { IsErrOf result DiskRefusal.Failed
+        → HasFailed (D.state disk.old) (D.state disk.new) }
 {
     disk.write_at(at, bytes)?;
     disk.sync()
@@ -38,12 +40,14 @@ pub(crate) fn log_record<D: Disk>(disk: &mut D, gate: usize, text: &[u8]) -> Res
     ensures images { LeavesOnly (D.state disk.old) (D.state disk.new)
         (IsBeingLogged gate text.now (D.state disk.old).bytes) }
     ensures lasts { OnOk result (IsSettled (D.state disk.new)) }
-    ensures logged { OnOk result ((D.state disk.new).bytes ≡ opened_at gate text.now (D.state disk.old).bytes) }
+    ensures logged { OnOk result
+        ((D.state disk.new).bytes ≡ opened_at gate text.now (D.state disk.old).bytes) }
     ensures time { GoesOn (D.state disk.old) (D.state disk.new) }
     ensures read { IsLeft (D.state disk.new) (D.state disk.new).bytes }
     ensures later { (D.state disk.old).faults ≤ (D.state disk.new).faults }
     ensures reliable { (D.state disk.new).reliable ≡ (D.state disk.old).reliable }
-    ensures failed { IsErrOf result DiskRefusal.Failed → HasFailed (D.state disk.old) (D.state disk.new) }
+    ensures failed { IsErrOf result DiskRefusal.Failed
+        → HasFailed (D.state disk.old) (D.state disk.new) }
 {
     write_synced(disk, gate + 1, text)?;
     write_synced(disk, gate, &[1])

@@ -21,7 +21,10 @@ fn push_tuple(
     sign: u8,
     tuple: &Tuple,
 ) -> Result<(), Memory>
-    ensures { OnOk result (text.new.items ≡ text.old.items ++ (sign ∷ (tuple_text schema.now false (outer (fact_of tuple.now)) ++ 10 ∷ []))) }
+    ensures { OnOk result
+        (text.new.items
+         ≡ text.old.items
+             ++ (sign ∷ (tuple_text schema.now false (outer (fact_of tuple.now)) ++ 10 ∷ []))) }
 {
     let fact = print_tuple(alloc, schema, tuple, false)?;
     text.push(sign)?;
@@ -37,7 +40,9 @@ fn push_write(
     schema: &Schema,
     write: &Write,
 ) -> Result<(), Memory>
-    ensures { OnOk result (text.new.items ≡ text.old.items ++ write_lines schema.now (logged_one (change_of write.now))) }
+    ensures { OnOk result
+        (text.new.items
+         ≡ text.old.items ++ write_lines schema.now (logged_one (change_of write.now))) }
 {
     let (sign, tuple) = match write {
         Write::Insert(tuple) => (b'+', tuple),
@@ -56,7 +61,9 @@ fn push_writes(
     schema: &Schema,
     writes: &[Write],
 ) -> Result<(), Memory>
-    ensures { OnOk result (text.new.items ≡ text.old.items ++ write_lines schema.now (logged (map change_of writes.now))) }
+    ensures { OnOk result
+        (text.new.items
+         ≡ text.old.items ++ write_lines schema.now (logged (map change_of writes.now))) }
 {
     for write in writes {
         push_write(alloc, text, schema, write)?;
@@ -79,7 +86,10 @@ pub(crate) fn commit_text(
     schema: &Schema,
     commit: &Commit,
 ) -> Result<Vec<u8>, Memory>
-    ensures { IfOk result (λ text. text.items ≡ commit_text schema.now commit.now.number (logged (map change_of commit.now.writes.items))) }
+    ensures { IfOk result (λ text.
+        text.items
+        ≡ commit_text schema.now commit.now.number
+            (logged (map change_of commit.now.writes.items))) }
 {
     let mut text = commit_line(alloc, commit.number)?;
     push_writes(alloc, &mut text, schema, commit.writes.as_slice())?;

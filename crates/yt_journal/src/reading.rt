@@ -63,8 +63,12 @@ fn if_printed(
     text: &[u8],
     tuple: Tuple,
 ) -> Result<Option<Tuple>, Memory>
-    ensures some { IfOk result (λ found. IfSome found (λ t. (fact_of t ≡ fact_of tuple) × (text.now ≡ tuple_text session.now.schema false (fact_of tuple)))) }
-    ensures none { IfOk result (λ found. IfNone found (text.now ≡ tuple_text session.now.schema false (fact_of tuple) → ⊥)) }
+    ensures some { IfOk result (λ found.
+        IfSome found (λ t.
+        (fact_of t ≡ fact_of tuple)
+        × (text.now ≡ tuple_text session.now.schema false (fact_of tuple)))) }
+    ensures none { IfOk result (λ found.
+        IfNone found (text.now ≡ tuple_text session.now.schema false (fact_of tuple) → ⊥)) }
 {
     let form = print_tuple(alloc, &session.schema, &tuple, false)?;
     if form.as_slice() == text {
@@ -76,8 +80,14 @@ fn if_printed(
 // The tuple of the session's relations whose printed form the text is.
 fn read_printed(alloc: Global, session: &Session, text: &[u8]) -> Result<Option<Tuple>, Memory>
     requires { IsSession (session_of session.now) }
-    ensures some { IfOk result (λ found. IfSome found (λ t. (text.now ≡ tuple_text session.now.schema false (fact_of t)) × IsTuple session.now.schema (fact_of t))) }
-    ensures none { IfOk result (λ found. IfNone found ((t : Fact) → IsTuple session.now.schema t → text.now ≡ tuple_text session.now.schema false t → ⊥)) }
+    ensures some { IfOk result (λ found.
+        IfSome found (λ t.
+        (text.now ≡ tuple_text session.now.schema false (fact_of t))
+        × IsTuple session.now.schema (fact_of t))) }
+    ensures none { IfOk result (λ found.
+        IfNone found
+        ((t : Fact) → IsTuple session.now.schema t
+         → text.now ≡ tuple_text session.now.schema false t → ⊥)) }
 {
     tuples_are_read_again();
     lines_say_tuples();
@@ -90,9 +100,15 @@ fn read_printed(alloc: Global, session: &Session, text: &[u8]) -> Result<Option<
 
 // The write of the tuple by its sign; None where it is no sign.
 fn signed(sign: u8, tuple: Tuple) -> Option<Write>
-    ensures text { IfSome result (λ w. (relations : List RelationSchema) → sign ∷ tuple_text relations false (fact_of tuple) ≡ write_text relations (change_of w)) }
-    ensures of_tuple { IfSome result (λ w. (relations : List RelationSchema) → IsTuple relations (fact_of tuple) → IsWrite relations (change_of w)) }
-    ensures none { IfNone result ((relations : List RelationSchema) (text : List ℕ) (w : Change) → sign ∷ text ≡ write_text relations w → ⊥) }
+    ensures text { IfSome result (λ w.
+        (relations : List RelationSchema)
+        → sign ∷ tuple_text relations false (fact_of tuple) ≡ write_text relations (change_of w)) }
+    ensures of_tuple { IfSome result (λ w.
+        (relations : List RelationSchema) → IsTuple relations (fact_of tuple)
+        → IsWrite relations (change_of w)) }
+    ensures none { IfNone result
+        ((relations : List RelationSchema) (text : List ℕ) (w : Change)
+         → sign ∷ text ≡ write_text relations w → ⊥) }
 {
     match sign {
         b'+' => Some(Write::Insert(tuple)),
@@ -104,8 +120,14 @@ fn signed(sign: u8, tuple: Tuple) -> Option<Write>
 // The write of the session's relations whose text the line is.
 fn read_write(alloc: Global, session: &Session, line: &[u8]) -> Result<Option<Write>, Memory>
     requires { IsSession (session_of session.now) }
-    ensures some { IfOk result (λ found. IfSome found (λ w. (line.now ≡ write_text session.now.schema (change_of w)) × IsWrite session.now.schema (change_of w))) }
-    ensures none { IfOk result (λ found. IfNone found ((w : Change) → IsWrite session.now.schema w → line.now ≡ write_text session.now.schema w → ⊥)) }
+    ensures some { IfOk result (λ found.
+        IfSome found (λ w.
+        (line.now ≡ write_text session.now.schema (change_of w))
+        × IsWrite session.now.schema (change_of w))) }
+    ensures none { IfOk result (λ found.
+        IfNone found
+        ((w : Change) → IsWrite session.now.schema w → line.now ≡ write_text session.now.schema w
+         → ⊥)) }
 {
     let [sign, text @ ..] = line else {
         return Ok(None);
@@ -119,8 +141,14 @@ fn read_write(alloc: Global, session: &Session, line: &[u8]) -> Result<Option<Wr
 // The writes of the session's relations whose lines the text is.
 fn read_writes(alloc: Global, session: &Session, text: &[u8]) -> Result<Option<WriteList>, Memory>
     requires { IsSession (session_of session.now) }
-    ensures some { IfOk result (λ found. IfSome found (λ ws. (text.now ≡ write_lines session.now.schema (map change_of ws.items)) × AllByRecursion (IsWrite session.now.schema) (map change_of ws.items))) }
-    ensures none { IfOk result (λ found. IfNone found ((ws : List Change) → AllByRecursion (IsWrite session.now.schema) ws → text.now ≡ write_lines session.now.schema ws → ⊥)) }
+    ensures some { IfOk result (λ found.
+        IfSome found (λ ws.
+        (text.now ≡ write_lines session.now.schema (map change_of ws.items))
+        × AllByRecursion (IsWrite session.now.schema) (map change_of ws.items))) }
+    ensures none { IfOk result (λ found.
+        IfNone found
+        ((ws : List Change) → AllByRecursion (IsWrite session.now.schema) ws
+         → text.now ≡ write_lines session.now.schema ws → ⊥)) }
 {
     tuples_are_read_again();
     let mut writes = WriteList::new(alloc);
@@ -146,8 +174,14 @@ fn read_commit(
     payload: &[u8],
 ) -> Result<Option<WriteList>, Memory>
     requires { IsSession (session_of session.now) }
-    ensures some { IfOk result (λ found. IfSome found (λ ws. (payload.now ≡ commit_text session.now.schema number (map change_of ws.items)) × AllByRecursion (IsWrite session.now.schema) (map change_of ws.items))) }
-    ensures none { IfOk result (λ found. IfNone found ((ws : List Change) → AllByRecursion (IsWrite session.now.schema) ws → payload.now ≡ commit_text session.now.schema number ws → ⊥)) }
+    ensures some { IfOk result (λ found.
+        IfSome found (λ ws.
+        (payload.now ≡ commit_text session.now.schema number (map change_of ws.items))
+        × AllByRecursion (IsWrite session.now.schema) (map change_of ws.items))) }
+    ensures none { IfOk result (λ found.
+        IfNone found
+        ((ws : List Change) → AllByRecursion (IsWrite session.now.schema) ws
+         → payload.now ≡ commit_text session.now.schema number ws → ⊥)) }
 {
     let head = commit_line(alloc, number)?;
     match behind(&head, payload) {
@@ -190,8 +224,11 @@ fn take_commit<'a>(
     bytes: &'a [u8],
 ) -> Result<Option<&'a [u8]>, Memory>
     requires { IsSession (session_of session.now) }
-    ensures some { IfOk result (λ found. IfSome found (λ rest. TakesCommit session.now.schema number bytes.now rest.now facts.old facts.new)) }
-    ensures none { IfOk result (λ found. IfNone found (HasNoCommit session.now.schema number bytes.now)) }
+    ensures some { IfOk result (λ found.
+        IfSome found (λ rest.
+        TakesCommit session.now.schema number bytes.now rest.now facts.old facts.new)) }
+    ensures none { IfOk result (λ found.
+        IfNone found (HasNoCommit session.now.schema number bytes.now)) }
 {
     let Some((payload, rest)) = split_frame(bytes) else {
         return Ok(None);
@@ -205,8 +242,13 @@ fn take_commit<'a>(
 
 // The session, where the payload is its printed form and it has no updates.
 fn if_opening(alloc: Global, session: Session, payload: &[u8]) -> Result<Option<Session>, Memory>
-    ensures some { IfOk result (λ found. IfSome found (λ s. (session_of s ≡ session_of session) × ((session_of session).updates ≡ []) × (payload.now ≡ printed (session_of session)))) }
-    ensures none { IfOk result (λ found. IfNone found ((session_of session).updates ≡ [] → payload.now ≡ printed (session_of session) → ⊥)) }
+    ensures some { IfOk result (λ found.
+        IfSome found (λ s.
+        (session_of s ≡ session_of session) × ((session_of session).updates ≡ [])
+        × (payload.now ≡ printed (session_of session)))) }
+    ensures none { IfOk result (λ found.
+        IfNone found
+        ((session_of session).updates ≡ [] → payload.now ≡ printed (session_of session) → ⊥)) }
 {
     if session.updates.len() != 0 {
         return Ok(None);
@@ -231,8 +273,10 @@ fn begins_header(payload: &[u8]) -> bool
 // The session of a journal whose printed form the payload is.
 fn read_opening(alloc: Global, payload: &[u8]) -> Result<Option<Session>, Memory>
     requires { length payload.now < 2 ^ 32 }
-    ensures some { IfOk result (λ found. IfSome found (λ s. (payload.now ≡ printed (session_of s)) × IsOpening (session_of s))) }
-    ensures none { IfOk result (λ found. IfNone found ((s : SessionData) → IsOpening s → payload.now ≡ printed s → ⊥)) }
+    ensures some { IfOk result (λ found.
+        IfSome found (λ s. (payload.now ≡ printed (session_of s)) × IsOpening (session_of s))) }
+    ensures none { IfOk result (λ found.
+        IfNone found ((s : SessionData) → IsOpening s → payload.now ≡ printed s → ⊥)) }
 {
     sessions_are_read_again();
     every_input_has_one_answer();

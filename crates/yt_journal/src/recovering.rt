@@ -17,7 +17,8 @@ fn load_synced<D: Disk>(alloc: Global, disk: &mut D) -> Result<Vec<u8>, DiskRefu
     ensures read { IsLeft (D.state disk.new) (D.state disk.new).bytes }
     ensures later { (D.state disk.old).faults ≤ (D.state disk.new).faults }
     ensures reliable { (D.state disk.new).reliable ≡ (D.state disk.old).reliable }
-    ensures failed { IsErrOf result DiskRefusal.Failed → HasFailed (D.state disk.old) (D.state disk.new) }
+    ensures failed { IsErrOf result DiskRefusal.Failed
+        → HasFailed (D.state disk.old) (D.state disk.new) }
 {
     disk.sync()?;
     disk.load(alloc)

@@ -57,7 +57,7 @@ TookPrefix replies took source out = TakesSome out (replies (took ++ left_of sou
 abbrev pub IsViolation : Ending → List ℕ → List Fact → Type 0
 IsViolation ending name image = ending ≡ Violates (record { name = name; image = image })
 
--- *Reach* (d): what each end says. With `Ended` the sink took exactly the replies to what the source held; with any other
+-- What each end says. With `Ended` the sink took exactly the replies to what the source held; with any other
 -- end a prefix of them.
 abbrev pub Serves : ℕ → Settings → LiveEnd → Change → Change → Type 0
 Serves budget c ends.Ended source out = Gave source (λ took. HasEnded (live budget c took) source out)

@@ -131,8 +131,8 @@ fn serve_text<S: Source, O: Sink>(
 ) -> Result<(), LiveEnd>
     requires retries { settings.retries ≤ 4 }
     requires short { length text.now ≤ INPUT_LIMIT + 1 }
-    ensures serves { ServesText (opened_with budget (settings_of settings) (read text.now)) lines.old
-        (end_of result) (change S.left S.fault_count source.old source.new)
+    ensures serves { ServesText (opened_with budget (settings_of settings) (read text.now))
+        lines.old (end_of result) (change S.left S.fault_count source.old source.new)
         (change O.taken O.fault_count sink.old sink.new) }
 {
     let session = session_in(alloc, text)?;

@@ -38,8 +38,15 @@ pub fn plan_step<F: Facts>(
 ) -> Result<Plan, Memory>
     requires wanted { WantsStep (wish program.now) (option_map choice_of (option_copied choice)) }
     requires left { program.now.attempt.steps < budget }
-    ensures program { IfOk result (λ plan. plan.program ≡ at_rest (next_attempt mappings.now budget (F.tuples below.now) program.now.attempt (option_map choice_of (option_copied choice.entry)))) }
-    ensures reads { IfOk result (λ plan. map read_of plan.reads.items ≡ next_reads mappings.now (F.tuples below.now) program.now.attempt (option_map choice_of (option_copied choice.entry))) }
+    ensures program { IfOk result (λ plan.
+        plan.program
+        ≡ at_rest
+            (next_attempt mappings.now budget (F.tuples below.now) program.now.attempt
+             (option_map choice_of (option_copied choice.entry)))) }
+    ensures reads { IfOk result (λ plan.
+        map read_of plan.reads.items
+        ≡ next_reads mappings.now (F.tuples below.now) program.now.attempt
+            (option_map choice_of (option_copied choice.entry))) }
 {
     // The set tells that it is in order.
     let _ = below.beyond(None);
@@ -67,7 +74,11 @@ fn begin(
 ) -> Result<(), Memory>
     requires wanted { WantsStep (wish program.old) (option_map choice_of (option_copied choice)) }
     requires left { program.old.attempt.steps < budget }
-    ensures step { OnOk result (course mappings.now program.new ≡ coming_to budget program.old.attempt (step mappings.now program.old.attempt (option_map choice_of (option_copied choice.entry)))) }
+    ensures step { OnOk result
+        (course mappings.now program.new
+         ≡ coming_to budget program.old.attempt
+             (step mappings.now program.old.attempt
+              (option_map choice_of (option_copied choice.entry)))) }
 {
     match choice {
         Some(choice) => program.choose(alloc, choice, mappings, budget),
@@ -86,8 +97,19 @@ fn answer_all<F: Facts>(
     made: u64,
 ) -> Result<ReadLog, Memory>
     requires sorted { IsRepository view.now.below }
-    ensures answered { OnOk result (program.new ≡ at_rest (result_of (λ q. value mappings.now q view.now.below view.now.own (Caused (heading_of direction))) (course mappings.now program.old))) }
-    ensures reads { IfOk result (λ reads. map read_of reads.items ≡ map (read_after made) (log_of (λ q. value mappings.now q view.now.below view.now.own (Caused (heading_of direction))) (course mappings.now program.old))) }
+    ensures answered { OnOk result
+        (program.new
+         ≡ at_rest
+             (result_of
+              (λ q.
+                  value mappings.now q view.now.below view.now.own (Caused (heading_of direction)))
+              (course mappings.now program.old))) }
+    ensures reads { IfOk result (λ reads.
+        map read_of reads.items
+        ≡ map (read_after made)
+            (log_of
+             (λ q. value mappings.now q view.now.below view.now.own (Caused (heading_of direction)))
+             (course mappings.now program.old))) }
 {
     let mut reads = ReadLog::new(alloc);
     'queries: loop {

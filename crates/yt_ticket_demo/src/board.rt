@@ -61,10 +61,14 @@ impl Board {
 
     /// The next ticket for this seat; with none left, whether one is out.
     pub fn offer(&mut self, maker: u64) -> Result<Offer<Ticket>, AllocError>
-        ensures extends { Extends maker (made_all self.old.items.items) (made_all self.new.items.items) }
-        ensures given { given_to maker (made_all self.new.items.items) ≡ given_to maker (made_all self.old.items.items) + tickets_in result }
-        ensures returned { returned_by maker (made_all self.new.items.items) ≡ returned_by maker (made_all self.old.items.items) }
-        ensures ticket { IfOk result (IfTicket (λ _. IsHeld maker (made_all self.new.items.items))) }
+        ensures extends { Extends maker (made_all self.old.items.items)
+            (made_all self.new.items.items) }
+        ensures given { given_to maker (made_all self.new.items.items)
+            ≡ given_to maker (made_all self.old.items.items) + tickets_in result }
+        ensures returned { returned_by maker (made_all self.new.items.items)
+            ≡ returned_by maker (made_all self.old.items.items) }
+        ensures ticket { IfOk result
+            (IfTicket (λ _. IsHeld maker (made_all self.new.items.items))) }
         ensures quiet { IfOk result (IfQuiet (NoneOut (made_all self.new.items.items))) }
     {
         if self.given < self.tickets {
@@ -80,9 +84,12 @@ impl Board {
     // One more ticket, with room for its return.
     fn give(&mut self, maker: u64) -> Result<Ticket, AllocError>
         requires left { self.old.given < self.old.tickets }
-        ensures extends { Extends maker (made_all self.old.items.items) (made_all self.new.items.items) }
-        ensures given { given_to maker (made_all self.new.items.items) ≡ given_to maker (made_all self.old.items.items) + tickets_spent result }
-        ensures returned { returned_by maker (made_all self.new.items.items) ≡ returned_by maker (made_all self.old.items.items) }
+        ensures extends { Extends maker (made_all self.old.items.items)
+            (made_all self.new.items.items) }
+        ensures given { given_to maker (made_all self.new.items.items)
+            ≡ given_to maker (made_all self.old.items.items) + tickets_spent result }
+        ensures returned { returned_by maker (made_all self.new.items.items)
+            ≡ returned_by maker (made_all self.old.items.items) }
     {
         self.items.reserve(self.holders.len() + 2)?;
         self.holders.reserve(1)?;
@@ -99,9 +106,12 @@ impl Board {
     /// Takes a ticket back from this seat, which holds one.
     pub fn take_back(&mut self, maker: u64, ticket: Ticket)
         requires held { IsHeld maker (made_all self.old.items.items) }
-        ensures extends { Extends maker (made_all self.old.items.items) (made_all self.new.items.items) }
-        ensures given { given_to maker (made_all self.new.items.items) ≡ given_to maker (made_all self.old.items.items) }
-        ensures returned { returned_by maker (made_all self.new.items.items) ≡ returned_by maker (made_all self.old.items.items) + 1 }
+        ensures extends { Extends maker (made_all self.old.items.items)
+            (made_all self.new.items.items) }
+        ensures given { given_to maker (made_all self.new.items.items)
+            ≡ given_to maker (made_all self.old.items.items) }
+        ensures returned { returned_by maker (made_all self.new.items.items)
+            ≡ returned_by maker (made_all self.old.items.items) + 1 }
     {
         let Ticket { number } = ticket;
         let Some(place) = place_of(self.holders.as_slice(), maker) else {
@@ -117,7 +127,8 @@ impl Board {
 
 // Where the seat first stands among the holders.
 fn place_of(holders: &[u64], maker: u64) -> Option<usize>
-    ensures found { IfSome result (λ i. (i < length holders.now) × (slice_index holders.now i ≡ maker)) }
+    ensures found { IfSome result (λ i.
+        (i < length holders.now) × (slice_index holders.now i ≡ maker)) }
     ensures none { IfNone result (count_for maker holders.now ≡ 0) }
 {
     for place in 0..holders.len() {

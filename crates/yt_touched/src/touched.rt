@@ -56,7 +56,8 @@ fn is_questioned(
 
 // Whether it shows a write, by an update below, of a relation that is read.
 fn adds_below(mappings: &MappingList, entry: &Entry, update: u32, reads: &[LoggedRead]) -> bool
-    ensures { result ≡ adds_below (mentioned_by mappings.now reads.now) update (entry_of entry.now) }
+    ensures { result
+        ≡ adds_below (mentioned_by mappings.now reads.now) update (entry_of entry.now) }
 {
     match entry {
         Entry::Stepped {

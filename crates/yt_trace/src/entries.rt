@@ -59,7 +59,8 @@ fn with_step(
     writes: &[Write],
     causes: &[Cause],
 ) -> Result<Line, Memory>
-    ensures { IfOk result (λ l. l ≡ with_json line (stepped_json schema.now (step_of made writes.now causes.now))) }
+    ensures { IfOk result (λ l.
+        l ≡ with_json line (stepped_json schema.now (step_of made writes.now causes.now))) }
 {
     let line = line
         .begin_object()?
@@ -80,7 +81,10 @@ fn with_step(
 }
 
 fn with_delivery(line: Line, update: u32, standing: Standing) -> Result<Line, Memory>
-    ensures { IfOk result (λ l. l ≡ with_json line (delivered_json (record { update = update; standing = standing_of standing }))) }
+    ensures { IfOk result (λ l.
+        l
+        ≡ with_json line
+            (delivered_json (record { update = update; standing = standing_of standing }))) }
 {
     line.begin_object()?
         .key(b"event")?
@@ -107,7 +111,13 @@ fn with_answer(
     choice: &Choice,
     standing: Standing,
 ) -> Result<Line, Memory>
-    ensures { IfOk result (λ l. l ≡ with_json line (answered_json schema.now (record { update = update; choice = choice_of choice.now; standing = standing_of standing }))) }
+    ensures { IfOk result (λ l.
+        l
+        ≡ with_json line
+            (answered_json schema.now
+             (record
+              { update = update; choice = choice_of choice.now;
+                standing = standing_of standing }))) }
 {
     let text = answer_text(alloc, schema, choice)?;
     line.begin_object()?
@@ -128,7 +138,12 @@ fn with_withdrawal(
     causes: &[Cause],
     committed: u32,
 ) -> Result<Line, Memory>
-    ensures { IfOk result (λ l. l ≡ with_json line (withdrawn_json (record { update = update; causes = map cause_of causes.now; committed = committed }))) }
+    ensures { IfOk result (λ l.
+        l
+        ≡ with_json line
+            (withdrawn_json
+             (record
+              { update = update; causes = map cause_of causes.now; committed = committed }))) }
 {
     let line = line.begin_object()?.key(b"causes")?;
     with_causes(line, causes)?

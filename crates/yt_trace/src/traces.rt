@@ -19,7 +19,8 @@ fn with_line(
     schema: &Schema,
     entry: &Entry,
 ) -> Result<Vec<u8>, Memory>
-    ensures { IfOk result (λ more. more.items ≡ text.items ++ line_of_entry schema.now (entry_of entry.now)) }
+    ensures { IfOk result (λ more.
+        more.items ≡ text.items ++ line_of_entry schema.now (entry_of entry.now)) }
 {
     let mut more = with_entry(alloc, Line::after(text), schema, entry)?.into_text();
     more.push(b'\n')?;
@@ -28,7 +29,8 @@ fn with_line(
 
 /// The line of an entry, with its line feed. It is refused only for want of memory.
 pub fn entry_line(alloc: Global, schema: &Schema, entry: &Entry) -> Result<Vec<u8>, Memory>
-    ensures line { IfOk result (λ line. line.items ≡ line_of_entry schema.now (entry_of entry.now)) }
+    ensures line { IfOk result (λ line.
+        line.items ≡ line_of_entry schema.now (entry_of entry.now)) }
 {
     with_line(alloc, Vec::new(alloc), schema, entry)
 }
@@ -51,7 +53,8 @@ fn with_lines(
     schema: &Schema,
     history: &[Entry],
 ) -> Result<Vec<u8>, Memory>
-    ensures { IfOk result (λ more. more.items ≡ text.items ++ flat_map (line_of_entry schema.now) (map entry_of history.now)) }
+    ensures { IfOk result (λ more.
+        more.items ≡ text.items ++ flat_map (line_of_entry schema.now) (map entry_of history.now)) }
 {
     for entry in history {
         text = with_line(alloc, text, schema, entry)?;
@@ -61,7 +64,8 @@ fn with_lines(
 
 /// The text of a trace: `trace N`, and the lines of the N entries. It is refused only for want of memory.
 pub fn trace_text(alloc: Global, schema: &Schema, history: &[Entry]) -> Result<Vec<u8>, Memory>
-    ensures text { IfOk result (λ text. text.items ≡ text_of_trace schema.now (map entry_of history.now)) }
+    ensures text { IfOk result (λ text.
+        text.items ≡ text_of_trace schema.now (map entry_of history.now)) }
 {
     let text = head(alloc, history.len())?;
     with_lines(alloc, text, schema, history)

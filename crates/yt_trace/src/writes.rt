@@ -13,7 +13,8 @@ use yt_schema::{Schema, print_tuple};
 
 // The sign and the printed tuple.
 fn signed(alloc: Global, schema: &Schema, sign: u8, tuple: &Tuple) -> Result<Vec<u8>, Memory>
-    ensures { IfOk result (λ text. text.items ≡ sign ∷ tuple_text schema.now true (fact_of tuple.now)) }
+    ensures { IfOk result (λ text.
+        text.items ≡ sign ∷ tuple_text schema.now true (fact_of tuple.now)) }
 {
     let printed = print_tuple(alloc, schema, tuple, true)?;
     let mut text = Vec::new(alloc);
@@ -38,7 +39,8 @@ fn with_each_write(
     schema: &Schema,
     writes: &[Write],
 ) -> Result<Line, Memory>
-    ensures { IfOk result (λ l. l ≡ with_all line (map (write_json schema.now) (map change_of writes.now))) }
+    ensures { IfOk result (λ l.
+        l ≡ with_all line (map (write_json schema.now) (map change_of writes.now))) }
 {
     for write in writes {
         let text = write_text(alloc, schema, write)?;
@@ -55,7 +57,8 @@ pub(crate) fn with_writes(
     schema: &Schema,
     writes: &[Write],
 ) -> Result<Line, Memory>
-    ensures { IfOk result (λ l. l ≡ with_json line (writes_json schema.now (map change_of writes.now))) }
+    ensures { IfOk result (λ l.
+        l ≡ with_json line (writes_json schema.now (map change_of writes.now))) }
 {
     with_each_write(alloc, line.begin_array()?, schema, writes)?.end_array()
 }

@@ -18,7 +18,8 @@ pub struct Below<'v> {
 impl<'v> Below<'v> {
     /// The tuples in order, copied. It is refused only for want of memory.
     pub fn list(&self, alloc: Global) -> Result<TupleList, Memory>
-        ensures tuples { IfOk result (λ list. map fact_of list.items ≡ seen self.now.number self.now.versions.now) }
+        ensures tuples { IfOk result (λ list.
+            map fact_of list.items ≡ seen self.now.number self.now.versions.now) }
     {
         self.versions.list(alloc, self.number)
     }

@@ -39,7 +39,9 @@ impl Cell {
 
 /// How two values compare, where nothing comes before every value.
 pub fn values_order(here: Option<&Value>, there: Option<&Value>) -> Ordering
-    ensures { result ≡ values_cmp (option_map datum_of (option_copied here.entry)) (option_map datum_of (option_copied there.entry)) }
+    ensures { result
+        ≡ values_cmp (option_map datum_of (option_copied here.entry))
+            (option_map datum_of (option_copied there.entry)) }
 {
     match (here, there) {
         (None, None) => Ordering::Equal,

@@ -49,7 +49,8 @@ pub fn has_noted(notes: &Notes, number: u32, relation: u16) -> bool
 
 // The relations that the update wrote so far.
 fn relations_of(notes: &Notes, number: u32) -> Result<Relations, Memory>
-    ensures same { IfOk result (λ relations. (r : ℕ) → is_among r (Some relations) ≡ wrote_in notes.now number r) }
+    ensures same { IfOk result (λ relations.
+        (r : ℕ) → is_among r (Some relations) ≡ wrote_in notes.now number r) }
 {
     match notes.get(&number) {
         Some(entry) => Ok(entry.1.share()?),
@@ -63,7 +64,10 @@ fn with_relations(
     mut relations: Relations,
     writes: &[Write],
 ) -> Result<Relations, Memory>
-    ensures more { IfOk result (λ new. (r : ℕ) → is_among r (Some new) ≡ (is_among r (Some relations) || writes_to r (map change_of writes.now))) }
+    ensures more { IfOk result (λ new.
+        (r : ℕ)
+        → is_among r (Some new)
+            ≡ (is_among r (Some relations) || writes_to r (map change_of writes.now))) }
 {
     for write in writes {
         match relations.insert(alloc, written_relation(write)) {

@@ -182,7 +182,8 @@ impl Cut<Shared<Tuple>> for From {
 
 // Where the tuple lies to what comes after `past`, where that is given.
 fn place_after(past: Option<&Tuple>, tuple: &Tuple) -> Ordering
-    ensures { result ≡ place_beyond (option_map fact_of (option_copied past.entry)) (fact_of tuple.now) }
+    ensures { result
+        ≡ place_beyond (option_map fact_of (option_copied past.entry)) (fact_of tuple.now) }
 {
     match past {
         Some(before) => {
@@ -197,7 +198,8 @@ fn place_after(past: Option<&Tuple>, tuple: &Tuple) -> Ordering
 
 // The same among the tuples of the relation.
 fn place_in_relation(relation: u16, past: Option<&Tuple>, tuple: &Tuple) -> Ordering
-    ensures { result ≡ place_of relation (option_map fact_of (option_copied past.entry)) (fact_of tuple.now) }
+    ensures { result
+        ≡ place_of relation (option_map fact_of (option_copied past.entry)) (fact_of tuple.now) }
 {
     match tuple.relation.cmp(&relation) {
         Ordering::Less => Ordering::Less,

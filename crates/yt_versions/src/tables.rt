@@ -49,7 +49,8 @@ impl Table {
     /// of memory.
     pub fn of(alloc: Global, base: &[Tuple]) -> Result<Table, Memory>
         requires sorted { IsRepository (map fact_of base.now) }
-        ensures marks { IfOk result (λ table. (t : Fact) → marks_at table t ≡ based_at (map fact_of base.now) t) }
+        ensures marks { IfOk result (λ table.
+            (t : Fact) → marks_at table t ≡ based_at (map fact_of base.now) t) }
         ensures in_order { IfOk result AreRows }
     {
         let mut cells = TreeMap::new();
@@ -71,7 +72,9 @@ impl Table {
 
     /// The table with the tuple's marks touched. It is refused only for want of memory.
     pub fn touched(self, alloc: Global, tuple: &Tuple, touch: Touch) -> Result<Table, Memory>
-        ensures marks { IfOk result (λ table. (t : Fact) → marks_at table t ≡ touched_at touch (fact_of tuple.now) t (marks_at self t)) }
+        ensures marks { IfOk result (λ table.
+            (t : Fact)
+            → marks_at table t ≡ touched_at touch (fact_of tuple.now) t (marks_at self t)) }
         ensures in_order { IfOk result AreRows }
     {
         let Table {
@@ -141,7 +144,9 @@ impl Table {
 
     /// The least tuple of any relation that it sees above the given one, or of all where none is given.
     pub fn beyond(&self, number: u32, past: Option<&Tuple>) -> Option<&Tuple>
-        ensures found { option_map fact_of (option_copied result) ≡ find (is_beyond (option_map fact_of (option_copied past.entry))) (visible number self.now) }
+        ensures found { option_map fact_of (option_copied result)
+            ≡ find (is_beyond (option_map fact_of (option_copied past.entry)))
+                (visible number self.now) }
         ensures in_order { IsRepository (visible number self.now) }
     {
         tuple_in(self.rows.find_in(&Beyond { number, past }))
@@ -149,7 +154,8 @@ impl Table {
 
     /// The least tuple of the relation that it sees.
     pub fn first(&self, number: u32, relation: u16) -> Option<&Tuple>
-        ensures found { option_map fact_of (option_copied result) ≡ first_of (visible number self.now) relation }
+        ensures found { option_map fact_of (option_copied result)
+            ≡ first_of (visible number self.now) relation }
         ensures in_order { IsRepository (visible number self.now) }
     {
         tuple_in(
@@ -163,7 +169,8 @@ impl Table {
 
     /// The least tuple of the same relation that it sees above the given one.
     pub fn after(&self, number: u32, tuple: &Tuple) -> Option<&Tuple>
-        ensures found { option_map fact_of (option_copied result) ≡ next_of (visible number self.now) (fact_of tuple.now) }
+        ensures found { option_map fact_of (option_copied result)
+            ≡ next_of (visible number self.now) (fact_of tuple.now) }
         ensures in_order { IsRepository (visible number self.now) }
     {
         tuple_in(
@@ -184,7 +191,9 @@ impl Table {
         value: &Value,
         past: Option<&Tuple>,
     ) -> Option<&Tuple>
-        ensures found { option_map fact_of (option_copied result) ≡ scan_of (visible number self.now) relation column (datum_of value.now) (option_map fact_of (option_copied past.entry)) }
+        ensures found { option_map fact_of (option_copied result)
+            ≡ scan_of (visible number self.now) relation column (datum_of value.now)
+                (option_map fact_of (option_copied past.entry)) }
         ensures in_order { IsRepository (visible number self.now) }
     {
         if column == 0 {
@@ -262,7 +271,9 @@ fn set_cells(
     tuple: &Shared<Tuple>,
     marks: &Marks,
 ) -> Result<(), Memory>
-    ensures ok { OnOk result (CellsHave (fact_of tuple.now) (length (fact_of tuple.now).values) marks.now cells.old cells.new) }
+    ensures ok { OnOk result
+        (CellsHave (fact_of tuple.now) (length (fact_of tuple.now).values) marks.now cells.old
+         cells.new) }
 {
     for column in 0..tuple.get().values.len() {
         set_cell(cells, alloc, tuple, column, marks)?;

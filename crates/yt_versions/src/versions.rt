@@ -39,7 +39,8 @@ impl Versions {
     /// The versions of a base that no update has written to. It is refused only for want of memory.
     pub fn of(alloc: Global, base: &[Tuple]) -> Result<Versions, Memory>
         requires sorted { IsRepository (map fact_of base.now) }
-        ensures base { IfOk result (λ versions. StandFor versions (map fact_of base.now) no_trails) }
+        ensures base { IfOk result (λ versions.
+            StandFor versions (map fact_of base.now) no_trails) }
     {
         let table = Table::of(alloc, base)?;
         Ok(Versions {
@@ -135,7 +136,9 @@ fn with_writes(
     writes: &[Write],
 ) -> Result<Table, Memory>
     requires { AreRows table }
-    ensures marks { IfOk result (λ new. (t : Fact) → marks_at new t ≡ published_at number (map change_of writes.now) t (marks_at table t)) }
+    ensures marks { IfOk result (λ new.
+        (t : Fact)
+        → marks_at new t ≡ published_at number (map change_of writes.now) t (marks_at table t)) }
     ensures in_order { IfOk result AreRows }
 {
     for write in writes {
@@ -146,7 +149,9 @@ fn with_writes(
 
 // The table with this write of the update.
 fn with_write(table: Table, alloc: Global, number: u32, write: &Write) -> Result<Table, Memory>
-    ensures marks { IfOk result (λ new. (t : Fact) → marks_at new t ≡ written_at number (change_of write.now) t (marks_at table t)) }
+    ensures marks { IfOk result (λ new.
+        (t : Fact)
+        → marks_at new t ≡ written_at number (change_of write.now) t (marks_at table t)) }
     ensures in_order { IfOk result AreRows }
 {
     match write {
@@ -163,7 +168,9 @@ fn without_writes(
     writes: &[Write],
 ) -> Result<Table, Memory>
     requires { AreRows table }
-    ensures marks { IfOk result (λ new. (t : Fact) → marks_at new t ≡ retracted_at number (map change_of writes.now) t (marks_at table t)) }
+    ensures marks { IfOk result (λ new.
+        (t : Fact)
+        → marks_at new t ≡ retracted_at number (map change_of writes.now) t (marks_at table t)) }
     ensures in_order { IfOk result AreRows }
 {
     for write in writes {
@@ -174,7 +181,9 @@ fn without_writes(
 
 // The table without this write of the update.
 fn without_write(table: Table, alloc: Global, number: u32, write: &Write) -> Result<Table, Memory>
-    ensures marks { IfOk result (λ new. (t : Fact) → marks_at new t ≡ unwritten_at number (change_of write.now) t (marks_at table t)) }
+    ensures marks { IfOk result (λ new.
+        (t : Fact)
+        → marks_at new t ≡ unwritten_at number (change_of write.now) t (marks_at table t)) }
     ensures in_order { IfOk result AreRows }
 {
     match write {
@@ -191,7 +200,9 @@ fn with_settled(
     writes: &[Write],
 ) -> Result<Table, Memory>
     requires { AreRows table }
-    ensures marks { IfOk result (λ new. (t : Fact) → marks_at new t ≡ folded_at number (map change_of writes.now) t (marks_at table t)) }
+    ensures marks { IfOk result (λ new.
+        (t : Fact)
+        → marks_at new t ≡ folded_at number (map change_of writes.now) t (marks_at table t)) }
     ensures in_order { IfOk result AreRows }
 {
     for write in writes {
@@ -202,7 +213,9 @@ fn with_settled(
 
 // The table with this write of the update in the base.
 fn settled(table: Table, alloc: Global, number: u32, write: &Write) -> Result<Table, Memory>
-    ensures marks { IfOk result (λ new. (t : Fact) → marks_at new t ≡ settled_at number (change_of write.now) t (marks_at table t)) }
+    ensures marks { IfOk result (λ new.
+        (t : Fact)
+        → marks_at new t ≡ settled_at number (change_of write.now) t (marks_at table t)) }
     ensures in_order { IfOk result AreRows }
 {
     match write {

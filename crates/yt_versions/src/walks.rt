@@ -48,7 +48,8 @@ impl<'v> Walk<'v> {
 
     /// Puts the walk before the tuples of the relation. It costs less than another walk.
     pub fn place(&mut self, below: &Below<'v>, relation: u16)
-        ensures { self.new ≡ filter (is_of relation) (seen below.now.number below.now.versions.now) }
+        ensures { self.new
+            ≡ filter (is_of relation) (seen below.now.number below.now.versions.now) }
     {
         let versions = below.versions;
         versions.table().place(&mut self.cursor, relation);
@@ -59,7 +60,8 @@ impl<'v> Walk<'v> {
 
     /// The next tuple, where there is one.
     pub fn next(&mut self) -> Option<&'v Tuple>
-        ensures step { self.old ≡ option_to_list (option_map fact_of (option_copied result)) ++ self.new }
+        ensures step { self.old
+            ≡ option_to_list (option_map fact_of (option_copied result)) ++ self.new }
         ensures end { IfNone result (self.old ≡ []) }
     {
         if self.ended {
@@ -81,7 +83,8 @@ fn step<'v>(
     number: u32,
     relation: u16,
 ) -> Option<&'v Tuple>
-    ensures some { IfSome result (λ t. walked relation number cursor.old ≡ fact_of t.now ∷ walked relation number cursor.new) }
+    ensures some { IfSome result (λ t.
+        walked relation number cursor.old ≡ fact_of t.now ∷ walked relation number cursor.new) }
     ensures none { IfNone result (walked relation number cursor.old ≡ []) }
 {
     while let Some(entry) = cursor.next() {
