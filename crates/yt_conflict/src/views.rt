@@ -22,7 +22,7 @@ pub(crate) fn see<'a, F: Facts>(
         ≡ record { below = F.tuples below.now; own = take seen (map change_of own.now) } }
     ensures seen { OnOk result
         (view.new
-         ≡ record { below = F.tuples below.now; own = take count (map change_of own.now) }) }
+        ≡ record { below = F.tuples below.now; own = take count (map change_of own.now) }) }
 {
     if count < seen {
         *view = View::new(alloc, below);

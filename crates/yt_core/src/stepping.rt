@@ -265,7 +265,15 @@ fn make_step(
     install(queue, place, plan, left.fresh);
     *versions = left.versions;
     let committed = committed_from(queue, least_below(least, place));
-    let entry = step_entry(settings, committed, queue, place, attempt, writes, left.causes);
+    let entry = step_entry(
+        settings,
+        committed,
+        queue,
+        place,
+        attempt,
+        writes,
+        left.causes,
+    );
     put_last(history, entry);
     Ok(committed)
 }

@@ -81,18 +81,18 @@ pub fn append<D: Disk>(
     ensures images { (commits : List (List Change))
         → IsAt (D.state disk.old) (session_of session.now) commits journal
         → IsAppending (session_of session.now) commits (writes_of commit.now) (D.state disk.old)
-            (D.state disk.new) }
+        (D.state disk.new) }
     ensures acknowledged { (commits : List (List Change))
         → IsAt (D.state disk.old) (session_of session.now) commits journal
         → IfOk result (λ next.
-            IsAt (D.state disk.new) (session_of session.now) (commits ++ writes_of commit.now ∷ [])
-            next) }
+        IsAt (D.state disk.new) (session_of session.now) (commits ++ writes_of commit.now ∷ [])
+        next) }
     ensures bytes { (commits : List (List Change))
         → IsAt (D.state disk.old) (session_of session.now) commits journal
         → (D.state disk.old).bytes ≡ journal_text (session_of session.now) commits
         → OnOk result
-            ((D.state disk.new).bytes
-             ≡ journal_text (session_of session.now) (commits ++ writes_of commit.now ∷ [])) }
+        ((D.state disk.new).bytes
+        ≡ journal_text (session_of session.now) (commits ++ writes_of commit.now ∷ [])) }
     ensures told { AppendTold journal
         (length (commit_text session.now.schema commit.now.number (writes_of commit.now))) disk.old
         disk.new (D.state disk.old) (D.state disk.new) result }

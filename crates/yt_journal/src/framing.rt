@@ -25,7 +25,7 @@ pub(crate) fn split_frame(bytes: &[u8]) -> Option<(&[u8], &[u8])>
     ensures short { IfSome result (λ parts. length parts.0.now < 2 ^ 32) }
     ensures none { IfNone result
         ((payload rest : List ℕ) → length payload < 2 ^ 32 → bytes.now ≡ framed payload ++ rest
-         → ⊥) }
+        → ⊥) }
 {
     if bytes.len() < 4 {
         return None;

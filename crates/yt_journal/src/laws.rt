@@ -35,7 +35,7 @@ pub fn damaged_bytes_are_no_journal()
 /// a journal that has each commit which was acknowledged by then, in order, and none that was not handed in.
 pub fn crashes_keep_what_is_acknowledged<D: Disk>()
     ensures { (s : SessionData) (commits : List (List Change)) (start : D) (turns : List (Turn D))
-            (k : ℕ) (bytes : List ℕ)
+        (k : ℕ) (bytes : List ℕ)
         → IsAtRest (D.state start) s commits → IsHistory D.state s start (InHand commits) turns
         → (D.state start).now ≤ k → k ≤ (D.state (last_disk start turns)).now
         → (D.state (last_disk start turns)).image k bytes → IsKept k D.state s commits turns bytes }

@@ -23,8 +23,8 @@ fn push_tuple(
 ) -> Result<(), Memory>
     ensures { OnOk result
         (text.new.items
-         ≡ text.old.items
-             ++ (sign ∷ (tuple_text schema.now false (outer (fact_of tuple.now)) ++ 10 ∷ []))) }
+        ≡ text.old.items
+        ++ (sign ∷ (tuple_text schema.now false (outer (fact_of tuple.now)) ++ 10 ∷ []))) }
 {
     let fact = print_tuple(alloc, schema, tuple, false)?;
     text.push(sign)?;
@@ -42,7 +42,7 @@ fn push_write(
 ) -> Result<(), Memory>
     ensures { OnOk result
         (text.new.items
-         ≡ text.old.items ++ write_lines schema.now (logged_one (change_of write.now))) }
+        ≡ text.old.items ++ write_lines schema.now (logged_one (change_of write.now))) }
 {
     let (sign, tuple) = match write {
         Write::Insert(tuple) => (b'+', tuple),
@@ -63,7 +63,7 @@ fn push_writes(
 ) -> Result<(), Memory>
     ensures { OnOk result
         (text.new.items
-         ≡ text.old.items ++ write_lines schema.now (logged (map change_of writes.now))) }
+        ≡ text.old.items ++ write_lines schema.now (logged (map change_of writes.now))) }
 {
     for write in writes {
         push_write(alloc, text, schema, write)?;
@@ -89,7 +89,7 @@ pub(crate) fn commit_text(
     ensures { IfOk result (λ text.
         text.items
         ≡ commit_text schema.now commit.now.number
-            (logged (map change_of commit.now.writes.items))) }
+        (logged (map change_of commit.now.writes.items))) }
 {
     let mut text = commit_line(alloc, commit.number)?;
     push_writes(alloc, &mut text, schema, commit.writes.as_slice())?;

@@ -87,7 +87,7 @@ fn read_printed(alloc: Global, session: &Session, text: &[u8]) -> Result<Option<
     ensures none { IfOk result (λ found.
         IfNone found
         ((t : Fact) → IsTuple session.now.schema t
-         → text.now ≡ tuple_text session.now.schema false t → ⊥)) }
+        → text.now ≡ tuple_text session.now.schema false t → ⊥)) }
 {
     tuples_are_read_again();
     lines_say_tuples();
@@ -108,7 +108,7 @@ fn signed(sign: u8, tuple: Tuple) -> Option<Write>
         → IsWrite relations (change_of w)) }
     ensures none { IfNone result
         ((relations : List RelationSchema) (text : List ℕ) (w : Change)
-         → sign ∷ text ≡ write_text relations w → ⊥) }
+        → sign ∷ text ≡ write_text relations w → ⊥) }
 {
     match sign {
         b'+' => Some(Write::Insert(tuple)),
@@ -127,7 +127,7 @@ fn read_write(alloc: Global, session: &Session, line: &[u8]) -> Result<Option<Wr
     ensures none { IfOk result (λ found.
         IfNone found
         ((w : Change) → IsWrite session.now.schema w → line.now ≡ write_text session.now.schema w
-         → ⊥)) }
+        → ⊥)) }
 {
     let [sign, text @ ..] = line else {
         return Ok(None);
@@ -148,7 +148,7 @@ fn read_writes(alloc: Global, session: &Session, text: &[u8]) -> Result<Option<W
     ensures none { IfOk result (λ found.
         IfNone found
         ((ws : List Change) → AllByRecursion (IsWrite session.now.schema) ws
-         → text.now ≡ write_lines session.now.schema ws → ⊥)) }
+        → text.now ≡ write_lines session.now.schema ws → ⊥)) }
 {
     tuples_are_read_again();
     let mut writes = WriteList::new(alloc);
@@ -181,7 +181,7 @@ fn read_commit(
     ensures none { IfOk result (λ found.
         IfNone found
         ((ws : List Change) → AllByRecursion (IsWrite session.now.schema) ws
-         → payload.now ≡ commit_text session.now.schema number ws → ⊥)) }
+        → payload.now ≡ commit_text session.now.schema number ws → ⊥)) }
 {
     let head = commit_line(alloc, number)?;
     match behind(&head, payload) {

@@ -41,12 +41,12 @@ pub fn plan_step<F: Facts>(
     ensures program { IfOk result (λ plan.
         plan.program
         ≡ at_rest
-            (next_attempt mappings.now budget (F.tuples below.now) program.now.attempt
-             (option_map choice_of (option_copied choice.entry)))) }
+        (next_attempt mappings.now budget (F.tuples below.now) program.now.attempt
+        (option_map choice_of (option_copied choice.entry)))) }
     ensures reads { IfOk result (λ plan.
         map read_of plan.reads.items
         ≡ next_reads mappings.now (F.tuples below.now) program.now.attempt
-            (option_map choice_of (option_copied choice.entry))) }
+        (option_map choice_of (option_copied choice.entry))) }
 {
     // The set tells that it is in order.
     let _ = below.beyond(None);
@@ -76,9 +76,9 @@ fn begin(
     requires left { program.old.attempt.steps < budget }
     ensures step { OnOk result
         (course mappings.now program.new
-         ≡ coming_to budget program.old.attempt
-             (step mappings.now program.old.attempt
-              (option_map choice_of (option_copied choice.entry)))) }
+        ≡ coming_to budget program.old.attempt
+        (step mappings.now program.old.attempt
+        (option_map choice_of (option_copied choice.entry)))) }
 {
     match choice {
         Some(choice) => program.choose(alloc, choice, mappings, budget),
@@ -99,17 +99,17 @@ fn answer_all<F: Facts>(
     requires sorted { IsRepository view.now.below }
     ensures answered { OnOk result
         (program.new
-         ≡ at_rest
-             (result_of
-              (λ q.
-                  value mappings.now q view.now.below view.now.own (Caused (heading_of direction)))
-              (course mappings.now program.old))) }
+        ≡ at_rest
+        (result_of
+        (λ q.
+        value mappings.now q view.now.below view.now.own (Caused (heading_of direction)))
+        (course mappings.now program.old))) }
     ensures reads { IfOk result (λ reads.
         map read_of reads.items
         ≡ map (read_after made)
-            (log_of
-             (λ q. value mappings.now q view.now.below view.now.own (Caused (heading_of direction)))
-             (course mappings.now program.old))) }
+        (log_of
+        (λ q. value mappings.now q view.now.below view.now.own (Caused (heading_of direction)))
+        (course mappings.now program.old))) }
 {
     let mut reads = ReadLog::new(alloc);
     'queries: loop {

@@ -84,7 +84,7 @@ fn with_delivery(line: Line, update: u32, standing: Standing) -> Result<Line, Me
     ensures { IfOk result (λ l.
         l
         ≡ with_json line
-            (delivered_json (record { update = update; standing = standing_of standing }))) }
+        (delivered_json (record { update = update; standing = standing_of standing }))) }
 {
     line.begin_object()?
         .key(b"event")?
@@ -114,10 +114,12 @@ fn with_answer(
     ensures { IfOk result (λ l.
         l
         ≡ with_json line
-            (answered_json schema.now
-             (record
-              { update = update; choice = choice_of choice.now;
-                standing = standing_of standing }))) }
+        (answered_json schema.now
+        (record {
+          update = update;
+          choice = choice_of choice.now;
+          standing = standing_of standing;
+        }))) }
 {
     let text = answer_text(alloc, schema, choice)?;
     line.begin_object()?
@@ -141,9 +143,9 @@ fn with_withdrawal(
     ensures { IfOk result (λ l.
         l
         ≡ with_json line
-            (withdrawn_json
-             (record
-              { update = update; causes = map cause_of causes.now; committed = committed }))) }
+        (withdrawn_json
+        (record
+        { update = update; causes = map cause_of causes.now; committed = committed }))) }
 {
     let line = line.begin_object()?.key(b"causes")?;
     with_causes(line, causes)?

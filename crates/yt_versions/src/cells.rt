@@ -41,7 +41,7 @@ impl Cell {
 pub fn values_order(here: Option<&Value>, there: Option<&Value>) -> Ordering
     ensures { result
         ≡ values_cmp (option_map datum_of (option_copied here.entry))
-            (option_map datum_of (option_copied there.entry)) }
+        (option_map datum_of (option_copied there.entry)) }
 {
     match (here, there) {
         (None, None) => Ordering::Equal,

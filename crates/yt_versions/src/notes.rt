@@ -67,7 +67,7 @@ fn with_relations(
     ensures more { IfOk result (λ new.
         (r : ℕ)
         → is_among r (Some new)
-            ≡ (is_among r (Some relations) || writes_to r (map change_of writes.now))) }
+        ≡ (is_among r (Some relations) || writes_to r (map change_of writes.now))) }
 {
     for write in writes {
         match relations.insert(alloc, written_relation(write)) {

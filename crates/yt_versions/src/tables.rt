@@ -146,7 +146,7 @@ impl Table {
     pub fn beyond(&self, number: u32, past: Option<&Tuple>) -> Option<&Tuple>
         ensures found { option_map fact_of (option_copied result)
             ≡ find (is_beyond (option_map fact_of (option_copied past.entry)))
-                (visible number self.now) }
+            (visible number self.now) }
         ensures in_order { IsRepository (visible number self.now) }
     {
         tuple_in(self.rows.find_in(&Beyond { number, past }))
@@ -193,7 +193,7 @@ impl Table {
     ) -> Option<&Tuple>
         ensures found { option_map fact_of (option_copied result)
             ≡ scan_of (visible number self.now) relation column (datum_of value.now)
-                (option_map fact_of (option_copied past.entry)) }
+            (option_map fact_of (option_copied past.entry)) }
         ensures in_order { IsRepository (visible number self.now) }
     {
         if column == 0 {
@@ -273,7 +273,7 @@ fn set_cells(
 ) -> Result<(), Memory>
     ensures ok { OnOk result
         (CellsHave (fact_of tuple.now) (length (fact_of tuple.now).values) marks.now cells.old
-         cells.new) }
+        cells.new) }
 {
     for column in 0..tuple.get().values.len() {
         set_cell(cells, alloc, tuple, column, marks)?;

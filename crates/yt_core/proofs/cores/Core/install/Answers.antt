@@ -42,24 +42,22 @@ step_at-requires-clause-after c =
     (ap (λ (n : ℕ). record { update = n; program = c.plan.inside.step.program; reads = map read_of c.plan.inside.step.reads.items }) (sym (ap (λ (p : PlanMeant). p.update) c.plan.view_is)) ∙ c.plan.view_is) c.requires.step
 
 pub invariant_of-self : goal.invariant_of-self
-invariant_of-self c =
-    (
-        kept_err _ c.self.inside.versions c.step_at.new.versions c.self.inside.queue.items c.deref_mut.result.now c.step_at.new.queue (drop (length c.step_at.new.queue) c.self.inside.queue.items) c.self.inside.queue.len
-    c.self.inside.history.items c.step_at.new.history.items (omega arith) c.self.invariant.0 c.deref_mut.ensures.value c.in_err-committed.ensures.versions c.in_err-committed.ensures.queue c.step_at.ensures.long
-    c.in_err-committed.ensures.history,
-        none_committed _,
-    )
+invariant_of-self c = (
+  kept_err _ c.self.inside.versions c.step_at.new.versions c.self.inside.queue.items c.deref_mut.result.now c.step_at.new.queue (drop (length c.step_at.new.queue) c.self.inside.queue.items) c.self.inside.queue.len
+      c.self.inside.history.items c.step_at.new.history.items (omega arith) c.self.invariant.0 c.deref_mut.ensures.value c.in_err-committed.ensures.versions c.in_err-committed.ensures.queue c.step_at.ensures.long
+      c.in_err-committed.ensures.history,
+  none_committed _,
+)
 
 pub invariant_of-self-2 : goal.invariant_of-self-2
-invariant_of-self-2 c =
-    (
-        kept_ok _ c.step_at.new.versions c.step_at.new.queue (drop (length c.step_at.new.queue) c.self.inside.queue.items) c.self.inside.queue.len (map entry_of c.step_at.new.history.items) (omega arith)
-    (core_steps _ c.self.inside.versions c.self.inside.queue.items c.self.inside.history.items _ c.self.invariant.0 c.self.view_is c.args.plan.update c.requires.ready c.place_of-place.result
-    (c.place_of-place.ensures ∙ ap (λ (p : PlanMeant). p.update) c.plan.view_is) c.deref_mut.result.now c.deref_mut.ensures.value c.plan.inside.step c.args.plan
-    (ap (λ (n : ℕ). record { update = n; program = c.plan.inside.step.program; reads = map read_of c.plan.inside.step.reads.items }) (sym (ap (λ (p : PlanMeant). p.update) c.plan.view_is)) ∙ c.plan.view_is) c.requires.step
-    c.step_at.new.versions c.step_at.new.queue c.step_at.new.history.items c.in_ok-committed.ensures.made).kept,
-        least_ok c.step_at.new.queue (drop (length c.step_at.new.queue) c.self.inside.queue.items) c.self.inside.queue.len c.in_ok-committed.committed (omega arith) c.in_ok-committed.ensures.committed,
-    )
+invariant_of-self-2 c = (
+  kept_ok _ c.step_at.new.versions c.step_at.new.queue (drop (length c.step_at.new.queue) c.self.inside.queue.items) c.self.inside.queue.len (map entry_of c.step_at.new.history.items) (omega arith)
+      (core_steps _ c.self.inside.versions c.self.inside.queue.items c.self.inside.history.items _ c.self.invariant.0 c.self.view_is c.args.plan.update c.requires.ready c.place_of-place.result
+      (c.place_of-place.ensures ∙ ap (λ (p : PlanMeant). p.update) c.plan.view_is) c.deref_mut.result.now c.deref_mut.ensures.value c.plan.inside.step c.args.plan
+      (ap (λ (n : ℕ). record { update = n; program = c.plan.inside.step.program; reads = map read_of c.plan.inside.step.reads.items }) (sym (ap (λ (p : PlanMeant). p.update) c.plan.view_is)) ∙ c.plan.view_is) c.requires.step
+      c.step_at.new.versions c.step_at.new.queue c.step_at.new.history.items c.in_ok-committed.ensures.made).kept,
+  least_ok c.step_at.new.queue (drop (length c.step_at.new.queue) c.self.inside.queue.items) c.self.inside.queue.len c.in_ok-committed.committed (omega arith) c.in_ok-committed.ensures.committed,
+)
 
 pub returns-clause-made : goal.returns-clause-made
 returns-clause-made c =

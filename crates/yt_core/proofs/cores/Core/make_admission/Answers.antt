@@ -12,12 +12,11 @@ pub invariant_of-self : goal.invariant_of-self
 invariant_of-self c = (search (rules), none_committed _)
 
 pub invariant_of-self-2 : goal.invariant_of-self-2
-invariant_of-self-2 c =
-    (
-        admission_kept c.self.inside.mappings c.self.inside.budget (settings_of c.self.inside.settings) c.self.inside.base.now c.self.inside.updates.now c.self.inside.later c.admit_at.new.later c.self.inside.versions
-    c.self.inside.queue.items c.admit_at.new.queue.items c.self.inside.history.items c.admit_at.new.history.items c.args.update c.self.invariant.0 c.in_ok-number.ensures.later c.in_ok-number.ensures.made,
-        none_committed _,
-    )
+invariant_of-self-2 c = (
+  admission_kept c.self.inside.mappings c.self.inside.budget (settings_of c.self.inside.settings) c.self.inside.base.now c.self.inside.updates.now c.self.inside.later c.admit_at.new.later c.self.inside.versions
+      c.self.inside.queue.items c.admit_at.new.queue.items c.self.inside.history.items c.admit_at.new.history.items c.args.update c.self.invariant.0 c.in_ok-number.ensures.later c.in_ok-number.ensures.made,
+  none_committed _,
+)
 
 pub returns-clause-made : goal.returns-clause-made
 returns-clause-made c =
