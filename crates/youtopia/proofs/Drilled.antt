@@ -35,13 +35,16 @@ ended e f t source out err row =
     subst (λ (l : List ℕ). Takes out l) (one_text f e made.0 t made.1) made.2
 
 taken_by : (e : Ending) (t : List ℕ) (source out err : Change) → Row (status_of_ending e) (λ input output. output ≡ Text e t) source out err → Takes out t
-taken_by Ended t source out err row = ended Ended _ t source out err row
-taken_by Stuck t source out err row = ended Stuck _ t source out err row
-taken_by Refuted t source out err row = ended Refuted _ t source out err row
+taken_by Ended t source out err row = ended Ended Ended t source out err row
+taken_by Stuck t source out err row = ended Stuck Stuck t source out err row
+taken_by Refuted t source out err row = ended Refuted Refuted t source out err row
 
 -- no input fails, and none is too long
+one_above : 1 ≤ 0 → ⊥
+one_above is = omega (arith, is)
+
 no_fault : Fails no_input → ⊥
-no_fault rose = omega (arith, rose)
+no_fault rose = one_above rose
 
 no_length : 0 ≤ INPUT_LIMIT
 no_length = omega arith

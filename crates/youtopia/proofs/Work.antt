@@ -4,7 +4,7 @@ use Rattle.clap.specs.Words.{Text as Letters}
 use Rattle.yt_command.specs.Devices.{Change}
 use Rattle.yt_command.specs.declared.statuses.Status.{Status}
 use Rattle.yt_words.specs.Alike.{AskTheSame}
-use Rattle.yt_words.specs.Meaning.{Answers, AreInRange}
+use Rattle.yt_words.specs.Meaning.{Answers, AreInRange, HasRanges}
 use Rattle.yt_words.specs.declared.names.CommandName.{CommandName}
 use Rattle.yt_words.specs.declared.names.CommandName.TheVariants.{Run, Drill}
 use Rattle.yt_words.specs.declared.reading.Options.{Options}
@@ -19,23 +19,34 @@ use Rattle.youtopia.specs.Calls.{AskFor, AskForNoWork, AskForWork, Calls, CallsP
 
 asked_work : (words : List Letters) (o : Options) (work : ByWorkers) → Answers words (Command o) → AreInRange o → IsNamedBy o work → AskForWork words work
 asked_work words o (workers.Run same) says ranges is =
-    subst (λ (p : Options). AskFor words Run p) (sym is.0) (record { says = says; named = is.1; ranges = ranges })
+    let asks : AskFor words Run o = record { says = says; named = is.1; ranges = ranges } in
+    subst (λ (p : Options). AskFor words Run p) (sym is.0) asks
 asked_work words o (workers.Drill same) says ranges is =
-    subst (λ (p : Options). AskFor words Drill p) (sym is.0) (record { says = says; named = is.1; ranges = ranges })
+    let asks : AskFor words Drill o = record { says = says; named = is.1; ranges = ranges } in
+    subst (λ (p : Options). AskFor words Drill p) (sym is.0) asks
 
-pub asked : (words : List Letters) (o : Options) (found : Option ByWorkers) → Answers words (Command o) → AreInRange o → IfSome found (IsNamedBy o)
+asked_some : (words : List Letters) (o : Options) (found : Option ByWorkers) → Answers words (Command o) → AreInRange o → IfSome found (IsNamedBy o)
     → IfSome found (AskForWork words)
-asked words o (Some work) says ranges is = asked_work words o work says ranges is
-asked words o None says ranges is = tt
+asked_some words o (Some work) says ranges is = asked_work words o work says ranges is
+asked_some words o None says ranges is = tt
+
+pub asked : (words : List Letters) (request : Request) (o : Options) (found : Option ByWorkers) → request ≡ Command o → Answers words request → HasRanges request
+    → IfSome found (IsNamedBy o) → IfSome found (AskForWork words)
+asked words request o found same says ranges is =
+    asked_some words o found (subst (Answers words) same says) (subst HasRanges same ranges) is
 
 -- the other options for which the words ask have the same command
 other_command : (o p : Options) → AskTheSame (Command o) (Command p) → is_by_workers o.command ≡ false → is_by_workers p.command ≡ false
 other_command o p same no = sym (ap is_by_workers same.command) ∙ no
 
-pub not_asked : OneThing → (words : List Letters) (o : Options) (found : Option ByWorkers) → Answers words (Command o)
+asked_none : OneThing → (words : List Letters) (o : Options) (found : Option ByWorkers) → Answers words (Command o)
     → IfNone found (is_by_workers o.command ≡ false) → IfNone found (AskForNoWork words)
-not_asked one words o (Some work) says no = tt
-not_asked one words o None says no = λ p asks. other_command o p (one words (Command o) (Command p) says asks) no
+asked_none one words o (Some work) says no = tt
+asked_none one words o None says no = λ p asks. other_command o p (one words (Command o) (Command p) says asks) no
+
+pub not_asked : OneThing → (words : List Letters) (request : Request) (o : Options) (found : Option ByWorkers) → request ≡ Command o → Answers words request
+    → IfNone found (is_by_workers o.command ≡ false) → IfNone found (AskForNoWork words)
+not_asked one words request o found same says no = asked_none one words o found (subst (Answers words) same says) no
 
 -- ---- what is done
 
