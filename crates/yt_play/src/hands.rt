@@ -6,6 +6,7 @@ ghost use Rattle.yt_desk.specs.Seats.{IsSeatOf};
 ghost use Rattle.yt_desk.specs.Tickets.{IsPlanFor};
 ghost use Rattle.yt_play.specs.Hands.{IsHand};
 
+use std::fmt;
 use std::sync::Wait;
 use yt_desk::{Board, Core, Desk, Finished, Next, Ticket};
 use yt_stamp::Seat;
@@ -70,6 +71,27 @@ pub enum Told {
     Unfit,
     /// There was no memory for it.
     Memory,
+}
+
+impl fmt::Display for Told {
+    fn fmt<W: fmt::Write>(&self, f: &mut fmt::Formatter<W>) -> fmt::Result {
+        match self {
+            Told::Ticket {
+                number,
+                update,
+                stamp,
+            } => { write!(f, "ticket {number} of update {update}, stamp {stamp}") }
+            Told::Delivered { update } => write!(f, "delivered to {update}"),
+            Told::Idle { in_flight } => write!(f, "idle, {in_flight} in flight"),
+            Told::Quiet => f.write_str("quiet"),
+            Told::Planned => f.write_str("planned"),
+            Told::Stepped { entry } => write!(f, "stepped, entry {entry}"),
+            Told::Stale { entry } => write!(f, "stale, entry {entry}"),
+            Told::Back => f.write_str("back"),
+            Told::Unfit => f.write_str("unfit"),
+            Told::Memory => f.write_str("memory"),
+        }
+    }
 }
 
 impl<C: Core> Hand<C> {
