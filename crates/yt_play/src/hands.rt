@@ -176,49 +176,42 @@ fn ask<R: Wait, C: Core>(rt: &R, desk: &Desk<C>, mut seat: Seat<Board<C>>) -> (H
     ensures place { place_of result.0.seat ≡ place_of seat }
 {
     match desk.next(rt, &mut seat) {
-        Ok(Next::Ticket(ticket)) => {
-            let told = Told::Ticket {
-                number: ticket.number(),
-                update: ticket.update(),
-                stamp: ticket.stamp(),
-            };
-            (
-                Hand {
-                    seat,
-                    work: Work::Given(ticket),
-                },
-                told,
-            )
-        }
-        Ok(Next::Delivered { update }) => (
-            Hand {
-                seat,
-                work: Work::Free,
-            },
-            Told::Delivered { update },
-        ),
-        Ok(Next::Idle { in_flight }) => (
-            Hand {
-                seat,
-                work: Work::Free,
-            },
-            Told::Idle { in_flight },
-        ),
-        Ok(Next::Quiet) => (
-            Hand {
-                seat,
-                work: Work::Free,
-            },
-            Told::Quiet,
-        ),
-        Err(_) => (
-            Hand {
-                seat,
-                work: Work::Free,
-            },
-            Told::Memory,
-        ),
+        Ok(Next::Ticket(ticket)) => given(desk, seat, ticket),
+        Ok(Next::Delivered { update }) => free(desk, seat, Told::Delivered { update }),
+        Ok(Next::Idle { in_flight }) => free(desk, seat, Told::Idle { in_flight }),
+        Ok(Next::Quiet) => free(desk, seat, Told::Quiet),
+        Err(_) => free(desk, seat, Told::Memory),
     }
+}
+
+// The seat with the ticket in hand.
+fn given<C: Core>(
+    _desk: &Desk<C>,
+    seat: Seat<Board<C>>,
+    ticket: Ticket<C::Snapshot>,
+) -> (Hand<C>, Told)
+    requires own { IsSeatOf C.over C.history _desk.now seat }
+    requires out { IsOutAt C.over C.is_snapshot _desk.now seat ticket }
+    ensures own { IsHand C.over C.history C.is_snapshot C.is_plan _desk.now result.0 }
+    ensures place { place_of result.0.seat ≡ place_of seat }
+{
+    let told = Told::Ticket {
+        number: ticket.number(),
+        update: ticket.update(),
+        stamp: ticket.stamp(),
+    };
+    let work = Work::Given(ticket);
+    (Hand { seat, work }, told)
+}
+
+// The seat with nothing in hand, and what it was told.
+fn free<C: Core>(_desk: &Desk<C>, seat: Seat<Board<C>>, told: Told) -> (Hand<C>, Told)
+    requires own { IsSeatOf C.over C.history _desk.now seat }
+    ensures own { IsHand C.over C.history C.is_snapshot C.is_plan _desk.now result.0 }
+    ensures place { place_of result.0.seat ≡ place_of seat }
+{
+    let work = Work::Free;
+    (Hand { seat, work }, told)
 }
 
 // Works out the plan of the ticket.

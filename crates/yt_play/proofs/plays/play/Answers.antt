@@ -4,7 +4,7 @@ use Rattle.yt_play.proofs.Dealt.{dealt_own, back_own, back_all}
 use Rattle.yt_play.proofs.plays.play.Goals as goal
 
 pub of-requires-clause-own : goal.of-requires-clause-own
-of-requires-clause-own g c κs within =
+of-requires-clause-own g c =
     dealt_own g.C.Core.over g.C.Core.history c.in-Ok-new.opened.0 c.args.core 3 c.in-Ok-new.opened.1.items c.in-Ok-new.ensures.core c.in-Ok-new.ensures.seats c.in-Ok-new.ensures.saw
 
 pub close-requires-clause-seats : goal.close-requires-clause-seats
