@@ -44,6 +44,19 @@ update b bob insert C(1)
 update c cy insert G(1)
 update d dee insert E(1)
 """
+LEANING = """relation A 1
+relation C 1
+relation D 1
+mapping m: A(x), C(x) -> D(x)
+update a ann insert A(1)
+update b bob insert C(1)
+update c cy insert D(1)
+"""
+LEANING_ON_LONG = LEANING.replace("mapping m", """relation F 1
+relation G 1
+mapping l1: A(x) -> F(x)
+mapping l2: F(x) -> G(x)
+mapping m""")
 TAKEN_NULL = """relation A 1
 relation B 2
 relation C 1
@@ -77,6 +90,8 @@ ROWS = [
     ("an aborted update takes those along that depend on it, by values or by relations", 100, 3, CASCADE,
      "2 step u2, 2 step u3, 2 step u4, step u1, standing u2, standing u3, standing u4, drain, result"),
     ("a cascade over two levels", 100, 3, TWO_LEVELS, "2 step u2, 4 step u3, 2 step u4, step u1, drain, result"),
+    ("a withdrawal over two levels", 100, 3, LEANING, "step u1, 4 step u2, 2 step u3, withdraw u1, standing u2, standing u3, drain, counts"),
+    ("an update that is spent, over two levels", 4, 3, LEANING_ON_LONG, "3 step u1, 4 step u2, 2 step u3, step u1, standing u2, drain, result"),
     ("without retries an update that was aborted once waits for all lower ones", 100, 0, INSERT_DELETE,
      "2 step u2, step u1, standing u2, step u2, 3 step u1, counts, standing u2, drain, counts, result"),
     ("whoever took over a null starts anew with the update that drew it", 100, 3, TAKEN_NULL,

@@ -104,14 +104,17 @@ def case_text(session, steps, retries, precise, calls):
 class Drawn:
     """A list of calls on the core of a random session, drawn call by call, with what each answers.
 
-    Mostly the calls are allowed; some are drawn blindly, so that every refusal comes. Later updates are mostly admitted early."""
+    Mostly the calls are allowed; some are drawn blindly, so that every refusal comes. Often one update runs ahead of the others, in half of
+    the lists a higher one of lower ones, so that much is restarted."""
 
     def __init__(self, rng, maker, retries, precise):
         self.rng, self.maker, self.session = rng, maker, maker.session
         self.caller = Caller(maker.session, maker.steps, retries, precise)
         self.core = self.caller.core
         self.calls, self.told = [], []
-        self.blind, self.first = rng.choice([0.05, 0.15, 0.5]), rng.sample(range(1, 60), 59)
+        self.blind, self.withdrawals = rng.choice([0.05, 0.15, 0.5]), rng.choice([0.02, 0.05, 0.2])
+        self.ahead = rng.choice([0.3, 0.6, 0.9])
+        self.first = rng.sample(range(60), 60) if rng.random() < 0.5 else list(range(60, 0, -1))
 
     def call(self, line):
         self.calls.append(line)
@@ -149,7 +152,7 @@ class Drawn:
                 yield from [(self.first[u.number], b"deliver u%d" % u.number)] * 3
             if standing in ("pending", "misfit"):
                 yield self.first[u.number], self.answer(u.number)
-            if standing != "withdrawn" and self.rng.random() < 0.05:
+            if standing != "withdrawn" and self.rng.random() < self.withdrawals:
                 yield self.first[u.number], b"withdraw u%d" % u.number
 
     def any_call(self):
@@ -166,7 +169,7 @@ class Drawn:
         calls = list(self.allowed())
         if not calls:
             return self.any_call()
-        if self.rng.random() < 0.6:         # one update runs ahead of the others
+        if self.rng.random() < self.ahead:         # one update runs ahead of the others
             least = min(calls)[0]
             calls = [call for call in calls if call[0] == least]
         return self.rng.choice(calls)[1]

@@ -1,6 +1,5 @@
 //! Calls of seats, one a line, and what is told of them.
 use std::alloc::Global;
-use std::fmt;
 use yt_cases::{CaseRefusal, number_of, with_entries, with_line};
 use yt_entries::Entry;
 use yt_play::{Lead, Move, Side, Told, Turn};
@@ -75,26 +74,5 @@ impl Script {
             text = with_line(text, line.as_str())?;
         }
         with_entries(alloc, text, schema, history, 0)
-    }
-}
-
-impl fmt::Display for Told {
-    fn fmt<W: fmt::Write>(&self, f: &mut fmt::Formatter<W>) -> fmt::Result {
-        match self {
-            Told::Ticket {
-                number,
-                update,
-                stamp,
-            } => { write!(f, "ticket {number} of update {update}, stamp {stamp}") }
-            Told::Delivered { update } => write!(f, "delivered to {update}"),
-            Told::Idle { in_flight } => write!(f, "idle, {in_flight} in flight"),
-            Told::Quiet => f.write_str("quiet"),
-            Told::Planned => f.write_str("planned"),
-            Told::Stepped { entry } => write!(f, "stepped, entry {entry}"),
-            Told::Stale { entry } => write!(f, "stale, entry {entry}"),
-            Told::Back => f.write_str("back"),
-            Told::Unfit => f.write_str("unfit"),
-            Told::Memory => f.write_str("memory"),
-        }
     }
 }

@@ -6,6 +6,7 @@ ghost use Rattle.yt_desk.specs.Seats.{IsSeatOf};
 ghost use Rattle.yt_desk.specs.Tickets.{IsPlanFor};
 ghost use Rattle.yt_play.specs.Hands.{IsHand};
 
+use std::fmt;
 use std::sync::Wait;
 use yt_desk::{Board, Core, Desk, Finished, Next, Ticket};
 use yt_stamp::Seat;
@@ -70,6 +71,27 @@ pub enum Told {
     Unfit,
     /// There was no memory for it.
     Memory,
+}
+
+impl fmt::Display for Told {
+    fn fmt<W: fmt::Write>(&self, f: &mut fmt::Formatter<W>) -> fmt::Result {
+        match self {
+            Told::Ticket {
+                number,
+                update,
+                stamp,
+            } => { write!(f, "ticket {number} of update {update}, stamp {stamp}") }
+            Told::Delivered { update } => write!(f, "delivered to {update}"),
+            Told::Idle { in_flight } => write!(f, "idle, {in_flight} in flight"),
+            Told::Quiet => f.write_str("quiet"),
+            Told::Planned => f.write_str("planned"),
+            Told::Stepped { entry } => write!(f, "stepped, entry {entry}"),
+            Told::Stale { entry } => write!(f, "stale, entry {entry}"),
+            Told::Back => f.write_str("back"),
+            Told::Unfit => f.write_str("unfit"),
+            Told::Memory => f.write_str("memory"),
+        }
+    }
 }
 
 impl<C: Core> Hand<C> {
@@ -154,49 +176,42 @@ fn ask<R: Wait, C: Core>(rt: &R, desk: &Desk<C>, mut seat: Seat<Board<C>>) -> (H
     ensures place { place_of result.0.seat ≡ place_of seat }
 {
     match desk.next(rt, &mut seat) {
-        Ok(Next::Ticket(ticket)) => {
-            let told = Told::Ticket {
-                number: ticket.number(),
-                update: ticket.update(),
-                stamp: ticket.stamp(),
-            };
-            (
-                Hand {
-                    seat,
-                    work: Work::Given(ticket),
-                },
-                told,
-            )
-        }
-        Ok(Next::Delivered { update }) => (
-            Hand {
-                seat,
-                work: Work::Free,
-            },
-            Told::Delivered { update },
-        ),
-        Ok(Next::Idle { in_flight }) => (
-            Hand {
-                seat,
-                work: Work::Free,
-            },
-            Told::Idle { in_flight },
-        ),
-        Ok(Next::Quiet) => (
-            Hand {
-                seat,
-                work: Work::Free,
-            },
-            Told::Quiet,
-        ),
-        Err(_) => (
-            Hand {
-                seat,
-                work: Work::Free,
-            },
-            Told::Memory,
-        ),
+        Ok(Next::Ticket(ticket)) => given(desk, seat, ticket),
+        Ok(Next::Delivered { update }) => free(desk, seat, Told::Delivered { update }),
+        Ok(Next::Idle { in_flight }) => free(desk, seat, Told::Idle { in_flight }),
+        Ok(Next::Quiet) => free(desk, seat, Told::Quiet),
+        Err(_) => free(desk, seat, Told::Memory),
     }
+}
+
+// The seat with the ticket in hand.
+fn given<C: Core>(
+    _desk: &Desk<C>,
+    seat: Seat<Board<C>>,
+    ticket: Ticket<C::Snapshot>,
+) -> (Hand<C>, Told)
+    requires own { IsSeatOf C.over C.history _desk.now seat }
+    requires out { IsOutAt C.over C.is_snapshot _desk.now seat ticket }
+    ensures own { IsHand C.over C.history C.is_snapshot C.is_plan _desk.now result.0 }
+    ensures place { place_of result.0.seat ≡ place_of seat }
+{
+    let told = Told::Ticket {
+        number: ticket.number(),
+        update: ticket.update(),
+        stamp: ticket.stamp(),
+    };
+    let work = Work::Given(ticket);
+    (Hand { seat, work }, told)
+}
+
+// The seat with nothing in hand, and what it was told.
+fn free<C: Core>(_desk: &Desk<C>, seat: Seat<Board<C>>, told: Told) -> (Hand<C>, Told)
+    requires own { IsSeatOf C.over C.history _desk.now seat }
+    ensures own { IsHand C.over C.history C.is_snapshot C.is_plan _desk.now result.0 }
+    ensures place { place_of result.0.seat ≡ place_of seat }
+{
+    let work = Work::Free;
+    (Hand { seat, work }, told)
 }
 
 // Works out the plan of the ticket.
