@@ -1,4 +1,5 @@
 pub mod Concerns
+pub mod Rows
 pub mod Trails
 pub mod Changes
 pub mod Meanings

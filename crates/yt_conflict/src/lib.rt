@@ -12,4 +12,4 @@ mod views;
 
 pub use crate::changes::{Changed, first_changed};
 pub use crate::concerns::Trail;
-pub use crate::laws::unmet_values_stay;
+pub use crate::laws::{tuples_concern_queries, unmet_values_stay};

@@ -1,0 +1,54 @@
+-- Which tuples concern which queries, row by row: of an attempt that inserted A(1, 2), over one mapping A(x, y), B(y, z) -> C(x, z).
+use Rattle.std.specs.Prelude.{◌≡◌, ℕ, Bool, true, false, List, [], ◌∷◌, pos}
+use Rattle.yt_model.specs.Values.{Number, Fact}
+use Rattle.yt_model.specs.Repository.{Change, Insert, Delete}
+use Rattle.yt_model.specs.Mappings.{Var, Pattern, Rule, force}
+use Rattle.yt_model.specs.Queries.{Query, Present, Violation}
+use Rattle.yt_model.specs.Violations.{Direction, Forward, Backward}
+use Rattle.yt_conflict.specs.Concerns.{concerns, is_met}
+
+-- The tuple of relation r with these two numbers.
+abbrev pub pair : ℕ → ℕ → ℕ → Fact
+pair r i j = record { relation = r; values = Number (pos i) ∷ Number (pos j) ∷ [] }
+
+-- The atom of relation r with these two variables.
+abbrev pub atom : ℕ → ℕ → ℕ → Pattern
+atom r v w = record { relation = r; terms = Var v ∷ Var w ∷ [] }
+
+-- A is relation 0, B is 1 and C is 2; x, y and z are the variables 0, 1 and 2.
+abbrev pub join : List Rule
+join = record { since = 0; universal = 3; existential = 0; left = atom 0 0 1 ∷ atom 1 1 2 ∷ []; right = atom 2 0 2 ∷ [] } ∷ []
+
+-- What the attempt wrote.
+abbrev pub wrote : List Change
+wrote = Insert (pair 0 1 2) ∷ []
+
+-- Whether the tuple concerns the violation of that mapping, forward with these own writes.
+abbrev pub decides : List Change → Fact → Bool
+decides own t = concerns join Forward own (Violation 0) t
+
+pub record ConcernRows : Type 0 where
+  -- B(2, 5) has the value of y, B(3, 5) has not
+  pub joined : decides wrote (pair 1 2 5) ≡ true
+  pub apart : decides wrote (pair 1 3 5) ≡ false
+  -- C(1, 9) has the value of x, C(4, 9) has not
+  pub met : decides wrote (pair 2 1 9) ≡ true
+  pub other : decides wrote (pair 2 4 9) ≡ false
+  -- another tuple of A stands in no match with this one, the tuple itself does
+  pub beside : decides wrote (pair 0 7 8) ≡ false
+  pub itself : decides wrote (pair 0 1 2) ≡ true
+  -- a deletion causes nothing forward, and neither does an insertion of another relation
+  pub deleted : decides (Delete (pair 0 1 2) ∷ []) (pair 1 2 5) ≡ false
+  pub elsewhere : decides (Insert (pair 3 1 2) ∷ []) (pair 1 2 5) ≡ false
+  -- where the attempt put the mapping in force each tuple of its relations may decide
+  pub enacted : decides (Insert (force 0) ∷ []) (pair 1 3 5) ≡ true
+  -- backward each does too, and none of another relation
+  pub backward : concerns join Backward wrote (Violation 0) (pair 1 3 5) ≡ true
+  pub unread : concerns join Backward wrote (Violation 0) (pair 3 3 5) ≡ false
+  -- there is no mapping 1
+  pub missing : concerns join Forward wrote (Violation 1) (pair 1 2 5) ≡ false
+  -- `Present` is asked of one tuple; a trail meets a query by any of its writes, a deletion too
+  pub asked : concerns join Forward wrote (Present (pair 1 2 5)) (pair 1 2 5) ≡ true
+  pub unasked : concerns join Forward wrote (Present (pair 1 2 5)) (pair 1 2 6) ≡ false
+  pub trails : is_met join Forward wrote ((Insert (pair 1 3 5) ∷ []) ∷ (Insert (pair 3 0 0) ∷ Delete (pair 1 2 5) ∷ []) ∷ []) (Violation 0) ≡ true
+  pub unmet : is_met join Forward wrote ((Insert (pair 1 3 5) ∷ []) ∷ []) (Violation 0) ≡ false
