@@ -8,6 +8,16 @@ for row in tests/live/*/; do
        for stream in out err; do cmp "$stored/$stream" "$row/$stream" 2>&1; done)"
 done
 
+# The same, where each read and each write moves one byte.
+cc -O2 -shared -fPIC -o "$stored/pieces.so" tests/pieces.c
+for row in tests/live/live-a tests/live/live-b-empty tests/live/live-b-one-insert tests/live/last-line-open; do
+  LD_PRELOAD="$stored/pieces.so" "$live" < "$row/lines" > "$stored/out" 2> "$stored/err"
+  status=$?
+  check "the conversation $(basename "$row"), byte by byte" \
+    "$([ "$status" = "$(cat "$row/status")" ] || echo "status $status"
+       for stream in out err; do cmp "$stored/$stream" "$row/$stream" 2>&1; done)"
+done
+
 # Each line goes in only when the reply to the one before it is there.
 check 'a reply goes out before the next line is read' \
   "$(coproc curator { timeout 60 "$live"; }

@@ -83,7 +83,7 @@ fn with_last(mut text: Vec<u8>, line: &[u8]) -> Result<Vec<u8>, LineRefusal>
 }
 
 /// The lines up to and with the first that holds `end` and no other word, or all lines where none does.
-pub(crate) fn opening<S: Source>(
+pub(crate) fn read_opening<S: Source>(
     alloc: Global,
     lines: &mut Lines,
     source: &mut S,
@@ -99,7 +99,7 @@ pub(crate) fn opening<S: Source>(
         → Rose (S.fault_count source.old) (S.fault_count source.new) }
 {
     let mut text = Vec::new(alloc);
-    'lines: loop {
+    'each: loop {
         match lines.next(alloc, source)? {
             NextLine::Whole(line) => {
                 if push_line(&mut text, &line)? {

@@ -4,12 +4,13 @@ ghost use Rattle.std.specs.Fmt.{decimal};
 ghost use Rattle.yt_command.specs.Devices.{Takes, change};
 ghost use Rattle.yt_grammar.specs.Lines.{read};
 ghost use Rattle.yt_queue.specs.Settings.{settings_of};
+ghost use Rattle.yt_replies.specs.Meanings.{live_of};
 ghost use Rattle.yt_replies.specs.Turns.{line_turn};
 ghost use Rattle.yt_live.specs.Ends.{Converses, EndsAlone, FailsReply, HasReplied, Serves, ServesText, end_of};
 ghost use Rattle.yt_live.specs.Streams.{attended, opened_with, ready_line, served};
 
 use crate::ends::LiveEnd;
-use crate::openings::{opening, session_in};
+use crate::openings::{read_opening, session_in};
 use std::alloc::Global;
 use yt_base::Memory;
 use yt_limits::Budget;
@@ -41,9 +42,9 @@ fn turn<O: Sink>(
     line: &[u8],
     sink: &mut O,
 ) -> Result<bool, LiveEnd>
-    ensures replied { IfOk result (HasReplied (line_turn conversation.old line.now)
-        (change O.taken O.fault_count sink.old sink.new) conversation.new) }
-    ensures refused { IfErr result (FailsReply (line_turn conversation.old line.now).reply
+    ensures replied { IfOk result (HasReplied (line_turn (live_of conversation.old) line.now)
+        (change O.taken O.fault_count sink.old sink.new) (live_of conversation.new)) }
+    ensures refused { IfErr result (FailsReply (line_turn (live_of conversation.old) line.now).reply
         (change O.taken O.fault_count sink.old sink.new)) }
     ensures later { O.fault_count sink.old ≤ O.fault_count sink.new }
 {
@@ -60,11 +61,11 @@ fn converse<S: Source, O: Sink>(
     source: &mut S,
     sink: &mut O,
 ) -> Result<(), LiveEnd>
-    ensures converses { Converses (served conversation.old) lines.old (end_of result)
+    ensures converses { Converses (served (live_of conversation.old)) lines.old (end_of result)
         (change S.left S.fault_count source.old source.new)
         (change O.taken O.fault_count sink.old sink.new) }
 {
-    'lines: loop {
+    'each: loop {
         match lines.next(alloc, source)? {
             NextLine::Whole(line) => {
                 if !turn(alloc, conversation, &line, sink)? {
@@ -94,8 +95,8 @@ fn greet<O: Sink>(
     sink: &mut O,
 ) -> Result<(), LiveEnd>
     ensures ok { OnOk result (Takes (change O.taken O.fault_count sink.old sink.new)
-        (ready_line conversation.now)) }
-    ensures err { IfErr result (FailsReply (ready_line conversation.now)
+        (ready_line (live_of conversation.now))) }
+    ensures err { IfErr result (FailsReply (ready_line (live_of conversation.now))
         (change O.taken O.fault_count sink.old sink.new)) }
     ensures later { O.fault_count sink.old ≤ O.fault_count sink.new }
 {
@@ -111,7 +112,7 @@ fn attend<S: Source, O: Sink>(
     source: &mut S,
     sink: &mut O,
 ) -> Result<(), LiveEnd>
-    ensures attends { Converses (attended conversation.old) lines.old (end_of result)
+    ensures attends { Converses (attended (live_of conversation.old)) lines.old (end_of result)
         (change S.left S.fault_count source.old source.new)
         (change O.taken O.fault_count sink.old sink.new) }
 {
@@ -172,7 +173,7 @@ fn serve_all<S: Source, O: Sink>(
         (change O.taken O.fault_count sink.old sink.new) }
 {
     let mut lines = Lines::new(alloc, INPUT_LIMIT);
-    let begun = opening(alloc, &mut lines, source)?;
+    let begun = read_opening(alloc, &mut lines, source)?;
     if begun.more {
         return serve_text(alloc, &begun.text, &mut lines, source, sink, settings, budget);
     }

@@ -11,6 +11,8 @@ use Rattle.yt_replies.specs.declared.commands.Said.{Said}
 use Rattle.yt_replies.specs.declared.commands.Said.TheVariants as said
 use Rattle.yt_replies.specs.declared.refusals.Refusal.{Refusal}
 use Rattle.yt_replies.specs.declared.refusals.Refusal.TheVariants as refusal
+use Rattle.yt_session.specs.Meanings.{session_of}
+use Rattle.yt_replies.specs.declared.conversations.Conversation.{Conversation}
 use Rattle.yt_replies.specs.declared.conversations.Reply.{Reply}
 
 -- what a `Command` asks for
@@ -39,6 +41,10 @@ refusal_meant refusal.Null = why.BadNull
 refusal_meant refusal.Committed = why.IsCommitted
 refusal_meant (refusal.Stands s) = why.Stands (standing_of s)
 refusal_meant refusal.Misfit = why.Misfits
+
+-- the session at which curators work that a `Conversation` is
+abbrev pub live_of : Conversation → Live
+live_of c = record { session = session_of c.session.now; core = c.core; labels = c.labels.items }
 
 -- this is the turn: the text is replied and the session is so then, and it is not the last reply
 abbrev pub IsTold : Turn → List ℕ → Live → Type 0

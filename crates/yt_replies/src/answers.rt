@@ -3,7 +3,7 @@ ghost use Rattle.std.specs.Prelude.{IfOk};
 ghost use Rattle.yt_base.specs.Meanings.{choice_of};
 ghost use Rattle.yt_forms.specs.Statements.{choice_of as choice_meant};
 ghost use Rattle.yt_replies.specs.Commands.{AskAnswer, AskWithdrawal};
-ghost use Rattle.yt_replies.specs.Meanings.{IsTold};
+ghost use Rattle.yt_replies.specs.Meanings.{IsTold, live_of};
 ghost use Rattle.yt_replies.specs.Turns.{answer_known, answer_turn, command_turn, withdrawal_turn};
 ghost use Rattle.yt_replies.specs.Known.{known_choice};
 
@@ -24,8 +24,8 @@ impl<'s> Conversation<'s> {
         label: &Name,
         written: RawChoice,
     ) -> Result<Vec<u8>, Memory>
-        ensures { IfOk result (λ text. IsTold (command_turn self.old
-            (AskAnswer label.now.items (choice_meant written))) text.items self.new) }
+        ensures { IfOk result (λ text. IsTold (command_turn (live_of self.old)
+            (AskAnswer label.now.items (choice_meant written))) text.items (live_of self.new)) }
     {
         match self.number(label) {
             Some(update) => self.answer_written(alloc, update, written),
@@ -40,9 +40,9 @@ impl<'s> Conversation<'s> {
         update: u32,
         written: RawChoice,
     ) -> Result<Vec<u8>, Memory>
-        ensures { IfOk result (λ text. IsTold (answer_known self.old update
-            (known_choice self.old.session.relations (choice_meant written))) text.items
-            self.new) }
+        ensures { IfOk result (λ text. IsTold (answer_known (live_of self.old) update
+            (known_choice self.old.session.now.schema (choice_meant written))) text.items
+            (live_of self.new)) }
     {
         match known_choice(alloc, &self.session.schema, written)? {
             Some(choice) => self.answer_with(alloc, update, choice),
@@ -52,8 +52,8 @@ impl<'s> Conversation<'s> {
 
     // Answers the question of the update.
     fn answer_with(&mut self, alloc: Global, update: u32, choice: Choice) -> Result<Vec<u8>, Memory>
-        ensures { IfOk result (λ text. IsTold (answer_turn self.old update (choice_of choice))
-            text.items self.new) }
+        ensures { IfOk result (λ text. IsTold (answer_turn (live_of self.old) update (choice_of choice))
+            text.items (live_of self.new)) }
     {
         match self.core.answer(alloc, update, choice) {
             Ok(_) => self.told(alloc),
@@ -68,8 +68,8 @@ impl<'s> Conversation<'s> {
 
     /// Withdraws the update with the label. It is refused only for want of memory.
     pub(crate) fn withdraw(&mut self, alloc: Global, label: &Name) -> Result<Vec<u8>, Memory>
-        ensures { IfOk result (λ text. IsTold (command_turn self.old
-            (AskWithdrawal label.now.items)) text.items self.new) }
+        ensures { IfOk result (λ text. IsTold (command_turn (live_of self.old)
+            (AskWithdrawal label.now.items)) text.items (live_of self.new)) }
     {
         match self.number(label) {
             Some(update) => self.withdraw_update(alloc, update),
@@ -79,8 +79,8 @@ impl<'s> Conversation<'s> {
 
     // Withdraws the update.
     fn withdraw_update(&mut self, alloc: Global, update: u32) -> Result<Vec<u8>, Memory>
-        ensures { IfOk result (λ text. IsTold (withdrawal_turn self.old update) text.items
-            self.new) }
+        ensures { IfOk result (λ text. IsTold (withdrawal_turn (live_of self.old) update) text.items
+            (live_of self.new)) }
     {
         match self.core.withdraw(alloc, update) {
             Ok(_) => self.told(alloc),

@@ -7,14 +7,13 @@ ghost use Rattle.yt_grammar.specs.Validity.{IsSession};
 ghost use Rattle.yt_queue.specs.Settings.{settings_of};
 ghost use Rattle.yt_session.specs.Meanings.{session_of, update_of};
 ghost use Rattle.yt_replies.specs.Commands.{AskQuestion};
-ghost use Rattle.yt_replies.specs.Meanings.{IsReply, IsReplyTo, IsTold, command_meant};
+ghost use Rattle.yt_replies.specs.Meanings.{IsReply, IsReplyTo, IsTold, command_meant, live_of};
 ghost use Rattle.yt_replies.specs.Texts.{last_line};
 ghost use Rattle.yt_replies.specs.Turns.{begun, command_turn, delivery_turn, number_in, number_of, question_turn, step_turn};
 
 use crate::commands::{Command, Said, line_said};
 use crate::refusals::{Refusal, refused, words};
 use std::alloc::Global;
-use std::marker::Model;
 use yt_base::{Memory, Name, TryCopy};
 use yt_core::Core;
 use yt_limits::Budget;
@@ -24,21 +23,13 @@ use yt_schema::Names;
 use yt_session::{Session, SessionUpdate};
 use yt_trace::entry_line;
 
-/// A session at which curators work: its core, and the labels of its updates in the order of their numbers.
+/// A session at which curators work: its core, and the labels of its updates in the order of their numbers. What it
+/// stands for is `live_of`.
 #[derive(Drop)]
 pub struct Conversation<'s> {
     pub(crate) session: &'s Session,
     pub(crate) core: Core<'s>,
     pub(crate) labels: Names,
-}
-
-impl<'s> Model for Conversation<'s> {
-    ghost use Rattle.yt_session.specs.Meanings.{session_of};
-    ghost use Rattle.yt_replies.specs.Turns.{Live};
-
-    ghost Value = { Live };
-
-    ghost view = { λ c. record { session = session_of c.session.now; core = c.core; labels = c.labels.items } };
 }
 
 /// What is replied to a line, and whether it is the last reply.
@@ -81,7 +72,7 @@ impl<'s> Conversation<'s> {
     ) -> Result<Conversation<'s>, Memory>
         requires valid { IsSession (session_of session.now) }
         requires retries { settings.retries ≤ 4 }
-        ensures begun { IfOk result (λ c. c ≡ begun budget (settings_of settings)
+        ensures begun { IfOk result (λ c. live_of c ≡ begun budget (settings_of settings)
             (session_of session.now)) }
     {
         let labels = labels_of(alloc, session.updates.as_slice())?;
@@ -103,7 +94,7 @@ impl<'s> Conversation<'s> {
     /// What the line says is done, and replied. It is refused only for want of memory; what was done then stays.
     #[tactic(auto, unfolding(crate::specs::Turns::line_turn))]
     pub fn turn(&mut self, alloc: Global, line: &[u8]) -> Result<Reply, Memory>
-        ensures turn { IfOk result (IsReplyTo self.old line.now self.new) }
+        ensures turn { IfOk result (IsReplyTo (live_of self.old) line.now (live_of self.new)) }
     {
         match line_said(alloc, line)? {
             Said::Nothing => Ok(Reply {
@@ -120,7 +111,7 @@ impl<'s> Conversation<'s> {
 
     // What the command asks for is done, and replied.
     fn reply(&mut self, alloc: Global, command: Command) -> Result<Reply, Memory>
-        ensures { IfOk result (IsReply (command_turn self.old (command_meant command)) self.new) }
+        ensures { IfOk result (IsReply (command_turn (live_of self.old) (command_meant command)) (live_of self.new)) }
     {
         let text = match command {
             Command::Update(label, curator, operation) => {
@@ -138,8 +129,8 @@ impl<'s> Conversation<'s> {
 
     // A step of the lowest update that is ready.
     fn step(&mut self, alloc: Global) -> Result<Vec<u8>, Memory>
-        ensures { IfOk result (λ text. IsTold (step_turn self.old
-            (lowest_ready_at self.old.core)) text.items self.new) }
+        ensures { IfOk result (λ text. IsTold (step_turn (live_of self.old)
+            (lowest_ready_at self.old.core)) text.items (live_of self.new)) }
     {
         match self.core.lowest_ready() {
             Some(update) => self.step_of(alloc, update),
@@ -150,8 +141,8 @@ impl<'s> Conversation<'s> {
     // A step of the update.
     #[tactic(auto, using(crate::proofs::Making::event_turn))]
     fn step_of(&mut self, alloc: Global, update: u32) -> Result<Vec<u8>, Memory>
-        ensures { IfOk result (λ text. IsTold (step_turn self.old (Some update)) text.items
-            self.new) }
+        ensures { IfOk result (λ text. IsTold (step_turn (live_of self.old) (Some update)) text.items
+            (live_of self.new)) }
     {
         match self.core.step(alloc, update) {
             Ok(_) => self.told(alloc),
@@ -161,8 +152,8 @@ impl<'s> Conversation<'s> {
 
     // A delivery to the lowest update that a recorded answer waits for.
     fn deliver(&mut self, alloc: Global) -> Result<Vec<u8>, Memory>
-        ensures { IfOk result (λ text. IsTold (delivery_turn self.old
-            (lowest_deliverable_at self.old.core)) text.items self.new) }
+        ensures { IfOk result (λ text. IsTold (delivery_turn (live_of self.old)
+            (lowest_deliverable_at self.old.core)) text.items (live_of self.new)) }
     {
         match self.core.lowest_deliverable() {
             Some(update) => self.deliver_to(alloc, update),
@@ -173,8 +164,8 @@ impl<'s> Conversation<'s> {
     // A delivery to the update.
     #[tactic(auto, using(crate::proofs::Making::event_turn))]
     fn deliver_to(&mut self, alloc: Global, update: u32) -> Result<Vec<u8>, Memory>
-        ensures { IfOk result (λ text. IsTold (delivery_turn self.old (Some update)) text.items
-            self.new) }
+        ensures { IfOk result (λ text. IsTold (delivery_turn (live_of self.old) (Some update)) text.items
+            (live_of self.new)) }
     {
         match self.core.deliver(update) {
             Ok(_) => self.told(alloc),
@@ -184,8 +175,8 @@ impl<'s> Conversation<'s> {
 
     // The question of the update with the label.
     fn question(&self, alloc: Global, label: &Name) -> Result<Vec<u8>, Memory>
-        ensures { IfOk result (λ text. IsTold (command_turn self.now (AskQuestion label.now.items))
-            text.items self.now) }
+        ensures { IfOk result (λ text. IsTold (command_turn (live_of self.now) (AskQuestion label.now.items))
+            text.items (live_of self.now)) }
     {
         match self.number(label) {
             Some(update) => self.question_of(alloc, update),
@@ -195,7 +186,7 @@ impl<'s> Conversation<'s> {
 
     // The question of the update.
     fn question_of(&self, alloc: Global, update: u32) -> Result<Vec<u8>, Memory>
-        ensures { IfOk result (λ text. IsTold (question_turn self.now update) text.items self.now) }
+        ensures { IfOk result (λ text. IsTold (question_turn (live_of self.now) update) text.items (live_of self.now)) }
     {
         match self.core.question(update) {
             Some(question) => question_lines(alloc, self.session, question),
@@ -205,7 +196,7 @@ impl<'s> Conversation<'s> {
 
     /// The number of the update with the label; None exactly where none has it. It takes no memory.
     pub(crate) fn number(&self, label: &Name) -> Option<u32>
-        ensures number { result ≡ number_of self.now label.now.items }
+        ensures number { result ≡ number_of (live_of self.now) label.now.items }
     {
         match self.labels.find(label) {
             Some(place) => number_at(place, self.core.count()),
@@ -217,7 +208,7 @@ impl<'s> Conversation<'s> {
     #[tactic(auto, using(crate::proofs::Listing::last_told))]
     pub(crate) fn told(&self, alloc: Global) -> Result<Vec<u8>, Memory>
         ensures told { IfOk result (λ text. text.items ≡
-            last_line self.now.session.relations self.now.core.history) }
+            last_line self.now.session.now.schema self.now.core.history) }
     {
         match self.core.history().last() {
             Some(entry) => entry_line(alloc, &self.session.schema, entry),

@@ -6,7 +6,7 @@ ghost use Rattle.yt_forms.specs.Statements.{operation_of as operation_meant};
 ghost use Rattle.yt_grammar.specs.Names.{is_one_of};
 ghost use Rattle.yt_replies.specs.Commands.{AskUpdate};
 ghost use Rattle.yt_replies.specs.Known.{known_operation};
-ghost use Rattle.yt_replies.specs.Meanings.{IsTold};
+ghost use Rattle.yt_replies.specs.Meanings.{IsTold, live_of};
 ghost use Rattle.yt_replies.specs.Turns.{admission, command_turn, update_known, update_turn};
 
 use crate::conversations::Conversation;
@@ -27,8 +27,8 @@ impl<'s> Conversation<'s> {
         curator: Name,
         written: RawOperation,
     ) -> Result<Vec<u8>, Memory>
-        ensures { IfOk result (λ text. IsTold (command_turn self.old
-            (AskUpdate label.items curator.items (operation_meant written))) text.items self.new) }
+        ensures { IfOk result (λ text. IsTold (command_turn (live_of self.old)
+            (AskUpdate label.items curator.items (operation_meant written))) text.items (live_of self.new)) }
     {
         if self.labels.has(&label) {
             return refused(alloc, Refusal::Label);
@@ -44,10 +44,10 @@ impl<'s> Conversation<'s> {
         curator: Name,
         written: RawOperation,
     ) -> Result<Vec<u8>, Memory>
-        requires new { is_one_of self.old.labels label.items ≡ false }
-        ensures { IfOk result (λ text. IsTold (update_known self.old label.items
-            (known_operation self.old.session.relations (operation_meant written))) text.items
-            self.new) }
+        requires new { is_one_of self.old.labels.items label.items ≡ false }
+        ensures { IfOk result (λ text. IsTold (update_known (live_of self.old) label.items
+            (known_operation self.old.session.now.schema (operation_meant written))) text.items
+            (live_of self.new)) }
     {
         match known_operation(alloc, &self.session.schema, written)? {
             Some(operation) => self.update_known(
@@ -64,9 +64,9 @@ impl<'s> Conversation<'s> {
 
     // The same, where the relation is known.
     fn update_known(&mut self, alloc: Global, update: Update) -> Result<Vec<u8>, Memory>
-        requires new { is_one_of self.old.labels update.label.items ≡ false }
-        ensures { IfOk result (λ text. IsTold (update_turn self.old update.label.items
-            (operation_of update.operation)) text.items self.new) }
+        requires new { is_one_of self.old.labels.items update.label.items ≡ false }
+        ensures { IfOk result (λ text. IsTold (update_turn (live_of self.old) update.label.items
+            (operation_of update.operation)) text.items (live_of self.new)) }
     {
         if self.core.count() >= 1000 {
             return refused(alloc, Refusal::Full);
@@ -79,10 +79,10 @@ impl<'s> Conversation<'s> {
 
     // Admits the update, which has a new label.
     fn admit(&mut self, alloc: Global, update: Update) -> Result<Vec<u8>, Memory>
-        requires new { is_one_of self.old.labels update.label.items ≡ false }
+        requires new { is_one_of self.old.labels.items update.label.items ≡ false }
         requires room { length (updates_at self.old.core) < 1000 }
-        ensures { IfOk result (λ text. IsTold (admission self.old update.label.items
-            (operation_of update.operation)) text.items self.new) }
+        ensures { IfOk result (λ text. IsTold (admission (live_of self.old) update.label.items
+            (operation_of update.operation)) text.items (live_of self.new)) }
     {
         let label = update.label.copy(alloc)?;
         self.labels.reserve()?;
