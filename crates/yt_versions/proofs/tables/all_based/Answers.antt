@@ -10,11 +10,11 @@ use Rattle.yt_versions.proofs.tables.all_based.Goals as goal
 
 pub loop-tuple-init : goal.loop-tuple-init
 loop-tuple-init c =
-    let none = sym c.new-entries.ensures.empty in
+    let none = sym c.new-entries.ensures.items in
     record {
       entries = λ rest h. subst (λ (es : List (Tuple × Marks)). AreBased (map fact_of c.args.base.now) (es ++ rest)) none h;
       marks = subst AllInBase none tt;
-      index = index_empty c.new-entries.ensures.empty c.requires.empty;
+      index = index_empty c.new-entries.ensures.items c.requires.empty;
     }
 
 pub loop-tuple-preserved : goal.loop-tuple-preserved
@@ -22,7 +22,7 @@ loop-tuple-preserved c =
     let x = c.tuple-item.result in
     let es = c.loop-tuple.entries.items in
     let e = c.in_ok-entry.entry in
-    let more = sym c.in_ok-push.ensures.ok in
+    let more = sym c.in_ok-push.ensures.items in
     record {
       entries = λ rest h. subst (λ (ys : List (Tuple × Marks)). AreBased (map fact_of c.args.base.now) (ys ++ rest)) more
           (based_on c.args.base.now c.loop-tuple.tuple-index x es rest e c.loop-tuple-test.true c.tuple-item.is c.in_ok-entry.ensures.tuple c.in_ok-entry.ensures.marks c.loop-tuple.invariant.entries h);
