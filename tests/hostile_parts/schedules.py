@@ -1,9 +1,10 @@
 #!/usr/bin/env python3
-"""schedules.py PROGRAM [cheap]: every order in which two and three seats of a desk come, over small sessions whose updates meet.
+"""schedules.py PROGRAM TWO THREE: every order in which two and three seats of a desk come, over small sessions whose updates meet.
 
 The program is that of crates/yt_desk_table, which makes the schedules on one thread: a seat asks for a ticket, works its step out, and
-hands it in, and these calls of the seats come in every order for so many calls. Each end that is reached has to be the result of the
-serial machine and a history of which the reference's auditor says that it is legal and ends quiet. The last line is 'N passed, M failed'.
+hands it in. Two seats come in every order for their first TWO calls, three for THREE, and then by turns. Each end that is reached has
+to be the result of the serial machine and a history of which the reference's auditor says that it is legal and ends quiet. The last
+line is 'N passed, M failed'.
 """
 import subprocess
 import sys
@@ -45,22 +46,15 @@ def is_right(session, result, retries, deps, end):
     return told.startswith(b"yes ") and told.endswith(b" quiet")
 
 
-def extents(deps, retries, cheap):
-    """How many seats come in every order, and for how many calls."""
-    if cheap:
-        return (2, 7), (3, 6)
-    return (2, 12), (3, 12 if (deps, retries) == (b"precise", 3) else 10)
-
-
 def main():
-    program, cheap = sys.argv[1], len(sys.argv) > 2
+    program, extents = sys.argv[1], ((2, int(sys.argv[2])), (3, int(sys.argv[3])))
     passed = failed = distinct = 0
     for name, text in SESSIONS.items():
         data = b"youtopia 2\n" + text.encode() + b"end\n"
         session = read_session(data)
         result = result_text(session, serial(session, BUDGET))
         for deps, retries in ((b"precise", 3), (b"coarse", 3), (b"precise", 0)):
-            for seats, calls in extents(deps, retries, cheap):
+            for seats, calls in extents:
                 schedules, ends = ends_of(program, data, retries, deps, seats, calls)
                 wrong = [end for end in ends if not is_right(session, result, retries, deps, end)]
                 distinct += len(ends)
