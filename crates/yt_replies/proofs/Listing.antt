@@ -16,4 +16,4 @@ last_told relations es H found same is =
     subst (λ (h : List PlainEntry). entry_text relations (option_map entry_of found) ≡ last_line relations h) same
     (ap (λ (o : Option Entry). entry_text relations (option_map entry_of o)) is
     ∙ (ap (entry_text relations) (sym (slice_get-map entry_of es (length es - 1)))
-    ∙ ap (λ n. entry_text relations (slice_get (map entry_of es) (n - 1))) (sym (length-map entry_of es))))
+    ∙ ap (λ n. entry_text relations (slice_get (map entry_of es) (n - 1))) (sym (length-map es entry_of))))

@@ -1,6 +1,6 @@
 -- What is replied to an event that a core made, or to one that it refused.
 use Rattle.std.proofs.Common.{◌≡◌, ℕ, suc, ◌<◌, ◌≤◌, Bool, true, false, List, [], ◌∷◌, ◌++◌, refl, sym, ap, subst, ◌∙◌, arith}
-use Rattle.std.specs.Prelude.{◌&&◌, not, nat_le, nat_lt, length, Option, Some, None, is_some}
+use Rattle.std.specs.Prelude.{◌&&◌, not, nat_le, nat_lt, length, Option, Some, None, is_some, Result, Ok, Err, IfOk}
 use Rattle.std.proofs.lemmas.Bool.{and_parts}
 use Rattle.std.proofs.lemmas.Bool.Decides.{nat_tests}
 use Rattle.yt_core.specs.Events.{HasMade}
@@ -91,3 +91,12 @@ pub withdrawn_already : (L : Live) (n : ℕ) → standing_at L.core n ≡ Some W
 withdrawn_already L n is above =
     let high : nat_le n (committed_at L.core) ≡ false = grind (arith, above, nat_tests) in
     ap (withdrawal_standing L n) is ∙ (let rest : withdrawal_standing L n (Some Withdrawn) ≡ record { reply = refused_line (Stands Withdrawn); next = L; last = false } = rw high refl in rest)
+
+-- a text that is this one is the reply of a turn that has it
+pub told_ok : {V E : Type 0} (items : V → List ℕ) (r : Result V E) (x : List ℕ) (t : Turn) (next : Live) → IfOk r (λ v. items v ≡ x) → ((text : List ℕ) → text ≡ x → IsTold t text next) → IfOk r (λ v. IsTold t (items v) next)
+told_ok items (Ok v) x t next h f = f (items v) h
+told_ok items (Err e) x t next h f = tt
+
+-- nothing is done, and this is said
+pub says_turn : (L : Live) (t : Turn) (x text : List ℕ) → t ≡ record { reply = x; next = L; last = false } → text ≡ x → IsTold t text L
+says_turn L t x text is told = is ∙ (λ i. record { reply = sym told i; next = L; last = false })
