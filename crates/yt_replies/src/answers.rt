@@ -52,8 +52,9 @@ impl<'s> Conversation<'s> {
 
     // Answers the question of the update.
     fn answer_with(&mut self, alloc: Global, update: u32, choice: Choice) -> Result<Vec<u8>, Memory>
-        ensures { IfOk result (λ text. IsTold (answer_turn (live_of self.old) update (choice_of choice))
-            text.items (live_of self.new)) }
+        ensures { IfOk result (λ text. IsTold
+            (answer_turn (live_of self.old) update (choice_of choice)) text.items
+            (live_of self.new)) }
     {
         match self.core.answer(alloc, update, choice) {
             Ok(_) => self.told(alloc),

@@ -111,7 +111,8 @@ impl<'s> Conversation<'s> {
 
     // What the command asks for is done, and replied.
     fn reply(&mut self, alloc: Global, command: Command) -> Result<Reply, Memory>
-        ensures { IfOk result (IsReply (command_turn (live_of self.old) (command_meant command)) (live_of self.new)) }
+        ensures { IfOk result (IsReply (command_turn (live_of self.old) (command_meant command))
+            (live_of self.new)) }
     {
         let text = match command {
             Command::Update(label, curator, operation) => {
@@ -141,8 +142,8 @@ impl<'s> Conversation<'s> {
     // A step of the update.
     #[tactic(auto, using(crate::proofs::Making::event_turn))]
     fn step_of(&mut self, alloc: Global, update: u32) -> Result<Vec<u8>, Memory>
-        ensures { IfOk result (λ text. IsTold (step_turn (live_of self.old) (Some update)) text.items
-            (live_of self.new)) }
+        ensures { IfOk result (λ text. IsTold (step_turn (live_of self.old) (Some update))
+            text.items (live_of self.new)) }
     {
         match self.core.step(alloc, update) {
             Ok(_) => self.told(alloc),
@@ -164,8 +165,8 @@ impl<'s> Conversation<'s> {
     // A delivery to the update.
     #[tactic(auto, using(crate::proofs::Making::event_turn))]
     fn deliver_to(&mut self, alloc: Global, update: u32) -> Result<Vec<u8>, Memory>
-        ensures { IfOk result (λ text. IsTold (delivery_turn (live_of self.old) (Some update)) text.items
-            (live_of self.new)) }
+        ensures { IfOk result (λ text. IsTold (delivery_turn (live_of self.old) (Some update))
+            text.items (live_of self.new)) }
     {
         match self.core.deliver(update) {
             Ok(_) => self.told(alloc),
@@ -175,8 +176,9 @@ impl<'s> Conversation<'s> {
 
     // The question of the update with the label.
     fn question(&self, alloc: Global, label: &Name) -> Result<Vec<u8>, Memory>
-        ensures { IfOk result (λ text. IsTold (command_turn (live_of self.now) (AskQuestion label.now.items))
-            text.items (live_of self.now)) }
+        ensures { IfOk result (λ text. IsTold
+            (command_turn (live_of self.now) (AskQuestion label.now.items)) text.items
+            (live_of self.now)) }
     {
         match self.number(label) {
             Some(update) => self.question_of(alloc, update),
@@ -186,7 +188,8 @@ impl<'s> Conversation<'s> {
 
     // The question of the update.
     fn question_of(&self, alloc: Global, update: u32) -> Result<Vec<u8>, Memory>
-        ensures { IfOk result (λ text. IsTold (question_turn (live_of self.now) update) text.items (live_of self.now)) }
+        ensures { IfOk result (λ text. IsTold (question_turn (live_of self.now) update)
+            text.items (live_of self.now)) }
     {
         match self.core.question(update) {
             Some(question) => question_lines(alloc, self.session, question),

@@ -28,7 +28,8 @@ impl<'s> Conversation<'s> {
         written: RawOperation,
     ) -> Result<Vec<u8>, Memory>
         ensures { IfOk result (λ text. IsTold (command_turn (live_of self.old)
-            (AskUpdate label.items curator.items (operation_meant written))) text.items (live_of self.new)) }
+            (AskUpdate label.items curator.items (operation_meant written))) text.items
+            (live_of self.new)) }
     {
         if self.labels.has(&label) {
             return refused(alloc, Refusal::Label);
