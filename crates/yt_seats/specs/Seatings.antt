@@ -1,4 +1,4 @@
--- What seats and queues mean: the updates of a history of the chase.
+-- What seats mean: the updates of a history of the chase.
 use Rattle.std.specs.Prelude.{◌≡◌, ℕ, suc, List, [], ◌∷◌, map, None}
 use Rattle.yt_base.specs.Meanings.{choice_of}
 use Rattle.yt_machine.specs.Updates.{Read, Update}
@@ -25,7 +25,7 @@ module _ (ms : List Rule) (B : ℕ) where
         inbox = map choice_of r.inbox.items;
       }
 
-  -- The updates that the seats of seats stand for.
+  -- The updates that the seats stand for.
   abbrev pub updates_of : List Seat → List (Update (caused_chase ms B))
   updates_of rs = map update_of rs
 

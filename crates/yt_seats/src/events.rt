@@ -79,16 +79,16 @@ impl Seat {
     }
 }
 
-// Copies of the answers as seats. It is refused only for want of memory.
+// Copies of the answers as a queue. It is refused only for want of memory.
 fn queued(alloc: Global, answers: &ChoiceList) -> Result<VecDeque<Choice>, Memory>
-    ensures same { IfOk result (λ seats.
-        map choice_of seats.items ≡ map choice_of answers.now.items) }
+    ensures same { IfOk result (λ queue.
+        map choice_of queue.items ≡ map choice_of answers.now.items) }
 {
-    let mut seats = VecDeque::new(alloc);
+    let mut queue = VecDeque::new(alloc);
     for answer in answers.as_slice() {
-        seats.push_back(answer.copy(alloc)?)?;
+        queue.push_back(answer.copy(alloc)?)?;
     }
-    Ok(seats)
+    Ok(queue)
 }
 
 // Puts the reads at the end of the log. It is refused only for want of memory.
