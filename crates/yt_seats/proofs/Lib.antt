@@ -1,0 +1,5 @@
+pub mod Deciding
+pub mod Following
+pub mod Restarting
+pub mod Walking
+pub mod Answering

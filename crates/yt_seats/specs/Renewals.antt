@@ -1,0 +1,56 @@
+-- Restarts: fresh attempts, made before anything is changed, and the seats that take them over.
+use Rattle.std.specs.Prelude.{◌≡◌, ℕ, suc, ◌+◌, ◌<◌, ◌^◌, List, [], ◌∷◌, ◌++◌, map, take, drop, Option, Some, None, is_some, if◌then◌else◌}
+use Rattle.yt_entries.specs.declared.causes.Cause.{Cause}
+use Rattle.yt_machine.specs.Cascade as machine
+use Rattle.yt_machine.specs.Cascade.{anew}
+use Rattle.yt_machine.specs.Settle.{restart}
+use Rattle.yt_model.specs.Mappings.{Rule}
+use Rattle.yt_program.specs.Courses.{State, between}
+use Rattle.yt_steps.specs.Attempts.{begun}
+use Rattle.yt_steps.specs.Chase.{caused_chase}
+use Rattle.yt_seats.specs.Seatings.{update_of, updates_of}
+use Rattle.yt_seats.specs.declared.seats.Seat.{Seat}
+
+-- One more attempt has a number.
+abbrev pub HasOneMore : Seat → Type 0
+HasOneMore r = r.program.attempt.attempt + 1 < 2 ^ 32
+
+-- That holds of each of them.
+abbrev pub AllHaveOneMore : List Seat → Type 0
+AllHaveOneMore [] = Unit {0}
+AllHaveOneMore (r ∷ rs) = HasOneMore r × AllHaveOneMore rs
+
+-- The next attempt at the update, at its start.
+abbrev pub IsFresh : Seat → State → Type 0
+IsFresh r s = s ≡ between (begun r.program.attempt.number (suc r.program.attempt.attempt) r.program.attempt.operation)
+
+-- It is the next attempt, if there is one.
+abbrev pub IsFreshIf : Seat → Option State → Type 0
+IsFreshIf r None = Unit {0}
+IsFreshIf r (Some s) = IsFresh r s
+
+-- For each of the seats its next attempt, or none.
+abbrev pub AreFresh : List Seat → List (Option State) → Type 0
+AreFresh [] [] = Unit {0}
+AreFresh [] (f ∷ fs) = ⊥
+AreFresh (r ∷ rs) [] = ⊥
+AreFresh (r ∷ rs) (f ∷ fs) = IsFreshIf r f × AreFresh rs fs
+
+-- There is one exactly where there is a cause.
+abbrev pub AreThere : List (Option Cause) → List (Option State) → Type 0
+AreThere cs fs = map is_some fs ≡ map is_some cs
+
+-- The update begins its next attempt.
+abbrev pub HasRestarted : Seat → Seat → Type 0
+HasRestarted r r' = (ms : List Rule) (B : ℕ) → update_of ms B r' ≡ anew (caused_chase ms B) r.program.attempt.number (update_of ms B r)
+
+-- From place k on the updates begin their next attempts for which there is one.
+abbrev pub HaveRestarted : ℕ → List (Option State) → List Seat → List Seat → Type 0
+HaveRestarted k fs rs rs' =
+    (ms : List Rule) (B : ℕ) (xs : List (Option (machine.Cause (caused_chase ms B)))) → map is_some xs ≡ map is_some fs
+    → updates_of ms B rs' ≡ take k (updates_of ms B rs) ++ restart (caused_chase ms B) (suc k) xs (drop k (updates_of ms B rs))
+
+-- The update begins its next attempt, if there is one, and else stays as it is.
+abbrev pub HasRestartedIf : Option State → Seat → Seat → Type 0
+HasRestartedIf f r r' =
+    (ms : List Rule) (B : ℕ) → update_of ms B r' ≡ (if is_some f then anew (caused_chase ms B) r.program.attempt.number (update_of ms B r) else update_of ms B r)

@@ -1,0 +1,88 @@
+//! Restarts. The fresh attempts are made first, which may be refused; to take them over cannot fail.
+ghost use Rattle.std.specs.Prelude.{◌≡◌, ◌≤◌, length, drop, is_some, IfOk};
+ghost use Rattle.yt_seats.specs.Seatings.{AreFrom};
+ghost use Rattle.yt_seats.specs.Events.{KeepsPlace};
+ghost use Rattle.yt_seats.specs.Renewals.{HasOneMore, AllHaveOneMore, IsFresh, AreFresh, AreThere, HasRestarted, HasRestartedIf, HaveRestarted, IsFreshIf};
+
+use crate::seats::Seat;
+use std::alloc::Global;
+use yt_base::Memory;
+use yt_entries::Cause;
+use yt_program::Program;
+
+impl Seat {
+    /// The next attempt at the update, at its start. It is refused only for want of memory.
+    pub fn fresh(&self, alloc: Global) -> Result<Program, Memory>
+        requires more { HasOneMore self.now }
+        ensures fresh { IfOk result (IsFresh self.now) }
+    {
+        self.program.anew(alloc)
+    }
+
+    /// Begins the next attempt: the update loses its writes and its log, and keeps its answers. It takes no memory.
+    pub fn restart(&mut self, fresh: Program)
+        requires fresh { IsFresh self.old fresh }
+        ensures restarted { HasRestarted self.old self.new }
+        ensures place { KeepsPlace self.old self.new }
+    {
+        self.program = fresh;
+        self.log.clear();
+    }
+
+    // Begins the next attempt, if there is one.
+    fn restart_if(&mut self, fresh: Option<Program>)
+        requires fresh { IsFreshIf self.old fresh }
+        ensures restarted { HasRestartedIf fresh self.old self.new }
+        ensures place { KeepsPlace self.old self.new }
+    {
+        if let Some(program) = fresh {
+            self.restart(program);
+        }
+    }
+}
+
+/// The next attempts at those of the updates that have a cause. It is refused only for want of memory.
+pub fn fresh_programs(
+    alloc: Global,
+    upper: &[Seat],
+    causes: &[Option<Cause>],
+) -> Result<Vec<Option<Program>>, Memory>
+    requires long { length causes.now ≡ length upper.now }
+    requires more { AllHaveOneMore upper.now }
+    ensures fresh { IfOk result (λ fresh. AreFresh upper.now fresh.items) }
+    ensures there { IfOk result (λ fresh. AreThere causes.now fresh.items) }
+{
+    let mut fresh = Vec::new(alloc);
+    for i in 0..upper.len() {
+        fresh.push(fresh_if(alloc, &upper[i], &causes[i])?)?;
+    }
+    Ok(fresh)
+}
+
+// The next attempt at the update, if there is a cause.
+fn fresh_if(alloc: Global, item: &Seat, cause: &Option<Cause>) -> Result<Option<Program>, Memory>
+    requires more { HasOneMore item.now }
+    ensures fresh { IfOk result (IsFreshIf item.now) }
+    ensures there { IfOk result (λ fresh. is_some fresh ≡ is_some cause.now) }
+{
+    if cause.is_some() {
+        Ok(Some(item.fresh(alloc)?))
+    } else {
+        Ok(None)
+    }
+}
+
+/// Restarts those of the updates from place `from` on for which there is a fresh attempt, in turn. It takes no memory.
+pub fn restart_marked(seats: &mut [Seat], from: usize, fresh: Vec<Option<Program>>)
+    requires place { from ≤ length seats.old }
+    requires from { AreFrom 1 seats.old }
+    requires fresh { AreFresh (drop from seats.old) fresh.items }
+    ensures restarted { HaveRestarted from fresh.items seats.old seats.new }
+    ensures numbers { AreFrom 1 seats.new }
+{
+    let mut place = from;
+    for program in fresh {
+        seats[place].restart_if(program);
+        place += 1;
+    }
+}
