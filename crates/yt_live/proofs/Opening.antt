@@ -105,13 +105,14 @@ module _ (left mid right : Option (List ℕ)) (before kept after : Kept) (text l
         short = short_text (is_end line) refl (omega (arith, ap length all, length-append text line, length-append o.took more, o.room, room, limit));
       }
     where
-    read_so : (budget : ℕ) (c : Settings) (bytes : List ℕ) → bytes ≡ text ++ line → (b : Bool) → is_end line ≡ b
-        → of_parts budget c bytes (option_map (prefixed text) (parted (line ∷ []))) ≡ opened_with budget c (read (text ++ last_line line)) []
-    read_so budget c bytes all true e = rw e refl
-    read_so budget c bytes all false e = rw e (ap (λ (l : List ℕ). opened_with budget c (read l) []) all)
-    short_text : (b : Bool) → is_end line ≡ b → length text + length line ≤ INPUT_LIMIT → length (text ++ last_line line) ≤ INPUT_LIMIT + 1
-    short_text true e few = rw e (omega (arith, length-append text (line ++ 10 ∷ []), length-append line (10 ∷ []), few))
-    short_text false e few = rw e (omega (arith, length-append text line, few))
+      read_so : (budget : ℕ) (c : Settings) (bytes : List ℕ) → bytes ≡ text ++ line → (b : Bool) → is_end line ≡ b
+          → of_parts budget c bytes (option_map (prefixed text) (parted (line ∷ []))) ≡ opened_with budget c (read (text ++ last_line line)) []
+      read_so budget c bytes all true e = rw e refl
+      read_so budget c bytes all false e = rw e (ap (λ (l : List ℕ). opened_with budget c (read l) []) all)
+
+      short_text : (b : Bool) → is_end line ≡ b → length text + length line ≤ INPUT_LIMIT → length (text ++ last_line line) ≤ INPUT_LIMIT + 1
+      short_text true e few = rw e (omega (arith, length-append text (line ++ 10 ∷ []), length-append line (10 ∷ []), few))
+      short_text false e few = rw e (omega (arith, length-append text line, few))
 
 -- the lines so far have no `end`
 lines_without : (text lost : List ℕ) (whole : List (List ℕ)) (took : List ℕ) → Splits text whole → HasNoLineFeed lost → took ≡ text ++ lost
@@ -121,12 +122,16 @@ lines_without text lost whole took split one same parts =
 
 -- no further line is given
 pub fails : (left mid right : Option (List ℕ)) (before kept : Kept) (text : List ℕ) (e : LineRefusal) → IsOpening left mid before kept text → IsLost mid right kept e → OpensNothing e left right before
-fails left mid right before kept text lines.ReadFault o lost =
-    (o.took ++ lost.took, Consumes-trans left mid right o.took lost.took o.taken lost.taken,
-    lines_without text (kept.bytes ++ lost.took) o.whole (o.took ++ lost.took) o.split lost.unended (ap (λ l. l ++ lost.took) o.same ∙ append_assoc text kept.bytes lost.took) o.parts)
-fails left mid right before kept text lines.TooLong o lost =
-    (o.took ++ lost.took, lost.extra,
-    subst (Consumes left right) (sym (append_assoc o.took lost.took (lost.extra ∷ []))) (Consumes-trans left mid right o.took (lost.took ++ lost.extra ∷ []) o.taken lost.taken),
-    omega (arith, length-append o.took lost.took, o.room, lost.room),
-    lines_without text (kept.bytes ++ lost.took) o.whole (o.took ++ lost.took) o.split lost.unended (ap (λ l. l ++ lost.took) o.same ∙ append_assoc text kept.bytes lost.took) o.parts)
+fails left mid right before kept text lines.ReadFault o lost = (
+  o.took ++ lost.took,
+  Consumes-trans left mid right o.took lost.took o.taken lost.taken,
+  lines_without text (kept.bytes ++ lost.took) o.whole (o.took ++ lost.took) o.split lost.unended (ap (λ l. l ++ lost.took) o.same ∙ append_assoc text kept.bytes lost.took) o.parts,
+)
+fails left mid right before kept text lines.TooLong o lost = (
+  o.took ++ lost.took,
+  lost.extra,
+  subst (Consumes left right) (sym (append_assoc o.took lost.took (lost.extra ∷ []))) (Consumes-trans left mid right o.took (lost.took ++ lost.extra ∷ []) o.taken lost.taken),
+  omega (arith, length-append o.took lost.took, o.room, lost.room),
+  lines_without text (kept.bytes ++ lost.took) o.whole (o.took ++ lost.took) o.split lost.unended (ap (λ l. l ++ lost.took) o.same ∙ append_assoc text kept.bytes lost.took) o.parts,
+)
 fails left mid right before kept text lines.Memory o lost = (o.took ++ lost.0, Consumes-trans left mid right o.took lost.0 o.taken lost.1)

@@ -138,10 +138,13 @@ module _ (L0 L : Live) (left mid right taken tmid tnow : Option (List ℕ)) (bef
   ends more same none end one wrote = by (line_turn L line).last refl where
     split : lines_of (before.bytes ++ (v.took ++ more)) ≡ v.whole ++ line ∷ []
     split = ap lines_of (sym (append-nil (before.bytes ++ (v.took ++ more)))) ∙ last_split more [] same none refl one
+
     all : (b : Bool) → (line_turn L line).last ≡ b → served L0 (lines_of (before.bytes ++ (v.took ++ more))) ≡ with_front v.told (if b then parting (line_turn L line) else with_front (line_turn L line).reply (served (line_turn L line).next []))
     all b e = ap (served L0) split ∙ (v.serves (line ∷ []) ∙ ap (with_front v.told) (line_served L line [] b e))
+
     both : Appends taken tnow (v.told ++ (line_turn L line).reply)
     both = Appends-trans taken tmid tnow v.told (line_turn L line).reply v.wrote wrote
+
     by : (b : Bool) → (line_turn L line).last ≡ b → Appends taken tnow (served L0 (lines_of (before.bytes ++ (v.took ++ more)))).replies × IsOver (served L0 (lines_of (before.bytes ++ (v.took ++ more)))).ending right
     by true e = subst (λ (s : Served). Appends taken tnow s.replies × IsOver s.ending right) (sym (all true e)) (both, tt)
     by false e = subst (λ (s : Served). Appends taken tnow s.replies × IsOver s.ending right) (sym (all false e))

@@ -68,13 +68,16 @@ greeted L before ends.ReadFault source out tmid fmid first le c =
 greeted L before ends.WriteFault source out tmid fmid first le c =
     ((c.0.0, c.0.1, then_some (ready_line L) (served L (lines_of ((before.bytes ++ c.0.0) ++ left_of source.bytes_after))).replies first c.0.2), rose_since out.faults fmid out.faults_after le c.1)
   where
-  then_some : (front bytes : List ℕ) → Appends out.bytes tmid front → TakesPrefix tmid out.bytes_after bytes → TakesPrefix out.bytes out.bytes_after (front ++ bytes)
-  then_some front bytes one two = subst (λ (l : List ℕ). TakesPrefix out.bytes out.bytes_after (front ++ l)) (append-nil bytes) (takes_front out.bytes tmid out.bytes_after front bytes [] one two)
+    then_some : (front bytes : List ℕ) → Appends out.bytes tmid front → TakesPrefix tmid out.bytes_after bytes → TakesPrefix out.bytes out.bytes_after (front ++ bytes)
+    then_some front bytes one two = subst (λ (l : List ℕ). TakesPrefix out.bytes out.bytes_after (front ++ l)) (append-nil bytes) (takes_front out.bytes tmid out.bytes_after front bytes [] one two)
 greeted L before ends.TooLong source out tmid fmid first le c =
     (c.0, c.1, c.2, c.3, (c.4.0, Appends-trans out.bytes tmid out.bytes_after (ready_line L) (served L (whole_lines (before.bytes ++ c.0))).replies first c.4.1))
-greeted L before ends.Memory source out tmid fmid first le c =
-    (c.0, c.1, subst (λ (l : List ℕ). TakesPrefix out.bytes out.bytes_after (ready_line L ++ l)) (append-nil (served L (lines_of ((before.bytes ++ c.0) ++ left_of source.bytes_after))).replies)
-    (takes_front out.bytes tmid out.bytes_after (ready_line L) (served L (lines_of ((before.bytes ++ c.0) ++ left_of source.bytes_after))).replies [] first c.2))
+greeted L before ends.Memory source out tmid fmid first le c = (
+  c.0,
+  c.1,
+  subst (λ (l : List ℕ). TakesPrefix out.bytes out.bytes_after (ready_line L ++ l)) (append-nil (served L (lines_of ((before.bytes ++ c.0) ++ left_of source.bytes_after))).replies)
+      (takes_front out.bytes tmid out.bytes_after (ready_line L) (served L (lines_of ((before.bytes ++ c.0) ++ left_of source.bytes_after))).replies [] first c.2),
+)
 greeted L before (ends.SessionRefused fault) source out tmid fmid first le c = absurd c
 greeted L before (ends.BaseViolates mapping image session) source out tmid fmid first le c = absurd c
 
@@ -85,9 +88,17 @@ pub text_refused : (budget : ℕ) (s : Settings) (text : List ℕ) (before : Kep
     → ServesText (opened_with budget s (read text)) before e (unmoved left reads) (unmoved taken writes)
 text_refused budget s text before (ends.SessionRefused fault) left taken reads writes r =
     (([], (Consumes-nil left, ap (λ (x : Result SessionData Wrong). (opened_with budget s x (lines_of (before.bytes ++ []))).ending) r)), Keeps-refl taken)
-text_refused budget s text before (ends.BaseViolates mapping image session) left taken reads writes r =
-    (([], (Consumes-nil left, ap (λ (x : Result SessionData Wrong). (opened_with budget s x (lines_of (before.bytes ++ []))).ending) r.1
-    ∙ ap (λ (v : Option Violated). (unless_violated v (begun budget s r.0) (lines_of (before.bytes ++ []))).ending) r.2)), Keeps-refl taken)
+text_refused budget s text before (ends.BaseViolates mapping image session) left taken reads writes r = (
+  (
+    [],
+    (
+      Consumes-nil left,
+      ap (λ (x : Result SessionData Wrong). (opened_with budget s x (lines_of (before.bytes ++ []))).ending) r.1
+          ∙ ap (λ (v : Option Violated). (unless_violated v (begun budget s r.0) (lines_of (before.bytes ++ []))).ending) r.2,
+    ),
+  ),
+  Keeps-refl taken,
+)
 text_refused budget s text before ends.Memory left taken reads writes r =
     ([], (Consumes-nil left, takes_none taken taken (opened_with budget s (read text) (lines_of ((before.bytes ++ []) ++ left_of left))).replies (Keeps-refl taken)))
 text_refused budget s text before ends.Ended left taken reads writes r = absurd r
@@ -132,10 +143,10 @@ whole_behind given rest whole split =
     let long : length (whole ++ lines_of rest) - 1 ≡ length whole + (length (lines_of rest) - 1) = omega (arith, length-append whole (lines_of rest), some) in
     ap (λ (ls : List (List ℕ)). take (length ls - 1) ls) lines ∙ (ap (λ n. take n (whole ++ lines_of rest)) long ∙ behind whole (lines_of rest) (length (lines_of rest) - 1))
   where
-  behind : (front ys : List (List ℕ)) (k : ℕ) → take (length front + k) (front ++ ys) ≡ front ++ take k ys
-  behind [] ys k = ap (λ n. take n ys) (let z : 0 + k ≡ k = omega arith in z)
-  behind (x ∷ front) ys k =
-      ap (λ n. take n (x ∷ front ++ ys)) (let z : length (x ∷ front) + k ≡ 1 + (length front + k) = omega arith in z) ∙ ap (λ l. x ∷ l) (behind front ys k)
+    behind : (front ys : List (List ℕ)) (k : ℕ) → take (length front + k) (front ++ ys) ≡ front ++ take k ys
+    behind [] ys k = ap (λ n. take n ys) (let z : 0 + k ≡ k = omega arith in z)
+    behind (x ∷ front) ys k =
+        ap (λ n. take n (x ∷ front ++ ys)) (let z : length (x ∷ front) + k ≡ 1 + (length front + k) = omega arith in z) ∙ ap (λ l. x ∷ l) (behind front ys k)
 
 module _ (budget : ℕ) (c : Settings) (left mid right : Option (List ℕ)) (before kept : Kept) (text : List ℕ) (o : HasOpened left mid before kept text) where
   -- all that was taken, split behind the session
@@ -168,9 +179,13 @@ module _ (budget : ℕ) (c : Settings) (left mid right : Option (List ℕ)) (bef
       ((o.took ++ s.0.0, gave s.0.0 s.0.1, subst (λ (r : Served). GoesOnSoFar r out) (sym (so_far_of s.0.0)) s.0.2), rose_since reads rmid reads' le s.1)
   serves_text ends.WriteFault out reads rmid reads' limit le s =
       ((o.took ++ s.0.0, gave s.0.0 s.0.1, subst (λ (r : Served). TakesSome out r.replies) (sym (live_of s.0.0 (left_of right))) s.0.2), s.1)
-  serves_text ends.TooLong out reads rmid reads' limit le s =
-      (o.took ++ s.0, s.1, subst (Consumes left right) (sym (append_assoc o.took s.0 (s.1 ∷ []))) (gave (s.0 ++ s.1 ∷ []) s.2),
-      omega (arith, length-append o.took s.0, o.room, limit, s.3), subst (λ (r : Served). GoesOnSoFar r out) (sym (so_far_of s.0)) s.4)
+  serves_text ends.TooLong out reads rmid reads' limit le s = (
+    o.took ++ s.0,
+    s.1,
+    subst (Consumes left right) (sym (append_assoc o.took s.0 (s.1 ∷ []))) (gave (s.0 ++ s.1 ∷ []) s.2),
+    omega (arith, length-append o.took s.0, o.room, limit, s.3),
+    subst (λ (r : Served). GoesOnSoFar r out) (sym (so_far_of s.0)) s.4,
+  )
   serves_text (ends.SessionRefused fault) out reads rmid reads' limit le s =
       ((o.took ++ s.0.0, gave s.0.0 s.0.1, ap (λ (r : Served). r.ending) (live_all s.0.0) ∙ s.0.2), s.1)
   serves_text (ends.BaseViolates mapping image session) out reads rmid reads' limit le s =
@@ -186,14 +201,23 @@ none_left (Some bytes) end = end
 pub serves_alone : (budget : ℕ) (c : Settings) (text : List ℕ) (e : LiveEnd) (source out : Change) → HasReadAll source.bytes source.bytes_after text → EndsAlone (opened_with budget c (read text) []) e out → Serves budget c e source out
 serves_alone budget c text ends.Ended source out r a =
     (r.took, r.taken, subst (λ (s : Served). HasEnded s source out) (sym (r.serves budget c)) (a.0, subst (λ (x : Ending). IsOver x source.bytes_after) (sym a.1) r.end))
-serves_alone budget c text ends.WriteFault source out r a =
-    ((r.took, r.taken, subst (λ (l : List ℕ). TakesSome out (live budget c l).replies) (sym (ap (λ l. r.took ++ l) (none_left source.bytes_after r.end) ∙ append-nil r.took))
-    (subst (λ (s : Served). TakesSome out s.replies) (sym (r.serves budget c)) a.0)), a.1)
+serves_alone budget c text ends.WriteFault source out r a = (
+  (
+    r.took,
+    r.taken,
+    subst (λ (l : List ℕ). TakesSome out (live budget c l).replies) (sym (ap (λ l. r.took ++ l) (none_left source.bytes_after r.end) ∙ append-nil r.took))
+        (subst (λ (s : Served). TakesSome out s.replies) (sym (r.serves budget c)) a.0),
+  ),
+  a.1,
+)
 serves_alone budget c text (ends.SessionRefused fault) source out r a = ((r.took, r.taken, ap (λ (s : Served). s.ending) (r.serves budget c) ∙ a.0), a.1)
 serves_alone budget c text (ends.BaseViolates mapping image session) source out r a = ((r.took, r.taken, ap (λ (s : Served). s.ending) (r.serves budget c) ∙ a.0), a.1)
-serves_alone budget c text ends.Memory source out r a =
-    (r.took, r.taken, subst (λ (l : List ℕ). TakesSome out (live budget c l).replies) (sym (ap (λ l. r.took ++ l) (none_left source.bytes_after r.end) ∙ append-nil r.took))
-    (subst (λ (s : Served). TakesSome out s.replies) (sym (r.serves budget c)) a))
+serves_alone budget c text ends.Memory source out r a = (
+  r.took,
+  r.taken,
+  subst (λ (l : List ℕ). TakesSome out (live budget c l).replies) (sym (ap (λ l. r.took ++ l) (none_left source.bytes_after r.end) ∙ append-nil r.took))
+      (subst (λ (s : Served). TakesSome out s.replies) (sym (r.serves budget c)) a),
+)
 serves_alone budget c text ends.ReadFault source out r a = absurd a
 serves_alone budget c text ends.TooLong source out r a = absurd a
 

@@ -44,4 +44,3 @@ fn main(rt: HostRuntime) -> ExitCode {
     };
     ExitCode::from(status.number())
 }
-

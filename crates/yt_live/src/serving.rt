@@ -175,7 +175,15 @@ fn serve_all<S: Source, O: Sink>(
     let mut lines = Lines::new(alloc, INPUT_LIMIT);
     let begun = read_opening(alloc, &mut lines, source)?;
     if begun.more {
-        return serve_text(alloc, &begun.text, &mut lines, source, sink, settings, budget);
+        return serve_text(
+            alloc,
+            &begun.text,
+            &mut lines,
+            source,
+            sink,
+            settings,
+            budget,
+        );
     }
     serve_alone(alloc, &begun.text, sink, settings, budget)
 }
