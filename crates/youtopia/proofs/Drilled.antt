@@ -2,7 +2,7 @@
 use Rattle.std.proofs.Common.{◌≡◌, ◌∙◌, ◌≤◌, ◌⊎◌, ℕ, List, [], inl, inr, refl, ap, sym, subst, arith}
 use Rattle.clap.specs.Words.{Text as Letters}
 use Rattle.yt_command.specs.Devices.{Change, Fails, Takes, no_input}
-use Rattle.yt_command.specs.Outputs.{Text}
+use Rattle.yt_command.specs.Outputs.{OutputView, Text}
 use Rattle.yt_command.specs.Rows.{Row, Ends}
 use Rattle.yt_command.specs.Statuses.{status_of, status_of_ending}
 use Rattle.yt_command.specs.declared.outputs.Ending.{Ending}
@@ -11,7 +11,7 @@ use Rattle.yt_command.specs.declared.performing.TheConstants.{INPUT_LIMIT}
 use Rattle.yt_command.specs.declared.statuses.Status.{Status}
 use Rattle.yt_command.specs.declared.statuses.Status.TheVariants.{OutOfMemory}
 use Rattle.yt_commands.specs.Runs.{ending_by}
-use Rattle.yt_drilling.specs.Drilling.{drill_told, drilling}
+use Rattle.yt_drilling.specs.Drilling.{drill_told, drilling, summary_output}
 use Rattle.yt_summary.specs.Summaries.{summary_text}
 use Rattle.yt_words.specs.Alike.{AskTheSame}
 use Rattle.yt_words.specs.declared.names.CommandName.{CommandName}
@@ -49,13 +49,24 @@ no_fault rose = one_above rose
 no_length : 0 ≤ INPUT_LIMIT
 no_length = omega arith
 
+-- a performed drill that ended as is due has written the summary
+summary_taken : (steps count seed : ℕ) (out err : Change) → Row (status_of_ending (ending_by (drill_told steps count seed).stop)) (drilling steps count seed) no_input out err
+    → Takes out (summary_text count seed (drill_told steps count seed))
+unfolding drilling summary_output
+summary_taken steps count seed out err row =
+    taken_by (ending_by (drill_told steps count seed).stop) (summary_text count seed (drill_told steps count seed)) no_input out err row
+
+-- it has the one status that is due
+due_of : (steps count seed : ℕ) (input : List ℕ) (x : OutputView) → drilling steps count seed input x
+    → status_of x ≡ status_of_ending (ending_by (drill_told steps count seed).stop)
+unfolding drilling summary_output
+due_of steps count seed input x is = ap status_of is
+
 written : (o : Options) (status : Status) (out err : Change) → status ≡ status_of_ending (ending_by (drill_told o.steps o.count o.seed).stop)
     → Row status (drilling o.steps o.count o.seed) no_input out err → WritesSummary o status out
 written o status out err ends row =
-    let told = drill_told o.steps o.count o.seed in
     record {
-      taken = taken_by (ending_by told.stop) (summary_text o.count o.seed told) no_input out err
-          (subst (λ (k : Status). Row k (drilling o.steps o.count o.seed) no_input out err) ends row);
+      taken = summary_taken o.steps o.count o.seed out err (subst (λ (k : Status). Row k (drilling o.steps o.count o.seed) no_input out err) ends row);
       ending = ends;
     }
 
@@ -63,7 +74,7 @@ by_row : (o : Options) (status : Status) (out err : Change) → (Fails out → �
     → WritesSummary o status out ⊎ (status ≡ OutOfMemory)
 by_row o status out err writes row =
     elim (complete status (drilling o.steps o.count o.seed) no_input out err row [] (status_of_ending (ending_by (drill_told o.steps o.count o.seed).stop)) refl
-    no_length (λ y it. ap status_of it) no_fault writes) [
+    no_length (λ y it. due_of o.steps o.count o.seed [] y it) no_fault writes) [
       | inl is ↦ inl (written o status out err is row)
       | inr wanting ↦ inr wanting
     ]

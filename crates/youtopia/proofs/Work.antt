@@ -13,7 +13,7 @@ use Rattle.yt_words.specs.declared.reading.Request.TheVariants.{Command, Help, V
 use Rattle.youtopia.proofs.Asked.{NeverBoth, OneThing}
 use Rattle.youtopia.specs.declared.workers.ByWorkers.{ByWorkers}
 use Rattle.youtopia.specs.declared.workers.ByWorkers.TheVariants as workers
-use Rattle.youtopia.specs.Calls.{AskFor, AskForNoWork, AskForWork, Calls, CallsPlainly, Does, DoesPlainly, DoesWork, IsNamedBy, Performs, PerformsPlainly, is_by_workers}
+use Rattle.youtopia.specs.Calls.{AskFor, AskForNoWork, AskForWork, Calls, CallsPlainly, Does, DoesPlainly, DoesWork, HasRangesIn, IsNamedBy, Performs, PerformsPlainly, is_by_workers}
 
 -- ---- what is asked for
 
@@ -47,6 +47,13 @@ asked_none one words o None says no = λ p asks. other_command o p (one words (C
 pub not_asked : OneThing → (words : List Letters) (request : Request) (o : Options) (found : Option ByWorkers) → request ≡ Command o → Answers words request
     → IfNone found (is_by_workers o.command ≡ false) → IfNone found (AskForNoWork words)
 not_asked one words request o found same says no = asked_none one words o found (subst (Answers words) same says) no
+
+ranges_of : (words : List Letters) (work : ByWorkers) → AskForWork words work → HasRangesIn work
+ranges_of words (workers.Run o) asks = asks.ranges
+ranges_of words (workers.Drill o) asks = asks.ranges
+
+pub ranged : (words : List Letters) (found : Option ByWorkers) (work : ByWorkers) → found ≡ Some work → IfSome found (AskForWork words) → HasRangesIn work
+ranged words found work is asks = ranges_of words work (subst (λ (x : Option ByWorkers). IfSome x (AskForWork words)) is asks)
 
 -- ---- what is done
 

@@ -158,6 +158,11 @@ abbrev pub IsNamedBy : Options → ByWorkers → Type 0
 IsNamedBy options (workers.Run same) = (same ≡ options) × (options.command ≡ Run)
 IsNamedBy options (workers.Drill same) = (same ≡ options) × (options.command ≡ Drill)
 
+-- the numbers of its options lie in their ranges
+abbrev pub HasRangesIn : ByWorkers → Type 0
+HasRangesIn (workers.Run options) = AreInRange options
+HasRangesIn (workers.Drill options) = AreInRange options
+
 -- what the work is done as
 abbrev pub DoesWork : ByWorkers → Status → Change → Change → Change → Type 0
 DoesWork (workers.Run options) = Does Run options

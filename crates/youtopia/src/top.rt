@@ -5,7 +5,7 @@ ghost use Rattle.youtopia.specs.Calls.{AskForNoWork, AskForWork, Calls};
 ghost use Rattle.youtopia.specs.Promises.{Completes, Drills, Headline, LeavesWhatHolds, Serves};
 
 use crate::plain::plain;
-use crate::workers::{ByWorkers, by_workers, drill, run};
+use crate::workers::{ByWorkers, by_workers, work};
 use std::alloc::Global;
 use std::sync::Wait;
 use std::thread::Threads;
@@ -54,8 +54,7 @@ fn answer<R: Threads + Wait + Sync, G: Gate + Sync, S: Source, O: Sink, E: Sink>
 {
     words_are_answered_or_refused();
     match work_asked_for(alloc, words) {
-        Ok(Some(ByWorkers::Run(options))) => run(rt, gate, alloc, &options, source, out, err),
-        Ok(Some(ByWorkers::Drill(options))) => drill(rt, gate, alloc, &options, out, err),
+        Ok(Some(asked)) => work(rt, gate, alloc, asked, source, out, err),
         Ok(None) => plain(alloc, words, source, out, err),
         Err(_) => fail(Failure::OutOfMemory, err),
     }

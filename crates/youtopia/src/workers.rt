@@ -5,7 +5,7 @@ ghost use Rattle.yt_command.specs.Rows.{Row};
 ghost use Rattle.yt_queue.specs.Settings.{settings_of};
 ghost use Rattle.yt_words.specs.Meaning.{AreInRange};
 ghost use Rattle.yt_words.specs.declared.names.CommandName.TheVariants.{Drill, Run};
-ghost use Rattle.youtopia.specs.Calls.{Does, IsNamedBy, is_by_workers, makes, settings_in};
+ghost use Rattle.youtopia.specs.Calls.{Does, DoesWork, HasRangesIn, IsNamedBy, is_by_workers, makes, settings_in};
 
 use std::alloc::Global;
 use std::sync::Wait;
@@ -55,8 +55,30 @@ fn settings_in(options: &Options<'_>) -> Settings
     }
 }
 
-/// Does `run` with these options between the devices.
-pub(crate) fn run<R: Threads + Wait + Sync, G: Gate + Sync, S: Source, O: Sink, E: Sink>(
+/// Does the work between the devices.
+pub(crate) fn work<R: Threads + Wait + Sync, G: Gate + Sync, S: Source, O: Sink, E: Sink>(
+    rt: &R,
+    gate: &G,
+    alloc: Global,
+    asked: ByWorkers<'_>,
+    source: &mut S,
+    out: &mut O,
+    err: &mut E,
+) -> Status
+    requires ranges { HasRangesIn asked.entry }
+    ensures does { DoesWork asked.entry result
+        (change S.left S.fault_count source.old source.new)
+        (change O.taken O.fault_count out.old out.new)
+        (change E.taken E.fault_count err.old err.new) }
+{
+    match asked {
+        ByWorkers::Run(options) => run(rt, gate, alloc, &options, source, out, err),
+        ByWorkers::Drill(options) => drill(rt, gate, alloc, &options, out, err),
+    }
+}
+
+// Does `run` with these options between the devices.
+fn run<R: Threads + Wait + Sync, G: Gate + Sync, S: Source, O: Sink, E: Sink>(
     rt: &R,
     gate: &G,
     alloc: Global,
@@ -79,8 +101,8 @@ pub(crate) fn run<R: Threads + Wait + Sync, G: Gate + Sync, S: Source, O: Sink, 
     command.perform(rt, gate, alloc, source, out, err)
 }
 
-/// Does `drill` with these options. It reads nothing.
-pub(crate) fn drill<R: Threads + Wait + Sync, G: Gate + Sync, O: Sink, E: Sink>(
+// Does `drill` with these options. It reads nothing.
+fn drill<R: Threads + Wait + Sync, G: Gate + Sync, O: Sink, E: Sink>(
     rt: &R,
     gate: &G,
     alloc: Global,

@@ -1,10 +1,14 @@
 -- What a run tells.
-use Rattle.std.proofs.Common.{◌≡◌, ◌∙◌, ℕ, ap, ap₂}
+use Rattle.std.proofs.Common.{◌≡◌, ◌∙◌, ℕ, List, [], ap, ap₂}
+use Rattle.yt_command.specs.Outputs.{OutputView, Text}
+use Rattle.yt_command.specs.declared.outputs.Ending.{Ending}
+use Rattle.yt_commands.specs.Runs.{ending_by}
 use Rattle.yt_drill.specs.Drilled.{drilled}
 use Rattle.yt_grammar.specs.Sessions.{SessionData}
 use Rattle.yt_program.specs.Results.{ResultTold}
 use Rattle.yt_report.specs.Results.{serial_told}
-use Rattle.yt_drilling.specs.Drilling.{drill_told}
+use Rattle.yt_summary.specs.Summaries.{summary_text}
+use Rattle.yt_drilling.specs.Drilling.{drill_told, drilling, summary_output}
 
 -- the run of a session tells what the serial machine tells of it
 pub tells : (m n : ℕ) (r s : SessionData) (told : ResultTold) → told ≡ serial_told m r → m ≡ n → r ≡ s → told ≡ serial_told n s
@@ -14,3 +18,15 @@ tells m n r s told is steps same = is ∙ ap₂ serial_told steps same
 pub tells_drilled : (n count seed : ℕ) (s : SessionData) (told : ResultTold) → told ≡ serial_told n s → s ≡ drilled count seed → told ≡ drill_told n count seed
 unfolding drill_told
 tells_drilled n count seed s told is same = is ∙ ap (serial_told n) same
+
+-- the summary is printed
+pub printed : (count seed : ℕ) (told : ResultTold) (e : Ending) (text : List ℕ) → e ≡ ending_by told.stop → text ≡ summary_text count seed told
+    → Text e text ≡ summary_output count seed told
+unfolding summary_output
+printed count seed told e text ending is = ap₂ (λ (x : Ending) (l : List ℕ). Text x l) ending is
+
+-- that is an output of the command
+pub made : (steps count seed : ℕ) (told : ResultTold) (output : OutputView) → told ≡ drill_told steps count seed → output ≡ summary_output count seed told
+    → drilling steps count seed [] output
+unfolding drilling
+made steps count seed told output tells is = is ∙ ap (summary_output count seed) tells

@@ -12,9 +12,9 @@ unfoldable pub drill_told : ℕ → ℕ → ℕ → ResultTold
 drill_told steps count seed = serial_told steps (drilled count seed)
 
 -- what is printed of a run of the generated session that told this: its summary
-abbrev pub summary_output : ℕ → ℕ → ResultTold → OutputView
+unfoldable pub summary_output : ℕ → ℕ → ResultTold → OutputView
 summary_output count seed told = Text (ending_by told.stop) (summary_text count seed told)
 
 -- `drill` with so many steps for each update: that of the serial machine, whatever the input
-abbrev pub drilling : ℕ → ℕ → ℕ → Meaning
+unfoldable pub drilling : ℕ → ℕ → ℕ → Meaning
 drilling steps count seed input output = output ≡ summary_output count seed (drill_told steps count seed)

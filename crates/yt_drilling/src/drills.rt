@@ -1,5 +1,5 @@
 //! The command `drill`.
-ghost use Rattle.std.specs.Prelude.{◌≡◌, None, IfOk};
+ghost use Rattle.std.specs.Prelude.{◌≡◌, None, [], IfOk};
 ghost use Rattle.yt_command.specs.Devices.{change, no_input};
 ghost use Rattle.yt_command.specs.Outputs.{view_of};
 ghost use Rattle.yt_command.specs.Rows.{Row};
@@ -97,8 +97,8 @@ impl Drill {
         gate: &G,
         alloc: Global,
     ) -> Result<Output, Memory>
-        ensures { IfOk result (λ output. view_of output ≡
-            summary_output self.count self.seed (drill_told self.budget self.count self.seed)) }
+        ensures { IfOk result (λ output.
+            drilling self.budget self.count self.seed [] (view_of output)) }
     {
         let told = self.work(rt, gate, alloc)?;
         let output = summary_output(alloc, self.count, self.seed, &told)?;

@@ -4,6 +4,7 @@
 //! output tells whether the checker takes the explanation of the tuple, and a line for each of its reasons and each way to
 //! break that one.
 #![tactic(auto)]
+ghost use Rattle.std.specs.Prelude.{◌≤◌, length};
 
 mod breaking;
 mod judging;
@@ -15,8 +16,21 @@ use yt_commands::base_violation;
 use yt_reader::{ReadFailure, read_session};
 use yt_serial::base_of;
 
+// The most bytes that a session here may have.
+const LIMIT: usize = 65_536;
+
 // What is told of a session, if the bytes spell one whose base meets its mappings.
 fn told(alloc: Global, text: &[u8]) -> Result<String, Memory> {
+    if text.len() > LIMIT {
+        return Ok(String::new(alloc));
+    }
+    told_of(alloc, text)
+}
+
+// What is told of a session of at most so many bytes.
+fn told_of(alloc: Global, text: &[u8]) -> Result<String, Memory>
+    requires short { length text.now ≤ 65536 }
+{
     let session = match read_session(alloc, text) {
         Ok(session) => session,
         Err(ReadFailure::Fault(_)) => return Ok(String::new(alloc)),
