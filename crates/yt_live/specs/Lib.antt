@@ -1,3 +1,0 @@
-pub mod Streams
-pub mod Ends
-pub mod Curates
