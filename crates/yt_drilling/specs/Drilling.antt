@@ -3,13 +3,18 @@ use Rattle.std.specs.Prelude.{◌≡◌, ℕ}
 use Rattle.yt_command.specs.Outputs.{Meaning, OutputView, Text}
 use Rattle.yt_commands.specs.Runs.{ending_by}
 use Rattle.yt_drill.specs.Drilled.{drilled}
+use Rattle.yt_grammar.specs.Sessions.{SessionData}
 use Rattle.yt_program.specs.Results.{ResultTold}
 use Rattle.yt_report.specs.Results.{serial_told}
 use Rattle.yt_summary.specs.Summaries.{summary_text}
 
+-- the generated session, behind a word that unfolds by name alone: its mappings are known, and a run of it would be computed
+unfoldable pub generated : ℕ → ℕ → SessionData
+generated count seed = drilled count seed
+
 -- what the serial machine tells of the generated session, with so many steps for each update
 unfoldable pub drill_told : ℕ → ℕ → ℕ → ResultTold
-drill_told steps count seed = serial_told steps (drilled count seed)
+drill_told steps count seed = serial_told steps (generated count seed)
 
 -- what is printed of a run of the generated session that told this: its summary
 unfoldable pub summary_output : ℕ → ℕ → ResultTold → OutputView
