@@ -4,6 +4,7 @@
 //! output tells whether the checker takes the explanation of the tuple, and a line for each of its reasons and each way to
 //! break that one.
 #![tactic(auto)]
+
 ghost use Rattle.std.specs.Prelude.{◌≤◌, length};
 
 mod breaking;
