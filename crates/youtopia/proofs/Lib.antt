@@ -2,10 +2,8 @@ mod Alike
 mod Asked
 mod Asking
 mod Completed
-mod Drilled
 mod Due
 mod Headlines
 mod Named
 mod Served
 mod Statuses
-mod Work

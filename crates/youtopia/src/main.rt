@@ -5,7 +5,6 @@ mod explaining;
 mod plain;
 mod telling;
 mod top;
-mod workers;
 
 use crate::top::youtopia;
 use std::env;
