@@ -1,0 +1,2 @@
+mod Delivered
+mod Told

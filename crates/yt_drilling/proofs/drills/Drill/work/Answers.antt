@@ -1,0 +1,11 @@
+use Rattle.yt_drilling.proofs.Told.{tells_drilled}
+use Rattle.yt_drilling.proofs.drills.Drill.work.Goals as goal
+
+pub take-requires-clause-valid : goal.take-requires-clause-valid
+take-requires-clause-valid g c = λ κs lives. c.in_ok-session.ensures.valid
+
+pub take-requires-clause-met : goal.take-requires-clause-met
+take-requires-clause-met g c = λ κs lives. c.in_ok-session.ensures.met
+
+pub returns : goal.returns
+returns g c = tells_drilled _ _ _ _ _ c.in_ok-told.ensures c.in_ok-session.ensures.drilled

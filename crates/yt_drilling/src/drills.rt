@@ -1,0 +1,130 @@
+//! The command `drill`.
+ghost use Rattle.std.specs.Prelude.{◌≡◌, None, [], IfOk};
+ghost use Rattle.yt_command.specs.Devices.{change, no_input};
+ghost use Rattle.yt_command.specs.Outputs.{view_of};
+ghost use Rattle.yt_command.specs.Rows.{Row};
+ghost use Rattle.yt_grammar.specs.Validity.{IsSession};
+ghost use Rattle.yt_program.specs.Results.{result_of};
+ghost use Rattle.yt_report.specs.Results.{serial_told};
+ghost use Rattle.yt_session.specs.Base.{base_violation};
+ghost use Rattle.yt_session.specs.Meanings.{session_of};
+ghost use Rattle.yt_drilling.specs.Drilling.{drill_told, drilling, summary_output};
+
+use std::alloc::Global;
+use std::sync::Wait;
+use std::thread::Threads;
+use yt_base::Memory;
+use yt_command::{Failure, Output, Status, deliver, fail};
+use yt_commands::ending_by;
+use yt_drill::{Count, drill};
+use yt_gate::Gate;
+use yt_limits::Budget;
+use yt_program::SessionResult;
+use yt_run::Crew;
+use yt_seated::worked;
+use yt_session::Session;
+use yt_summary::summary_text;
+use yt_text::Sink;
+
+/// `drill`: a session generated from a seed, its updates taken by workers, each in a thread of its own, and the summary of
+/// that: how many updates ended in each way, the steps that they made, the nulls that they drew, and the tuples that they left.
+#[derive(Clone, Copy, Debug)]
+pub struct Drill {
+    /// By how many workers the updates are taken, and by which settings.
+    pub crew: Crew,
+    /// How many steps an update may take.
+    pub budget: Budget,
+    /// How many updates are generated.
+    pub count: Count,
+    /// The seed of the generator.
+    pub seed: u64,
+}
+
+// What is printed of a run of the generated session.
+fn summary_output(
+    alloc: Global,
+    count: Count,
+    seed: u64,
+    told: &SessionResult,
+) -> Result<Output, Memory>
+    ensures { IfOk result (λ output. view_of output ≡
+        summary_output count seed (result_of told.now)) }
+{
+    let text = summary_text(alloc, count.number(), seed, told)?;
+    Ok(Output::Text(ending_by(told), text))
+}
+
+impl Drill {
+    // Lets the workers take the updates of a session, and gives what that comes to.
+    fn take<R: Threads + Wait + Sync, G: Gate + Sync>(
+        self,
+        rt: &R,
+        gate: &G,
+        alloc: Global,
+        session: &Session,
+    ) -> Result<SessionResult, Memory>
+        requires valid { IsSession (session_of session.now) }
+        requires met { base_violation (session_of session.now) ≡ None }
+        ensures { IfOk result (λ told. result_of told ≡
+            serial_told self.budget (session_of session.now)) }
+    {
+        let settings = self.crew.settings();
+        let seats = self.crew.seats();
+        let run = worked(rt, gate, alloc, session, settings, self.budget, seats)?;
+        let told = run.result(alloc)?;
+        Ok(told)
+    }
+
+    // Lets them take those of the generated session.
+    fn work<R: Threads + Wait + Sync, G: Gate + Sync>(
+        self,
+        rt: &R,
+        gate: &G,
+        alloc: Global,
+    ) -> Result<SessionResult, Memory>
+        ensures { IfOk result (λ told. result_of told ≡
+            drill_told self.budget self.count self.seed) }
+    {
+        let session = drill(alloc, self.count, self.seed)?;
+        let told = self.take(rt, gate, alloc, &session)?;
+        Ok(told)
+    }
+
+    // What is made of that.
+    fn make<R: Threads + Wait + Sync, G: Gate + Sync>(
+        self,
+        rt: &R,
+        gate: &G,
+        alloc: Global,
+    ) -> Result<Output, Memory>
+        ensures { IfOk result (λ output.
+            drilling self.budget self.count self.seed [] (view_of output)) }
+    {
+        let count = self.count;
+        let seed = self.seed;
+        let told = self.work(rt, gate, alloc)?;
+        let output = summary_output(alloc, count, seed, &told)?;
+        Ok(output)
+    }
+
+    /// Runs the generated session, and writes its summary to `out`, as `yt_command::perform_alone` does it for a command
+    /// without threads: each status has its row, and nothing is read. Each worker passes the gate around the work at a ticket.
+    /// The call may wait.
+    pub fn perform<R: Threads + Wait + Sync, G: Gate + Sync, O: Sink, E: Sink>(
+        self,
+        rt: &R,
+        gate: &G,
+        alloc: Global,
+        out: &mut O,
+        err: &mut E,
+    ) -> Status
+        ensures row { Row result (drilling self.budget self.count self.seed) no_input
+            (change O.taken O.fault_count out.old out.new)
+            (change E.taken E.fault_count err.old err.new) }
+    {
+        match self.make(rt, gate, alloc) {
+            Ok(output) => deliver(output, out, err),
+            Err(_) => fail(Failure::OutOfMemory, err),
+        }
+    }
+}
