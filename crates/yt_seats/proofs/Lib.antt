@@ -1,5 +1,0 @@
-pub mod Deciding
-pub mod Following
-pub mod Restarting
-pub mod Walking
-pub mod Answering
