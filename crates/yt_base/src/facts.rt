@@ -22,18 +22,21 @@ pub trait Facts {
     /// The least tuple of any relation above the given one, which need not be in the set, or of all where none is
     /// given; None exactly where there is none.
     fn beyond(&self, past: Option<&Tuple>) -> Option<&Tuple>
-        ensures found { option_map fact_of (option_copied result) ≡ find (is_beyond (option_map fact_of (option_copied past.entry))) (tuples self.now) }
+        ensures found { option_map fact_of (option_copied result) ≡
+            find (is_beyond (option_map fact_of (option_copied past.entry))) (tuples self.now) }
         ensures in_order { IsRepository (tuples self.now) };
 
     /// The least tuple of the relation; None exactly where it has none.
     fn first(&self, relation: u16) -> Option<&Tuple>
-        ensures found { option_map fact_of (option_copied result) ≡ first_of (tuples self.now) relation }
+        ensures found { option_map fact_of (option_copied result) ≡
+            first_of (tuples self.now) relation }
         ensures in_order { IsRepository (tuples self.now) };
 
     /// The least tuple of the same relation above the given one, which need not be in the set; None exactly where
     /// there is none.
     fn after(&self, tuple: &Tuple) -> Option<&Tuple>
-        ensures found { option_map fact_of (option_copied result) ≡ next_of (tuples self.now) (fact_of tuple.now) }
+        ensures found { option_map fact_of (option_copied result) ≡
+            next_of (tuples self.now) (fact_of tuple.now) }
         ensures in_order { IsRepository (tuples self.now) };
 
     /// The least tuple of the relation that has the value in the column, counted from 0, and is above `past` where
@@ -45,6 +48,8 @@ pub trait Facts {
         value: &Value,
         past: Option<&Tuple>,
     ) -> Option<&Tuple>
-        ensures found { option_map fact_of (option_copied result) ≡ scan_of (tuples self.now) relation column (datum_of value.now) (option_map fact_of (option_copied past.entry)) }
+        ensures found { option_map fact_of (option_copied result) ≡
+            scan_of (tuples self.now) relation column (datum_of value.now)
+            (option_map fact_of (option_copied past.entry)) }
         ensures in_order { IsRepository (tuples self.now) };
 }

@@ -29,7 +29,8 @@ impl Value {
 
     /// Whether the two have one outer form. It takes no memory.
     pub fn outer_eq(&self, other: &Value) -> bool
-        ensures answer { result ≡ same_datum (outer_datum (datum_of self.now)) (outer_datum (datum_of other.now)) }
+        ensures answer { result ≡ same_datum (outer_datum (datum_of self.now))
+            (outer_datum (datum_of other.now)) }
     {
         match (self, other) {
             (Value::Null(m), Value::Null(n)) => m.update == n.update && m.place == n.place,
@@ -74,7 +75,9 @@ impl Tuple {
 
 // Whether there are as many values, each with the outer form of the one in its place.
 fn are_outer_eq(values: &[Value], others: &[Value]) -> bool
-    ensures answer { IsTrue result ↔ (map (λ v. outer_datum (datum_of v)) values.now ≡ map (λ v. outer_datum (datum_of v)) others.now) }
+    ensures answer { IsTrue result ↔
+        (map (λ v. outer_datum (datum_of v)) values.now ≡
+        map (λ v. outer_datum (datum_of v)) others.now) }
 {
     if values.len() != others.len() {
         return false;

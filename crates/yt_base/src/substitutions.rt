@@ -49,7 +49,8 @@ impl Sub {
 
     /// The image of a null; None exactly where it has none.
     pub fn get(&self, null: Null) -> Option<&Value>
-        ensures image { option_map datum_of (option_copied result) ≡ images_of self.now (null_of null) }
+        ensures image { option_map datum_of (option_copied result) ≡
+            images_of self.now (null_of null) }
     {
         match pair_of(self.assignments.as_slice(), null) {
             Some(pair) => Some(&pair.value),
@@ -60,7 +61,8 @@ impl Sub {
     /// Gives the null this image, in place of the one that it had. It is refused only for want of memory; the map
     /// is then unchanged.
     pub fn set(&mut self, null: Null, value: Value) -> Result<(), Memory>
-        ensures ok { OnOk result (images_of self.new ≡ give_image (images_of self.old) (null_of null) (datum_of value)) }
+        ensures ok { OnOk result (images_of self.new ≡
+            give_image (images_of self.old) (null_of null) (datum_of value)) }
         ensures err { OnErr result (self.new ≡ self.old) }
     {
         match place_of(self.assignments.as_slice(), null) {
@@ -78,14 +80,16 @@ impl Sub {
 
 // The first pair of the null, if it has one.
 fn pair_of(assignments: &[Assignment], null: Null) -> Option<&Assignment>
-    ensures pair { option_map assignment_of (option_copied result) ≡ find (is_pair_of (null_of null)) (map assignment_of assignments.now) }
+    ensures pair { option_map assignment_of (option_copied result) ≡
+        find (is_pair_of (null_of null)) (map assignment_of assignments.now) }
 {
     assignments.iter().find(|pair| null == pair.null)
 }
 
 // The place of the null's first pair, if it has one.
 fn place_of(assignments: &[Assignment], null: Null) -> Option<usize>
-    ensures place { result ≡ position_from (is_pair_of (null_of null)) 0 (map assignment_of assignments.now) }
+    ensures place { result ≡ position_from (is_pair_of (null_of null)) 0
+        (map assignment_of assignments.now) }
     ensures within { IfSome result (λ at. at < length assignments.now) }
 {
     assignments.iter().position(|pair| null == pair.null)

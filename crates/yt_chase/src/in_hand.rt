@@ -48,7 +48,8 @@ impl Repair {
     /// refused only for want of memory.
     pub fn unifier_with(&self, alloc: Global, form: &Tuple) -> Result<Sub, Memory>
         requires { TakesChoice (wanted self.now) (Unify (fact_of form.now)) }
-        ensures unifier { IfOk result (λ sub. moved_by (images_of sub) ≡ unifier_in (phase_of self.now) (fact_of form.now)) }
+        ensures unifier { IfOk result
+            (λ sub. moved_by (images_of sub) ≡ unifier_in (phase_of self.now) (fact_of form.now)) }
     {
         unifier_at(alloc, &self.generation, &self.stage, form)
     }
@@ -62,8 +63,11 @@ fn unifier_at(
     form: &Tuple,
 ) -> Result<Sub, Memory>
     requires fits { IsSound generation.now stage.now }
-    requires choice { TakesChoice (wanted (repairing_of generation.now stage.now)) (Unify (fact_of form.now)) }
-    ensures unifier { IfOk result (λ sub. moved_by (images_of sub) ≡ unifier_in (phase_of (repairing_of generation.now stage.now)) (fact_of form.now)) }
+    requires choice { TakesChoice (wanted (repairing_of generation.now stage.now))
+        (Unify (fact_of form.now)) }
+    ensures unifier { IfOk result
+        (λ sub. moved_by (images_of sub) ≡
+        unifier_in (phase_of (repairing_of generation.now stage.now)) (fact_of form.now)) }
 {
     let Stage::Waiting(question) = stage else {
         unreachable!()
@@ -82,7 +86,12 @@ fn unifier_at(
 
 // The mapping of a generation and the values of its variables.
 fn bound_by(generation: &Generation) -> Bound<'_>
-    ensures bound { bound_of result ≡ record { mapping = (repair_of generation.now).mapping; values = (repair_of generation.now).binding } }
+    ensures bound { bound_of result ≡
+        record {
+          mapping = (repair_of generation.now).mapping;
+          values =
+              (repair_of generation.now).binding;
+        } }
 {
     Bound {
         mapping: generation.mapping,
@@ -92,7 +101,9 @@ fn bound_by(generation: &Generation) -> Bound<'_>
 
 /// The image of the atoms under the values of the variables. It is refused only for want of memory.
 pub fn image(alloc: Global, values: &Row, atoms: &AtomList) -> Result<TupleList, Memory>
-    ensures image { IfOk result (λ tuples. map fact_of tuples.items ≡ image_under (listed (map datum_of values.now.items)) (map pattern_of atoms.now.items)) }
+    ensures image { IfOk result
+        (λ tuples. map fact_of tuples.items ≡
+        image_under (listed (map datum_of values.now.items)) (map pattern_of atoms.now.items)) }
 {
     let mut tuples = TupleList::new(alloc);
     tuples.reserve(atoms.len())?;

@@ -114,7 +114,8 @@ impl Repair {
         mappings: &Mappings<'_>,
     ) -> Result<Progress, Memory>
         requires { TakesReply mappings.now (wanted self.old) (reply_of answer.now) }
-        ensures step { IfOk result (HasAnswered mappings.now answer.now own.old self.old own.new self.new) }
+        ensures step { IfOk result
+            (HasAnswered mappings.now answer.now own.old self.old own.new self.new) }
         ensures asks { IfOk result (AsksAs self.new) }
         ensures err { OnErr result (self.new ≡ self.old) }
         ensures own { OnErr result (own.new.items ≡ own.old.items) }
@@ -140,7 +141,8 @@ impl Repair {
         mappings: &Mappings<'_>,
     ) -> Result<Progress, Memory>
         requires { TakesChoice (wanted self.old) (choice_of choice.now) }
-        ensures step { IfOk result (HasChosen mappings.now choice.now own.old self.old own.new self.new) }
+        ensures step { IfOk result
+            (HasChosen mappings.now choice.now own.old self.old own.new self.new) }
         ensures asks { IfOk result (AsksAs self.new) }
         ensures err { OnErr result (self.new ≡ self.old) }
         ensures own { OnErr result (own.new.items ≡ own.old.items) }

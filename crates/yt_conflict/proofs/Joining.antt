@@ -1,6 +1,6 @@
 -- A tuple that joins with no own insertion decides no violation that own writes caused forward.
 use Rattle.std.proofs.Common.{◌≡◌, ◌∙◌, ap, refl, sym, subst, ℕ, zero, suc, ◌==◌, Bool, true, false, ◌||◌, ◌&&◌, not, List, [], ◌∷◌, ◌++◌, map, length, cond, Option, Some, None, is_some, inl, inr}
-use Rattle.std.specs.List.{list_any, list_all, flat_map, zip}
+use Rattle.std.specs.List.{list_any, list_all, zip}
 use Rattle.std.specs.Option.{option_map}
 use Rattle.std.specs.Prelude.{find, filter}
 use Rattle.std.proofs.lemmas.Bool.{false≢true, and_parts, or_cases, eqb-true, eq-eqb}
@@ -9,43 +9,13 @@ use Rattle.yt_model.specs.Repository.{Change, Insert, Delete, inserted_after}
 use Rattle.yt_model.specs.Mappings.{Slot, Var, Const, Pattern, Rule, Binding, value_under, fact_under, image_under}
 use Rattle.yt_model.specs.Matching.{Known, nothing_known, learn_all, lists_of, extends}
 use Rattle.yt_model.specs.Violations.{Caused, Forward, in_scope, violated_at, violates, first_violation}
-use Rattle.yt_model.proofs.Among.{find_under}
+use Rattle.yt_model.proofs.Coarse.{lists_within}
 use Rattle.yt_model.proofs.Bools.{both, or_left, or_right, differ, and-false}
 use Rattle.yt_model.proofs.Learning.{Agrees, Means, all_means, same_datum_itself}
 use Rattle.yt_model.proofs.Matches.{known_or_zero, agrees_itself}
-use Rattle.yt_model.proofs.Searches.{any_join, find_join, find_none, find_same, first_some}
+use Rattle.yt_model.proofs.Searches.{any_join, find_same}
 use Rattle.yt_model.proofs.Sets.{same_exact}
 use Rattle.yt_conflict.specs.Concerns.{may_be, agree, stand_together, may_join, joins}
-
--- ---- the first list that passes, where each that passes has tuples with q alone
-
-abbrev next_lists : List (List Fact) → List Fact → List (List Fact)
-next_lists ls D = flat_map (λ t. map (λ l. t ∷ l) ls) D
-
-next_within : (q : Fact → Bool) (p : List Fact → Bool) (ls ks : List (List Fact))
-    → ((t : Fact) → q t ≡ true → find (λ l. p (t ∷ l)) ls ≡ find (λ l. p (t ∷ l)) ks) → ((t : Fact) → q t ≡ false → (l : List Fact) → p (t ∷ l) ≡ false)
-    → (D : List Fact) → find p (next_lists ls D) ≡ find p (next_lists ks (filter q D))
-next_within q p ls ks keep drops [] = refl
-next_within q p ls ks keep drops (t ∷ D) =
-    find_join p (map (λ l. t ∷ l) ls) (next_lists ls D) ∙ ap (λ o. first_some o (find p (next_lists ls D))) (find_under p t ls) ∙ by (q t) refl (next_within q p ls ks keep drops D)
-  where
-    by : (b : Bool) → q t ≡ b → find p (next_lists ls D) ≡ find p (next_lists ks (filter q D))
-        → first_some (option_map (λ l. t ∷ l) (find (λ l. p (t ∷ l)) ls)) (find p (next_lists ls D)) ≡ find p (next_lists ks (cond b (t ∷ filter q D) (filter q D)))
-    by true e r =
-        (λ i. first_some (option_map (λ l. t ∷ l) (keep t e i)) (r i)) ∙ ap (λ o. first_some o (find p (next_lists ks (filter q D)))) (sym (find_under p t ks))
-        ∙ sym (find_join p (map (λ l. t ∷ l) ks) (next_lists ks (filter q D)))
-    by false e r = ap (λ o. first_some (option_map (λ l. t ∷ l) o) (find p (next_lists ls D))) (find_none (λ l. p (t ∷ l)) (λ l. drops t e l) ls) ∙ r
-
-lists_within : (q : Fact → Bool) (n : ℕ) (p : List Fact → Bool) → ((ts : List Fact) → p ts ≡ true → list_all q ts ≡ true) → (E : List Fact) → find p (lists_of n E) ≡ find p (lists_of n (filter q E))
-lists_within q zero p h E = refl
-lists_within q (suc n) p h E =
-    next_within q p (lists_of n E) (lists_of n (filter q E))
-    (λ t e. lists_within q n (λ l. p (t ∷ l)) (λ l k. (and_parts (q t) (list_all q l) (h (t ∷ l) k)).1) E)
-    (λ t e l. by t l e (p (t ∷ l)) refl) E
-  where
-    by : (t : Fact) (l : List Fact) → q t ≡ false → (b : Bool) → p (t ∷ l) ≡ b → b ≡ false
-    by t l e false f = refl
-    by t l e true f = absurd (false≢true (sym e ∙ (and_parts (q t) (list_all q l) (h (t ∷ l) f)).0))
 
 -- ---- atoms under one binding
 

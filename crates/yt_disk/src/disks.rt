@@ -53,7 +53,8 @@ pub trait Disk {
     /// Writes the bytes over what is there from the place on, and past the end.
     fn write_at(&mut self, at: usize, bytes: &[u8]) -> Result<(), DiskRefusal>
         requires { at ≤ length (state self.old).bytes }
-        ensures bytes { OnOk result ((state self.new).bytes ≡ written at bytes.now (state self.old).bytes) }
+        ensures bytes { OnOk result
+            ((state self.new).bytes ≡ written at bytes.now (state self.old).bytes) }
         ensures time { GoesOn (state self.old) (state self.new) }
         ensures images { LeavesOnly (state self.old) (state self.new)
             (IsLeftTorn (state self.old) (range_of at bytes.now)) }

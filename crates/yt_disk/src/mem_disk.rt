@@ -110,7 +110,8 @@ impl Disk for MemDisk {
         ensures bytes { IfOk result (λ all. all.items ≡ bytes_of self.old) }
         ensures same { bytes_of self.new ≡ bytes_of self.old }
         ensures time { GoesOn (state_of self.old) (state_of self.new) }
-        ensures images { LeavesOnly (state_of self.old) (state_of self.new) (IsLeft (state_of self.old)) }
+        ensures images { LeavesOnly (state_of self.old) (state_of self.new)
+            (IsLeft (state_of self.old)) }
         ensures read { IsLeft (state_of self.new) (bytes_of self.new) }
         ensures cause { IsRefused (state_of self.old) (state_of self.new) result }
 
@@ -141,7 +142,8 @@ impl Disk for MemDisk {
         ensures settled { OnOk result (IsSettled (state_of self.new)) }
         ensures same { bytes_of self.new ≡ bytes_of self.old }
         ensures time { GoesOn (state_of self.old) (state_of self.new) }
-        ensures images { LeavesOnly (state_of self.old) (state_of self.new) (IsLeft (state_of self.old)) }
+        ensures images { LeavesOnly (state_of self.old) (state_of self.new)
+            (IsLeft (state_of self.old)) }
         ensures read { IsLeft (state_of self.new) (bytes_of self.new) }
         ensures cause { IsRefused (state_of self.old) (state_of self.new) result }
 

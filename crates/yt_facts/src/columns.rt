@@ -17,7 +17,8 @@ pub type Groups = BTreeMap<Value, PlainFacts>;
 
 /// The tuples that the column keeps at the value, if there is such a column and such a value in it.
 pub fn group<'a>(columns: &'a Vec<Groups>, column: usize, value: &Value) -> Option<&'a PlainFacts>
-    ensures group { unwrap_or (option_copied result) [] ≡ group_at columns.now.items column (datum_of value.now) }
+    ensures group { unwrap_or (option_copied result) [] ≡
+        group_at columns.now.items column (datum_of value.now) }
 {
     match columns.get(column) {
         Some(groups) => groups.get(value),
@@ -29,7 +30,8 @@ pub fn group<'a>(columns: &'a Vec<Groups>, column: usize, value: &Value) -> Opti
 /// its columns may then keep it, and what else is kept is as before.
 pub fn index(columns: &mut Vec<Groups>, alloc: Global, tuple: &Tuple) -> Result<(), Memory>
     ensures ok { OnOk result (AddsAll (fact_of tuple.now) columns.old.items columns.new.items) }
-    ensures err { OnErr result (AddsAtMost (fact_of tuple.now) columns.old.items columns.new.items) }
+    ensures err { OnErr result
+        (AddsAtMost (fact_of tuple.now) columns.old.items columns.new.items) }
 {
     let values = tuple.values.as_slice();
     for column in 0..values.len() {
@@ -57,8 +59,12 @@ fn add_at(
     value: &Value,
     tuple: &Tuple,
 ) -> Result<(), Memory>
-    ensures ok { OnOk result ((d : Datum) (u : Fact) → has (group_at columns.new.items column d) u ≡ (has (group_at columns.old.items column d) u || (same_datum d (datum_of value.now) && same_fact u (fact_of tuple.now)))) }
-    ensures others { (c : ℕ) (d : Datum) → (c ≡ column → ⊥) → group_at columns.new.items c d ≡ group_at columns.old.items c d }
+    ensures ok { OnOk result ((d : Datum) (u : Fact) →
+        has (group_at columns.new.items column d) u ≡
+        (has (group_at columns.old.items column d) u ||
+        (same_datum d (datum_of value.now) && same_fact u (fact_of tuple.now)))) }
+    ensures others { (c : ℕ) (d : Datum) → (c ≡ column → ⊥) → group_at columns.new.items c d ≡
+        group_at columns.old.items c d }
     ensures err { OnErr result (AreSame columns.old.items columns.new.items) }
 {
     reach(columns, alloc, column)?;
@@ -98,8 +104,11 @@ fn put(group: &mut PlainFacts, alloc: Global, tuple: &Tuple) -> Result<(), Memor
 
 // Takes the tuple out of this column, where it has the value.
 fn sweep_at(columns: &mut Vec<Groups>, column: usize, value: &Value, tuple: &Tuple)
-    ensures dropped { (d : Datum) (u : Fact) → has (group_at columns.new.items column d) u ≡ (has (group_at columns.old.items column d) u && not (same_datum d (datum_of value.now) && same_fact u (fact_of tuple.now))) }
-    ensures others { (c : ℕ) (d : Datum) → (c ≡ column → ⊥) → group_at columns.new.items c d ≡ group_at columns.old.items c d }
+    ensures dropped { (d : Datum) (u : Fact) → has (group_at columns.new.items column d) u ≡
+        (has (group_at columns.old.items column d) u &&
+        not (same_datum d (datum_of value.now) && same_fact u (fact_of tuple.now))) }
+    ensures others { (c : ℕ) (d : Datum) → (c ≡ column → ⊥) → group_at columns.new.items c d ≡
+        group_at columns.old.items c d }
 {
     match columns.get_mut(column) {
         Some(groups) => take_out(groups, value, tuple),
@@ -110,7 +119,8 @@ fn sweep_at(columns: &mut Vec<Groups>, column: usize, value: &Value, tuple: &Tup
 // Takes the tuple out of the group of the value, and the group away where it is then empty.
 fn take_out(groups: &mut Groups, value: &Value, tuple: &Tuple)
     ensures dropped { Drops (datum_of value.now) (fact_of tuple.now) groups.old groups.new }
-    ensures vacant { IfSome (lookup (λ k. same_datum (datum_of value.now) (datum_of k)) groups.new.entries) (λ group. group ≡ [] → ⊥) }
+    ensures vacant { IfSome (lookup (λ k. same_datum (datum_of value.now) (datum_of k))
+        groups.new.entries) (λ group. group ≡ [] → ⊥) }
 {
     remove_from(groups, value, tuple);
     if is_vacant(groups.get(value)) {

@@ -136,7 +136,8 @@ impl<'a, F: Facts> Facts for Overlay<'a, F> {
 
 // Whether the tuple is in the set and not gone.
 fn is_left<F: Facts>(facts: &F, gone: &PlainFacts, tuple: &Tuple) -> bool
-    ensures left { result ≡ (has (F.tuples facts.now) (fact_of tuple.now) && not (has gone.now (fact_of tuple.now))) }
+    ensures left { result ≡ (has (F.tuples facts.now) (fact_of tuple.now) &&
+        not (has gone.now (fact_of tuple.now))) }
     ensures in_order { IsRepository (F.tuples facts.now) }
 {
     facts.contains(tuple) && !gone.contains(tuple)
@@ -157,7 +158,10 @@ fn remaining<'a, F: Facts>(
     course: &Course<'_>,
     from: Option<&'a Tuple>,
 ) -> Option<&'a Tuple>
-    ensures found { option_map fact_of (option_copied result) ≡ find (λ u. not (has gone.now u)) (ahead (comes_after course.now) (F.tuples facts.now) (option_map fact_of (option_copied from.entry))) }
+    ensures found { option_map fact_of (option_copied result) ≡
+        find (λ u. not (has gone.now u))
+        (ahead (comes_after course.now) (F.tuples facts.now)
+        (option_map fact_of (option_copied from.entry))) }
 {
     let mut cursor = from;
     while let Some(tuple) = cursor {
@@ -171,7 +175,8 @@ fn remaining<'a, F: Facts>(
 
 // The next tuple on the course.
 fn next<'a, F: Facts>(facts: &'a F, course: &Course<'_>, tuple: &Tuple) -> Option<&'a Tuple>
-    ensures found { option_map fact_of (option_copied result) ≡ find (comes_after course.now (fact_of tuple.now)) (F.tuples facts.now) }
+    ensures found { option_map fact_of (option_copied result) ≡
+        find (comes_after course.now (fact_of tuple.now)) (F.tuples facts.now) }
     ensures in_order { IsRepository (F.tuples facts.now) }
 {
     match course {
@@ -185,7 +190,9 @@ fn next<'a, F: Facts>(facts: &'a F, course: &Course<'_>, tuple: &Tuple) -> Optio
 
 // The lesser of two tuples, of those that there are.
 fn least<'a>(one: Option<&'a Tuple>, other: Option<&'a Tuple>) -> Option<&'a Tuple>
-    ensures least { option_map fact_of (option_copied result) ≡ lesser (option_map fact_of (option_copied one.entry)) (option_map fact_of (option_copied other.entry)) }
+    ensures least { option_map fact_of (option_copied result) ≡
+        lesser (option_map fact_of (option_copied one.entry))
+        (option_map fact_of (option_copied other.entry)) }
 {
     let Some(tuple) = one else {
         return other;

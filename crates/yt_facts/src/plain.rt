@@ -91,7 +91,8 @@ impl PlainFacts {
 
     /// The least tuple of the relation that is above `past`, where that is given; None exactly where there is none.
     pub(crate) fn next(&self, relation: u16, past: Option<&Tuple>) -> Option<&Tuple>
-        ensures found { option_map fact_of (option_copied result) ≡ find (is_ahead relation (option_map fact_of (option_copied past.entry))) self.now }
+        ensures found { option_map fact_of (option_copied result) ≡
+            find (is_ahead relation (option_map fact_of (option_copied past.entry))) self.now }
         ensures in_order { IsRepository self.now }
     {
         // The set tells that it is in order.

@@ -20,7 +20,8 @@ pub fn kept<'a>(
     column: u16,
     value: &Value,
 ) -> Option<&'a PlainFacts>
-    ensures kept { unwrap_or (option_copied result) [] ≡ kept_at relations.now.items relation column (datum_of value.now) }
+    ensures kept { unwrap_or (option_copied result) [] ≡
+        kept_at relations.now.items relation column (datum_of value.now) }
 {
     match relations.get(relation as usize) {
         Some(columns) => group(columns, column as usize, value),
@@ -30,7 +31,9 @@ pub fn kept<'a>(
 
 /// Whether the tuple's relation keeps it at the value of the column.
 pub fn keeps(relations: &Vec<Columns>, column: u16, value: &Value, tuple: &Tuple) -> bool
-    ensures kept { result ≡ has (kept_at relations.now.items tuple.now.relation column (datum_of value.now)) (fact_of tuple.now) }
+    ensures kept { result ≡ has
+        (kept_at relations.now.items tuple.now.relation column (datum_of value.now))
+        (fact_of tuple.now) }
 {
     match kept(relations, tuple.relation, column, value) {
         Some(group) => group.contains(tuple),
@@ -42,7 +45,8 @@ pub fn keeps(relations: &Vec<Columns>, column: u16, value: &Value, tuple: &Tuple
 /// may then keep it, and what else is kept is as before.
 pub fn keep(relations: &mut Vec<Columns>, alloc: Global, tuple: &Tuple) -> Result<(), Memory>
     ensures ok { OnOk result (AddsOne (fact_of tuple.now) relations.old.items relations.new.items) }
-    ensures err { OnErr result (AddsAtMostOne (fact_of tuple.now) relations.old.items relations.new.items) }
+    ensures err { OnErr result
+        (AddsAtMostOne (fact_of tuple.now) relations.old.items relations.new.items) }
 {
     keep_at(relations, alloc, tuple.relation as usize, tuple)
 }
@@ -61,9 +65,13 @@ fn keep_at(
     relation: usize,
     tuple: &Tuple,
 ) -> Result<(), Memory>
-    ensures ok { OnOk result (AddsAll (fact_of tuple.now) (columns_of relations.old.items relation) (columns_of relations.new.items relation)) }
-    ensures err { OnErr result (AddsAtMost (fact_of tuple.now) (columns_of relations.old.items relation) (columns_of relations.new.items relation)) }
-    ensures others { (r : ℕ) → (r ≡ relation → ⊥) → columns_of relations.new.items r ≡ columns_of relations.old.items r }
+    ensures ok { OnOk result (AddsAll (fact_of tuple.now)
+        (columns_of relations.old.items relation) (columns_of relations.new.items relation)) }
+    ensures err { OnErr result
+        (AddsAtMost (fact_of tuple.now) (columns_of relations.old.items relation)
+        (columns_of relations.new.items relation)) }
+    ensures others { (r : ℕ) → (r ≡ relation → ⊥) → columns_of relations.new.items r ≡
+        columns_of relations.old.items r }
 {
     reach(relations, alloc, relation)?;
     index(&mut relations[relation], alloc, tuple)
@@ -82,8 +90,10 @@ fn reach(relations: &mut Vec<Columns>, alloc: Global, relation: usize) -> Result
 
 // Takes the tuple out of the columns of this relation.
 fn drop_at(relations: &mut Vec<Columns>, relation: usize, tuple: &Tuple)
-    ensures dropped { DropsAll (fact_of tuple.now) (columns_of relations.old.items relation) (columns_of relations.new.items relation) }
-    ensures others { (r : ℕ) → (r ≡ relation → ⊥) → columns_of relations.new.items r ≡ columns_of relations.old.items r }
+    ensures dropped { DropsAll (fact_of tuple.now) (columns_of relations.old.items relation)
+        (columns_of relations.new.items relation) }
+    ensures others { (r : ℕ) → (r ≡ relation → ⊥) → columns_of relations.new.items r ≡
+        columns_of relations.old.items r }
 {
     match relations.get_mut(relation) {
         Some(columns) => sweep(columns, tuple),

@@ -14,14 +14,16 @@ pub fn is_scanned(
     value: &Value,
     past: Option<&Tuple>,
 ) -> bool
-    ensures answer { result ≡ is_scanned_tuple relation column (datum_of value.now) (option_map fact_of (option_copied past.entry)) (fact_of tuple.now) }
+    ensures answer { result ≡ is_scanned_tuple relation column (datum_of value.now)
+        (option_map fact_of (option_copied past.entry)) (fact_of tuple.now) }
 {
     tuple.relation == relation && is_beyond(past, tuple) && has_at(tuple, column, value)
 }
 
 // Whether the tuple comes after `past`, where that is given.
 fn is_beyond(past: Option<&Tuple>, tuple: &Tuple) -> bool
-    ensures answer { result ≡ is_beyond_tuple (option_map fact_of (option_copied past.entry)) (fact_of tuple.now) }
+    ensures answer { result ≡ is_beyond_tuple (option_map fact_of (option_copied past.entry))
+        (fact_of tuple.now) }
 {
     match past {
         Some(before) => before.cmp(tuple).is_lt(),
@@ -41,7 +43,8 @@ fn has_at(tuple: &Tuple, column: u16, value: &Value) -> bool
 
 /// What was found, if it is of the relation.
 pub fn of_relation(found: Option<&Tuple>, relation: u16) -> Option<&Tuple>
-    ensures kept { option_map fact_of (option_copied result) ≡ kept_if (is_of relation) (option_map fact_of (option_copied found.entry)) }
+    ensures kept { option_map fact_of (option_copied result) ≡
+        kept_if (is_of relation) (option_map fact_of (option_copied found.entry)) }
 {
     match found {
         Some(tuple) => {

@@ -18,5 +18,6 @@ pub fn tuples_are_read_again()
 /// A line of text that says a fact of some relations says a tuple of theirs.
 pub fn lines_say_tuples()
     ensures { (relations : List RelationSchema) (line : List ℕ) (fact : WrittenFact) (t : Fact) →
-        IsUtf8 line → lone_fact line ≡ Ok fact → fact_of relations fact ≡ Ok t → IsTuple relations t }
+        IsUtf8 line → lone_fact line ≡ Ok fact → fact_of relations fact ≡ Ok t →
+        IsTuple relations t }
 {}

@@ -88,7 +88,8 @@ pub fn format_2_has_more_relations()
         add_relation s n (pos 1) ≡ Err (LimitReached limit.Relations) }
     ensures in_2 { (s : SessionData) (n : Name) → s.format ≡ 2 → length s.relations ≡ 64 →
         is_one_of (relation_names s.relations) n ≡ false →
-        add_relation s n (pos 1) ≡ Ok (record s { relations = s.relations ++ record { name = n; arity = 1 } ∷ [] }) }
+        add_relation s n (pos 1) ≡
+        Ok (record s { relations = s.relations ++ record { name = n; arity = 1 } ∷ [] }) }
 {}
 
 /// What is laid out of a statement's words, and so the printed form, written out directly.

@@ -1,6 +1,6 @@
 //! Worked rows: inputs with what users are told of them, and sessions with their printed forms.
 
-ghost use Rattle.std.specs.Prelude.{◌≡◌, codes};
+ghost use Rattle.std.specs.Prelude.{◌≡◌, ◌++◌, codes};
 ghost use Rattle.yt_grammar.specs.Lines.{fault_text, read};
 ghost use Rattle.std.specs.Prelude.{[], ◌∷◌, true, false};
 ghost use Rattle.yt_model.specs.Mappings.{force};
@@ -74,21 +74,27 @@ pub fn check_faults()
     ensures empty_side { fault_text (read (codes
         "youtopia 1\nrelation A 1\nmapping m: A(x) ->\nend\n")) ≡
         codes "session line 3: fault 3: empty side" }
-    ensures many_atoms { fault_text (read (codes
-        "youtopia 1\nrelation A 1\nmapping m: A(x), A(x), A(x), A(x), A(x), A(x), A(x), A(x), A(x) -> A(y)\nend\n")) ≡
+    ensures many_atoms { fault_text (read (
+        codes "youtopia 1\nrelation A 1\n" ++
+        codes "mapping m: A(x), A(x), A(x), A(x), A(x), A(x), A(x), A(x), A(x) -> A(y)\n" ++
+        codes "end\n")) ≡
         codes "session line 3: fault 4: more than 8 atoms on a side" }
     ensures twice { fault_text (read (codes "youtopia 1\nrelation A 1\nrelation A 2\nend\n")) ≡
         codes "session line 3: fault 5: name A is used twice" }
     ensures nine_columns { fault_text (read (codes "youtopia 1\nrelation A 9\nend\n")) ≡
         codes "session line 2: fault 24: limit reached: arity" }
-    ensures plain_cycle { fault_text (read (codes
-        "youtopia 1\nrelation A 1\nrelation B 1\nrelation C 2\nmapping m1: A(x) -> B(x)\nmapping m2: B(x) -> A(x), C(x, z)\nend\n")) ≡
+    ensures plain_cycle { fault_text (read (
+        codes "youtopia 1\nrelation A 1\nrelation B 1\nrelation C 2\n" ++
+        codes "mapping m1: A(x) -> B(x)\nmapping m2: B(x) -> A(x), C(x, z)\nend\n")) ≡
         codes "session line 6: fault 6: mapping m2 closes a plain cycle" }
-    ensures added_cycle { fault_text (read (codes
-        "youtopia 2\nrelation A 1\nrelation B 1\nbase A(1)\nupdate a ann mapping m: A(x) -> B(x)\nupdate b bob insert A(2)\nupdate c cy mapping n: B(x) -> A(x)\nend\n")) ≡
+    ensures added_cycle { fault_text (read (
+        codes "youtopia 2\nrelation A 1\nrelation B 1\nbase A(1)\n" ++
+        codes "update a ann mapping m: A(x) -> B(x)\nupdate b bob insert A(2)\n" ++
+        codes "update c cy mapping n: B(x) -> A(x)\nend\n")) ≡
         codes "session line 7: fault 6: mapping n closes a plain cycle" }
-    ensures null_not_below { fault_text (read (codes
-        "youtopia 1\nrelation A 1\nupdate a ann insert A(1)\nupdate b ann insert A(2)\nupdate c ann insert A(?3.1)\nend\n")) ≡
+    ensures null_not_below { fault_text (read (
+        codes "youtopia 1\nrelation A 1\nupdate a ann insert A(1)\n" ++
+        codes "update b ann insert A(2)\nupdate c ann insert A(?3.1)\nend\n")) ≡
         codes "session line 5: fault 23: null ?3.1 is not below" }
     ensures base_null { fault_text (read (codes "youtopia 1\nrelation A 1\nbase A(?1.1)\nend\n")) ≡
         codes "session line 3: fault 23: null ?1.1 is not below" }
@@ -102,22 +108,37 @@ pub fn printed_sessions()
     ensures spacing { printed_text (read (codes
         "youtopia   1  # spacing\nrelation A 1\nbase A( 007 )\nbase A(7)\nend\n")) ≡
         codes "youtopia 1\nrelation A 1\nbase A(7)\nend\n" }
-    ensures format_check { printed_text (read (codes
-        "youtopia 1\nrelation A 01\n\n\trelation B 2\r\nmapping m : A(x)->B(x,\"\\\"\\\\\\n\")  # m\nbase A(?0.01)\nbase A(-0)\nend")) ≡
-        codes "youtopia 1\nrelation A 1\nrelation B 2\nmapping m: A(x) -> B(x, \"\\\"\\\\\\n\")\nbase A(0)\nbase A(?0.1)\nend\n" }
+    ensures format_check { printed_text (read (
+        codes "youtopia 1\nrelation A 01\n\n\trelation B 2\r\n" ++
+        codes "mapping m : A(x)->B(x,\"\\\"\\\\\\n\")  # m\nbase A(?0.01)\nbase A(-0)\n" ++
+        codes "end")) ≡
+        codes "youtopia 1\nrelation A 1\nrelation B 2\n" ++
+        codes "mapping m: A(x) -> B(x, \"\\\"\\\\\\n\")\nbase A(0)\nbase A(?0.1)\nend\n" }
     ensures answers_stand_behind_updates { printed_text
-        (read (codes "youtopia 1\nrelation A 1\nupdate a ann insert A(1)\nupdate b bob delete A(1)\nanswer b delete A(1),A(2)\nanswer a unify A(?1.1)\nanswer a expand\nend\n")) ≡
-        codes "youtopia 1\nrelation A 1\nupdate a ann insert A(1)\nanswer a unify A(?1.1)\nanswer a expand\nupdate b bob delete A(1)\nanswer b delete A(1), A(2)\nend\n" }
-    ensures added_mapping { printed_text (read (codes
-        "youtopia 2\nrelation A 1\nrelation B 1\nbase A(1)\nupdate a ann mapping m: A(x) -> B(y)\nupdate b bob replace ?1.2 with \"x\"\nend\n")) ≡
-        codes "youtopia 2\nrelation A 1\nrelation B 1\nbase A(1)\nupdate a ann mapping m: A(x) -> B(y)\nupdate b bob replace ?1.2 with \"x\"\nend\n" }
+        (read (codes "youtopia 1\nrelation A 1\nupdate a ann insert A(1)\n" ++
+        codes "update b bob delete A(1)\nanswer b delete A(1),A(2)\n" ++
+        codes "answer a unify A(?1.1)\nanswer a expand\nend\n")) ≡
+        codes "youtopia 1\nrelation A 1\nupdate a ann insert A(1)\n" ++
+        codes "answer a unify A(?1.1)\nanswer a expand\nupdate b bob delete A(1)\n" ++
+        codes "answer b delete A(1), A(2)\nend\n" }
+    ensures added_mapping { printed_text (read (
+        codes "youtopia 2\nrelation A 1\nrelation B 1\nbase A(1)\n" ++
+        codes "update a ann mapping m: A(x) -> B(y)\n" ++
+        codes "update b bob replace ?1.2 with \"x\"\nend\n")) ≡
+        codes "youtopia 2\nrelation A 1\nrelation B 1\nbase A(1)\n" ++
+        codes "update a ann mapping m: A(x) -> B(y)\n" ++
+        codes "update b bob replace ?1.2 with \"x\"\nend\n" }
 {}
 
 /// Tuples: one that says that a mapping is in force, and the two spellings of a null.
 pub fn printed_tuples()
     ensures forced { tuple_text [] true (force 12) ≡ codes "*12" }
-    ensures inner { tuple_text (record { name = codes "A"; arity = 1 } ∷ []) true (record { relation = 0; values = Unknown (record { update = 3; attempt = 1; place = 2 }) ∷ [] }) ≡ codes "A(?3.2@1)" }
-    ensures outer { tuple_text (record { name = codes "A"; arity = 1 } ∷ []) false (record { relation = 0; values = Unknown (record { update = 3; attempt = 1; place = 2 }) ∷ [] }) ≡ codes "A(?3.2)" }
+    ensures inner { tuple_text (record { name = codes "A"; arity = 1 } ∷ []) true
+        (record { relation = 0; values = Unknown (record { update = 3; attempt = 1; place = 2 }) ∷ [] }) ≡
+        codes "A(?3.2@1)" }
+    ensures outer { tuple_text (record { name = codes "A"; arity = 1 } ∷ []) false
+        (record { relation = 0; values = Unknown (record { update = 3; attempt = 1; place = 2 }) ∷ [] }) ≡
+        codes "A(?3.2)" }
 {}
 
 /// What else can be wanted at the first word of a line that does not fit.

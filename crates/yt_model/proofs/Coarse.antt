@@ -46,7 +46,7 @@ after_agree q D E own d e h =
 
 -- ---- the first list that passes
 
-abbrev next_lists : List (List Fact) → List Fact → List (List Fact)
+abbrev pub next_lists : List (List Fact) → List Fact → List (List Fact)
 next_lists ls D = flat_map (λ t. map (λ l. t ∷ l) ls) D
 
 next_within : (q : Fact → Bool) (p : List Fact → Bool) (ls ks : List (List Fact))
@@ -63,7 +63,7 @@ next_within q p ls ks keep drops (t ∷ D) =
         ∙ sym (find_join p (map (λ l. t ∷ l) ks) (next_lists ks (filter q D)))
     by false e r = ap (λ o. first_some (option_map (λ l. t ∷ l) o) (find p (next_lists ls D))) (find_none (λ l. p (t ∷ l)) (λ l. drops t e l) ls) ∙ r
 
-lists_within : (q : Fact → Bool) (n : ℕ) (p : List Fact → Bool) → ((ts : List Fact) → p ts ≡ true → list_all q ts ≡ true) → (E : List Fact) → find p (lists_of n E) ≡ find p (lists_of n (filter q E))
+pub lists_within : (q : Fact → Bool) (n : ℕ) (p : List Fact → Bool) → ((ts : List Fact) → p ts ≡ true → list_all q ts ≡ true) → (E : List Fact) → find p (lists_of n E) ≡ find p (lists_of n (filter q E))
 lists_within q zero p h E = refl
 lists_within q (suc n) p h E =
     next_within q p (lists_of n E) (lists_of n (filter q E))

@@ -44,7 +44,8 @@ pub(crate) fn step(
         (option_map choice_of (option_copied choice.entry)) program.old program.new) }
     ensures seen { OnOk result (view.new ≡ seen_with view.old program.new.attempt.own) }
     ensures noted { OnOk result (HasNoted mappings.now view.old.below
-        (option_map choice_of (option_copied choice.entry)) program.old.attempt notes.old notes.new) }
+        (option_map choice_of (option_copied choice.entry)) program.old.attempt notes.old
+        notes.new) }
 {
     let note = noted(alloc, program, view, choice, mappings, budget)?;
     add(notes, note)

@@ -92,7 +92,8 @@ fn is_seen(
 
 // The tuples that the writes insert, in turn.
 fn inserted(alloc: Global, writes: &[Write]) -> Result<TupleList, Memory>
-    ensures inserted { IfOk result (λ tuples. facts_of tuples ≡ inserted_lem (map change_of writes.now)) }
+    ensures inserted { IfOk result
+        (λ tuples. facts_of tuples ≡ inserted_lem (map change_of writes.now)) }
 {
     let mut tuples = TupleList::new(alloc);
     for write in writes {
@@ -106,7 +107,8 @@ fn inserted(alloc: Global, writes: &[Write]) -> Result<TupleList, Memory>
 
 /// The tuples that the writes delete, in turn. It is refused only for want of memory.
 pub(crate) fn deleted(alloc: Global, writes: &[Write]) -> Result<TupleList, Memory>
-    ensures deleted { IfOk result (λ tuples. facts_of tuples ≡ deleted_lem (map change_of writes.now)) }
+    ensures deleted { IfOk result
+        (λ tuples. facts_of tuples ≡ deleted_lem (map change_of writes.now)) }
 {
     let mut tuples = TupleList::new(alloc);
     for write in writes {

@@ -62,7 +62,9 @@ impl Program {
     /// refused only for want of memory.
     pub fn unifier_with(&self, alloc: Global, form: &Tuple) -> Result<Sub, Memory>
         requires { Fits (wish self.now) (Unify (fact_of form.now)) }
-        ensures unifier { IfOk result (λ sub. moved_by (images_of sub) ≡ unifier_in self.now.attempt.phase (fact_of form.now)) }
+        ensures unifier { IfOk result
+            (λ sub. moved_by (images_of sub) ≡
+            unifier_in self.now.attempt.phase (fact_of form.now)) }
     {
         match &self.point {
             Point::Repair(repair) => repair.unifier_with(alloc, form),

@@ -19,7 +19,12 @@ impl Program {
     /// The next attempt at the same update, at its start. It is refused only for want of memory.
     pub fn anew(&self, alloc: Global) -> Result<Program, Memory>
         requires more { self.now.attempt.attempt + 1 < 2 ^ 32 }
-        ensures begun { IfOk result (λ made. made ≡ record { attempt = begun self.now.attempt.number (suc self.now.attempt.attempt) self.now.attempt.operation; reading = None }) }
+        ensures begun { IfOk result
+            (λ made. made ≡ record {
+              attempt = begun self.now.attempt.number
+                  (suc self.now.attempt.attempt) self.now.attempt.operation;
+              reading = None;
+            }) }
     {
         Ok(Program {
             number: self.number,

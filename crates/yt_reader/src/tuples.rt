@@ -73,7 +73,9 @@ fn tuple_of(alloc: Global, schema: &Schema, fact: RawFact) -> Result<Tuple, Line
 /// The tuple of a schema that a fact is; None exactly where the schema lacks its relation, or has it with another number
 /// of columns. A null may come from any update. It is refused only for want of memory.
 pub fn tuple_in(alloc: Global, schema: &Schema, fact: &RawFact) -> Result<Option<Tuple>, Memory>
-    ensures tuple { IfOk result (λ found. option_map tuple_meant found ≡ known_fact (fact_of schema.now (fact_meant fact.now))) }
+    ensures tuple { IfOk result
+        (λ found. option_map tuple_meant found ≡
+        known_fact (fact_of schema.now (fact_meant fact.now))) }
 {
     let copy = RawFact {
         relation: fact.relation.copy(alloc)?,

@@ -38,7 +38,8 @@ fn with_positive(
     candidates: &[Tuple],
 ) -> Result<Page, Memory>
     ensures { IfOk result (λ p. p ≡ with_lines (λ words. words) page
-        ((word_of.name (codes "question") ∷ word_of.name (codes "positive") ∷ word_of.name called.now
+        ((word_of.name (codes "question") ∷ word_of.name (codes "positive") ∷ word_of.name
+        called.now
         ∷ tuple_words schema.now (fact_of tuple.now))
         ∷ candidate_lines schema.now (map fact_of candidates.now))) }
 {

@@ -41,8 +41,10 @@ pub(crate) fn with_committed(
     updates: &[SessionUpdate],
 ) -> Result<Page, Memory>
     ensures { IfOk result (λ p. p ≡ with_line page
-        (word_of.name (codes "committed") ∷ word_of.number (pos (length (map finish_of finishes.now)))
-        ∷ word_of.name (codes "of") ∷ word_of.number (pos (length (map update_of updates.now))) ∷ [])) }
+        (word_of.name (codes "committed") ∷ word_of.number
+        (pos (length (map finish_of finishes.now)))
+        ∷ word_of.name (codes "of") ∷ word_of.number (pos (length (map update_of updates.now))) ∷
+        [])) }
 {
     let ended = finishes.len() as i64;
     let all = updates.len() as i64;

@@ -95,7 +95,8 @@ pub fn numbered_atoms(
     schema: &Schema,
     atoms: &[RawAtom],
 ) -> Result<(AtomList, Names), SchemaRefusal>
-    ensures numbered { Gives (λ x. (map pattern_meant x.0.items, x.1.items)) result (numbered_atoms schema.now (map atom_of atoms.now)) }
+    ensures numbered { Gives (λ x. (map pattern_meant x.0.items, x.1.items)) result
+        (numbered_atoms schema.now (map atom_of atoms.now)) }
 {
     let mut variables = Variables::new(alloc);
     variables.note_atoms(alloc, atoms)?;

@@ -63,7 +63,8 @@ fn run(
     requires sorted { IsRepository base }
     requires few { length updates.now ≤ 1000 }
     ensures left { IfOk result (λ left.
-        trailed_of left ≡ trailed_from mappings.now budget base 1 (map request_of (map update_of updates.now))) }
+        trailed_of left ≡ trailed_from mappings.now budget base 1
+        (map request_of (map update_of updates.now))) }
 {
     let mut trails = TrailList::new(alloc);
     let mut facts = base;

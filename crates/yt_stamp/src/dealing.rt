@@ -69,7 +69,8 @@ impl<V: Grows> StampLock<V> {
     fn deal(&self, seats: &mut Vec<Seat<V>>, count: u64)
         requires count { (1 ≤ count) × (count ≤ 16) }
         requires room { count ≤ vec_capacity seats.old }
-        requires first { (s : Seat V V.Entry) × (seats.old.items ≡ s ∷ []) × IsDealer (lock_id self.now) 1 s }
+        requires first { (s : Seat V V.Entry) × (seats.old.items ≡ s ∷ []) ×
+            IsDealer (lock_id self.now) 1 s }
         ensures seats { AreSeats (lock_id self.now) count seats.new.items }
         ensures saw { AllSaw (seen_first seats.old.items) seats.new.items }
     {
@@ -88,7 +89,8 @@ impl<V: Grows> StampLock<V> {
         requires alone { first.old.at.me.0.joined ≡ [] }
         requires others { AreOthers (lock_id self.now) others.items }
         ensures same { IsSameInTable first.old.at first.new.at }
-        ensures gathered { first.new.at.me ≡ (gathered first.old.at.me.0 (map seen_of others.items), []) }
+        ensures gathered { first.new.at.me ≡
+            (gathered first.old.at.me.0 (map seen_of others.items), []) }
     {
         for other in others {
             let at = other.into_inner();

@@ -188,7 +188,8 @@ impl<K: Ord + Share, V: Share> Branch<K, V> {
     /// The first entry that is sought.
     pub fn find_in<S: Search<K, V>>(&self, search: &S) -> Option<&(K, V)>
         requires { IsOrdered K.cmp self.now }
-        ensures { option_copied result ≡ first_sought (S.place search.now) (S.passes search.now) self.now }
+        ensures { option_copied result ≡
+            first_sought (S.place search.now) (S.passes search.now) self.now }
     {
         let Some(shared) = &self.node else {
             return None;

@@ -57,7 +57,8 @@ fn descend<'a, K: Ord + Share, V: Share, C: Cut<K>>(
 ) -> Deep<'a, K, V>
     requires in_order { IsOrdered K.cmp branch.now }
     requires path { IsPath K.cmp path.old.items }
-    ensures rest { rest_of K.cmp result ++ pending path.new.items ≡ reached (C.reaches cut.now) branch.now ++ pending path.old.items }
+    ensures rest { rest_of K.cmp result ++ pending path.new.items ≡
+        reached (C.reaches cut.now) branch.now ++ pending path.old.items }
     ensures path { IsPath K.cmp path.new.items }
     ensures in_order { IsDeep K.cmp result }
 {

@@ -84,7 +84,8 @@ impl<K: Ord + Share, V: Share> TreeMap<K, V> {
 
     /// The first entry that is sought.
     pub fn find_in<S: Search<K, V>>(&self, search: &S) -> Option<&(K, V)>
-        ensures found { option_copied result ≡ first_sought (S.place search.now) (S.passes search.now) self.now }
+        ensures found { option_copied result ≡
+            first_sought (S.place search.now) (S.passes search.now) self.now }
         ensures in_order { IsOrdered K.cmp self.now }
     {
         self.entries.find_in(search)

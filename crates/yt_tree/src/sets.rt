@@ -70,7 +70,8 @@ impl<K: Ord + Share> TreeSet<K> {
     /// the keys are as they were.
     pub fn insert(&mut self, alloc: Global, key: K) -> Result<bool, K>
         ensures ok { OnOk result (self.new ≡ insert_key K.cmp self.old key) }
-        ensures changed { IfOk result (λ b. b ≡ not (list_any (λ x. is_eq (K.cmp key x)) self.old)) }
+        ensures changed { IfOk result
+            (λ b. b ≡ not (list_any (λ x. is_eq (K.cmp key x)) self.old)) }
         ensures err { OnErr result (self.new ≡ self.old) }
         ensures given_back { IfErr result (λ k. k ≡ key) }
     {

@@ -14,15 +14,19 @@ impl PlainFacts {
     /// The set of the tuples of a list, whatever their order and how often they stand there. It is refused only for
     /// want of memory.
     pub fn of_list(alloc: Global, tuples: &TupleList) -> Result<PlainFacts, Memory>
-        ensures members { IfOk result (λ facts. (t : Fact) → has facts t ≡ has (map fact_of tuples.now.items) t) }
-        ensures same { IfOk result (λ facts. IsRepository (map fact_of tuples.now.items) → facts ≡ map fact_of tuples.now.items) }
+        ensures members { IfOk result
+            (λ facts. (t : Fact) → has facts t ≡ has (map fact_of tuples.now.items) t) }
+        ensures same { IfOk result
+            (λ facts. IsRepository (map fact_of tuples.now.items) → facts ≡
+            map fact_of tuples.now.items) }
     {
         PlainFacts::of_owned(alloc, tuples.copy(alloc)?)
     }
 
     /// The set of the tuples of a list, which it takes over. It is refused only for want of memory.
     pub(crate) fn of_owned(alloc: Global, tuples: TupleList) -> Result<PlainFacts, Memory>
-        ensures members { IfOk result (λ facts. (t : Fact) → has facts t ≡ has (map fact_of tuples.items) t) }
+        ensures members { IfOk result
+            (λ facts. (t : Fact) → has facts t ≡ has (map fact_of tuples.items) t) }
         ensures in_order { IfOk result IsRepository }
     {
         match BTreeSet::from_iter(alloc, tuples.into_vec()) {
