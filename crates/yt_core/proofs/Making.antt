@@ -152,10 +152,10 @@ module _ (g : Ground) (v : Kept) (rs : List Record) (H : List PlainEntry) (s : S
       let there : slice_get rs i ≡ Some r = ap (λ xs. slice_get xs i) (sym slice) ∙ spot in
       let found : slice_get us i ≡ Some u = slice_get-map (update_of g.rules g.budget) rs i ∙ ap (option_map (update_of g.rules g.budget)) there in
       let number : r.program.attempt.number ≡ suc i = (let one : 1 + i ≡ suc i = omega arith in (stands_at rs 1 i r kept.numbers there).number ∙ one) in
-      let open = (ready_parts (machine g) g.settings (committed (machine g) us) (suc i) u (ap is_ready (ready_record r spot))).0 in
+      let o = (ready_parts (machine g) g.settings (committed (machine g) us) (suc i) u (ap is_ready (ready_record r spot))).0 in
       let own : trail (machine g) u ≡ r.program.attempt.own =
-      ap (λ (b : Bool). if b then [] else if hides ((machine g).outcome u.state) then [] else u.state.own) open.present
-      ∙ ap (λ (b : Bool). if b then [] else u.state.own) (ap hides open.going) in
+      ap (λ (b : Bool). if b then [] else if hides ((machine g).outcome u.state) then [] else u.state.own) o.present
+      ∙ ap (λ (b : Bool). if b then [] else u.state.own) (ap hides o.going) in
       let sees : (k : ℕ) → seen (suc k) v ≡ below (machine g) g.base us k = below_is_seen caused g.rules g.budget v g.base us kept.sorted kept.versions in
       record {
         applied =
