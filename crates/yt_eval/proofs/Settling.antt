@@ -1,5 +1,5 @@
 -- Mappings that have no violation which the own writes caused: all of them at the start, and after a write those that it does not stir.
-use Rattle.std.proofs.Common.{◌≡◌, ℕ, ap, refl, sym, ◌∙◌, subst, List, [], ◌∷◌, ◌++◌, Bool, true, false, not, ◌||◌, ◌&&◌, cond, length, Option, Some, None, slice_index_or}
+use Rattle.std.proofs.Common.{◌≡◌, append-nil, append_assoc, ℕ, ap, refl, sym, ◌∙◌, subst, List, [], ◌∷◌, ◌++◌, Bool, true, false, not, ◌||◌, ◌&&◌, cond, length, Option, Some, None, slice_index_or}
 use Rattle.std.specs.List.{list_any, slice_get}
 use Rattle.std.specs.Prelude.{◌==◌}
 use Rattle.std.proofs.lemmas.Bool.{and_parts, not-true, eqb-false}
@@ -12,7 +12,7 @@ use Rattle.yt_model.specs.Violations.{Direction, Forward, Backward, Every, Cause
 use Rattle.yt_model.proofs.Bools.{first_off, and-false}
 use Rattle.yt_model.proofs.Searches.{any_join, find_none}
 use Rattle.yt_eval.specs.Seen.{Seen, written}
-use Rattle.yt_eval.specs.Watched.{Watched, watched_on, relation_in, touches, stirs, AreSettled}
+use Rattle.yt_eval.specs.Watched.{Watched, watched_on, seen_over, relation_in, touches, stirs, LoseMarksTo, AreSettled}
 use Rattle.yt_eval.proofs.Written.{apply_one_more}
 use Rattle.yt_eval.proofs.OtherRelations.{differ_by_relation, none_stays}
 
@@ -81,10 +81,6 @@ still_nothing v w n h e = by (slice_get v.rules n) h e
 abbrev pub Left : List Rule → Change → List Bool → List Bool → Type 0
 Left ms w marks left = (n : ℕ) → slice_index_or left n false ≡ (slice_index_or marks n false && not (stirs w (slice_get ms n)))
 
--- What is seen over these mappings and in this direction.
-abbrev pub seen_over : List Rule → Direction → Seen → Watched
-seen_over ms d s = record { rules = ms; heading = d; below = s.below; own = s.own }
-
 with_write : (v : Watched) (w : Change) (marks left : List Bool) → AreSettled v marks → Left v.rules w marks left → AreSettled (watched_on v (w ∷ [])) left
 with_write v w marks left a h n e =
     let p = and_parts (slice_index_or marks n false) (not (stirs w (slice_get v.rules n))) (sym (h n) ∙ e) in
@@ -94,3 +90,11 @@ with_write v w marks left a h n e =
 pub settled_with : (ms : List Rule) (d : Direction) (s t : Seen) (w : Change) (marks left : List Bool)
     → AreSettled (seen_over ms d s) marks → Left ms w marks left → t ≡ written s (w ∷ []) → AreSettled (seen_over ms d t) left
 settled_with ms d s t w marks left a h e = subst (λ (u : Seen). AreSettled (seen_over ms d u) left) (sym e) (with_write (seen_over ms d s) w marks left a h)
+
+-- ---- several own writes more
+
+pub settled_after : (w : Watched) (ws : List Change) (marks left : List Bool) → AreSettled w marks → LoseMarksTo ws w.rules marks left → AreSettled (watched_on w ws) left
+settled_after w [] marks left a e = subst (λ (own : List Change). AreSettled (record { rules = w.rules; heading = w.heading; below = w.below; own = own }) left) (sym (append-nil w.own)) (subst (λ l. AreSettled w l) (sym e) a)
+settled_after w (x ∷ ws) marks left a h =
+    subst (λ (own : List Change). AreSettled (record { rules = w.rules; heading = w.heading; below = w.below; own = own }) left) (append_assoc w.own (x ∷ []) ws)
+    (settled_after (watched_on w (x ∷ [])) ws h.0 left (with_write w x marks h.0 a h.1) h.2)

@@ -1,11 +1,12 @@
 -- What a contract sees of a watched view, which writes may give a mapping a violation, and which mappings have none.
-use Rattle.std.specs.Prelude.{◌≡◌, ℕ, ◌==◌, Bool, true, false, not, ◌||◌, ◌&&◌, List, [], ◌++◌, Option, Some, None, slice_index_or}
+use Rattle.std.specs.Prelude.{◌≡◌, ℕ, ◌==◌, Bool, true, false, not, ◌||◌, ◌&&◌, List, [], ◌++◌, Option, Some, None, slice_index_or, slice_set, ◌∷◌}
 use Rattle.std.specs.List.{list_any, slice_get}
 use Rattle.yt_model.specs.Values.{Fact}
 use Rattle.yt_model.specs.Repository.{Change, Insert, Delete}
 use Rattle.yt_model.specs.Mappings.{Rule, force_relation}
-use Rattle.yt_model.specs.Queries.{Query, Reply, Violation, Nothing, value}
+use Rattle.yt_model.specs.Queries.{Query, Present, Violation, Specific, Occurs, Reply, Nothing, value}
 use Rattle.yt_model.specs.Violations.{Direction, Caused}
+use Rattle.yt_eval.specs.Seen.{Seen}
 
 -- The mappings, the direction in which violations are caused, the tuples below the own writes, and the own writes in turn.
 pub record Watched : Type 0 where
@@ -13,6 +14,10 @@ pub record Watched : Type 0 where
   pub heading : Direction
   pub below : List Fact
   pub own : List Change
+
+-- What is seen over these mappings and in this direction.
+abbrev pub seen_over : List Rule → Direction → Seen → Watched
+seen_over ms d s = record { rules = ms; heading = d; below = s.below; own = s.own }
 
 -- What is seen after these own writes more.
 abbrev pub watched_on : Watched → List Change → Watched
@@ -56,6 +61,25 @@ stirs w m = may_enact w || touches w m
 -- With no mark none of the own writes may put a mapping in force.
 abbrev pub AreForceless : Bool → List Change → Type 0
 AreForceless mark own = mark ≡ false → list_any may_enact own ≡ false
+
+-- The query asks for the first violation of a mapping with a mark.
+abbrev pub asks_settled : List Bool → Query → Bool
+asks_settled marks (Present t) = false
+asks_settled marks (Violation n) = slice_index_or marks n false
+asks_settled marks (Specific t) = false
+asks_settled marks (Occurs u k) = false
+
+-- The marks, with one for the mapping whose first violation the query asks for.
+abbrev pub with_settled : List Bool → Query → List Bool
+with_settled marks (Present t) = marks
+with_settled marks (Violation n) = slice_set marks n true
+with_settled marks (Specific t) = marks
+with_settled marks (Occurs u k) = marks
+
+-- Each mapping that one of the writes stirs has lost its mark, one write after the other.
+abbrev pub LoseMarksTo : List Change → List Rule → List Bool → List Bool → Type 0
+LoseMarksTo [] ms marks marks' = marks' ≡ marks
+LoseMarksTo (w ∷ ws) ms marks marks' = (mid : List Bool) × LoseMarks (stirs w) ms marks mid × LoseMarksTo ws ms mid marks'
 
 -- Each mapping with a mark has no violation that the own writes caused.
 abbrev pub AreSettled : Watched → List Bool → Type 0

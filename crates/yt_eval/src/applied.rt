@@ -7,10 +7,11 @@ ghost use Rattle.yt_base.specs.Contents.{changes_of, rules_in};
 ghost use Rattle.yt_base.specs.Meanings.{change_of, heading_of};
 ghost use Rattle.yt_query.specs.Meanings.{query_of, reply_of};
 ghost use Rattle.yt_eval.specs.Seen.{value_seen};
-ghost use Rattle.yt_eval.specs.Watched.{may_enact as may_enact_lem};
+ghost use Rattle.yt_eval.specs.Watched.{AreSettled, may_enact as may_enact_lem, seen_over};
 
 use crate::answers::{Writes, value_over};
 use crate::scopes::{Counted, FORCE_RELATION, relation_of};
+use crate::settled::Settled;
 use std::alloc::Global;
 use std::marker::Model;
 use yt_base::{Direction, Facts, MappingList, Memory, Write, WriteList};
@@ -57,9 +58,36 @@ impl<'a, F: Facts> AppliedView<'a, F> {
     }
 
     /// The value of the query, where of violations only those count that the own writes caused in the direction.
-    /// Forward, a mapping that they put in force is looked at whole; one that is not in the list has no violation. It
-    /// is refused only for want of memory.
+    /// Forward, a mapping that they put in force is looked at whole; one that is not in the list has no violation. A
+    /// settled mapping is not searched, and one without a violation is settled. It is refused only for want of memory.
     pub fn eval(
+        &self,
+        query: &Query,
+        mappings: &MappingList,
+        direction: Direction,
+        settled: &mut Settled,
+        alloc: Global,
+    ) -> Result<Answer, Memory>
+        requires settled { AreSettled (seen_over (rules_in mappings.now) (heading_of direction)
+            self.now) settled.old }
+        ensures value { IfOk result (λ answer. reply_of answer ≡
+            value_seen (rules_in mappings.now) (query_of query.now) self.now
+            (Caused (heading_of direction))) }
+        ensures settled { AreSettled (seen_over (rules_in mappings.now) (heading_of direction)
+            self.now) settled.new }
+    {
+        if settled.knows(query) {
+            return Ok(Answer::Nothing);
+        }
+        let answer = self.value(query, mappings, direction, alloc)?;
+        if matches!(&answer, Answer::Nothing) {
+            settled.learn(query);
+        }
+        Ok(answer)
+    }
+
+    // The value of the query, where of violations only those count that the own writes caused in the direction.
+    fn value(
         &self,
         query: &Query,
         mappings: &MappingList,

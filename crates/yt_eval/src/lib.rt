@@ -16,6 +16,7 @@ mod view;
 mod watched;
 
 pub use crate::applied::AppliedView;
+pub use crate::settled::Settled;
 pub use crate::values::{eval, eval_all};
 pub use crate::view::View;
 pub use crate::watched::WatchedView;

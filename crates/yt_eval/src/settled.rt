@@ -2,17 +2,19 @@
 ghost use Rattle.std.specs.Prelude.{◌≡◌, ◌==◌, ℕ, true, false, Some, slice_index_or, slice_set, replicate, map, IfOk};
 ghost use Rattle.std.specs.List.{list_any};
 ghost use Rattle.yt_base.specs.Meanings.{change_of, pattern_of, rule_of};
-ghost use Rattle.yt_eval.specs.Watched.{stirs, touches as touches_lem, LoseMarks, LosesMark};
+ghost use Rattle.yt_eval.specs.Watched.{asks_settled, with_settled, stirs, touches as touches_lem, LoseMarks, LoseMarksTo, LosesMark};
 ghost use Rattle.yt_base.specs.Contents.{rules_in};
+ghost use Rattle.yt_query.specs.Meanings.{query_of};
 
 use crate::scopes::{FORCE_RELATION, relation_of};
 use std::alloc::Global;
 use std::marker::Model;
 use yt_base::{Atom, Mapping, MappingList, Memory, Write};
+use yt_query::Query;
 
 /// A mark for each mapping by number: whether it is settled. Contracts see the marks.
 #[derive(Drop)]
-pub(crate) struct Settled {
+pub struct Settled {
     marks: Vec<bool>,
 }
 
@@ -35,6 +37,25 @@ impl Settled {
         }
     }
 
+    /// So many mappings, none of them settled. It is refused only for want of memory.
+    pub fn none(alloc: Global, count: usize) -> Result<Settled, Memory>
+        ensures none { IfOk result (λ settled. settled ≡ replicate count false) }
+    {
+        match vec![in alloc; false; count] {
+            Ok(marks) => Ok(Settled { marks }),
+            Err(_) => Err(Memory),
+        }
+    }
+
+    /// Another one with the same marks. It is refused only for want of memory.
+    pub fn copy(&self, alloc: Global) -> Result<Settled, Memory>
+        ensures same { IfOk result (λ copy. copy ≡ self.now) }
+    {
+        let mut marks = Vec::new(alloc);
+        marks.extend_from_slice(&self.marks)?;
+        Ok(Settled { marks })
+    }
+
     /// A mark for each mapping by number.
     pub fn marks(&self) -> &[bool]
         ensures marks { result.now ≡ self.now }
@@ -55,6 +76,40 @@ impl Settled {
     {
         if let Some(mark) = self.marks.get_mut(number as usize) {
             *mark = true;
+        }
+    }
+
+    /// Whether the query asks for the first violation of a settled mapping.
+    pub fn knows(&self, query: &Query) -> bool
+        ensures known { result ≡ asks_settled self.now (query_of query.now) }
+    {
+        match query {
+            Query::Violation(number) => self.has(*number),
+            Query::Present(_) => false,
+            Query::Specific(_) => false,
+            Query::Occurs(_, _) => false,
+        }
+    }
+
+    /// Settles the mapping whose first violation the query asks for, if there is one.
+    pub fn learn(&mut self, query: &Query)
+        ensures learnt { self.new ≡ with_settled self.old (query_of query.now) }
+    {
+        match query {
+            Query::Violation(number) => self.settle(*number),
+            Query::Present(_) => {}
+            Query::Specific(_) => {}
+            Query::Occurs(_, _) => {}
+        }
+    }
+
+    /// Stirs the mappings to which one of the writes may give a violation.
+    pub fn stir_all(&mut self, mappings: &MappingList, writes: &[Write])
+        ensures left { LoseMarksTo (map change_of writes.now) (rules_in mappings.now) self.old
+            self.new }
+    {
+        for write in writes {
+            self.stir(mappings, write);
         }
     }
 

@@ -84,12 +84,12 @@ impl<'a, F: Facts> WatchedView<'a, F> {
             value_in self.old (query_of query.now)) }
         ensures same { self.new ≡ self.old }
     {
-        if self.is_settled(query) {
+        if self.settled.knows(query) {
             return Ok(Answer::Nothing);
         }
         let answer = self.view.eval(query, self.mappings, self.direction, alloc)?;
         if matches!(&answer, Answer::Nothing) {
-            self.settle(query);
+            self.settled.learn(query);
         }
         Ok(answer)
     }
@@ -99,30 +99,5 @@ impl<'a, F: Facts> WatchedView<'a, F> {
         ensures nothing { AreSettled self.now result.now }
     {
         self.settled.marks()
-    }
-
-    // Whether the query asks for the first violation of a settled mapping.
-    fn is_settled(&self, query: &Query) -> bool
-        ensures nothing { result ≡ true → value_in self.now (query_of query.now) ≡ Nothing }
-    {
-        match query {
-            Query::Violation(number) => self.settled.has(*number),
-            Query::Present(_) => false,
-            Query::Specific(_) => false,
-            Query::Occurs(_, _) => false,
-        }
-    }
-
-    // Settles the mapping whose first violation the query asks for, if there is one.
-    fn settle(&mut self, query: &Query)
-        requires nothing { value_in self.old (query_of query.now) ≡ Nothing }
-        ensures same { self.new ≡ self.old }
-    {
-        match query {
-            Query::Violation(number) => self.settled.settle(*number),
-            Query::Present(_) => {}
-            Query::Specific(_) => {}
-            Query::Occurs(_, _) => {}
-        }
     }
 }
