@@ -26,15 +26,18 @@ use Rattle.yt_model.specs.Mappings.{Rule}
 use Rattle.yt_model.specs.Repository.{IsRepository, apply}
 use Rattle.yt_model.specs.Values.{Fact}
 use Rattle.yt_model.specs.Updates.{Choice, Operation}
-use Rattle.yt_plan.specs.Planned.{at_rest, WantsStep, next_attempt, next_reads}
+use Rattle.yt_plan.specs.Planned.{at_rest, HasSettled, WantsStep, next_attempt, next_reads}
+use Rattle.yt_plan.specs.Settled.{is_valid_over, AreValidOver}
+use Rattle.yt_machine.specs.Reads.{is_valid}
+use Rattle.std.specs.List.{list_all}
 use Rattle.yt_program.specs.Wishes.{wish}
 use Rattle.yt_queue.specs.Programs.{HasNext}
 use Rattle.yt_queue.specs.Wants.{WantsNext}
 use Rattle.yt_plan.specs.declared.plans.Plan.{Plan}
-use Rattle.yt_query.specs.Meanings.{Read}
+use Rattle.yt_query.specs.Meanings.{Read, read_of}
 use Rattle.yt_steps.specs.Attempts.{Attempt}
 use Rattle.yt_program.specs.Courses.{State as ProgramState}
-use Rattle.yt_queue.specs.Queues.{update_of, updates_of, AreFrom}
+use Rattle.yt_queue.specs.Queues.{logged, update_of, updates_of, AreFrom}
 use Rattle.yt_queue.specs.Renewals.{AllHaveOneMore}
 use Rattle.yt_queue.specs.declared.records.Record.{Record}
 use Rattle.yt_session.specs.Meanings.{request_of, requests_in, update_of as session_update_of}
@@ -89,6 +92,11 @@ step_left g v rs H i c n r k spot ready =
     omega (arith, more)
 
 -- ---- numbers
+
+-- A test of each of the reads, in whatever form it has them.
+all_read : {A B : Type 0} (p : A → Bool) (f : A → B) (q : B → Bool) → ((x : A) → p x ≡ q (f x)) → (xs : List A) → list_all p xs ≡ list_all q (map f xs)
+all_read p f q same [] = refl
+all_read p f q same (x ∷ xs) = λ i. same x i && all_read p f q same xs i
 
 module _ (g : Ground) (v : Kept) (rs : List Record) (H : List PlainEntry) (s : State) (kept : IsKept g v rs H) (same : record { over = g; history = H } ≡ s) (n : ℕ) (st : Standing) (stands : standing_at s n ≡ Some st) where
   stands_here : option_map (standing (machine g) g.settings (committed (machine g) (updates_of g.rules g.budget rs)) n) (numbered_at (updates_of g.rules g.budget rs) n) ≡ Some st
@@ -145,7 +153,7 @@ module _ (g : Ground) (v : Kept) (rs : List Record) (H : List PlainEntry) (s : S
   }
 
   -- A ready update shows the writes of its attempt, so that the next update sees what it sees with them.
-  pub held_placed : AtPlace i qs (IsHeldBy v)
+  pub held_placed : AtPlace i qs (IsHeldBy g.rules v)
   held_placed r spot =
       let us : List (Update (machine g)) = updates_of g.rules g.budget rs in
       let u : Update (machine g) = update_of g.rules g.budget r in
@@ -161,6 +169,9 @@ module _ (g : Ground) (v : Kept) (rs : List Record) (H : List PlainEntry) (s : S
         applied =
             ap (λ m. seen (suc m) v) number ∙ sees (suc i) ∙ below_more (machine g) (chase_laws caused g.rules g.budget kept.budget) g.base us i u found
             ∙ (λ j. apply (sym (sees i) j) (own j)) ∙ ap (λ m. apply (seen m v) r.program.attempt.own) (sym number);
+        valid =
+            subst (λ (D : List Fact). AreValidOver g.rules D r.program.attempt (map read_of r.log.items)) (sym (ap (λ m. seen m v) number ∙ sees i))
+            (all_read (is_valid_over g.rules (below (machine g) g.base us i) r.program.attempt) (logged g.rules g.budget) (is_valid (machine g) u.operation (below (machine g) g.base us i) u.state.own) (λ x. refl) (map read_of r.log.items) ∙ (history_of g v rs H kept).valid i u (update_there g v rs H i r kept there));
         few = subst (λ (m : ℕ). m + 1 < 2 ^ 32) (sym number) (omega (arith, placed_within g v rs H s kept same n Ready stands i (sym e), kept.few));
       }
 
@@ -400,12 +411,22 @@ pub steps_left : (r : Record) (program : ProgramState) (B : ℕ) → program ≡
 steps_left r program B e l = subst (λ (p : ProgramState). p.attempt.steps < B) (sym e) l
 
 -- The versions that were shared have the writes of the attempt too.
-pub stands_applied : (v w : Kept) (r : Record) (n : ℕ) (program : ProgramState) → w ≡ v → n ≡ r.program.attempt.number → program ≡ r.program → IsHeldBy v r → seen (suc n) w ≡ apply (seen n w) program.attempt.own
-stands_applied v w r n program versions number same held =
+pub stands_applied : (ms : List Rule) (v w : Kept) (r : Record) (n : ℕ) (program : ProgramState) → w ≡ v → n ≡ r.program.attempt.number → program ≡ r.program → IsHeldBy ms v r → seen (suc n) w ≡ apply (seen n w) program.attempt.own
+stands_applied ms v w r n program versions number same held =
     (λ i. seen (suc (number i)) (versions i)) ∙ held.applied ∙ sym (λ i. apply (seen (number i) (versions i)) (same i).attempt.own)
 
-pub number_few : (v : Kept) (r : Record) (n : ℕ) → n ≡ r.program.attempt.number → IsHeldBy v r → n + 1 < 2 ^ 32
-number_few v r n e held = subst (λ (m : ℕ). m + 1 < 2 ^ 32) (sym e) held.few
+-- Over what the update sees its writes have caused no violation of the settled mappings.
+pub has_settled : (ms ks : List Rule) (v w : Kept) (r : Record) (n : ℕ) (program : ProgramState) (marks : List Bool) → ks ≡ ms → w ≡ v → n ≡ r.program.attempt.number → program ≡ r.program → IsHeldBy ms v r
+    → ((D : List Fact) → AreValidOver ms D r.program.attempt (map read_of r.log.items) → HasSettled ms D r.program.attempt marks) → HasSettled ks (seen n w) program.attempt marks
+has_settled ms ks v w r n program marks rules versions number same held tells =
+    let here : HasSettled ms (seen r.program.attempt.number v) r.program.attempt marks = tells (seen r.program.attempt.number v) held.valid in
+    subst (λ (l : List Rule). HasSettled l (seen n w) program.attempt marks) (sym rules)
+    (subst (λ (u : Kept). HasSettled ms (seen n u) program.attempt marks) (sym versions)
+    (subst (λ (m : ℕ). HasSettled ms (seen m v) program.attempt marks) (sym number)
+    (subst (λ (p : ProgramState). HasSettled ms (seen r.program.attempt.number v) p.attempt marks) (sym same) here)))
+
+pub number_few : (ms : List Rule) (v : Kept) (r : Record) (n : ℕ) → n ≡ r.program.attempt.number → IsHeldBy ms v r → n + 1 < 2 ^ 32
+number_few ms v r n e held = subst (λ (m : ℕ). m + 1 < 2 ^ 32) (sym e) held.few
 
 pub snapshot_taken : (ms ks : List Rule) (B : ℕ) (v w : Kept) (r : Record) (n : ℕ) (program : ProgramState) (a : Option Choice) → ks ≡ ms → w ≡ v → n ≡ r.program.attempt.number → program ≡ r.program → HasNext r a
     → IsSnapshotOf ms B v r (record { update = n; program = at_rest (next_attempt ks B (seen n w) program.attempt a); reads = next_reads ks (seen n w) program.attempt a })

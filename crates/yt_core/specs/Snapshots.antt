@@ -4,7 +4,7 @@ use Rattle.std.specs.Option.{option_map}
 use Rattle.yt_base.specs.Meanings.{choice_of}
 use Rattle.yt_model.specs.Repository.{apply}
 use Rattle.yt_program.specs.Wishes.{wish}
-use Rattle.yt_plan.specs.Planned.{at_rest, WantsStep, next_attempt, next_reads}
+use Rattle.yt_plan.specs.Planned.{at_rest, HasSettled, WantsStep, next_attempt, next_reads}
 use Rattle.yt_versions.specs.Standing.{seen}
 use Rattle.yt_core.specs.Planned.{PlanMeant}
 use Rattle.yt_core.specs.declared.plans.Snapshot.TheInside.{Inside}
@@ -18,9 +18,11 @@ planned_by v =
       reads = next_reads v.mappings (seen v.update v.versions) v.program.attempt (option_map choice_of v.answer);
     }
 
--- Its program can make a step with the answer, and the versions have the writes of the attempt.
+-- Its program can make a step with the answer, the versions have the writes of the attempt, and these have caused no
+-- violation of the mappings that are settled.
 pub record CanStep (v : Inside) : Type 0 where
   pub wanted : WantsStep (wish v.program) (option_map choice_of v.answer)
   pub left : v.program.attempt.steps < v.budget
   pub applied : seen (suc v.update) v.versions ≡ apply (seen v.update v.versions) v.program.attempt.own
   pub few : v.update + 1 < 2 ^ 32
+  pub settled : HasSettled v.mappings (seen v.update v.versions) v.program.attempt v.settled

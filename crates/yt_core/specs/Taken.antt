@@ -6,6 +6,8 @@ use Rattle.yt_machine.specs.Updates.{Settings}
 use Rattle.yt_model.specs.Mappings.{Rule}
 use Rattle.yt_model.specs.Repository.{apply}
 use Rattle.yt_plan.specs.Planned.{at_rest, next_attempt, next_reads}
+use Rattle.yt_plan.specs.Settled.{AreValidOver}
+use Rattle.yt_query.specs.Meanings.{read_of}
 use Rattle.yt_queue.specs.Queues.{update_of}
 use Rattle.yt_queue.specs.declared.records.Record.{Record}
 use Rattle.yt_steps.specs.Chase.{caused_chase}
@@ -25,10 +27,12 @@ pub record IsReadySomewhere (r : Record) : Type 0 where
   pub number : ℕ
   pub ready : is_ready (standing (caused_chase rules budget) settings committed number (update_of rules budget r)) ≡ true
 
--- The versions have the writes of its attempt, and its number is not the last that there is.
-pub record IsHeldBy (v : Kept) (r : Record) : Type 0 where
+-- The versions have the writes of its attempt, whose reads are valid over what it sees; and its number is not the last that
+-- there is.
+pub record IsHeldBy (ms : List Rule) (v : Kept) (r : Record) : Type 0 where
   pub applied : seen (suc r.program.attempt.number) v ≡ apply (seen r.program.attempt.number v) r.program.attempt.own
   pub few : r.program.attempt.number + 1 < 2 ^ 32
+  pub valid : AreValidOver ms (seen r.program.attempt.number v) r.program.attempt (map read_of r.log.items)
 
 -- It plans the next step of the record's attempt over what its update sees.
 pub record IsSnapshotOf (ms : List Rule) (B : ℕ) (v : Kept) (r : Record) (p : PlanMeant) : Type 0 where

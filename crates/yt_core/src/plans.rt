@@ -12,8 +12,9 @@ ghost use Rattle.yt_core.specs.Taken.{AtPlace, IsHeldBy, IsReadySomewhere, IsSna
 use std::alloc::Global;
 use std::marker::Model;
 use yt_base::{Choice, MappingList, Memory, TryCopy};
+use yt_eval::Settled;
 use yt_limits::{Budget, Mappings};
-use yt_plan::{Plan as Planned, plan_step};
+use yt_plan::{Plan as Planned, plan_step, settled_by};
 use yt_program::Program;
 use yt_query::LoggedRead;
 use yt_queue::Record;
@@ -69,6 +70,7 @@ pub struct Snapshot<'s> {
     pub(crate) update: u32,
     pub(crate) program: Program,
     pub(crate) answer: Option<Choice>,
+    pub(crate) settled: Settled,
 }
 
 impl<'s> Model for Snapshot<'s> {
@@ -91,6 +93,7 @@ impl<'s> Snapshot<'s> {
         let with = self.versions.below(self.update + 1);
         let answer = lent(&self.answer);
         let mappings = &self.mappings;
+        let settled = self.settled.copy(alloc)?;
         let step = plan_step(
             alloc,
             &self.program,
@@ -99,6 +102,7 @@ impl<'s> Snapshot<'s> {
             self.budget,
             &below,
             &with,
+            settled,
         )?;
         Ok(Plan {
             update: self.update,
@@ -128,7 +132,8 @@ pub(crate) fn snapshot_at<'s>(
     requires numbers { AreFrom 1 queue.now }
     requires ready { AtPlace place queue.now IsReadySomewhere }
     requires left { AtPlace place queue.now (λ r. r.program.attempt.steps < budget) }
-    requires held { AtPlace place queue.now (IsHeldBy versions.now) }
+    requires held { AtPlace place queue.now (IsHeldBy (map rule_of mappings.now.items)
+        versions.now) }
     ensures taken { IfOk result (λ snapshot. AtPlace place queue.now (λ r. IsSnapshotOf
         (map rule_of mappings.now.items) budget versions.now r snapshot)) }
 {
@@ -149,12 +154,13 @@ fn snapshot_of<'s>(
     requires between { IsBetween item.now.program }
     requires ready { IsReadySomewhere item.now }
     requires left { item.now.program.attempt.steps < budget }
-    requires held { IsHeldBy versions.now item.now }
+    requires held { IsHeldBy (map rule_of mappings.now.items) versions.now item.now }
     ensures taken { IfOk result (IsSnapshotOf (map rule_of mappings.now.items) budget versions.now
         item.now) }
 {
     let answer = next_answer(alloc, item)?;
     let program = item.program.copy(alloc)?;
+    let settled = settled_by(alloc, mappings, &item.program, item.log.as_slice())?;
     let versions = versions.share()?;
     Ok(Snapshot {
         mappings: Mappings::of(mappings),
@@ -163,6 +169,7 @@ fn snapshot_of<'s>(
         update: item.number(),
         program,
         answer,
+        settled,
     })
 }
 

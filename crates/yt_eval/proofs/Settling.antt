@@ -1,18 +1,19 @@
 -- Mappings that have no violation which the own writes caused: all of them at the start, and after a write those that it does not stir.
-use Rattle.std.proofs.Common.{◌≡◌, append-nil, append_assoc, ℕ, ap, refl, sym, ◌∙◌, subst, List, [], ◌∷◌, ◌++◌, Bool, true, false, not, ◌||◌, ◌&&◌, cond, length, Option, Some, None, slice_index_or}
+use Rattle.std.proofs.Common.{◌≡◌, ◌⊎◌, inl, inr, append-nil, append_assoc, slice_set, ℕ, ap, refl, sym, ◌∙◌, subst, List, [], ◌∷◌, ◌++◌, Bool, true, false, not, ◌||◌, ◌&&◌, cond, length, Option, Some, None, slice_index_or}
 use Rattle.std.specs.List.{list_any, slice_get}
 use Rattle.std.specs.Prelude.{◌==◌}
-use Rattle.std.proofs.lemmas.Bool.{and_parts, not-true, eqb-false}
+use Rattle.std.proofs.lemmas.Bool.{and_parts, not-true, eqb-true, eqb-false}
+use Rattle.std.proofs.lemmas.List.{get_or-set_other}
 use Rattle.yt_model.specs.Values.{Fact}
 use Rattle.yt_model.specs.Repository.{Change, Insert, Delete, apply, inserts}
 use Rattle.yt_model.specs.Mappings.{Rule, force, force_relation}
 use Rattle.yt_model.specs.Matching.{Known, nothing_known, learn_all, lists_of, extends}
-use Rattle.yt_model.specs.Queries.{Nothing, Violation, image_reply, violation_reply, scope_at, value}
+use Rattle.yt_model.specs.Queries.{Query, Present, Specific, Occurs, Nothing, Violation, image_reply, violation_reply, scope_at, value}
 use Rattle.yt_model.specs.Violations.{Direction, Forward, Backward, Every, Caused, in_scope, violated_at, violates, first_violation}
 use Rattle.yt_model.proofs.Bools.{first_off, and-false}
 use Rattle.yt_model.proofs.Searches.{any_join, find_none}
 use Rattle.yt_eval.specs.Seen.{Seen, written}
-use Rattle.yt_eval.specs.Watched.{Watched, watched_on, seen_over, relation_in, touches, stirs, LoseMarksTo, AreSettled}
+use Rattle.yt_eval.specs.Watched.{Watched, watched_on, seen_over, value_in, relation_in, touches, stirs, with_settled, LoseMarksTo, AreSettled}
 use Rattle.yt_eval.proofs.Written.{apply_one_more}
 use Rattle.yt_eval.proofs.OtherRelations.{differ_by_relation, none_stays}
 
@@ -90,6 +91,26 @@ with_write v w marks left a h n e =
 pub settled_with : (ms : List Rule) (d : Direction) (s t : Seen) (w : Change) (marks left : List Bool)
     → AreSettled (seen_over ms d s) marks → Left ms w marks left → t ≡ written s (w ∷ []) → AreSettled (seen_over ms d t) left
 settled_with ms d s t w marks left a h e = subst (λ (u : Seen). AreSettled (seen_over ms d u) left) (sym e) (with_write (seen_over ms d s) w marks left a h)
+
+-- ---- what an answer tells
+
+marked : (marks : List Bool) (n m : ℕ) → slice_index_or (slice_set marks n true) m false ≡ true → (m ≡ n) ⊎ (slice_index_or marks m false ≡ true)
+marked marks n m h = by (m == n) refl
+  where
+    by : (b : Bool) → (m == n) ≡ b → (m ≡ n) ⊎ (slice_index_or marks m false ≡ true)
+    by true e = inl (eqb-true m n e)
+    by false e = inr (sym (get_or-set_other marks n m true false (eqb-false m n e)) ∙ h)
+
+-- Where a query has the answer that there is none its mapping may have a mark.
+pub learnt_nothing : (w : Watched) (marks : List Bool) (q : Query) → AreSettled w marks → value_in w q ≡ Nothing → AreSettled w (with_settled marks q)
+learnt_nothing w marks (Present t) a e = a
+learnt_nothing w marks (Violation n) a e = λ m f. by m (marked marks n m f)
+  where
+    by : (m : ℕ) → (m ≡ n) ⊎ (slice_index_or marks m false ≡ true) → value w.rules (Violation m) w.below w.own (Caused w.heading) ≡ Nothing
+    by m (inl same) = ap (λ k. value w.rules (Violation k) w.below w.own (Caused w.heading)) same ∙ e
+    by m (inr f) = a m f
+learnt_nothing w marks (Specific t) a e = a
+learnt_nothing w marks (Occurs u k) a e = a
 
 -- ---- several own writes more
 

@@ -1,11 +1,12 @@
 -- The next step of an attempt over what lies below it: the attempt after it, and its reads.
-use Rattle.std.specs.Prelude.{◌≡◌, ℕ, List, length, map, Option, Some, None}
+use Rattle.std.specs.Prelude.{◌≡◌, ℕ, Bool, List, length, map, Option, Some, None}
 use Rattle.yt_machine.specs.Trees.{result_of, log_of}
 use Rattle.yt_model.specs.Values.{Fact}
 use Rattle.yt_model.specs.Mappings.{Rule}
 use Rattle.yt_model.specs.Queries.{Query, Reply, value}
 use Rattle.yt_model.specs.Updates.{Choice, direction_of}
 use Rattle.yt_model.specs.Violations.{Caused}
+use Rattle.yt_eval.specs.Watched.{AreSettled}
 use Rattle.yt_query.specs.Meanings.{Read}
 use Rattle.yt_steps.specs.Attempts.{Attempt}
 use Rattle.yt_steps.specs.Steps.{step, moved}
@@ -24,6 +25,10 @@ WantsStep w (Some c) = Fits w c
 -- How its queries are answered over D: of violations those count that it caused.
 abbrev pub answers_over : List Rule → List Fact → Attempt → Query → Reply
 answers_over ms D P q = value ms q D P.own (Caused (direction_of P.operation))
+
+-- Over D its writes have caused no violation of the mappings with a mark.
+abbrev pub HasSettled : List Rule → List Fact → Attempt → List Bool → Type 0
+HasSettled ms D P marks = AreSettled (record { rules = ms; heading = direction_of P.operation; below = D; own = P.own }) marks
 
 -- The attempt after its next step over D, with this answer if it is at a question.
 abbrev pub next_attempt : List Rule → ℕ → List Fact → Attempt → Option Choice → Attempt

@@ -2,5 +2,7 @@
 #![tactic(auto)]
 
 mod plans;
+mod settling;
 
 pub use crate::plans::{Plan, plan_step};
+pub use crate::settling::settled_by;

@@ -6,15 +6,16 @@ ghost use Rattle.yt_model.specs.Queries.{value};
 ghost use Rattle.yt_model.specs.Repository.{IsRepository, apply};
 ghost use Rattle.yt_model.specs.Violations.{Caused};
 ghost use Rattle.yt_base.specs.Meanings.{choice_of, heading_of};
+ghost use Rattle.yt_eval.specs.Watched.{AreSettled, seen_over};
 ghost use Rattle.yt_query.specs.Meanings.{read_of};
 ghost use Rattle.yt_steps.specs.Steps.{step};
 ghost use Rattle.yt_program.specs.Courses.{coming_to, course};
 ghost use Rattle.yt_program.specs.Wishes.{wish};
-ghost use Rattle.yt_plan.specs.Planned.{at_rest, WantsStep, next_attempt, next_reads, read_after};
+ghost use Rattle.yt_plan.specs.Planned.{at_rest, HasSettled, WantsStep, next_attempt, next_reads, read_after};
 
 use std::alloc::Global;
 use yt_base::{Choice, Direction, Facts, Memory, TryCopy};
-use yt_eval::AppliedView;
+use yt_eval::{AppliedView, Settled};
 use yt_limits::{Budget, Mappings};
 use yt_program::{Program, Want};
 use yt_query::{LoggedRead, ReadLog};
@@ -27,7 +28,8 @@ pub struct Plan {
 }
 
 /// The next step of the attempt over what lies below it, with the answer where it is at a question. `with` is what lies
-/// below it with its own writes applied. The attempt stays as it is. It is refused only for want of memory.
+/// below it with its own writes applied, and `settled` the mappings of which it is known that they have no violation that
+/// these caused. The attempt stays as it is. It is refused only for want of memory.
 pub fn plan_step<F: Facts>(
     alloc: Global,
     program: &Program,
@@ -36,8 +38,10 @@ pub fn plan_step<F: Facts>(
     budget: Budget,
     below: &F,
     with: &F,
+    settled: Settled,
 ) -> Result<Plan, Memory>
     requires applied { F.tuples with.now ≡ apply (F.tuples below.now) program.now.attempt.own }
+    requires settled { HasSettled mappings.now (F.tuples below.now) program.now.attempt settled }
     requires wanted { WantsStep (wish program.now) (option_map choice_of (option_copied choice)) }
     requires left { program.now.attempt.steps < budget }
     ensures program { IfOk result (λ plan.
@@ -58,7 +62,10 @@ pub fn plan_step<F: Facts>(
     begin(alloc, &mut after, choice, mappings, budget)?;
     let made = own.len() as u64;
     let direction = program.direction();
-    let reads = answer_all(alloc, &mut after, &view, mappings, direction, made)?;
+    let mut known = settled;
+    let reads = answer_all(
+        alloc, &mut after, &view, &mut known, mappings, direction, made,
+    )?;
     Ok(Plan {
         program: after,
         reads,
@@ -93,11 +100,14 @@ fn answer_all<F: Facts>(
     alloc: Global,
     program: &mut Program,
     view: &AppliedView<'_, F>,
+    settled: &mut Settled,
     mappings: &Mappings<'_>,
     direction: Direction,
     made: u64,
 ) -> Result<ReadLog, Memory>
     requires sorted { IsRepository view.now.below }
+    requires settled { AreSettled (seen_over mappings.now (heading_of direction) view.now)
+        settled.old }
     ensures answered { OnOk result
         (program.new
         ≡ at_rest
@@ -118,7 +128,7 @@ fn answer_all<F: Facts>(
             return Ok(reads);
         };
         let query = query.copy(alloc)?;
-        let answer = view.eval(&query, mappings.list(), direction, alloc)?;
+        let answer = view.eval(&query, mappings.list(), direction, settled, alloc)?;
         program.take(alloc, &answer, mappings)?;
         reads.push(LoggedRead {
             query,

@@ -1,9 +1,11 @@
-use Rattle.std.proofs.Common.{◌≡◌, ◌∙◌, ap, map, sym, subst}
+use Rattle.std.proofs.Common.{◌≡◌, ◌∙◌, ap, sym, subst, List}
 use Rattle.yt_machine.specs.Trees.{result_of}
 use Rattle.yt_model.specs.Queries.{Query, Reply, value}
+use Rattle.yt_model.specs.Mappings.{Rule}
 use Rattle.yt_model.specs.Violations.{Caused}
 use Rattle.yt_base.specs.Meanings.{heading_of}
 use Rattle.yt_query.specs.Kinds.{IsOfKind}
+use Rattle.yt_eval.specs.Watched.{AreSettled, seen_over}
 use Rattle.yt_query.specs.Meanings.{query_of, reply_of}
 use Rattle.yt_query.proofs.OfKind.{values_are_of_kind}
 use Rattle.yt_program.specs.Courses.{course}
@@ -44,4 +46,5 @@ queries-preserved g c =
       read =
           reads_on val c.args.made (course ms c.queries.program) (course ms c.take.new.self) q a c.queries.reads.items _ _ _ on
           c.in_ok-take.ensures.step c.in_ok-push.ensures.ok (λ i. record { query = c.in_ok-query.ensures.same i; reply = a; own = c.args.made }) c.queries.invariant.read;
+      settled = subst (λ (rules : List Rule). AreSettled (seen_over rules (heading_of c.args.direction) c.args.view.now) c.eval.new.settled) c.list.ensures.rules c.eval.ensures.settled;
     }

@@ -3,12 +3,13 @@ use Rattle.yt_machine.specs.Trees.{result_of, log_of}
 use Rattle.yt_model.specs.Queries.{value}
 use Rattle.yt_model.specs.Violations.{Caused}
 use Rattle.yt_base.specs.Meanings.{heading_of}
+use Rattle.yt_eval.specs.Watched.{AreSettled, seen_over}
 use Rattle.yt_query.specs.Meanings.{read_of}
 use Rattle.yt_program.specs.Courses.{course}
 use Rattle.yt_plan.specs.Planned.{read_after}
 use Rattle.yt_plan.proofs.plans.answer_all.Given as goal
 
--- What is still asked leads to the result of the whole; the reads made and those still to come are all.
+-- What is still asked leads to the result of the whole; the reads made and those still to come are all; what is settled is so.
 abbrev pub invariant-queries : goal.invariant-queries
 invariant-queries g l = record {
   together :
@@ -17,6 +18,7 @@ invariant-queries g l = record {
   read :
       map read_of l.reads.items ++ map (read_after l.made) (log_of (λ q. value l.mappings q l.view.below l.view.own (Caused (heading_of l.direction))) (course l.mappings l.program))
       ≡ map (read_after l.made) (log_of (λ q. value l.mappings q l.view.below l.view.own (Caused (heading_of l.direction))) (course l.mappings l.fn.program));
+  settled : AreSettled (seen_over l.mappings (heading_of l.direction) l.view) l.settled;
 }
 
 -- How many queries are left.

@@ -1,8 +1,7 @@
-use Rattle.std.proofs.Common.{◌∙◌, ap, map, List, [], ◌++◌}
+use Rattle.std.proofs.Common.{◌∙◌, ap}
 use Rattle.std.specs.Option.{option_map, option_copied}
-use Rattle.yt_base.specs.Meanings.{change_of, choice_of, heading_of}
-use Rattle.yt_base.specs.declared.updates.Write.{Write}
-use Rattle.yt_eval.specs.Seen.{Seen, written}
+use Rattle.yt_base.specs.Meanings.{choice_of, heading_of}
+use Rattle.yt_eval.specs.Seen.{Seen}
 use Rattle.yt_steps.specs.Steps.{step}
 use Rattle.yt_program.specs.Courses.{State, coming_to, course}
 use Rattle.yt_plan.specs.Planned.{at_rest}

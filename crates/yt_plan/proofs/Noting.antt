@@ -1,0 +1,70 @@
+-- What the reads of a log tell of mappings.
+use Rattle.std.proofs.Common.{◌≡◌, ◌∙◌, ap, refl, sym, subst, ℕ, zero, suc, slice_index_or, replicate, Bool, true, false, if◌then◌else◌, ◌&&◌, List, [], ◌∷◌, ◌++◌, map, take, drop}
+use Rattle.std.specs.List.{list_all}
+use Rattle.std.proofs.lemmas.Bool.{false≢true, and_parts}
+use Rattle.std.proofs.lemmas.List.{take-append-drop}
+use Rattle.std.proofs.lemmas.List.Folds.{list_all-append}
+use Rattle.yt_model.specs.Values.{Fact}
+use Rattle.yt_model.specs.Mappings.{Rule}
+use Rattle.yt_model.specs.Queries.{Reply, Yes, No, Image, Nothing, Tuples, same_reply}
+use Rattle.yt_model.specs.Repository.{Change}
+use Rattle.yt_model.specs.Updates.{direction_of}
+use Rattle.yt_eval.specs.Watched.{AreSettled, LoseMarksTo, with_settled}
+use Rattle.yt_eval.proofs.Settling.{learnt_nothing, settled_after}
+use Rattle.yt_query.specs.Meanings.{Read, read_of}
+use Rattle.yt_query.specs.declared.log.LoggedRead.{LoggedRead}
+use Rattle.yt_steps.specs.Attempts.{Attempt}
+use Rattle.yt_plan.specs.Planned.{HasSettled}
+use Rattle.yt_plan.specs.Settled.{is_valid_over, AreValidOver, HasSettledBy, noted}
+
+is_nothing : (a b : Reply) → same_reply a Nothing ≡ true → same_reply a b ≡ true → b ≡ Nothing
+is_nothing Nothing Nothing e f = refl
+is_nothing Nothing Yes e f = absurd (false≢true f)
+is_nothing Nothing No e f = absurd (false≢true f)
+is_nothing Nothing (Image xs) e f = absurd (false≢true f)
+is_nothing Nothing (Tuples xs) e f = absurd (false≢true f)
+is_nothing Yes b e f = absurd (false≢true e)
+is_nothing No b e f = absurd (false≢true e)
+is_nothing (Image xs) b e f = absurd (false≢true e)
+is_nothing (Tuples xs) b e f = absurd (false≢true e)
+
+-- A valid read may be noted.
+noted_right : (n : ℕ) (ms : List Rule) (D : List Fact) (P : Attempt) (marks : List Bool) (r : Read) → r.own ≡ n → is_valid_over ms D P r ≡ true → HasSettledBy n ms D P marks → HasSettledBy n ms D P (noted marks r)
+noted_right n ms D P marks r own valid settled = by (same_reply r.reply Nothing) refl
+  where
+    by : (b : Bool) → same_reply r.reply Nothing ≡ b → HasSettledBy n ms D P (if b then with_settled marks r.query else marks)
+    by true e =
+        subst (λ (m : ℕ). HasSettledBy m ms D P (with_settled marks r.query)) own
+        (learnt_nothing _ marks r.query (subst (λ (m : ℕ). HasSettledBy m ms D P marks) (sym own) settled) (is_nothing r.reply _ e valid))
+    by false e = settled
+
+map_last : (rs : List LoggedRead) (r : LoggedRead) → map read_of (rs ++ r ∷ []) ≡ map read_of rs ++ read_of r ∷ []
+map_last [] r = refl
+map_last (q ∷ rs) r = ap (λ xs. read_of q ∷ xs) (map_last rs r)
+
+-- The last of the reads is valid, and those before it.
+pub last_valid : (ms : List Rule) (D : List Fact) (P : Attempt) (all before : List LoggedRead) (r : LoggedRead) → all ≡ before ++ r ∷ [] → AreValidOver ms D P (map read_of all)
+    → AreValidOver ms D P (map read_of before) × (is_valid_over ms D P (read_of r) ≡ true)
+last_valid ms D P all before r e valid =
+    let parts = and_parts (list_all (is_valid_over ms D P) (map read_of before)) (is_valid_over ms D P (read_of r) && true)
+    (sym (list_all-append (is_valid_over ms D P) (map read_of before) (read_of r ∷ [])) ∙ ap (list_all (is_valid_over ms D P)) (sym (ap (map read_of) e ∙ map_last before r)) ∙ valid) in
+    (parts.0, (and_parts (is_valid_over ms D P (read_of r)) true parts.1).0)
+
+pub note_right : (n : ℕ) (ms : List Rule) (D : List Fact) (P : Attempt) (marks marks' : List Bool) (r : LoggedRead) → r.own ≡ n → marks' ≡ noted marks (read_of r)
+    → is_valid_over ms D P (read_of r) ≡ true → HasSettledBy n ms D P marks → HasSettledBy n ms D P marks'
+note_right n ms D P marks marks' r own e valid settled = subst (λ xs. HasSettledBy n ms D P xs) (sym e) (noted_right n ms D P marks (read_of r) own valid settled)
+
+-- What the first writes have left settled, and none of the later ones stirred, all of them have.
+pub settled_since : (n : ℕ) (ms : List Rule) (D : List Fact) (P : Attempt) (marks left : List Bool) (ws : List Change) → ws ≡ drop n P.own → LoseMarksTo ws ms marks left → HasSettledBy n ms D P marks → HasSettled ms D P left
+settled_since n ms D P marks left ws e loses settled =
+    subst (λ (own : List Change). AreSettled (record { rules = ms; heading = direction_of P.operation; below = D; own = own }) left) (ap (λ xs. take n P.own ++ xs) e ∙ take-append-drop n P.own)
+    (settled_after (record { rules = ms; heading = direction_of P.operation; below = D; own = take n P.own }) ws marks left settled loses)
+
+none_marked : (n m : ℕ) → slice_index_or (replicate n false) m false ≡ false
+none_marked zero m = refl
+none_marked (suc n) zero = refl
+none_marked (suc n) (suc m) = none_marked n m
+
+-- With no mark there is nothing to show.
+pub nothing_settled : (k n : ℕ) (ms : List Rule) (D : List Fact) (P : Attempt) (marks : List Bool) → marks ≡ replicate k false → HasSettledBy n ms D P marks
+nothing_settled k n ms D P marks e m h = absurd (false≢true (sym (none_marked k m) ∙ sym (ap (λ (xs : List Bool). slice_index_or xs m false) e) ∙ h))

@@ -1,0 +1,75 @@
+//! Mappings that need not be searched anew: what the last reads of an attempt told is true still.
+ghost use Rattle.std.specs.Prelude.{◌≡◌, List, drop, map, IfOk};
+ghost use Rattle.yt_base.specs.Contents.{rules_in};
+ghost use Rattle.yt_base.specs.Meanings.{change_of};
+ghost use Rattle.yt_model.specs.Mappings.{Rule};
+ghost use Rattle.yt_model.specs.Values.{Fact};
+ghost use Rattle.yt_query.specs.Meanings.{read_of};
+ghost use Rattle.yt_steps.specs.Attempts.{Attempt};
+ghost use Rattle.yt_plan.specs.Planned.{HasSettled};
+ghost use Rattle.yt_plan.specs.Settled.{AreValidOver, HasSettledBy, noted as noted_lem};
+
+use std::alloc::Global;
+use yt_base::{MappingList, Memory, Write};
+use yt_eval::Settled;
+use yt_program::Program;
+use yt_query::{Answer, LoggedRead};
+
+/// The mappings of which the last reads of the attempt tell that its writes have caused no violation, but for those to
+/// which a write since then may have given one. That is so over any tuples over which its reads are valid, as they are
+/// over what lies below an update at any moment of a history. It is refused only for want of memory.
+pub fn settled_by(
+    alloc: Global,
+    mappings: &MappingList,
+    program: &Program,
+    log: &[LoggedRead],
+) -> Result<Settled, Memory>
+    ensures settled { IfOk result (λ settled. (D : List Fact) →
+        AreValidOver (rules_in mappings.now) D program.now.attempt (map read_of log.now) →
+        HasSettled (rules_in mappings.now) D program.now.attempt settled) }
+{
+    let mut settled = Settled::none(alloc, mappings.len())?;
+    let Some(last) = log.last() else {
+        return Ok(settled);
+    };
+    learn_last(&mut settled, log, last.own);
+    settled.stir_all(mappings, since(program.own().as_slice(), last.own));
+    Ok(settled)
+}
+
+// Learns of the last reads, by an attempt that had made so many writes.
+fn learn_last(settled: &mut Settled, log: &[LoggedRead], made: u64)
+    ensures learnt { (ms : List Rule) (D : List Fact) (P : Attempt) →
+        AreValidOver ms D P (map read_of log.now) →
+        HasSettledBy made ms D P settled.old → HasSettledBy made ms D P settled.new }
+{
+    let mut rest = log;
+    'reads: while let Some((read, before)) = rest.split_last() {
+        if read.own != made {
+            return;
+        }
+        note(settled, read);
+        rest = before;
+    }
+}
+
+// Settles the mapping of which the read tells that it has no violation, if it does.
+fn note(settled: &mut Settled, read: &LoggedRead)
+    ensures noted { settled.new ≡ noted_lem settled.old (read_of read.now) }
+{
+    if matches!(&read.answer, Answer::Nothing) {
+        settled.learn(&read.query);
+    }
+}
+
+// The writes behind the first so many.
+fn since(own: &[Write], made: u64) -> &[Write]
+    ensures since { map change_of result.now ≡ drop made (map change_of own.now) }
+{
+    let first = made as usize;
+    if first <= own.len() {
+        &own[first..]
+    } else {
+        &[]
+    }
+}
