@@ -12,7 +12,7 @@ pub fn reads_at_most(queue: &[Record], most: u32) -> u32
     ensures within { result ≤ length queue.now }
 {
     let mut count = within(queue, most);
-    while count > 0 {
+    'updates: while count > 0 {
         if has_read(&queue[count as usize - 1]) {
             return count;
         }
