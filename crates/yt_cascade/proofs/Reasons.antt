@@ -42,7 +42,7 @@ use Rattle.yt_cascade.proofs.Firsts.{paired, first_is, reached_is, writer_is}
 -- ---- where a cause is looked for
 
 -- Where the update isn't live, or nothing is found, there is none.
-idle : {A : Type 0} (conflicting live some : Bool) (X Y : Option A) → (live ≡ true → X ≡ None) → (live ≡ true → Y ≡ None)
+pub idle : {A : Type 0} (conflicting live some : Bool) (X Y : Option A) → (live ≡ true → X ≡ None) → (live ≡ true → Y ≡ None)
     → or_else (if conflicting then (if live then X else None) else None) (if live && some then Y else None) ≡ None
 idle true true true X Y f g = (λ i. or_else (f refl i) (g refl i))
 idle true true false X Y f g = (λ i. or_else (f refl i) None)

@@ -1,32 +1,38 @@
 -- One turn of the walk upwards.
 use Rattle.std.proofs.Common.{◌≡◌, ◌∙◌, ap, refl, sym, subst, ℕ, suc, ◌+◌, ◌<◌, ◌≤◌, Bool, true, false, List, [], ◌∷◌, ◌++◌, Option, Some, None, is_some, append_assoc, append-nil, length, drop, get_or, map}
 use Rattle.std.proofs.lemmas.Bool.{both_ways}
-use Rattle.std.proofs.lemmas.List.{map-append, drop_all}
+use Rattle.std.proofs.lemmas.List.{map-append, drop-map}
 use Rattle.yt_conflict.specs.Concerns.{AgreeBut}
 use Rattle.yt_conflict.specs.Trails.{writes_of, trails_of}
 use Rattle.yt_conflict.specs.declared.concerns.Trail.{Trail}
 use Rattle.yt_conflict.proofs.Staying.{agree_alone, agree_after, agree_more}
 use Rattle.yt_entries.specs.declared.causes.Cause.{Cause as CauseOfProgram}
-use Rattle.yt_machine.specs.Cascade.{Cause, Member, with_member, without_member}
+use Rattle.std.specs.Prelude.{not}
+use Rattle.std.specs.Option.{option_map}
+use Rattle.yt_machine.specs.Cascade.{Cause, Conflict, Depends, Member, is_live, read_depends, writer_for, with_member, without_member}
 use Rattle.yt_machine.specs.Machine.{Machine}
+use Rattle.yt_machine.specs.Reads.{Changed, first_that, is_valid, value_now}
 use Rattle.yt_machine.specs.Runs.{AreRuns}
 use Rattle.yt_machine.specs.Settle.{cause_of, settle}
-use Rattle.yt_machine.specs.Updates.{Update, Deps, trail}
+use Rattle.yt_machine.specs.Standings.{is_nil}
+use Rattle.yt_machine.specs.Updates.{Read, Update, Deps, trail}
 use Rattle.yt_model.proofs.Sets.{apply_in_order}
 use Rattle.yt_model.specs.Mappings.{Rule}
 use Rattle.yt_model.specs.Repository.{Change, IsRepository, apply}
 use Rattle.yt_model.specs.Values.{Fact}
 use Rattle.std.specs.List.{flat_map}
 use Rattle.yt_queue.specs.Queues.{update_of, updates_of, AreFrom, StandsAt}
+use Rattle.yt_queue.specs.Walks.{AreUnread, ReadsAtMost}
 use Rattle.yt_queue.specs.declared.records.Record.{Record}
 use Rattle.yt_steps.specs.Chase.{caused_chase}
 use Rattle.yt_versions.proofs.Noting.{next_drop}
 use Rattle.yt_versions.specs.Standing.{Kept, seen, Retracted}
 use Rattle.yt_cascade.specs.declared.lost.Lost.{Lost}
 use Rattle.yt_cascade.specs.Held.{HoldFrom, AreVersions, laid, above}
-use Rattle.yt_cascade.specs.Meanings.{Above, found_of, all_found, members_of}
+use Rattle.yt_cascade.specs.Meanings.{Above, found_of, all_found, no_cause, found_for, members_of}
 use Rattle.yt_cascade.specs.Causes.{AreCausesOfWrites, AreCausesOfLoss}
 use Rattle.yt_cascade.specs.Walks.{IsCauseFor, Loses, LosesWhere, LeavesLost, LooksFor, RanBelow, StandAbove, AreFound, number_of}
+use Rattle.yt_cascade.proofs.Reasons.{idle}
 use Rattle.yt_cascade.proofs.Holding.{below_next, hold_next, hold_without, below_without, trails_held}
 
 -- Once some of the readers have their say: what is found so far and what the walk finds of those that are left are all.
@@ -54,6 +60,16 @@ settle_on M deps conflicting c j E N F G ks ls n u us b x before all ex eb ef eg
     append_assoc before (x ∷ []) (settle M deps conflicting c j F G ls (suc n) us)
     ∙ ap (λ zs. before ++ zs) (λ i. ex i ∷ settle M deps conflicting c j (ef i) (without i) (members i) (suc n) us)
     ∙ h
+
+-- What has read nothing has no cause.
+unread_has_none : (M : Machine) (deps : Deps) (conflicting : Bool) (c j : ℕ) (E N : M.Repository) (ks : List (Member M)) (n : ℕ) (u : Update M) → u.log ≡ [] → cause_of M deps conflicting c j E N ks n u ≡ None
+unread_has_none M deps conflicting c j E N ks n u h =
+    let conflict : List (Read M) → Option (Cause M) =
+    λ ls. option_map (λ (x : Changed M). Conflict n x.read j x.old x.new)
+    (option_map (λ (t : ℕ × Read M). record { read = t.0; old = t.1.answer; new = value_now M u.operation E (M.own u.state) t.1 }) (first_that (λ r. not (is_valid M u.operation E (M.own u.state) r)) ls)) in
+    let dependence : List (Read M) → Option (Cause M) =
+    λ ls. option_map (λ (t : ℕ × Read M). Depends n t.0 (writer_for M t.1 ks)) (first_that (read_depends M deps u.operation N (M.own u.state) ks) ls) in
+    idle conflicting (is_live M c n u) (not (is_nil ks)) (conflict u.log) (dependence u.log) (λ l. ap conflict h) (λ l. ap dependence h)
 
 -- The readers that are left have their numbers in turn.
 pub later_from : (n i : ℕ) (rs : List Record) (r : Record) → i < length rs → r ≡ get_or rs i r → AreFrom n (drop i rs) → StandsAt n r × AreFrom (suc n) (drop (i + 1) rs)
@@ -134,10 +150,26 @@ module _ (a : Above) (conflicting : Bool) (B : ℕ) (ws : List Change) where
       subst (Turn a conflicting B ws all left (drop (i + 1) rs)) (sym f)
       (next few looks all lost left r (drop (i + 1) rs) xs x (subst (λ zs. Turn a conflicting B ws all lost zs xs) (next_drop rs i r l e) t) cause (subst (λ z. LosesWhere z r lost left) g loses))
 
-  -- Once all have.
-  pub at_end : (all : List (Option (Cause (caused_chase a.rules B)))) (lost : Lost) (i : ℕ) (rs : List Record) (xs : List (Option CauseOfProgram)) → length rs ≤ i → Turn a conflicting B ws all lost (drop i rs) xs → all_found a.rules B xs ≡ all
-  at_end all lost i rs xs l t =
-      let done : Turn a conflicting B ws all lost [] xs = subst (λ zs. Turn a conflicting B ws all lost zs xs) (drop_all i rs l) t in sym (append-nil (all_found a.rules B xs)) ∙ done.rest
+  -- Those that have read nothing have none.
+  none_of : (E N : List Fact) (ks : List (Member (caused_chase a.rules B))) (n : ℕ) (rs : List Record) → AreUnread (caused_chase a.rules B) (updates_of a.rules B rs)
+      → map (no_cause a.rules B) rs ≡ settle (caused_chase a.rules B) a.deps conflicting a.committed a.update E N ks n (updates_of a.rules B rs)
+  none_of E N ks n [] h = refl
+  none_of E N ks n (r ∷ rs) h =
+      let M : Machine = caused_chase a.rules B in
+      let u : Update (caused_chase a.rules B) = update_of a.rules B r in
+      let x : Option (Cause (caused_chase a.rules B)) = cause_of M a.deps conflicting a.committed a.update E N ks n u in
+      λ i. sym (unread_has_none M a.deps conflicting a.committed a.update E N ks n u h.0) i
+      ∷ none_of (apply E (trail M u)) (without_member M (is_some x) N u) (with_member M (is_some x) ks n u) (suc n) rs h.1 i
+
+  -- Once all have that may have read something.
+  pub at_end : (all : List (Option (Cause (caused_chase a.rules B)))) (lost : Lost) (i : ℕ) (rs : List Record) (xs : List (Option CauseOfProgram)) → length xs ≡ i → ReadsAtMost rs i → Turn a conflicting B ws all lost (drop i rs) xs → found_for a.rules B rs xs ≡ all
+  at_end all lost i rs xs l h t =
+      let unread : AreUnread (caused_chase a.rules B) (updates_of a.rules B (drop i rs)) =
+      subst (λ (us : List (Update (caused_chase a.rules B))). AreUnread (caused_chase a.rules B) us) (drop-map (update_of a.rules B) i rs) (h a.rules B) in
+      ap (λ (k : ℕ). all_found a.rules B xs ++ map (no_cause a.rules B) (drop k rs)) l
+      ∙ ap (λ (zs : List (Option (Cause (caused_chase a.rules B)))). all_found a.rules B xs ++ zs)
+      (none_of (seen t.number a.whole) (seen t.number lost.without) (members_of a.rules B lost.members.items) t.number (drop i rs) unread)
+      ∙ t.rest
 
 -- ---- the walks of the two events
 

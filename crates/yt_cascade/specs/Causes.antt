@@ -11,7 +11,7 @@ use Rattle.yt_queue.specs.Queues.{updates_of}
 use Rattle.yt_queue.specs.declared.records.Record.{Record}
 use Rattle.yt_steps.specs.Chase.{caused_chase}
 use Rattle.yt_cascade.specs.Held.{AreVersions, laid, above}
-use Rattle.yt_cascade.specs.Meanings.{Above, all_found}
+use Rattle.yt_cascade.specs.Meanings.{Above, found_for}
 
 -- In any history whose update above the lower ones is the event's, which was u and is v: conflicts with the writes that came
 -- or went, and dependences on what is restarted. Those above ran over what lay below them before the event. D is the base,
@@ -22,7 +22,7 @@ AreCausesOfWrites a ws upper xs =
     → a.update ≡ suc (length lower) → AreVersions a.rules B D (lower ++ v ∷ updates_of a.rules B upper) a.whole
     → AreRuns (caused_chase a.rules B) (above a.rules B D lower u) (suc a.update) (updates_of a.rules B upper)
     → AgreeBut (ws ∷ []) (above a.rules B D lower u) (above a.rules B D lower v)
-    → all_found a.rules B xs
+    → found_for a.rules B upper xs
     ≡ settle (caused_chase a.rules B) a.deps true a.committed a.update (above a.rules B D lower v) (above a.rules B D lower v) [] (suc a.update) (updates_of a.rules B upper)
 
 -- In any history whose update above the lower ones is the event's, and was u before it lost its trail: dependences on it
@@ -33,5 +33,5 @@ AreCausesOfLoss a ws upper xs =
     (B : ℕ) (D : List Fact) (lower : List (Update (caused_chase a.rules B))) (u : Update (caused_chase a.rules B)) → 1 ≤ B
     → a.update ≡ suc (length lower) → trail (caused_chase a.rules B) u ≡ ws → AreVersions a.rules B D (lower ++ u ∷ updates_of a.rules B upper) a.whole
     → AreRuns (caused_chase a.rules B) (above a.rules B D lower u) (suc a.update) (updates_of a.rules B upper)
-    → all_found a.rules B xs
+    → found_for a.rules B upper xs
     ≡ settle (caused_chase a.rules B) a.deps false a.committed a.update (above a.rules B D lower u) (laid a.rules B D lower) (record { number = a.update; trail = trail (caused_chase a.rules B) u } ∷ []) (suc a.update) (updates_of a.rules B upper)

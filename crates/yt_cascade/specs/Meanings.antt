@@ -1,5 +1,5 @@
 -- What a cascade, the causes that it finds and what is lost mean.
-use Rattle.std.specs.Prelude.{ℕ, List, map, Option}
+use Rattle.std.specs.Prelude.{ℕ, List, ◌++◌, map, length, drop, Option, None}
 use Rattle.std.specs.Option.{option_map}
 use Rattle.yt_conflict.specs.Trails.{writes_of}
 use Rattle.yt_conflict.specs.declared.concerns.Trail.{Trail}
@@ -10,6 +10,7 @@ use Rattle.yt_machine.specs.Cascade.{Cause, Member}
 use Rattle.yt_machine.specs.Updates.{Deps}
 use Rattle.yt_model.specs.Mappings.{Rule}
 use Rattle.yt_queue.specs.Settings.{deps_of}
+use Rattle.yt_queue.specs.declared.records.Record.{Record}
 use Rattle.yt_steps.specs.Chase.{caused_chase}
 use Rattle.yt_versions.specs.Standing.{Kept}
 use Rattle.yt_cascade.specs.declared.cascades.Cascade.{Cascade}
@@ -44,3 +45,11 @@ module _ (ms : List Rule) (B : ℕ) where
   -- Those that were found for the updates of a walk.
   abbrev pub all_found : List (Option CauseOfProgram) → List (Option (Cause (caused_chase ms B)))
   all_found xs = map found_of xs
+
+  -- No cause.
+  abbrev pub no_cause : Record → Option (Cause (caused_chase ms B))
+  no_cause r = None
+
+  -- Those of these updates, where causes were looked for among the first alone and the others have none.
+  abbrev pub found_for : List Record → List (Option CauseOfProgram) → List (Option (Cause (caused_chase ms B)))
+  found_for rs xs = all_found xs ++ map no_cause (drop (length xs) rs)

@@ -24,7 +24,7 @@ use Rattle.yt_steps.specs.Chase.{caused_chase}
 use Rattle.yt_versions.specs.Standing.{seen, Retracted}
 use Rattle.yt_cascade.specs.declared.lost.Lost.{Lost}
 use Rattle.yt_cascade.specs.Held.{HoldFrom}
-use Rattle.yt_cascade.specs.Meanings.{Above, found_of, all_found, members_of}
+use Rattle.yt_cascade.specs.Meanings.{Above, found_of, found_for, members_of}
 use Rattle.yt_cascade.specs.Reached.{least_writer, first_changed_in, first_dependent}
 
 -- The number of the reader.
@@ -112,5 +112,5 @@ pub record StandAbove (a : Above) (B : ℕ) (ws : List Change) (lost : Lost) (n 
 abbrev pub AreFound : Above → List Change → Lost → List Record → List (Option Cause) → Type 0
 AreFound a ws lost rs xs =
     (B : ℕ) (conflicting : Bool) → 1 ≤ B → LooksFor conflicting ws → StandAbove a B ws lost (suc a.update) rs
-    → all_found a.rules B xs
+    → found_for a.rules B rs xs
     ≡ settle (caused_chase a.rules B) a.deps conflicting a.committed a.update (seen (suc a.update) a.whole) (seen (suc a.update) lost.without) (members_of a.rules B lost.members.items) (suc a.update) (updates_of a.rules B rs)

@@ -1,7 +1,8 @@
 //! The walk upwards from the update of an event.
-ghost use Rattle.std.specs.Prelude.{◌≡◌, suc, length, map, IfOk};
+ghost use Rattle.std.specs.Prelude.{◌≡◌, ◌≤◌, suc, length, map, IfOk};
 ghost use Rattle.yt_base.specs.Meanings.{change_of};
 ghost use Rattle.yt_queue.specs.Queues.{AreFrom};
+ghost use Rattle.yt_queue.specs.Walks.{ReadsAtMost};
 ghost use Rattle.yt_cascade.specs.Causes.{AreCausesOfWrites, AreCausesOfLoss};
 ghost use Rattle.yt_cascade.specs.Meanings.{above_of};
 ghost use Rattle.yt_cascade.specs.Walks.{AreFound};
@@ -28,61 +29,71 @@ pub struct Cascade<'a> {
 impl<'a> Cascade<'a> {
     /// Why each of the updates above is restarted, if it is, where the event's update wrote: a conflict with its writes, or
     /// else a dependence on a lower one that is restarted. Handed in are the writes that came or went by the event. There is
-    /// one answer for each, in order. It is refused only for want of memory.
+    /// one answer for each of the first, in order, as many as may have read something. It is refused only for want of memory.
     pub fn causes_of_writes(
         &self,
         alloc: Global,
         written: &[Write],
         upper: &[Record],
+        readers: usize,
     ) -> Result<Vec<Option<Cause>>, Memory>
         requires from { AreFrom (suc self.now.update) upper.now }
-        ensures long { IfOk result (λ causes. length causes.items ≡ length upper.now) }
+        requires read { ReadsAtMost upper.now readers }
+        requires within { readers ≤ length upper.now }
+        ensures long { IfOk result (λ causes. length causes.items ≡ readers) }
         ensures causes { IfOk result (λ causes.
             AreCausesOfWrites (above_of self.now) (map change_of written.now) upper.now
             causes.items) }
     {
         let lost = Lost::none(alloc, self.whole)?;
-        let found = self.walk(alloc, written, lost, upper)?;
+        let found = self.walk(alloc, written, lost, upper, readers)?;
         Ok(found)
     }
 
     /// Why each of the updates above is restarted, if it is, where the event's update loses its trail, which is handed in:
-    /// a dependence on it or on a lower one that is restarted. There is one answer for each, in order. It is refused only
-    /// for want of memory.
+    /// a dependence on it or on a lower one that is restarted. There is one answer for each of the first, in order, as many
+    /// as may have read something. It is refused only for want of memory.
     pub fn causes_of_loss(
         &self,
         alloc: Global,
         trail: &[Write],
         upper: &[Record],
+        readers: usize,
     ) -> Result<Vec<Option<Cause>>, Memory>
         requires from { AreFrom (suc self.now.update) upper.now }
-        ensures long { IfOk result (λ causes. length causes.items ≡ length upper.now) }
+        requires read { ReadsAtMost upper.now readers }
+        requires within { readers ≤ length upper.now }
+        ensures long { IfOk result (λ causes. length causes.items ≡ readers) }
         ensures causes { IfOk result (λ causes.
             AreCausesOfLoss (above_of self.now) (map change_of trail.now) upper.now causes.items) }
     {
         let mut lost = Lost::none(alloc, self.whole)?;
         lost.lose(alloc, self.update, trail)?;
-        let found = self.walk(alloc, &[], lost, upper)?;
+        let found = self.walk(alloc, &[], lost, upper, readers)?;
         Ok(found)
     }
 
     // Why each of the updates above is restarted, if it is, where these writes came or went and these trails are lost below
-    // them.
+    // them. Only the first may have read something, so many.
     fn walk<'r>(
         &self,
         alloc: Global,
         written: &[Write],
         mut lost: Lost<'r>,
         upper: &'r [Record],
+        readers: usize,
     ) -> Result<Vec<Option<Cause>>, Memory>
         requires from { AreFrom (suc self.now.update) upper.now }
-        ensures long { IfOk result (λ found. length found.items ≡ length upper.now) }
+        requires read { ReadsAtMost upper.now readers }
+        requires within { readers ≤ length upper.now }
+        ensures long { IfOk result (λ found. length found.items ≡ readers) }
         ensures found { IfOk result (λ found.
             AreFound (above_of self.now) (map change_of written.now) lost.entry upper.now
             found.items) }
     {
         let mut found = Vec::new(alloc);
-        'readers: for reader in upper {
+        for i in 0..readers {
+            let reader = &upper[i];
             let cause = self.cause_for(alloc, written, &lost, reader)?;
             lost.lose_where(alloc, cause.is_some(), reader)?;
             found.push(cause)?;

@@ -1,5 +1,5 @@
 -- The causes that a walk found, in order, are those of the event.
-use Rattle.std.proofs.Common.{◌≡◌, ◌∙◌, ap, refl, ℕ, suc, Bool, true, false, Option, Some, None, List, [], ◌∷◌, ◌++◌, map}
+use Rattle.std.proofs.Common.{◌≡◌, ◌∙◌, ap, refl, sym, ℕ, suc, Bool, true, false, Option, Some, None, List, [], ◌∷◌, ◌++◌, map, drop, length}
 use Rattle.std.specs.Prelude.{if◌then◌else◌, is_some, ◌&&◌, not, option_map}
 use Rattle.std.specs.List.{flat_map}
 use Rattle.yt_entries.specs.Meanings.{cause_of}
@@ -10,11 +10,12 @@ use Rattle.yt_machine.specs.Machine.{Machine}
 use Rattle.yt_machine.specs.Updates.{Update, Deps, Read, trail}
 use Rattle.yt_machine.specs.Reads.{first_that}
 use Rattle.yt_machine.specs.Standings.{is_nil}
-use Rattle.yt_machine.specs.Cascade.{Cause, Member, Depends, is_live, read_depends, writer_for, with_member, without_member}
-use Rattle.yt_machine.specs.Settle.{settle, cause_of as cause_of_update, conflicts_in, dependences_in}
+use Rattle.yt_machine.specs.Cascade.{Cause, Member, Depends, anew, is_live, read_depends, writer_for, with_member, without_member}
+use Rattle.yt_machine.specs.Settle.{settle, restart, cause_of as cause_of_update, if_conflict, if_dependence, conflicts_in, dependences_in}
 use Rattle.yt_model.specs.Mappings.{Rule}
 use Rattle.yt_steps.specs.Chase.{caused_chase}
-use Rattle.yt_cascade.specs.Meanings.{all_found}
+use Rattle.yt_cascade.specs.Meanings.{all_found, no_cause, found_for}
+use Rattle.yt_queue.specs.declared.records.Record.{Record}
 use Rattle.yt_core.specs.Aftermaths.{conflict_in, dependence_in, in_order}
 
 module _ (ms : List Rule) (B : ℕ) where
@@ -38,8 +39,37 @@ module _ (ms : List Rule) (B : ℕ) where
   both_told (x ∷ xs) ys = ap (λ cs. cause_kept ms B (cause_of x) ∷ cs) (both_told xs ys)
 
   -- In order they are the conflicts and then the dependences that were found.
-  pub in_order_is : (xs : List (Option CauseOfProgram)) → told (in_order xs) ≡ conflicts_in (all_found ms B xs) ++ dependences_in (all_found ms B xs)
+  in_order_is : (xs : List (Option CauseOfProgram)) → told (in_order xs) ≡ conflicts_in (all_found ms B xs) ++ dependences_in (all_found ms B xs)
   in_order_is xs = both_told (flat_map conflict_in xs) (flat_map dependence_in xs) ∙ (λ i. conflicts_told xs i ++ dependences_told xs i)
+
+  -- Those of updates for which none was looked for come to nothing.
+  no_conflicts_behind : (ys : List (Option (Cause (caused_chase ms B)))) (rs : List Record) → conflicts_in (ys ++ map (no_cause ms B) rs) ≡ conflicts_in ys
+  no_conflicts_behind [] [] = refl
+  no_conflicts_behind [] (r ∷ rs) = no_conflicts_behind [] rs
+  no_conflicts_behind (None ∷ ys) rs = no_conflicts_behind ys rs
+  no_conflicts_behind (Some x ∷ ys) rs = ap (if_conflict x) (no_conflicts_behind ys rs)
+
+  no_dependences_behind : (ys : List (Option (Cause (caused_chase ms B)))) (rs : List Record) → dependences_in (ys ++ map (no_cause ms B) rs) ≡ dependences_in ys
+  no_dependences_behind [] [] = refl
+  no_dependences_behind [] (r ∷ rs) = no_dependences_behind [] rs
+  no_dependences_behind (None ∷ ys) rs = no_dependences_behind ys rs
+  no_dependences_behind (Some x ∷ ys) rs = ap (if_dependence x) (no_dependences_behind ys rs)
+
+  pub no_restarts_behind : (n : ℕ) (ys : List (Option (Cause (caused_chase ms B)))) (rs : List Record) (us : List (Update (caused_chase ms B)))
+      → restart (caused_chase ms B) n (ys ++ map (no_cause ms B) rs) us ≡ restart (caused_chase ms B) n ys us
+  no_restarts_behind n ys rs [] = refl
+  no_restarts_behind n [] [] (u ∷ us) = refl
+  no_restarts_behind n [] (r ∷ rs) (u ∷ us) = ap (λ (vs : List (Update (caused_chase ms B))). u ∷ vs) (no_restarts_behind (suc n) [] rs us ∙ none_restart us)
+    where
+      none_restart : (vs : List (Update (caused_chase ms B))) → restart (caused_chase ms B) (suc n) [] vs ≡ vs
+      none_restart [] = refl
+      none_restart (v ∷ vs) = refl
+  no_restarts_behind n (y ∷ ys) rs (u ∷ us) = ap (λ (vs : List (Update (caused_chase ms B))). (if is_some y then anew (caused_chase ms B) n u else u) ∷ vs) (no_restarts_behind (suc n) ys rs us)
+
+  -- In order they are the conflicts and then the dependences of all the updates.
+  pub in_order_for : (rs : List Record) (xs : List (Option CauseOfProgram)) → told (in_order xs) ≡ conflicts_in (found_for ms B rs xs) ++ dependences_in (found_for ms B rs xs)
+  in_order_for rs xs =
+      in_order_is xs ∙ sym (λ i. no_conflicts_behind (all_found ms B xs) (drop (length xs) rs) i ++ no_dependences_behind (all_found ms B xs) (drop (length xs) rs) i)
 
   pub all_marked : (xs : List (Option CauseOfProgram)) → map is_some (all_found ms B xs) ≡ map is_some xs
   all_marked [] = refl

@@ -15,3 +15,4 @@ pub mod Placing
 pub mod Resting
 pub mod Resulting
 pub mod Committing
+pub mod Unread

@@ -1,6 +1,7 @@
 -- What is asked at the place of an event's update, and what is put there.
-use Rattle.std.proofs.Common.{◌≡◌, ◌∙◌, ap, refl, sym, subst, ℕ, zero, suc, ◌<◌, ◌+◌, Bool, true, false, Option, Some, List, [], ◌∷◌, ◌++◌, map, take, drop, length, get_or, arith, drop-cons}
+use Rattle.std.proofs.Common.{◌≡◌, ◌∙◌, ap, refl, sym, subst, ℕ, zero, suc, ◌<◌, ◌≤◌, ◌+◌, Bool, true, false, Option, Some, List, [], ◌∷◌, ◌++◌, map, take, drop, length, get_or, arith, drop-cons}
 use Rattle.std.proofs.Math.ListN.{set}
+use Rattle.std.proofs.lemmas.List.{drop_all}
 use Rattle.std.proofs.lemmas.Option.{same_Some, slice_get-map}
 use Rattle.std.specs.Prelude.{Result, Ok, Err, IfOk, is_some, slice_get, option_map}
 use Rattle.yt_entries.specs.declared.causes.Cause.{Cause as CauseOfProgram}
@@ -78,6 +79,14 @@ clear_one rs xs k r x v mid w l e m f c later =
     let both : Cleared (r ∷ drop (suc k) rs) (x ∷ drop (suc k) xs) v w = (mid, c, subst (λ (n : ℕ). Cleared (drop n rs) (drop n xs) mid w) one later) in
     subst (λ (qs : List Record). Cleared qs (drop k xs) v w) (sym (rest_is rs k r l e))
     (subst (λ (ys : List (Option CauseOfProgram)). Cleared (r ∷ drop (suc k) rs) ys v w) (sym (rest_is xs k x m f)) both)
+
+-- Where a cause was looked for in no more of them.
+pub clear_rest : (rs : List Record) (xs : List (Option CauseOfProgram)) (k : ℕ) (v : Kept) → length xs ≤ k → Cleared (drop k rs) (drop k xs) v v
+clear_rest rs xs k v l = subst (λ (ys : List (Option CauseOfProgram)). Cleared (drop k rs) ys v v) (sym (drop_all k xs l)) (none (drop k rs))
+  where
+    none : (qs : List Record) → Cleared qs [] v v
+    none [] = refl
+    none (q ∷ qs) = refl
 
 -- ---- the step is put in place
 

@@ -1,5 +1,5 @@
 -- What a step leaves, once it is prepared.
-use Rattle.std.proofs.Common.{◌≡◌, ◌∙◌, ap, refl, sym, subst, ℕ, suc, ◌≤◌, Bool, true, false, Option, List, [], ◌∷◌, ◌++◌, map, length}
+use Rattle.std.proofs.Common.{◌≡◌, ◌∙◌, ap, refl, sym, subst, ℕ, suc, ◌≤◌, Bool, true, false, Option, List, [], ◌∷◌, ◌++◌, map, length, drop}
 use Rattle.std.specs.Prelude.{if◌then◌else◌, is_some, option_map}
 use Rattle.std.specs.List.{flat_map}
 use Rattle.yt_base.specs.Meanings.{change_of}
@@ -35,14 +35,14 @@ use Rattle.yt_steps.specs.Attempts.{outcome_in}
 use Rattle.yt_steps.specs.Chase.{caused_chase, ending}
 use Rattle.yt_cascade.specs.Causes.{AreCausesOfWrites, AreCausesOfLoss}
 use Rattle.yt_cascade.specs.Held.{AreVersions, laid, above}
-use Rattle.yt_cascade.specs.Meanings.{Above, all_found}
+use Rattle.yt_cascade.specs.Meanings.{Above, all_found, found_for}
 use Rattle.yt_versions.specs.Standing.{Kept, Published, Retracted}
 use Rattle.yt_core.specs.Aftermaths.{Cleared, in_order}
 use Rattle.yt_core.specs.Steps.{HasHidden, HasTurned, IsFound, RanAbove, after_step, causes_above, IsStepLeft, ShowsStep, WereFound, IsPrepared}
 use Rattle.yt_core.specs.Withdrawals.{IsLeft, WereLost}
 use Rattle.yt_core.specs.declared.aftermaths.Aftermath.{Aftermath}
 use Rattle.yt_core.specs.declared.stepping.Prepared.{Prepared}
-use Rattle.yt_core.proofs.Causing.{in_order_is, all_marked, no_conflicts}
+use Rattle.yt_core.proofs.Causing.{in_order_for, no_restarts_behind, all_marked, no_conflicts}
 use Rattle.yt_core.proofs.Trailing.{versions_with, versions_cleared, one_by_one}
 
 if_is_true : {A : Type 0} (b : Bool) (x y : A) → b ≡ true → (if b then x else y) ≡ x
@@ -119,15 +119,19 @@ turned_more r plan ws b hidden t written ms B D E s c n may p sorted =
 -- ---- the causes
 
 module _ (ms : List Rule) (B : ℕ) where
-  found_by : (causes : List (Cause (caused_chase ms B))) (n : ℕ) (us : List (Update (caused_chase ms B))) (found : List (Option CauseOfProgram)) (S : List (Option (Cause (caused_chase ms B))))
-      → all_found ms B found ≡ S → causes ≡ conflicts_in S ++ dependences_in S → restarted (caused_chase ms B) (readers causes) n us ≡ restart (caused_chase ms B) n S us → IsFound ms B causes n us found
-  found_by causes n us found S e c r = record {
-    told = in_order_is ms B found ∙ (λ i. conflicts_in (e i) ++ dependences_in (e i)) ∙ sym c;
-    restarts =
-        λ xs m. restart_is (caused_chase ms B) n xs us
-        ∙ ap (λ bs. restart_by (caused_chase ms B) n bs us) (m ∙ sym (all_marked ms B found) ∙ ap (map is_some) e)
-        ∙ sym (restart_is (caused_chase ms B) n S us) ∙ sym r;
-  }
+  found_by : (causes : List (Cause (caused_chase ms B))) (n : ℕ) (rs : List Record) (found : List (Option CauseOfProgram)) (S : List (Option (Cause (caused_chase ms B))))
+      → found_for ms B rs found ≡ S → causes ≡ conflicts_in S ++ dependences_in S → restarted (caused_chase ms B) (readers causes) n (updates_of ms B rs) ≡ restart (caused_chase ms B) n S (updates_of ms B rs) → IsFound ms B causes n (updates_of ms B rs) found
+  found_by causes n rs found S e c r =
+      let us : List (Update (caused_chase ms B)) = updates_of ms B rs in
+      record {
+        told = in_order_for ms B rs found ∙ (λ i. conflicts_in (e i) ++ dependences_in (e i)) ∙ sym c;
+        restarts =
+            λ xs m. restart_is (caused_chase ms B) n xs us
+            ∙ ap (λ bs. restart_by (caused_chase ms B) n bs us) (m ∙ sym (all_marked ms B found))
+            ∙ sym (restart_is (caused_chase ms B) n (all_found ms B found) us)
+            ∙ sym (no_restarts_behind ms B n (all_found ms B found) (drop (length found) rs) us)
+            ∙ ap (λ (S' : List (Option (Cause (caused_chase ms B)))). restart (caused_chase ms B) n S' us) e ∙ sym r;
+      }
 
 pub found_in_writes : (a : Above) (s : Settings) (old : Kept) (r : Record) (upper : List Record) (plan : Plan) (ws : List Write) (found : List (Option CauseOfProgram)) (b : Bool)
     → a.deps ≡ s.deps → a.update ≡ r.program.attempt.number → HasSpent plan.program b → b ≡ false → HasTurned r plan ws → AreCausesOfWrites a (map change_of ws) upper found
@@ -145,7 +149,7 @@ found_in_writes a s old r upper plan ws found b d n spent f turned are B E lower
     ap (λ (x : Deps). causes_of_step (caused_chase a.rules B) x a.committed (suc (length lower)) (laid a.rules B E lower) u v us) (sym d)
     ∙ if_is_false (is_spent ((caused_chase a.rules B).outcome v.state)) (causes_of_loss (caused_chase a.rules B) a.deps a.committed (suc (length lower)) (laid a.rules B E lower) u us) (causes_of_writes (caused_chase a.rules B) a.deps a.committed (suc (length lower)) D us)
     (ap (λ (P : Rattle.yt_steps.specs.Attempts.Attempt). is_spent (option_map ending (outcome_in P.phase))) (sym (plan_state a.rules B (laid a.rules B E lower) r plan p)) ∙ sym spent ∙ f) in
-    found_by a.rules B (causes_above a.rules B s a.committed (suc (length lower)) E lower u us) (suc (suc (length lower))) us found
+    found_by a.rules B (causes_above a.rules B s a.committed (suc (length lower)) E lower u us) (suc (suc (length lower))) upper found
     (settle (caused_chase a.rules B) a.deps true a.committed (suc (length lower)) D D [] (suc (suc (length lower))) us)
     (are B E lower u v few j after (subst (λ (i : ℕ). AreRuns (caused_chase a.rules B) (above a.rules B E lower u) (suc i) us) (sym j) ran)
     (turned a.rules B (laid a.rules B E lower) (laid a.rules B E lower) s c m may p (apply_in_order E (flat_map (trail (caused_chase a.rules B)) lower) after.sorted))
@@ -165,7 +169,7 @@ loss_found a s r upper ws found d n trail_is are B E lower few e ran before =
     let law = (walk_law (caused_chase a.rules B) a.deps a.committed (suc (length lower)) D u us).1 in
     let S : List (Option (Cause (caused_chase a.rules B))) = settle (caused_chase a.rules B) a.deps false a.committed (suc (length lower)) D' D (record { number = suc (length lower); trail = trail (caused_chase a.rules B) u } ∷ []) (suc (suc (length lower))) us in
     subst (λ (x : Deps). IsFound a.rules B (causes_of_loss (caused_chase a.rules B) x a.committed (suc (length lower)) D u us) (suc (suc (length lower))) us found) d
-    (found_by a.rules B (causes_of_loss (caused_chase a.rules B) a.deps a.committed (suc (length lower)) D u us) (suc (suc (length lower))) us found S
+    (found_by a.rules B (causes_of_loss (caused_chase a.rules B) a.deps a.committed (suc (length lower)) D u us) (suc (suc (length lower))) upper found S
     (are B E lower u few j (sym (trail_is a.rules B)) before (subst (λ (i : ℕ). AreRuns (caused_chase a.rules B) (above a.rules B E lower u) (suc i) us) (sym j) ran)
     ∙ (λ i. settle (caused_chase a.rules B) a.deps false a.committed (j i) D' D (record { number = j i; trail = trail (caused_chase a.rules B) u } ∷ []) (suc (j i)) us))
     (law.causes ∙ ap (λ (cs : List (Cause (caused_chase a.rules B))). cs ++ dependences_in S) (sym (no_conflicts (caused_chase a.rules B) a.deps a.committed (suc (length lower)) D' D (record { number = suc (length lower); trail = trail (caused_chase a.rules B) u } ∷ []) (suc (suc (length lower))) us)))

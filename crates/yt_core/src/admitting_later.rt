@@ -39,6 +39,7 @@ impl<'s> Core<'s> {
         ensures back { IfErr result (λ back. back ≡ update) }
     {
         self.least = 0;
+        self.most = u32::MAX;
         let number = admit_at(
             alloc,
             &mut self.queue,

@@ -1,5 +1,5 @@
 //! What an event leaves of the versions and of the updates above it, made before anything is changed.
-ghost use Rattle.std.specs.Prelude.{◌≡◌, ◌++◌, length, is_some, IfOk, OnOk};
+ghost use Rattle.std.specs.Prelude.{◌≡◌, ◌≤◌, ◌++◌, length, is_some, IfOk, OnOk};
 ghost use Rattle.yt_queue.specs.Programs.{IsBetween};
 ghost use Rattle.yt_queue.specs.Renewals.{AllHaveOneMore, AreFresh, AreThere};
 ghost use Rattle.yt_core.specs.Aftermaths.{Cleared, ClearedIf, AllBetween, in_order as in_order_lem, conflict_in, dependence_in, is_conflict as is_conflict_lem};
@@ -19,15 +19,15 @@ pub(crate) struct Aftermath {
     pub(crate) causes: CauseList,
 }
 
-/// What is left where the updates above restart that have a cause: the versions, which are handed over, lose their
-/// trails. It is refused only for want of memory.
+/// What is left where the updates above restart that have a cause, which was looked for among the first of them: the
+/// versions, which are handed over, lose their trails. It is refused only for want of memory.
 pub(crate) fn settled(
     alloc: Global,
     versions: Versions,
     upper: &[Record],
     found: Vec<Option<Cause>>,
 ) -> Result<Aftermath, Memory>
-    requires long { length found.items ≡ length upper.now }
+    requires long { length found.items ≤ length upper.now }
     requires more { AllHaveOneMore upper.now }
     requires between { AllBetween upper.now }
     ensures cleared { IfOk result (λ left. Cleared upper.now found.items versions left.versions) }
@@ -52,11 +52,11 @@ fn without_restarted(
     upper: &[Record],
     found: &[Option<Cause>],
 ) -> Result<Versions, Memory>
-    requires long { length found.now ≡ length upper.now }
+    requires long { length found.now ≤ length upper.now }
     requires between { AllBetween upper.now }
     ensures cleared { IfOk result (Cleared upper.now found.now versions) }
 {
-    for i in 0..upper.len() {
+    for i in 0..found.len() {
         versions = without_one(alloc, versions, &upper[i], &found[i])?;
     }
     Ok(versions)

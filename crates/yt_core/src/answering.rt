@@ -84,6 +84,7 @@ impl<'s> Core<'s> {
     {
         let place = place_of(update);
         self.least = 0;
+        self.most = u32::MAX;
         answer_at(
             alloc,
             self.settings,

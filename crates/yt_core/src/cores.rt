@@ -19,7 +19,7 @@ use crate::deliveries::deliver_at;
 use crate::plans::{Plan, Snapshot, snapshot_at};
 use crate::refusals::{DeliverRefusal, StepRefusal};
 use crate::standings::{has_waiting, place_of, question, standing};
-use crate::stepping::step_at;
+use crate::stepping::{raised, step_at};
 use std::alloc::Global;
 use std::marker::Model;
 use yt_base::{Memory, TupleList, UpdateList};
@@ -28,7 +28,7 @@ use yt_frontier::Question;
 use yt_limits::{Budget, Mappings};
 use yt_queue::{
     Record, Settings, committed_from, is_quiet, lowest_deliverable, lowest_ready,
-    lowest_ready_besides,
+    lowest_ready_besides, reads_at_most,
 };
 use yt_serial::mappings_of;
 use yt_session::{Session, SessionUpdates};
@@ -49,6 +49,8 @@ pub struct Core<'s> {
     pub(crate) history: EntryList,
     // At least so many updates are committed; the walks over the queue begin behind them.
     pub(crate) least: u32,
+    // At most the first so many have read something; the walks upwards from an event end with them.
+    pub(crate) most: u32,
 }
 
 impl<'s> Model for Core<'s> {
@@ -56,14 +58,14 @@ impl<'s> Model for Core<'s> {
     ghost use Rattle.yt_entries.specs.Meanings.{entry_of};
     ghost use Rattle.yt_queue.specs.Settings.{settings_of};
     ghost use Rattle.yt_core.specs.States.{State};
-    ghost use Rattle.yt_queue.specs.Walks.{CommitsAtLeast};
+    ghost use Rattle.yt_queue.specs.Walks.{CommitsAtLeast, ReadsAtMost};
     ghost use Rattle.yt_core.specs.Kept.{ground_by, IsKept};
 
     ghost Value = { State };
 
     ghost view = { λ c. record { over = ground_by c.mappings c.budget (settings_of c.settings) c.base.now c.updates.now c.later; history = map entry_of c.history.items } };
 
-    ghost invariant = { λ c. IsKept (ground_by c.mappings c.budget (settings_of c.settings) c.base.now c.updates.now c.later) c.versions c.queue.items (map entry_of c.history.items) × CommitsAtLeast c.queue.items c.least };
+    ghost invariant = { λ c. IsKept (ground_by c.mappings c.budget (settings_of c.settings) c.base.now c.updates.now c.later) c.versions c.queue.items (map entry_of c.history.items) × CommitsAtLeast c.queue.items c.least × ReadsAtMost c.queue.items c.most };
 }
 
 impl<'s> Core<'s> {
@@ -99,6 +101,7 @@ impl<'s> Core<'s> {
             queue,
             history,
             least: 0,
+            most: u32::MAX,
         })
     }
 
@@ -209,12 +212,15 @@ impl<'s> Core<'s> {
         let Plan { update, step } = plan;
         let place = place_of(update);
         let least = self.least;
+        let most = reads_at_most(&self.queue, self.most);
         self.least = 0;
+        self.most = u32::MAX;
         let committed = step_at(
             alloc,
             &self.mappings,
             self.settings,
             least,
+            most,
             &mut self.versions,
             &mut self.queue,
             &mut self.history,
@@ -222,6 +228,7 @@ impl<'s> Core<'s> {
             step,
         )?;
         self.least = committed;
+        self.most = raised(most, update);
         Ok(self.history.len() as u64)
     }
 
@@ -310,6 +317,7 @@ impl<'s> Core<'s> {
     {
         let place = place_of(update);
         self.least = 0;
+        self.most = u32::MAX;
         deliver_at(self.settings, &mut self.queue, &mut self.history, place)?;
         Ok(self.history.len() as u64)
     }

@@ -5,9 +5,9 @@ ghost use Rattle.yt_queue.specs.Programs.{IsBetween};
 ghost use Rattle.yt_queue.specs.Queues.{AreFrom};
 ghost use Rattle.yt_queue.specs.Renewals.{AllHaveOneMore, AreFresh};
 ghost use Rattle.yt_queue.specs.Settings.{settings_of};
-ghost use Rattle.yt_queue.specs.Walks.{CommitsAtLeast, HasCommitted};
+ghost use Rattle.yt_queue.specs.Walks.{CommitsAtLeast, HasCommitted, ReadsAtMost};
 ghost use Rattle.yt_core.specs.Aftermaths.{AllBetween};
-ghost use Rattle.yt_core.specs.Follows.{AreSame, HasRoomAt, IsPlanAt, IsPreparedAt, IsInstalled, KeepsCommitted, TellsStep, StepsTo};
+ghost use Rattle.yt_core.specs.Follows.{AreSame, HasRoomAt, IsPlanAt, IsPreparedAt, IsInstalled, KeepsCommitted, KeepsUnread, TellsStep, StepsTo};
 ghost use Rattle.yt_core.specs.Steps.{HasHidden, HasTurned, ShowsStep, WereFound, IsPrepared};
 
 use crate::aftermaths::{Aftermath, settled};
@@ -28,8 +28,8 @@ pub(crate) struct Prepared {
     pub(crate) left: Aftermath,
 }
 
-/// What the step of the plan leaves, where `lower` and `upper` are the updates below and above that of the record, and so
-/// many are committed. It is refused only for want of memory.
+/// What the step of the plan leaves, where `upper` are the updates above that of the record, the first of which may have
+/// read something, and so many are committed. It is refused only for want of memory.
 pub(crate) fn prepare(
     alloc: Global,
     mappings: &Mappings<'_>,
@@ -38,11 +38,14 @@ pub(crate) fn prepare(
     versions: &Versions,
     item: &Record,
     upper: &[Record],
+    readers: usize,
     plan: &Plan,
 ) -> Result<Prepared, Memory>
     requires between { IsBetween item.now.program }
     requires after { IsBetween plan.now.program }
     requires numbers { AreFrom (suc item.now.program.attempt.number) upper.now }
+    requires read { ReadsAtMost upper.now readers }
+    requires within { readers ≤ length upper.now }
     requires more { AllHaveOneMore upper.now }
     ensures prepared { IfOk result (IsPrepared mappings.now (settings_of settings) committed
         versions.now item.now upper.now plan.now) }
@@ -50,14 +53,15 @@ pub(crate) fn prepare(
 {
     let after = versions_after(alloc, versions, item, plan)?;
     let found = found(
-        alloc, mappings, settings, committed, versions, &after, item, upper, plan,
+        alloc, mappings, settings, committed, versions, &after, item, upper, readers, plan,
     )?;
     let left = settled(alloc, after, upper, found)?;
     let writes = copied(alloc, item.written(plan))?;
     Ok(Prepared { writes, left })
 }
 
-// Why each of the updates above is restarted by the step, if it is. `after` are the versions after it.
+// Why each of the updates above is restarted by the step, if it is; the first may have read something, so many. `after` are
+// the versions after it.
 fn found<'a>(
     alloc: Global,
     mappings: &'a Mappings<'a>,
@@ -67,15 +71,18 @@ fn found<'a>(
     after: &'a Versions,
     item: &Record,
     upper: &[Record],
+    readers: usize,
     plan: &Plan,
 ) -> Result<Vec<Option<Cause>>, Memory>
     requires between { IsBetween item.now.program }
     requires after { IsBetween plan.now.program }
     requires numbers { AreFrom (suc item.now.program.attempt.number) upper.now }
+    requires read { ReadsAtMost upper.now readers }
+    requires within { readers ≤ length upper.now }
     ensures found { IfOk result (λ found. WereFound mappings.now
         (settings_of settings) committed versions.now after.now item.now upper.now plan.now
         found.items) }
-    ensures long { IfOk result (λ found. length found.items ≡ length upper.now) }
+    ensures long { IfOk result (λ found. length found.items ≡ readers) }
 {
     let mut walk = Cascade {
         mappings,
@@ -86,9 +93,9 @@ fn found<'a>(
     };
     if has_spent(&plan.program) {
         walk.whole = versions;
-        return walk.causes_of_loss(alloc, item.trail(), upper);
+        return walk.causes_of_loss(alloc, item.trail(), upper, readers);
     }
-    walk.causes_of_writes(alloc, turned(item, plan), upper)
+    walk.causes_of_writes(alloc, turned(item, plan), upper, readers)
 }
 
 // The writes that come by the step, or that go where the attempt ends by it spent or refused.
@@ -145,13 +152,14 @@ fn copied(alloc: Global, writes: &[Write]) -> Result<WriteList, Memory>
     Ok(copies)
 }
 
-/// What the step of the plan leaves, which is one of the update at the place, where at least so many are committed. It is
-/// refused only for want of memory.
+/// What the step of the plan leaves, which is one of the update at the place, where at least so many are committed and at
+/// most so many have read something. It is refused only for want of memory.
 pub(crate) fn prepare_at(
     alloc: Global,
     mappings: &Mappings<'_>,
     settings: Settings,
     least: u32,
+    most: u32,
     versions: &Versions,
     queue: &[Record],
     place: usize,
@@ -160,6 +168,8 @@ pub(crate) fn prepare_at(
     requires place { place < length queue.now }
     requires numbers { AreFrom 1 queue.now }
     requires least { CommitsAtLeast queue.now least }
+    requires most { ReadsAtMost queue.now most }
+    requires few { most ≤ length queue.now }
     requires more { AllHaveOneMore queue.now }
     requires after { IsBetween plan.now.program }
     ensures prepared { IfOk result (IsPreparedAt mappings.now
@@ -169,8 +179,9 @@ pub(crate) fn prepare_at(
     let committed = committed_from(queue, least);
     let item = &queue[place];
     let upper = above(queue, place);
+    let readers = readers_above(queue, place, most);
     let prepared = prepare(
-        alloc, mappings, settings, committed, versions, item, upper, plan,
+        alloc, mappings, settings, committed, versions, item, upper, readers, plan,
     )?;
     Ok(prepared)
 }
@@ -183,6 +194,17 @@ pub(crate) fn above(queue: &[Record], place: usize) -> &[Record]
     &queue[place + 1..]
 }
 
+/// How many of the first updates above the place may have read something, where at most so many of all have.
+pub(crate) fn readers_above(queue: &[Record], place: usize, most: u32) -> usize
+    requires place { place < length queue.now }
+    requires most { ReadsAtMost queue.now most }
+    requires few { most ≤ length queue.now }
+    ensures read { ReadsAtMost (drop (suc place) queue.now) result }
+    ensures within { result ≤ length (drop (suc place) queue.now) }
+{
+    (most as usize).saturating_sub(place + 1)
+}
+
 /// Puts the step of the plan in place, and restarts those of the updates above for which there is an attempt. It takes no
 /// memory.
 pub(crate) fn install(queue: &mut [Record], place: usize, plan: Plan, fresh: Vec<Option<Program>>)
@@ -193,6 +215,7 @@ pub(crate) fn install(queue: &mut [Record], place: usize, plan: Plan, fresh: Vec
     requires fresh { AreFresh (drop (suc place) queue.old) fresh.items }
     ensures installed { IsInstalled place plan fresh.items queue.old queue.new }
     ensures least { KeepsCommitted place queue.old queue.new }
+    ensures most { KeepsUnread place queue.old queue.new }
     ensures numbers { AreFrom 1 queue.new }
     ensures long { length queue.new ≡ length queue.old }
 {
@@ -228,13 +251,15 @@ fn step_entry(
     }
 }
 
-// Makes the step of the plan, which is the next one of the update at the place, where at least so many are committed, and
-// gives how many are then. There is room for it. It is refused only for want of memory; nothing is then changed.
+// Makes the step of the plan, which is the next one of the update at the place, where at least so many are committed and at
+// most so many have read something. It gives how many are committed then. There is room for it. It is refused only for want
+// of memory; nothing is then changed.
 fn make_step(
     alloc: Global,
     mappings: &Mappings<'_>,
     settings: Settings,
     least: u32,
+    most: u32,
     versions: &mut Versions,
     queue: &mut [Record],
     history: &mut EntryList,
@@ -244,6 +269,8 @@ fn make_step(
     requires place { place < length queue.old }
     requires numbers { AreFrom 1 queue.old }
     requires least { CommitsAtLeast queue.old least }
+    requires most { ReadsAtMost queue.old most }
+    requires few { most ≤ length queue.old }
     requires more { AllHaveOneMore queue.old }
     requires room { HasRoomAt place plan queue.old }
     requires plan { IsPlanAt place plan queue.old }
@@ -252,13 +279,14 @@ fn make_step(
     ensures made { OnOk result (StepsTo mappings.now (settings_of settings) place plan versions.old
         queue.old history.old.items versions.new queue.new history.new.items) }
     ensures committed { IfOk result (CommitsAtLeast queue.new) }
+    ensures most { OnOk result (KeepsUnread place queue.old queue.new) }
     ensures versions { OnErr result (versions.new ≡ versions.old) }
     ensures queue { OnErr result (queue.new ≡ queue.old) }
     ensures history { OnErr result (history.new ≡ history.old) }
     ensures long { length queue.new ≡ length queue.old }
 {
     let prepared = prepare_at(
-        alloc, mappings, settings, least, versions, queue, place, &plan,
+        alloc, mappings, settings, least, most, versions, queue, place, &plan,
     )?;
     let Prepared { writes, left } = prepared;
     let attempt = queue[place].program.attempt();
@@ -276,6 +304,14 @@ fn make_step(
     );
     put_last(history, entry);
     Ok(committed)
+}
+
+/// So many, or all up to the update, which has made a step.
+pub(crate) fn raised(most: u32, update: u32) -> u32
+    ensures most { most ≤ result }
+    ensures update { update ≤ result }
+{
+    if most < update { update } else { most }
 }
 
 // So many, where they are all below the place.
@@ -315,13 +351,15 @@ pub(crate) fn reserve_step(
     history.reserve(1)
 }
 
-/// Makes the step of the plan, which is the next one of the update at the place, where at least so many are committed, and
-/// gives how many are at least then. It is refused only for want of memory; what the queue and the history mean then stays.
+/// Makes the step of the plan, which is the next one of the update at the place, where at least so many are committed and
+/// at most so many have read something. It gives how many are committed at least then. It is refused only for want of
+/// memory; what the queue and the history mean then stays.
 pub(crate) fn step_at(
     alloc: Global,
     mappings: &Mappings<'_>,
     settings: Settings,
     least: u32,
+    most: u32,
     versions: &mut Versions,
     queue: &mut [Record],
     history: &mut EntryList,
@@ -331,12 +369,15 @@ pub(crate) fn step_at(
     requires place { place < length queue.old }
     requires numbers { AreFrom 1 queue.old }
     requires least { CommitsAtLeast queue.old least }
+    requires most { ReadsAtMost queue.old most }
+    requires few { most ≤ length queue.old }
     requires more { AllHaveOneMore queue.old }
     requires plan { IsPlanAt place plan queue.old }
     requires after { IsBetween plan.program }
     ensures made { OnOk result (StepsTo mappings.now (settings_of settings) place plan versions.old
         queue.old history.old.items versions.new queue.new history.new.items) }
     ensures committed { IfOk result (CommitsAtLeast queue.new) }
+    ensures most { OnOk result (KeepsUnread place queue.old queue.new) }
     ensures versions { OnErr result (versions.new ≡ versions.old) }
     ensures queue { OnErr result (AreSame queue.old queue.new) }
     ensures history { OnErr result (history.new.items ≡ history.old.items) }
@@ -344,7 +385,7 @@ pub(crate) fn step_at(
 {
     reserve_step(queue, history, place, &plan)?;
     let committed = make_step(
-        alloc, mappings, settings, least, versions, queue, history, place, plan,
+        alloc, mappings, settings, least, most, versions, queue, history, place, plan,
     )?;
     Ok(committed)
 }

@@ -144,7 +144,7 @@ fn found_lost<'a>(
         update: item.number(),
         whole: versions,
     };
-    walk.causes_of_loss(alloc, item.trail(), upper)
+    walk.causes_of_loss(alloc, item.trail(), upper, upper.len())
 }
 
 // The versions without the trail of the update.

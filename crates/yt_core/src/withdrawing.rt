@@ -69,6 +69,7 @@ impl<'s> Core<'s> {
     {
         let place = place_of(update);
         self.least = 0;
+        self.most = u32::MAX;
         withdraw_at(
             alloc,
             &self.mappings,

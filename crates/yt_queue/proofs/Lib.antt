@@ -3,3 +3,4 @@ pub mod Following
 pub mod Answering
 pub mod Restarting
 pub mod Walking
+pub mod Unread

@@ -29,11 +29,10 @@ abbrev pub IsFreshIf : Record → Option State → Type 0
 IsFreshIf r None = Unit {0}
 IsFreshIf r (Some s) = IsFresh r s
 
--- For each of the records its next attempt, or none.
+-- For each of the first records its next attempt, or none; for those behind them there is none.
 abbrev pub AreFresh : List Record → List (Option State) → Type 0
-AreFresh [] [] = Unit {0}
+AreFresh rs [] = Unit {0}
 AreFresh [] (f ∷ fs) = ⊥
-AreFresh (r ∷ rs) [] = ⊥
 AreFresh (r ∷ rs) (f ∷ fs) = IsFreshIf r f × AreFresh rs fs
 
 -- There is one exactly where there is a cause.

@@ -1,8 +1,9 @@
 -- What is told of a queue, for the machine of any mappings and any budget.
-use Rattle.std.specs.Prelude.{◌≡◌, ◌+◌, ◌≤◌, ℕ, Bool, not, ◌&&◌, List, Option}
+use Rattle.std.specs.Prelude.{◌≡◌, ◌+◌, ◌≤◌, ℕ, Bool, not, ◌&&◌, List, [], ◌∷◌, drop, Option}
 use Rattle.yt_machine.specs.Cascade.{has_number}
+use Rattle.yt_machine.specs.Machine.{Machine}
 use Rattle.yt_machine.specs.Standings.{standing, is_ready, is_deliverable, lowest_that, lowest_ready, lowest_deliverable, is_quiet}
-use Rattle.yt_machine.specs.Updates.{Settings, committed}
+use Rattle.yt_machine.specs.Updates.{Settings, Update, committed}
 use Rattle.yt_model.specs.Mappings.{Rule}
 use Rattle.yt_steps.specs.Chase.{caused_chase}
 use Rattle.yt_queue.specs.Queues.{update_of, updates_of}
@@ -15,6 +16,15 @@ HasCommitted rs c = (ms : List Rule) (B : ℕ) → c ≡ committed (caused_chase
 -- At least so many are.
 abbrev pub CommitsAtLeast : List Record → ℕ → Type 0
 CommitsAtLeast rs c = (ms : List Rule) (B : ℕ) → c ≤ committed (caused_chase ms B) (updates_of ms B rs)
+
+-- None of these updates has logged a read.
+abbrev pub AreUnread : (M : Machine) → List (Update M) → Type 0
+AreUnread M [] = Unit {0}
+AreUnread M (u ∷ us) = (u.log ≡ []) × AreUnread M us
+
+-- At most the first so many have.
+abbrev pub ReadsAtMost : List Record → ℕ → Type 0
+ReadsAtMost rs n = (ms : List Rule) (B : ℕ) → AreUnread (caused_chase ms B) (drop n (updates_of ms B rs))
 
 -- So many are, where c updates are committed and these come behind them.
 abbrev pub CommitsOn : ℕ → List Record → ℕ → Type 0

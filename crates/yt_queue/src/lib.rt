@@ -9,6 +9,7 @@
 
 mod events;
 mod outcomes;
+mod reading;
 mod records;
 mod renewals;
 mod settings;
@@ -16,6 +17,7 @@ mod standings;
 mod walks;
 
 pub use crate::outcomes::{asked, has_spent, outcome, shown};
+pub use crate::reading::reads_at_most;
 pub use crate::records::Record;
 pub use crate::renewals::{fresh_programs, restart_marked};
 pub use crate::settings::{Deps, Settings};

@@ -41,19 +41,20 @@ impl Record {
     }
 }
 
-/// The next attempts at those of the updates that have a cause. It is refused only for want of memory.
+/// The next attempts at those of the updates that have a cause, of which there is one or none for each of the first. It is
+/// refused only for want of memory.
 pub fn fresh_programs(
     alloc: Global,
     upper: &[Record],
     causes: &[Option<Cause>],
 ) -> Result<Vec<Option<Program>>, Memory>
-    requires long { length causes.now ≡ length upper.now }
+    requires long { length causes.now ≤ length upper.now }
     requires more { AllHaveOneMore upper.now }
     ensures fresh { IfOk result (λ fresh. AreFresh upper.now fresh.items) }
     ensures there { IfOk result (λ fresh. AreThere causes.now fresh.items) }
 {
     let mut fresh = Vec::new(alloc);
-    for i in 0..upper.len() {
+    for i in 0..causes.len() {
         fresh.push(fresh_if(alloc, &upper[i], &causes[i])?)?;
     }
     Ok(fresh)

@@ -1,5 +1,5 @@
 use Rattle.std.proofs.Common.{rules}
-use Rattle.yt_core.proofs.Placing.{next_between, others_between, clear_one}
+use Rattle.yt_core.proofs.Placing.{next_between, others_between, clear_one, clear_rest}
 use Rattle.yt_core.proofs.aftermaths.without_restarted.Goals as goal
 
 pub without_one-requires : goal.without_one-requires
@@ -15,3 +15,6 @@ loop-i-preserved c =
           (clear_one c.args.upper.now c.args.found.now c.loop-i.i c.index-upper-i.result c.index-found-i.result c.loop-i.versions c.in_ok-versions.versions w (search rules) c.index-upper-i.is (search rules) c.index-found-i.is
           c.in_ok-versions.ensures.cleared later);
     }
+
+pub returns : goal.returns
+returns c = record { cleared = c.loop-i.invariant.done c.loop-i.versions (clear_rest c.args.upper.now c.args.found.now c.loop-i.i c.loop-i.versions c.loop-i-test.false) }

@@ -1,5 +1,6 @@
 use Rattle.yt_core.proofs.Placing.{numbers_put, fresh_above, installed_is}
 use Rattle.yt_core.proofs.Committing.{committed_kept}
+use Rattle.yt_core.proofs.Unread.{unread_kept}
 use Rattle.yt_core.proofs.stepping.install.Goals as goal
 
 pub restart_marked-requires-clause-from : goal.restart_marked-requires-clause-from
@@ -16,3 +17,6 @@ returns-clause-installed c =
 
 pub returns-clause-least : goal.returns-clause-least
 returns-clause-least c = committed_kept c.args.queue.now c.restart_marked.new.queue c.args.place c.follow.new.self c.args.fresh.items c.restart_marked.ensures.restarted
+
+pub returns-clause-most : goal.returns-clause-most
+returns-clause-most c = unread_kept c.args.queue.now c.restart_marked.new.queue c.args.place c.follow.new.self c.args.fresh.items c.restart_marked.ensures.restarted

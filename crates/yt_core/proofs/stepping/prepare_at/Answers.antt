@@ -1,4 +1,7 @@
+use Rattle.std.proofs.Common.{subst, sym, ◌≤◌, List, length}
 use Rattle.yt_queue.specs.Settings.{settings_of}
+use Rattle.yt_queue.specs.Walks.{ReadsAtMost}
+use Rattle.yt_queue.specs.declared.records.Record.{Record}
 use Rattle.yt_core.proofs.Placing.{above_numbers, above_more, above_fresh, above_prepared}
 use Rattle.yt_core.proofs.Telling.{between_there}
 use Rattle.yt_core.proofs.stepping.prepare_at.Goals as goal
@@ -21,3 +24,9 @@ returns-clause-prepared c =
 pub returns-clause-fresh : goal.returns-clause-fresh
 returns-clause-fresh c =
     above_fresh c.args.queue.now c.above-upper.result.now c.args.place c.in_ok-prepared.prepared.left.fresh.items c.above-upper.ensures.rest c.in_ok-prepared.ensures.fresh
+
+pub prepare-requires-clause-read : goal.prepare-requires-clause-read
+prepare-requires-clause-read c = subst (λ (rs : List Record). ReadsAtMost rs c.readers_above-readers.result) (sym c.above-upper.ensures.rest) c.readers_above-readers.ensures.read
+
+pub prepare-requires-clause-within : goal.prepare-requires-clause-within
+prepare-requires-clause-within c = subst (λ (rs : List Record). c.readers_above-readers.result ≤ length rs) (sym c.above-upper.ensures.rest) c.readers_above-readers.ensures.within

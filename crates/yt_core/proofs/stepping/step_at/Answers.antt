@@ -1,7 +1,8 @@
-use Rattle.std.proofs.Common.{[]}
+use Rattle.std.proofs.Common.{[], arith}
 use Rattle.yt_queue.specs.Settings.{settings_of}
 use Rattle.yt_core.proofs.Delivering.{same_more, same_plan, steps_from}
 use Rattle.yt_core.proofs.Committing.{same_committed}
+use Rattle.yt_core.proofs.Unread.{same_unread}
 use Rattle.yt_core.proofs.stepping.step_at.Goals as goal
 
 pub make_step-requires-clause-more : goal.make_step-requires-clause-more
@@ -17,3 +18,12 @@ returns-clause-made c =
 
 pub make_step-requires-clause-least : goal.make_step-requires-clause-least
 make_step-requires-clause-least c = same_committed c.args.queue.now c.reserve_step.new.queue c.args.least c.reserve_step.ensures.same c.requires.least
+
+pub make_step-requires-clause-most : goal.make_step-requires-clause-most
+make_step-requires-clause-most c = same_unread c.args.queue.now c.reserve_step.new.queue c.args.most c.reserve_step.ensures.same c.requires.most
+
+pub make_step-requires-clause-few : goal.make_step-requires-clause-few
+make_step-requires-clause-few c = omega arith
+
+pub returns-clause-most : goal.returns-clause-most
+returns-clause-most c = λ n l h. c.in_ok-committed.ensures.most n l (same_unread c.args.queue.now c.reserve_step.new.queue n c.reserve_step.ensures.same h)

@@ -1,4 +1,5 @@
-use Rattle.std.proofs.Common.{refl}
+use Rattle.std.proofs.Common.{refl, arith}
+use Rattle.yt_queue.proofs.Unread.{all_may_read}
 use Rattle.yt_queue.specs.Settings.{settings_of}
 use Rattle.yt_core.proofs.Placing.{if_ok}
 use Rattle.yt_core.proofs.Preparing.{loss_found}
@@ -9,3 +10,6 @@ returns-clause-found c =
     if_ok c.causes_of_loss.result _ _
     (λ found are. loss_found _ (settings_of c.args.settings) c.args.item.now c.args.upper.now c.trail.result.now found.items refl c.number.ensures.number c.trail.ensures.trail are)
     c.causes_of_loss.ensures.causes
+
+pub causes_of_loss-requires-clause-read : goal.causes_of_loss-requires-clause-read
+causes_of_loss-requires-clause-read c = all_may_read c.args.upper.now c.len.result (omega arith)

@@ -1,12 +1,11 @@
-use Rattle.std.proofs.Common.{◌∙◌, ap, sym, subst, [], List, map, arith}
+use Rattle.std.proofs.Common.{◌∙◌, ap, sym, subst, [], List, map}
 use Rattle.std.specs.Prelude.{is_some}
 use Rattle.std.proofs.lemmas.List.{append-nil, drop_all}
 use Rattle.yt_queue.specs.Renewals.{AreFresh}
-use Rattle.yt_queue.specs.declared.records.Record.{Record}
 use Rattle.yt_queue.proofs.renewals.fresh_programs.Goals as goal
 
 pub returns-clause-fresh : goal.returns-clause-fresh
-returns-clause-fresh c = subst (AreFresh c.args.upper.now) (append-nil c.loop-i.fresh.items) (c.loop-i.invariant.fresh [] (subst (λ (rs : List Record). AreFresh rs []) (sym (drop_all c.loop-i.i c.args.upper.now c.loop-i-test.false)) tt))
+returns-clause-fresh c = subst (AreFresh c.args.upper.now) (append-nil c.loop-i.fresh.items) (c.loop-i.invariant.fresh [] tt)
 
 pub returns-clause-there : goal.returns-clause-there
-returns-clause-there c = sym (ap (map is_some) (append-nil c.loop-i.fresh.items)) ∙ c.loop-i.invariant.there [] (sym (ap (map is_some) (drop_all c.loop-i.i c.args.causes.now (let h = c.loop-i-test.false in let e = c.requires.long in omega (arith, h, e)))))
+returns-clause-there c = sym (ap (map is_some) (append-nil c.loop-i.fresh.items)) ∙ c.loop-i.invariant.there [] (sym (ap (map is_some) (drop_all c.loop-i.i c.args.causes.now c.loop-i-test.false)))

@@ -3,12 +3,12 @@ use Rattle.yt_entries.specs.Meanings.{entry_of}
 use Rattle.yt_query.specs.Meanings.{read_of}
 use Rattle.yt_queue.specs.Queues.{AreFrom}
 use Rattle.yt_queue.specs.Renewals.{AllHaveOneMore}
-use Rattle.yt_queue.specs.Walks.{CommitsAtLeast}
+use Rattle.yt_queue.specs.Walks.{CommitsAtLeast, ReadsAtMost}
 use Rattle.yt_queue.specs.declared.records.Record.{Record}
 use Rattle.yt_core.specs.Planned.{PlanMeant}
 use Rattle.yt_core.proofs.Making.{some_number, ready_within, all_one_more, plan_ready, plan_between, core_steps, kept_ok, kept_err, has_stepped}
-use Rattle.yt_queue.proofs.Walking.{none_committed}
 use Rattle.yt_core.proofs.Committing.{least_ok}
+use Rattle.yt_core.proofs.Unread.{with_nothing_noted, most_ok, more_read}
 use Rattle.yt_core.proofs.cores.Core.install.Goals as goal
 
 pub place_of-place-requires : goal.place_of-place-requires
@@ -21,6 +21,15 @@ step_at-requires-clause-place c =
 
 pub step_at-requires-clause-least : goal.step_at-requires-clause-least
 step_at-requires-clause-least c = subst (λ (rs : List Record). CommitsAtLeast rs c.self.inside.least) (sym c.deref_mut.ensures.value) c.self.invariant.1
+
+pub reads_at_most-most-requires : goal.reads_at_most-most-requires
+reads_at_most-most-requires c = record { most = subst (λ (rs : List Record). ReadsAtMost rs c.self.inside.most) (sym c.deref.ensures.value) c.self.invariant.2 }
+
+pub step_at-requires-clause-most : goal.step_at-requires-clause-most
+step_at-requires-clause-most c = subst (λ (rs : List Record). ReadsAtMost rs c.reads_at_most-most.result) (c.deref.ensures.value ∙ sym c.deref_mut.ensures.value) c.reads_at_most-most.ensures.most
+
+pub step_at-requires-clause-few : goal.step_at-requires-clause-few
+step_at-requires-clause-few c = subst (λ (rs : List Record). c.reads_at_most-most.result ≤ length rs) (c.deref.ensures.value ∙ sym c.deref_mut.ensures.value) c.reads_at_most-most.ensures.within
 
 pub step_at-requires-clause-numbers : goal.step_at-requires-clause-numbers
 step_at-requires-clause-numbers c = subst (λ (rs : List Record). AreFrom 1 rs) (sym c.deref_mut.ensures.value) c.self.invariant.0.numbers
@@ -42,12 +51,11 @@ step_at-requires-clause-after c =
     (ap (λ (n : ℕ). record { update = n; program = c.plan.inside.step.program; reads = map read_of c.plan.inside.step.reads.items }) (sym (ap (λ (p : PlanMeant). p.update) c.plan.view_is)) ∙ c.plan.view_is) c.requires.step
 
 pub invariant_of-self : goal.invariant_of-self
-invariant_of-self c = (
-  kept_err _ c.self.inside.versions c.step_at.new.versions c.self.inside.queue.items c.deref_mut.result.now c.step_at.new.queue (drop (length c.step_at.new.queue) c.self.inside.queue.items) c.self.inside.queue.len
+invariant_of-self c =
+  with_nothing_noted _ _ _ _
+  (kept_err _ c.self.inside.versions c.step_at.new.versions c.self.inside.queue.items c.deref_mut.result.now c.step_at.new.queue (drop (length c.step_at.new.queue) c.self.inside.queue.items) c.self.inside.queue.len
       c.self.inside.history.items c.step_at.new.history.items (omega arith) c.self.invariant.0 c.deref_mut.ensures.value c.in_err-committed.ensures.versions c.in_err-committed.ensures.queue c.step_at.ensures.long
-      c.in_err-committed.ensures.history,
-  none_committed _,
-)
+      c.in_err-committed.ensures.history)
 
 pub invariant_of-self-2 : goal.invariant_of-self-2
 invariant_of-self-2 c = (
@@ -57,6 +65,10 @@ invariant_of-self-2 c = (
       (ap (λ (n : ℕ). record { update = n; program = c.plan.inside.step.program; reads = map read_of c.plan.inside.step.reads.items }) (sym (ap (λ (p : PlanMeant). p.update) c.plan.view_is)) ∙ c.plan.view_is) c.requires.step
       c.step_at.new.versions c.step_at.new.queue c.step_at.new.history.items c.in_ok-committed.ensures.made).kept,
   least_ok c.step_at.new.queue (drop (length c.step_at.new.queue) c.self.inside.queue.items) c.self.inside.queue.len c.in_ok-committed.committed (omega arith) c.in_ok-committed.ensures.committed,
+  most_ok c.step_at.new.queue (drop (length c.step_at.new.queue) c.self.inside.queue.items) c.self.inside.queue.len c.raised.result (omega arith)
+      (c.in_ok-committed.ensures.most c.raised.result (let u = c.raised.ensures.update in let p = c.place_of-place.ensures in omega (arith, u, p))
+      (more_read c.deref_mut.result.now c.reads_at_most-most.result c.raised.result c.raised.ensures.most
+      (subst (λ (rs : List Record). ReadsAtMost rs c.reads_at_most-most.result) (c.deref.ensures.value ∙ sym c.deref_mut.ensures.value) c.reads_at_most-most.ensures.most))),
 )
 
 pub returns-clause-made : goal.returns-clause-made

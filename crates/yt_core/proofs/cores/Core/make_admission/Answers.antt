@@ -2,21 +2,20 @@ use Rattle.std.proofs.Common.{◌∙◌, ap, refl, sym, subst, ℕ, suc, ◌<◌
 use Rattle.yt_queue.specs.Settings.{settings_of}
 use Rattle.yt_core.proofs.Arriving.{admission_kept, has_admitted}
 use Rattle.yt_core.proofs.Telling.{count_told}
-use Rattle.yt_queue.proofs.Walking.{none_committed}
+use Rattle.yt_core.proofs.Unread.{with_nothing_noted}
 use Rattle.yt_core.proofs.cores.Core.make_admission.Goals as goal
 
 pub admit_at-requires-clause-few : goal.admit_at-requires-clause-few
 admit_at-requires-clause-few c = subst (λ (n : ℕ). n < 1000) (sym (count_told _ _ c.self.inside.queue.items _ c.self.invariant.0.left c.self.view_is)) c.requires.few
 
 pub invariant_of-self : goal.invariant_of-self
-invariant_of-self c = (search (rules), none_committed _)
+invariant_of-self c = with_nothing_noted _ _ _ _ (search (rules))
 
 pub invariant_of-self-2 : goal.invariant_of-self-2
-invariant_of-self-2 c = (
-  admission_kept c.self.inside.mappings c.self.inside.budget (settings_of c.self.inside.settings) c.self.inside.base.now c.self.inside.updates.now c.self.inside.later c.admit_at.new.later c.self.inside.versions
-      c.self.inside.queue.items c.admit_at.new.queue.items c.self.inside.history.items c.admit_at.new.history.items c.args.update c.self.invariant.0 c.in_ok-number.ensures.later c.in_ok-number.ensures.made,
-  none_committed _,
-)
+invariant_of-self-2 c =
+  with_nothing_noted _ _ _ _
+  (admission_kept c.self.inside.mappings c.self.inside.budget (settings_of c.self.inside.settings) c.self.inside.base.now c.self.inside.updates.now c.self.inside.later c.admit_at.new.later c.self.inside.versions
+      c.self.inside.queue.items c.admit_at.new.queue.items c.self.inside.history.items c.admit_at.new.history.items c.args.update c.self.invariant.0 c.in_ok-number.ensures.later c.in_ok-number.ensures.made)
 
 pub returns-clause-made : goal.returns-clause-made
 returns-clause-made c =

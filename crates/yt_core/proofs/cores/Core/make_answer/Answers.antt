@@ -4,7 +4,7 @@ use Rattle.yt_entries.specs.Meanings.{entry_of}
 use Rattle.yt_machine.specs.Effects.{Answers}
 use Rattle.yt_core.proofs.Making.{some_number, kept_ok, kept_err, has_made}
 use Rattle.yt_core.proofs.Replying.{paused_number, paused_within, paused_numbers, core_answers}
-use Rattle.yt_queue.proofs.Walking.{none_committed}
+use Rattle.yt_core.proofs.Unread.{with_nothing_noted}
 use Rattle.yt_core.proofs.cores.Core.make_answer.Goals as goal
 
 pub place_of-place-requires : goal.place_of-place-requires
@@ -21,19 +21,17 @@ answer_at-requires-clause-numbers c =
     c.deref_mut.ensures.value
 
 pub invariant_of-self : goal.invariant_of-self
-invariant_of-self c = (
-  kept_err _ c.self.inside.versions c.self.inside.versions c.self.inside.queue.items c.deref_mut.result.now c.answer_at.new.queue (drop (length c.answer_at.new.queue) c.self.inside.queue.items) c.self.inside.queue.len
-      c.self.inside.history.items c.answer_at.new.history.items (omega arith) c.self.invariant.0 c.deref_mut.ensures.value refl c.in_err-answer_at.ensures.queue c.answer_at.ensures.long c.in_err-answer_at.ensures.history,
-  none_committed _,
-)
+invariant_of-self c =
+  with_nothing_noted _ _ _ _
+  (kept_err _ c.self.inside.versions c.self.inside.versions c.self.inside.queue.items c.deref_mut.result.now c.answer_at.new.queue (drop (length c.answer_at.new.queue) c.self.inside.queue.items) c.self.inside.queue.len
+      c.self.inside.history.items c.answer_at.new.history.items (omega arith) c.self.invariant.0 c.deref_mut.ensures.value refl c.in_err-answer_at.ensures.queue c.answer_at.ensures.long c.in_err-answer_at.ensures.history)
 
 pub invariant_of-self-2 : goal.invariant_of-self-2
-invariant_of-self-2 c = (
-  kept_ok _ c.self.inside.versions c.answer_at.new.queue (drop (length c.answer_at.new.queue) c.self.inside.queue.items) c.self.inside.queue.len (map entry_of c.answer_at.new.history.items) (omega arith)
+invariant_of-self-2 c =
+  with_nothing_noted _ _ _ _
+  (kept_ok _ c.self.inside.versions c.answer_at.new.queue (drop (length c.answer_at.new.queue) c.self.inside.queue.items) c.self.inside.queue.len (map entry_of c.answer_at.new.history.items) (omega arith)
       (core_answers _ c.self.inside.versions c.self.inside.queue.items c.self.inside.history.items _ c.self.invariant.0 c.self.view_is c.args.update c.requires.paused c.place_of-place.result c.place_of-place.ensures c.deref_mut.result.now
-      c.deref_mut.ensures.value c.answer_at.new.queue c.answer_at.new.history.items (choice_of c.args.choice) c.requires.fits c.in_ok-answer_at.ensures.made).kept,
-  none_committed _,
-)
+      c.deref_mut.ensures.value c.answer_at.new.queue c.answer_at.new.history.items (choice_of c.args.choice) c.requires.fits c.in_ok-answer_at.ensures.made).kept)
 
 pub returns-clause-made : goal.returns-clause-made
 returns-clause-made c =

@@ -6,7 +6,7 @@ use Rattle.yt_queue.specs.Renewals.{AllHaveOneMore}
 use Rattle.yt_queue.specs.declared.records.Record.{Record}
 use Rattle.yt_core.proofs.Losing.{live_number, live_within, core_withdraws, same_all}
 use Rattle.yt_core.proofs.Making.{some_number, all_one_more, kept_ok, kept_err, has_made}
-use Rattle.yt_queue.proofs.Walking.{none_committed}
+use Rattle.yt_core.proofs.Unread.{with_nothing_noted}
 use Rattle.yt_core.proofs.cores.Core.make_withdrawal.Goals as goal
 
 pub place_of-place-requires : goal.place_of-place-requires
@@ -24,20 +24,18 @@ pub withdraw_at-requires-clause-more : goal.withdraw_at-requires-clause-more
 withdraw_at-requires-clause-more c = subst (λ (rs : List Record). AllHaveOneMore rs) (sym c.deref_mut.ensures.value) (all_one_more _ c.self.inside.versions c.self.inside.queue.items _ c.self.invariant.0)
 
 pub invariant_of-self : goal.invariant_of-self
-invariant_of-self c = (
-  kept_err _ c.self.inside.versions c.withdraw_at.new.versions c.self.inside.queue.items c.deref_mut.result.now c.withdraw_at.new.queue (drop (length c.withdraw_at.new.queue) c.self.inside.queue.items) c.self.inside.queue.len
+invariant_of-self c =
+  with_nothing_noted _ _ _ _
+  (kept_err _ c.self.inside.versions c.withdraw_at.new.versions c.self.inside.queue.items c.deref_mut.result.now c.withdraw_at.new.queue (drop (length c.withdraw_at.new.queue) c.self.inside.queue.items) c.self.inside.queue.len
       c.self.inside.history.items c.withdraw_at.new.history.items (omega arith) c.self.invariant.0 c.deref_mut.ensures.value c.in_err-withdraw_at.ensures.versions
-      (same_all c.deref_mut.result.now c.withdraw_at.new.queue c.in_err-withdraw_at.ensures.queue) c.withdraw_at.ensures.long c.in_err-withdraw_at.ensures.history,
-  none_committed _,
-)
+      (same_all c.deref_mut.result.now c.withdraw_at.new.queue c.in_err-withdraw_at.ensures.queue) c.withdraw_at.ensures.long c.in_err-withdraw_at.ensures.history)
 
 pub invariant_of-self-2 : goal.invariant_of-self-2
-invariant_of-self-2 c = (
-  kept_ok _ c.withdraw_at.new.versions c.withdraw_at.new.queue (drop (length c.withdraw_at.new.queue) c.self.inside.queue.items) c.self.inside.queue.len (map entry_of c.withdraw_at.new.history.items) (omega arith)
+invariant_of-self-2 c =
+  with_nothing_noted _ _ _ _
+  (kept_ok _ c.withdraw_at.new.versions c.withdraw_at.new.queue (drop (length c.withdraw_at.new.queue) c.self.inside.queue.items) c.self.inside.queue.len (map entry_of c.withdraw_at.new.history.items) (omega arith)
       (core_withdraws _ c.self.inside.versions c.self.inside.queue.items c.self.inside.history.items _ c.self.invariant.0 c.self.view_is c.args.update c.requires.live c.place_of-place.result c.place_of-place.ensures c.deref_mut.result.now
-      c.deref_mut.ensures.value c.withdraw_at.new.versions c.withdraw_at.new.queue c.withdraw_at.new.history.items c.in_ok-withdraw_at.ensures.made).kept,
-  none_committed _,
-)
+      c.deref_mut.ensures.value c.withdraw_at.new.versions c.withdraw_at.new.queue c.withdraw_at.new.history.items c.in_ok-withdraw_at.ensures.made).kept)
 
 pub returns-clause-made : goal.returns-clause-made
 returns-clause-made c =
