@@ -8,6 +8,7 @@ pub mod Delivering
 pub mod Telling
 pub mod Entering
 pub mod Making
+pub mod Planning
 pub mod Replying
 pub mod Losing
 pub mod Arriving

@@ -1,4 +1,4 @@
-use Rattle.yt_core.proofs.Making.{can_step, steps_left, stands_applied, number_few, has_settled, snapshot_taken}
+use Rattle.yt_core.proofs.Planning.{can_step, steps_left, stands_applied, number_few, has_settled, snapshot_taken}
 use Rattle.yt_core.proofs.plans.snapshot_of.Goals as goal
 
 pub invariant_of-result : goal.invariant_of-result
@@ -7,7 +7,7 @@ invariant_of-result c =
       wanted = can_step c.args.item.now c.in_ok-program.program _ c.requires.ready c.in_ok-answer.ensures.wanted c.in_ok-program.ensures.same;
       left = steps_left c.args.item.now c.in_ok-program.program c.args.budget c.in_ok-program.ensures.same c.requires.left;
       applied = stands_applied _ c.args.versions.now c.in_ok-versions.versions c.args.item.now c.number.result c.in_ok-program.program c.in_ok-versions.ensures.same c.number.ensures.number c.in_ok-program.ensures.same c.requires.held;
-      settled = has_settled _ c.of.result c.args.versions.now c.in_ok-versions.versions c.args.item.now c.number.result c.in_ok-program.program c.in_ok-settled.settled c.of.ensures.rules c.in_ok-versions.ensures.same c.number.ensures.number c.in_ok-program.ensures.same c.requires.held ?;
+      settled = has_settled _ c.of.result c.args.versions.now c.in_ok-versions.versions c.args.item.now c.number.result c.in_ok-program.program c.in_ok-settled.settled c.of.ensures.rules c.in_ok-versions.ensures.same c.number.ensures.number c.in_ok-program.ensures.same c.requires.held c.in_ok-settled.ensures.settled;
       few = number_few _ c.args.versions.now c.args.item.now c.number.result c.number.ensures.number c.requires.held;
     }
 

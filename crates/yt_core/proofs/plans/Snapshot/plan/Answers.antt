@@ -3,7 +3,7 @@ use Rattle.std.specs.Option.{option_map}
 use Rattle.yt_base.specs.Meanings.{choice_of}
 use Rattle.yt_model.specs.Repository.{apply}
 use Rattle.yt_versions.specs.Standing.{seen}
-use Rattle.yt_core.proofs.Making.{planned_same}
+use Rattle.yt_core.proofs.Planning.{planned_same}
 use Rattle.yt_core.proofs.plans.Snapshot.plan.Goals as goal
 
 pub plan_step-requires-clause-applied : goal.plan_step-requires-clause-applied
