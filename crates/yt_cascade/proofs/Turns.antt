@@ -61,15 +61,23 @@ settle_on M deps conflicting c j E N F G ks ls n u us b x before all ex eb ef eg
     ∙ ap (λ zs. before ++ zs) (λ i. ex i ∷ settle M deps conflicting c j (ef i) (without i) (members i) (suc n) us)
     ∙ h
 
--- What has read nothing has no cause.
+-- The causes that a log gives.
+abbrev changed_in : (M : Machine) → M.Repository → Update M → List (Read M) → Option (Changed M)
+changed_in M E u ls =
+    option_map (λ t. record { read = t.0; old = t.1.answer; new = value_now M u.operation E (M.own u.state) t.1 })
+    (first_that (λ r. not (is_valid M u.operation E (M.own u.state) r)) ls)
+
+abbrev conflict_by : (M : Machine) → ℕ → M.Repository → ℕ → Update M → List (Read M) → Option (Cause M)
+conflict_by M j E n u ls = option_map (λ x. Conflict n x.read j x.old x.new) (changed_in M E u ls)
+
+abbrev dependence_by : (M : Machine) → Deps → M.Repository → List (Member M) → ℕ → Update M → List (Read M) → Option (Cause M)
+dependence_by M deps N ks n u ls = option_map (λ t. Depends n t.0 (writer_for M t.1 ks)) (first_that (read_depends M deps u.operation N (M.own u.state) ks) ls)
+
+-- What has read nothing has none.
 unread_has_none : (M : Machine) (deps : Deps) (conflicting : Bool) (c j : ℕ) (E N : M.Repository) (ks : List (Member M)) (n : ℕ) (u : Update M) → u.log ≡ [] → cause_of M deps conflicting c j E N ks n u ≡ None
 unread_has_none M deps conflicting c j E N ks n u h =
-    let conflict : List (Read M) → Option (Cause M) =
-    λ ls. option_map (λ (x : Changed M). Conflict n x.read j x.old x.new)
-    (option_map (λ (t : ℕ × Read M). record { read = t.0; old = t.1.answer; new = value_now M u.operation E (M.own u.state) t.1 }) (first_that (λ r. not (is_valid M u.operation E (M.own u.state) r)) ls)) in
-    let dependence : List (Read M) → Option (Cause M) =
-    λ ls. option_map (λ (t : ℕ × Read M). Depends n t.0 (writer_for M t.1 ks)) (first_that (read_depends M deps u.operation N (M.own u.state) ks) ls) in
-    idle conflicting (is_live M c n u) (not (is_nil ks)) (conflict u.log) (dependence u.log) (λ l. ap conflict h) (λ l. ap dependence h)
+    idle conflicting (is_live M c n u) (not (is_nil ks)) (conflict_by M j E n u u.log) (dependence_by M deps N ks n u u.log)
+    (λ l. ap (conflict_by M j E n u) h) (λ l. ap (dependence_by M deps N ks n u) h)
 
 -- The readers that are left have their numbers in turn.
 pub later_from : (n i : ℕ) (rs : List Record) (r : Record) → i < length rs → r ≡ get_or rs i r → AreFrom n (drop i rs) → StandsAt n r × AreFrom (suc n) (drop (i + 1) rs)
@@ -155,11 +163,11 @@ module _ (a : Above) (conflicting : Bool) (B : ℕ) (ws : List Change) where
       → map (no_cause a.rules B) rs ≡ settle (caused_chase a.rules B) a.deps conflicting a.committed a.update E N ks n (updates_of a.rules B rs)
   none_of E N ks n [] h = refl
   none_of E N ks n (r ∷ rs) h =
-      let M : Machine = caused_chase a.rules B in
       let u : Update (caused_chase a.rules B) = update_of a.rules B r in
-      let x : Option (Cause (caused_chase a.rules B)) = cause_of M a.deps conflicting a.committed a.update E N ks n u in
-      λ i. sym (unread_has_none M a.deps conflicting a.committed a.update E N ks n u h.0) i
-      ∷ none_of (apply E (trail M u)) (without_member M (is_some x) N u) (with_member M (is_some x) ks n u) (suc n) rs h.1 i
+      let x : Option (Cause (caused_chase a.rules B)) = cause_of (caused_chase a.rules B) a.deps conflicting a.committed a.update E N ks n u in
+      let none : x ≡ None = unread_has_none (caused_chase a.rules B) a.deps conflicting a.committed a.update E N ks n u h.0 in
+      λ i. sym none i
+      ∷ none_of (apply E (trail (caused_chase a.rules B) u)) (without_member (caused_chase a.rules B) (is_some x) N u) (with_member (caused_chase a.rules B) (is_some x) ks n u) (suc n) rs h.1 i
 
   -- Once all have that may have read something.
   pub at_end : (all : List (Option (Cause (caused_chase a.rules B)))) (lost : Lost) (i : ℕ) (rs : List Record) (xs : List (Option CauseOfProgram)) → length xs ≡ i → ReadsAtMost rs i → Turn a conflicting B ws all lost (drop i rs) xs → found_for a.rules B rs xs ≡ all

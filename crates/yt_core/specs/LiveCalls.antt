@@ -1,5 +1,5 @@
 -- What is answered to the calls that people make while updates go on.
-use Rattle.std.specs.Prelude.{◌≡◌, ◌&&◌, ◌≤◌, ◌<◌, ℕ, suc, Bool, true, false, not, nat_lt, Option, Some, None, is_some, Result, Ok, Err}
+use Rattle.std.specs.Prelude.{◌≡◌, ◌&&◌, ◌≤◌, ◌<◌, ℕ, suc, Bool, true, false, not, nat_lt, List, length, Option, Some, None, is_some, Result, Ok, Err}
 use Rattle.yt_entries.specs.Meanings.{standing_of}
 use Rattle.yt_history.specs.Cores.{grown, machine}
 use Rattle.yt_history.specs.CoreLaws.{handed}
@@ -8,7 +8,9 @@ use Rattle.yt_machine.specs.Standings.{Standing, Ready, Held, Paused, Ended, Wit
 use Rattle.yt_model.specs.Updates.{Choice, Operation}
 use Rattle.yt_base.specs.declared.updates.Choice.{Choice as ChoiceOfProgram}
 use Rattle.yt_base.specs.declared.updates.Update.{Update}
-use Rattle.yt_core.specs.States.{State, question_at}
+use Rattle.yt_admits.specs.Admissible.{admits}
+use Rattle.yt_grammar.specs.Sessions.{RelationSchema}
+use Rattle.yt_core.specs.States.{State, question_at, updates_at}
 use Rattle.yt_core.specs.declared.refusals.AdmitRefusal.{AdmitRefusal}
 use Rattle.yt_core.specs.declared.refusals.AdmitRefusal.TheVariants as admit
 use Rattle.yt_core.specs.declared.refusals.AnswerRefusal.{AnswerRefusal}
@@ -63,6 +65,10 @@ AnswersWithdrawal s c n (Err withdraw.Withdrawn) = (s ≡ Some Withdrawn) × (c 
 AnswersWithdrawal s c n (Err withdraw.Memory) = is_live_in s c n ≡ true
 
 -- ---- admissions
+
+-- The operation may stand behind the updates of the state, over these relations.
+abbrev pub admits_at : State → List RelationSchema → Operation → Bool
+admits_at s relations op = admits relations (length (updates_at s)) op
 
 -- One more update was handed in and admitted: the history is over it too, and has its entry behind the others.
 pub record HasAdmitted (old : State) (op : Operation) (new : State) : Type 0 where

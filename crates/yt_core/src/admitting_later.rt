@@ -1,19 +1,29 @@
 //! Updates that are admitted while others go on.
 ghost use Rattle.std.specs.Prelude.{◌≡◌, ◌<◌, suc, length, IfOk, IfErr, OnOk, OnErr};
 ghost use Rattle.yt_base.specs.Meanings.{operation_of};
-ghost use Rattle.yt_core.specs.LiveCalls.{AnswersAdmission, HasAdmitted};
+ghost use Rattle.yt_core.specs.LiveCalls.{AnswersAdmission, HasAdmitted, admits_at};
 ghost use Rattle.yt_core.specs.States.{updates_at};
 
 use crate::admissions::admit_at;
 use crate::cores::Core;
 use crate::refusals::AdmitRefusal;
 use std::alloc::Global;
+use yt_admits::admits;
 use yt_base::Update;
+use yt_schema::Schema;
 
 impl<'s> Core<'s> {
+    /// Whether the update may be admitted next, over the relations of this schema: it fits them, its words are at most 256
+    /// bytes of UTF-8, its nulls come from updates that are there, and it puts no mapping in force. It takes no memory.
+    pub fn admits(&self, schema: &Schema, update: &Update) -> bool
+        ensures admits { result ≡ admits_at self.now schema.now (operation_of update.now.operation) }
+    {
+        admits(schema, self.count(), &update.operation)
+    }
+
     /// Admits one more update, behind the others and with no recorded answers. It gives its number. Where it is refused the
-    /// update is handed back, and the core is unchanged. Whether it fits the schema and names nulls of lower updates alone
-    /// is for the caller to test.
+    /// update is handed back, and the core is unchanged. Whether it may be admitted, as `admits` tells, is for the caller to
+    /// test.
     pub fn admit(&mut self, alloc: Global, update: Update) -> Result<u32, (AdmitRefusal, Update)>
         ensures made { OnOk result (HasAdmitted self.old (operation_of update.operation) self.new) }
         ensures kept { OnErr result (self.new ≡ self.old) }

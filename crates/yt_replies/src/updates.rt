@@ -13,7 +13,6 @@ use crate::conversations::Conversation;
 use crate::operations::known_operation;
 use crate::refusals::{Refusal, refused};
 use std::alloc::Global;
-use yt_admits::admits;
 use yt_base::{Memory, Name, Operation, TryCopy, Update};
 use yt_forms::RawOperation;
 
@@ -72,7 +71,7 @@ impl<'s> Conversation<'s> {
         if self.core.count() >= 1000 {
             return refused(alloc, Refusal::Full);
         }
-        if !admits(&self.session.schema, self.core.count(), &update.operation) {
+        if !self.core.admits(&self.session.schema, &update) {
             return refused(alloc, Refusal::Null);
         }
         self.admit(alloc, update)
