@@ -13,9 +13,9 @@ invariant_of-self c = with_nothing_noted _ _ _ _ (search (rules))
 
 pub invariant_of-self-2 : goal.invariant_of-self-2
 invariant_of-self-2 c =
-  with_nothing_noted _ _ _ _
-  (admission_kept c.self.inside.mappings c.self.inside.budget (settings_of c.self.inside.settings) c.self.inside.base.now c.self.inside.updates.now c.self.inside.later c.admit_at.new.later c.self.inside.versions
-      c.self.inside.queue.items c.admit_at.new.queue.items c.self.inside.history.items c.admit_at.new.history.items c.args.update c.self.invariant.0 c.in_ok-number.ensures.later c.in_ok-number.ensures.made)
+    with_nothing_noted _ _ _ _
+    (admission_kept c.self.inside.mappings c.self.inside.budget (settings_of c.self.inside.settings) c.self.inside.base.now c.self.inside.updates.now c.self.inside.later c.admit_at.new.later c.self.inside.versions
+    c.self.inside.queue.items c.admit_at.new.queue.items c.self.inside.history.items c.admit_at.new.history.items c.args.update c.self.invariant.0 c.in_ok-number.ensures.later c.in_ok-number.ensures.made)
 
 pub returns-clause-made : goal.returns-clause-made
 returns-clause-made c =
