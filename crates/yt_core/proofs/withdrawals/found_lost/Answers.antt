@@ -1,4 +1,4 @@
-use Rattle.std.proofs.Common.{refl, arith}
+use Rattle.std.proofs.Common.{refl, arith, length}
 use Rattle.yt_queue.proofs.Unread.{all_may_read}
 use Rattle.yt_queue.specs.Settings.{settings_of}
 use Rattle.yt_core.proofs.Placing.{if_ok}
@@ -12,4 +12,4 @@ returns-clause-found c =
     c.causes_of_loss.ensures.causes
 
 pub causes_of_loss-requires-clause-read : goal.causes_of_loss-requires-clause-read
-causes_of_loss-requires-clause-read c = all_may_read c.args.upper.now c.len.result (omega arith)
+causes_of_loss-requires-clause-read c = all_may_read c.args.upper.now (length c.args.upper.now) (omega arith)
