@@ -65,9 +65,9 @@ invariant_of-self-2 c = (
       (ap (λ (n : ℕ). record { update = n; program = c.plan.inside.step.program; reads = map read_of c.plan.inside.step.reads.items }) (sym (ap (λ (p : PlanMeant). p.update) c.plan.view_is)) ∙ c.plan.view_is) c.requires.step
       c.step_at.new.versions c.step_at.new.queue c.step_at.new.history.items c.in_ok-committed.ensures.made).kept,
   least_ok c.step_at.new.queue (drop (length c.step_at.new.queue) c.self.inside.queue.items) c.self.inside.queue.len c.in_ok-committed.committed (omega arith) c.in_ok-committed.ensures.committed,
-  most_ok c.step_at.new.queue (drop (length c.step_at.new.queue) c.self.inside.queue.items) c.self.inside.queue.len c.raised.result (omega arith)
-      (c.in_ok-committed.ensures.most c.raised.result (let u = c.raised.ensures.update in let p = c.place_of-place.ensures in omega (arith, u, p))
-      (more_read c.deref_mut.result.now c.reads_at_most-most.result c.raised.result c.raised.ensures.most
+  most_ok c.step_at.new.queue (drop (length c.step_at.new.queue) c.self.inside.queue.items) c.self.inside.queue.len c.raised-self-inside.result (omega arith)
+      (c.in_ok-committed.ensures.most c.raised-self-inside.result (let u = c.raised-self-inside.ensures.update in let p = c.place_of-place.ensures in omega (arith, u, p))
+      (more_read c.deref_mut.result.now c.reads_at_most-most.result c.raised-self-inside.result c.raised-self-inside.ensures.most
       (subst (λ (rs : List Record). ReadsAtMost rs c.reads_at_most-most.result) (c.deref.ensures.value ∙ sym c.deref_mut.ensures.value) c.reads_at_most-most.ensures.most))),
 )
 
