@@ -16,7 +16,8 @@ impl<'s> Core<'s> {
     /// Whether the update may be admitted next, over the relations of this schema: it fits them, its words are at most 256
     /// bytes of UTF-8, its nulls come from updates that are there, and it puts no mapping in force. It takes no memory.
     pub fn admits(&self, schema: &Schema, update: &Update) -> bool
-        ensures admits { result ≡ admits_at self.now schema.now (operation_of update.now.operation) }
+        ensures admits { result ≡ admits_at self.now schema.now
+            (operation_of update.now.operation) }
     {
         admits(schema, self.count(), &update.operation)
     }
