@@ -91,6 +91,10 @@ performed words (Command o) status source out err none says did = plainly o.comm
 performed words Help status source out err none says did = did
 performed words Version status source out err none says did = did
 
+-- nothing was found, so no work is asked for
+pub unasked : (words : List Letters) (found : Option ByWorkers) → found ≡ None → IfNone found (AskForNoWork words) → AskForNoWork words
+unasked words found is asks = subst (λ (x : Option ByWorkers). IfNone x (AskForNoWork words)) is asks
+
 -- where no work is asked for, a call of the part without threads is one of the program
 pub plain_calls : (words : List Letters) (status : Status) (source out err : Change) → AskForNoWork words → CallsPlainly words status source out err
     → Calls words status source out err
