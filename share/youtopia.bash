@@ -7,8 +7,8 @@ _youtopia() {
     --workers|--steps|--retries|--query|--tuple|--count|--seed) return ;;
   esac
   case $word in
-    -*) COMPREPLY=($(compgen -W "--workers --deps --steps --retries --trace --query --tuple --help --version --count --seed" -- "$word")) ;;
-    *) COMPREPLY=($(compgen -W "run serial format check save upgrade ask explain journal recover" -- "$word")) ;;
+    -*) COMPREPLY=($(compgen -W "--workers --deps --steps --retries --trace --query --tuple --count --seed --help --version" -- "$word")) ;;
+    *) COMPREPLY=($(compgen -W "run serial format check save upgrade ask explain drill journal recover" -- "$word")) ;;
   esac
 }
 complete -F _youtopia youtopia

@@ -18,3 +18,7 @@ for row in "${rows[@]}"; do
   attack "tests/rows/$row" FAULTS=write FAULTS_PIECE=20 FAULTS_MUTE=1
   attack "tests/rows/$row" FAULTS=read FAULTS_PIECE=20 FAULTS_MUTE=1 FAULTS_LASTING=1
 done
+# drill reads nothing.
+for piece in 1 7 20 1000000; do
+  attack tests/rows/drill-one FAULTS=write FAULTS_PIECE=$piece
+done

@@ -4,13 +4,7 @@
 # Each command on sessions of all kinds, and each refusal that has read something.
 rows=(one-repair conflict-abort cascade taken-null travel travel-serial travel-save travel-check travel-format format-2-upgrade
   ask-travel journal-travel recover-travel added-mapping negative-frontier-both replace-merges stuck-missing stuck-save base-violates
-  refused-no-number ask-arity recover-cut travel-eight-workers)
-# One row of each further command that there is.
-rows+=($(for command in explain drill audit; do
-  for row in tests/rows/*/; do
-    if [ "$(head -n 1 "$row/words")" = "$command" ] && [ "$(cat "$row/status")" = 0 ]; then basename "$row"; break; fi
-  done
-done))
+  refused-no-number ask-arity recover-cut travel-eight-workers explain drill-one)
 most=${cheap:+2000}
 for row in "${rows[@]}"; do
   attack "tests/rows/$row" FAULTS=memory FAULTS_MOST="${most:-5000}"
@@ -46,3 +40,4 @@ attack "$row" FAULTS=memory FAULTS_INSIDE=1 FAULTS_LASTING=1
 # And by the workers.
 made_row crowded run --workers 4 < <(bench/sessions.py contention --updates 30)
 attack "$row" FAULTS=memory FAULTS_MOST=6000
+attack tests/rows/drill-sixty FAULTS=memory FAULTS_MOST=6000

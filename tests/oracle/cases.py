@@ -182,7 +182,8 @@ def of_audit(rng, maker, text):
 
 def of_drill(rng, maker, text):
     words = ["drill", "--count", str(rng.choice([1, 2, 5, 20, 60])), "--seed", str(rng.randrange(2 ** 32))]
-    return words + ["--steps", str(rng.choice([1, 3, 4, 6, 100]))] + option(rng, "workers", rng.choice([1, 2, 8])), b""
+    words += ["--steps", str(rng.choice([1, 3, 4, 6, 100])), *option(rng, "workers", rng.choice([1, 2, 8]))]
+    return words + option(rng, "retries", rng.randrange(5)) + option(rng, "deps", rng.choice(["coarse", "precise"])), b""
 
 
 def of_journal(rng, maker, text):

@@ -7,13 +7,14 @@ use Rattle.yt_commands.specs.Commands.{on_session, on_session_by}
 use Rattle.yt_commands.specs.Journaled.{journaled}
 use Rattle.yt_commands.specs.Runs.{kept, ran}
 use Rattle.yt_commands.specs.Written.{WroteWhatHolds}
+use Rattle.yt_drilling.specs.Drilling.{drilling}
 use Rattle.yt_explaining.specs.Explained.{explained}
 use Rattle.yt_machine.specs.Updates.{Deps as Test, Settings}
 use Rattle.yt_run.specs.Runs.{running}
 use Rattle.yt_run.specs.Written.{WroteRun}
 use Rattle.yt_words.specs.Alike.{AreAlike}
 use Rattle.yt_words.specs.declared.names.CommandName.{CommandName}
-use Rattle.yt_words.specs.declared.names.CommandName.TheVariants.{Run, Serial, Format, Save, Ask, Explain, Journal}
+use Rattle.yt_words.specs.declared.names.CommandName.TheVariants.{Run, Serial, Format, Save, Ask, Explain, Drill, Journal}
 use Rattle.yt_words.specs.declared.reading.Options.{Options}
 use Rattle.youtopia.specs.Calls.{deps_of, makes, settings_in}
 use Rattle.youtopia.specs.Promises.{HasQuery, Wrote}
@@ -35,6 +36,17 @@ run_like P o p same it = moved P _ _ _ _ _ _ same.trace same.steps (same_setting
 pub run_back : (P : Bool → ℕ → Settings → Type 0) (o p : Options) → AreAlike o p → P p.trace p.steps (settings_in p) → P o.trace o.steps (settings_in o)
 run_back P o p same it = moved P _ _ _ _ _ _ (sym same.trace) (sym same.steps) (sym (same_settings o p same)) it
 
+drill_moved : (P : ℕ → ℕ → ℕ → Type 0) (a b c d e f : ℕ) → a ≡ b → c ≡ d → e ≡ f → P a c e → P b d f
+drill_moved P a b c d e f steps count seed it =
+    subst (λ (x : ℕ). P b d x) seed (subst (λ (x : ℕ). P b x e) count (subst (λ (x : ℕ). P x c e) steps it))
+
+-- so with a drill
+drill_like : (P : ℕ → ℕ → ℕ → Type 0) (o p : Options) → AreAlike o p → P o.steps o.count o.seed → P p.steps p.count p.seed
+drill_like P o p same it = drill_moved P _ _ _ _ _ _ same.steps same.count same.seed it
+
+pub drill_back : (P : ℕ → ℕ → ℕ → Type 0) (o p : Options) → AreAlike o p → P p.steps p.count p.seed → P o.steps o.count o.seed
+drill_back P o p same it = drill_moved P _ _ _ _ _ _ (sym same.steps) (sym same.count) (sym same.seed) it
+
 pub same_makes : (k : CommandName) (o p : Options) (input : List ℕ) (x : OutputView) → AreAlike o p → makes k o input x → makes k p input x
 same_makes Ask o p input x same a =
     (a.0, (a.1.0, sym same.query ∙ a.1.1, a.1.2), subst (λ (n : ℕ). on_session (asked n a.0) input x) same.steps a.2)
@@ -43,6 +55,7 @@ same_makes Explain o p input x same a =
 same_makes Run o p input x same a = run_like (λ trace n c. on_session_by (running trace n c) input x) o p same a
 same_makes Serial o p input x same a = subst (λ (n : ℕ). on_session (ran n) input x) same.steps a
 same_makes Save o p input x same a = subst (λ (n : ℕ). on_session (kept n) input x) same.steps a
+same_makes Drill o p input x same a = drill_like (λ n count seed. drilling n count seed input x) o p same a
 same_makes Journal o p input x same a = subst (λ (n : ℕ). on_session (journaled n) input x) same.steps a
 same_makes Format o p input x same a = a
 same_makes _ o p input x same a = a

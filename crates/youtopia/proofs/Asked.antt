@@ -16,12 +16,8 @@ use Rattle.yt_run.specs.Runs.{running}
 use Rattle.yt_run.specs.Written.{WroteRun}
 use Rattle.yt_words.specs.Alike.{AskTheSame}
 use Rattle.yt_words.specs.Meaning.{Answers, is_refused}
-use Rattle.yt_words.specs.declared.names.CommandName.{CommandName}
-use Rattle.yt_words.specs.declared.names.CommandName.TheVariants.{Run}
-use Rattle.yt_words.specs.declared.reading.Options.{Options}
 use Rattle.yt_words.specs.declared.reading.Request.{Request}
-use Rattle.yt_words.specs.declared.reading.Request.TheVariants.{Command}
-use Rattle.youtopia.specs.Calls.{AsksForRun, Calls, Does, Performs}
+use Rattle.youtopia.specs.Calls.{Calls, Performs}
 
 -- words that are answered are not refused, and ask for one thing
 abbrev pub NeverBoth : Type 0
@@ -59,10 +55,3 @@ pub done : NeverBoth → OneThing → (words : List Letters) (status : Status) (
 done never one words status source out err request asks (inl refused) = absurd (not_both (is_refused words) refused.0 (never words request asks))
 done never one words status source out err request asks (inr (inl wanting)) = inl wanting.0
 done never one words status source out err request asks (inr (inr did)) = inr (did.0, one words request did.0 asks did.2, did.2, did.3)
-
--- a run that was asked for is done
-pub run_calls : NeverBoth → (words : List Letters) (found : Option Options) (o : Options) (status : Status) (source out err : Change) → found ≡ Some o
-    → IfSome found (AsksForRun words) → Does Run o status source out err → Calls words status source out err
-run_calls never words found o status source out err is asked did =
-    let asks : AsksForRun words o = subst (λ (x : Option Options). IfSome x (AsksForRun words)) is asked in
-    inr (inr (Command o, never words (Command o) asks.says, asks.says, subst (λ (k : CommandName). Does k o status source out err) (sym asks.run) did))

@@ -9,7 +9,7 @@ use Rattle.yt_command.specs.declared.statuses.Status.{Status}
 use Rattle.yt_command.specs.declared.statuses.Status.TheVariants.{OutOfMemory}
 use Rattle.yt_words.specs.Alike.{AskTheSame}
 use Rattle.yt_words.specs.declared.names.CommandName.{CommandName}
-use Rattle.yt_words.specs.declared.names.CommandName.TheVariants.{Run, Ask, Explain}
+use Rattle.yt_words.specs.declared.names.CommandName.TheVariants.{Run, Ask, Explain, Drill}
 use Rattle.yt_words.specs.declared.reading.Options.{Options}
 use Rattle.yt_words.specs.declared.reading.Request.{Request}
 use Rattle.yt_words.specs.declared.reading.Request.TheVariants.{Command, Help, Version}
@@ -18,7 +18,7 @@ use Rattle.youtopia.proofs.Asked.{NeverBoth, OneThing, OneRecovered, OneRun, don
 use Rattle.youtopia.proofs.Due.{complete}
 use Rattle.youtopia.proofs.Statuses.{one_status}
 use Rattle.youtopia.specs.Calls.{Calls, Does, Performs, makes, telling}
-use Rattle.youtopia.specs.Promises.{Completes, HasQuery, NothingFails, due, read_by}
+use Rattle.youtopia.specs.Promises.{Completes, HasQuery, NothingFails, due, read_by, read_for}
 
 query_in : (k : CommandName) (p : Options) (input : List ℕ) (x : OutputView) → makes k p input x → HasQuery k p
 query_in Ask p input x made = (made.0, made.1)
@@ -28,11 +28,12 @@ query_in _ p input x made = tt
 
 -- what is done by words that have what their command needs is the row of its status
 pub row_done : (k : CommandName) (p : Options) (status : Status) (source out err : Change) → HasQuery k p
-    → Does k p status source out err → Row status (makes k p) source out err
+    → Does k p status source out err → Row status (makes k p) (read_for k source) out err
 row_done Ask p status source out err has (inl refused) = absurd (refused.1 has.0 has.1)
 row_done Ask p status source out err has (inr row) = row
 row_done Explain p status source out err has (inl refused) = absurd (refused.1 has.0 has.1)
 row_done Explain p status source out err has (inr row) = row
+row_done Drill p status source out err has did = did.0
 row_done Run p status source out err has row = row
 row_done _ p status source out err has row = row
 
@@ -53,7 +54,9 @@ by_done : OneRecovered → OneRun → (words : List Letters) (status : Status) (
     → Performs other status source out err → (status ≡ status_of x) ⊎ (status ≡ OutOfMemory)
 by_done recovered runs words status source out err (Command o) input x made fine (Command p) same did =
     let it = subst (λ (k : CommandName). makes k p input x) same.command (same_makes o.command o p input x same made) in
-    by_row recovered runs p.command p status source out err input x it (row_done p.command p status source out err (query_in p.command p input x it) did) fine
+    by_row recovered runs p.command p status (read_for p.command source) out err input x it
+    (row_done p.command p status source out err (query_in p.command p input x it) did)
+    (subst (λ (k : CommandName). NothingFails input (read_for k source) out) same.command fine)
 by_done recovered runs words status source out err (Command o) input x made fine Help same did = absurd same
 by_done recovered runs words status source out err (Command o) input x made fine Version same did = absurd same
 by_done recovered runs words status source out err Help input x told fine Help same did = by_telling _ status out err input x told did.0 fine

@@ -2,8 +2,10 @@ mod Alike
 mod Asked
 mod Asking
 mod Completed
+mod Drilled
 mod Due
 mod Headlines
 mod Named
 mod Served
 mod Statuses
+mod Work

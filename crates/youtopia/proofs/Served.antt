@@ -5,6 +5,7 @@ use Rattle.yt_ask.specs.Bound.{bound_ask}
 use Rattle.yt_certain.specs.Certain.{ConjunctiveQuery}
 use Rattle.yt_command.specs.Devices.{Change}
 use Rattle.yt_command.specs.Outputs.{OutputView}
+use Rattle.yt_command.specs.Rows.{Row}
 use Rattle.yt_command.specs.Statuses.{status_of, status_of_ending}
 use Rattle.yt_command.specs.declared.statuses.Status.{Status}
 use Rattle.yt_command.specs.declared.statuses.Status.TheVariants.{Ended, Stuck, OutOfMemory, TooLarge, QueryRefused}
@@ -24,7 +25,7 @@ use Rattle.yt_serial.specs.Trails.{TrailsTold}
 use Rattle.yt_session.specs.Base.{base_violation}
 use Rattle.yt_words.specs.Alike.{AskTheSame}
 use Rattle.yt_words.specs.declared.names.CommandName.{CommandName}
-use Rattle.yt_words.specs.declared.names.CommandName.TheVariants.{Run, Serial, Format, Check, Save, Upgrade, Ask, Explain, Journal, Recover}
+use Rattle.yt_words.specs.declared.names.CommandName.TheVariants.{Run, Serial, Format, Check, Save, Upgrade, Ask, Explain, Drill, Journal, Recover}
 use Rattle.yt_words.specs.declared.reading.Options.{Options}
 use Rattle.yt_words.specs.declared.reading.Request.{Request}
 use Rattle.yt_words.specs.declared.reading.Request.TheVariants.{Command, Help, Version}
@@ -34,7 +35,7 @@ use Rattle.youtopia.proofs.Completed.{row_done}
 use Rattle.youtopia.proofs.Due.{complete}
 use Rattle.youtopia.proofs.Statuses.{of_one, one_status}
 use Rattle.youtopia.specs.Calls.{Calls, Performs, makes, settings_in}
-use Rattle.youtopia.specs.Promises.{HasQuery, MayEnd, NothingFails, ReadsSession, Serves}
+use Rattle.youtopia.specs.Promises.{HasQuery, MayEnd, NothingFails, ReadsSession, Serves, read_for}
 
 ends_or_stops : (stop : Option StopTold) → (status_of_ending (ending_by stop) ≡ Ended) ⊎ (status_of_ending (ending_by stop) ≡ Stuck)
 ends_or_stops None = inl refl
@@ -103,16 +104,26 @@ served recovered runs Journal o input s reads has spelled met =
     by_output recovered runs Journal o input (journaled o.steps s) (of_one (journaled o.steps) input s spelled)
     (met_ends Journal s _ met (journal_ends s (left_of o.steps s)))
 served recovered runs Recover o input s reads has spelled met = absurd reads
+served recovered runs Drill o input s reads has spelled met = absurd reads
 served recovered runs Check o input s reads has spelled met =
     by_output recovered runs Check o input (checked s) (of_one checked input s spelled) (met_ends Check s _ met refl)
+
+-- a command that reads a session reads the source
+reads_source : (k : CommandName) (source : Change) → ReadsSession k → read_for k source ≡ source
+reads_source Recover source reads = absurd reads
+reads_source Drill source reads = absurd reads
+reads_source _ source reads = refl
 
 by_done : OneRecovered → OneRun → (o : Options) (status : Status) (source out err : Change) (input : List ℕ) (s : SessionData) → ReadsSession o.command
     → HasQuery o.command o → Spells input s → base_violation s ≡ None → NothingFails input source out → (other : Request) → AskTheSame (Command o) other
     → Performs other status source out err → MayEnd o.command status ⊎ (status ≡ OutOfMemory)
 by_done recovered runs o status source out err input s reads has spelled met fine (Command p) same did =
     let query = same_query p.command o p same (subst (λ (k : CommandName). HasQuery k o) same.command has) in
-    let one = served recovered runs p.command p input s (subst ReadsSession same.command reads) query spelled met in
-    elim (complete status (makes p.command p) source out err (row_done p.command p status source out err query did) input one.0 fine.held fine.short one.1 fine.reads fine.writes) [
+    let its = subst ReadsSession same.command reads in
+    let one = served recovered runs p.command p input s its query spelled met in
+    let row = subst (λ (c : Change). Row status (makes p.command p) c out err) (reads_source p.command source its)
+    (row_done p.command p status source out err query did) in
+    elim (complete status (makes p.command p) source out err row input one.0 fine.held fine.short one.1 fine.reads fine.writes) [
       | inl is ↦ inl (subst (λ (k : CommandName). MayEnd k status) (sym same.command) (subst (MayEnd p.command) (sym is) one.2))
       | inr wanting ↦ inr wanting
     ]

@@ -8,6 +8,7 @@ use Rattle.yt_commands.specs.Asked.{asked}
 use Rattle.yt_commands.specs.Commands.{MadeOf, on_session, fault_line, formatted, upgraded_text, checked}
 use Rattle.yt_commands.specs.Journaled.{journaled}
 use Rattle.yt_commands.specs.Runs.{kept, ran}
+use Rattle.yt_drilling.specs.Drilling.{drilling}
 use Rattle.yt_explaining.specs.Explained.{explained}
 use Rattle.yt_grammar.specs.Faults.{Wrong}
 use Rattle.yt_grammar.specs.Lines.{Spells, read}
@@ -15,7 +16,7 @@ use Rattle.yt_grammar.specs.Sessions.{SessionData}
 use Rattle.yt_grammar.specs.Statements.{WrittenFact}
 use Rattle.yt_reader.specs.Facts.{SpellsFact}
 use Rattle.yt_words.specs.declared.names.CommandName.{CommandName}
-use Rattle.yt_words.specs.declared.names.CommandName.TheVariants.{Run, Serial, Format, Check, Save, Upgrade, Ask, Explain, Journal, Recover}
+use Rattle.yt_words.specs.declared.names.CommandName.TheVariants.{Run, Serial, Format, Check, Save, Upgrade, Ask, Explain, Drill, Journal, Recover}
 use Rattle.yt_words.specs.declared.reading.Options.{Options}
 use Rattle.youtopia.proofs.Asked.{OneRecovered, OneRun}
 use Rattle.youtopia.specs.Calls.{AsksFor, AsksWhy, makes, settings_in}
@@ -72,6 +73,10 @@ one_run runs options input x y a b =
     runs options.trace options.steps (settings_in options) input x z.0 a z.1
     ∙ sym (runs options.trace options.steps (settings_in options) input y z.0 b z.1)
 
+one_drill : (steps count seed : ℕ) (input : List ℕ) (x y : OutputView) → drilling steps count seed input x → drilling steps count seed input y → status_of x ≡ status_of y
+unfolding drilling
+one_drill steps count seed input x y a b = ap status_of (a ∙ sym b)
+
 pub one_status : OneRecovered → OneRun → (k : CommandName) (options : Options) (input : List ℕ) (x y : OutputView) → makes k options input x
     → makes k options input y → status_of x ≡ status_of y
 one_status recovered runs Recover options input x y a b = recovered input x y a b
@@ -84,6 +89,7 @@ one_status recovered runs Explain options input x y a b =
 one_status recovered runs Run options input x y a b = one_run runs options input x y a b
 one_status recovered runs Serial options input x y a b = one_of (ran options.steps) input x y a b
 one_status recovered runs Save options input x y a b = one_of (kept options.steps) input x y a b
+one_status recovered runs Drill options input x y a b = one_drill options.steps options.count options.seed input x y a b
 one_status recovered runs Journal options input x y a b = one_of (journaled options.steps) input x y a b
 one_status recovered runs Format options input x y a b = one_of formatted input x y a b
 one_status recovered runs Upgrade options input x y a b = one_of upgraded_text input x y a b

@@ -16,6 +16,7 @@ use Rattle.yt_commands.specs.Asked.{asked}
 use Rattle.yt_commands.specs.Commands.{on_session, on_session_by, formatted, upgraded_text, checked}
 use Rattle.yt_commands.specs.Journaled.{journaled, recovering}
 use Rattle.yt_commands.specs.Runs.{ran, kept}
+use Rattle.yt_drilling.specs.Drilling.{drilling}
 use Rattle.yt_explaining.specs.Explained.{explained}
 use Rattle.yt_grammar.specs.Statements.{WrittenFact}
 use Rattle.yt_machine.specs.Updates as machine
@@ -25,12 +26,14 @@ use Rattle.yt_words.specs.Alike.{text_of}
 use Rattle.yt_words.specs.Meaning.{Answers, AreInRange, is_refused}
 use Rattle.yt_words.specs.declared.help.TheConstants.{HELP, VERSION_LINE}
 use Rattle.yt_words.specs.declared.names.CommandName.{CommandName}
-use Rattle.yt_words.specs.declared.names.CommandName.TheVariants.{Run, Serial, Format, Check, Save, Upgrade, Ask, Explain, Journal, Recover}
+use Rattle.yt_words.specs.declared.names.CommandName.TheVariants.{Run, Serial, Format, Check, Save, Upgrade, Ask, Explain, Drill, Journal, Recover}
 use Rattle.yt_words.specs.declared.names.Deps.{Deps}
 use Rattle.yt_words.specs.declared.names.Deps.TheVariants.{Coarse, Precise}
 use Rattle.yt_words.specs.declared.reading.Options.{Options}
 use Rattle.yt_words.specs.declared.reading.Request.{Request}
 use Rattle.yt_words.specs.declared.reading.Request.TheVariants.{Command, Help, Version}
+use Rattle.youtopia.specs.declared.workers.ByWorkers.{ByWorkers}
+use Rattle.youtopia.specs.declared.workers.ByWorkers.TheVariants as workers
 
 -- what tells a fixed text makes of any input
 abbrev pub telling : List ℕ → Meaning
@@ -77,12 +80,14 @@ makes Format options = on_session formatted
 makes Check options = on_session checked
 makes Save options = on_session (kept options.steps)
 makes Upgrade options = on_session upgraded_text
+makes Drill options = drilling options.steps options.count options.seed
 makes Journal options = on_session (journaled options.steps)
 makes Recover options = recovering
 makes Explain options = λ input output. (fact : WrittenFact) × AsksWhy options fact × on_session (explained options.steps fact) input output
 makes Ask options = λ input output. (q : WrittenAsk) × AsksFor options q × on_session (asked options.steps q) input output
 
--- what a command with its options does: the row of the status holds; `ask` without a query and `explain` without a fact are refused as wrong words are
+-- what a command with its options does: the row of the status holds; `ask` without a query and `explain` without a fact are refused as wrong words are;
+-- `drill` leaves the input alone
 abbrev pub Does : CommandName → Options → Status → Change → Change → Change → Type 0
 Does Ask options status source out err =
     ((status ≡ Usage) × LacksQuery options × DoesNothing failures.Usage source out err)
@@ -90,6 +95,7 @@ Does Ask options status source out err =
 Does Explain options status source out err =
     ((status ≡ Usage) × LacksFact options × DoesNothing failures.Usage source out err)
     ⊎ Row status (makes Explain options) source out err
+Does Drill options status source out err = Row status (makes Drill options) no_input out err × Unread source
 Does command options status source out err = Row status (makes command options) source out err
 
 -- what was asked for is done; help and the version leave the input alone
@@ -98,9 +104,10 @@ Performs (Command options) status source out err = Does options.command options 
 Performs Help status source out err = Row status (telling HELP.now) no_input out err × Unread source
 Performs Version status source out err = Row status (telling VERSION_LINE.now) no_input out err × Unread source
 
--- what a command does without threads: the same, but that `run` is refused as wrong words are
+-- what a command does without threads: the same, but that `run` and `drill` are refused as wrong words are
 abbrev pub DoesPlainly : CommandName → Options → Status → Change → Change → Change → Type 0
 DoesPlainly Run options status source out err = (status ≡ Usage) × DoesNothing failures.Usage source out err
+DoesPlainly Drill options status source out err = (status ≡ Usage) × DoesNothing failures.Usage source out err
 DoesPlainly command options status source out err = Does command options status source out err
 
 -- what was asked for is done without threads
@@ -125,17 +132,38 @@ Calls = CallsBy Performs
 abbrev pub CallsPlainly : List Letters → Status → Change → Change → Change → Type 0
 CallsPlainly = CallsBy PerformsPlainly
 
--- whether the command is `run`
-abbrev pub is_run : CommandName → Bool
-is_run Run = true
-is_run command = false
+-- whether the command is done by workers
+abbrev pub is_by_workers : CommandName → Bool
+is_by_workers Run = true
+is_by_workers Drill = true
+is_by_workers command = false
 
--- the words ask for `run` with these options
-pub record AsksForRun (words : List Letters) (options : Options) : Type 0 where
+-- the words ask for this command, which has these options
+pub record AskFor (words : List Letters) (command : CommandName) (options : Options) : Type 0 where
   pub says : Answers words (Command options)
-  pub run : options.command ≡ Run
+  pub named : options.command ≡ command
   pub ranges : AreInRange options
 
--- the words ask for no `run`
-abbrev pub AskForNoRun : List Letters → Type 0
-AskForNoRun words = (options : Options) → Answers words (Command options) → options.command ≡ Run → ⊥
+-- the words ask for this work
+abbrev pub AskForWork : List Letters → ByWorkers → Type 0
+AskForWork words (workers.Run options) = AskFor words Run options
+AskForWork words (workers.Drill options) = AskFor words Drill options
+
+-- the words ask for no command that is done by workers
+abbrev pub AskForNoWork : List Letters → Type 0
+AskForNoWork words = (options : Options) → Answers words (Command options) → is_by_workers options.command ≡ false
+
+-- the work is the command that the options name
+abbrev pub IsNamedBy : Options → ByWorkers → Type 0
+IsNamedBy options (workers.Run same) = (same ≡ options) × (options.command ≡ Run)
+IsNamedBy options (workers.Drill same) = (same ≡ options) × (options.command ≡ Drill)
+
+-- the numbers of its options lie in their ranges
+abbrev pub HasRangesIn : ByWorkers → Type 0
+HasRangesIn (workers.Run options) = AreInRange options
+HasRangesIn (workers.Drill options) = AreInRange options
+
+-- what the work is done as
+abbrev pub DoesWork : ByWorkers → Status → Change → Change → Change → Type 0
+DoesWork (workers.Run options) = Does Run options
+DoesWork (workers.Drill options) = Does Drill options

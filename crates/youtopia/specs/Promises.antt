@@ -10,6 +10,7 @@ use Rattle.yt_command.specs.declared.statuses.Status.{Status}
 use Rattle.yt_command.specs.declared.statuses.Status.TheVariants.{Ended, Stuck, OutOfMemory, TooLarge, QueryRefused}
 use Rattle.yt_commands.specs.Runs.{ending_by}
 use Rattle.yt_commands.specs.Written.{HasWritten, WroteWhatHolds}
+use Rattle.yt_drilling.specs.Drilling.{drill_told}
 use Rattle.yt_grammar.specs.Lines.{Spells}
 use Rattle.yt_grammar.specs.Sessions.{SessionData}
 use Rattle.yt_grammar.specs.Statements.{WrittenFact}
@@ -20,10 +21,11 @@ use Rattle.yt_run.specs.Runs.{trace_part}
 use Rattle.yt_run.specs.Written.{WroteRun}
 use Rattle.yt_seated.specs.Runs.{IsRunOf}
 use Rattle.yt_session.specs.Base.{base_violation}
+use Rattle.yt_summary.specs.Summaries.{summary_text}
 use Rattle.yt_words.specs.Meaning.{Answers}
 use Rattle.yt_words.specs.declared.help.TheConstants.{HELP, VERSION_LINE}
 use Rattle.yt_words.specs.declared.names.CommandName.{CommandName}
-use Rattle.yt_words.specs.declared.names.CommandName.TheVariants.{Run, Serial, Save, Ask, Explain, Journal, Recover}
+use Rattle.yt_words.specs.declared.names.CommandName.TheVariants.{Run, Serial, Save, Ask, Explain, Drill, Journal, Recover}
 use Rattle.yt_words.specs.declared.reading.Options.{Options}
 use Rattle.yt_words.specs.declared.reading.Request.{Request}
 use Rattle.yt_words.specs.declared.reading.Request.TheVariants.{Command, Help, Version}
@@ -35,9 +37,14 @@ due (Command options) = makes options.command options
 due Help = telling HELP.now
 due Version = telling VERSION_LINE.now
 
--- what a request reads: a command the source, help and the version nothing
+-- what a command reads: the source, and `drill` nothing
+abbrev pub read_for : CommandName → Change → Change
+read_for Drill source = no_input
+read_for command source = source
+
+-- what a request reads: a command that, help and the version nothing
 abbrev pub read_by : Request → Change → Change
-read_by (Command options) source = source
+read_by (Command options) source = read_for options.command source
 read_by Help source = no_input
 read_by Version source = no_input
 
@@ -64,9 +71,10 @@ MayEnd Explain status = (status ≡ Ended) ⊎ (status ≡ Stuck)
 MayEnd Journal status = (status ≡ Ended) ⊎ ((status ≡ Stuck) ⊎ (status ≡ TooLarge))
 MayEnd command status = status ≡ Ended
 
--- the commands that read a session: all but `recover`, which reads a journal
+-- the commands that read a session: all but `recover`, which reads a journal, and `drill`, which reads nothing
 abbrev pub ReadsSession : CommandName → Type 0
 ReadsSession Recover = ⊥
+ReadsSession Drill = ⊥
 ReadsSession command = Unit {0}
 
 -- the words of `ask` spell a query, those of `explain` a fact
@@ -121,3 +129,16 @@ Headline words status source out =
     (options : Options) (input : List ℕ) (s : SessionData) → Answers words (Command options) → options.command ≡ Run
     → Spells input s → base_violation s ≡ None → NothingFails input source out
     → WritesSerially options s status out ⊎ (status ≡ OutOfMemory)
+
+-- What `drill` has written.
+pub record WritesSummary (options : Options) (status : Status) (out : Change) : Type 0 where
+  -- `out` has taken the summary of what the serial machine tells of the generated session
+  pub taken : Takes out (summary_text options.count options.seed (drill_told options.steps options.count options.seed))
+  -- it ended, or stopped where the serial machine stops
+  pub ending : status ≡ status_of_ending (ending_by (drill_told options.steps options.count options.seed).stop)
+
+-- Accepted words of `drill`, and `out` does not fail: whatever the schedule of the workers, that is written, or memory was wanting.
+abbrev pub Drills : List Letters → Status → Change → Type 0
+Drills words status out =
+    (options : Options) → Answers words (Command options) → options.command ≡ Drill → (Fails out → ⊥)
+    → WritesSummary options status out ⊎ (status ≡ OutOfMemory)

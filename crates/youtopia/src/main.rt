@@ -5,6 +5,7 @@ mod explaining;
 mod plain;
 mod telling;
 mod top;
+mod workers;
 
 use crate::top::youtopia;
 use std::env;

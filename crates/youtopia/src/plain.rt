@@ -74,6 +74,7 @@ fn command<S: Source, O: Sink, E: Sink>(
     let budget = Budget::new(options.steps);
     match options.command {
         CommandName::Run => fail(Failure::Usage, err),
+        CommandName::Drill => fail(Failure::Usage, err),
         CommandName::Serial => perform(alloc, &OnSession(Serial { budget }), source, out, err),
         CommandName::Format => perform(alloc, &OnSession(Format), source, out, err),
         CommandName::Check => perform(alloc, &OnSession(Check), source, out, err),
@@ -107,8 +108,8 @@ fn attend<S: Source, O: Sink, E: Sink>(
     }
 }
 
-/// Does what the words after the program's name ask for, where that needs no threads: all commands but `run`, which is refused
-/// as wrong words are. Each status has its row, which says what was read, what `out` took and what `err` was told.
+/// Does what the words after the program's name ask for, where that needs no threads: all commands but `run` and `drill`, which
+/// are refused as wrong words are. Each status has its row, which says what was read, what `out` took and what `err` was told.
 pub fn plain<S: Source, O: Sink, E: Sink>(
     alloc: Global,
     words: &[String],

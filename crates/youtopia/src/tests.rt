@@ -185,17 +185,19 @@ fn who_meets_may_begin_anew(rt: HostRuntime) -> Result<(), Fail> {
     Ok(())
 }
 
-// Without threads there is no `run`.
+// Without threads there is no `run` and no `drill`.
 #[test]
-fn run_needs_threads(rt: HostRuntime) -> Result<(), Fail> {
+fn workers_need_threads(rt: HostRuntime) -> Result<(), Fail> {
     let alloc = rt.alloc();
-    let mut words = Vec::new(alloc);
-    words.push(String::from_str(alloc, "run")?)?;
-    let mut from = source(alloc, ONE_REPAIR, 0)?;
-    let mut out = sink(alloc, 0)?;
-    let mut err = sink(alloc, 0)?;
-    let ended = plain(alloc, &words, &mut from, &mut out, &mut err);
-    assert_eq!(rt; ended.number(), 2);
-    assert!(rt; out.bytes().is_empty());
+    for word in ["run", "drill"] {
+        let mut words = Vec::new(alloc);
+        words.push(String::from_str(alloc, word)?)?;
+        let mut from = source(alloc, ONE_REPAIR, 0)?;
+        let mut out = sink(alloc, 0)?;
+        let mut err = sink(alloc, 0)?;
+        let ended = plain(alloc, &words, &mut from, &mut out, &mut err);
+        assert_eq!(rt; ended.number(), 2, "{word}");
+        assert!(rt; out.bytes().is_empty());
+    }
     Ok(())
 }

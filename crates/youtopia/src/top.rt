@@ -1,13 +1,11 @@
-//! The top call: `run` by workers, and every other command as `plain` does it.
-ghost use Rattle.std.specs.Prelude.{◌≡◌, IfNone, IfOk, IfSome, map, string_bytes};
+//! The top call: `run` and `drill` by workers, and every other command as `plain` does it.
+ghost use Rattle.std.specs.Prelude.{IfNone, IfOk, IfSome, map, string_bytes};
 ghost use Rattle.yt_command.specs.Devices.{change};
-ghost use Rattle.yt_queue.specs.Settings.{settings_of};
-ghost use Rattle.yt_words.specs.Meaning.{AreInRange};
-ghost use Rattle.yt_words.specs.declared.names.CommandName.TheVariants.{Run};
-ghost use Rattle.youtopia.specs.Calls.{AskForNoRun, AsksForRun, Calls, Does, is_run, settings_in};
-ghost use Rattle.youtopia.specs.Promises.{Completes, Headline, LeavesWhatHolds, Serves};
+ghost use Rattle.youtopia.specs.Calls.{AskForNoWork, AskForWork, Calls};
+ghost use Rattle.youtopia.specs.Promises.{Completes, Drills, Headline, LeavesWhatHolds, Serves};
 
 use crate::plain::plain;
+use crate::workers::{ByWorkers, by_workers, work};
 use std::alloc::Global;
 use std::sync::Wait;
 use std::thread::Threads;
@@ -15,86 +13,28 @@ use yt_base::Memory;
 use yt_command::{Failure, Status, fail};
 use yt_commands::{performed_runs_write_what_holds, recovered_inputs_have_one_status};
 use yt_gate::Gate;
-use yt_limits::Budget;
-use yt_queue::Settings;
-use yt_run::{Crew, performed_runs_write_their_trace, runs_have_the_serial_status};
+use yt_run::{performed_runs_write_their_trace, runs_have_the_serial_status};
 use yt_text::{Sink, Source};
 use yt_words::{
-    CommandName, Deps, Options, Request, WordsRefusal, read_words, words_are_answered_or_refused,
-    words_ask_for_one_thing,
+    Request, WordsRefusal, read_words, words_are_answered_or_refused, words_ask_for_one_thing,
 };
 
-// Whether the command is `run`.
-fn is_run(command: CommandName) -> bool
-    ensures { result ≡ is_run command }
-{
-    match command {
-        CommandName::Run => true,
-        _ => false,
-    }
-}
-
-// The options of `run`, where the words ask for it.
-fn run_asked_for<'a>(alloc: Global, words: &'a [String]) -> Result<Option<Options<'a>>, Memory>
+// The work that the words ask for, if they ask for a command that is done by workers.
+fn work_asked_for<'a>(alloc: Global, words: &'a [String]) -> Result<Option<ByWorkers<'a>>, Memory>
     ensures some { IfOk result
-        (λ found. IfSome found (AsksForRun (map string_bytes words.entry.now))) }
+        (λ found. IfSome found (AskForWork (map string_bytes words.entry.now))) }
     ensures none { IfOk result
-        (λ found. IfNone found (AskForNoRun (map string_bytes words.entry.now))) }
+        (λ found. IfNone found (AskForNoWork (map string_bytes words.entry.now))) }
 {
     words_are_answered_or_refused();
     words_ask_for_one_thing();
     match read_words(alloc, words) {
-        Ok(Request::Command(options)) => {
-            if is_run(options.command) {
-                Ok(Some(options))
-            } else {
-                Ok(None)
-            }
-        }
+        Ok(Request::Command(options)) => Ok(by_workers(options)),
         Ok(Request::Help) => Ok(None),
         Ok(Request::Version) => Ok(None),
         Err(WordsRefusal::Usage) => Ok(None),
         Err(WordsRefusal::Memory) => Err(Memory),
     }
-}
-
-// The settings that the options name.
-fn settings_in(options: &Options<'_>) -> Settings
-    ensures same { settings_of result ≡ settings_in options.now }
-    ensures retries { result.retries ≡ options.now.retries }
-{
-    let deps = match options.deps {
-        Deps::Coarse => yt_queue::Deps::Coarse,
-        Deps::Precise => yt_queue::Deps::Precise,
-    };
-    Settings {
-        retries: options.retries,
-        deps,
-    }
-}
-
-// Does `run` with these options between the devices.
-fn run<R: Threads + Wait + Sync, G: Gate + Sync, S: Source, O: Sink, E: Sink>(
-    rt: &R,
-    gate: &G,
-    alloc: Global,
-    options: &Options<'_>,
-    source: &mut S,
-    out: &mut O,
-    err: &mut E,
-) -> Status
-    requires ranges { AreInRange options.now }
-    ensures does { Does Run options.now result
-        (change S.left S.fault_count source.old source.new)
-        (change O.taken O.fault_count out.old out.new)
-        (change E.taken E.fault_count err.old err.new) }
-{
-    let command = yt_run::Run {
-        crew: Crew::new(options.workers, settings_in(options)),
-        budget: Budget::new(options.steps),
-        trace: options.trace,
-    };
-    command.perform(rt, gate, alloc, source, out, err)
 }
 
 // Does what the words ask for, or refuses them.
@@ -113,20 +53,21 @@ fn answer<R: Threads + Wait + Sync, G: Gate + Sync, S: Source, O: Sink, E: Sink>
         (change E.taken E.fault_count err.old err.new) }
 {
     words_are_answered_or_refused();
-    match run_asked_for(alloc, words) {
-        Ok(Some(options)) => run(rt, gate, alloc, &options, source, out, err),
+    match work_asked_for(alloc, words) {
+        Ok(Some(asked)) => work(rt, gate, alloc, asked, source, out, err),
         Ok(None) => plain(alloc, words, source, out, err),
         Err(_) => fail(Failure::OutOfMemory, err),
     }
 }
 
 /// Does what the words after the program's name ask for, from the source to the two sinks, and answers the status with
-/// which the program ends: `run` by as many threads as there are workers, each of which passes the gate around the work at a
-/// ticket, and every other command as `plain` does it. Each status has its row, which says what was read, what `out` took and
-/// what `err` was told. The call may wait.
+/// which the program ends: `run` and `drill` by as many threads as there are workers, each of which passes the gate around the
+/// work at a ticket, and every other command as `plain` does it. Each status has its row, which says what was read, what `out`
+/// took and what `err` was told. The call may wait.
 ///
 /// Whatever the schedule of the workers, `run` writes the serial machine's result on the session that it read, and the trace,
-/// where it is asked for, is the text of a legal history that ends quiet. Where nothing fails the status is that of the output
+/// where it is asked for, is the text of a legal history that ends quiet; `drill` reads nothing, and writes the summary of the
+/// serial machine's result on the session that it generates. Where nothing fails the status is that of the output
 /// which is due, or memory was wanting: of a session whose base meets its mappings a run ends, or stops at a question. In the
 /// repository that it writes every mapping in force holds.
 pub fn youtopia<R: Threads + Wait + Sync, G: Gate + Sync, S: Source, O: Sink, E: Sink>(
@@ -144,6 +85,8 @@ pub fn youtopia<R: Threads + Wait + Sync, G: Gate + Sync, S: Source, O: Sink, E:
         (change E.taken E.fault_count err.old err.new) }
     ensures headline { Headline (map string_bytes words.now) result
         (change S.left S.fault_count source.old source.new)
+        (change O.taken O.fault_count out.old out.new) }
+    ensures drills { Drills (map string_bytes words.now) result
         (change O.taken O.fault_count out.old out.new) }
     ensures complete { Completes (map string_bytes words.now) result
         (change S.left S.fault_count source.old source.new)

@@ -98,6 +98,7 @@ command_is_known command.Save = refl
 command_is_known command.Upgrade = refl
 command_is_known command.Ask = refl
 command_is_known command.Explain = refl
+command_is_known command.Drill = refl
 command_is_known command.Journal = refl
 command_is_known command.Recover = refl
 
@@ -175,4 +176,10 @@ other_deps ws o t takes given some other =
 -- ---- the ranges
 
 pub said_has_ranges : (ws : List Text) (options : Options) → Says ws options → HasRanges (Command options)
-said_has_ranges ws options says = record { steps = (says.steps.1, says.steps.2); workers = (says.workers.1, says.workers.2); retries = says.retries.2 }
+said_has_ranges ws options says =
+    record {
+      steps = (says.steps.1, says.steps.2);
+      workers = (says.workers.1, says.workers.2);
+      retries = says.retries.2;
+      count = (says.count.1, says.count.2);
+    }

@@ -65,11 +65,12 @@ Answers words (Command options) = Says words options
 Answers words Help = faults_of words ≡ DisplayHelp ∷ []
 Answers words Version = faults_of words ≡ DisplayVersion ∷ []
 
--- the numbers by which updates are run lie in their ranges
+-- the numbers by which updates are generated and run lie in their ranges
 pub record AreInRange (options : Options) : Type 0 where
   pub steps : (1 ≤ options.steps) × (options.steps ≤ 300)
   pub workers : (1 ≤ options.workers) × (options.workers ≤ 16)
   pub retries : options.retries ≤ 4
+  pub count : (1 ≤ options.count) × (options.count ≤ 1000)
 
 -- they do, where a command is asked for
 abbrev pub HasRanges : Request → Type 0

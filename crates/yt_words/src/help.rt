@@ -22,6 +22,7 @@ Commands:
   upgrade   print the session in the newest format
   ask       run the updates; print the certain answers to a query
   explain   run the updates; print why a tuple is in what they left
+  drill     run the updates of a generated session; print what that comes to
   journal   run the updates, and write what they commit as a journal
   recover   read a journal; print its number of commits and what they left
 
@@ -33,12 +34,10 @@ Options:
   --trace       print the trace of the run after the result
   --query TEXT  the query to ask, as in 'q(x): R(x, y), S(y)'
   --tuple FACT  the tuple to explain, as in 'R(1, ?2.1)'
-  -h, --help    print this text
-  -V, --version print the version
-
-Options that are read and change nothing so far:
   --count N     how many updates are generated, 1 to 1000 [60]
   --seed N      the seed of the generator, 0 to 4294967295 [1]
+  -h, --help    print this text
+  -V, --version print the version
 
 Statuses:
   0 done   1 stuck at a frontier   2 words refused   3 session refused

@@ -23,6 +23,8 @@ pub enum CommandName {
     Ask,
     /// Runs a session's updates one after the other, and prints why a tuple is in what they left.
     Explain,
+    /// Runs the updates of a session that is generated from a seed, and prints what that comes to.
+    Drill,
     /// Runs a session's updates one after the other, and writes what they commit as a journal.
     Journal,
     /// Tells what a journal stands for.
@@ -67,6 +69,9 @@ pub(crate) fn command_named(text: &str) -> Option<CommandName>
     }
     if text == "explain" {
         return Some(CommandName::Explain);
+    }
+    if text == "drill" {
+        return Some(CommandName::Drill);
     }
     if text == "journal" {
         return Some(CommandName::Journal);
