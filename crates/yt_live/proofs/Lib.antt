@@ -1,0 +1,5 @@
+pub mod Splitting
+pub mod Opening
+pub mod Prefixes
+pub mod Turning
+pub mod Whole
