@@ -1,5 +1,7 @@
-pub mod Splitting
-pub mod Opening
+pub mod Cutting
 pub mod Prefixes
+pub mod Opening
+pub mod Continuing
 pub mod Turning
-pub mod Whole
+pub mod Texts
+pub mod Legal

@@ -2,17 +2,20 @@
 use Rattle.std.proofs.Common.{◌≡◌, ℕ, ◌+◌, ◌≤◌, Bool, true, false, List, [], ◌∷◌, ◌++◌, length, refl, sym, ap, subst, ◌∙◌, arith, append-nil}
 use Rattle.std.specs.Prelude.{Option, Some, None, option_map}
 use Rattle.std.specs.Io.KnownBytes.{Consumes, IsAtEnd}
+use Rattle.std.specs.declared.alloc.Global.{Global}
+use Rattle.std.specs.declared.vec.Vec.{Vec}
 use Rattle.std.proofs.KnownBytes.{Consumes-nil, Consumes-trans}
 use Rattle.std.proofs.lemmas.List.{append_assoc, length-append}
 use Rattle.yt_grammar.specs.Lines.{lines_of, read}
-use Rattle.yt_lines.specs.Given.{Kept, HasNoLineFeed, IsLost}
+use Rattle.yt_lines.specs.Given.{Kept, HasGiven, HasNoLineFeed, IsLine, IsLost}
 use Rattle.yt_lines.specs.declared.lines.LineRefusal.{LineRefusal}
 use Rattle.yt_lines.specs.declared.lines.LineRefusal.TheVariants as lines
+use Rattle.yt_lines.specs.declared.lines.NextLine.TheVariants.{Whole, Last}
 use Rattle.yt_machine.specs.Updates.{Settings}
 use Rattle.yt_live.specs.Ends.{HasOpened, HasReadAll, OpensNothing}
-use Rattle.yt_live.specs.Streams.{Parted, is_end, last_line, live, of_parts, opened_with, parted, whole_lines, with_line}
+use Rattle.yt_live.specs.Streams.{CutsLines, Parted, is_end, last_line, live, of_parts, opened_with, parted, whole_lines, with_line}
 use Rattle.yt_live.specs.declared.serving.TheConstants.{INPUT_LIMIT}
-use Rattle.yt_live.proofs.Splitting.{Splits, lone_line, more_splits, nothing_splits, whole_of}
+use Rattle.yt_live.proofs.Cutting.{cuts_all, cuts_whole, lone_line, next_line, no_whole}
 
 -- with this text in front
 abbrev pub prefixed : List ℕ → Parted → Parted
@@ -21,12 +24,10 @@ prefixed text p = record { text = text ++ p.text; commands = p.commands }
 -- No line so far is `end`: what was taken is the text and what is kept, and what follows is parted with the text in front.
 pub record IsOpening (left left' : Option (List ℕ)) (before after : Kept) (text : List ℕ) : Type 0 where
   pub took : List ℕ
-  pub whole : List (List ℕ)
   pub taken : Consumes left left' took
   pub same : took ≡ text ++ after.bytes
   pub room : after.room + length took ≡ before.room
-  pub split : Splits text whole
-  pub parts : (more : List (List ℕ)) → parted (whole ++ more) ≡ option_map (prefixed text) (parted more)
+  pub parts : (cut : List ℕ → List (List ℕ)) → CutsLines cut → (more : List ℕ) → parted (cut (took ++ more)) ≡ option_map (prefixed text) (parted (cut (after.bytes ++ more)))
 
 -- nothing in front
 front_nothing : (p : Option Parted) → p ≡ option_map (prefixed []) p
@@ -36,12 +37,10 @@ front_nothing (Some p) = refl
 pub before_all : (left : Option (List ℕ)) (before : Kept) → before.bytes ≡ [] → IsOpening left left before before []
 before_all left before none = record {
   took = [];
-  whole = [];
   taken = Consumes-nil left;
   same = sym none;
   room = omega arith;
-  split = nothing_splits;
-  parts = λ more. front_nothing (parted more);
+  parts = λ cut cuts more. ap (λ l. parted (cut (l ++ more))) (sym none) ∙ front_nothing (parted (cut (before.bytes ++ more)));
 }
 
 -- a text and a line in front
@@ -49,89 +48,94 @@ front_line : (text line : List ℕ) (p : Option Parted) → option_map (prefixed
 front_line text line None = refl
 front_line text line (Some p) = ap (λ (t : List ℕ). Some (record { text = t; commands = p.commands })) (sym (append_assoc text (line ++ 10 ∷ []) p.text ∙ ap (λ l. text ++ l) (append_assoc line (10 ∷ []) p.text)))
 
--- what was taken, with what is given and kept of it
-joined : (took more text kept given after : List ℕ) → took ≡ text ++ kept → kept ++ more ≡ given ++ after → took ++ more ≡ (text ++ given) ++ after
-joined took more text kept given after first next =
-    ap (λ l. l ++ more) first ∙ (append_assoc text kept more ∙ (ap (λ l. text ++ l) next ∙ sym (append_assoc text given after)))
+module _ (left mid right : Option (List ℕ)) (before kept after : Kept) (text : List ℕ) (o : IsOpening left mid before kept text) where
+  -- what was taken, with what is given and kept of it
+  joined : (more given : List ℕ) → kept.bytes ++ more ≡ given ++ after.bytes → o.took ++ more ≡ (text ++ given) ++ after.bytes
+  joined more given next =
+      ap (λ l. l ++ more) o.same ∙ (append_assoc text kept.bytes more ∙ (ap (λ l. text ++ l) next ∙ sym (append_assoc text given after.bytes)))
 
-module _ (left mid right : Option (List ℕ)) (before kept after : Kept) (text line : List ℕ) where
-  -- a line was given, which is not `end`
-  pub goes_on : (more : List ℕ) → IsOpening left mid before kept text → Consumes mid right more → kept.bytes ++ more ≡ (line ++ 10 ∷ []) ++ after.bytes
-      → after.room + length more ≡ kept.room → HasNoLineFeed line → is_end line ≡ false → IsOpening left right before after (text ++ (line ++ 10 ∷ []))
-  goes_on more o taken same room one other = record {
-    took = o.took ++ more;
-    whole = o.whole ++ line ∷ [];
-    taken = Consumes-trans left mid right o.took more o.taken taken;
-    same = joined o.took more text kept.bytes (line ++ 10 ∷ []) after.bytes o.same same;
-    room = omega (arith, length-append o.took more, o.room, room);
-    split = more_splits text line o.whole o.split one;
-    parts = λ rest. ap parted (append_assoc o.whole (line ∷ []) rest) ∙ (o.parts (line ∷ rest) ∙ (
-        let next : parted (line ∷ rest) ≡ option_map (with_line line) (parted rest) = rw other refl in
-        ap (λ (p : Option Parted). option_map (prefixed text) p) next ∙ front_line text line (parted rest)));
-  }
+  module _ (line : Vec ℕ Global) (g : HasGiven mid right kept after (Whole line)) (one : IsLine (Whole line)) where
+    taken : Consumes left right (o.took ++ g.took)
+    taken = Consumes-trans left mid right o.took g.took o.taken g.taken
 
-  -- a line was given, which is `end`
-  pub opens : (more : List ℕ) → IsOpening left mid before kept text → Consumes mid right more → kept.bytes ++ more ≡ (line ++ 10 ∷ []) ++ after.bytes
-      → after.room + length more ≡ kept.room → HasNoLineFeed line → is_end line ≡ true → before.room ≡ INPUT_LIMIT → HasOpened left right before after (text ++ (line ++ 10 ∷ []))
-  opens more o taken same room one end limit =
-      let all : o.took ++ more ≡ (text ++ (line ++ 10 ∷ [])) ++ after.bytes = joined o.took more text kept.bytes (line ++ 10 ∷ []) after.bytes o.same same in
-      record {
-        took = o.took ++ more;
-        given = text ++ (line ++ 10 ∷ []);
-        whole = o.whole ++ line ∷ [];
-        taken = Consumes-trans left mid right o.took more o.taken taken;
-        same = all;
-        room = omega (arith, length-append o.took more, o.room, room);
-        split = more_splits text line o.whole o.split one;
-        parts = λ rest. ap parted (append_assoc o.whole (line ∷ []) rest) ∙ (o.parts (line ∷ rest) ∙ (
-            let next : parted (line ∷ rest) ≡ Some (record { text = line ++ 10 ∷ []; commands = rest }) = rw end refl in
-            ap (λ (p : Option Parted). option_map (prefixed text) p) next));
-        short = omega (arith, ap length all, length-append (text ++ (line ++ 10 ∷ [])) after.bytes, length-append o.took more, o.room, room, limit);
-      }
+    room : after.room + length (o.took ++ g.took) ≡ before.room
+    room = omega (arith, length-append o.took g.took, o.room, g.room)
+
+    -- what follows is parted behind the line
+    behind : (cut : List ℕ → List (List ℕ)) → CutsLines cut → (more : List ℕ) → parted (cut ((o.took ++ g.took) ++ more)) ≡ option_map (prefixed text) (parted (line.items ∷ cut (after.bytes ++ more)))
+    behind cut cuts more =
+        ap (λ l. parted (cut l)) (append_assoc o.took g.took more) ∙ (o.parts cut cuts (g.took ++ more)
+        ∙ ap (λ (ls : List (List ℕ)). option_map (prefixed text) (parted ls)) (next_line cut cuts kept.bytes g.took line.items after.bytes more one g.same))
+
+    -- it is not `end`
+    pub goes_on : is_end line.items ≡ false → IsOpening left right before after (text ++ (line.items ++ 10 ∷ []))
+    goes_on other = record {
+      took = o.took ++ g.took;
+      taken = taken;
+      same = joined g.took (line.items ++ 10 ∷ []) g.same;
+      room = room;
+      parts = λ cut cuts more.
+          let next : parted (line.items ∷ cut (after.bytes ++ more)) ≡ option_map (with_line line.items) (parted (cut (after.bytes ++ more))) = rw other refl in
+          behind cut cuts more ∙ (ap (λ (p : Option Parted). option_map (prefixed text) p) next ∙ front_line text line.items (parted (cut (after.bytes ++ more))));
+    }
+
+    -- it is `end`
+    pub opens : is_end line.items ≡ true → before.room ≡ INPUT_LIMIT → HasOpened left right before after (text ++ (line.items ++ 10 ∷ []))
+    opens end limit = record {
+      took = o.took ++ g.took;
+      taken = taken;
+      room = room;
+      parts = λ cut cuts more.
+          let next : parted (line.items ∷ cut (after.bytes ++ more)) ≡ Some (record { text = line.items ++ 10 ∷ []; commands = cut (after.bytes ++ more) }) = rw end refl in
+          behind cut cuts more ∙ ap (λ (p : Option Parted). option_map (prefixed text) p) next;
+      short = omega (arith, ap (λ l. length l) (joined g.took (line.items ++ 10 ∷ []) g.same), length-append (text ++ (line.items ++ 10 ∷ [])) after.bytes, room, limit);
+    }
 
   -- the last line was given, which no line feed ends
-  pub ends : (more : List ℕ) → IsOpening left mid before kept text → Consumes mid right more → kept.bytes ++ more ≡ line ++ after.bytes → after.bytes ≡ []
-      → after.room + length more ≡ kept.room → HasNoLineFeed line → IsAtEnd right → before.room ≡ INPUT_LIMIT → HasReadAll left right (text ++ last_line line)
-  ends more o taken same none room one over limit =
-      let given : kept.bytes ++ more ≡ line ++ [] = same ∙ ap (λ l. line ++ l) none in
-      let all : o.took ++ more ≡ text ++ line = joined o.took more text kept.bytes line [] o.same given ∙ append-nil (text ++ line) in
-      let lines : lines_of (o.took ++ more) ≡ o.whole ++ line ∷ [] = ap lines_of all ∙ (o.split line ∙ ap (λ ls. o.whole ++ ls) (lone_line line one)) in
-      let found : parted (lines_of (o.took ++ more)) ≡ option_map (prefixed text) (parted (line ∷ [])) = ap parted lines ∙ o.parts (line ∷ []) in
-      record {
-        took = o.took ++ more;
-        taken = Consumes-trans left mid right o.took more o.taken taken;
-        end = over;
-        serves = λ budget c. ap (of_parts budget c (o.took ++ more)) found ∙ read_so budget c (o.took ++ more) all (is_end line) refl;
-        short = short_text (is_end line) refl (omega (arith, ap length all, length-append text line, length-append o.took more, o.room, room, limit));
-      }
+  pub ends : (line : Vec ℕ Global) (g : HasGiven mid right kept after (Last line)) → IsLine (Last line) → before.room ≡ INPUT_LIMIT → HasReadAll left right (text ++ last_line line.items)
+  ends line g one limit = record {
+    took = o.took ++ g.took;
+    taken = Consumes-trans left mid right o.took g.took o.taken g.taken;
+    few = few;
+    end = g.due.0;
+    serves = λ budget c. ap (of_parts budget c (o.took ++ g.took)) parts ∙ read_so budget c (is_end line.items) refl;
+    short = short_text (is_end line.items) refl;
+  }
     where
-      read_so : (budget : ℕ) (c : Settings) (bytes : List ℕ) → bytes ≡ text ++ line → (b : Bool) → is_end line ≡ b
-          → of_parts budget c bytes (option_map (prefixed text) (parted (line ∷ []))) ≡ opened_with budget c (read (text ++ last_line line)) []
-      read_so budget c bytes all true e = rw e refl
-      read_so budget c bytes all false e = rw e (ap (λ (l : List ℕ). opened_with budget c (read l) []) all)
+      alone : kept.bytes ++ g.took ≡ line.items
+      alone = g.same ∙ (ap (λ l. line.items ++ l) g.due.1 ∙ append-nil line.items)
+      all : o.took ++ g.took ≡ text ++ line.items
+      all = joined g.took line.items g.same ∙ (ap (λ l. (text ++ line.items) ++ l) g.due.1 ∙ append-nil (text ++ line.items))
+      few : length (o.took ++ g.took) ≤ INPUT_LIMIT
+      few = omega (arith, length-append o.took g.took, o.room, g.room, limit)
+      parts : parted (lines_of (o.took ++ g.took)) ≡ option_map (prefixed text) (parted (line.items ∷ []))
+      parts = o.parts lines_of cuts_all g.took ∙ ap (λ (ls : List (List ℕ)). option_map (prefixed text) (parted ls)) (ap lines_of alone ∙ lone_line line.items one)
+      read_so : (budget : ℕ) (c : Settings) (b : Bool) → is_end line.items ≡ b
+          → of_parts budget c (o.took ++ g.took) (option_map (prefixed text) (parted (line.items ∷ []))) ≡ opened_with budget c (read (text ++ last_line line.items)) []
+      read_so budget c true e = rw e refl
+      read_so budget c false e = rw e (ap (λ (l : List ℕ). opened_with budget c (read l) []) all)
+      short_text : (b : Bool) → is_end line.items ≡ b → length (text ++ last_line line.items) ≤ INPUT_LIMIT + 1
+      short_text true e = rw e (omega (arith, length-append text (line.items ++ 10 ∷ []), length-append line.items (10 ∷ []), ap (λ l. length l) all, length-append text line.items, few))
+      short_text false e = rw e (omega (arith, ap (λ l. length l) all, few))
 
-      short_text : (b : Bool) → is_end line ≡ b → length text + length line ≤ INPUT_LIMIT → length (text ++ last_line line) ≤ INPUT_LIMIT + 1
-      short_text true e few = rw e (omega (arith, length-append text (line ++ 10 ∷ []), length-append line (10 ∷ []), few))
-      short_text false e few = rw e (omega (arith, length-append text line, few))
-
--- the lines so far have no `end`
-lines_without : (text lost : List ℕ) (whole : List (List ℕ)) (took : List ℕ) → Splits text whole → HasNoLineFeed lost → took ≡ text ++ lost
-    → ((more : List (List ℕ)) → parted (whole ++ more) ≡ option_map (prefixed text) (parted more)) → parted (whole_lines took) ≡ None
-lines_without text lost whole took split one same parts =
-    ap (λ (l : List ℕ). parted (whole_lines l)) same ∙ (ap parted (whole_of text lost whole split one) ∙ (ap parted (sym (append-nil whole)) ∙ parts []))
+  -- the whole lines so far have no `end`
+  no_end : (lost : List ℕ) → HasNoLineFeed (kept.bytes ++ lost) → parted (whole_lines (o.took ++ lost)) ≡ None
+  no_end lost one = o.parts whole_lines cuts_whole lost ∙ ap (λ (ls : List (List ℕ)). option_map (prefixed text) (parted ls)) (no_whole (kept.bytes ++ lost) one)
 
 -- no further line is given
 pub fails : (left mid right : Option (List ℕ)) (before kept : Kept) (text : List ℕ) (e : LineRefusal) → IsOpening left mid before kept text → IsLost mid right kept e → OpensNothing e left right before
 fails left mid right before kept text lines.ReadFault o lost = (
   o.took ++ lost.took,
   Consumes-trans left mid right o.took lost.took o.taken lost.taken,
-  lines_without text (kept.bytes ++ lost.took) o.whole (o.took ++ lost.took) o.split lost.unended (ap (λ l. l ++ lost.took) o.same ∙ append_assoc text kept.bytes lost.took) o.parts,
+  omega (arith, length-append o.took lost.took, o.room, lost.room),
+  no_end left mid right before kept kept text o lost.took lost.unended,
 )
 fails left mid right before kept text lines.TooLong o lost = (
   o.took ++ lost.took,
   lost.extra,
   subst (Consumes left right) (sym (append_assoc o.took lost.took (lost.extra ∷ []))) (Consumes-trans left mid right o.took (lost.took ++ lost.extra ∷ []) o.taken lost.taken),
   omega (arith, length-append o.took lost.took, o.room, lost.room),
-  lines_without text (kept.bytes ++ lost.took) o.whole (o.took ++ lost.took) o.split lost.unended (ap (λ l. l ++ lost.took) o.same ∙ append_assoc text kept.bytes lost.took) o.parts,
+  no_end left mid right before kept kept text o lost.took lost.unended,
 )
-fails left mid right before kept text lines.Memory o lost = (o.took ++ lost.0, Consumes-trans left mid right o.took lost.0 o.taken lost.1)
+fails left mid right before kept text lines.Memory o lost =
+    (o.took ++ lost.0, Consumes-trans left mid right o.took lost.0 o.taken lost.1, omega (arith, length-append o.took lost.0, o.room, lost.2))

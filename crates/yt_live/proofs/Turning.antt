@@ -1,177 +1,182 @@
--- A conversation, line by line: what was replied so far, and what is served of the lines that follow.
+-- A conversation, line by line.
 use Rattle.std.proofs.Common.{◌≡◌, ℕ, ◌+◌, ◌≤◌, Bool, true, false, List, [], ◌∷◌, ◌++◌, length, refl, sym, ap, subst, ◌∙◌, arith, append-nil}
-use Rattle.std.specs.Prelude.{Option, Some, None, not}
-use Rattle.std.specs.Io.KnownBytes.{Appends, Consumes, IsAtEnd, Keeps}
-use Rattle.std.proofs.KnownBytes.{Appends-nil, Appends-trans, Consumes-nil, Consumes-trans}
+use Rattle.std.specs.Prelude.{Option, Some, None, not, if◌then◌else◌}
+use Rattle.std.specs.Io.KnownBytes.{Appends, Consumes, IsAtEnd}
+use Rattle.std.specs.declared.alloc.Global.{Global}
+use Rattle.std.specs.declared.vec.Vec.{Vec}
+use Rattle.std.proofs.KnownBytes.{Appends-nil, Appends-trans, Consumes-nil, Consumes-trans, Keeps-refl}
 use Rattle.std.proofs.lemmas.List.{append_assoc, length-append}
-use Rattle.yt_command.specs.Devices.{Change, Takes}
+use Rattle.yt_command.specs.Devices.{Change, Fails}
 use Rattle.yt_grammar.specs.Lines.{lines_of}
-use Rattle.yt_lines.specs.Given.{Kept, HasNoLineFeed, IsLost, HasNoLine, HasTooMany}
+use Rattle.yt_lines.specs.Given.{Kept, HasGiven, IsLine, IsLost}
+use Rattle.yt_lines.specs.declared.lines.LineRefusal.{LineRefusal}
+use Rattle.yt_lines.specs.declared.lines.LineRefusal.TheVariants as lines
+use Rattle.yt_lines.specs.declared.lines.NextLine.{NextLine}
+use Rattle.yt_lines.specs.declared.lines.NextLine.TheVariants.{Whole, Last}
 use Rattle.yt_replies.specs.Turns.{Live, Turn, line_turn}
-use Rattle.yt_text.specs.Faults.{Rose}
 use Rattle.yt_text.specs.Writing.{TakesPrefix}
-use Rattle.yt_live.specs.Ends.{Converses, Gave, GoesOnSoFar, HasEnded, IsOver, TookPrefix, left_of}
-use Rattle.yt_live.specs.Streams.{Served, GoesOn, Quits, parting, served, whole_lines, with_front}
-use Rattle.yt_live.proofs.Prefixes.{takes_front, takes_some, keeps_all}
-use Rattle.yt_live.proofs.Splitting.{Splits, lone_line, more_splits, nothing_splits, whole_of}
+use Rattle.yt_live.specs.Ends.{Due, Ends, FailsReply, HasEnded, HasReplied, StopsBy, left_of, of_line_refusal, of_lines}
+use Rattle.yt_live.specs.Streams.{Served, GoesOn, parting, served, whole_lines, with_front}
+use Rattle.yt_live.specs.declared.ends.LiveEnd.{LiveEnd}
+use Rattle.yt_live.specs.declared.ends.LiveEnd.TheVariants as ends
+use Rattle.yt_live.proofs.Continuing.{Continues, continues_on, ends_since, lines_continue, since}
+use Rattle.yt_live.proofs.Cutting.{cuts_all, lone_line, next_line, no_whole}
+use Rattle.yt_live.proofs.Prefixes.{keeps_all, takes_less, takes_none}
 
--- The lines so far asked for no end: behind what was kept before stands what was taken, which is what was given and what is
--- kept now; the sink took what was told, and what follows is served at the session that they left.
-pub record IsServing (L0 L : Live) (left left' taken taken' : Option (List ℕ)) (before after : Kept) : Type 0 where
-  pub took : List ℕ
-  pub given : List ℕ
-  pub whole : List (List ℕ)
-  pub told : List ℕ
-  pub consumed : Consumes left left' took
-  pub same : before.bytes ++ took ≡ given ++ after.bytes
-  pub room : after.room + length took ≡ before.room
-  pub split : Splits given whole
-  pub wrote : Appends taken taken' told
-  pub serves : (more : List (List ℕ)) → served L0 (whole ++ more) ≡ with_front told (served L more)
+-- what is due to lines of commands behind what is kept
+abbrev pub to_lines : Live → Kept → Due
+to_lines L kept = of_lines (served L) kept.bytes
 
-pub before_lines : (L : Live) (left taken : Option (List ℕ)) (before : Kept) → IsServing L L left left taken taken before before
-before_lines L left taken before = record {
-  took = [];
-  given = [];
-  whole = [];
-  told = [];
-  consumed = Consumes-nil left;
-  same = append-nil before.bytes;
-  room = omega arith;
-  split = nothing_splits;
-  wrote = Appends-nil taken;
-  serves = λ more. refl;
-}
-
--- what was kept before and all that was taken
-joined : (before took more given kept line after : List ℕ) → before ++ took ≡ given ++ kept → kept ++ more ≡ line ++ after → before ++ (took ++ more) ≡ (given ++ line) ++ after
-joined before took more given kept line after first next =
-    sym (append_assoc before took more) ∙ (ap (λ l. l ++ more) first ∙ (append_assoc given kept more ∙ (ap (λ l. given ++ l) next ∙ sym (append_assoc given line after))))
+-- ---- one turn
 
 -- a line is served, and then the others
-pub line_served : (L : Live) (line : List ℕ) (lines : List (List ℕ)) (b : Bool) → (line_turn L line).last ≡ b
+line_served : (L : Live) (line : List ℕ) (lines : List (List ℕ)) (b : Bool) → (line_turn L line).last ≡ b
     → served L (line ∷ lines) ≡ (if b then parting (line_turn L line) else with_front (line_turn L line).reply (served (line_turn L line).next lines))
 line_served L line lines b e = ap (λ (l : Bool). if l then parting (line_turn L line) else with_front (line_turn L line).reply (served (line_turn L line).next lines)) e
 
--- two fronts are one
-front_twice : (a b : List ℕ) (s : Served) → with_front a (with_front b s) ≡ with_front (a ++ b) s
-front_twice a b s = ap (λ (r : List ℕ). record { replies = r; ending = s.ending; core = s.core }) (sym (append_assoc a b s.replies))
-
--- nothing is left at the end
-none_left : (left : Option (List ℕ)) → IsAtEnd left → left_of left ≡ []
-none_left None end = refl
-none_left (Some bytes) end = end
-
--- the reply to a line comes first
+-- its reply comes first
 line_replies : (L : Live) (line : List ℕ) (lines : List (List ℕ)) → (more : List ℕ) × ((served L (line ∷ lines)).replies ≡ (line_turn L line).reply ++ more)
 line_replies L line lines = by (line_turn L line).last refl where
   by : (b : Bool) → (line_turn L line).last ≡ b → (more : List ℕ) × ((served L (line ∷ lines)).replies ≡ (line_turn L line).reply ++ more)
   by true e = ([], ap (λ (s : Served). s.replies) (line_served L line lines true e) ∙ sym (append-nil (line_turn L line).reply))
   by false e = ((served (line_turn L line).next lines).replies, ap (λ (s : Served). s.replies) (line_served L line lines false e))
 
-module _ (L0 L : Live) (left mid right taken tmid tnow : Option (List ℕ)) (before kept after : Kept) (line : List ℕ) (v : IsServing L0 L left mid taken tmid before kept) where
-  -- ---- a line was given
+-- the line that was given
+abbrev pub line_in : NextLine → List ℕ
+line_in (Whole line) = line.items
+line_in (Last line) = line.items
 
-  -- it is served, and further lines may follow
-  pub goes_on : (L' : Live) (more : List ℕ) → Consumes mid right more → kept.bytes ++ more ≡ (line ++ 10 ∷ []) ++ after.bytes → after.room + length more ≡ kept.room → HasNoLineFeed line
-      → Appends tmid tnow (line_turn L line).reply → (line_turn L line).next ≡ L' → (line_turn L line).last ≡ false → IsServing L0 L' left right taken tnow before after
-  goes_on L' more consumed same room one wrote next last = record {
-    took = v.took ++ more;
-    given = v.given ++ (line ++ 10 ∷ []);
-    whole = v.whole ++ line ∷ [];
-    told = v.told ++ (line_turn L line).reply;
-    consumed = Consumes-trans left mid right v.took more v.consumed consumed;
-    same = joined before.bytes v.took more v.given kept.bytes (line ++ 10 ∷ []) after.bytes v.same same;
-    room = omega (arith, length-append v.took more, v.room, room);
-    split = more_splits v.given line v.whole v.split one;
-    wrote = Appends-trans taken tmid tnow v.told (line_turn L line).reply v.wrote wrote;
-    serves = λ lines. ap (served L0) (append_assoc v.whole (line ∷ []) lines) ∙ (v.serves (line ∷ lines) ∙ (ap (with_front v.told) (line_served L line lines false last)
-        ∙ (front_twice v.told (line_turn L line).reply (served (line_turn L line).next lines) ∙ ap (λ (l : Live). with_front (v.told ++ (line_turn L line).reply) (served l lines)) next)));
-  }
+-- nothing is left at the end
+pub none_left : (left : Option (List ℕ)) → IsAtEnd left → left_of left ≡ []
+none_left None end = refl
+none_left (Some bytes) end = end
 
-  -- all bytes, where a whole line was given, split behind it
-  whole_split : (more rest : List ℕ) → kept.bytes ++ more ≡ (line ++ 10 ∷ []) ++ after.bytes → HasNoLineFeed line
-      → lines_of ((before.bytes ++ (v.took ++ more)) ++ rest) ≡ v.whole ++ (line ∷ lines_of (after.bytes ++ rest))
-  whole_split more rest same one =
-      let all : (before.bytes ++ (v.took ++ more)) ++ rest ≡ (v.given ++ (line ++ 10 ∷ [])) ++ (after.bytes ++ rest) =
-      ap (λ l. l ++ rest) (joined before.bytes v.took more v.given kept.bytes (line ++ 10 ∷ []) after.bytes v.same same) ∙ append_assoc (v.given ++ (line ++ 10 ∷ [])) after.bytes rest in
-      ap lines_of all ∙ (more_splits v.given line v.whole v.split one (after.bytes ++ rest) ∙ append_assoc v.whole (line ∷ []) (lines_of (after.bytes ++ rest)))
+-- what is left behind what was taken, of which a prefix of the reply to the next line is written
+pub cut_short : (due : Due) (room : ℕ) (e : LiveEnd) (source out : Change) (took reply rest : List ℕ) → Consumes source.bytes source.bytes_after took → length took ≤ room
+    → (due.at_end (took ++ left_of source.bytes_after)).replies ≡ reply ++ rest → FailsReply reply out e → Ends due room e source out
+cut_short due room ends.WriteFault source out took reply rest taken few same f =
+    ((took, taken, few, subst (TakesPrefix out.bytes out.bytes_after) (sym same) (takes_less out.bytes out.bytes_after reply rest f.0)), f.1)
+cut_short due room ends.Memory source out took reply rest taken few same f =
+    (took, taken, few, takes_none out.bytes out.bytes_after (due.at_end (took ++ left_of source.bytes_after)).replies f)
+cut_short due room ends.Ended source out took reply rest taken few same f = absurd f
+cut_short due room ends.ReadFault source out took reply rest taken few same f = absurd f
+cut_short due room ends.TooLong source out took reply rest taken few same f = absurd f
+cut_short due room (ends.SessionRefused fault) source out took reply rest taken few same f = absurd f
+cut_short due room (ends.BaseViolates mapping image session) source out took reply rest taken few same f = absurd f
 
-  -- the last line
-  last_split : (more rest : List ℕ) → kept.bytes ++ more ≡ line ++ after.bytes → after.bytes ≡ [] → rest ≡ [] → HasNoLineFeed line
-      → lines_of ((before.bytes ++ (v.took ++ more)) ++ rest) ≡ v.whole ++ line ∷ []
-  last_split more rest same none nil one =
-      let given : kept.bytes ++ more ≡ line ++ [] = same ∙ ap (λ l. line ++ l) none in
-      let all : (before.bytes ++ (v.took ++ more)) ++ rest ≡ v.given ++ line =
-      ap (λ l. (before.bytes ++ (v.took ++ more)) ++ l) nil ∙ (append-nil (before.bytes ++ (v.took ++ more))
-      ∙ (joined before.bytes v.took more v.given kept.bytes line [] v.same given ∙ append-nil (v.given ++ line))) in
-      ap lines_of all ∙ (v.split line ∙ ap (λ ls. v.whole ++ ls) (lone_line line one))
+module _ (L : Live) (left right : Option (List ℕ)) (kept after : Kept) where
+  -- the line is the first, whatever is left
+  first_line : (found : NextLine) (g : HasGiven left right kept after found) → IsLine found → (ls : List (List ℕ)) × (lines_of (kept.bytes ++ (g.took ++ left_of right)) ≡ line_in found ∷ ls)
+  first_line (Whole line) g one = (lines_of (after.bytes ++ left_of right), next_line lines_of cuts_all kept.bytes g.took line.items after.bytes (left_of right) one g.same)
+  first_line (Last line) g one =
+      let all : kept.bytes ++ (g.took ++ left_of right) ≡ line.items =
+      ap (λ l. kept.bytes ++ (g.took ++ l)) (none_left right g.due.0) ∙ (ap (λ l. kept.bytes ++ l) (append-nil g.took) ∙ (g.same ∙ (ap (λ l. line.items ++ l) g.due.1 ∙ append-nil line.items))) in
+      ([], ap lines_of all ∙ lone_line line.items one)
 
-  -- its reply was written in part
-  torn : (bytes : List ℕ) (lines : List (List ℕ)) → lines_of bytes ≡ v.whole ++ (line ∷ lines) → TakesPrefix tmid tnow (line_turn L line).reply → TakesPrefix taken tnow (served L0 (lines_of bytes)).replies
-  torn bytes lines split part =
-      let more = line_replies L line lines in
-      let all : (served L0 (lines_of bytes)).replies ≡ v.told ++ ((line_turn L line).reply ++ more.0) =
-      ap (λ (ls : List (List ℕ)). (served L0 ls).replies) split ∙ (ap (λ (s : Served). s.replies) (v.serves (line ∷ lines)) ∙ ap (λ l. v.told ++ l) more.1) in
-      subst (TakesPrefix taken tnow) (sym all) (takes_front taken tmid tnow v.told (line_turn L line).reply more.0 v.wrote part)
+  -- its reply was not written whole
+  pub torn : (found : NextLine) (g : HasGiven left right kept after found) → IsLine found → (e : LiveEnd) (reads reads' : ℕ) (out : Change) → FailsReply (line_turn L (line_in found)).reply out e
+      → Ends (to_lines L kept) kept.room e (record { bytes = left; bytes_after = right; faults = reads; faults_after = reads' }) out
+  torn found g one e reads reads' out f =
+      let first = first_line found g one in
+      let replies = line_replies L (line_in found) first.0 in
+      cut_short (to_lines L kept) kept.room e (record { bytes = left; bytes_after = right; faults = reads; faults_after = reads' }) out g.took (line_turn L (line_in found)).reply replies.0 g.taken (omega (arith, g.room))
+      (ap (λ (ls : List (List ℕ)). (served L ls).replies) first.1 ∙ replies.1) f
 
-  pub torn_whole : (more : List ℕ) → kept.bytes ++ more ≡ (line ++ 10 ∷ []) ++ after.bytes → HasNoLineFeed line → TakesPrefix tmid tnow (line_turn L line).reply
-      → TakesPrefix taken tnow (served L0 (lines_of ((before.bytes ++ (v.took ++ more)) ++ left_of right))).replies
-  torn_whole more same one part = torn ((before.bytes ++ (v.took ++ more)) ++ left_of right) (lines_of (after.bytes ++ left_of right)) (whole_split more (left_of right) same one) part
+  module _ (line : List ℕ) (took : List ℕ) (taken : Consumes left right took) (few : length took ≤ kept.room) (reads reads' : ℕ) (out : Change) (wrote : Appends out.bytes out.bytes_after (line_turn L line).reply) where
+    -- no further line is served
+    quits : (ls : List (List ℕ)) → lines_of (kept.bytes ++ took) ≡ line ∷ ls → (line_turn L line).last ≡ true
+        → Ends (to_lines L kept) kept.room ends.Ended (record { bytes = left; bytes_after = right; faults = reads; faults_after = reads' }) out
+    quits ls lines last =
+        let all : served L (lines_of (kept.bytes ++ took)) ≡ parting (line_turn L line) = ap (served L) lines ∙ line_served L line ls true last in
+        (took, taken, few, subst (λ (s : Served). HasEnded s (record { bytes = left; bytes_after = right; faults = reads; faults_after = reads' }) out) (sym all) (wrote, tt))
 
-  pub torn_last : (more : List ℕ) → kept.bytes ++ more ≡ line ++ after.bytes → after.bytes ≡ [] → IsAtEnd right → HasNoLineFeed line → TakesPrefix tmid tnow (line_turn L line).reply
-      → TakesPrefix taken tnow (served L0 (lines_of ((before.bytes ++ (v.took ++ more)) ++ left_of right))).replies
-  torn_last more same none end one part = torn ((before.bytes ++ (v.took ++ more)) ++ left_of right) [] (last_split more (left_of right) same none (none_left right end) one) part
+    -- it was the last one
+    rests : lines_of (kept.bytes ++ took) ≡ line ∷ [] → IsAtEnd right → (line_turn L line).last ≡ false
+        → Ends (to_lines L kept) kept.room ends.Ended (record { bytes = left; bytes_after = right; faults = reads; faults_after = reads' }) out
+    rests lines end last =
+        let all : served L (lines_of (kept.bytes ++ took)) ≡ with_front (line_turn L line).reply (served (line_turn L line).next []) = ap (served L) lines ∙ line_served L line [] false last in
+        (took, taken, few, subst (λ (s : Served). HasEnded s (record { bytes = left; bytes_after = right; faults = reads; faults_after = reads' }) out) (sym all)
+        (subst (Appends out.bytes out.bytes_after) (sym (append-nil (line_turn L line).reply)) wrote, end))
 
-  -- it is the last that is served
-  pub quits : (more : List ℕ) → kept.bytes ++ more ≡ (line ++ 10 ∷ []) ++ after.bytes → HasNoLineFeed line → Appends tmid tnow (line_turn L line).reply → (line_turn L line).last ≡ true
-      → Appends taken tnow (served L0 (lines_of (before.bytes ++ (v.took ++ more)))).replies × IsOver (served L0 (lines_of (before.bytes ++ (v.took ++ more)))).ending right
-  quits more same one wrote last =
-      let split : lines_of (before.bytes ++ (v.took ++ more)) ≡ v.whole ++ (line ∷ lines_of (after.bytes ++ [])) =
-      ap lines_of (sym (append-nil (before.bytes ++ (v.took ++ more)))) ∙ whole_split more [] same one in
-      let all : served L0 (lines_of (before.bytes ++ (v.took ++ more))) ≡ with_front v.told (parting (line_turn L line)) =
-      ap (served L0) split ∙ (v.serves (line ∷ lines_of (after.bytes ++ [])) ∙ ap (with_front v.told) (line_served L line (lines_of (after.bytes ++ [])) true last)) in
-      subst (λ (s : Served). Appends taken tnow s.replies × IsOver s.ending right) (sym all) (Appends-trans taken tmid tnow v.told (line_turn L line).reply v.wrote wrote, tt)
+  -- ---- what a line comes to
 
-  pub ends : (more : List ℕ) → kept.bytes ++ more ≡ line ++ after.bytes → after.bytes ≡ [] → IsAtEnd right → HasNoLineFeed line → Appends tmid tnow (line_turn L line).reply
-      → Appends taken tnow (served L0 (lines_of (before.bytes ++ (v.took ++ more)))).replies × IsOver (served L0 (lines_of (before.bytes ++ (v.took ++ more)))).ending right
-  ends more same none end one wrote = by (line_turn L line).last refl where
-    split : lines_of (before.bytes ++ (v.took ++ more)) ≡ v.whole ++ line ∷ []
-    split = ap lines_of (sym (append-nil (before.bytes ++ (v.took ++ more)))) ∙ last_split more [] same none refl one
+  -- it is whole, and further lines may follow
+  pub goes_on : (line : Vec ℕ Global) (g : HasGiven left right kept after (Whole line)) → IsLine (Whole line) → (out : Change) (next : Live) → HasReplied (line_turn L line.items) out next true
+      → Continues (to_lines L kept) (to_lines next after) g.took (line_turn L line.items).reply
+  goes_on line g one out next r =
+      let t = line_turn L line.items in
+      lines_continue (served L) (served next) kept.bytes after.bytes g.took t.reply (λ cut cuts more.
+        ap (served L) (next_line cut cuts kept.bytes g.took line.items after.bytes more one g.same)
+        ∙ (line_served L line.items (cut (after.bytes ++ more)) false r.2 ∙ ap (λ (l : Live). with_front t.reply (served l (cut (after.bytes ++ more)))) r.1))
 
-    all : (b : Bool) → (line_turn L line).last ≡ b → served L0 (lines_of (before.bytes ++ (v.took ++ more))) ≡ with_front v.told (if b then parting (line_turn L line) else with_front (line_turn L line).reply (served (line_turn L line).next []))
-    all b e = ap (served L0) split ∙ (v.serves (line ∷ []) ∙ ap (with_front v.told) (line_served L line [] b e))
+  -- it is whole, and it is the last that is served
+  pub ends_whole : (line : Vec ℕ Global) (g : HasGiven left right kept after (Whole line)) → IsLine (Whole line) → (reads reads' : ℕ) (out : Change) (next : Live) → HasReplied (line_turn L line.items) out next false
+      → Ends (to_lines L kept) kept.room ends.Ended (record { bytes = left; bytes_after = right; faults = reads; faults_after = reads' }) out
+  ends_whole line g one reads reads' out next r =
+      quits line.items g.took g.taken (omega (arith, g.room)) reads reads' out r.0 (lines_of after.bytes)
+      (ap lines_of (g.same ∙ append_assoc line.items (10 ∷ []) after.bytes) ∙ cuts_all line.items after.bytes one) r.2
 
-    both : Appends taken tnow (v.told ++ (line_turn L line).reply)
-    both = Appends-trans taken tmid tnow v.told (line_turn L line).reply v.wrote wrote
+  -- no line feed ends it
+  pub ends_last : (line : Vec ℕ Global) (g : HasGiven left right kept after (Last line)) → IsLine (Last line) → (reads reads' : ℕ) (out : Change) (next : Live) (more : Bool) → HasReplied (line_turn L line.items) out next more
+      → Ends (to_lines L kept) kept.room ends.Ended (record { bytes = left; bytes_after = right; faults = reads; faults_after = reads' }) out
+  ends_last line g one reads reads' out next more r = by more r.2 where
+    few : length g.took ≤ kept.room
+    few = omega (arith, g.room)
+    alone : lines_of (kept.bytes ++ g.took) ≡ line.items ∷ []
+    alone = ap lines_of (g.same ∙ (ap (λ l. line.items ++ l) g.due.1 ∙ append-nil line.items)) ∙ lone_line line.items one
+    by : (b : Bool) → (line_turn L line.items).last ≡ not b → Ends (to_lines L kept) kept.room ends.Ended (record { bytes = left; bytes_after = right; faults = reads; faults_after = reads' }) out
+    by true last = rests line.items g.took g.taken few reads reads' out r.0 alone g.due.0 last
+    by false last = quits line.items g.took g.taken few reads reads' out r.0 [] alone last
 
-    by : (b : Bool) → (line_turn L line).last ≡ b → Appends taken tnow (served L0 (lines_of (before.bytes ++ (v.took ++ more)))).replies × IsOver (served L0 (lines_of (before.bytes ++ (v.took ++ more)))).ending right
-    by true e = subst (λ (s : Served). Appends taken tnow s.replies × IsOver s.ending right) (sym (all true e)) (both, tt)
-    by false e = subst (λ (s : Served). Appends taken tnow s.replies × IsOver s.ending right) (sym (all false e))
-        (subst (Appends taken tnow) (ap (λ l. v.told ++ l) (sym (append-nil (line_turn L line).reply))) both, end)
+-- a device that did nothing
+abbrev pub unmoved : Option (List ℕ) → ℕ → Change
+unmoved bytes faults = record { bytes = bytes; bytes_after = bytes; faults = faults; faults_after = faults }
 
-module _ (L0 L : Live) (left mid right taken tmid : Option (List ℕ)) (before kept : Kept) (v : IsServing L0 L left mid taken tmid before kept) where
-  -- ---- no further line was given
+-- there is no further line
+pub lost : (L : Live) (source : Change) (taken : Option (List ℕ)) (writes : ℕ) (kept : Kept) (e : LineRefusal) → IsLost source.bytes source.bytes_after kept e → (e ≡ lines.ReadFault → Fails source)
+    → Ends (to_lines L kept) kept.room (of_line_refusal e) source (unmoved taken writes)
+lost L source taken writes kept lines.ReadFault l fails =
+    ((l.took, l.taken, l.room, subst (λ (ls : List (List ℕ)). StopsBy GoesOn (served L ls) (unmoved taken writes)) (sym (no_whole (kept.bytes ++ l.took) l.unended)) (Appends-nil taken, refl)), fails refl)
+lost L source taken writes kept lines.TooLong l fails =
+    (l.took, l.extra, l.taken, l.room, subst (λ (ls : List (List ℕ)). StopsBy GoesOn (served L ls) (unmoved taken writes)) (sym (no_whole (kept.bytes ++ l.took) l.unended)) (Appends-nil taken, refl))
+lost L source taken writes kept lines.Memory l fails =
+    (l.0, l.1, l.2, takes_none taken taken (served L (lines_of (kept.bytes ++ (l.0 ++ left_of source.bytes_after)))).replies (Keeps-refl taken))
 
-  -- the lines so far lead to no end
-  pub rests : (lost : List ℕ) → HasNoLineFeed (kept.bytes ++ lost)
-      → ((served L0 (whole_lines (before.bytes ++ (v.took ++ lost)))).ending ≡ GoesOn) × Appends taken tmid (served L0 (whole_lines (before.bytes ++ (v.took ++ lost)))).replies
-  rests lost one =
-      let bytes : before.bytes ++ (v.took ++ lost) ≡ v.given ++ (kept.bytes ++ lost) =
-      sym (append_assoc before.bytes v.took lost) ∙ (ap (λ l. l ++ lost) v.same ∙ append_assoc v.given kept.bytes lost) in
-      let lines : whole_lines (before.bytes ++ (v.took ++ lost)) ≡ v.whole ++ [] =
-      ap whole_lines bytes ∙ (whole_of v.given (kept.bytes ++ lost) v.whole v.split one ∙ sym (append-nil v.whole)) in
-      let all : served L0 (whole_lines (before.bytes ++ (v.took ++ lost))) ≡ with_front v.told (served L []) = ap (served L0) lines ∙ v.serves [] in
-      subst (λ (s : Served). (s.ending ≡ GoesOn) × Appends taken tmid s.replies) (sym all) (refl, subst (Appends taken tmid) (sym (append-nil v.told)) v.wrote)
+-- ---- the conversation
 
-  -- what was told is a prefix, whatever was taken
-  pub stops : (tnow : Option (List ℕ)) (more rest : List ℕ) → Keeps tmid tnow → TakesPrefix taken tnow (served L0 (lines_of ((before.bytes ++ (v.took ++ more)) ++ rest))).replies
-  stops tnow more rest keeps =
-      let bytes : (before.bytes ++ (v.took ++ more)) ++ rest ≡ v.given ++ (kept.bytes ++ (more ++ rest)) =
-      append_assoc before.bytes (v.took ++ more) rest ∙ (ap (λ l. before.bytes ++ l) (append_assoc v.took more rest)
-      ∙ (sym (append_assoc before.bytes v.took (more ++ rest)) ∙ (ap (λ l. l ++ (more ++ rest)) v.same ∙ append_assoc v.given kept.bytes (more ++ rest)))) in
-      let lines : lines_of ((before.bytes ++ (v.took ++ more)) ++ rest) ≡ v.whole ++ lines_of (kept.bytes ++ (more ++ rest)) = ap lines_of bytes ∙ v.split (kept.bytes ++ (more ++ rest)) in
-      let all : (served L0 (lines_of ((before.bytes ++ (v.took ++ more)) ++ rest))).replies ≡ v.told ++ (served L (lines_of (kept.bytes ++ (more ++ rest)))).replies =
-      ap (λ (ls : List (List ℕ)). (served L0 ls).replies) lines ∙ ap (λ (s : Served). s.replies) (v.serves (lines_of (kept.bytes ++ (more ++ rest)))) in
-      let told : Appends taken tnow (v.told ++ []) = Appends-trans taken tmid tnow v.told [] v.wrote (keeps_all tmid tnow keeps) in
-      subst (TakesPrefix taken tnow) (sym all) (takes_some taken tnow v.told (served L (lines_of (kept.bytes ++ (more ++ rest)))).replies (subst (Appends taken tnow) (append-nil v.told) told))
+-- The lines so far asked for no end: some bytes were taken and some replies written, and what is due goes on at the session that they left.
+pub record IsServing (L0 L : Live) (left left' taken taken' : Option (List ℕ)) (before after : Kept) : Type 0 where
+  pub took : List ℕ
+  pub told : List ℕ
+  pub consumed : Consumes left left' took
+  pub wrote : Appends taken taken' told
+  pub room : after.room + length took ≡ before.room
+  pub continues : Continues (to_lines L0 before) (to_lines L after) took told
+
+pub before_lines : (L : Live) (left taken : Option (List ℕ)) (kept : Kept) → IsServing L L left left taken taken kept kept
+before_lines L left taken kept = record {
+  took = [];
+  told = [];
+  consumed = Consumes-nil left;
+  wrote = Appends-nil taken;
+  room = omega arith;
+  continues = record { at_end = λ more. refl; so_far = λ more. refl };
+}
+
+-- a line was served behind which further ones may follow
+pub serves_on : (L0 L next : Live) (left mid right taken : Option (List ℕ)) (before kept after : Kept) (line : Vec ℕ Global) (g : HasGiven mid right kept after (Whole line)) (out : Change) → IsLine (Whole line)
+    → IsServing L0 L left mid taken out.bytes before kept → HasReplied (line_turn L line.items) out next true → IsServing L0 next left right taken out.bytes_after before after
+serves_on L0 L next left mid right taken before kept after line g out one v r = record {
+  took = v.took ++ g.took;
+  told = v.told ++ (line_turn L line.items).reply;
+  consumed = Consumes-trans left mid right v.took g.took v.consumed g.taken;
+  wrote = Appends-trans taken out.bytes out.bytes_after v.told (line_turn L line.items).reply v.wrote r.0;
+  room = omega (arith, length-append v.took g.took, v.room, g.room);
+  continues = continues_on (to_lines L0 before) (to_lines L kept) (to_lines next after) v.took g.took v.told (line_turn L line.items).reply v.continues (goes_on L mid right kept after line g one out next r);
+}
+
+-- how it ends from now on is how it ends
+pub serves_to : (L0 L : Live) (source out : Change) (mid tmid : Option (List ℕ)) (reads writes : ℕ) (before kept : Kept) (e : LiveEnd) → IsServing L0 L source.bytes mid out.bytes tmid before kept → source.faults ≤ reads → out.faults ≤ writes
+    → Ends (to_lines L kept) kept.room e (since mid reads source) (since tmid writes out) → Ends (to_lines L0 before) before.room e source out
+serves_to L0 L source out mid tmid reads writes before kept e v later later' x =
+    ends_since (to_lines L0 before) (to_lines L kept) v.took v.told before.room kept.room source out mid tmid reads writes v.continues v.consumed v.wrote v.room later later' e x

@@ -18,19 +18,35 @@ use Rattle.yt_reader.specs.declared.faults.ReadFailure.TheVariants as reading
 use Rattle.yt_replies.specs.Turns.{Live, Turn}
 use Rattle.yt_session.specs.Base.{Violated, base_violation}
 use Rattle.yt_session.specs.Meanings.{session_of}
-use Rattle.yt_live.specs.Streams.{Ending, GoesOn, Quits, RefusesSession, Violates, Served, Parted, live, served, opened_with, parted, so_far, whole_lines}
+use Rattle.yt_live.specs.Streams.{Ending, GoesOn, Quits, RefusesSession, Violates, Served, Parted, CutsLines, live, served, opened_with, parted, so_far, whole_lines}
 use Rattle.yt_live.specs.declared.ends.LiveEnd.{LiveEnd}
 use Rattle.yt_live.specs.declared.ends.LiveEnd.TheVariants as ends
 use Rattle.yt_live.specs.declared.openings.Opening.{Opening}
 use Rattle.yt_live.specs.declared.serving.TheConstants.{INPUT_LIMIT}
 
--- ---- of the whole stream
+-- ---- what is due
 
--- the source gave some bytes, and this holds of them
-abbrev pub Gave : Change → (List ℕ → Type 0) → Type 0
-Gave source holds = (took : List ℕ) × Consumes source.bytes source.bytes_after took × holds took
+-- What is served of the bytes of an input: where it ends behind them, and where more may follow.
+pub record Due : Type 0 where
+  pub at_end : List ℕ → Served
+  pub so_far : List ℕ → Served
 
--- the lines ended: one asked to end, or the source is at its end
+-- of the bytes of a stream
+abbrev pub of_stream : ℕ → Settings → Due
+of_stream budget c = record { at_end = live budget c; so_far = so_far budget c }
+
+-- of the bytes behind these ones, where S says what is served of lines of commands
+abbrev pub of_lines : (List (List ℕ) → Served) → List ℕ → Due
+of_lines S front = record { at_end = λ bytes. S (lines_of (front ++ bytes)); so_far = λ bytes. S (whole_lines (front ++ bytes)) }
+
+-- ---- how it ended
+
+-- the source gave some bytes, no more than may be taken, and this holds of them
+abbrev pub Gave : ℕ → Change → (List ℕ → Type 0) → Type 0
+Gave room source holds =
+    (took : List ℕ) × Consumes source.bytes source.bytes_after took × (length took ≤ room) × holds took
+
+-- the lines are over: one asked to end, or the source is at its end
 abbrev pub IsOver : Ending → Option (List ℕ) → Type 0
 IsOver GoesOn left = IsAtEnd left
 IsOver Quits left = Unit {0}
@@ -40,9 +56,13 @@ IsOver ending left = ⊥
 abbrev pub HasEnded : Served → Change → Change → Type 0
 HasEnded s source out = Takes out s.replies × IsOver s.ending source.bytes_after
 
--- the lines so far lead to no end, and the sink took all replies to them
-abbrev pub GoesOnSoFar : Served → Change → Type 0
-GoesOnSoFar s out = (s.ending ≡ GoesOn) × Takes out s.replies
+-- the sink took all replies, and the lines end so
+abbrev pub StopsBy : Ending → Served → Change → Type 0
+StopsBy ending s out = Takes out s.replies × (s.ending ≡ ending)
+
+-- the base of the session violates the mapping of this name, first with this image
+abbrev pub violation : SessionData → List ℕ → List Fact → Ending
+violation s name image = Violates s (record { name = name; image = image })
 
 -- what is left of a source, where it tells it
 abbrev pub left_of : Option (List ℕ) → List ℕ
@@ -50,27 +70,28 @@ left_of None = []
 left_of (Some bytes) = bytes
 
 -- the sink took a prefix of the replies to what was taken and what is left
-abbrev pub TookPrefix : (List ℕ → Served) → List ℕ → Change → Change → Type 0
-TookPrefix replies took source out = TakesSome out (replies (took ++ left_of source.bytes_after)).replies
+abbrev pub TookPrefix : Due → Change → Change → List ℕ → Type 0
+TookPrefix due source out took = TakesSome out (due.at_end (took ++ left_of source.bytes_after)).replies
 
--- the ending is the violation of the mapping of this name with this image
-abbrev pub IsViolation : Ending → List ℕ → List Fact → Type 0
-IsViolation ending name image = ending ≡ Violates (record { name = name; image = image })
-
--- What each end says. With `Ended` the sink took exactly the replies to what the source held; with any other
--- end a prefix of them.
-abbrev pub Serves : ℕ → Settings → LiveEnd → Change → Change → Type 0
-Serves budget c ends.Ended source out = Gave source (λ took. HasEnded (live budget c took) source out)
-Serves budget c ends.ReadFault source out = Gave source (λ took. GoesOnSoFar (so_far budget c took) out) × Fails source
-Serves budget c ends.WriteFault source out = Gave source (λ took. TookPrefix (live budget c) took source out) × Fails out
-Serves budget c ends.TooLong source out =
+-- What each end says, where no more bytes than these may be taken. With `Ended`, and where the session is refused, the sink
+-- took exactly the replies to what was taken; with any other end a prefix of them. It is `TooLong` exactly where a byte more
+-- was taken than may be.
+abbrev pub Ends : Due → ℕ → LiveEnd → Change → Change → Type 0
+Ends due room ends.Ended source out = Gave room source (λ took. HasEnded (due.at_end took) source out)
+Ends due room ends.ReadFault source out = Gave room source (λ took. StopsBy GoesOn (due.so_far took) out) × Fails source
+Ends due room ends.WriteFault source out = Gave room source (TookPrefix due source out) × Fails out
+Ends due room ends.TooLong source out =
     (took : List ℕ) × (extra : ℕ) × Consumes source.bytes source.bytes_after (took ++ extra ∷ [])
-    × (length took ≡ INPUT_LIMIT) × GoesOnSoFar (so_far budget c took) out
-Serves budget c (ends.SessionRefused fault) source out =
-    Gave source (λ took. (live budget c took).ending ≡ RefusesSession (wrong_of fault)) × TakesNothing out
-Serves budget c (ends.BaseViolates mapping image session) source out =
-    Gave source (λ took. IsViolation (live budget c took).ending mapping.items (map fact_of image.items)) × TakesNothing out
-Serves budget c ends.Memory source out = Gave source (λ took. TookPrefix (live budget c) took source out)
+    × (length took ≡ room) × StopsBy GoesOn (due.so_far took) out
+Ends due room (ends.SessionRefused fault) source out =
+    Gave room source (λ took. StopsBy (RefusesSession (wrong_of fault)) (due.at_end took) out)
+Ends due room (ends.BaseViolates mapping image session) source out =
+    Gave room source (λ took. StopsBy (violation (session_of session) mapping.items (map fact_of image.items)) (due.at_end took) out)
+Ends due room ends.Memory source out = Gave room source (TookPrefix due source out)
+
+-- A stream was served.
+abbrev pub Serves : ℕ → Settings → LiveEnd → Change → Change → Type 0
+Serves budget c e source out = Ends (of_stream budget c) INPUT_LIMIT e source out
 
 -- the end of a call that answers Ok where the stream ended
 abbrev pub end_of : Result (Unit {0}) LiveEnd → LiveEnd
@@ -90,23 +111,20 @@ abbrev pub of_read_failure : ReadFailure → LiveEnd
 of_read_failure (reading.Fault f) = ends.SessionRefused f
 of_read_failure reading.Memory = ends.Memory
 
--- The session part was read from the front: the bytes taken are those given and what is kept, and behind them any bytes are
--- lines of commands.
+-- The session part was read: behind what was taken, and before it behind what is kept of that, stand lines of commands.
 pub record HasOpened (left left' : Option (List ℕ)) (before after : Kept) (text : List ℕ) : Type 0 where
   pub took : List ℕ
-  pub given : List ℕ
-  pub whole : List (List ℕ)
   pub taken : Consumes left left' took
-  pub same : took ≡ given ++ after.bytes
   pub room : after.room + length took ≡ before.room
-  pub split : (rest : List ℕ) → lines_of (given ++ rest) ≡ whole ++ lines_of rest
-  pub parts : (more : List (List ℕ)) → parted (whole ++ more) ≡ Some (record { text = text; commands = more })
+  pub parts : (cut : List ℕ → List (List ℕ)) → CutsLines cut → (more : List ℕ)
+      → parted (cut (took ++ more)) ≡ Some (record { text = text; commands = cut (after.bytes ++ more) })
   pub short : length text ≤ INPUT_LIMIT + 1
 
 -- The input is at its end, and no command follows: it is served as the session that the text is.
 pub record HasReadAll (left left' : Option (List ℕ)) (text : List ℕ) : Type 0 where
   pub took : List ℕ
   pub taken : Consumes left left' took
+  pub few : length took ≤ INPUT_LIMIT
   pub end : IsAtEnd left'
   pub serves : (budget : ℕ) (c : Settings) → live budget c took ≡ opened_with budget c (read text) []
   pub short : length text ≤ INPUT_LIMIT + 1
@@ -122,10 +140,11 @@ Opens left left' before after o = Opened o.more left left' before after o.text.i
 
 -- no session part is whole yet in what was taken
 abbrev pub OpensNothing : LineRefusal → Option (List ℕ) → Option (List ℕ) → Kept → Type 0
-OpensNothing lines.ReadFault left left' before = (took : List ℕ) × Consumes left left' took × (parted (whole_lines took) ≡ None)
+OpensNothing lines.ReadFault left left' before =
+    (took : List ℕ) × Consumes left left' took × (length took ≤ before.room) × (parted (whole_lines took) ≡ None)
 OpensNothing lines.TooLong left left' before =
     (took : List ℕ) × (extra : ℕ) × Consumes left left' (took ++ extra ∷ []) × (length took ≡ before.room) × (parted (whole_lines took) ≡ None)
-OpensNothing lines.Memory left left' before = (took : List ℕ) × Consumes left left' took
+OpensNothing lines.Memory left left' before = (took : List ℕ) × Consumes left left' took × (length took ≤ before.room)
 
 -- the first violation of the session's base
 abbrev pub RefusesBase : SessionData → LiveEnd → Type 0
@@ -138,7 +157,8 @@ RefusesBase s e = ⊥
 abbrev pub RefusesText : List ℕ → LiveEnd → Type 0
 RefusesText text (ends.SessionRefused fault) = IsFirstFault text (wrong_of fault)
 RefusesText text (ends.BaseViolates mapping image session) =
-    (s : SessionData) × Spells text s × (base_violation s ≡ Some (record { name = mapping.items; image = map fact_of image.items }))
+    Spells text (session_of session)
+    × (base_violation (session_of session) ≡ Some (record { name = mapping.items; image = map fact_of image.items }))
 RefusesText text ends.Memory = Unit {0}
 RefusesText text e = ⊥
 
@@ -152,34 +172,13 @@ FailsReply reply out ends.WriteFault = TakesSome out reply × Fails out
 FailsReply reply out ends.Memory = TakesNothing out
 FailsReply reply out e = ⊥
 
--- What the lines of commands come to, of which S says what is served: behind what was kept before stands what is taken.
-abbrev pub Converses : (List (List ℕ) → Served) → Kept → LiveEnd → Change → Change → Type 0
-Converses S before ends.Ended source out = Gave source (λ took. HasEnded (S (lines_of (before.bytes ++ took))) source out)
-Converses S before ends.ReadFault source out =
-    Gave source (λ took. GoesOnSoFar (S (whole_lines (before.bytes ++ took))) out) × Fails source
-Converses S before ends.WriteFault source out =
-    Gave source (λ took. TookPrefix (λ bytes. S (lines_of bytes)) (before.bytes ++ took) source out) × Fails out
-Converses S before ends.TooLong source out =
-    (took : List ℕ) × (extra : ℕ) × Consumes source.bytes source.bytes_after (took ++ extra ∷ [])
-    × (length took ≡ before.room) × GoesOnSoFar (S (whole_lines (before.bytes ++ took))) out
-Converses S before ends.Memory source out =
-    Gave source (λ took. TookPrefix (λ bytes. S (lines_of bytes)) (before.bytes ++ took) source out)
-Converses S before e source out = ⊥
-
--- the same, or the session is refused
-abbrev pub ServesText : (List (List ℕ) → Served) → Kept → LiveEnd → Change → Change → Type 0
-ServesText S before (ends.SessionRefused fault) source out =
-    Gave source (λ took. (S (lines_of (before.bytes ++ took))).ending ≡ RefusesSession (wrong_of fault)) × TakesNothing out
-ServesText S before (ends.BaseViolates mapping image session) source out =
-    Gave source (λ took. IsViolation (S (lines_of (before.bytes ++ took))).ending mapping.items (map fact_of image.items)) × TakesNothing out
-ServesText S before e source out = Converses S before e source out
-
 -- what a session without commands comes to, of which s says what is served
 abbrev pub EndsAlone : Served → LiveEnd → Change → Type 0
-EndsAlone s ends.Ended out = Takes out s.replies × (s.ending ≡ GoesOn)
+EndsAlone s ends.Ended out = StopsBy GoesOn s out
 EndsAlone s ends.WriteFault out = TakesSome out s.replies × Fails out
-EndsAlone s (ends.SessionRefused fault) out = (s.ending ≡ RefusesSession (wrong_of fault)) × TakesNothing out
-EndsAlone s (ends.BaseViolates mapping image session) out = IsViolation s.ending mapping.items (map fact_of image.items) × TakesNothing out
+EndsAlone s (ends.SessionRefused fault) out = StopsBy (RefusesSession (wrong_of fault)) s out
+EndsAlone s (ends.BaseViolates mapping image session) out =
+    StopsBy (violation (session_of session) mapping.items (map fact_of image.items)) s out
 EndsAlone s ends.Memory out = TakesSome out s.replies
 EndsAlone s e out = ⊥
 

@@ -7,7 +7,9 @@ use Rattle.yt_grammar.specs.Lines.{lines_of, read}
 use Rattle.yt_grammar.specs.Names.{same_name}
 use Rattle.yt_grammar.specs.Sessions.{SessionData}
 use Rattle.yt_grammar.specs.Words.{Word, name, words_at}
+use Rattle.yt_history.specs.Cores.{IsLegalOver}
 use Rattle.yt_lex.specs.declared.LexRefusal.{LexRefusal}
+use Rattle.yt_lines.specs.Given.{HasNoLineFeed}
 use Rattle.yt_machine.specs.Updates.{Settings}
 use Rattle.yt_replies.specs.Turns.{Live, Turn, begun, line_turn}
 use Rattle.yt_session.specs.Base.{Violated, base_violation}
@@ -49,12 +51,13 @@ last_line line = if is_end line then line ++ 10 ∷ [] else line
 
 -- ---- the replies
 
--- how the lines end: they are all served, one asks to end, the session is refused, or its base violates a mapping
+-- how the lines end: they are all served, one asks to end, the session is refused, or the base of this session violates a
+-- mapping
 pub data Ending : Type 0 where
   GoesOn : Ending
   Quits : Ending
   RefusesSession : Wrong → Ending
-  Violates : Violated → Ending
+  Violates : SessionData → Violated → Ending
 
 -- What was replied, how the lines end, and what the core is then, where there is one.
 pub record Served : Type 0 where
@@ -92,7 +95,7 @@ attended L lines = with_front (ready_line L) (served L lines)
 -- a session that was read, where its base violates no mapping
 abbrev pub unless_violated : Option Violated → Live → List (List ℕ) → Served
 unless_violated None L lines = attended L lines
-unless_violated (Some v) L lines = unopened (Violates v)
+unless_violated (Some v) L lines = unopened (Violates L.session v)
 
 -- what was read, and the lines of commands
 abbrev pub opened_with : ℕ → Settings → Result SessionData Wrong → List (List ℕ) → Served
@@ -108,11 +111,26 @@ of_parts budget c bytes (Some p) = opened_with budget c (read p.text) p.commands
 abbrev pub live : ℕ → Settings → List ℕ → Served
 live budget c bytes = of_parts budget c bytes (parted (lines_of bytes))
 
+-- ---- the history
+
+-- the entries of the core are a legal history over what it is over
+abbrev pub IsLegal : Option State → Type 0
+IsLegal None = Unit {0}
+IsLegal (Some core) = IsLegalOver core.over core.history
+
+-- Whatever the bytes are, the events that they lead to form one legal history.
+abbrev pub MakesLegalHistories : ℕ → Settings → Type 0
+MakesLegalHistories budget c = (bytes : List ℕ) → IsLegal (live budget c bytes).core
+
 -- ---- an input that is not at its end
 
 -- the lines that a line feed ends
 abbrev pub whole_lines : List ℕ → List (List ℕ)
 whole_lines bytes = take (length (lines_of bytes) - 1) (lines_of bytes)
+
+-- A way to cut bytes into lines gives what stands up to the first line feed, and then the lines behind it.
+abbrev pub CutsLines : (List ℕ → List (List ℕ)) → Type 0
+CutsLines cut = (line rest : List ℕ) → HasNoLineFeed line → cut (line ++ 10 ∷ rest) ≡ line ∷ cut rest
 
 -- nothing is served before the session is there
 abbrev pub of_parts_so_far : ℕ → Settings → Option Parted → Served

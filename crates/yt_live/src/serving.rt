@@ -6,8 +6,8 @@ ghost use Rattle.yt_grammar.specs.Lines.{read};
 ghost use Rattle.yt_queue.specs.Settings.{settings_of};
 ghost use Rattle.yt_replies.specs.Meanings.{live_of};
 ghost use Rattle.yt_replies.specs.Turns.{line_turn};
-ghost use Rattle.yt_live.specs.Ends.{Converses, EndsAlone, FailsReply, HasReplied, Serves, ServesText, end_of};
-ghost use Rattle.yt_live.specs.Streams.{attended, opened_with, ready_line, served};
+ghost use Rattle.yt_live.specs.Ends.{Ends, EndsAlone, FailsReply, HasReplied, Serves, end_of, of_lines};
+ghost use Rattle.yt_live.specs.Streams.{MakesLegalHistories, attended, opened_with, ready_line, served};
 
 use crate::ends::LiveEnd;
 use crate::openings::{read_opening, session_in};
@@ -61,8 +61,8 @@ fn converse<S: Source, O: Sink>(
     source: &mut S,
     sink: &mut O,
 ) -> Result<(), LiveEnd>
-    ensures converses { Converses (served (live_of conversation.old)) lines.old (end_of result)
-        (change S.left S.fault_count source.old source.new)
+    ensures converses { Ends (of_lines (served (live_of conversation.old)) lines.old.bytes)
+        lines.old.room (end_of result) (change S.left S.fault_count source.old source.new)
         (change O.taken O.fault_count sink.old sink.new) }
 {
     'each: loop {
@@ -112,8 +112,8 @@ fn attend<S: Source, O: Sink>(
     source: &mut S,
     sink: &mut O,
 ) -> Result<(), LiveEnd>
-    ensures attends { Converses (attended (live_of conversation.old)) lines.old (end_of result)
-        (change S.left S.fault_count source.old source.new)
+    ensures attends { Ends (of_lines (attended (live_of conversation.old)) lines.old.bytes)
+        lines.old.room (end_of result) (change S.left S.fault_count source.old source.new)
         (change O.taken O.fault_count sink.old sink.new) }
 {
     greet(alloc, conversation, sink)?;
@@ -132,8 +132,9 @@ fn serve_text<S: Source, O: Sink>(
 ) -> Result<(), LiveEnd>
     requires retries { settings.retries ≤ 4 }
     requires short { length text.now ≤ INPUT_LIMIT + 1 }
-    ensures serves { ServesText (opened_with budget (settings_of settings) (read text.now))
-        lines.old (end_of result) (change S.left S.fault_count source.old source.new)
+    ensures serves { Ends (of_lines (opened_with budget (settings_of settings) (read text.now))
+        lines.old.bytes) lines.old.room (end_of result)
+        (change S.left S.fault_count source.old source.new)
         (change O.taken O.fault_count sink.old sink.new) }
 {
     let session = session_in(alloc, text)?;
@@ -191,7 +192,7 @@ fn serve_all<S: Source, O: Sink>(
 /// Serves a stream: a session, and then commands of curators, each replied before the next line is taken.
 ///
 /// With `Ended` the sink has taken exactly the replies to what the source held, and with any other end a prefix of them,
-/// however the bytes are cut.
+/// however the bytes are cut. Whatever they are, the events that they lead to form one legal history.
 pub fn serve<S: Source, O: Sink>(
     alloc: Global,
     source: &mut S,
@@ -203,7 +204,9 @@ pub fn serve<S: Source, O: Sink>(
     ensures serves { Serves budget (settings_of settings) result
         (change S.left S.fault_count source.old source.new)
         (change O.taken O.fault_count sink.old sink.new) }
+    ensures legal { MakesLegalHistories budget (settings_of settings) }
 {
+    budget.is_within();
     match serve_all(alloc, source, sink, settings, budget) {
         Ok(()) => LiveEnd::Ended,
         Err(end) => end,
