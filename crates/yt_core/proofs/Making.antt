@@ -1,6 +1,6 @@
 -- What holds of the parts of a core by its history, and what its calls made.
-use Rattle.std.proofs.Common.{◌≡◌, ◌∙◌, ap, refl, sym, subst, ℕ, zero, suc, ◌<◌, ◌≤◌, ◌+◌, Bool, true, false, not, ◌&&◌, take, Option, Some, None, List, [], ◌∷◌, ◌++◌, append-nil, map, length, arith}
-use Rattle.std.specs.Prelude.{option_map, unwrap_or, slice_get}
+use Rattle.std.proofs.Common.{◌≡◌, ◌∙◌, ap, refl, sym, subst, ℕ, zero, suc, ◌<◌, ◌≤◌, ◌+◌, ◌^◌, Bool, true, false, not, ◌&&◌, take, Option, Some, None, List, [], ◌∷◌, ◌++◌, append-nil, map, length, arith}
+use Rattle.std.specs.Prelude.{if◌then◌else◌, option_map, unwrap_or, slice_get}
 use Rattle.std.proofs.lemmas.Option.{same_Some, none-some, slice_get-map}
 use Rattle.yt_base.specs.Listed.{Listed}
 use Rattle.yt_base.specs.Meanings.{fact_of, choice_of, operation_of}
@@ -17,12 +17,13 @@ use Rattle.yt_machine.specs.Effects.{Event, Steps, Delivers}
 use Rattle.yt_machine.specs.History.{IsHistory}
 use Rattle.yt_machine.specs.Histories.{event_of}
 use Rattle.yt_machine.specs.Standings.{Standing, Ready, Paused, Missing, standing, is_ready, is_pending, is_deliverable, is_nil, next_answer}
-use Rattle.yt_machine.specs.Updates.{Settings, Submission, Update, committed, below}
+use Rattle.yt_machine.specs.Updates.{Settings, Submission, Update, committed, below, hides, trail}
+use Rattle.yt_machine.proofs.Carried.{below_more}
 use Rattle.yt_machine.proofs.Serials.{counted}
 use Rattle.yt_machine.proofs.Standing.{ready_parts}
 use Rattle.yt_machine.proofs.Theorem.{history_law}
 use Rattle.yt_model.specs.Mappings.{Rule}
-use Rattle.yt_model.specs.Repository.{IsRepository}
+use Rattle.yt_model.specs.Repository.{IsRepository, apply}
 use Rattle.yt_model.specs.Values.{Fact}
 use Rattle.yt_model.specs.Updates.{Choice, Operation}
 use Rattle.yt_plan.specs.Planned.{at_rest, WantsStep, next_attempt, next_reads}
@@ -52,7 +53,7 @@ use Rattle.yt_core.specs.Planned.{PlanMeant, IsSomeThat, IsStepOver, IsStepAmong
 use Rattle.yt_core.specs.States.{State, numbered_at, standing_at, has_waiting, admissions_from, opened}
 use Rattle.yt_grammar.specs.Sessions.{SessionData}
 use Rattle.yt_grammar.specs.Checks.{rules_of}
-use Rattle.yt_core.specs.Taken.{AtPlace, IsReadySomewhere, IsSnapshotOf}
+use Rattle.yt_core.specs.Taken.{AtPlace, IsHeldBy, IsReadySomewhere, IsSnapshotOf}
 use Rattle.yt_machine.specs.Machine.{Machine}
 use Rattle.yt_core.proofs.Delivering.{kept_same}
 use Rattle.yt_core.proofs.Following.{within, stands_at, mapped_long}
@@ -142,6 +143,26 @@ module _ (g : Ground) (v : Kept) (rs : List Record) (H : List PlainEntry) (s : S
     number = suc i;
     ready = ap is_ready (ready_record r spot);
   }
+
+  -- A ready update shows the writes of its attempt, so that the next update sees what it sees with them.
+  pub held_placed : AtPlace i qs (IsHeldBy v)
+  held_placed r spot =
+      let us : List (Update (machine g)) = updates_of g.rules g.budget rs in
+      let u : Update (machine g) = update_of g.rules g.budget r in
+      let there : slice_get rs i ≡ Some r = ap (λ xs. slice_get xs i) (sym slice) ∙ spot in
+      let found : slice_get us i ≡ Some u = slice_get-map (update_of g.rules g.budget) rs i ∙ ap (option_map (update_of g.rules g.budget)) there in
+      let number : r.program.attempt.number ≡ suc i = (let one : 1 + i ≡ suc i = omega arith in (stands_at rs 1 i r kept.numbers there).number ∙ one) in
+      let o = (ready_parts (machine g) g.settings (committed (machine g) us) (suc i) u (ap is_ready (ready_record r spot))).0 in
+      let own : trail (machine g) u ≡ r.program.attempt.own =
+      ap (λ (b : Bool). if b then [] else if hides ((machine g).outcome u.state) then [] else u.state.own) o.present
+      ∙ ap (λ (b : Bool). if b then [] else u.state.own) (ap hides o.going) in
+      let sees : (k : ℕ) → seen (suc k) v ≡ below (machine g) g.base us k = below_is_seen caused g.rules g.budget v g.base us kept.sorted kept.versions in
+      record {
+        applied =
+            ap (λ m. seen (suc m) v) number ∙ sees (suc i) ∙ below_more (machine g) (chase_laws caused g.rules g.budget kept.budget) g.base us i u found
+            ∙ (λ j. apply (sym (sees i) j) (own j)) ∙ ap (λ m. apply (seen m v) r.program.attempt.own) (sym number);
+        few = subst (λ (m : ℕ). m + 1 < 2 ^ 32) (sym number) (omega (arith, placed_within g v rs H s kept same n Ready stands i (sym e), kept.few));
+      }
 
   pub left_placed : AtPlace i qs (λ r. r.program.attempt.steps < g.budget)
   left_placed r spot =
@@ -377,6 +398,14 @@ can_step r program a f wants e = subst (λ (p : ProgramState). WantsStep (wish p
 
 pub steps_left : (r : Record) (program : ProgramState) (B : ℕ) → program ≡ r.program → r.program.attempt.steps < B → program.attempt.steps < B
 steps_left r program B e l = subst (λ (p : ProgramState). p.attempt.steps < B) (sym e) l
+
+-- The versions that were shared have the writes of the attempt too.
+pub stands_applied : (v w : Kept) (r : Record) (n : ℕ) (program : ProgramState) → w ≡ v → n ≡ r.program.attempt.number → program ≡ r.program → IsHeldBy v r → seen (suc n) w ≡ apply (seen n w) program.attempt.own
+stands_applied v w r n program versions number same held =
+    (λ i. seen (suc (number i)) (versions i)) ∙ held.applied ∙ sym (λ i. apply (seen (number i) (versions i)) (same i).attempt.own)
+
+pub number_few : (v : Kept) (r : Record) (n : ℕ) → n ≡ r.program.attempt.number → IsHeldBy v r → n + 1 < 2 ^ 32
+number_few v r n e held = subst (λ (m : ℕ). m + 1 < 2 ^ 32) (sym e) held.few
 
 pub snapshot_taken : (ms ks : List Rule) (B : ℕ) (v w : Kept) (r : Record) (n : ℕ) (program : ProgramState) (a : Option Choice) → ks ≡ ms → w ≡ v → n ≡ r.program.attempt.number → program ≡ r.program → HasNext r a
     → IsSnapshotOf ms B v r (record { update = n; program = at_rest (next_attempt ks B (seen n w) program.attempt a); reads = next_reads ks (seen n w) program.attempt a })

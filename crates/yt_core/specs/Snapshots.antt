@@ -1,7 +1,8 @@
 -- What a snapshot is of: the step that it plans.
-use Rattle.std.specs.Prelude.{◌<◌}
+use Rattle.std.specs.Prelude.{◌≡◌, ◌<◌, ◌+◌, ◌^◌, suc}
 use Rattle.std.specs.Option.{option_map}
 use Rattle.yt_base.specs.Meanings.{choice_of}
+use Rattle.yt_model.specs.Repository.{apply}
 use Rattle.yt_program.specs.Wishes.{wish}
 use Rattle.yt_plan.specs.Planned.{at_rest, WantsStep, next_attempt, next_reads}
 use Rattle.yt_versions.specs.Standing.{seen}
@@ -17,7 +18,9 @@ planned_by v =
       reads = next_reads v.mappings (seen v.update v.versions) v.program.attempt (option_map choice_of v.answer);
     }
 
--- Its program can make a step with the answer.
+-- Its program can make a step with the answer, and the versions have the writes of the attempt.
 pub record CanStep (v : Inside) : Type 0 where
   pub wanted : WantsStep (wish v.program) (option_map choice_of v.answer)
   pub left : v.program.attempt.steps < v.budget
+  pub applied : seen (suc v.update) v.versions ≡ apply (seen v.update v.versions) v.program.attempt.own
+  pub few : v.update + 1 < 2 ^ 32

@@ -1,9 +1,10 @@
 -- The snapshot that is taken of a record.
-use Rattle.std.specs.Prelude.{◌≡◌, ℕ, true, List, map, Some, slice_get}
+use Rattle.std.specs.Prelude.{◌≡◌, ◌<◌, ◌+◌, ◌^◌, ℕ, suc, true, List, map, Some, slice_get}
 use Rattle.yt_base.specs.Meanings.{choice_of}
 use Rattle.yt_machine.specs.Standings.{standing, is_ready, next_answer}
 use Rattle.yt_machine.specs.Updates.{Settings}
 use Rattle.yt_model.specs.Mappings.{Rule}
+use Rattle.yt_model.specs.Repository.{apply}
 use Rattle.yt_plan.specs.Planned.{at_rest, next_attempt, next_reads}
 use Rattle.yt_queue.specs.Queues.{update_of}
 use Rattle.yt_queue.specs.declared.records.Record.{Record}
@@ -23,6 +24,11 @@ pub record IsReadySomewhere (r : Record) : Type 0 where
   pub committed : ℕ
   pub number : ℕ
   pub ready : is_ready (standing (caused_chase rules budget) settings committed number (update_of rules budget r)) ≡ true
+
+-- The versions have the writes of its attempt, and its number is not the last that there is.
+pub record IsHeldBy (v : Kept) (r : Record) : Type 0 where
+  pub applied : seen (suc r.program.attempt.number) v ≡ apply (seen r.program.attempt.number v) r.program.attempt.own
+  pub few : r.program.attempt.number + 1 < 2 ^ 32
 
 -- It plans the next step of the record's attempt over what its update sees.
 pub record IsSnapshotOf (ms : List Rule) (B : ℕ) (v : Kept) (r : Record) (p : PlanMeant) : Type 0 where

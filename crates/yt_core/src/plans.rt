@@ -7,7 +7,7 @@ ghost use Rattle.yt_query.specs.Meanings.{read_of};
 ghost use Rattle.yt_queue.specs.Queues.{AreFrom};
 ghost use Rattle.yt_queue.specs.Programs.{IsBetween, HasNext};
 ghost use Rattle.yt_queue.specs.Wants.{WantsNext};
-ghost use Rattle.yt_core.specs.Taken.{AtPlace, IsReadySomewhere, IsSnapshotOf};
+ghost use Rattle.yt_core.specs.Taken.{AtPlace, IsHeldBy, IsReadySomewhere, IsSnapshotOf};
 
 use std::alloc::Global;
 use std::marker::Model;
@@ -88,9 +88,18 @@ impl<'s> Snapshot<'s> {
         ensures same { IfOk result (λ plan. plan ≡ self.now) }
     {
         let below = self.versions.below(self.update);
+        let with = self.versions.below(self.update + 1);
         let answer = lent(&self.answer);
         let mappings = &self.mappings;
-        let step = plan_step(alloc, &self.program, answer, mappings, self.budget, &below)?;
+        let step = plan_step(
+            alloc,
+            &self.program,
+            answer,
+            mappings,
+            self.budget,
+            &below,
+            &with,
+        )?;
         Ok(Plan {
             update: self.update,
             step,
@@ -119,6 +128,7 @@ pub(crate) fn snapshot_at<'s>(
     requires numbers { AreFrom 1 queue.now }
     requires ready { AtPlace place queue.now IsReadySomewhere }
     requires left { AtPlace place queue.now (λ r. r.program.attempt.steps < budget) }
+    requires held { AtPlace place queue.now (IsHeldBy versions.now) }
     ensures taken { IfOk result (λ snapshot. AtPlace place queue.now (λ r. IsSnapshotOf
         (map rule_of mappings.now.items) budget versions.now r snapshot)) }
 {
@@ -139,6 +149,7 @@ fn snapshot_of<'s>(
     requires between { IsBetween item.now.program }
     requires ready { IsReadySomewhere item.now }
     requires left { item.now.program.attempt.steps < budget }
+    requires held { IsHeldBy versions.now item.now }
     ensures taken { IfOk result (IsSnapshotOf (map rule_of mappings.now.items) budget versions.now
         item.now) }
 {

@@ -17,6 +17,10 @@ pub snapshot_of-requires-clause-left : goal.snapshot_of-requires-clause-left
 snapshot_of-requires-clause-left c =
     c.requires.left c.index-queue-place.result (there_is c.args.queue.now c.args.place c.index-queue-place.result c.requires.place c.index-queue-place.is)
 
+pub snapshot_of-requires-clause-held : goal.snapshot_of-requires-clause-held
+snapshot_of-requires-clause-held c =
+    c.requires.held c.index-queue-place.result (there_is c.args.queue.now c.args.place c.index-queue-place.result c.requires.place c.index-queue-place.is)
+
 pub returns : goal.returns
 returns c =
     record {

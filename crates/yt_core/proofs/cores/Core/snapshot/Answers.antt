@@ -1,6 +1,6 @@
 use Rattle.std.proofs.Common.{sym, subst}
 use Rattle.yt_limits.specs.Within.{AreWithin}
-use Rattle.yt_core.proofs.Making.{some_number, ready_within, ready_numbers, ready_placed, left_placed, snapshot_update, snapshot_step}
+use Rattle.yt_core.proofs.Making.{some_number, ready_within, ready_numbers, ready_placed, left_placed, held_placed, snapshot_update, snapshot_step}
 use Rattle.yt_core.proofs.cores.Core.snapshot.Goals as goal
 
 pub place_of-place-requires : goal.place_of-place-requires
@@ -21,6 +21,10 @@ snapshot_at-requires-clause-ready c =
 pub snapshot_at-requires-clause-left : goal.snapshot_at-requires-clause-left
 snapshot_at-requires-clause-left c =
     left_placed _ c.self.inside.versions c.self.inside.queue.items _ _ c.self.invariant.0 c.self.view_is c.args.update c.requires.ready c.place_of-place.result c.place_of-place.ensures c.deref.result.now c.deref.ensures.value
+
+pub snapshot_at-requires-clause-held : goal.snapshot_at-requires-clause-held
+snapshot_at-requires-clause-held c =
+    held_placed _ c.self.inside.versions c.self.inside.queue.items _ _ c.self.invariant.0 c.self.view_is c.args.update c.requires.ready c.place_of-place.result c.place_of-place.ensures c.deref.result.now c.deref.ensures.value
 
 pub returns-clause-update : goal.returns-clause-update
 returns-clause-update c =

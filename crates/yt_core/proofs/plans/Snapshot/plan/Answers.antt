@@ -1,9 +1,12 @@
-use Rattle.std.proofs.Common.{◌∙◌, ap}
+use Rattle.std.proofs.Common.{◌∙◌, ap, sym}
 use Rattle.std.specs.Option.{option_map}
 use Rattle.yt_base.specs.Meanings.{choice_of}
 use Rattle.yt_versions.specs.Standing.{seen}
 use Rattle.yt_core.proofs.Making.{planned_same}
 use Rattle.yt_core.proofs.plans.Snapshot.plan.Goals as goal
+
+pub plan_step-step-requires-clause-applied : goal.plan_step-step-requires-clause-applied
+plan_step-step-requires-clause-applied c = ?
 
 pub returns : goal.returns
 returns c =
