@@ -20,6 +20,7 @@ use Rattle.yt_live.specs.Ends.{Due, Ends, EndsAlone, FailsReply, HasEnded, HasOp
 use Rattle.yt_live.specs.Streams.{Served, Parted, Ending, GoesOn, RefusesSession, attended, live, of_parts, of_parts_so_far, opened_with, parted, ready_line, served, so_far, unless_violated, whole_lines}
 use Rattle.yt_live.specs.declared.ends.LiveEnd.{LiveEnd}
 use Rattle.yt_live.specs.declared.ends.LiveEnd.TheVariants as ends
+use Rattle.yt_live.specs.declared.openings.Opening.{Opening}
 use Rattle.yt_live.specs.declared.serving.TheConstants.{INPUT_LIMIT}
 use Rattle.yt_live.proofs.Continuing.{Continues, ends_since, lines_continue, since}
 use Rattle.yt_live.proofs.Cutting.{cuts_all, cuts_whole}
@@ -125,7 +126,7 @@ serves_alone budget c text ends.TooLong source out r a = absurd a
 
 -- no session part was whole
 pub opens_not : (budget : ℕ) (c : Settings) (e : LineRefusal) (source : Change) (before : Kept) (taken : Option (List ℕ)) (writes : ℕ) → before.room ≡ INPUT_LIMIT → OpensNothing e source.bytes source.bytes_after before
-    → (e ≡ lines.ReadFault → Fails source) → Serves budget c (of_line_refusal e) source (unmoved taken writes)
+    → (let r : Result Opening LineRefusal = Err e in r ≡ Err lines.ReadFault → Fails source) → Serves budget c (of_line_refusal e) source (unmoved taken writes)
 opens_not budget c lines.ReadFault source before taken writes limit o fails =
     ((o.0, o.1, omega (arith, o.2, limit), subst (λ (p : Option Parted). StopsBy GoesOn (of_parts_so_far budget c p) (unmoved taken writes)) (sym o.3) (Appends-nil taken, refl)), fails refl)
 opens_not budget c lines.TooLong source before taken writes limit o fails =

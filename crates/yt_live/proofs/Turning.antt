@@ -1,6 +1,6 @@
 -- A conversation, line by line.
-use Rattle.std.proofs.Common.{◌≡◌, ℕ, ◌+◌, ◌≤◌, Bool, true, false, List, [], ◌∷◌, ◌++◌, length, refl, sym, ap, subst, ◌∙◌, arith, append-nil}
-use Rattle.std.specs.Prelude.{Option, Some, None, not, if◌then◌else◌}
+use Rattle.std.proofs.Common.{◌≡◌, ℕ, ◌+◌, ◌≤◌, ◌<◌, Bool, true, false, List, [], ◌∷◌, ◌++◌, length, refl, sym, ap, subst, ◌∙◌, arith, append-nil}
+use Rattle.std.specs.Prelude.{Option, Some, None, Result, Err, not, if◌then◌else◌}
 use Rattle.std.specs.Io.KnownBytes.{Appends, Consumes, IsAtEnd}
 use Rattle.std.specs.declared.alloc.Global.{Global}
 use Rattle.std.specs.declared.vec.Vec.{Vec}
@@ -14,6 +14,7 @@ use Rattle.yt_lines.specs.declared.lines.LineRefusal.TheVariants as lines
 use Rattle.yt_lines.specs.declared.lines.NextLine.{NextLine}
 use Rattle.yt_lines.specs.declared.lines.NextLine.TheVariants.{Whole, Last}
 use Rattle.yt_replies.specs.Turns.{Live, Turn, line_turn}
+use Rattle.yt_text.specs.Faults.{Rose}
 use Rattle.yt_text.specs.Writing.{TakesPrefix}
 use Rattle.yt_live.specs.Ends.{Due, Ends, FailsReply, HasEnded, HasReplied, StopsBy, left_of, of_line_refusal, of_lines}
 use Rattle.yt_live.specs.Streams.{Served, GoesOn, parting, served, whole_lines, with_front}
@@ -132,8 +133,12 @@ module _ (L : Live) (left right : Option (List ℕ)) (kept after : Kept) where
 abbrev pub unmoved : Option (List ℕ) → ℕ → Change
 unmoved bytes faults = record { bytes = bytes; bytes_after = bytes; faults = faults; faults_after = faults }
 
+-- the refusal of a line
+abbrev pub failed : LineRefusal → Result NextLine LineRefusal
+failed e = Err e
+
 -- there is no further line
-pub lost : (L : Live) (source : Change) (taken : Option (List ℕ)) (writes : ℕ) (kept : Kept) (e : LineRefusal) → IsLost source.bytes source.bytes_after kept e → (e ≡ lines.ReadFault → Fails source)
+pub lost : (L : Live) (source : Change) (taken : Option (List ℕ)) (writes : ℕ) (kept : Kept) (e : LineRefusal) → IsLost source.bytes source.bytes_after kept e → (failed e ≡ Err lines.ReadFault → Fails source)
     → Ends (to_lines L kept) kept.room (of_line_refusal e) source (unmoved taken writes)
 lost L source taken writes kept lines.ReadFault l fails =
     ((l.took, l.taken, l.room, subst (λ (ls : List (List ℕ)). StopsBy GoesOn (served L ls) (unmoved taken writes)) (sym (no_whole (kept.bytes ++ l.took) l.unended)) (Appends-nil taken, refl)), fails refl)
@@ -175,8 +180,55 @@ serves_on L0 L next left mid right taken before kept after line g out one v r = 
   continues = continues_on (to_lines L0 before) (to_lines L kept) (to_lines next after) v.took g.took v.told (line_turn L line.items).reply v.continues (goes_on L mid right kept after line g one out next r);
 }
 
+-- a line that was given leaves less
+pub less_left : (left right : Option (List ℕ)) (kept after : Kept) (found : NextLine) (line : Vec ℕ Global) → HasGiven left right kept after found → found ≡ Whole line → after.room + length after.bytes < kept.room + length kept.bytes
+less_left left right kept after found line given is =
+    let g = subst (HasGiven left right kept after) is given in
+    let long = ap (λ (l : List ℕ). length l) g.same in
+    omega (arith, long, length-append kept.bytes g.took, length-append (line.items ++ 10 ∷ []) after.bytes, length-append line.items (10 ∷ []), g.room)
+
 -- how it ends from now on is how it ends
 pub serves_to : (L0 L : Live) (source out : Change) (mid tmid : Option (List ℕ)) (reads writes : ℕ) (before kept : Kept) (e : LiveEnd) → IsServing L0 L source.bytes mid out.bytes tmid before kept → source.faults ≤ reads → out.faults ≤ writes
     → Ends (to_lines L kept) kept.room e (since mid reads source) (since tmid writes out) → Ends (to_lines L0 before) before.room e source out
 serves_to L0 L source out mid tmid reads writes before kept e v later later' x =
     ends_since (to_lines L0 before) (to_lines L kept) v.took v.told before.room kept.room source out mid tmid reads writes v.continues v.consumed v.wrote v.room later later' e x
+
+-- ---- what the code's calls come to
+
+module _ (L0 L : Live) (source out : Change) (mid tmid : Option (List ℕ)) (reads writes : ℕ) (before kept : Kept) (v : IsServing L0 L source.bytes mid out.bytes tmid before kept) (later : source.faults ≤ reads) (later' : out.faults ≤ writes) where
+  -- no line was given
+  pub lost_now : (e : LineRefusal) → out.bytes_after ≡ tmid → out.faults_after ≡ writes → IsLost mid source.bytes_after kept e → (failed e ≡ Err lines.ReadFault → Rose reads source.faults_after)
+      → Ends (to_lines L0 before) before.room (of_line_refusal e) source out
+  lost_now e same same' l fails =
+      serves_to L0 L source out mid tmid reads writes before kept (of_line_refusal e) v later later'
+      (subst (λ (o : Option (List ℕ)). Ends (to_lines L kept) kept.room (of_line_refusal e) (since mid reads source) (record { bytes = tmid; bytes_after = o; faults = writes; faults_after = out.faults_after })) (sym same)
+      (subst (λ (n : ℕ). Ends (to_lines L kept) kept.room (of_line_refusal e) (since mid reads source) (record { bytes = tmid; bytes_after = tmid; faults = writes; faults_after = n })) (sym same')
+      (lost L (since mid reads source) tmid writes kept e l fails)))
+
+  module _ (after : Kept) (found : NextLine) (given : HasGiven mid source.bytes_after kept after found) (one : IsLine found) (line : List ℕ) where
+    -- the reply was not written whole
+    pub torn_now : line ≡ line_in found → (e : LiveEnd) → FailsReply (line_turn L line).reply (since tmid writes out) e → Ends (to_lines L0 before) before.room e source out
+    torn_now is e f =
+        serves_to L0 L source out mid tmid reads writes before kept e v later later'
+        (torn L mid source.bytes_after kept after found given one e reads source.faults_after (since tmid writes out) (subst (λ (l : List ℕ). FailsReply (line_turn L l).reply (since tmid writes out) e) is f))
+
+    module _ (items : Vec ℕ Global) (same : line ≡ items.items) (next : Live) (more : Bool) (r : HasReplied (line_turn L line) (since tmid writes out) next more) where
+      replied : (b : Bool) → more ≡ b → HasReplied (line_turn L items.items) (since tmid writes out) next b
+      replied b is = subst (λ (l : List ℕ). HasReplied (line_turn L l) (since tmid writes out) next b) same (subst (λ (m : Bool). HasReplied (line_turn L line) (since tmid writes out) next m) is r)
+
+      -- one asked to end
+      pub quits_now : found ≡ Whole items → more ≡ false → Ends (to_lines L0 before) before.room ends.Ended source out
+      quits_now is no =
+          serves_to L0 L source out mid tmid reads writes before kept ends.Ended v later later'
+          (ends_whole L mid source.bytes_after kept after items (subst (HasGiven mid source.bytes_after kept after) is given) (subst IsLine is one) reads source.faults_after (since tmid writes out) next (replied false no))
+
+      -- it was the last line
+      pub rests_now : found ≡ Last items → Ends (to_lines L0 before) before.room ends.Ended source out
+      rests_now is =
+          serves_to L0 L source out mid tmid reads writes before kept ends.Ended v later later'
+          (ends_last L mid source.bytes_after kept after items (subst (HasGiven mid source.bytes_after kept after) is given) (subst IsLine is one) reads source.faults_after (since tmid writes out) next more (replied more refl))
+
+      -- further lines may follow
+      pub goes_now : found ≡ Whole items → more ≡ true → IsServing L0 next source.bytes source.bytes_after out.bytes out.bytes_after before after
+      goes_now is yes =
+          serves_on L0 L next source.bytes mid source.bytes_after out.bytes before kept after items (subst (HasGiven mid source.bytes_after kept after) is given) (since tmid writes out) (subst IsLine is one) v (replied true yes)
