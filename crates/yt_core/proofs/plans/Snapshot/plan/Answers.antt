@@ -1,12 +1,18 @@
-use Rattle.std.proofs.Common.{◌∙◌, ap, sym}
+use Rattle.std.proofs.Common.{◌≡◌, ◌∙◌, ◌+◌, suc, ap, sym, arith}
 use Rattle.std.specs.Option.{option_map}
 use Rattle.yt_base.specs.Meanings.{choice_of}
+use Rattle.yt_model.specs.Repository.{apply}
 use Rattle.yt_versions.specs.Standing.{seen}
 use Rattle.yt_core.proofs.Making.{planned_same}
 use Rattle.yt_core.proofs.plans.Snapshot.plan.Goals as goal
 
-pub plan_step-step-requires-clause-applied : goal.plan_step-step-requires-clause-applied
-plan_step-step-requires-clause-applied c = ?
+pub plan_step-requires-clause-applied : goal.plan_step-requires-clause-applied
+plan_step-requires-clause-applied c =
+    let next : c.self.inside.update + 1 ≡ suc c.self.inside.update = omega arith in
+    (λ i. seen (c.below-with.ensures.number i) (c.below-with.ensures.versions i))
+    ∙ ap (λ n. seen n c.self.inside.versions) next
+    ∙ c.self.invariant.applied
+    ∙ sym (λ i. apply (seen (c.below-below.ensures.number i) (c.below-below.ensures.versions i)) c.self.inside.program.attempt.own)
 
 pub returns : goal.returns
 returns c =
