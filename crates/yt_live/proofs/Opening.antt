@@ -10,6 +10,7 @@ use Rattle.yt_grammar.specs.Lines.{lines_of, read}
 use Rattle.yt_lines.specs.Given.{Kept, HasGiven, HasNoLineFeed, IsLine, IsLost}
 use Rattle.yt_lines.specs.declared.lines.LineRefusal.{LineRefusal}
 use Rattle.yt_lines.specs.declared.lines.LineRefusal.TheVariants as lines
+use Rattle.yt_lines.specs.declared.lines.NextLine.{NextLine}
 use Rattle.yt_lines.specs.declared.lines.NextLine.TheVariants.{Whole, Last}
 use Rattle.yt_machine.specs.Updates.{Settings}
 use Rattle.yt_live.specs.Ends.{HasOpened, HasReadAll, OpensNothing}
@@ -139,3 +140,38 @@ fails left mid right before kept text lines.TooLong o lost = (
 )
 fails left mid right before kept text lines.Memory o lost =
     (o.took ++ lost.0, Consumes-trans left mid right o.took lost.0 o.taken lost.1, omega (arith, length-append o.took lost.0, o.room, lost.2))
+
+-- ---- what the code's calls come to
+
+module _ (left mid right : Option (List ℕ)) (before kept after : Kept) (text : List ℕ) (o : IsOpening left mid before kept text) (found : NextLine) (given : HasGiven mid right kept after found) where
+  -- memory was wanting for a line
+  pub wants : (e : LineRefusal) → e ≡ lines.Memory → OpensNothing e left right before
+  wants e is =
+      subst (λ (x : LineRefusal). OpensNothing x left right before) (sym is)
+      (o.took ++ given.took, Consumes-trans left mid right o.took given.took o.taken given.taken, omega (arith, length-append o.took given.took, o.room, given.room))
+
+  module _ (one : IsLine found) (items : Vec ℕ Global) (line text' : List ℕ) (same : line ≡ items.items) where
+    module _ (is : found ≡ Whole items) (pushed : text' ≡ text ++ line ++ 10 ∷ []) (b : Bool) (whole : b ≡ is_end line) where
+      longer : text' ≡ text ++ (items.items ++ 10 ∷ [])
+      longer = pushed ∙ ap (λ (l : List ℕ). text ++ (l ++ 10 ∷ [])) same
+
+      says : is_end items.items ≡ b
+      says = sym (whole ∙ ap is_end same)
+
+      -- a line was pushed that is `end`
+      pub opens_now : b ≡ true → before.room ≡ INPUT_LIMIT → HasOpened left right before after text'
+      opens_now end limit =
+          subst (HasOpened left right before after) (sym longer)
+          (opens left mid right before kept after text o items (subst (HasGiven mid right kept after) is given) (subst IsLine is one) (says ∙ end) limit)
+
+      -- or another one
+      pub goes_now : b ≡ false → IsOpening left right before after text'
+      goes_now other =
+          subst (IsOpening left right before after) (sym longer)
+          (goes_on left mid right before kept after text o items (subst (HasGiven mid right kept after) is given) (subst IsLine is one) (says ∙ other))
+
+    -- the last line was pushed
+    pub ends_now : found ≡ Last items → text' ≡ text ++ last_line line → before.room ≡ INPUT_LIMIT → HasReadAll left right text'
+    ends_now is pushed limit =
+        subst (HasReadAll left right) (sym (pushed ∙ ap (λ (l : List ℕ). text ++ last_line l) same))
+        (ends left mid right before kept after text o items (subst (HasGiven mid right kept after) is given) (subst IsLine is one) limit)

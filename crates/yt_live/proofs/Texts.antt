@@ -1,10 +1,10 @@
 -- The session of the text at the front, and the stream with what is served behind it.
-use Rattle.std.proofs.Common.{◌≡◌, ℕ, ◌+◌, ◌≤◌, List, [], ◌∷◌, ◌++◌, length, refl, sym, ap, subst, ◌∙◌, arith, append-nil}
-use Rattle.std.specs.Prelude.{Option, Some, None, Result, Ok, Err, map}
+use Rattle.std.proofs.Common.{◌≡◌, ℕ, ◌+◌, ◌≤◌, Bool, true, false, List, [], ◌∷◌, ◌++◌, length, refl, sym, ap, subst, ◌∙◌, arith, append-nil}
+use Rattle.std.specs.Prelude.{Option, Some, None, Result, Ok, Err, map, OnOk, IfErr}
 use Rattle.std.specs.Io.KnownBytes.{Appends, Consumes, IsAtEnd}
 use Rattle.std.proofs.KnownBytes.{Appends-nil, Consumes-nil, Keeps-refl}
 use Rattle.yt_base.specs.Meanings.{fact_of}
-use Rattle.yt_command.specs.Devices.{Change, Fails, TakesSome}
+use Rattle.yt_command.specs.Devices.{Change, Fails, Takes, TakesSome}
 use Rattle.yt_grammar.specs.Faults.{Wrong}
 use Rattle.yt_grammar.specs.Lines.{lines_of, read, Spells}
 use Rattle.yt_grammar.specs.Sessions.{SessionData}
@@ -16,7 +16,7 @@ use Rattle.yt_reader.specs.Answers.{wrong_of}
 use Rattle.yt_replies.specs.Turns.{Live, begun}
 use Rattle.yt_session.specs.Base.{Violated, base_violation}
 use Rattle.yt_session.specs.Meanings.{session_of}
-use Rattle.yt_live.specs.Ends.{Due, Ends, EndsAlone, FailsReply, HasEnded, HasOpened, HasReadAll, IsOver, OpensNothing, RefusesText, Serves, StopsBy, left_of, of_line_refusal, of_lines, of_stream, violation}
+use Rattle.yt_live.specs.Ends.{Due, Ends, EndsAlone, FailsReply, HasEnded, HasOpened, HasReadAll, IsOver, Opened, Opens, OpensNothing, end_of, RefusesText, Serves, StopsBy, left_of, of_line_refusal, of_lines, of_stream, violation}
 use Rattle.yt_live.specs.Streams.{Served, Parted, Ending, GoesOn, RefusesSession, attended, live, of_parts, of_parts_so_far, opened_with, parted, ready_line, served, so_far, unless_violated, whole_lines}
 use Rattle.yt_live.specs.declared.ends.LiveEnd.{LiveEnd}
 use Rattle.yt_live.specs.declared.ends.LiveEnd.TheVariants as ends
@@ -24,7 +24,7 @@ use Rattle.yt_live.specs.declared.openings.Opening.{Opening}
 use Rattle.yt_live.specs.declared.serving.TheConstants.{INPUT_LIMIT}
 use Rattle.yt_live.proofs.Continuing.{Continues, ends_since, lines_continue, since}
 use Rattle.yt_live.proofs.Cutting.{cuts_all, cuts_whole}
-use Rattle.yt_live.proofs.Prefixes.{takes_none}
+use Rattle.yt_live.proofs.Prefixes.{takes_less, takes_none}
 use Rattle.yt_live.proofs.Turning.{cut_short, none_left, unmoved}
 
 -- ---- the first reply
@@ -87,7 +87,30 @@ attended_so budget c text s L kept e source out spells none same x =
       same_served budget c text s (cut (kept.bytes ++ more)) spells none ∙ ap (λ (l : Live). attended l (cut (kept.bytes ++ more))) (sym same)))
     (Consumes-nil source.bytes) (Appends-nil out.bytes) (omega arith) (omega arith) (omega arith) e x
 
+-- the session alone was told to be ready, or not
+pub alone_greeted : (budget : ℕ) (c : Settings) (text : List ℕ) (s : SessionData) (L : Live) (r : Result (Unit {0}) LiveEnd) (out : Change) → Spells text s → base_violation s ≡ None → L ≡ begun budget c s
+    → OnOk r (Takes out (ready_line L)) → IfErr r (FailsReply (ready_line L) out) → EndsAlone (opened_with budget c (read text) []) (end_of r) out
+alone_greeted budget c text s L r out spells none same ok err =
+    subst (λ (t : Served). EndsAlone t (end_of r) out) (sym (same_served budget c text s [] spells none ∙ ap (λ (l : Live). attended l []) (sym same))) (by r ok err)
+  where
+    by : (r : Result (Unit {0}) LiveEnd) → OnOk r (Takes out (ready_line L)) → IfErr r (FailsReply (ready_line L) out) → EndsAlone (attended L []) (end_of r) out
+    by (Ok u) ok err = (subst (Appends out.bytes out.bytes_after) (sym (append-nil (ready_line L))) ok, refl)
+    by (Err ends.WriteFault) ok err = (takes_less out.bytes out.bytes_after (ready_line L) [] err.0, err.1)
+    by (Err ends.Memory) ok err = takes_none out.bytes out.bytes_after (ready_line L ++ []) err
+    by (Err ends.Ended) ok err = absurd err
+    by (Err ends.ReadFault) ok err = absurd err
+    by (Err ends.TooLong) ok err = absurd err
+    by (Err (ends.SessionRefused fault)) ok err = absurd err
+    by (Err (ends.BaseViolates mapping image session)) ok err = absurd err
+
 -- ---- the stream
+
+-- lines of commands may follow, or not
+pub opened_more : (left left' : Option (List ℕ)) (before after : Kept) (o : Opening) → Opens left left' before after o → o.more ≡ true → HasOpened left left' before after o.text.items
+opened_more left left' before after o h more = subst (λ (b : Bool). Opened b left left' before after o.text.items) more h
+
+pub opened_whole : (left left' : Option (List ℕ)) (before after : Kept) (o : Opening) → Opens left left' before after o → o.more ≡ false → HasReadAll left left' o.text.items
+opened_whole left left' before after o h more = subst (λ (b : Bool). Opened b left left' before after o.text.items) more h
 
 -- with lines of commands behind the session
 pub serves_text : (budget : ℕ) (c : Settings) (text : List ℕ) (before kept : Kept) (e : LiveEnd) (source out : Change) (mid : Option (List ℕ)) (reads : ℕ) → before.room ≡ INPUT_LIMIT → HasOpened source.bytes mid before kept text → source.faults ≤ reads

@@ -1,6 +1,6 @@
 -- A conversation, line by line.
 use Rattle.std.proofs.Common.{◌≡◌, ℕ, ◌+◌, ◌≤◌, ◌<◌, Bool, true, false, List, [], ◌∷◌, ◌++◌, length, refl, sym, ap, subst, ◌∙◌, arith, append-nil}
-use Rattle.std.specs.Prelude.{Option, Some, None, Result, Err, not, if◌then◌else◌}
+use Rattle.std.specs.Prelude.{Option, Some, None, Result, Ok, Err, not, if◌then◌else◌}
 use Rattle.std.specs.Io.KnownBytes.{Appends, Consumes, IsAtEnd}
 use Rattle.std.specs.declared.alloc.Global.{Global}
 use Rattle.std.specs.declared.vec.Vec.{Vec}
@@ -137,6 +137,13 @@ unmoved bytes faults = record { bytes = bytes; bytes_after = bytes; faults = fau
 abbrev pub failed : LineRefusal → Result NextLine LineRefusal
 failed e = Err e
 
+-- a refusal in another result is this one
+pub fault_of : {T : Type 0} (e : LineRefusal) → (let r : Result T LineRefusal = Err e in r ≡ Err lines.ReadFault) → failed e ≡ Err lines.ReadFault
+fault_of e same = ap (λ r. failed (error_in r)) same where
+  error_in : {T : Type 0} → Result T LineRefusal → LineRefusal
+  error_in (Ok x) = lines.Memory
+  error_in (Err x) = x
+
 -- there is no further line
 pub lost : (L : Live) (source : Change) (taken : Option (List ℕ)) (writes : ℕ) (kept : Kept) (e : LineRefusal) → IsLost source.bytes source.bytes_after kept e → (failed e ≡ Err lines.ReadFault → Fails source)
     → Ends (to_lines L kept) kept.room (of_line_refusal e) source (unmoved taken writes)
@@ -218,9 +225,9 @@ module _ (L0 L : Live) (source out : Change) (mid tmid : Option (List ℕ)) (rea
 
       -- one asked to end
       pub quits_now : found ≡ Whole items → more ≡ false → Ends (to_lines L0 before) before.room ends.Ended source out
-      quits_now is no =
+      quits_now is over =
           serves_to L0 L source out mid tmid reads writes before kept ends.Ended v later later'
-          (ends_whole L mid source.bytes_after kept after items (subst (HasGiven mid source.bytes_after kept after) is given) (subst IsLine is one) reads source.faults_after (since tmid writes out) next (replied false no))
+          (ends_whole L mid source.bytes_after kept after items (subst (HasGiven mid source.bytes_after kept after) is given) (subst IsLine is one) reads source.faults_after (since tmid writes out) next (replied false over))
 
       -- it was the last line
       pub rests_now : found ≡ Last items → Ends (to_lines L0 before) before.room ends.Ended source out
@@ -230,5 +237,5 @@ module _ (L0 L : Live) (source out : Change) (mid tmid : Option (List ℕ)) (rea
 
       -- further lines may follow
       pub goes_now : found ≡ Whole items → more ≡ true → IsServing L0 next source.bytes source.bytes_after out.bytes out.bytes_after before after
-      goes_now is yes =
-          serves_on L0 L next source.bytes mid source.bytes_after out.bytes before kept after items (subst (HasGiven mid source.bytes_after kept after) is given) (since tmid writes out) (subst IsLine is one) v (replied true yes)
+      goes_now is on =
+          serves_on L0 L next source.bytes mid source.bytes_after out.bytes before kept after items (subst (HasGiven mid source.bytes_after kept after) is given) (since tmid writes out) (subst IsLine is one) v (replied true on)
