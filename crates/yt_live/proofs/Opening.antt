@@ -153,7 +153,7 @@ module _ (left mid right : Option (List ℕ)) (before kept after : Kept) (text :
   module _ (one : IsLine found) (items : Vec ℕ Global) (line text' : List ℕ) (same : line ≡ items.items) where
     module _ (is : found ≡ Whole items) (pushed : text' ≡ text ++ line ++ 10 ∷ []) (b : Bool) (whole : b ≡ is_end line) where
       longer : text' ≡ text ++ (items.items ++ 10 ∷ [])
-      longer = pushed ∙ ap (λ (l : List ℕ). text ++ (l ++ 10 ∷ [])) same
+      longer = pushed ∙ (append_assoc text line (10 ∷ []) ∙ ap (λ (l : List ℕ). text ++ (l ++ 10 ∷ [])) same)
 
       says : is_end items.items ≡ b
       says = sym (whole ∙ ap is_end same)

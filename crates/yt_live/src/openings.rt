@@ -128,6 +128,7 @@ pub(crate) fn session_in(alloc: Global, text: &[u8]) -> Result<Session, LiveEnd>
 
 // The session, where its base meets its mappings.
 fn meeting(alloc: Global, session: Session) -> Result<Session, LiveEnd>
+    requires valid { IsSession (session_of session) }
     ensures same { IfOk result (λ s. session_of s ≡ session_of session) }
     ensures meets { IfOk result (λ s. base_violation (session_of s) ≡ None) }
     ensures refused { IfErr result (RefusesBase (session_of session)) }
