@@ -105,16 +105,21 @@ module _ (left mid right : Option (List ℕ)) (before kept after : Kept) (text :
     where
       alone : kept.bytes ++ g.took ≡ line.items
       alone = g.same ∙ (ap (λ l. line.items ++ l) g.due.1 ∙ append-nil line.items)
+
       all : o.took ++ g.took ≡ text ++ line.items
       all = joined g.took line.items g.same ∙ (ap (λ l. (text ++ line.items) ++ l) g.due.1 ∙ append-nil (text ++ line.items))
+
       few : length (o.took ++ g.took) ≤ INPUT_LIMIT
       few = omega (arith, length-append o.took g.took, o.room, g.room, limit)
+
       parts : parted (lines_of (o.took ++ g.took)) ≡ option_map (prefixed text) (parted (line.items ∷ []))
       parts = o.parts lines_of cuts_all g.took ∙ ap (λ (ls : List (List ℕ)). option_map (prefixed text) (parted ls)) (ap lines_of alone ∙ lone_line line.items one)
+
       read_so : (budget : ℕ) (c : Settings) (b : Bool) → is_end line.items ≡ b
           → of_parts budget c (o.took ++ g.took) (option_map (prefixed text) (parted (line.items ∷ []))) ≡ opened_with budget c (read (text ++ last_line line.items)) []
       read_so budget c true e = rw e refl
       read_so budget c false e = rw e (ap (λ (l : List ℕ). opened_with budget c (read l) []) all)
+
       short_text : (b : Bool) → is_end line.items ≡ b → length (text ++ last_line line.items) ≤ INPUT_LIMIT + 1
       short_text true e = rw e (omega (arith, length-append text (line.items ++ 10 ∷ []), length-append line.items (10 ∷ []), ap (λ l. length l) all, length-append text line.items, few))
       short_text false e = rw e (omega (arith, ap (λ l. length l) all, few))

@@ -84,7 +84,7 @@ pub attended_so : (budget : ℕ) (c : Settings) (text : List ℕ) (s : SessionDa
 attended_so budget c text s L kept e source out spells none same x =
     ends_since (of_lines (opened_with budget c (read text)) kept.bytes) (of_lines (attended L) kept.bytes) [] [] kept.room kept.room source out source.bytes out.bytes source.faults out.faults
     (lines_continue (opened_with budget c (read text)) (attended L) kept.bytes kept.bytes [] [] (λ cut cuts more.
-      same_served budget c text s (cut (kept.bytes ++ more)) spells none ∙ ap (λ (l : Live). attended l (cut (kept.bytes ++ more))) (sym same)))
+    same_served budget c text s (cut (kept.bytes ++ more)) spells none ∙ ap (λ (l : Live). attended l (cut (kept.bytes ++ more))) (sym same)))
     (Consumes-nil source.bytes) (Appends-nil out.bytes) (omega arith) (omega arith) (omega arith) e x
 
 -- the session alone was told to be ready, or not

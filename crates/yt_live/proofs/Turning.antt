@@ -95,9 +95,13 @@ module _ (L : Live) (left right : Option (List ℕ)) (kept after : Kept) where
     rests : lines_of (kept.bytes ++ took) ≡ line ∷ [] → IsAtEnd right → (line_turn L line).last ≡ false
         → Ends (to_lines L kept) kept.room ends.Ended (record { bytes = left; bytes_after = right; faults = reads; faults_after = reads' }) out
     rests lines end last =
-        let all : served L (lines_of (kept.bytes ++ took)) ≡ with_front (line_turn L line).reply (served (line_turn L line).next []) = ap (served L) lines ∙ line_served L line [] false last in
-        (took, taken, few, subst (λ (s : Served). HasEnded s (record { bytes = left; bytes_after = right; faults = reads; faults_after = reads' }) out) (sym all)
-        (subst (Appends out.bytes out.bytes_after) (sym (append-nil (line_turn L line).reply)) wrote, end))
+        let all : served L (lines_of (kept.bytes ++ took)) ≡ with_front (line_turn L line).reply (served (line_turn L line).next []) = ap (served L) lines ∙ line_served L line [] false last in (
+          took,
+          taken,
+          few,
+          subst (λ (s : Served). HasEnded s (record { bytes = left; bytes_after = right; faults = reads; faults_after = reads' }) out) (sym all)
+              (subst (Appends out.bytes out.bytes_after) (sym (append-nil (line_turn L line).reply)) wrote, end),
+        )
 
   -- ---- what a line comes to
 
@@ -107,8 +111,8 @@ module _ (L : Live) (left right : Option (List ℕ)) (kept after : Kept) where
   goes_on line g one out next r =
       let t = line_turn L line.items in
       lines_continue (served L) (served next) kept.bytes after.bytes g.took t.reply (λ cut cuts more.
-        ap (served L) (next_line cut cuts kept.bytes g.took line.items after.bytes more one g.same)
-        ∙ (line_served L line.items (cut (after.bytes ++ more)) false r.2 ∙ ap (λ (l : Live). with_front t.reply (served l (cut (after.bytes ++ more)))) r.1))
+      ap (served L) (next_line cut cuts kept.bytes g.took line.items after.bytes more one g.same)
+      ∙ (line_served L line.items (cut (after.bytes ++ more)) false r.2 ∙ ap (λ (l : Live). with_front t.reply (served l (cut (after.bytes ++ more)))) r.1))
 
   -- it is whole, and it is the last that is served
   pub ends_whole : (line : Vec ℕ Global) (g : HasGiven left right kept after (Whole line)) → IsLine (Whole line) → (reads reads' : ℕ) (out : Change) (next : Live) → HasReplied (line_turn L line.items) out next false
@@ -123,8 +127,10 @@ module _ (L : Live) (left right : Option (List ℕ)) (kept after : Kept) where
   ends_last line g one reads reads' out next more r = by more r.2 where
     few : length g.took ≤ kept.room
     few = omega (arith, g.room)
+
     alone : lines_of (kept.bytes ++ g.took) ≡ line.items ∷ []
     alone = ap lines_of (g.same ∙ (ap (λ l. line.items ++ l) g.due.1 ∙ append-nil line.items)) ∙ lone_line line.items one
+
     by : (b : Bool) → (line_turn L line.items).last ≡ not b → Ends (to_lines L kept) kept.room ends.Ended (record { bytes = left; bytes_after = right; faults = reads; faults_after = reads' }) out
     by true last = rests line.items g.took g.taken few reads reads' out r.0 alone g.due.0 last
     by false last = quits line.items g.took g.taken few reads reads' out r.0 [] alone last

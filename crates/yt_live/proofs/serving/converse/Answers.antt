@@ -50,8 +50,7 @@ each-smaller g c =
 pub each-preserved : goal.each-preserved
 each-preserved g c =
     let source = change g.S.Source.left g.S.Source.fault_count c.args.source.now c.next.new.source in
-    let out = change g.O.Sink.taken g.O.Sink.fault_count c.args.sink.now c.turn.new.sink in
-    (
+    let out = change g.O.Sink.taken g.O.Sink.fault_count c.args.sink.now c.turn.new.sink in (
       goes_now (live_of c.args.conversation.now) (live_of c.each.conversation) source out (g.S.Source.left c.each.source) (g.O.Sink.taken c.each.sink) (g.S.Source.fault_count c.each.source) (g.O.Sink.fault_count c.each.sink) c.args.lines.now c.each.lines
           c.each.invariant.0 c.each.invariant.1 c.each.invariant.2 c.next.new.self c.in_ok-line.field-0 c.in_ok-line.ensures.given c.in_ok-line.ensures.line c.deref.result.now c.in-Whole.line c.deref.ensures.value (live_of c.turn.new.conversation)
           c.in_ok-turn-in-Whole.field-0 c.in_ok-turn-in-Whole.ensures.replied c.in-Whole.is c.if-not-branch.false,
