@@ -13,6 +13,15 @@ BASH = $(DESTDIR)$(PREFIX)/share/bash-completion/completions/$(NAME)
 ZSH = $(DESTDIR)$(PREFIX)/share/zsh/site-functions/_$(NAME)
 FISH = $(DESTDIR)$(PREFIX)/share/fish/vendor_completions.d/$(NAME).fish
 
+# The second program, and where its files go.
+LIVE_NAME = yt_live
+LIVE = crates/$(LIVE_NAME)/out/$(LIVE_NAME)
+LIVE_BIN = $(DESTDIR)$(PREFIX)/bin/$(LIVE_NAME)
+LIVE_MAN = $(DESTDIR)$(PREFIX)/share/man/man1/$(LIVE_NAME).1
+LIVE_BASH = $(DESTDIR)$(PREFIX)/share/bash-completion/completions/$(LIVE_NAME)
+LIVE_ZSH = $(DESTDIR)$(PREFIX)/share/zsh/site-functions/_$(LIVE_NAME)
+LIVE_FISH = $(DESTDIR)$(PREFIX)/share/fish/vendor_completions.d/$(LIVE_NAME).fish
+
 .PHONY: help run build install uninstall share quick checks differential hostile test
 
 help:
@@ -21,7 +30,7 @@ help:
 	@echo '                       run another session'
 	@echo 'make build             prove and build the program'
 	@echo 'make install PREFIX=/usr/local'
-	@echo '                       put the built program, its man page and the completions of bash, zsh and fish below PREFIX'
+	@echo '                       put both built programs, their man pages and the completions of bash, zsh and fish below PREFIX'
 	@echo 'make uninstall         take them away'
 	@echo 'make quick             build without proof and run every stored row, in less than three minutes'
 	@echo 'make checks            what needs no prover: pages, figures, stored rows and tables of the built program'
@@ -43,18 +52,27 @@ run:
 build:
 	cd crates/$(NAME) && rt run -- run < ../../$(EXAMPLE)
 
-install: $(PROGRAM)
+install: $(PROGRAM) $(LIVE)
 	install -D -m 755 $(PROGRAM) $(BIN)
 	install -D -m 644 share/$(NAME).1 $(MAN)
 	install -D -m 644 share/$(NAME).bash $(BASH)
 	install -D -m 644 share/_$(NAME) $(ZSH)
 	install -D -m 644 share/$(NAME).fish $(FISH)
+	install -D -m 755 $(LIVE) $(LIVE_BIN)
+	install -D -m 644 share/$(LIVE_NAME).1 $(LIVE_MAN)
+	install -D -m 644 share/$(LIVE_NAME).bash $(LIVE_BASH)
+	install -D -m 644 share/_$(LIVE_NAME) $(LIVE_ZSH)
+	install -D -m 644 share/$(LIVE_NAME).fish $(LIVE_FISH)
 
 uninstall:
 	rm -f $(BIN) $(MAN) $(BASH) $(ZSH) $(FISH)
+	rm -f $(LIVE_BIN) $(LIVE_MAN) $(LIVE_BASH) $(LIVE_ZSH) $(LIVE_FISH)
 
 $(PROGRAM):
 	$(MAKE) build
+
+$(LIVE):
+	cd crates/$(LIVE_NAME) && rt run < ../../tests/live/session-alone/lines
 
 share:
 	share/write

@@ -1,9 +1,9 @@
 #!/usr/bin/env python3
-"""Runs the fenced blocks of a page: blocks.py PAGE PROGRAM [plain] tells each that is not as it would be.
+"""Runs the fenced blocks of a page: blocks.py PAGE PROGRAM [plain] [as NAME] tells each that is not as it would be.
 
 A block ```session NAME is stored in the file NAME, and one ```session NAME more goes into it before its last line. A
 block ```console has commands, each behind `$ `, and behind each what it writes on both streams. The blocks of a page are
-run in turn, in one folder, with PROGRAM as `youtopia` and the folder `examples` of the repository beside them. Any other
+run in turn, in one folder, with PROGRAM as `youtopia` or as NAME and the folder `examples` of the repository beside them. Any other
 block is told as not run, unless `plain` is said, which lets blocks without a word and shell blocks (```sh) stand as they are.
 """
 import os
@@ -54,12 +54,13 @@ def written_by(command, folder, environment):
 
 def main():
     page, program, plain = Path(sys.argv[1]), Path(sys.argv[2]).resolve(), "plain" in sys.argv[3:]
+    name = sys.argv[sys.argv.index("as") + 1] if "as" in sys.argv[3:] else "youtopia"
     failed = False
     with tempfile.TemporaryDirectory() as place:
         folder, tools = Path(place, "page"), Path(place, "tools")
         folder.mkdir()
         tools.mkdir()
-        (tools / "youtopia").symlink_to(program)
+        (tools / name).symlink_to(program)
         (folder / "examples").symlink_to(ROOT / "examples")
         environment = {**os.environ, "PATH": f"{tools}:{os.environ['PATH']}", "LC_ALL": "C.UTF-8"}
         for number, words, lines in blocks_of(page.read_text()):

@@ -19,9 +19,11 @@ check 'the completion of bash offers what fits' \
   "$(diff <(offered se; offered run --deps ''; offered run --steps ''; offered run --ver) <(printf '%s\n' serial 'coarse precise' '' --version) 2>&1)"
 
 check 'what is installed runs, and is taken away whole' \
-  "$(make -s install DESTDIR="$stored/root" PREFIX=/usr PROGRAM="$program" 2>&1
+  "$(live=$(realpath -m "${LIVE:-crates/yt_live/out/yt_live}")
+     make -s install DESTDIR="$stored/root" PREFIX=/usr PROGRAM="$program" LIVE="$live" 2>&1
      "$stored/root/usr/bin/youtopia" --version | grep -v '^youtopia '
-     find "$stored/root" -type f | wc -l | grep -vx 5
+     "$stored/root/usr/bin/yt_live" < tests/live/session-alone/lines | grep -vx 'ready 0'
+     find "$stored/root" -type f | wc -l | grep -vx 10
      make -s uninstall DESTDIR="$stored/root" PREFIX=/usr 2>&1
      find "$stored/root" -type f)"
 check 'make run shows the line of a fault' \

@@ -1,0 +1,142 @@
+-- What is replied to a stream: a session, and the lines of commands behind it.
+use Rattle.std.specs.Prelude.{◌≡◌, ◌-◌, ℕ, Bool, true, false, List, [], ◌∷◌, ◌++◌, codes, length, take, Option, Some, None, option_map, Result, Ok, Err, if◌then◌else◌}
+use Rattle.std.specs.Fmt.{decimal}
+use Rattle.yt_core.specs.States.{State, updates_at}
+use Rattle.yt_grammar.specs.Faults.{Wrong}
+use Rattle.yt_grammar.specs.Lines.{lines_of, read}
+use Rattle.yt_grammar.specs.Names.{same_name}
+use Rattle.yt_grammar.specs.Sessions.{SessionData}
+use Rattle.yt_grammar.specs.Words.{Word, name, words_at}
+use Rattle.yt_history.specs.Cores.{IsLegalOver}
+use Rattle.yt_lex.specs.declared.LexRefusal.{LexRefusal}
+use Rattle.yt_lines.specs.Given.{HasNoLineFeed}
+use Rattle.yt_machine.specs.Updates.{Settings}
+use Rattle.yt_replies.specs.Turns.{Live, Turn, begun, line_turn}
+use Rattle.yt_session.specs.Base.{Violated, base_violation}
+
+-- ---- the session at the front
+
+-- the words are `end` alone
+abbrev pub is_end_alone : List Word → Bool
+is_end_alone (name n ∷ []) = same_name n (codes "end")
+is_end_alone _ = false
+
+abbrev pub says_end : Result (List Word) LexRefusal → Bool
+says_end (Ok words) = is_end_alone words
+says_end (Err refusal) = false
+
+-- the line holds `end` and no other word
+abbrev pub is_end : List ℕ → Bool
+is_end line = says_end (words_at line)
+
+-- The text of a session, and the lines behind it.
+pub record Parted : Type 0 where
+  pub text : List ℕ
+  pub commands : List (List ℕ)
+
+-- with one more line in front
+abbrev pub with_line : List ℕ → Parted → Parted
+with_line line p = record { text = line ++ 10 ∷ p.text; commands = p.commands }
+
+-- The lines up to and with the first that holds `end` alone, each with its line feed, and the lines behind it; nothing
+-- where no line does.
+abbrev pub parted : List (List ℕ) → Option Parted
+parted [] = None
+parted (line ∷ lines) =
+    if is_end line then Some (record { text = line ++ 10 ∷ []; commands = lines }) else option_map (with_line line) (parted lines)
+
+-- a last line as a part of a session's text: behind `end` stands a line feed
+abbrev pub last_line : List ℕ → List ℕ
+last_line line = if is_end line then line ++ 10 ∷ [] else line
+
+-- ---- the replies
+
+-- how the lines end: they are all served, one asks to end, the session is refused, or the base of this session violates a
+-- mapping
+pub data Ending : Type 0 where
+  GoesOn : Ending
+  Quits : Ending
+  RefusesSession : Wrong → Ending
+  Violates : SessionData → Violated → Ending
+
+-- What was replied, how the lines end, and what the core is then, where there is one.
+pub record Served : Type 0 where
+  pub replies : List ℕ
+  pub ending : Ending
+  pub core : Option State
+
+-- nothing was replied, and no core was opened
+abbrev pub unopened : Ending → Served
+unopened ending = record { replies = []; ending = ending; core = None }
+
+-- with this replied before
+abbrev pub with_front : List ℕ → Served → Served
+with_front front s = record { replies = front ++ s.replies; ending = s.ending; core = s.core }
+
+-- the last reply
+abbrev pub parting : Turn → Served
+parting t = record { replies = t.reply; ending = Quits; core = Some t.next.core }
+
+-- The lines served one after the other, each at the session that those before it leave, up to the first that asks to end.
+abbrev pub served : Live → List (List ℕ) → Served
+served L [] = record { replies = []; ending = GoesOn; core = Some L.core }
+served L (line ∷ lines) =
+    let t = line_turn L line in
+    if t.last then parting t else with_front t.reply (served t.next lines)
+
+-- ready U
+abbrev pub ready_line : Live → List ℕ
+ready_line L = codes "ready " ++ (decimal (length (updates_at L.core)) ++ 10 ∷ [])
+
+-- the session is told to be ready, and the lines are served
+abbrev pub attended : Live → List (List ℕ) → Served
+attended L lines = with_front (ready_line L) (served L lines)
+
+-- a session that was read, where its base violates no mapping
+abbrev pub unless_violated : Option Violated → Live → List (List ℕ) → Served
+unless_violated None L lines = attended L lines
+unless_violated (Some v) L lines = unopened (Violates L.session v)
+
+-- what was read, and the lines of commands
+abbrev pub opened_with : ℕ → Settings → Result SessionData Wrong → List (List ℕ) → Served
+opened_with budget c (Ok s) lines = unless_violated (base_violation s) (begun budget c s) lines
+opened_with budget c (Err wrong) lines = unopened (RefusesSession wrong)
+
+-- what is served of a session with commands, or of the bytes as a session where no line holds `end` alone
+abbrev pub of_parts : ℕ → Settings → List ℕ → Option Parted → Served
+of_parts budget c bytes None = opened_with budget c (read bytes) []
+of_parts budget c bytes (Some p) = opened_with budget c (read p.text) p.commands
+
+-- *Live replies*: what is replied to a whole input, whose last line may lack its line feed.
+abbrev pub live : ℕ → Settings → List ℕ → Served
+live budget c bytes = of_parts budget c bytes (parted (lines_of bytes))
+
+-- ---- the history
+
+-- the entries of the core are a legal history over what it is over
+abbrev pub IsLegal : Option State → Type 0
+IsLegal None = Unit {0}
+IsLegal (Some core) = IsLegalOver core.over core.history
+
+-- Whatever the bytes are, the events that they lead to form one legal history.
+abbrev pub MakesLegalHistories : ℕ → Settings → Type 0
+MakesLegalHistories budget c = (bytes : List ℕ) → IsLegal (live budget c bytes).core
+
+-- ---- an input that is not at its end
+
+-- the lines that a line feed ends
+abbrev pub whole_lines : List ℕ → List (List ℕ)
+whole_lines bytes = take (length (lines_of bytes) - 1) (lines_of bytes)
+
+-- A way to cut bytes into lines gives what stands up to the first line feed, and then the lines behind it.
+abbrev pub CutsLines : (List ℕ → List (List ℕ)) → Type 0
+CutsLines cut = (line rest : List ℕ) → HasNoLineFeed line → cut (line ++ 10 ∷ rest) ≡ line ∷ cut rest
+
+-- nothing is served before the session is there
+abbrev pub of_parts_so_far : ℕ → Settings → Option Parted → Served
+of_parts_so_far budget c None = unopened GoesOn
+of_parts_so_far budget c (Some p) = opened_with budget c (read p.text) p.commands
+
+-- what the whole lines of the bytes lead to, whatever follows
+abbrev pub so_far : ℕ → Settings → List ℕ → Served
+so_far budget c bytes = of_parts_so_far budget c (parted (whole_lines bytes))

@@ -1,0 +1,53 @@
+//! The top call.
+ghost use Rattle.std.specs.Prelude.{[], map, string_bytes};
+ghost use Rattle.yt_command.specs.Devices.{change};
+ghost use Rattle.yt_live.specs.Curates.{Curates, default_settings};
+ghost use Rattle.yt_live.specs.Streams.{MakesLegalHistories};
+
+use crate::serving::serve;
+use crate::telling::{refuse_words, tell};
+use std::alloc::Global;
+use yt_command::Status;
+use yt_limits::Budget;
+use yt_queue::{Deps, Settings};
+use yt_text::{Sink, Source};
+
+/// Serves the stream by the default settings, where there is no word; a word is refused before the source is read. Whatever
+/// bytes the stream has, the events that they lead to form one legal history.
+pub fn curate<S: Source, O: Sink, E: Sink>(
+    alloc: Global,
+    words: &[String],
+    source: &mut S,
+    out: &mut O,
+    err: &mut E,
+) -> Status
+    ensures curates { Curates (map string_bytes words.now) result
+        (change S.left S.fault_count source.old source.new)
+        (change O.taken O.fault_count out.old out.new)
+        (change E.taken E.fault_count err.old err.new) }
+    ensures legal { MakesLegalHistories 100 default_settings }
+{
+    match words {
+        [] => serve_default(alloc, source, out, err),
+        [_, ..] => refuse_words(err),
+    }
+}
+
+// Serves the stream by the default settings, and tells how it ended.
+fn serve_default<S: Source, O: Sink, E: Sink>(
+    alloc: Global,
+    source: &mut S,
+    out: &mut O,
+    err: &mut E,
+) -> Status
+    ensures serves { Curates [] result (change S.left S.fault_count source.old source.new)
+        (change O.taken O.fault_count out.old out.new)
+        (change E.taken E.fault_count err.old err.new) }
+{
+    let settings = Settings {
+        retries: 3,
+        deps: Deps::Precise,
+    };
+    let end = serve(alloc, source, out, settings, Budget::new(100));
+    tell(alloc, &end, err)
+}

@@ -1,0 +1,214 @@
+//! A stream of lines, served.
+ghost use Rattle.std.specs.Prelude.{◌≡◌, ◌+◌, ◌≤◌, ◌++◌, ◌∷◌, [], codes, length, IfErr, IfOk, OnOk};
+ghost use Rattle.std.specs.Fmt.{decimal};
+ghost use Rattle.yt_command.specs.Devices.{Takes, change};
+ghost use Rattle.yt_grammar.specs.Lines.{read};
+ghost use Rattle.yt_queue.specs.Settings.{settings_of};
+ghost use Rattle.yt_replies.specs.Meanings.{live_of};
+ghost use Rattle.yt_replies.specs.Turns.{line_turn};
+ghost use Rattle.yt_live.specs.Ends.{Ends, EndsAlone, FailsReply, HasReplied, Serves, end_of, of_lines};
+ghost use Rattle.yt_live.specs.Streams.{MakesLegalHistories, attended, opened_with, ready_line, served};
+
+use crate::ends::LiveEnd;
+use crate::openings::{read_opening, session_in};
+use std::alloc::Global;
+use yt_base::Memory;
+use yt_limits::Budget;
+use yt_lines::{Lines, NextLine};
+use yt_queue::Settings;
+use yt_replies::Conversation;
+use yt_text::{Sink, Source, write_all};
+
+/// The most bytes that an input may have.
+pub const INPUT_LIMIT: usize = 16_777_216;
+
+// Writes a reply.
+fn write<O: Sink>(sink: &mut O, text: &[u8]) -> Result<(), LiveEnd>
+    ensures ok { OnOk result (Takes (change O.taken O.fault_count sink.old sink.new) text.now) }
+    ensures err { IfErr result (FailsReply text.now (change O.taken O.fault_count sink.old
+        sink.new)) }
+    ensures later { O.fault_count sink.old ≤ O.fault_count sink.new }
+{
+    match write_all(sink, text) {
+        Ok(()) => Ok(()),
+        Err(_) => Err(LiveEnd::WriteFault),
+    }
+}
+
+// Does what the line says, and writes the reply; whether further lines are taken.
+fn turn<O: Sink>(
+    alloc: Global,
+    conversation: &mut Conversation<'_>,
+    line: &[u8],
+    sink: &mut O,
+) -> Result<bool, LiveEnd>
+    ensures replied { IfOk result (HasReplied (line_turn (live_of conversation.old) line.now)
+        (change O.taken O.fault_count sink.old sink.new) (live_of conversation.new)) }
+    ensures refused { IfErr result (FailsReply (line_turn (live_of conversation.old) line.now).reply
+        (change O.taken O.fault_count sink.old sink.new)) }
+    ensures later { O.fault_count sink.old ≤ O.fault_count sink.new }
+{
+    let told = conversation.turn(alloc, line)?;
+    write(sink, &told.text)?;
+    Ok(!told.last)
+}
+
+// The lines of commands, one by one.
+fn converse<S: Source, O: Sink>(
+    alloc: Global,
+    conversation: &mut Conversation<'_>,
+    lines: &mut Lines,
+    source: &mut S,
+    sink: &mut O,
+) -> Result<(), LiveEnd>
+    ensures converses { Ends (of_lines (served (live_of conversation.old)) lines.old.bytes)
+        lines.old.room (end_of result) (change S.left S.fault_count source.old source.new)
+        (change O.taken O.fault_count sink.old sink.new) }
+{
+    'each: loop {
+        match lines.next(alloc, source)? {
+            NextLine::Whole(line) => {
+                if !turn(alloc, conversation, &line, sink)? {
+                    return Ok(());
+                }
+            }
+            NextLine::Last(line) => {
+                turn(alloc, conversation, &line, sink)?;
+                return Ok(());
+            }
+        }
+    }
+}
+
+// The line that tells that the session was read, with the number of its updates.
+fn ready(alloc: Global, count: u32) -> Result<Vec<u8>, Memory>
+    ensures { IfOk result (λ text. text.items ≡ codes "ready " ++ (decimal count ++ 10 ∷ [])) }
+{
+    let text = format!(in alloc; "ready {count}\n")?;
+    Ok(text.into_bytes())
+}
+
+// The session is told to be ready.
+fn greet<O: Sink>(
+    alloc: Global,
+    conversation: &Conversation<'_>,
+    sink: &mut O,
+) -> Result<(), LiveEnd>
+    ensures ok { OnOk result (Takes (change O.taken O.fault_count sink.old sink.new)
+        (ready_line (live_of conversation.now))) }
+    ensures err { IfErr result (FailsReply (ready_line (live_of conversation.now))
+        (change O.taken O.fault_count sink.old sink.new)) }
+    ensures later { O.fault_count sink.old ≤ O.fault_count sink.new }
+{
+    let first = ready(alloc, conversation.count())?;
+    write(sink, &first)
+}
+
+// The session is told to be ready, and then the lines of commands are served.
+fn attend<S: Source, O: Sink>(
+    alloc: Global,
+    conversation: &mut Conversation<'_>,
+    lines: &mut Lines,
+    source: &mut S,
+    sink: &mut O,
+) -> Result<(), LiveEnd>
+    ensures attends { Ends (of_lines (attended (live_of conversation.old)) lines.old.bytes)
+        lines.old.room (end_of result) (change S.left S.fault_count source.old source.new)
+        (change O.taken O.fault_count sink.old sink.new) }
+{
+    greet(alloc, conversation, sink)?;
+    converse(alloc, conversation, lines, source, sink)
+}
+
+// The session of the text, and then the lines of commands.
+fn serve_text<S: Source, O: Sink>(
+    alloc: Global,
+    text: &[u8],
+    lines: &mut Lines,
+    source: &mut S,
+    sink: &mut O,
+    settings: Settings,
+    budget: Budget,
+) -> Result<(), LiveEnd>
+    requires retries { settings.retries ≤ 4 }
+    requires short { length text.now ≤ INPUT_LIMIT + 1 }
+    ensures serves { Ends (of_lines (opened_with budget (settings_of settings) (read text.now))
+        lines.old.bytes) lines.old.room (end_of result)
+        (change S.left S.fault_count source.old source.new)
+        (change O.taken O.fault_count sink.old sink.new) }
+{
+    let session = session_in(alloc, text)?;
+    let mut conversation = Conversation::open(alloc, &session, settings, budget)?;
+    attend(alloc, &mut conversation, lines, source, sink)
+}
+
+// The session of the text, at the end of the input.
+fn serve_alone<O: Sink>(
+    alloc: Global,
+    text: &[u8],
+    sink: &mut O,
+    settings: Settings,
+    budget: Budget,
+) -> Result<(), LiveEnd>
+    requires retries { settings.retries ≤ 4 }
+    requires short { length text.now ≤ INPUT_LIMIT + 1 }
+    ensures ends { EndsAlone (opened_with budget (settings_of settings) (read text.now) [])
+        (end_of result) (change O.taken O.fault_count sink.old sink.new) }
+{
+    let session = session_in(alloc, text)?;
+    let conversation = Conversation::open(alloc, &session, settings, budget)?;
+    greet(alloc, &conversation, sink)
+}
+
+// The session, and then the lines of commands.
+fn serve_all<S: Source, O: Sink>(
+    alloc: Global,
+    source: &mut S,
+    sink: &mut O,
+    settings: Settings,
+    budget: Budget,
+) -> Result<(), LiveEnd>
+    requires retries { settings.retries ≤ 4 }
+    ensures serves { Serves budget (settings_of settings) (end_of result)
+        (change S.left S.fault_count source.old source.new)
+        (change O.taken O.fault_count sink.old sink.new) }
+{
+    let mut lines = Lines::new(alloc, INPUT_LIMIT);
+    let begun = read_opening(alloc, &mut lines, source)?;
+    if begun.more {
+        return serve_text(
+            alloc,
+            &begun.text,
+            &mut lines,
+            source,
+            sink,
+            settings,
+            budget,
+        );
+    }
+    serve_alone(alloc, &begun.text, sink, settings, budget)
+}
+
+/// Serves a stream: a session, and then commands of curators, each replied before the next line is taken.
+///
+/// With `Ended` the sink has taken exactly the replies to what the source held, and with any other end a prefix of them,
+/// however the bytes are cut. Whatever they are, the events that they lead to form one legal history.
+pub fn serve<S: Source, O: Sink>(
+    alloc: Global,
+    source: &mut S,
+    sink: &mut O,
+    settings: Settings,
+    budget: Budget,
+) -> LiveEnd
+    requires retries { settings.retries ≤ 4 }
+    ensures serves { Serves budget (settings_of settings) result
+        (change S.left S.fault_count source.old source.new)
+        (change O.taken O.fault_count sink.old sink.new) }
+    ensures legal { MakesLegalHistories budget (settings_of settings) }
+{
+    budget.is_within();
+    match serve_all(alloc, source, sink, settings, budget) {
+        Ok(()) => LiveEnd::Ended,
+        Err(end) => end,
+    }
+}

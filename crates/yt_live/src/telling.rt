@@ -1,0 +1,101 @@
+//! The lines that tell people how a stream ended.
+ghost use Rattle.std.specs.Prelude.{◌≡◌, IfOk};
+ghost use Rattle.yt_command.specs.Devices.{Tells, change};
+ghost use Rattle.yt_reader.specs.Answers.{wrong_of};
+ghost use Rattle.yt_live.specs.Curates.{IsTold, base_line, fault_line, line_of, usage_line};
+ghost use Rattle.yt_command.specs.declared.statuses.Status.TheVariants.{OutOfMemory, Usage};
+ghost use Rattle.yt_live.specs.declared.ends.LiveEnd.TheVariants.{Memory as WantOfMemory};
+
+use crate::ends::LiveEnd;
+use std::alloc::Global;
+use yt_base::{Memory, Name, TupleList};
+use yt_command::Status;
+use yt_print::with_separated;
+use yt_reader::{SessionFault, fault_text};
+use yt_schema::{Page, Schema};
+use yt_session::Session;
+use yt_text::{Sink, write_all};
+
+// The line of a session's first fault.
+fn fault_line(alloc: Global, fault: &SessionFault) -> Result<Vec<u8>, Memory>
+    ensures { IfOk result (λ line. line.items ≡ fault_line (wrong_of fault.now)) }
+{
+    let mut line = Vec::from_slice(alloc, b"yt_live: ")?;
+    line.extend_from_slice(&fault_text(alloc, fault)?)?;
+    line.push(b'\n')?;
+    Ok(line)
+}
+
+// The line of a violation of the base.
+fn base_line(
+    alloc: Global,
+    schema: &Schema,
+    mapping: &Name,
+    image: &TupleList,
+) -> Result<Vec<u8>, Memory>
+    ensures { IfOk result (λ line. line.items ≡ base_line schema.now mapping.now.items
+        image.now.items) }
+{
+    let head = Page::new(alloc)
+        .name(b"yt_live")?
+        .colon()?
+        .name(b"base")?
+        .name(b"violates")?
+        .name(mapping.as_slice())?
+        .colon()?;
+    let page = with_separated(head, schema, image.as_slice())?;
+    Ok(page.end_line()?.into_text())
+}
+
+// The line that tells how the stream ended; none where all was done.
+fn line(alloc: Global, end: &LiveEnd) -> Result<Vec<u8>, Memory>
+    ensures { IfOk result (λ line. line.items ≡ line_of end.now) }
+{
+    match end {
+        LiveEnd::Ended => Ok(Vec::new(alloc)),
+        LiveEnd::ReadFault => Ok(Vec::from_slice(alloc, b"yt_live: read fault\n")?),
+        LiveEnd::WriteFault => Ok(Vec::from_slice(alloc, b"yt_live: write fault\n")?),
+        LiveEnd::TooLong => Ok(Vec::from_slice(
+            alloc,
+            b"yt_live: input longer than 16777216 bytes\n",
+        )?),
+        LiveEnd::SessionRefused(fault) => fault_line(alloc, fault),
+        LiveEnd::BaseViolates {
+            mapping,
+            image,
+            session,
+        } => base_line(alloc, &session.schema, mapping, image),
+        LiveEnd::Memory => Ok(Vec::from_slice(alloc, b"yt_live: out of memory\n")?),
+    }
+}
+
+/// Tells on `err` how the stream ended, and gives the status of that; want of memory may come in place of it.
+pub(crate) fn tell<E: Sink>(alloc: Global, end: &LiveEnd, err: &mut E) -> Status
+    ensures told { IsTold end.now result (change E.taken E.fault_count err.old err.new) }
+{
+    match line(alloc, end) {
+        Ok(text) => {
+            let _ = write_all(err, &text);
+            end.status()
+        }
+        Err(_) => tell_memory(err),
+    }
+}
+
+// Tells that memory was wanting.
+fn tell_memory<E: Sink>(err: &mut E) -> Status
+    ensures status { result ≡ OutOfMemory }
+    ensures told { Tells (change E.taken E.fault_count err.old err.new) (line_of WantOfMemory) }
+{
+    let _ = write_all(err, b"yt_live: out of memory\n");
+    Status::OutOfMemory
+}
+
+/// Tells on `err` that no words are taken.
+pub(crate) fn refuse_words<E: Sink>(err: &mut E) -> Status
+    ensures status { result ≡ Usage }
+    ensures told { Tells (change E.taken E.fault_count err.old err.new) usage_line }
+{
+    let _ = write_all(err, b"yt_live: usage: yt_live\n");
+    Status::Usage
+}
