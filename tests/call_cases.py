@@ -1,8 +1,10 @@
 #!/usr/bin/env python3
-"""Writes the stdin and the stdout of crates/yt_core_table: worked lists of calls on a core, and what the reference tells of them.
+"""Writes the stdin and the stdout of crates/yt_core_table and crates/yt_desk_table: worked lists of calls on a core and on a desk, and
+what the reference tells of them.
 
-The rows show conflicts, cascades, holds and withdrawals; then come all pairs of a standing and a call, whose answers have to be those
-of the grid below, and a core that is full.
+The rows on a core show conflicts, cascades, holds and withdrawals; then come all pairs of a standing and a call, whose answers have to
+be those of the grid below, and a core that is full. Those on a desk show tickets, and plans that are stale, and
+have two sessions explored.
 """
 import sys
 from pathlib import Path
@@ -11,6 +13,7 @@ sys.dont_write_bytecode = True
 
 from oracle.calls import Caller, case_text     # noqa: E402
 from oracle.checks import read_session         # noqa: E402
+from oracle.desk import case_told, explored    # noqa: E402
 
 CRATES = Path(__file__).parent.parent / "crates"
 
@@ -174,6 +177,55 @@ def full():
     yield told("1,000 updates are the most", 100, 3, True, text, calls)
 
 
+# Calls on a desk with their answers, as they are to be; the reference has to tell the same.
+TWO_INSERTS = "relation A 1\nupdate a ann insert A(1)\nupdate b bob insert A(2)\n"
+ONE_INSERT = "relation A 1\nupdate a ann insert A(1)\n"
+BOTH_PLANNED = """next s1: ticket 1 of update 1, stamp 2
+next s2: ticket 2 of update 2, stamp 2
+evaluate s1: planned
+evaluate s2: planned
+"""
+DESK_ROWS = [
+    # tickets of one update, one after the other
+    (ONE_INSERT, """next s1: ticket 1 of update 1, stamp 1
+next s2: idle, 1 in flight
+evaluate s1: planned
+finish s1: stepped, entry 2
+next s1: ticket 2 of update 1, stamp 2
+evaluate s1: planned
+finish s1: stepped, entry 3
+next s2: quiet"""),
+    # a plan that a step below makes stale; nothing is changed by it
+    (INSERT_DELETE, BOTH_PLANNED + "finish s1: stepped, entry 3\nfinish s2: stale, entry 3"),
+    # a plan is stale by the relation that was written, though no read of it has another value
+    (TWO_INSERTS, BOTH_PLANNED + "finish s1: stepped, entry 3\nfinish s2: stale, entry 3"),
+    # the upper update goes first and is restarted by the lower one, which makes its second plan stale
+    (INSERT_DELETE, BOTH_PLANNED + """finish s2: stepped, entry 3
+next s2: ticket 3 of update 2, stamp 3
+evaluate s2: planned
+finish s1: stepped, entry 4
+finish s2: stale, entry 4"""),
+    # a ticket that is given back is given anew
+    (INSERT_DELETE, "next s1: ticket 1 of update 1, stamp 2\nback s1: back\nnext s1: ticket 2 of update 1, stamp 2"),
+]
+
+
+def desk_rows():
+    for text, calls in DESK_ROWS:
+        session = read_session(b"youtopia 2\n" + text.encode() + b"end\n")
+        wanted = [line.split(": ") for line in calls.splitlines()]
+        case, lines = case_told(session, 100, 3, True, [call for call, _ in wanted])
+        assert [line.decode() for line in lines[:len(wanted)]] == [answer for _, answer in wanted], lines
+        yield case, lines
+
+
+def explorations():
+    """Every order of two seats for a few calls, and of three."""
+    for text, retries, precise, seats, calls in ((INSERT_DELETE, 3, True, 2, 6), (CASCADE, 0, False, 3, 4)):
+        session = read_session(b"youtopia 2\n" + text.encode() + b"end\n")
+        yield explored(session, 100, retries, precise, seats, calls)
+
+
 def write(crate, cases):
     (CRATES / crate / "stdin").write_bytes(b"".join(case for case, _ in cases))
     (CRATES / crate / "stdout").write_bytes(b"".join(line + b"\n" for _, lines in cases for line in lines))
@@ -182,6 +234,7 @@ def write(crate, cases):
 
 def main():
     write("yt_core_table", [*rows(), *pairs(), *full()])
+    write("yt_desk_table", [*desk_rows(), *explorations()])
 
 
 if __name__ == "__main__":

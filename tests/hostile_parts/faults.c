@@ -10,6 +10,7 @@
    FAULTS_PIECE=P      each read and write moves at most P bytes
    FAULTS_ERROR=E      the number of the error that a refused read or write tells; 0: a write takes nothing
    FAULTS_MUTE=1       all writes to err are refused besides
+   FAULTS_WANTING=L    what is told on err where memory is wanting, with the status 1, of another program than youtopia
    FAULTS_INSIDE=1     for programs with one thread: instead of a run from the start for each N, the one run is split in two at each call,
                        and the half in which the call is refused is taken to its end first
 
@@ -50,6 +51,7 @@ static bool lasting, mute, inside;
 static size_t piece;
 static int error = EIO;
 static struct telling own;
+static const char *wanting;
 
 static bool attacked;               /* this is a run with a refused call */
 static long target;                 /* the number of that call */
@@ -130,7 +132,7 @@ static bool is_right(const struct telling *told, long number) {
       undisturbed++;
       return true;
     }
-    wanted = failure(7, 0, "youtopia: out of memory\n");
+    wanted = wanting != NULL ? failure(1, 0, wanting) : failure(7, 0, "youtopia: out of memory\n");
     return !wrote && same(told, &wanted);
   }
 }
@@ -232,6 +234,7 @@ static void read_plan(const char *name) {
   mute = says("FAULTS_MUTE");
   inside = says("FAULTS_INSIDE");
   piece = says("FAULTS_PIECE") ? strtoul(getenv("FAULTS_PIECE"), NULL, 10) : 0;
+  wanting = getenv("FAULTS_WANTING");
   most = says("FAULTS_MOST") ? atol(getenv("FAULTS_MOST")) : LONG_MAX;
   error = says("FAULTS_ERROR") ? atoi(getenv("FAULTS_ERROR")) : EIO;
   size_t size;

@@ -15,6 +15,11 @@ for row in "${rows[@]}"; do
     attack "tests/rows/$row" FAULTS=thread FAULTS_LASTING=1
   fi
 done
+# Worked calls on a desk, by the program of a crate of its own: a call that finds no memory is made again, and answers as it would have.
+python3 -B "$here/desks.py" "$stored" || tally 'calls on a desk' '0 passed, 1 failed'
+for row in "$stored"/desk-*; do
+  program=$desk_table attack "$row" FAULTS=memory FAULTS_WANTING=$'Error: out of memory\n'
+done
 if [ -n "$cheap" ]; then
   attack tests/rows/travel FAULTS=memory FAULTS_LASTING=1
   attack tests/rows/one-repair FAULTS=memory FAULTS_MUTE=1

@@ -5,4 +5,6 @@ check 'the program tells of 200 random cases what the reference tells' \
 check 'runs by 1, 2, 4 and 8 workers tell what the serial machine tells, by histories that the auditor takes' \
   "$(tests/differential 2 100 "$program" trace > "$stored/differences" 2>&1 || cat "$stored/differences")"
 check 'a core answers 100 random lists of calls as the reference does' \
-  "$(tests/lists 3 100 ${CORE_TABLE:-} > "$stored/differences" 2>&1 || cat "$stored/differences")"
+  "$(tests/lists core 3 100 ${CORE_TABLE:-} > "$stored/differences" 2>&1 || cat "$stored/differences")"
+check 'a desk answers 100 random lists of calls as the reference does' \
+  "$(tests/lists desk 4 100 ${DESK_TABLE:-} > "$stored/differences" 2>&1 || cat "$stored/differences")"

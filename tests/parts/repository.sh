@@ -31,9 +31,9 @@ check 'the reference judges the stored explanations, whole and broken, as it is 
      for file in stdin stdout; do cmp "$stored/$file" "crates/yt_explanation_table/$file" 2>&1; done)"
 cp "$stored"/std* crates/yt_explanation_table/
 
-# The stored calls on a core are those that their script writes, with what the reference tells of them.
-cp crates/yt_core_table/stdin crates/yt_core_table/stdout "$stored"
+# The stored calls on a core and on a desk are those that their script writes, with what the reference tells of them.
+for crate in yt_core_table yt_desk_table; do mkdir "$stored/$crate"; cp crates/$crate/stdin crates/$crate/stdout "$stored/$crate"; done
 check 'the script of calls writes the stored ones, and the reference tells of them what is stored' \
   "$(python3 tests/call_cases.py 2>&1 > /dev/null
-     for file in stdin stdout; do cmp "$stored/$file" "crates/yt_core_table/$file" 2>&1; done)"
-cp "$stored"/std* crates/yt_core_table/
+     for crate in yt_core_table yt_desk_table; do for file in stdin stdout; do cmp "$stored/$crate/$file" "crates/$crate/$file" 2>&1; done; done)"
+for crate in yt_core_table yt_desk_table; do cp "$stored/$crate"/std* crates/$crate/; done
