@@ -1,0 +1,134 @@
+//! A set of tuples that goes up and down over writes.
+ghost use Rattle.std.specs.Prelude.{◌≡◌, ◌+◌, ◌-◌, ◌≤◌, ◌∷◌, [], suc, length, drop, map, OnOk};
+ghost use Rattle.yt_base.specs.Meanings.{change_of};
+ghost use Rattle.yt_model.specs.Repository.{apply, change};
+ghost use Rattle.yt_replay.specs.Levels.{raised, top};
+
+use std::alloc::Global;
+use std::marker::Model;
+use yt_base::{Memory, TryCopy, Write, WriteList};
+use yt_facts::IndexedFacts;
+
+/// A set of tuples with what lay under it: each level is the one below it with writes made. Contracts see the levels from
+/// the uppermost one down to the lowest; there is one at least.
+#[derive(Debug, Drop)]
+pub struct Levels {
+    facts: IndexedFacts,
+    // For each level but the lowest, the writes that lead from it to the one below, the last of them first.
+    back: Vec<WriteList>,
+}
+
+impl Model for Levels {
+    ghost use Rattle.std.specs.Prelude.{List, map, reverse};
+    ghost use Rattle.yt_model.specs.Values.{Fact};
+    ghost use Rattle.yt_base.specs.Contents.{changes_of};
+    ghost use Rattle.yt_replay.specs.Levels.{descended};
+
+    ghost Value = { List (List Fact) };
+
+    ghost view = { λ l. descended l.facts (reverse (map changes_of l.back.items)) };
+}
+
+impl Levels {
+    /// The one level of the set. It takes no memory.
+    pub fn new(alloc: Global, facts: IndexedFacts) -> Levels
+        ensures one { result ≡ facts ∷ [] }
+    {
+        Levels {
+            facts,
+            back: Vec::new(alloc),
+        }
+    }
+
+    /// The uppermost level. It takes no memory.
+    pub fn facts(&self) -> &IndexedFacts
+        ensures top { result.now ≡ top self.now }
+    {
+        &self.facts
+    }
+
+    /// How many levels there are above the lowest. It takes no memory.
+    pub fn height(&self) -> usize
+        ensures height { length self.now ≡ suc result }
+    {
+        self.back.len()
+    }
+
+    /// Puts one more level above the others: the uppermost one with these writes made. It is refused only for want of
+    /// memory.
+    pub fn rise(&mut self, alloc: Global, writes: &[Write]) -> Result<(), Memory>
+        ensures raised { OnOk result (self.new ≡ raised (map change_of writes.now) self.old) }
+    {
+        let mut back = WriteList::new(alloc);
+        for write in writes {
+            make(alloc, &mut self.facts, write, &mut back)?;
+        }
+        self.back.push(back)?;
+        Ok(())
+    }
+
+    /// Takes the uppermost level away, where it is not the lowest too. It is refused only for want of memory.
+    pub fn sink(&mut self) -> Result<(), Memory>
+        requires above { 2 ≤ length self.old }
+        ensures sunk { OnOk result (self.new ≡ drop 1 self.old) }
+    {
+        let Some(mut back) = self.back.pop() else {
+            return Ok(());
+        };
+        while let Some(write) = back.pop() {
+            take_back(&mut self.facts, write)?;
+        }
+        Ok(())
+    }
+
+    /// Takes levels away until so many are left above the lowest. It is refused only for want of memory.
+    pub fn sink_to(&mut self, height: usize) -> Result<(), Memory>
+        requires above { height + 1 ≤ length self.old }
+        ensures sunk { OnOk result
+            (self.new ≡ drop (length self.old - (height + 1)) self.old) }
+    {
+        while self.height() > height {
+            self.sink()?;
+        }
+        Ok(())
+    }
+}
+
+// Makes the write, and puts the one that takes it back behind the others, if it changes anything.
+fn make(
+    alloc: Global,
+    facts: &mut IndexedFacts,
+    write: &Write,
+    back: &mut WriteList,
+) -> Result<(), Memory>
+    ensures made { OnOk result (facts.new ≡ change facts.old (change_of write.now)) }
+{
+    match write {
+        Write::Insert(tuple) => {
+            if facts.insert(tuple.copy(alloc)?)? {
+                back.push(Write::Delete(tuple.copy(alloc)?))?;
+            }
+        }
+        Write::Delete(tuple) => {
+            if facts.remove(tuple) {
+                back.push(Write::Insert(tuple.copy(alloc)?))?;
+            }
+        }
+    }
+    Ok(())
+}
+
+// Makes the write.
+fn take_back(facts: &mut IndexedFacts, write: Write) -> Result<(), Memory>
+    ensures made { OnOk result (facts.new ≡ change facts.old (change_of write)) }
+{
+    match write {
+        Write::Insert(tuple) => {
+            facts.insert(tuple)?;
+        }
+        Write::Delete(tuple) => {
+            facts.remove(&tuple);
+        }
+    }
+    Ok(())
+}

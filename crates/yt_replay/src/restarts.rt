@@ -1,0 +1,30 @@
+//! Restarts of those that an event aborts.
+ghost use Rattle.std.specs.Prelude.{OnOk};
+ghost use Rattle.yt_replay.specs.Restarts.{AllHaveOneMore, HaveRestarted};
+
+use crate::cascades::is_named;
+use std::alloc::Global;
+use yt_base::Memory;
+use yt_entries::CauseList;
+use yt_seats::Seat;
+
+/// Restarts each of the updates from the place on that one of the causes is for. It is refused only for want of memory.
+pub(crate) fn restart_named(
+    alloc: Global,
+    seats: &mut [Seat],
+    from: usize,
+    causes: &CauseList,
+) -> Result<(), Memory>
+    requires more { AllHaveOneMore seats.old }
+    ensures restarted { OnOk result (HaveRestarted from causes.now seats.old seats.new) }
+{
+    if causes.is_empty() {
+        return Ok(());
+    }
+    for seat in &mut seats[from..] {
+        if is_named(causes, seat.number()) {
+            seat.restart(alloc)?;
+        }
+    }
+    Ok(())
+}
