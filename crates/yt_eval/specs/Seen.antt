@@ -1,7 +1,7 @@
 -- What a contract sees of a view.
-use Rattle.std.specs.Prelude.{List, ◌++◌}
+use Rattle.std.specs.Prelude.{◌≡◌, List, ◌++◌}
 use Rattle.yt_model.specs.Values.{Fact}
-use Rattle.yt_model.specs.Repository.{Change}
+use Rattle.yt_model.specs.Repository.{Change, apply}
 use Rattle.yt_model.specs.Mappings.{Rule}
 use Rattle.yt_model.specs.Queries.{Query, Reply, value}
 use Rattle.yt_model.specs.Violations.{Scope}
@@ -18,3 +18,7 @@ written seen more = record { below = seen.below; own = seen.own ++ more }
 -- The value of the query there, where violations of this scope count.
 abbrev pub value_seen : List Rule → Query → Seen → Scope → Reply
 value_seen ms q seen scope = value ms q seen.below seen.own scope
+
+-- It is the value of the query over any tuples that these are with the own writes applied.
+abbrev pub IsValueWith : List Rule → Query → List Fact → List Change → Scope → Reply → Type 0
+IsValueWith ms q E own scope reply = (D : List Fact) → E ≡ apply D own → reply ≡ value ms q D own scope

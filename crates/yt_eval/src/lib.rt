@@ -1,10 +1,13 @@
 //! The values of queries over a set of tuples, as an update sees it: with its own writes applied.
 //!
 //! A `View` is the set with the writes applied, and answers any number of queries. `eval` and `eval_all` make one for
-//! a single query. A `WatchedView` is a view of one update that does not search a mapping for violations again where
-//! nothing can have changed. The value of a query is `value` of `yt_model`.
+//! a single query. An `AppliedView` is over a set in which the writes stand already. A `WatchedView` is a view of one
+//! update that does not search a mapping for violations again where nothing can have changed. The value of a query is
+//! `value` of `yt_model`.
 #![tactic(auto)]
 
+mod answers;
+mod applied;
 mod occurrences;
 mod scopes;
 mod settled;
@@ -12,6 +15,7 @@ mod values;
 mod view;
 mod watched;
 
+pub use crate::applied::AppliedView;
 pub use crate::values::{eval, eval_all};
 pub use crate::view::View;
 pub use crate::watched::WatchedView;

@@ -1,22 +1,19 @@
 //! A set of tuples as an update sees it.
-ghost use Rattle.std.specs.Prelude.{◌≡◌, ◌∷◌, [], if◌then◌else◌, map, IfOk, OnErr, OnOk};
-ghost use Rattle.yt_model.specs.Queries.{value, Yes, No};
-ghost use Rattle.yt_model.specs.Repository.{has};
+ghost use Rattle.std.specs.Prelude.{◌≡◌, ◌∷◌, [], map, IfOk, OnErr, OnOk};
 ghost use Rattle.yt_model.specs.Violations.{Every, Caused};
-ghost use Rattle.yt_base.specs.Meanings.{fact_of, change_of, heading_of};
+ghost use Rattle.yt_base.specs.Meanings.{change_of, heading_of};
 ghost use Rattle.yt_query.specs.Meanings.{query_of, reply_of};
 ghost use Rattle.yt_eval.specs.Counted.{scope_meant};
 ghost use Rattle.yt_eval.specs.Seen.{written, value_seen};
 ghost use Rattle.yt_base.specs.Contents.{rules_in};
 
-use crate::occurrences::occurrences;
-use crate::scopes::{Counted, enacts_with, first_image, scope_at};
+use crate::answers::{Writes, value_over};
+use crate::scopes::{Counted, enacts_with};
 use std::alloc::Global;
 use std::marker::Model;
-use yt_base::{Direction, Facts, MappingList, Memory, TryCopy, Tuple, Write, WriteList};
+use yt_base::{Direction, Facts, MappingList, Memory, TryCopy, Write, WriteList};
 use yt_facts::Overlay;
 use yt_query::{Answer, Query};
-use yt_unifier::candidates;
 
 /// A set of tuples as an update sees it: with its own writes applied, to which more can be added. It borrows the set,
 /// and keeps a copy of the writes. Contracts see the tuples below the writes, and the writes.
@@ -124,32 +121,10 @@ impl<'a, F: Facts> View<'a, F> {
             value_seen (rules_in mappings.now) (query_of query.now) self.now
             (scope_meant counted)) }
     {
-        match query {
-            Query::Present(tuple) => Ok(presence(tuple, &self.overlay)),
-            Query::Violation(number) => {
-                let scope = scope_at(counted, &self.own, self.enacts, *number);
-                first_image(alloc, mappings.get(*number as usize), &self.overlay, scope)
-            }
-            Query::Specific(tuple) => {
-                let found = candidates(alloc, tuple, &self.overlay)?;
-                Ok(Answer::Tuples(found))
-            }
-            Query::Occurs(update, place) => {
-                let found = occurrences(alloc, *update, *place, &self.overlay)?;
-                Ok(Answer::Tuples(found))
-            }
-        }
-    }
-}
-
-// Whether the tuple is in the set.
-fn presence<F: Facts>(tuple: &Tuple, facts: &F) -> Answer
-    ensures answer { reply_of result ≡ (if has (F.tuples facts.now)
-        (fact_of tuple.now) then Yes else No) }
-{
-    if facts.contains(tuple) {
-        Answer::Yes
-    } else {
-        Answer::No
+        let writes = Writes {
+            own: &self.own,
+            enacts: self.enacts,
+        };
+        value_over(alloc, query, mappings, &self.overlay, writes, counted)
     }
 }

@@ -3,7 +3,7 @@ ghost use Rattle.std.specs.Prelude.{◌≡◌, ◌<◌, map, IfOk, OnOk};
 ghost use Rattle.std.specs.Option.{option_map, option_copied};
 ghost use Rattle.yt_machine.specs.Trees.{result_of, log_of};
 ghost use Rattle.yt_model.specs.Queries.{value};
-ghost use Rattle.yt_model.specs.Repository.{IsRepository};
+ghost use Rattle.yt_model.specs.Repository.{IsRepository, apply};
 ghost use Rattle.yt_model.specs.Violations.{Caused};
 ghost use Rattle.yt_base.specs.Meanings.{choice_of, heading_of};
 ghost use Rattle.yt_query.specs.Meanings.{read_of};
@@ -14,7 +14,7 @@ ghost use Rattle.yt_plan.specs.Planned.{at_rest, WantsStep, next_attempt, next_r
 
 use std::alloc::Global;
 use yt_base::{Choice, Direction, Facts, Memory, TryCopy};
-use yt_eval::View;
+use yt_eval::AppliedView;
 use yt_limits::{Budget, Mappings};
 use yt_program::{Program, Want};
 use yt_query::{LoggedRead, ReadLog};
@@ -26,8 +26,8 @@ pub struct Plan {
     pub reads: ReadLog,
 }
 
-/// The next step of the attempt over what lies below it, with the answer where it is at a question. The attempt stays as
-/// it is. It is refused only for want of memory.
+/// The next step of the attempt over what lies below it, with the answer where it is at a question. `with` is what lies
+/// below it with its own writes applied. The attempt stays as it is. It is refused only for want of memory.
 pub fn plan_step<F: Facts>(
     alloc: Global,
     program: &Program,
@@ -35,7 +35,9 @@ pub fn plan_step<F: Facts>(
     mappings: &Mappings<'_>,
     budget: Budget,
     below: &F,
+    with: &F,
 ) -> Result<Plan, Memory>
+    requires applied { F.tuples with.now ≡ apply (F.tuples below.now) program.now.attempt.own }
     requires wanted { WantsStep (wish program.now) (option_map choice_of (option_copied choice)) }
     requires left { program.now.attempt.steps < budget }
     ensures program { IfOk result (λ plan.
@@ -51,8 +53,7 @@ pub fn plan_step<F: Facts>(
     // The set tells that it is in order.
     let _ = below.beyond(None);
     let own = program.own();
-    let mut view = View::new(alloc, below);
-    view.write_all(alloc, own.as_slice())?;
+    let view = AppliedView::new(below, with, own);
     let mut after = program.copy(alloc)?;
     begin(alloc, &mut after, choice, mappings, budget)?;
     let made = own.len() as u64;
@@ -91,7 +92,7 @@ fn begin(
 fn answer_all<F: Facts>(
     alloc: Global,
     program: &mut Program,
-    view: &View<'_, F>,
+    view: &AppliedView<'_, F>,
     mappings: &Mappings<'_>,
     direction: Direction,
     made: u64,

@@ -13,23 +13,23 @@ pub returns-clause-program : goal.returns-clause-program
 returns-clause-program g c =
     let ms = c.args.mappings.now in
     let P = c.args.program.now.attempt in
-    let seen = c.in_ok-write_all.ensures.ok ∙ ap (λ (v : Seen). written v (map change_of c.as_slice.result.now)) c.new-view.ensures.before in
-    let own = ap (λ (v : Seen). v.own) seen ∙ ap (λ (ws : List Write). [] ++ map change_of ws) c.as_slice.ensures.items ∙ c.own-own.ensures.own in
+    let seen = c.new-view.ensures.seen in
+    let own = ap (λ (v : Seen). v.own) seen ∙ c.own-own.ensures.own in
     let begun = c.in_ok-begin.ensures.step ∙ ap (λ (s : State). coming_to c.args.budget s.attempt (step ms s.attempt (option_map choice_of (option_copied c.args.choice)))) c.in_ok-after.ensures.same in
     c.in_ok-reads.ensures.answered
     ∙ ap at_rest (planned ms c.args.budget (g.F.Facts.tuples c.args.below.now) P (option_map choice_of (option_copied c.args.choice))
-    (course ms c.begin.new.program) c.write_all.new.self.below c.write_all.new.self.own (heading_of c.direction-direction.result)
+    (course ms c.begin.new.program) c.new-view.result.below c.new-view.result.own (heading_of c.direction-direction.result)
     (ap (λ (v : Seen). v.below) seen) own c.direction-direction.ensures.heading begun)
 
 pub returns-clause-reads : goal.returns-clause-reads
 returns-clause-reads g c =
     let ms = c.args.mappings.now in
     let P = c.args.program.now.attempt in
-    let seen = c.in_ok-write_all.ensures.ok ∙ ap (λ (v : Seen). written v (map change_of c.as_slice.result.now)) c.new-view.ensures.before in
-    let own = ap (λ (v : Seen). v.own) seen ∙ ap (λ (ws : List Write). [] ++ map change_of ws) c.as_slice.ensures.items ∙ c.own-own.ensures.own in
+    let seen = c.new-view.ensures.seen in
+    let own = ap (λ (v : Seen). v.own) seen ∙ c.own-own.ensures.own in
     let begun = c.in_ok-begin.ensures.step ∙ ap (λ (s : State). coming_to c.args.budget s.attempt (step ms s.attempt (option_map choice_of (option_copied c.args.choice)))) c.in_ok-after.ensures.same in
     c.in_ok-reads.ensures.reads
     ∙ planned_reads ms c.args.budget c.len-made.result (g.F.Facts.tuples c.args.below.now) P (option_map choice_of (option_copied c.args.choice))
-    (course ms c.begin.new.program) c.write_all.new.self.below c.write_all.new.self.own (heading_of c.direction-direction.result)
+    (course ms c.begin.new.program) c.new-view.result.below c.new-view.result.own (heading_of c.direction-direction.result)
     (ap (λ (v : Seen). v.below) seen) own c.direction-direction.ensures.heading begun
     (c.len-made.ensures.length ∙ made_so_far c.own-own.result.now.items P.own c.own-own.ensures.own)
