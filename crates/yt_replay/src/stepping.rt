@@ -9,6 +9,7 @@ use crate::restarts::restart_named;
 use std::alloc::Global;
 use yt_base::{Memory, TryCopy, Write, WriteList};
 use yt_entries::{CauseList, Entry};
+use yt_facts::Overlay;
 use yt_plan::{Plan, plan_step};
 use yt_seats::{committed, has_spent, shown};
 
@@ -33,13 +34,17 @@ impl<'s> Replay<'s> {
     // The next step of the update at the place, below which the uppermost level lies.
     fn plan(&self, alloc: Global, place: usize) -> Result<Plan, Memory> {
         let seat = &self.seats[place];
+        let below = Overlay::new(alloc, self.levels.facts());
+        let mut with = Overlay::new(alloc, self.levels.facts());
+        with.write_all(alloc, seat.program.own().as_slice())?;
         plan_step(
             alloc,
             &seat.program,
             seat.next_answer(),
             &self.mappings,
             self.budget,
-            self.levels.facts(),
+            &below,
+            &with,
         )
     }
 

@@ -1,0 +1,60 @@
+-- Which event a line of a trace tells.
+use Rattle.std.specs.Prelude.{◌≡◌, ◌≤◌, ℕ, List, Option, Some, IsUtf8, codes, option_and_then}
+use Rattle.serde_json.specs.Data.{Data}
+use Rattle.serde_json.specs.Find.{get, as_number, as_str, as_u64}
+use Rattle.serde_json.specs.Read.{read_text}
+use Rattle.yt_base.specs.Meanings.{choice_of}
+use Rattle.yt_grammar.specs.Sessions.{RelationSchema}
+use Rattle.yt_grammar.specs.Statements.{WrittenChoice}
+use Rattle.yt_model.specs.Updates.{Choice}
+use Rattle.yt_audit.specs.Choices.{Spells, known_choice}
+use Rattle.yt_audit.specs.Told.{Told, Admission, Step, Delivery, Answer, Withdrawal, name_told, update_told}
+use Rattle.yt_audit.specs.declared.claims.Claim.{Claim}
+use Rattle.yt_audit.specs.declared.claims.Claim.TheVariants as claims
+
+-- The object has this text at the key; it has this number there.
+abbrev pub HasText : Data → List ℕ → List ℕ → Type 0
+HasText object key text = option_and_then as_str (get key object) ≡ Some text
+
+abbrev pub HasNumber : Data → List ℕ → ℕ → Type 0
+HasNumber object key n = option_and_then as_u64 (option_and_then as_number (get key object)) ≡ Some n
+
+-- The object has, as a text, the choice that was made.
+pub record HasChoice (relations : List RelationSchema) (object : Data) (c : Choice) : Type 0 where
+  pub text : List ℕ
+  pub there : HasText object (codes "choice") text
+  pub written : WrittenChoice
+  pub spelled : Spells text written
+  pub known : known_choice relations written ≡ Some c
+
+-- Where an answer is told, the object has the choice.
+abbrev pub HasChoiceTold : List RelationSchema → Data → Told → Type 0
+HasChoiceTold relations object (Admission u) = Unit {0}
+HasChoiceTold relations object (Step u) = Unit {0}
+HasChoiceTold relations object (Delivery u) = Unit {0}
+HasChoiceTold relations object (Answer u c) = HasChoice relations object c
+HasChoiceTold relations object (Withdrawal u) = Unit {0}
+
+-- The line is the text of a JSON object that names the event and the number of its update, from 1 to 1000, and the choice of
+-- an answer. Other members do not count.
+pub record Tells (relations : List RelationSchema) (line : List ℕ) (e : Told) : Type 0 where
+  pub utf8 : IsUtf8 line
+  pub object : Data
+  pub json : read_text line ≡ Some object
+  pub event : HasText object (codes "event") (name_told e)
+  pub update : HasNumber object (codes "update") (update_told e)
+  pub least : 1 ≤ update_told e
+  pub most : update_told e ≤ 1000
+  pub choice : HasChoiceTold relations object e
+
+-- No event is told by the line.
+abbrev pub TellsNothing : List RelationSchema → List ℕ → Type 0
+TellsNothing relations line = (e : Told) → Tells relations line e → ⊥
+
+-- what a `Claim` stands for
+abbrev pub claim_meant : Claim → Told
+claim_meant (claims.Admitted u) = Admission u
+claim_meant (claims.Stepped u) = Step u
+claim_meant (claims.Delivered u) = Delivery u
+claim_meant (claims.Answered u c) = Answer u (choice_of c)
+claim_meant (claims.Withdrawn u) = Withdrawal u

@@ -1,0 +1,43 @@
+//! The form of a trace: a line that counts the others.
+ghost use Rattle.std.specs.Prelude.{◌≡◌, IfOk, IfSome, IfNone};
+ghost use Rattle.yt_audit.specs.Forms.{HasLines, HasNoLines};
+
+use memchr::memchr;
+use std::alloc::Global;
+use yt_base::Memory;
+
+/// The lines behind the first, where the text is `trace N` and N lines, each ended by a line feed; else nothing. It is refused
+/// only for want of memory.
+pub fn counted_lines(alloc: Global, text: &[u8]) -> Result<Option<&[u8]>, Memory>
+    ensures lines { IfOk result (λ found. IfSome found (λ rest. HasLines text.now rest.now)) }
+    ensures none { IfOk result (λ found. IfNone found (HasNoLines text.now)) }
+{
+    let ended = line_feeds(text);
+    if ended == 0 || text.last() != Some(&b'\n') {
+        return Ok(None);
+    }
+    let behind = ended - 1;
+    let head = format!(in alloc; "trace {behind}\n")?;
+    Ok(text.strip_prefix(head.as_bytes()))
+}
+
+// How many line feeds stand in a text.
+fn line_feeds(text: &[u8]) -> usize
+    ensures count { result ≡ count_by is_line_feed text.now }
+{
+    let mut count = 0;
+    for byte in text {
+        if *byte == b'\n' {
+            count += 1;
+        }
+    }
+    count
+}
+
+/// The first line of lines that are each ended by a line feed, without that, and the others; None where there is none.
+pub fn first_line(lines: &[u8]) -> Option<(&[u8], &[u8])>
+    ensures first { IfSome result (λ x. lines.now ≡ x.0.now ++ 10 ∷ x.1.now) }
+{
+    let place = memchr(b'\n', lines)?;
+    Some((&lines[..place], &lines[place + 1..]))
+}
