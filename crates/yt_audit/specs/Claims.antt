@@ -1,5 +1,5 @@
 -- Which event a line of a trace tells.
-use Rattle.std.specs.Prelude.{◌≡◌, ◌≤◌, ℕ, List, Option, Some, IsUtf8, codes, option_and_then}
+use Rattle.std.specs.Prelude.{◌≡◌, ◌≤◌, ℕ, List, Option, Some, None, IsUtf8, codes, option_and_then}
 use Rattle.serde_json.specs.Data.{Data}
 use Rattle.serde_json.specs.Find.{get, as_number, as_str, as_u64}
 use Rattle.serde_json.specs.Read.{read_text}
@@ -58,3 +58,38 @@ claim_meant (claims.Stepped u) = Step u
 claim_meant (claims.Delivered u) = Delivery u
 claim_meant (claims.Answered u c) = Answer u (choice_of c)
 claim_meant (claims.Withdrawn u) = Withdrawal u
+
+-- It is the event that the object tells; nothing, where it tells none.
+abbrev pub IsClaimOn : List RelationSchema → List ℕ → Option Claim → Type 0
+IsClaimOn relations line None = TellsNothing relations line
+IsClaimOn relations line (Some claim) = Tells relations line (claim_meant claim)
+
+-- What the object says of an event, without the text that it was read of.
+pub record Says (relations : List RelationSchema) (object : Data) (e : Told) : Type 0 where
+  pub event : HasText object (codes "event") (name_told e)
+  pub update : HasNumber object (codes "update") (update_told e)
+  pub least : 1 ≤ update_told e
+  pub most : update_told e ≤ 1000
+  pub choice : HasChoiceTold relations object e
+
+abbrev pub IsClaimIn : List RelationSchema → Data → Option Claim → Type 0
+IsClaimIn relations object None = (e : Told) → Says relations object e → ⊥
+IsClaimIn relations object (Some claim) = Says relations object (claim_meant claim)
+
+-- The number of an update that it names, if it names one; the text at a key, if it has one there.
+abbrev pub IsNumberIn : Data → Option ℕ → Type 0
+IsNumberIn object None = (n : ℕ) → HasNumber object (codes "update") n → 1 ≤ n → n ≤ 1000 → ⊥
+IsNumberIn object (Some n) = HasNumber object (codes "update") n × (1 ≤ n) × (n ≤ 1000)
+
+abbrev pub IsTextIn : Data → List ℕ → Option (List ℕ) → Type 0
+IsTextIn object key found = option_and_then as_str (get key object) ≡ found
+
+-- The event of this name and of this update, but for answers.
+abbrev pub IsPlainClaim : List ℕ → ℕ → Option Claim → Type 0
+IsPlainClaim name u None = (e : Told) → name_told e ≡ name → name ≡ codes "answered"
+IsPlainClaim name u (Some claim) = (name_told (claim_meant claim) ≡ name) × (update_told (claim_meant claim) ≡ u)
+
+-- The answer to this update that the object tells, if it has a choice.
+abbrev pub IsAnswerIn : List RelationSchema → Data → ℕ → Option Claim → Type 0
+IsAnswerIn relations object u None = (c : Choice) → HasChoice relations object c → ⊥
+IsAnswerIn relations object u (Some claim) = (c : Choice) × (claim_meant claim ≡ Answer u c) × HasChoice relations object c

@@ -22,3 +22,9 @@ pub record HasLines (text : List ℕ) (lines : List (List ℕ)) : Type 0 where
 -- It has not that form.
 abbrev pub HasNoLines : List ℕ → Type 0
 HasNoLines text = (lines : List (List ℕ)) → HasLines text lines → ⊥
+
+-- Behind a first line that counts them stand these lines, as they are.
+pub record IsCounted (text rest : List ℕ) : Type 0 where
+  pub lines : List (List ℕ)
+  pub head : text ≡ codes "trace " ++ (decimal (length lines) ++ 10 ∷ rest)
+  pub of : IsOf rest lines

@@ -1,8 +1,8 @@
 //! Which event a line of a trace tells.
-ghost use Rattle.std.specs.Prelude.{◌≡◌, IfOk};
+ghost use Rattle.std.specs.Prelude.{codes, IfOk};
 ghost use Rattle.std.specs.Option.{option_map};
 ghost use Rattle.serde_json.specs.View.{view};
-ghost use Rattle.yt_audit.specs.Claims.{claim_in, claim_meant, claim_of, number_in};
+ghost use Rattle.yt_audit.specs.Claims.{IsAnswerIn, IsClaimIn, IsClaimOn, IsNumberIn, IsPlainClaim, IsTextIn};
 
 use crate::choices::{ChoiceText, read_choice};
 use serde_json::Value;
@@ -26,8 +26,7 @@ const MOST: u64 = 1000;
 /// The event that a line tells, if it tells one: it is a JSON object that names an event and the number of an update, and for
 /// an answer a choice. It is refused only for want of memory.
 pub fn read_claim(alloc: Global, schema: &Schema, line: &[u8]) -> Result<Option<Claim>, Memory>
-    ensures claim { IfOk result (λ found. option_map claim_meant found ≡
-        claim_of schema.now line.now) }
+    ensures claim { IfOk result (IsClaimOn schema.now line.now) }
 {
     match Value::from_slice(alloc, line) {
         Ok(object) => claim_in(alloc, schema, &object),
@@ -42,8 +41,7 @@ pub fn read_claim(alloc: Global, schema: &Schema, line: &[u8]) -> Result<Option<
 
 // The event that an object tells.
 fn claim_in(alloc: Global, schema: &Schema, object: &Value) -> Result<Option<Claim>, Memory>
-    ensures claim { IfOk result (λ found. option_map claim_meant found ≡
-        claim_in schema.now (view object.now)) }
+    ensures claim { IfOk result (IsClaimIn schema.now (view object.now)) }
 {
     let Some(update) = number_in(object) else {
         return Ok(None);
@@ -59,7 +57,7 @@ fn claim_in(alloc: Global, schema: &Schema, object: &Value) -> Result<Option<Cla
 
 // The number of an update that an object names.
 fn number_in(object: &Value) -> Option<u32>
-    ensures number { result ≡ number_in (view object.now) }
+    ensures number { IsNumberIn (view object.now) result }
 {
     let number = object.get("update")?.as_u64()?;
     if 1 <= number && number <= MOST {
@@ -70,12 +68,16 @@ fn number_in(object: &Value) -> Option<u32>
 }
 
 // The text at a key of an object.
-fn text_in<'a>(object: &'a Value, key: &str) -> Option<&'a str> {
+fn text_in<'a>(object: &'a Value, key: &str) -> Option<&'a str>
+    ensures text { IsTextIn (view object.now) key.now (option_map (λ t. t.now) result) }
+{
     object.get(key)?.as_str()
 }
 
 // The event of this name, which needs no choice.
-fn plain_claim(event: &str, update: u32) -> Option<Claim> {
+fn plain_claim(event: &str, update: u32) -> Option<Claim>
+    ensures claim { IsPlainClaim event.now update result }
+{
     if event == "admitted" {
         Some(Claim::Admitted(update))
     } else if event == "stepped" {
@@ -95,7 +97,9 @@ fn answer_in(
     schema: &Schema,
     update: u32,
     object: &Value,
-) -> Result<Option<Claim>, Memory> {
+) -> Result<Option<Claim>, Memory>
+    ensures claim { IfOk result (IsAnswerIn schema.now (view object.now) update) }
+{
     let Some(text) = text_in(object, "choice") else {
         return Ok(None);
     };

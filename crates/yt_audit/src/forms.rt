@@ -1,6 +1,9 @@
 //! The form of a trace: a line that counts the others.
-ghost use Rattle.std.specs.Prelude.{◌≡◌, IfOk, IfSome, IfNone};
-ghost use Rattle.yt_audit.specs.Forms.{HasLines, HasNoLines};
+ghost use Rattle.std.specs.Prelude.{◌≡◌, ◌++◌, ◌∷◌, [], IfOk, IfSome, IfNone};
+ghost use Rattle.std.specs.List.{count_by};
+ghost use Rattle.yt_lex.specs.Bytes.{is_line_feed};
+ghost use Rattle.yt_reader.specs.Places.{IsOneLine};
+ghost use Rattle.yt_audit.specs.Forms.{HasNoLines, IsCounted};
 
 use memchr::memchr;
 use std::alloc::Global;
@@ -9,7 +12,7 @@ use yt_base::Memory;
 /// The lines behind the first, where the text is `trace N` and N lines, each ended by a line feed; else nothing. It is refused
 /// only for want of memory.
 pub fn counted_lines(alloc: Global, text: &[u8]) -> Result<Option<&[u8]>, Memory>
-    ensures lines { IfOk result (λ found. IfSome found (λ rest. HasLines text.now rest.now)) }
+    ensures lines { IfOk result (λ found. IfSome found (λ rest. IsCounted text.now rest.now)) }
     ensures none { IfOk result (λ found. IfNone found (HasNoLines text.now)) }
 {
     let ended = line_feeds(text);
@@ -37,6 +40,8 @@ fn line_feeds(text: &[u8]) -> usize
 /// The first line of lines that are each ended by a line feed, without that, and the others; None where there is none.
 pub fn first_line(lines: &[u8]) -> Option<(&[u8], &[u8])>
     ensures first { IfSome result (λ x. lines.now ≡ x.0.now ++ 10 ∷ x.1.now) }
+    ensures single { IfSome result (λ x. IsOneLine x.0.now) }
+    ensures none { IfNone result (IsOneLine lines.now) }
 {
     let place = memchr(b'\n', lines)?;
     Some((&lines[..place], &lines[place + 1..]))

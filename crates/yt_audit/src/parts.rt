@@ -1,6 +1,7 @@
 //! The parts of an auditor's input: a session, perhaps the result text of a run, and a trace.
-ghost use Rattle.std.specs.Prelude.{◌≡◌, ◌++◌};
-ghost use Rattle.yt_audit.specs.Parts.{IsResultPart, IsSessionPart};
+ghost use Rattle.std.specs.Prelude.{◌<◌, ◌≤◌, length};
+ghost use Rattle.std.specs.Option.{option_map};
+ghost use Rattle.yt_audit.specs.Parts.{IsFound, IsSessionPart};
 
 use memchr::memchr;
 use yt_forms::{Word, Words};
@@ -24,7 +25,7 @@ pub fn session_part(input: &[u8]) -> (&[u8], &[u8])
 /// The result text at the front of what stands behind a session, if one does, and what stands behind that: from the first
 /// line on that begins with `trace` and a space.
 pub fn result_part(rest: &[u8]) -> Option<(&[u8], &[u8])>
-    ensures part { IsResultPart rest.now result }
+    ensures part { IsFound rest.now (option_map (λ x. (x.0.now, x.1.now)) result) }
 {
     if line_without_end(rest) != b"youtopia result 1".as_slice() {
         return None;

@@ -1,8 +1,11 @@
 //! The updates that depend on those whose trails go.
 ghost use Rattle.std.specs.Prelude.{◌≡◌, map, IfOk, OnOk};
+ghost use Rattle.yt_base.specs.Contents.{rules_in};
 ghost use Rattle.yt_base.specs.Meanings.{change_of};
 ghost use Rattle.yt_machine.specs.Cascade.{has_number};
-ghost use Rattle.yt_replay.specs.Causes.{IsCascade, IsDependenceOf, IsMember, readers_in};
+ghost use Rattle.yt_seats.specs.Settings.{deps_of};
+ghost use Rattle.yt_replay.specs.Causes.{AreDependences, IsMember, readers_in};
+ghost use Rattle.yt_replay.specs.Levels.{top};
 
 use crate::changes::changed_read;
 use crate::conflicts::Scene;
@@ -59,7 +62,9 @@ pub(crate) fn cascade(
     conflicts: &CauseList,
     member: Option<Member>,
 ) -> Result<CauseList, Memory>
-    ensures causes { IfOk result (IsCascade scene deps conflicts.now member levels.old upper.now) }
+    ensures causes { IfOk result (λ causes. AreDependences (rules_in scene.entry.mappings.now)
+        (deps_of deps) scene.entry.committed (readers_in conflicts.now.items) member.entry
+        (top levels.old) upper.now causes.items) }
     ensures levels { OnOk result (levels.new ≡ levels.old) }
 {
     let height = levels.height();
@@ -90,7 +95,7 @@ fn reach(upper: &[Seat]) -> usize {
 
 // Whether one of the causes is for the update.
 pub(crate) fn is_named(causes: &CauseList, number: u32) -> bool
-    ensures named { result ≡ has_number (readers_in causes.now) number }
+    ensures named { result ≡ has_number (readers_in causes.now.items) number }
 {
     causes
         .as_slice()

@@ -1,7 +1,10 @@
 //! Why an event restarts others.
 ghost use Rattle.std.specs.Prelude.{◌≡◌, map, IfOk, OnOk};
+ghost use Rattle.yt_base.specs.Contents.{rules_in};
 ghost use Rattle.yt_base.specs.Meanings.{change_of};
+ghost use Rattle.yt_seats.specs.Settings.{deps_of};
 ghost use Rattle.yt_replay.specs.Causes.{AreOfLoss, AreOfWrites};
+ghost use Rattle.yt_replay.specs.Levels.{top};
 
 use crate::cascades::{Member, cascade};
 use crate::conflicts::{Scene, conflicts};
@@ -23,8 +26,9 @@ pub(crate) fn causes_of_loss(
     number: u32,
     trail: &[Write],
 ) -> Result<CauseList, Memory>
-    ensures causes { IfOk result (AreOfLoss scene deps number (map change_of trail.now)
-        levels.old upper.now) }
+    ensures causes { IfOk result (λ causes. AreOfLoss (rules_in scene.entry.mappings.now)
+        (deps_of deps) scene.entry.committed number (map change_of trail.now) (top levels.old)
+        upper.now causes.items) }
     ensures levels { OnOk result (levels.new ≡ levels.old) }
 {
     let none = CauseList::new(alloc);
@@ -45,8 +49,9 @@ pub(crate) fn causes_of_writes(
     trail: &[Write],
     writes: &[Write],
 ) -> Result<CauseList, Memory>
-    ensures causes { IfOk result (AreOfWrites scene deps number (map change_of trail.now)
-        levels.old upper.now) }
+    ensures causes { IfOk result (λ causes. AreOfWrites (rules_in scene.entry.mappings.now)
+        (deps_of deps) scene.entry.committed number (map change_of trail.now)
+        (map change_of writes.now) (top levels.old) upper.now causes.items) }
     ensures levels { OnOk result (levels.new ≡ levels.old) }
 {
     if writes.is_empty() {

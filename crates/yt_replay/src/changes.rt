@@ -1,11 +1,11 @@
 //! The first of an update's reads that has another value now.
-ghost use Rattle.std.specs.Prelude.{◌≡◌, ◌≤◌, map, take, length, IfOk};
-ghost use Rattle.std.specs.Option.{option_map};
-ghost use Rattle.yt_base.specs.Meanings.{change_of, heading_of, rule_of};
+ghost use Rattle.std.specs.Prelude.{◌≡◌, map, take, IfOk};
+ghost use Rattle.yt_base.specs.Contents.{rules_in};
+ghost use Rattle.yt_base.specs.Meanings.{change_of, heading_of};
 ghost use Rattle.yt_model.specs.Queries.{value};
 ghost use Rattle.yt_model.specs.Violations.{Caused};
-ghost use Rattle.yt_query.specs.Meanings.{read_of, query_of, reply_of};
-ghost use Rattle.yt_replay.specs.Changes.{change_meant, first_changed};
+ghost use Rattle.yt_query.specs.Meanings.{query_of, reply_of};
+ghost use Rattle.yt_replay.specs.Changes.{IsFirstChange};
 
 use crate::relations::is_met;
 use std::alloc::Global;
@@ -32,8 +32,8 @@ pub(crate) fn changed_read(
     below: &IndexedFacts,
     relations: &[u16],
 ) -> Result<Option<Change>, Memory>
-    ensures first { IfOk result (λ found. option_map change_meant found ≡
-        first_changed (map rule_of mappings.now.items) below.now relations.now seat.now) }
+    ensures first { IfOk result
+        (IsFirstChange (rules_in mappings.now) relations.now below.now seat.now) }
 {
     let own = seat.program.own().as_slice();
     let direction = seat.program.direction();
@@ -66,7 +66,7 @@ fn value_now(
     direction: Direction,
 ) -> Result<Answer, Memory>
     ensures value { IfOk result (λ answer. reply_of answer ≡
-        value (map rule_of mappings.now.items) (query_of read.now.query) below.now
+        value (rules_in mappings.now) (query_of read.now.query) below.now
         (take read.now.own (map change_of own.now)) (Caused (heading_of direction))) }
 {
     let mut view = View::new(alloc, below);

@@ -1,7 +1,8 @@
 //! The updates that are in conflict with the writes of a step.
-ghost use Rattle.std.specs.Prelude.{◌≡◌, map, IfOk, OnOk};
-ghost use Rattle.yt_entries.specs.Meanings.{cause_of};
-ghost use Rattle.yt_replay.specs.Causes.{AreConflicts, IsConflictOf};
+ghost use Rattle.std.specs.Prelude.{◌≡◌, ◌≤◌, drop, length, IfOk, OnOk};
+ghost use Rattle.yt_base.specs.Contents.{rules_in};
+ghost use Rattle.yt_replay.specs.Causes.{AreConflicts, AreUnmet, IsConflictOf, MayConflict};
+ghost use Rattle.yt_replay.specs.Levels.{top};
 
 use crate::changes::changed_read;
 use crate::levels::Levels;
@@ -28,7 +29,8 @@ pub(crate) fn conflicts(
     writer: u32,
     relations: &[u16],
 ) -> Result<CauseList, Memory>
-    ensures causes { IfOk result (AreConflicts scene writer relations levels.old upper.now) }
+    ensures causes { IfOk result (λ causes. AreConflicts (rules_in scene.entry.mappings.now)
+        scene.entry.committed writer relations.now (top levels.old) upper.now causes.items) }
     ensures levels { OnOk result (levels.new ≡ levels.old) }
 {
     let height = levels.height();
@@ -52,7 +54,8 @@ fn conflict_of(
     writer: u32,
     relations: &[u16],
 ) -> Result<Option<Cause>, Memory>
-    ensures cause { IfOk result (IsConflictOf scene writer relations levels.now seat.now) }
+    ensures cause { IfOk result (IsConflictOf (rules_in scene.entry.mappings.now)
+        scene.entry.committed writer relations.now (top levels.now) seat.now) }
 {
     let reader = seat.number();
     if !seat.is_live(scene.committed, reader) {
@@ -74,7 +77,8 @@ fn conflict_of(
 // relations.
 fn reach(upper: &[Seat], scene: Scene<'_>, relations: &[u16]) -> usize
     ensures within { result ≤ length upper.now }
-    ensures none { AreUnmet scene relations (drop result upper.now) }
+    ensures none { AreUnmet (rules_in scene.entry.mappings.now) scene.entry.committed relations.now
+        (drop result upper.now) }
 {
     let mut reach = 0;
     let mut place = 0;
@@ -89,7 +93,8 @@ fn reach(upper: &[Seat], scene: Scene<'_>, relations: &[u16]) -> usize
 
 // Whether the update is live, and a read of it mentions one of the relations.
 fn may_conflict(seat: &Seat, scene: Scene<'_>, relations: &[u16]) -> bool
-    ensures met { result ≡ may_conflict scene relations seat.now }
+    ensures met { MayConflict (rules_in scene.entry.mappings.now) scene.entry.committed
+        relations.now seat.now result }
 {
     seat.is_live(scene.committed, seat.number())
         && seat

@@ -2,11 +2,11 @@
 ghost use Rattle.std.specs.Prelude.{◌≡◌, ◌+◌, ◌-◌, ◌≤◌, ◌∷◌, [], suc, length, drop, map, OnOk};
 ghost use Rattle.yt_base.specs.Meanings.{change_of};
 ghost use Rattle.yt_model.specs.Repository.{apply, change};
-ghost use Rattle.yt_replay.specs.Levels.{raised, top};
+ghost use Rattle.yt_replay.specs.Levels.{LeadsBack, raised, top};
 
 use std::alloc::Global;
 use std::marker::Model;
-use yt_base::{Memory, TryCopy, Write, WriteList};
+use yt_base::{Facts, Memory, TryCopy, Write, WriteList};
 use yt_facts::IndexedFacts;
 
 /// A set of tuples with what lay under it: each level is the one below it with writes made. Contracts see the levels from
@@ -57,7 +57,7 @@ impl Levels {
     /// Puts one more level above the others: the uppermost one with these writes made. It is refused only for want of
     /// memory.
     pub fn rise(&mut self, alloc: Global, writes: &[Write]) -> Result<(), Memory>
-        ensures raised { OnOk result (self.new ≡ raised (map change_of writes.now) self.old) }
+        ensures raised { OnOk result (self.new ≡ raised self.old (map change_of writes.now)) }
     {
         let mut back = WriteList::new(alloc);
         for write in writes {
@@ -102,7 +102,10 @@ fn make(
     back: &mut WriteList,
 ) -> Result<(), Memory>
     ensures made { OnOk result (facts.new ≡ change facts.old (change_of write.now)) }
+    ensures back { OnOk result (LeadsBack facts.old back.old.items facts.new back.new.items) }
 {
+    // The set tells that it is in order.
+    let _ = facts.beyond(None);
     match write {
         Write::Insert(tuple) => {
             if facts.insert(tuple.copy(alloc)?)? {

@@ -1,6 +1,10 @@
 //! The beginning of a replay, and what admissions, deliveries and answers do.
-ghost use Rattle.std.specs.Prelude.{IfOk};
-ghost use Rattle.yt_replay.specs.Replays.{HasMade, IsBegun};
+ghost use Rattle.std.specs.Prelude.{◌≤◌, ◌<◌, length, IfOk};
+ghost use Rattle.yt_grammar.specs.Validity.{IsSession};
+ghost use Rattle.yt_session.specs.Meanings.{session_of};
+ghost use Rattle.yt_seats.specs.Settings.{settings_of};
+ghost use Rattle.yt_replay.specs.declared.events.Event.TheVariants as events;
+ghost use Rattle.yt_replay.specs.Replays.{HasMade, HasStandingAt, IsBegun};
 
 use crate::levels::Levels;
 use crate::replays::Replay;
@@ -36,7 +40,7 @@ impl<'s> Replay<'s> {
 
     // Admits the next update, where one more was handed in.
     pub(crate) fn admit(&mut self, alloc: Global) -> Result<Option<Entry>, Memory>
-        ensures made { IfOk result (HasMade Event.Admits self.old self.new) }
+        ensures made { IfOk result (HasMade events.Admits self.old self.new) }
     {
         let place = self.seats.len();
         let Some(next) = self.handed.get(place) else {
@@ -50,7 +54,7 @@ impl<'s> Replay<'s> {
 
     // Delivers the first recorded answer to the update, where it is pending and has one.
     pub(crate) fn deliver(&mut self, alloc: Global, update: u32) -> Result<Option<Entry>, Memory>
-        ensures made { IfOk result (HasMade (Event.Delivers update) self.old self.new) }
+        ensures made { IfOk result (HasMade (events.Delivers update) self.old self.new) }
     {
         let Some(place) = self.place_of(update) else {
             return Ok(None);
@@ -73,7 +77,7 @@ impl<'s> Replay<'s> {
         update: u32,
         choice: Choice,
     ) -> Result<Option<Entry>, Memory>
-        ensures made { IfOk result (HasMade (Event.Answers update choice) self.old self.new) }
+        ensures made { IfOk result (HasMade (events.Answers update choice) self.old self.new) }
     {
         let Some(place) = self.place_of(update) else {
             return Ok(None);

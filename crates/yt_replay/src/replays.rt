@@ -1,6 +1,6 @@
 //! A replay, and what it tells.
-ghost use Rattle.std.specs.Prelude.{◌≡◌, IfOk};
-ghost use Rattle.yt_replay.specs.Replays.{HasMade, HasCount, IsQuietReplay};
+ghost use Rattle.std.specs.Prelude.{◌≡◌, ◌≤◌, length, IfOk, OnOk};
+ghost use Rattle.yt_replay.specs.Replays.{HasMade, HasCount, IsAt, IsQuietReplay, IsWholeReplay, place_in};
 
 use crate::events::Event;
 use crate::levels::Levels;
@@ -33,7 +33,7 @@ impl<'s> Replay<'s> {
 
     /// Whether all updates that were handed in are admitted. It takes no memory.
     pub fn is_whole(&self) -> bool
-        ensures whole { result ≡ is_whole self.now }
+        ensures whole { IsWholeReplay self.now result }
     {
         self.seats.len() == self.handed.len()
     }
@@ -61,7 +61,7 @@ impl<'s> Replay<'s> {
 
     // The place of the update of this number, where there is one.
     pub(crate) fn place_of(&self, update: u32) -> Option<usize>
-        ensures place { HasPlace self.now update result }
+        ensures place { result ≡ place_in self.now.seats.items update }
     {
         if 0 < update && update as usize <= self.seats.len() {
             Some(update as usize - 1)
@@ -72,6 +72,7 @@ impl<'s> Replay<'s> {
 
     // Goes to where the uppermost level lies below the update at the place.
     pub(crate) fn go_to(&mut self, alloc: Global, place: usize) -> Result<(), Memory>
+        requires within { place ≤ length self.old.seats.items }
         ensures there { OnOk result (IsAt place self.old self.new) }
     {
         while self.levels.height() > place {

@@ -1,5 +1,6 @@
 //! Restarts of those that an event aborts.
-ghost use Rattle.std.specs.Prelude.{OnOk};
+ghost use Rattle.std.specs.Prelude.{◌≤◌, length, OnOk};
+ghost use Rattle.yt_seats.specs.Seatings.{AreFrom};
 ghost use Rattle.yt_replay.specs.Restarts.{AllHaveOneMore, HaveRestarted};
 
 use crate::cascades::is_named;
@@ -15,8 +16,11 @@ pub(crate) fn restart_named(
     from: usize,
     causes: &CauseList,
 ) -> Result<(), Memory>
+    requires place { from ≤ length seats.old }
+    requires numbers { AreFrom 1 seats.old }
     requires more { AllHaveOneMore seats.old }
-    ensures restarted { OnOk result (HaveRestarted from causes.now seats.old seats.new) }
+    ensures restarted { OnOk result (HaveRestarted from causes.now.items seats.old seats.new) }
+    ensures numbers { OnOk result (AreFrom 1 seats.new) }
 {
     if causes.is_empty() {
         return Ok(());

@@ -1,6 +1,8 @@
 //! Steps.
-ghost use Rattle.std.specs.Prelude.{IfOk};
-ghost use Rattle.yt_replay.specs.Replays.{HasMade};
+ghost use Rattle.std.specs.Prelude.{◌≡◌, ◌<◌, map, length, IfOk, OnOk};
+ghost use Rattle.yt_base.specs.Meanings.{change_of};
+ghost use Rattle.yt_replay.specs.declared.events.Event.TheVariants as events;
+ghost use Rattle.yt_replay.specs.Replays.{HasMade, Installs, IsCauseOfStep, IsPlanAt, KeepsLevels};
 
 use crate::causes::{causes_of_loss, causes_of_writes};
 use crate::conflicts::Scene;
@@ -16,7 +18,7 @@ use yt_seats::{committed, has_spent, shown};
 impl<'s> Replay<'s> {
     // Makes the next step of the update, where it is ready.
     pub(crate) fn step(&mut self, alloc: Global, update: u32) -> Result<Option<Entry>, Memory>
-        ensures made { IfOk result (HasMade (Event.Steps update) self.old self.new) }
+        ensures made { IfOk result (HasMade (events.Steps update) self.old self.new) }
     {
         let Some(place) = self.place_of(update) else {
             return Ok(None);
@@ -32,7 +34,10 @@ impl<'s> Replay<'s> {
     }
 
     // The next step of the update at the place, below which the uppermost level lies.
-    fn plan(&self, alloc: Global, place: usize) -> Result<Plan, Memory> {
+    fn plan(&self, alloc: Global, place: usize) -> Result<Plan, Memory>
+        requires within { place < length self.now.seats.items }
+        ensures planned { IfOk result (IsPlanAt self.now place) }
+    {
         let seat = &self.seats[place];
         let below = Overlay::new(alloc, self.levels.facts());
         let mut with = Overlay::new(alloc, self.levels.facts());
@@ -55,7 +60,12 @@ impl<'s> Replay<'s> {
         place: usize,
         before: u32,
         plan: &Plan,
-    ) -> Result<CauseList, Memory> {
+    ) -> Result<CauseList, Memory>
+        requires within { place < length self.old.seats.items }
+        ensures causes { IfOk result (λ causes.
+            IsCauseOfStep self.old place before plan.now causes.items) }
+        ensures levels { OnOk result (KeepsLevels self.old self.new) }
+    {
         let scene = Scene {
             mappings: self.mappings.list(),
             committed: before,
@@ -81,7 +91,10 @@ impl<'s> Replay<'s> {
         place: usize,
         plan: Plan,
         causes: CauseList,
-    ) -> Result<Option<Entry>, Memory> {
+    ) -> Result<Option<Entry>, Memory>
+        requires within { place < length self.old.seats.items }
+        ensures made { IfOk result (Installs self.old place plan causes self.new) }
+    {
         let seat = &mut self.seats[place];
         let update = seat.number();
         let attempt = seat.program.attempt();

@@ -1,6 +1,7 @@
 //! Withdrawals.
-ghost use Rattle.std.specs.Prelude.{IfOk};
-ghost use Rattle.yt_replay.specs.Replays.{HasMade};
+ghost use Rattle.std.specs.Prelude.{◌<◌, length, IfOk, OnOk};
+ghost use Rattle.yt_replay.specs.declared.events.Event.TheVariants as events;
+ghost use Rattle.yt_replay.specs.Replays.{HasMade, IsCauseOfWithdrawal, KeepsLevels};
 
 use crate::causes::causes_of_loss;
 use crate::conflicts::Scene;
@@ -14,7 +15,7 @@ use yt_seats::committed;
 impl<'s> Replay<'s> {
     // Withdraws the update, where it is neither committed nor withdrawn.
     pub(crate) fn withdraw(&mut self, alloc: Global, update: u32) -> Result<Option<Entry>, Memory>
-        ensures made { IfOk result (HasMade (Event.Withdraws update) self.old self.new) }
+        ensures made { IfOk result (HasMade (events.Withdraws update) self.old self.new) }
     {
         let Some(place) = self.place_of(update) else {
             return Ok(None);
@@ -40,7 +41,12 @@ impl<'s> Replay<'s> {
         alloc: Global,
         place: usize,
         before: u32,
-    ) -> Result<CauseList, Memory> {
+    ) -> Result<CauseList, Memory>
+        requires within { place < length self.old.seats.items }
+        ensures causes { IfOk result (λ causes.
+            IsCauseOfWithdrawal self.old place before causes.items) }
+        ensures levels { OnOk result (KeepsLevels self.old self.new) }
+    {
         let scene = Scene {
             mappings: self.mappings.list(),
             committed: before,

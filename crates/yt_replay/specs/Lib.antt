@@ -1,0 +1,5 @@
+pub mod Levels
+pub mod Changes
+pub mod Causes
+pub mod Restarts
+pub mod Replays
