@@ -43,7 +43,7 @@ impl Member {
 
 /// What goes up through the updates: how dependence is tested, the members found so far, and all relations of their writes.
 #[derive(Drop)]
-struct Cascade<'a> {
+struct Losses<'a> {
     scene: Scene<'a>,
     deps: Deps,
     members: Vec<Member>,
@@ -72,9 +72,9 @@ pub(crate) fn cascade(
     if conflicts.is_empty() && member.is_none() {
         return Ok(causes);
     }
-    let mut cascade = Cascade::begun(alloc, scene, deps, member)?;
+    let mut losses = Losses::begun(alloc, scene, deps, member)?;
     for seat in &upper[..reach(upper)] {
-        cascade.pass(alloc, levels, seat, conflicts, &mut causes)?;
+        losses.pass(alloc, levels, seat, conflicts, &mut causes)?;
     }
     levels.sink_to(height)?;
     Ok(causes)
@@ -111,24 +111,24 @@ fn reader(cause: &Cause) -> u32 {
     }
 }
 
-impl<'a> Cascade<'a> {
+impl<'a> Losses<'a> {
     // With this member, if there is one.
     fn begun(
         alloc: Global,
         scene: Scene<'a>,
         deps: Deps,
         member: Option<Member>,
-    ) -> Result<Cascade<'a>, Memory> {
-        let mut cascade = Cascade {
+    ) -> Result<Losses<'a>, Memory> {
+        let mut losses = Losses {
             scene,
             deps,
             members: Vec::new(alloc),
             relations: Vec::new(alloc),
         };
         if let Some(first) = member {
-            cascade.join(first)?;
+            losses.join(first)?;
         }
-        Ok(cascade)
+        Ok(losses)
     }
 
     // One more update whose trail goes.
