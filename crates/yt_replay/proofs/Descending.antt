@@ -1,7 +1,7 @@
 -- Levels, as they are kept: the uppermost one, and what leads down from it.
-use Rattle.std.proofs.Common.{◌≡◌, ◌∙◌, ap, refl, sym, ℕ, suc, List, [], ◌∷◌, ◌++◌, map, length}
+use Rattle.std.proofs.Common.{◌≡◌, ◌∙◌, ap, refl, sym, ℕ, suc, List, [], ◌∷◌, ◌++◌, map, length, drop}
 use Rattle.std.specs.Prelude.{reverse}
-use Rattle.std.proofs.lemmas.List.{reverse-append, length-reverse, length-map, map-append}
+use Rattle.std.proofs.lemmas.List.{reverse-append, length-reverse}
 use Rattle.yt_model.specs.Values.{Fact}
 use Rattle.yt_model.specs.Repository.{Change, apply, change}
 use Rattle.yt_replay.specs.Levels.{descended, top, raised}
@@ -28,3 +28,15 @@ one_level_more D E made wss ws e b =
     ap (descended E) (reverse-append wss (ws ∷ []))
     ∙ ((λ i. E ∷ descended (b i) (reverse wss))
     ∙ (λ i. (e ∙ ap (λ (F : List Fact). apply F made) (sym (top_descended D (reverse wss)))) i ∷ descended D (reverse wss)))
+
+-- So many are kept.
+pub many_kept : (D : List Fact) (wss : List (List Change)) → length (descended D (reverse wss)) ≡ suc (length wss)
+many_kept D wss = many_descended D (reverse wss) ∙ ap suc (length-reverse wss)
+
+-- Without the last list of writes the uppermost one goes, and the set is what that makes of it.
+pub one_level_less : (D E : List Fact) (wss vss : List (List Change)) (ws : List Change)
+    → wss ≡ vss ++ ws ∷ [] → E ≡ apply D (reverse ws)
+    → descended E (reverse vss) ≡ drop 1 (descended D (reverse wss))
+one_level_less D E wss vss ws e f =
+    (λ i. descended (f i) (reverse vss))
+    ∙ (λ i. drop 1 (descended D ((sym (reverse-append vss (ws ∷ [])) ∙ ap reverse (sym e)) i)))

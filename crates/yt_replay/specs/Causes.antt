@@ -16,6 +16,7 @@ use Rattle.yt_steps.specs.Chase.{AgreeOn, caused_chase, relation_of}
 use Rattle.yt_seats.specs.Seatings.{AreFrom, StandsAt, update_of, updates_of}
 use Rattle.yt_seats.specs.declared.seats.Seat.{Seat}
 use Rattle.yt_replay.specs.Changes.{meets, met_change}
+use Rattle.yt_replay.specs.Relations.{AreRelationsOf}
 use Rattle.yt_replay.specs.declared.cascades.Member.{Member as MemberOfProgram}
 
 -- The relation is none of these.
@@ -91,7 +92,7 @@ pub record AreValidBut (ms : List Rule) (B : ℕ) (c n : ℕ) (firsts : List ℕ
 -- The member's number, and the relations of its trail.
 pub record IsMember (n : ℕ) (ws : List Change) (m : MemberOfProgram) : Type 0 where
   pub number : m.number ≡ n
-  pub relations : (p : ℕ → Bool) → list_any p m.relations.items ≡ list_any (λ w. p (relation_of w)) ws
+  pub relations : AreRelationsOf ws m.relations.items
 
 -- It is this member, or there is none on either side.
 abbrev pub IsMemberIf : List (Member (caused_chase [] 0)) → Option MemberOfProgram → Type 0

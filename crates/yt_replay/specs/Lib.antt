@@ -1,3 +1,4 @@
+pub mod Relations
 pub mod Levels
 pub mod Changes
 pub mod Causes

@@ -10,7 +10,7 @@ ghost use Rattle.yt_replay.specs.Levels.{top};
 use crate::changes::changed_read;
 use crate::conflicts::Scene;
 use crate::levels::Levels;
-use crate::relations::{is_met, relations_of};
+use crate::relations::{is_met, put_relation, relations_of};
 use std::alloc::Global;
 use yt_base::{MappingList, Memory, Write};
 use yt_entries::{Cause, CauseList};
@@ -134,9 +134,7 @@ impl<'a> Losses<'a> {
     // One more update whose trail goes.
     fn join(&mut self, member: Member) -> Result<(), Memory> {
         for relation in &member.relations {
-            if !self.relations.contains(relation) {
-                self.relations.push(*relation)?;
-            }
+            put_relation(&mut self.relations, *relation)?;
         }
         self.members.push(member)?;
         Ok(())

@@ -1,5 +1,5 @@
 //! A set of tuples that goes up and down over writes.
-ghost use Rattle.std.specs.Prelude.{◌≡◌, ◌+◌, ◌-◌, ◌≤◌, ◌∷◌, [], suc, length, drop, map, OnOk};
+ghost use Rattle.std.specs.Prelude.{◌≡◌, ◌+◌, ◌-◌, ◌≤◌, ◌∷◌, [], suc, length, drop, map, reverse, IfOk, OnOk};
 ghost use Rattle.yt_base.specs.Meanings.{change_of};
 ghost use Rattle.yt_model.specs.Repository.{apply, change};
 ghost use Rattle.yt_replay.specs.Levels.{LeadsBack, raised, top};
@@ -59,10 +59,7 @@ impl Levels {
     pub fn rise(&mut self, alloc: Global, writes: &[Write]) -> Result<(), Memory>
         ensures raised { OnOk result (self.new ≡ raised self.old (map change_of writes.now)) }
     {
-        let mut back = WriteList::new(alloc);
-        for write in writes {
-            make(alloc, &mut self.facts, write, &mut back)?;
-        }
+        let back = make_all(alloc, &mut self.facts, writes)?;
         self.back.push(back)?;
         Ok(())
     }
@@ -72,12 +69,10 @@ impl Levels {
         requires above { 2 ≤ length self.old }
         ensures sunk { OnOk result (self.new ≡ drop 1 self.old) }
     {
-        let Some(mut back) = self.back.pop() else {
+        let Some(back) = self.back.pop() else {
             return Ok(());
         };
-        while let Some(write) = back.pop() {
-            take_back(&mut self.facts, write)?;
-        }
+        take_all_back(&mut self.facts, back)?;
         Ok(())
     }
 
@@ -92,6 +87,35 @@ impl Levels {
         }
         Ok(())
     }
+}
+
+// Makes the writes in turn, and gives those that take them back, the last of them first to be made. It is refused only for
+// want of memory.
+fn make_all(
+    alloc: Global,
+    facts: &mut IndexedFacts,
+    writes: &[Write],
+) -> Result<WriteList, Memory>
+    ensures made { OnOk result (facts.new ≡ apply facts.old (map change_of writes.now)) }
+    ensures back { IfOk result (λ back.
+        apply facts.new (reverse (map change_of back.items)) ≡ facts.old) }
+{
+    let mut back = WriteList::new(alloc);
+    for write in writes {
+        make(alloc, facts, write, &mut back)?;
+    }
+    Ok(back)
+}
+
+// Makes the writes, the last of them first. It is refused only for want of memory.
+fn take_all_back(facts: &mut IndexedFacts, back: WriteList) -> Result<(), Memory>
+    ensures made { OnOk result (facts.new ≡ apply facts.old (reverse (map change_of back.items))) }
+{
+    let mut left = back;
+    while let Some(write) = left.pop() {
+        take_back(facts, write)?;
+    }
+    Ok(())
 }
 
 // Makes the write, and puts the one that takes it back behind the others, if it changes anything.

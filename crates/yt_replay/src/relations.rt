@@ -1,11 +1,12 @@
 //! The relations of writes, and the queries that mention one of them.
-ghost use Rattle.std.specs.Prelude.{◌≡◌, ℕ, Bool, map, IfOk};
+ghost use Rattle.std.specs.Prelude.{◌≡◌, map, IfOk, OnOk};
 ghost use Rattle.std.specs.List.{list_any};
 ghost use Rattle.yt_base.specs.Contents.{rules_in};
 ghost use Rattle.yt_base.specs.Meanings.{change_of};
 ghost use Rattle.yt_model.specs.Mentions.{mentions as mentions_lem};
 ghost use Rattle.yt_query.specs.Meanings.{query_of};
 ghost use Rattle.yt_steps.specs.Chase.{relation_of as relation_of_lem};
+ghost use Rattle.yt_replay.specs.Relations.{AreRelationsOf, HasOneMore};
 
 use std::alloc::Global;
 use yt_base::{MappingList, Memory, Write};
@@ -13,18 +14,24 @@ use yt_query::{Query, mentions};
 
 /// The relations of which the writes are, each once. It is refused only for want of memory.
 pub(crate) fn relations_of(alloc: Global, writes: &[Write]) -> Result<Vec<u16>, Memory>
-    ensures same { IfOk result (λ relations. (p : ℕ → Bool) →
-        list_any p relations.items
-        ≡ list_any (λ w. p (relation_of_lem w)) (map change_of writes.now)) }
+    ensures same { IfOk result (λ relations.
+        AreRelationsOf (map change_of writes.now) relations.items) }
 {
     let mut relations = Vec::new(alloc);
     for write in writes {
-        let relation = relation_of(write);
-        if !relations.contains(&relation) {
-            relations.push(relation)?;
-        }
+        put_relation(&mut relations, relation_of(write))?;
     }
     Ok(relations)
+}
+
+/// Puts the relation behind the others, where it is none of them. It is refused only for want of memory.
+pub(crate) fn put_relation(relations: &mut Vec<u16>, relation: u16) -> Result<(), Memory>
+    ensures more { OnOk result (HasOneMore relations.old.items relation relations.new.items) }
+{
+    if !relations.contains(&relation) {
+        relations.push(relation)?;
+    }
+    Ok(())
 }
 
 // The relation of the tuple that is written.
