@@ -30,3 +30,11 @@ pub one_again : (test : ℕ → Bool) (r : ℕ) → ((k : ℕ) → test k ≡ tr
     → list_any p ks ≡ (list_any p ks || p r)
 one_again test r f p [] e = absurd e
 one_again test r f p (k ∷ ks) e = here test r f p k ks (one_again test r f p ks) (test k) refl e
+
+-- One of what is left goes over to those that were gathered.
+pub goes_over : (a b c d : Bool) → b ≡ (a || c) → (b || d) ≡ (a || (c || d))
+goes_over a b c d e = ap (λ x. x || d) e ∙ sym (or_join a c d)
+
+-- Nothing is left.
+pub none_left : (a : Bool) → (a || false) ≡ a
+none_left = or_none

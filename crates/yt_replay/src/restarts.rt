@@ -1,7 +1,9 @@
 //! Restarts of those that an event aborts.
 ghost use Rattle.std.specs.Prelude.{◌≤◌, length, OnOk};
 ghost use Rattle.yt_seats.specs.Seatings.{AreFrom};
-ghost use Rattle.yt_replay.specs.Restarts.{AllHaveOneMore, HaveRestarted};
+ghost use Rattle.yt_seats.specs.Events.{KeepsPlace};
+ghost use Rattle.yt_seats.specs.Renewals.{HasOneMore};
+ghost use Rattle.yt_replay.specs.Restarts.{AllHaveOneMore, HasRestartedIf, HaveRestarted};
 
 use crate::cascades::is_named;
 use std::alloc::Global;
@@ -25,10 +27,20 @@ pub(crate) fn restart_named(
     if causes.is_empty() {
         return Ok(());
     }
-    for seat in &mut seats[from..] {
-        if is_named(causes, seat.number()) {
-            seat.restart(alloc)?;
-        }
+    for place in from..seats.len() {
+        restart_if_named(alloc, &mut seats[place], causes)?;
+    }
+    Ok(())
+}
+
+// Restarts the update where one of the causes is for it.
+fn restart_if_named(alloc: Global, seat: &mut Seat, causes: &CauseList) -> Result<(), Memory>
+    requires more { HasOneMore seat.old }
+    ensures restarted { OnOk result (HasRestartedIf causes.now.items seat.old seat.new) }
+    ensures place { OnOk result (KeepsPlace seat.old seat.new) }
+{
+    if is_named(causes, seat.number()) {
+        return seat.restart(alloc);
     }
     Ok(())
 }
