@@ -63,7 +63,7 @@ pub(crate) fn cascade(
     member: Option<Member>,
 ) -> Result<CauseList, Memory>
     ensures causes { IfOk result (λ causes. AreDependences (rules_in scene.entry.mappings.now)
-        (deps_of deps) scene.entry.committed (readers_in conflicts.now.items) member.entry
+        (deps_of deps) scene.entry.committed (readers_in conflicts.now.items) member
         (top levels.old) upper.now causes.items) }
     ensures levels { OnOk result (levels.new ≡ levels.old) }
 {
