@@ -91,11 +91,7 @@ impl Levels {
 
 // Makes the writes in turn, and gives those that take them back, the last of them first to be made. It is refused only for
 // want of memory.
-fn make_all(
-    alloc: Global,
-    facts: &mut IndexedFacts,
-    writes: &[Write],
-) -> Result<WriteList, Memory>
+fn make_all(alloc: Global, facts: &mut IndexedFacts, writes: &[Write]) -> Result<WriteList, Memory>
     ensures made { OnOk result (facts.new ≡ apply facts.old (map change_of writes.now)) }
     ensures back { IfOk result (λ back.
         apply facts.new (reverse (map change_of back.items)) ≡ facts.old) }
