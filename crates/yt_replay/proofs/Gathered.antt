@@ -1,5 +1,5 @@
 -- Numbers gathered, each once.
-use Rattle.std.proofs.Common.{◌≡◌, ◌∙◌, ap, refl, sym, ℕ, Bool, true, false, ◌||◌, List, [], ◌∷◌, ◌++◌}
+use Rattle.std.proofs.Common.{◌≡◌, ◌∙◌, ap, refl, sym, ℕ, Bool, true, false, cond, ◌||◌, List, [], ◌∷◌, ◌++◌}
 use Rattle.std.specs.List.{list_any}
 
 or_none : (b : Bool) → (b || false) ≡ b
@@ -28,7 +28,7 @@ here test r f p k ks rest false t e = ap (λ b. p k || b) (rest e) ∙ or_join (
 -- What is among them already is none more.
 pub one_again : (test : ℕ → Bool) (r : ℕ) → ((k : ℕ) → test k ≡ true → k ≡ r) → (p : ℕ → Bool) (ks : List ℕ) → list_any test ks ≡ true
     → list_any p ks ≡ (list_any p ks || p r)
-one_again test r f p [] e = absurd e
+one_again test r f p [] e = ap (λ b. cond b (p r) false) e
 one_again test r f p (k ∷ ks) e = here test r f p k ks (one_again test r f p ks) (test k) refl e
 
 -- One of what is left goes over to those that were gathered.
