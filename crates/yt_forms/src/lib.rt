@@ -15,6 +15,6 @@ pub use crate::faults::FormRefusal;
 pub use crate::mappings::right_at;
 pub use crate::parts::{colon_at, name_at, open_at};
 pub use crate::raw::{RawChoice, RawOperation, RawStatement, Section};
-pub use crate::statements::{statement_at, whole_fact};
+pub use crate::statements::{choice_at, statement_at, whole_fact};
 pub use crate::words::{Quoted, RawFact, RawFactList, RawMapping, Word};
 pub use yt_grammar::Wanted;

@@ -163,8 +163,9 @@ fn update_at(alloc: Global, format: u8, words: Words<'_>) -> Result<RawStatement
     Ok(RawStatement::Update(label, curator, operation))
 }
 
+/// The choice that the words are, as they may follow the label of an answer.
 #[tactic(auto, unfolding(yt_grammar::specs::Forms::choice_at))]
-fn choice_at(alloc: Global, words: Words<'_>) -> Result<RawChoice, FormRefusal>
+pub fn choice_at(alloc: Global, words: Words<'_>) -> Result<RawChoice, FormRefusal>
     ensures { Gives choice_of result (choice_at (words_of words.entry)) }
 {
     let Some((Word::Name(name), rest)) = words.split_first() else {
