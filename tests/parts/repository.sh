@@ -16,6 +16,7 @@ check 'each source and definition, tests aside, opens with a sentence on its job
   "$(printf '%s\n' "$sources" | grep -v '/proofs/.*/\(Answers\|Invariants\|Proof\)\.antt$' | grep -v '/Lib\.antt$' | grep -v '/src/tests\.rt$' | while read -r file; do
        head -n 1 "$file" | grep -qE '^(//|--)' || echo "$file"
      done)"
+check 'each must-fail edit can be made' "$(python3 tests/edits_fit.py 2>&1)"
 
 # The stored cases of violations are those that the brute-force script writes.
 cp crates/yt_violation_table/stdin crates/yt_violation_table/stdout "$stored"
