@@ -11,6 +11,10 @@ check 'the blocks of FORMATS are run, and write what they show' "$(tests/pages/b
 check 'each example in the tables of faults of FORMATS is told so' "$(tests/pages/faults.py "$program" 2>&1)"
 check 'the blocks of the travel example are run, and write what they show' "$(tests/pages/blocks.py examples/travel/README.md "$program" 2>&1)"
 check 'the blocks of the journal example are run, and write what they show' "$(tests/pages/blocks.py examples/journal/README.md "$program" 2>&1)"
+check 'the blocks of the example of two curators who collide are run, and write what they show' \
+  "$(tests/pages/blocks.py examples/collision/README.md "$program" 2>&1)"
+check 'the trace of two curators who collide is one that the reference takes' \
+  "$(diff <(cat examples/collision/oslo.session examples/collision/oslo.trace | (cd tests && python3 -m oracle audit)) <(echo 'yes entries 10 quiet') 2>&1)"
 check 'the example of travel data' \
   "$("$program" run < examples/travel/travel.session 2>&1 | diff examples/travel/travel.result - 2>&1)"
 check 'the must-fail edit that CONTRIBUTING shows is there' \

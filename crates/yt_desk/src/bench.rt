@@ -3,10 +3,10 @@
 use crate::board::Board;
 use crate::cores::Core;
 use crate::desk::Desk;
-use crate::tickets::{Next, Ticket};
+use crate::tickets::{Finished, Next, Ticket};
 use std::alloc::AllocError;
 use std::sync::Wait;
-use yt_gate::{Bench, Offer};
+use yt_gate::{Bench, Offer, Received};
 use yt_stamp::Seat;
 
 impl<C: Core> Bench for Desk<C> {
@@ -80,9 +80,10 @@ impl<C: Core> Bench for Desk<C> {
         seat: &mut Seat<Board<C>>,
         ticket: Ticket<C::Snapshot>,
         plan: C::Plan,
-    ) -> Result<(), (Ticket<C::Snapshot>, AllocError)> {
+    ) -> Result<Received, (Ticket<C::Snapshot>, AllocError)> {
         match Desk::finish(self, rt, seat, ticket, plan) {
-            Ok(_) => Ok(()),
+            Ok(Finished::Stepped { entry: _ }) => Ok(Received::InTime),
+            Ok(Finished::Stale { entry: _ }) => Ok(Received::TooLate),
             Err((ticket, _)) => Err((ticket, AllocError)),
         }
     }

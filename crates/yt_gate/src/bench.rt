@@ -15,6 +15,14 @@ pub enum Offer<T> {
     Quiet,
 }
 
+/// How a bench received a plan. It only tells a worker whether going on at once is worth it.
+pub enum Received {
+    /// What the plan says was done.
+    InTime,
+    /// It was worked out from what has changed since, so nothing was done.
+    TooLate,
+}
+
 /// Work that several seats share.
 ///
 /// The meaning of a bench is given by members that exist in contracts alone. A seat keeps its lock and number, what it has seen only grows at its end, and each ticket that it was given is spent once, by `finish` or `give_back`.
@@ -84,14 +92,14 @@ pub trait Bench {
     fn evaluate(&self, ticket: &Self::Ticket) -> Result<Self::Plan, Memory>
         ensures plan { IfOk result (is_plan ticket.now) };
 
-    /// Hands the plan in, which spends the ticket. On `Memory` the ticket comes back and is out still.
+    /// Hands the plan in, which spends the ticket, and tells how it was received. On `Memory` the ticket comes back and is out still.
     fn finish<R: Wait>(
         &self,
         rt: &R,
         seat: &mut Self::Seat,
         ticket: Self::Ticket,
         plan: Self::Plan,
-    ) -> Result<(), (Self::Ticket, Memory)>
+    ) -> Result<Received, (Self::Ticket, Memory)>
         requires own { owns self.now seat.old }
         requires out { is_out self.now seat.old ticket }
         requires plan { is_plan ticket plan }

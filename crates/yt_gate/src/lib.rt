@@ -5,9 +5,10 @@
 
 mod bench;
 mod gates;
+mod rest;
 mod worker;
 
-pub use crate::bench::{Bench, Offer};
+pub use crate::bench::{Bench, Offer, Received};
 pub use crate::gates::{Gate, MeetGate, OpenGate};
 pub use crate::worker::work;
 pub use std::alloc::AllocError as Memory;

@@ -3,9 +3,9 @@ ghost use Rattle.std.specs.Prelude.{◌≡◌, ◌+◌, IfErr, OnOk};
 ghost use mathlib.Core.List.{IsPrefix};
 ghost use Rattle.yt_gate.specs.Offers.{tickets_spent};
 
-use crate::bench::{Bench, Offer};
+use crate::bench::{Bench, Offer, Received};
 use crate::gates::Gate;
-use crossbeam_utils::Backoff;
+use crate::rest::Rest;
 use std::alloc::AllocError as Memory;
 use std::sync::Wait;
 
@@ -24,29 +24,29 @@ pub fn work<B: Bench, G: Gate, R: Wait>(
     ensures all_spent { B.spent seat.new + B.given seat.old ≡ B.given seat.new + B.spent seat.old }
     ensures rests { OnOk result (B.rests seat.new) }
 {
-    let backoff = Backoff::new();
+    let mut rest = Rest::new();
     for _ in rt.forever() {
         match bench.offer(rt, seat)? {
-            Offer::Ticket(ticket) => {
-                serve(rt, bench, seat, gate, ticket)?;
-                backoff.reset();
-            }
-            Offer::Moved => backoff.reset(),
-            Offer::Idle => backoff.snooze(),
+            Offer::Ticket(ticket) => match serve(rt, bench, seat, gate, ticket)? {
+                Received::InTime => rest.end(),
+                Received::TooLate => rest.behind(rt),
+            },
+            Offer::Moved => rest.end(),
+            Offer::Idle => rest.idle(rt),
             Offer::Quiet => return Ok(()),
         }
     }
     unreachable!()
 }
 
-// One ticket's work, within the gate. The ticket is spent, whatever the answer.
+// One ticket's work, within the gate, and how its plan was received. The ticket is spent, whatever the answer.
 fn serve<B: Bench, G: Gate, R: Wait>(
     rt: &R,
     bench: &B,
     seat: &mut B::Seat,
     gate: &G,
     ticket: B::Ticket,
-) -> Result<(), Memory>
+) -> Result<Received, Memory>
     requires own { B.owns bench.now seat.old }
     requires out { B.is_out bench.now seat.old ticket }
     ensures own { B.owns bench.now seat.new }
@@ -59,9 +59,9 @@ fn serve<B: Bench, G: Gate, R: Wait>(
     let call = bench.number(&ticket);
     gate.enter(call);
     match complete(rt, bench, seat, ticket) {
-        Ok(()) => {
+        Ok(received) => {
             gate.leave(call);
-            Ok(())
+            Ok(received)
         }
         Err((ticket, memory)) => {
             bench.give_back(rt, seat, ticket);
@@ -76,7 +76,7 @@ fn complete<B: Bench, R: Wait>(
     bench: &B,
     seat: &mut B::Seat,
     ticket: B::Ticket,
-) -> Result<(), (B::Ticket, Memory)>
+) -> Result<Received, (B::Ticket, Memory)>
     requires own { B.owns bench.now seat.old }
     requires out { B.is_out bench.now seat.old ticket }
     ensures own { B.owns bench.now seat.new }

@@ -2,7 +2,7 @@
 use crate::board::{Board, Ticket};
 use std::alloc::AllocError;
 use std::sync::Wait;
-use yt_gate::{Bench, Offer};
+use yt_gate::{Bench, Offer, Received};
 use yt_stamp::{Seat, StampLock};
 
 /// A board behind a lock.
@@ -67,9 +67,9 @@ impl Bench for Desk {
         seat: &mut Seat<Board>,
         ticket: Ticket,
         _plan: u64,
-    ) -> Result<(), (Ticket, AllocError)> {
+    ) -> Result<Received, (Ticket, AllocError)> {
         self.give_back(rt, seat, ticket);
-        Ok(())
+        Ok(Received::InTime)
     }
 
     fn give_back<R: Wait>(&self, rt: &R, seat: &mut Seat<Board>, ticket: Ticket) {

@@ -1,0 +1,65 @@
+// How a worker passes the time when it gains nothing by going on at once.
+
+use crossbeam_utils::Backoff;
+use std::sync::Wait;
+use std::sync::atomic::AtomicU64;
+use std::time::Duration;
+
+// The shortest nap, in microseconds. Each further one is twice as long, up to a millisecond.
+const NAP_MICROS: u64 = 16;
+
+// How often a nap is doubled at most.
+const DOUBLINGS: u32 = 6;
+
+/// What a worker has done in vain since it last did something of use. A plan that comes too late, or a look for work where there is none,
+/// takes the lock from those who get on; so a worker that meets either again and again sleeps for ever longer, and lets them.
+#[derive(Drop)]
+pub(crate) struct Rest {
+    backoff: Backoff,
+    // Nobody rings it: a nap ends by its time.
+    bell: AtomicU64,
+    vain: u32,
+}
+
+impl Rest {
+    pub(crate) fn new() -> Rest {
+        Rest {
+            backoff: Backoff::new(),
+            bell: AtomicU64::new(0),
+            vain: 0,
+        }
+    }
+
+    /// Something was done, and there may be more to do at once.
+    pub(crate) fn end(&mut self) {
+        self.backoff.reset();
+        self.vain = 0;
+    }
+
+    /// A plan came too late. The first in a row costs no nap: the next may well be in time.
+    pub(crate) fn behind<R: Wait>(&mut self, rt: &R) {
+        if self.vain > 0 {
+            self.nap(rt);
+        }
+        self.count();
+    }
+
+    /// There was nothing to do.
+    pub(crate) fn idle<R: Wait>(&mut self, rt: &R) {
+        if self.backoff.is_completed() {
+            self.nap(rt);
+            self.count();
+        } else {
+            self.backoff.snooze();
+        }
+    }
+
+    fn count(&mut self) {
+        self.vain = self.vain.saturating_add(1).min(DOUBLINGS);
+    }
+
+    fn nap<R: Wait>(&self, rt: &R) {
+        let micros = NAP_MICROS << self.vain.min(DOUBLINGS);
+        self.bell.park_timeout(rt, 0, Duration::from_micros(micros));
+    }
+}
