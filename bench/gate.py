@@ -1,18 +1,20 @@
 #!/usr/bin/env python3
 """gate.py [LANES] [CRATE..]: what each crate costs the gate, in processor seconds: its proof with its tests, and its must-fail edits.
 
-Each crate, or each of those named with those below, is passed by `rt ci CRATE` in copies of the repository: in one without any edit,
-and then in one with its own edits alone. What lies below is passed first and kept by rt, so that a figure is of one crate alone; what rt
-kept of an earlier run counts as nothing, so a whole table wants a machine on which the files have not been passed yet. Crates with the
-longest chain above them go first, and edits fill what proofs leave free. The table goes to standard output as lines of Markdown, dearest
-first, with a line of sums; what fails is told on standard error, with the end of its log, and the status is then 1.
+Each crate, or each of those named with those below, is proved from nothing in a copy of the repository that has the libraries below it, as
+they were proved before, and nothing else that was kept; then its edits are tried in another such copy, as the gate does, by `rt must-fail`.
+So a figure is of one crate alone. Crates with the longest chain above them go first, and edits fill what proofs leave free. The table goes to
+standard output as lines of Markdown, dearest first, with a line of sums; what fails is told on standard error, with the end of its log,
+and the status is then 1.
 """
 import os
+import re
 import shutil
 import subprocess
 import sys
 import tempfile
 from concurrent.futures import FIRST_COMPLETED, ThreadPoolExecutor, wait
+from pathlib import Path
 
 ROOT = os.path.dirname(os.path.dirname(os.path.abspath(__file__)))
 
@@ -25,29 +27,57 @@ def below(root):
     return {crate: [it for it in rest if it in found] for crate, rest in found.items()}
 
 
-def seconds(root, crate):
-    """Processor seconds that `rt ci CRATE` takes in that copy, and its log where it failed."""
-    code = "import os,resource,subprocess,sys\n" \
-        "with open(sys.argv[2], 'w') as log: s = subprocess.call(['rt', 'ci', sys.argv[1]], stdout=log, stderr=log)\n" \
+def copy_of(scratch, kind, crate):
+    """A copy of the repository with the libraries that were proved so far, and of the edits with those of the crate alone."""
+    copy = f"{scratch}/{kind}-{crate}"
+    shutil.copytree(f"{scratch}/bare", copy, symlinks=True)
+    for library in os.listdir(f"{scratch}/proved"):
+        shutil.copytree(f"{scratch}/proved/{library}", f"{copy}/crates/{library}/out/rlib", copy_function=os.link)
+    if kind == "edits":
+        shutil.copytree(f"{ROOT}/crates/{crate}/must-fail", f"{copy}/crates/{crate}/must-fail")
+    return copy
+
+
+def seconds(folder, *commands):
+    """Processor seconds that the commands take there in turn, and what they told where one failed."""
+    code = "import resource,subprocess,sys\n" \
+        "with open(sys.argv[1], 'w') as log: s = max(subprocess.call(it.split(), stdout=log, stderr=log) for it in sys.argv[2:])\n" \
         "u = resource.getrusage(resource.RUSAGE_CHILDREN); print(u.ru_utime + u.ru_stime); sys.exit(s)"
     with tempfile.NamedTemporaryFile("r", suffix=".log") as log:
-        run = subprocess.run([sys.executable, "-c", code, crate, log.name], cwd=root, capture_output=True, text=True,
-                             env={**os.environ, "RT_JOBS": "1"})
+        run = subprocess.run([sys.executable, "-c", code, log.name, *commands], cwd=folder, capture_output=True, text=True)
         return float(run.stdout.split()[-1]), "" if run.returncode == 0 else log.read()[-3000:]
+
+
+def has_tests(folder):
+    """Whether the crate has tests, which are proved once more with it."""
+    return any(re.search(r"#\[test\]", file.read_text()) for file in Path(f"{folder}/src").rglob("*.rt"))
+
+
+def proves(scratch, crate):
+    """Processor seconds of the crate's proof and of its tests; a library is kept for the crates above it."""
+    copy = copy_of(scratch, "proof", crate)
+    folder = f"{copy}/crates/{crate}"
+    is_library = os.path.exists(f"{folder}/src/lib.rt")
+    commands = ["rt lib --jobs 1" if is_library else "rt check --jobs 1"] + ["rt test --jobs 1"] * has_tests(folder)
+    took = seconds(folder, *commands)
+    if is_library and os.path.isdir(f"{folder}/out/rlib"):
+        os.rename(f"{folder}/out/rlib", f"{scratch}/proved/{crate}")
+    shutil.rmtree(copy)
+    return took
+
+
+def tries(scratch, crate):
+    """Processor seconds of the crate's edits."""
+    copy = copy_of(scratch, "edits", crate)
+    took = seconds(copy, f"rt must-fail {crate}")
+    shutil.rmtree(copy)
+    return took
 
 
 def edits_of(root, crate):
     """The number of the crate's must-fail edits."""
     folder = f"{root}/crates/{crate}/must-fail"
     return len([it for it in os.listdir(folder) if it.endswith(".edit")]) if os.path.isdir(folder) else 0
-
-
-def tries(bare, scratch, crate):
-    """Processor seconds of the crate's edits, tried in a copy that has no others."""
-    copy = f"{scratch}/{crate}"
-    shutil.copytree(bare, copy, symlinks=True)
-    shutil.copytree(f"{ROOT}/crates/{crate}/must-fail", f"{copy}/crates/{crate}/must-fail")
-    return seconds(copy, crate)
 
 
 def chains(stands, wanted):
@@ -70,7 +100,7 @@ def wanted_of(stands, words):
     return wanted
 
 
-def run_all(lanes, stands, wanted, bare, scratch):
+def run_all(lanes, stands, wanted, scratch):
     """Runs proofs and edits side by side, tells of each as it ends, and gives the figures of each by crate, and what failed."""
     behind, figures, failed = chains(stands, wanted), {}, []
     proofs = sorted(wanted, key=lambda it: -behind[it])
@@ -80,8 +110,7 @@ def run_all(lanes, stands, wanted, bare, scratch):
             ready = [("proof", it) for it in proofs if all(low in done for low in stands[it])] + [("edits", it) for it in edits]
             for kind, crate in ready[:lanes - len(running)]:
                 (proofs if kind == "proof" else edits).remove(crate)
-                call = (seconds, bare, crate) if kind == "proof" else (tries, bare, scratch, crate)
-                running[pool.submit(*call)] = kind, crate
+                running[pool.submit(proves if kind == "proof" else tries, scratch, crate)] = kind, crate
             if not running:
                 break
             for it in wait(running, return_when=FIRST_COMPLETED).done:
@@ -104,9 +133,9 @@ def main():
     stands = below(ROOT)
     wanted = wanted_of(stands, words)
     with tempfile.TemporaryDirectory(prefix="gate-") as scratch:
-        bare = f"{scratch}/bare"
-        shutil.copytree(ROOT, bare, ignore=shutil.ignore_patterns("out", ".git", "must-fail"), symlinks=True)
-        figures, failed = run_all(lanes, stands, wanted, bare, scratch)
+        shutil.copytree(ROOT, f"{scratch}/bare", ignore=shutil.ignore_patterns("out", ".git", "must-fail"), symlinks=True)
+        os.mkdir(f"{scratch}/proved")
+        figures, failed = run_all(lanes, stands, wanted, scratch)
     rows = [(figures.get(("proof", it), 0), edits_of(ROOT, it), figures.get(("edits", it), 0), it) for it in wanted]
     print("| Crate | Proof and tests | Edits | Theirs | Together |\n|---|---|---|---|---|")
     for proof, edits, theirs, crate in sorted(rows, key=lambda row: -row[0] - row[2]):
