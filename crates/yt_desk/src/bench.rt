@@ -82,13 +82,20 @@ impl<C: Core> Bench for Desk<C> {
         plan: C::Plan,
     ) -> Result<Received, (Ticket<C::Snapshot>, AllocError)> {
         match Desk::finish(self, rt, seat, ticket, plan) {
-            Ok(Finished::Stepped { entry: _ }) => Ok(Received::InTime),
-            Ok(Finished::Stale { entry: _ }) => Ok(Received::TooLate),
+            Ok(finished) => Ok(received(finished)),
             Err((ticket, _)) => Err((ticket, AllocError)),
         }
     }
 
     fn give_back<R: Wait>(&self, rt: &R, seat: &mut Seat<Board<C>>, ticket: Ticket<C::Snapshot>) {
         Desk::give_back(self, rt, seat, ticket);
+    }
+}
+
+// Whether the plan came in time.
+fn received(finished: Finished) -> Received {
+    match finished {
+        Finished::Stepped { entry: _ } => Received::InTime,
+        Finished::Stale { entry: _ } => Received::TooLate,
     }
 }
