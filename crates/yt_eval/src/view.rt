@@ -6,6 +6,7 @@ ghost use Rattle.yt_query.specs.Meanings.{query_of, reply_of};
 ghost use Rattle.yt_eval.specs.Counted.{scope_meant};
 ghost use Rattle.yt_eval.specs.Seen.{written, value_seen};
 ghost use Rattle.yt_base.specs.Contents.{rules_in};
+ghost use Rattle.yt_facts.specs.Begun.{HoldsOfFirst};
 
 use crate::answers::{Writes, value_over};
 use crate::scopes::{Counted, enacts_with};
@@ -67,10 +68,12 @@ impl<'a, F: Facts> View<'a, F> {
         Ok(())
     }
 
-    /// Adds own writes in turn. It is refused only for want of memory; some of them may then be added.
-    #[tactic(auto, using(crate::proofs::Written::written_on))]
+    /// Adds own writes in turn. It is refused only for want of memory; the first so many of them are then added, and the
+    /// others are not.
     pub fn write_all(&mut self, alloc: Global, writes: &[Write]) -> Result<(), Memory>
         ensures ok { OnOk result (self.new ≡ written self.old (map change_of writes.now)) }
+        ensures err { OnErr result
+            (HoldsOfFirst (λ some. self.new ≡ written self.old some) writes.now) }
     {
         for write in writes {
             self.write(alloc, write)?;

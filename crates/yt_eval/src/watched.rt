@@ -5,6 +5,7 @@ ghost use Rattle.yt_base.specs.Meanings.{rule_of, change_of, heading_of};
 ghost use Rattle.yt_query.specs.Meanings.{query_of, reply_of};
 ghost use Rattle.yt_eval.specs.Watched.{watched_on, AreSettled, value_in, watched_from};
 ghost use Rattle.yt_base.specs.Contents.{rules_in};
+ghost use Rattle.yt_facts.specs.Begun.{HoldsOfFirst};
 
 use crate::settled::Settled;
 use crate::view::View;
@@ -66,9 +67,12 @@ impl<'a, F: Facts> WatchedView<'a, F> {
         Ok(())
     }
 
-    /// Adds own writes in turn. It is refused only for want of memory; some of them may then be added.
+    /// Adds own writes in turn. It is refused only for want of memory; the first so many of them are then added, and the
+    /// others are not.
     pub fn write_all(&mut self, alloc: Global, writes: &[Write]) -> Result<(), Memory>
         ensures ok { OnOk result (self.new ≡ watched_on self.old (map change_of writes.now)) }
+        ensures err { OnErr result
+            (HoldsOfFirst (λ some. self.new ≡ watched_on self.old some) writes.now) }
     {
         for write in writes {
             self.write(alloc, write)?;

@@ -9,3 +9,4 @@ pub mod Refusals
 pub mod Taking
 pub mod Changing
 pub mod Related
+pub mod Beginning

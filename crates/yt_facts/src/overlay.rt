@@ -5,6 +5,7 @@ ghost use Rattle.yt_model.specs.Repository.{Delete, Insert, has, change, apply, 
 ghost use Rattle.yt_base.specs.Meanings.{fact_of, change_of};
 ghost use Rattle.yt_facts.specs.Courses.{comes_after, ahead};
 ghost use Rattle.yt_facts.specs.Overlaid.{lesser};
+ghost use Rattle.yt_facts.specs.Begun.{HoldsOfFirst};
 
 use crate::plain::PlainFacts;
 use std::alloc::Global;
@@ -84,9 +85,12 @@ impl<'a, F: Facts> Overlay<'a, F> {
         }
     }
 
-    /// Applies the writes in turn. It is refused only for want of memory; some of them may then be applied.
+    /// Applies the writes in turn. It is refused only for want of memory; the first so many of them are then applied, and
+    /// the others are not.
     pub fn write_all(&mut self, alloc: Global, writes: &[Write]) -> Result<(), Memory>
         ensures ok { OnOk result (self.new ≡ apply self.old (map change_of writes.now)) }
+        ensures err { OnErr result
+            (HoldsOfFirst (λ some. self.new ≡ apply self.old some) writes.now) }
     {
         for write in writes {
             self.write(alloc, write)?;

@@ -4,6 +4,7 @@
 mod caused;
 mod first;
 mod least;
+mod remembered;
 mod scope;
 mod unmet;
 
