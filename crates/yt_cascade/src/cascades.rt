@@ -91,7 +91,7 @@ impl<'a> Cascade<'a> {
             AreFound (above_of self.now) (map change_of written.now) lost.entry upper.now
             found.items) }
     {
-        let mut found = Vec::new(alloc);
+        let mut found = Vec::with_capacity(alloc, readers)?;
         for i in 0..readers {
             let reader = &upper[i];
             let cause = self.cause_for(alloc, written, &lost, reader)?;

@@ -1,14 +1,13 @@
 -- A tuple that joins with no own insertion decides no violation that own writes caused forward.
-use Rattle.std.proofs.Common.{◌≡◌, ◌∙◌, ap, refl, sym, subst, ℕ, zero, suc, ◌==◌, Bool, true, false, ◌||◌, ◌&&◌, not, List, [], ◌∷◌, ◌++◌, map, length, cond, Option, Some, None, is_some, inl, inr}
+use Rattle.std.proofs.Common.{◌≡◌, ◌∙◌, ap, refl, sym, subst, ◌==◌, Bool, true, false, ◌||◌, ◌&&◌, not, List, [], ◌∷◌, ◌++◌, map, length, Option, Some, None, is_some, inl, inr}
 use Rattle.std.specs.List.{list_any, list_all, zip}
-use Rattle.std.specs.Option.{option_map}
-use Rattle.std.specs.Prelude.{find, filter}
+use Rattle.std.specs.Prelude.{filter}
 use Rattle.std.proofs.lemmas.Bool.{false≢true, and_parts, or_cases, eqb-true, eq-eqb}
-use Rattle.yt_model.specs.Values.{Datum, Fact, same_datum, same_fact}
+use Rattle.yt_model.specs.Values.{Fact, same_datum, same_fact}
 use Rattle.yt_model.specs.Repository.{Change, Insert, Delete, inserted_after}
 use Rattle.yt_model.specs.Mappings.{Slot, Var, Const, Pattern, Rule, Binding, value_under, fact_under, image_under}
 use Rattle.yt_model.specs.Matching.{Known, nothing_known, learn_all, lists_of, extends}
-use Rattle.yt_model.specs.Violations.{Caused, Forward, in_scope, violated_at, violates, first_violation}
+use Rattle.yt_model.specs.Violations.{Caused, Forward, violated_at, violates, first_violation}
 use Rattle.yt_model.proofs.Coarse.{lists_within}
 use Rattle.yt_model.proofs.Bools.{both, or_left, or_right, differ, and-false}
 use Rattle.yt_model.proofs.Learning.{Agrees, Means, all_means, same_datum_itself}

@@ -3,3 +3,4 @@ pub mod Joining
 pub mod Staying
 pub mod Sides
 pub mod Firsts
+pub mod Unmet

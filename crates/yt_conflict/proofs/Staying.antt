@@ -2,19 +2,19 @@
 use Rattle.std.proofs.Common.{◌≡◌, ◌∙◌, ap, refl, sym, ℕ, zero, suc, ◌==◌, Bool, true, false, ◌||◌, ◌&&◌, not, List, [], ◌∷◌, ◌++◌, take, Option, Some, None}
 use Rattle.std.specs.Prelude.{if◌then◌else◌, filter}
 use Rattle.std.specs.List.{list_any, slice_get}
-use Rattle.std.proofs.lemmas.Bool.{both_ways, or_cases, or_parts, eq-eqb}
+use Rattle.std.proofs.lemmas.Bool.{both_ways, or_parts, eq-eqb}
 use Rattle.yt_model.specs.Values.{Fact, same_fact}
 use Rattle.yt_model.specs.Repository.{Change, Insert, Delete, IsRepository, has, apply, inserted_after, inserts}
 use Rattle.yt_model.specs.Mappings.{Rule, force, force_relation}
 use Rattle.yt_model.specs.Mentions.{is_mentioned, rule_mentions}
-use Rattle.yt_model.specs.Queries.{Query, Present, Violation, Specific, Occurs, Yes, No, Tuples, holds_null, image_reply, scope_at, violation_reply, value}
+use Rattle.yt_model.specs.Queries.{Present, Violation, Specific, Occurs, Yes, No, Tuples, holds_null, image_reply, scope_at, violation_reply, value}
 use Rattle.yt_model.specs.Specific.{more_specific}
-use Rattle.yt_model.specs.Violations.{Direction, Forward, Backward, Scope, Every, Caused, first_violation}
+use Rattle.yt_model.specs.Violations.{Forward, Backward, Scope, Every, Caused, first_violation}
 use Rattle.yt_model.proofs.Bools.{not_both, and-true, and-false, or_left, or_right, differ}
 use Rattle.yt_model.proofs.Coarse.{after_agree, coarse_law}
 use Rattle.yt_model.proofs.Members.{has-filter}
 use Rattle.yt_model.proofs.Sets.{has-apply, apply_in_order, filter_in_order, same_exact, same_itself, same_repository}
-use Rattle.yt_conflict.specs.Concerns.{tuple_of, may_enact, joins, concerns_rule, concerns, is_hit_by, is_hit, is_met, is_written, AgreeBut, UnmetValuesStay}
+use Rattle.yt_conflict.specs.Concerns.{tuple_of, may_enact, joins, concerns_rule, concerns, is_hit_by, is_hit, is_written, AgreeBut, UnmetValuesStay}
 use Rattle.yt_conflict.proofs.Joining.{first_joins}
 
 neither : (a b : Bool) → a ≡ false → b ≡ false → (a || b) ≡ false

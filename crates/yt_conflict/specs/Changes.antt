@@ -1,4 +1,5 @@
 -- Which of an attempt's logged reads have another value now.
+use Rattle.std.specs.List.{list_any}
 use Rattle.std.specs.Option.{option_map}
 use Rattle.std.specs.Prelude.{ℕ, suc, Bool, not, ◌&&◌, if◌then◌else◌, List, [], ◌∷◌, take, Option, Some, None}
 use Rattle.yt_model.specs.Values.{Fact}
@@ -7,7 +8,7 @@ use Rattle.yt_model.specs.Mappings.{Rule}
 use Rattle.yt_model.specs.Violations.{Direction, Caused}
 use Rattle.yt_model.specs.Queries.{Reply, same_reply, value}
 use Rattle.yt_query.specs.Meanings.{Read}
-use Rattle.yt_conflict.specs.Concerns.{is_met}
+use Rattle.yt_conflict.specs.Concerns.{is_met, is_met_apart}
 
 -- The value of the read over D, by an attempt in this direction whose own writes are these: those count that were made when it asked.
 abbrev pub value_now : List Rule → Direction → List Fact → List Change → Read → Reply
@@ -32,6 +33,14 @@ pub record Changed : Type 0 where
   pub number : ℕ
   pub read : Read
   pub now : Reply
+
+-- A write of the trails meets one of the reads.
+abbrev pub meets_any : List Rule → Direction → List Change → List (List Change) → List Read → Bool
+meets_any ms h own trails rs = list_any (λ r. is_met ms h own trails r.query) rs
+
+-- One that asks for no violation.
+abbrev pub meets_any_apart : List Rule → Direction → List Change → List (List Change) → List Read → Bool
+meets_any_apart ms h own trails rs = list_any (λ r. is_met_apart ms h own trails r.query) rs
 
 -- A write of the trails meets the read, and it has another value over D.
 abbrev pub is_met_and_changed : List Rule → Direction → List Fact → List Change → List (List Change) → Read → Bool

@@ -55,6 +55,15 @@ concerns_rule Forward own None t = false
 concerns_rule Forward own (Some m) t = (list_any may_enact own && rule_mentions (Some m) t.relation) || list_any (joins m t) own
 concerns_rule Backward own m t = rule_mentions m t.relation
 
+-- With an own insertion at a left atom of one of the mappings, the tuple may stand at an atom of it.
+abbrev pub joins_some : List Rule → List Change → Fact → Bool
+joins_some ms own t = list_any (λ m. list_any (joins m t) own) ms
+
+-- Tuples that join with no own insertion may decide violations as well: of an attempt backward, or one that puts mappings in force.
+abbrev pub counts_all : Direction → List Change → Bool
+counts_all Forward own = list_any may_enact own
+counts_all Backward own = true
+
 -- ---- queries
 
 -- The tuple concerns the query of an attempt in this direction with these own writes: it is the one asked for, it may decide the
@@ -76,6 +85,13 @@ is_hit p trails = list_any (is_hit_by p) trails
 -- A write of one of the trails is of a tuple that concerns the query.
 abbrev pub is_met : List Rule → Direction → List Change → List (List Change) → Query → Bool
 is_met ms h own trails q = is_hit (concerns ms h own q) trails
+
+-- One is, of a query that asks for no violation.
+abbrev pub is_met_apart : List Rule → Direction → List Change → List (List Change) → Query → Bool
+is_met_apart ms h own trails (Present t) = is_met ms h own trails (Present t)
+is_met_apart ms h own trails (Violation n) = false
+is_met_apart ms h own trails (Specific t) = is_met ms h own trails (Specific t)
+is_met_apart ms h own trails (Occurs u k) = is_met ms h own trails (Occurs u k)
 
 -- A write of one of the trails is of the tuple.
 abbrev pub is_written : List (List Change) → Fact → Bool

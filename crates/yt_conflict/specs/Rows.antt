@@ -3,8 +3,8 @@ use Rattle.std.specs.Prelude.{◌≡◌, ℕ, Bool, true, false, List, [], ◌�
 use Rattle.yt_model.specs.Values.{Number, Fact}
 use Rattle.yt_model.specs.Repository.{Change, Insert, Delete}
 use Rattle.yt_model.specs.Mappings.{Var, Pattern, Rule, force}
-use Rattle.yt_model.specs.Queries.{Query, Present, Violation}
-use Rattle.yt_model.specs.Violations.{Direction, Forward, Backward}
+use Rattle.yt_model.specs.Queries.{Present, Violation}
+use Rattle.yt_model.specs.Violations.{Forward, Backward}
 use Rattle.yt_conflict.specs.Concerns.{concerns, is_met}
 
 -- The tuple of relation r with these two numbers.

@@ -63,6 +63,9 @@ fn first_in<'a, F: Facts>(
         direction,
         own,
     };
+    if !reader.may_be_met(trails, log) {
+        return Ok(None);
+    }
     let mut view = View::new(alloc, below);
     let mut seen = 0;
     let mut number = 0;

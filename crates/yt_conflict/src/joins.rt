@@ -5,10 +5,11 @@ ghost use Rattle.std.specs.List.{list_all, list_any};
 ghost use Rattle.yt_base.specs.Meanings.{change_of, datum_of, fact_of, heading_of, pattern_of, rule_of, slot_of};
 ghost use Rattle.yt_model.specs.Mentions.{rule_mentions};
 ghost use Rattle.yt_model.specs.Violations.{Forward};
-ghost use Rattle.yt_conflict.specs.Concerns.{agree, columns, concerns_rule, joins as joins_lem, may_be as may_be_lem, may_enact as may_enact_lem, may_join as may_join_lem, stand_together as stand_together_lem};
+ghost use Rattle.yt_base.specs.Contents.{rules_in};
+ghost use Rattle.yt_conflict.specs.Concerns.{agree, columns, concerns_rule, joins as joins_lem, joins_some as joins_some_lem, may_be as may_be_lem, may_enact as may_enact_lem, may_join as may_join_lem, stand_together as stand_together_lem};
 
 use crate::concerns::tuple_of;
-use yt_base::{Atom, Direction, Mapping, Term, Tuple, Value, Write};
+use yt_base::{Atom, Direction, Mapping, MappingList, Term, Tuple, Value, Write};
 
 // The relation of the tuples that say which mappings are in force.
 const FORCE_RELATION: u16 = 65535;
@@ -42,11 +43,33 @@ fn may_decide_forward(mapping: &Mapping, own: &[Write], tuple: &Tuple) -> bool
     if may_enact_any(own) && is_of(mapping, tuple.relation) {
         return true;
     }
+    joins_own(mapping, own, tuple)
+}
+
+/// Whether one of the writes inserts a tuple that may join with this one by one of the mappings. It takes no memory.
+pub(crate) fn joins_some(mappings: &MappingList, own: &[Write], tuple: &Tuple) -> bool
+    ensures { result ≡ joins_some_lem (rules_in mappings.now) (map change_of own.now)
+        (fact_of tuple.now) }
+{
+    mappings
+        .as_slice()
+        .iter()
+        .any(|mapping| joins_own(mapping, own, tuple))
+}
+
+// Whether one of the writes inserts a tuple that may join with this one. Where no atom is of its relation none does.
+fn joins_own(mapping: &Mapping, own: &[Write], tuple: &Tuple) -> bool
+    ensures { result ≡ list_any (joins_lem (rule_of mapping.now) (fact_of tuple.now))
+        (map change_of own.now) }
+{
+    if !is_of(mapping, tuple.relation) {
+        return false;
+    }
     joins_any(mapping, own, tuple)
 }
 
-// Whether one of the writes may put a mapping in force.
-fn may_enact_any(own: &[Write]) -> bool
+/// Whether one of the writes may put a mapping in force. It takes no memory.
+pub(crate) fn may_enact_any(own: &[Write]) -> bool
     ensures { result ≡ list_any may_enact_lem (map change_of own.now) }
 {
     own.iter().any(|write| may_enact(write))
@@ -113,10 +136,20 @@ fn joins_at(mapping: &Mapping, atom: &Atom, own: &Tuple, tuple: &Tuple) -> bool
         (fact_of own.now) c (fact_of tuple.now))
         ((rule_of mapping.now).left ++ (rule_of mapping.now).right) }
 {
+    if !is_at(atom, own) {
+        return false;
+    }
     if joins_among(mapping.left.as_slice(), atom, own, tuple) {
         return true;
     }
     joins_among(mapping.right.as_slice(), atom, own, tuple)
+}
+
+// Whether the tuple is of the atom's relation.
+fn is_at(atom: &Atom, tuple: &Tuple) -> bool
+    ensures { result ≡ ((pattern_of atom.now).relation == (fact_of tuple.now).relation) }
+{
+    atom.relation == tuple.relation
 }
 
 // Whether, with the first tuple at this atom, the second may stand at one of the others.

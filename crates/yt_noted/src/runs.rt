@@ -156,7 +156,7 @@ fn turn(
                 ..
             } = taken;
             keep(notes, made, &program)?;
-            end(finishes, facts, program)?;
+            end(alloc, finishes, facts, program)?;
             Ok(None)
         }
     }

@@ -66,6 +66,7 @@ pub fn plan_step<F: Facts>(
     let reads = answer_all(
         alloc, &mut after, &view, &mut known, mappings, direction, made,
     )?;
+    after.share(alloc)?;
     Ok(Plan {
         program: after,
         reads,

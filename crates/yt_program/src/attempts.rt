@@ -12,14 +12,22 @@ impl Program {
     pub fn own(&self) -> &WriteList
         ensures own { map change_of result.now.items ≡ self.now.attempt.own }
     {
-        &self.own
+        self.own.list()
     }
 
-    /// The writes that the attempt has made, in order, for which it is given up. It takes no memory.
-    pub fn into_own(self) -> WriteList
-        ensures own { map change_of result.items ≡ self.attempt.own }
+    /// The writes that the attempt has made, in order, for which it is given up. It is refused only for want of memory.
+    pub fn into_own(self, alloc: Global) -> Result<WriteList, Memory>
+        ensures own { IfOk result (λ own. map change_of own.items ≡ self.attempt.own) }
     {
-        self.own
+        self.own.into_list(alloc)
+    }
+
+    /// Lets copies of it share its writes from now on. It is refused only for want of memory. It stays as it is.
+    pub fn share(&mut self, alloc: Global) -> Result<(), Memory>
+        ensures same { self.new ≡ self.old }
+    {
+        self.own.share(alloc)?;
+        Ok(())
     }
 
     /// How many steps it has made.

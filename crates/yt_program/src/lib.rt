@@ -18,6 +18,7 @@ mod found;
 mod in_hand;
 mod looking;
 mod moves;
+mod own;
 mod passing;
 mod points;
 mod programs;

@@ -17,16 +17,17 @@ use crate::counting::{spend, taken_after};
 use crate::ends::Want;
 use crate::looking::look;
 use crate::moves::Move;
+use crate::own::Own;
 use crate::passing::looks_on;
 use crate::points::Point;
 use crate::repairing::{generates, want_of_repair};
 use crate::starting::{is_yes, start};
 use crate::turns::Turn;
-use crate::writing::{is_writing, write};
+use crate::writing::is_writing;
 use std::alloc::Global;
 use std::marker::Model;
-use yt_base::{Choice, Memory, Operation, TryCopy, Update, WriteList};
-use yt_chase::{Fresh, Progress, append};
+use yt_base::{Choice, Memory, Operation, TryCopy, Update};
+use yt_chase::{Fresh, Progress};
 use yt_limits::{Budget, Mappings};
 use yt_query::Answer;
 
@@ -44,7 +45,7 @@ pub struct Program {
     pub(crate) number: u32,
     pub(crate) attempt: u32,
     pub(crate) operation: Operation,
-    pub(crate) own: WriteList,
+    pub(crate) own: Own,
     pub(crate) steps: u32,
     pub(crate) nulls: u32,
     pub(crate) taken: u32,
@@ -79,7 +80,7 @@ impl Program {
             number,
             attempt,
             operation: update.operation.copy(alloc)?,
-            own: WriteList::new(alloc),
+            own: Own::none(alloc),
             steps: 0,
             nulls: 0,
             taken: 0,
@@ -211,7 +212,8 @@ impl Program {
             Point::Reading(reading) => {
                 if is_writing(&reading.row) {
                     let there = is_yes(answer);
-                    write(&self.operation, &mut self.point, &mut self.own, there)?;
+                    self.own
+                        .write(alloc, &self.operation, &mut self.point, there)?;
                     self.land(0, hand);
                     return Ok(());
                 }
@@ -219,7 +221,7 @@ impl Program {
                 self.follow(alloc, turn, hand)
             }
             Point::Repair(repair) => {
-                match repair.answer(alloc, &mut self.own, answer, mappings)? {
+                match self.own.answer(alloc, repair, answer, mappings)? {
                     Progress::Asks => {}
                     Progress::Ends => self.land(0, hand),
                 }
@@ -252,7 +254,7 @@ impl Program {
         };
         match &mut self.point {
             Point::Repair(repair) => {
-                match repair.choose(alloc, &mut self.own, choice, mappings)? {
+                match self.own.choose(alloc, repair, choice, mappings)? {
                     Progress::Asks => self.hand = hand,
                     Progress::Ends => self.land(0, hand),
                 }
@@ -292,7 +294,7 @@ impl Program {
             between (moved hand.budget self.old.attempt (move_of step))) }
         ensures err { OnErr result (self.new ≡ self.old) }
     {
-        append(alloc, &mut self.own, step.writes)?;
+        self.own.append(alloc, step.writes)?;
         self.point = step.point;
         self.land(step.drawn, hand);
         Ok(())

@@ -2,10 +2,11 @@
 ghost use Rattle.std.specs.Prelude.{◌≡◌, ◌+◌, ◌<◌, ◌^◌, suc, None, IfOk};
 ghost use Rattle.yt_steps.specs.Attempts.{begun};
 
+use crate::own::Own;
 use crate::points::Point;
 use crate::programs::{Hand, Program};
 use std::alloc::Global;
-use yt_base::{Memory, TryCopy, WriteList};
+use yt_base::{Memory, TryCopy};
 use yt_limits::Budget;
 
 impl Program {
@@ -30,7 +31,7 @@ impl Program {
             number: self.number,
             attempt: self.attempt + 1,
             operation: self.operation.copy(alloc)?,
-            own: WriteList::new(alloc),
+            own: Own::none(alloc),
             steps: 0,
             nulls: 0,
             taken: 0,

@@ -53,7 +53,7 @@ pub fn fresh_programs(
     ensures fresh { IfOk result (λ fresh. AreFresh upper.now fresh.items) }
     ensures there { IfOk result (λ fresh. AreThere causes.now fresh.items) }
 {
-    let mut fresh = Vec::new(alloc);
+    let mut fresh = Vec::with_capacity(alloc, causes.len())?;
     for i in 0..causes.len() {
         fresh.push(fresh_if(alloc, &upper[i], &causes[i])?)?;
     }

@@ -61,6 +61,7 @@ pub fn stop(alloc: Global, program: &Program, number: u32, lack: Lack) -> Result
 
 /// Tells the finish of an update that has ended, and keeps its writes. It is refused only for want of memory.
 pub fn end(
+    alloc: Global,
     finishes: &mut FinishList,
     facts: &mut IndexedFacts,
     program: Program,
@@ -71,7 +72,7 @@ pub fn end(
     ensures kept { OnOk result (HasCommitted facts.old program.attempt facts.new) }
 {
     let finish = finish(&program);
-    keep(facts, program.into_own(), finish.outcome)?;
+    keep(facts, program.into_own(alloc)?, finish.outcome)?;
     finishes.push(finish)?;
     Ok(())
 }

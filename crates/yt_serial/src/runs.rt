@@ -139,7 +139,7 @@ fn turn(
     match rest.lack {
         Some(lack) => Ok(Some(stop(alloc, &rest.program, number, lack)?)),
         None => {
-            end(finishes, facts, rest.program)?;
+            end(alloc, finishes, facts, rest.program)?;
             Ok(None)
         }
     }

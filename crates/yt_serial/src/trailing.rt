@@ -135,7 +135,7 @@ fn end(
 {
     let outcome = finish(&program).outcome;
     let trail = trail(alloc, program.own(), outcome)?;
-    keep(facts, program.into_own(), outcome)?;
+    keep(facts, program.into_own(alloc)?, outcome)?;
     trails.push(trail)?;
     Ok(())
 }

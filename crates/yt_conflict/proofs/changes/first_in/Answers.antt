@@ -1,11 +1,21 @@
 use Rattle.std.proofs.Common.{◌≡◌, ◌<◌, false, true, map, length, arith}
 use Rattle.std.proofs.lemmas.Grind.{common_steps}
 use Rattle.yt_base.specs.Meanings.{change_of, heading_of, rule_of}
-use Rattle.yt_query.specs.Meanings.{query_of, reply_of}
-use Rattle.yt_conflict.specs.Concerns.{is_met}
+use Rattle.yt_query.specs.Meanings.{read_of, reply_of}
 use Rattle.yt_conflict.specs.Trails.{trails_of}
 use Rattle.yt_conflict.proofs.Firsts.{seen_then, first_here, first_on, first_unmet}
+use Rattle.yt_conflict.proofs.Unmet.{none_changed}
 use Rattle.yt_conflict.proofs.changes.first_in.Goals as goal
+
+pub returns-then-not-may_be_met : goal.returns-then-not-may_be_met
+returns-then-not-may_be_met g c =
+    let ms = map rule_of c.args.mappings.now.items in
+    let h = heading_of c.args.direction in
+    let D = g.F.Facts.tuples c.args.below.now in
+    let own = map change_of c.args.own.now in
+    let ts = trails_of c.args.trails.now in
+    let m : c.may_be_met.result ≡ false = grind (arith, common_steps) in
+    record { first = none_changed ms h D own ts (map read_of c.args.log.now) (c.may_be_met.ensures.unmet m) }
 
 pub reads-preserved-then-not-is_met : goal.reads-preserved-then-not-is_met
 reads-preserved-then-not-is_met g c =

@@ -2,7 +2,6 @@ use Rattle.std.proofs.Common.{◌∙◌, ap, map, List, ◌==◌}
 use Rattle.std.specs.List.{list_any}
 use Rattle.yt_base.specs.Meanings.{pattern_of}
 use Rattle.yt_base.specs.declared.mappings.Atom.{Atom}
-use Rattle.yt_model.specs.Mappings.{Pattern}
 use Rattle.yt_conflict.proofs.Sides.{found_left, found_right}
 use Rattle.yt_conflict.proofs.joins.is_of.Goals as goal
 

@@ -15,7 +15,8 @@ returns-clause-program g c =
     let seen = c.new-view.ensures.seen in
     let own = ap (λ (v : Seen). v.own) seen ∙ c.own-own.ensures.own in
     let begun = c.in_ok-begin.ensures.step ∙ ap (λ (s : State). coming_to c.args.budget s.attempt (step ms s.attempt (option_map choice_of (option_copied c.args.choice)))) c.in_ok-after.ensures.same in
-    c.in_ok-reads.ensures.answered
+    c.share.ensures.same
+    ∙ c.in_ok-reads.ensures.answered
     ∙ ap at_rest (planned ms c.args.budget (g.F.Facts.tuples c.args.below.now) P (option_map choice_of (option_copied c.args.choice))
     (course ms c.begin.new.program) c.new-view.result.below c.new-view.result.own (heading_of c.direction-direction.result)
     (ap (λ (v : Seen). v.below) seen) own c.direction-direction.ensures.heading begun)

@@ -8,9 +8,9 @@ use Rattle.yt_cascade.proofs.cascades.Cascade.walk.Goals as goal
 
 pub loop-i-init : goal.loop-i-init
 loop-i-init c = record {
-  long = ap length c.new-found.ensures.items;
+  long = ap length c.in_ok-found.ensures.items;
   from = (suc c.args.self.now.update, c.requires.from);
-  turns = λ B conflicting few looks s. at_start (above_of c.args.self.now) conflicting B (map change_of c.args.written.now) c.args.lost c.args.upper.now c.new-found.result.items c.new-found.ensures.items c.requires.from s;
+  turns = λ B conflicting few looks s. at_start (above_of c.args.self.now) conflicting B (map change_of c.args.written.now) c.args.lost c.args.upper.now c.in_ok-found.found.items c.in_ok-found.ensures.items c.requires.from s;
 }
 
 pub lose_where-requires : goal.lose_where-requires

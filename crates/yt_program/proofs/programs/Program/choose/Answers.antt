@@ -13,7 +13,7 @@ pub invariant_of-self-in-Asks : goal.invariant_of-self-in-Asks
 invariant_of-self-in-Asks c =
     let was = c.self.inside in
     let P = (state_of was).attempt in
-    let same = asks_same c.args.mappings.now (map change_of c.choose.new.own.items) (map change_of was.own.items) c.in-Repair.repair c.choose.new.self _ _ (ap asks_on c.in-Asks.is) (c.in_ok-choose-in-Repair.ensures.step P) in
+    let same = asks_same c.args.mappings.now (map change_of c.choose.new.self.items) (map change_of was.own.items) c.in-Repair.repair c.choose.new.repair _ _ (ap asks_on c.in-Asks.is) (c.in_ok-choose-in-Repair.ensures.step P) in
     let fits = choice_answers c.args.self.now (choice_of c.args.choice.now) c.requires.fits in
     let phase = ap (λ (s : State). s.attempt.phase) (sym c.self.view_is) ∙ ap phase_at c.in-Repair.is ∙ sym same.1 in
     let steps : was.steps ≡ c.args.self.now.attempt.steps = ap (λ (s : State). s.attempt.steps) c.self.view_is in
@@ -30,6 +30,6 @@ pub returns-in-Asks-clause-attempt : goal.returns-in-Asks-clause-attempt
 returns-in-Asks-clause-attempt c =
     let was = c.self.inside in
     let P = (state_of was).attempt in
-    let same = asks_same c.args.mappings.now (map change_of c.choose.new.own.items) (map change_of was.own.items) c.in-Repair.repair c.choose.new.self _ _ (ap asks_on c.in-Asks.is) (c.in_ok-choose-in-Repair.ensures.step P) in
+    let same = asks_same c.args.mappings.now (map change_of c.choose.new.self.items) (map change_of was.own.items) c.in-Repair.repair c.choose.new.repair _ _ (ap asks_on c.in-Asks.is) (c.in_ok-choose-in-Repair.ensures.step P) in
     let phase = same.1 ∙ ap phase_at (sym c.in-Repair.is) in
-    λ e. left_same P (map change_of c.choose.new.own.items) _ (same.0, phase) ∙ ap (λ (s : State). s.attempt) c.self.view_is
+    λ e. left_same P (map change_of c.choose.new.self.items) _ (same.0, phase) ∙ ap (λ (s : State). s.attempt) c.self.view_is
