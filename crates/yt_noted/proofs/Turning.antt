@@ -1,6 +1,6 @@
 -- What is noted of updates in turn.
 use Rattle.std.specs.Prelude.{if◌then◌else◌}
-use Rattle.std.proofs.Common.{◌≡◌, ◌∙◌, ap, refl, sym, ℕ, suc, ◌+◌, ◌≤◌, Bool, true, false, Some, None, List, [], ◌∷◌, ◌++◌, append_assoc, add-one}
+use Rattle.std.proofs.Common.{◌≡◌, ◌∙◌, ap, refl, sym, ℕ, suc, ◌+◌, ◌≤◌, Bool, true, false, Some, None, List, [], ◌∷◌, ◌++◌, append_assoc, add-one, Result, Ok, Err, IfOk}
 use Rattle.yt_machine.specs.Standings.{Lack}
 use Rattle.yt_machine.specs.Updates.{shown}
 use Rattle.yt_machine.specs.Serial.{Rest}
@@ -26,6 +26,11 @@ use Rattle.yt_serial.specs.Turns.{turn_of, whole_rest}
 use Rattle.yt_serial.proofs.Onward.{ends_there, stops_there}
 use Rattle.yt_serial.proofs.Running.{wish_between}
 use Rattle.yt_noted.specs.Turns.{noted_from, whole_notes, wants_none_done}
+
+-- What is said of a result holds also weakened.
+pub if_ok_weaker : {T E : Type 0} {P Q : T → Type 0} (r : Result T E) → ((x : T) → P x → Q x) → IfOk r P → IfOk r Q
+if_ok_weaker (Ok x) f h = f x h
+if_ok_weaker (Err e) f h = h
 
 notes_join : (xs ys : List Step) → notes_of (xs ++ ys) ≡ notes_of xs ++ notes_of ys
 notes_join [] ys = refl

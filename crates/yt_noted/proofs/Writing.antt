@@ -8,8 +8,10 @@ use Rattle.yt_base.specs.declared.updates.Write.{Write}
 use Rattle.yt_model.specs.Values.{Fact}
 use Rattle.yt_model.specs.Repository.{Change, has, apply, change}
 use Rattle.yt_model.specs.Mappings.{Rule}
+use Rattle.yt_model.specs.Queries.{Reply, Yes, No}
 use Rattle.yt_model.specs.Updates.{Choice}
 use Rattle.yt_steps.specs.Attempts.{Attempt}
+use Rattle.yt_steps.specs.Steps.{is_yes}
 use Rattle.yt_provenance.specs.Notes.{note}
 use Rattle.yt_provenance.specs.Puts.{Way, Step, puts, inserted, deleted, way_in}
 use Rattle.yt_program.specs.Courses.{between, State}
@@ -61,19 +63,33 @@ put_ones s D own all e f =
     after : apply D all ≡ apply s.before s.writes
     after = ap (apply D) f ∙ (applied_on D own s.writes ∙ ap (λ E. apply E s.writes) (sym e))
 
--- The note of a step, from what the program and its writes tell after it.
-pub note_made : (ms : List Rule) (B : ℕ) (D : List Fact) (P : Attempt) (c : Option Choice) (s : State) (n k : ℕ) (w : Way) (ws all : List Change) (ds fs ps : List Fact)
-    → s ≡ between (stepped ms B D P c) → n ≡ s.attempt.number → k ≡ s.attempt.steps → w ≡ way_in ms (apply D P.own) P.operation c P.phase
-    → all ≡ s.attempt.own → ws ≡ drop (length P.own) all → ds ≡ deleted ws
+-- What the step deleted and put, from its writes.
+pub changed_by : (ms : List Rule) (B : ℕ) (D : List Fact) (P : Attempt) (c : Option Choice) (s : State) (ws all : List Change) (ds fs ps : List Fact)
+    → s ≡ between (stepped ms B D P c) → all ≡ s.attempt.own → ws ≡ drop (length P.own) all → ds ≡ deleted ws
     → fs ≡ filter (λ t. not (has (apply D P.own) t)) (inserted ws) → ps ≡ filter (has (apply D all)) fs
-    → record { update = n; step = k; way = w; deleted = ds; puts = ps } ≡ note (step_of ms D P c)
-note_made ms B D P c s n k w ws all ds fs ps made nn kk ww own behind dd ff pp =
+    → (ds ≡ (note (step_of ms D P c)).deleted) × (ps ≡ (note (step_of ms D P c)).puts)
+changed_by ms B D P c s ws all ds fs ps made own behind dd ff pp =
     let m = move_of ms D P c in
     let joined : all ≡ P.own ++ m.writes = own ∙ ap (λ (t : State). t.attempt.own) made in
-    let same : ws ≡ m.writes = behind ∙ (ap (drop (length P.own)) joined ∙ dropped_all P.own m.writes) in
+    let same : ws ≡ m.writes = behind ∙ (ap (drop (length P.own)) joined ∙ dropped_all P.own m.writes) in (
+      dd ∙ ap deleted same,
+      pp ∙ (ap (filter (has (apply D all))) (ff ∙ ap (λ us. filter (λ t. not (has (apply D P.own) t)) (inserted us)) same) ∙ put_ones (step_of ms D P c) D P.own all refl joined),
+    )
+
+-- The note of a step, from what the program tells after it.
+pub note_made : (ms : List Rule) (B : ℕ) (D : List Fact) (P : Attempt) (c : Option Choice) (s : State) (n k : ℕ) (w : Way) (ds ps : List Fact)
+    → s ≡ between (stepped ms B D P c) → n ≡ s.attempt.number → k ≡ s.attempt.steps → w ≡ way_in ms (apply D P.own) P.operation c P.phase
+    → ds ≡ (note (step_of ms D P c)).deleted → ps ≡ (note (step_of ms D P c)).puts
+    → record { update = n; step = k; way = w; deleted = ds; puts = ps } ≡ note (step_of ms D P c)
+note_made ms B D P c s n k w ds ps made nn kk ww gone put =
     let number : n ≡ P.number = nn ∙ ap (λ (t : State). t.attempt.number) made in
     let count : k ≡ suc P.steps = kk ∙ ap (λ (t : State). t.attempt.steps) made in
-    let gone : ds ≡ deleted m.writes = dd ∙ ap deleted same in
-    let put : ps ≡ filter (puts (step_of ms D P c)) (inserted m.writes) =
-    pp ∙ (ap (filter (has (apply D all))) (ff ∙ ap (λ us. filter (λ t. not (has (apply D P.own) t)) (inserted us)) same) ∙ put_ones (step_of ms D P c) D P.own all refl joined) in
     λ i. record { update = number i; step = count i; way = ww i; deleted = gone i; puts = put i }
+
+-- A tuple of which the set is asked is there exactly where the answer is yes.
+pub seen_by : (E : List Fact) (t u : Fact) (r : Reply) (b : Bool) → b ≡ is_yes r → r ≡ (if has E t then Yes else No) → t ≡ u → b ≡ has E u
+seen_by E t u r b e f g = e ∙ (ap is_yes f ∙ (yes_where (has E t) ∙ ap (has E) g))
+  where
+    yes_where : (h : Bool) → is_yes (if h then Yes else No) ≡ h
+    yes_where true = refl
+    yes_where false = refl

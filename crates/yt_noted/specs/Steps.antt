@@ -1,5 +1,5 @@
 -- One step and its note.
-use Rattle.std.specs.Prelude.{◌≡◌, List, ◌++◌, filter, Option, Some, None}
+use Rattle.std.specs.Prelude.{◌≡◌, Bool, true, false, not, List, ◌++◌, filter, Option, Some, None}
 use Rattle.yt_machine.specs.Trees.{result_of}
 use Rattle.yt_model.specs.Values.{NullName, Fact}
 use Rattle.yt_model.specs.Repository.{apply}
@@ -13,8 +13,10 @@ use Rattle.yt_steps.specs.Attempts.{Phase, Attempt}
 use Rattle.yt_steps.specs.Chase.{caused}
 use Rattle.yt_steps.specs.Steps.{Move, step}
 use Rattle.yt_provenance.specs.Puts.{Way, Generates, Rewrites, Step, image_of, step_by}
-use Rattle.yt_provenance.specs.Notes.{noted}
+use Rattle.yt_base.specs.Contents.{facts_of}
+use Rattle.yt_provenance.specs.Notes.{note, noted}
 use Rattle.yt_noted.specs.Meanings.{notes_in}
+use Rattle.yt_noted.specs.declared.made.Changed.{Changed}
 use Rattle.yt_noted.specs.declared.notes.Note.{Note}
 
 -- What is seen in a view: the tuples below with the own writes made.
@@ -43,3 +45,12 @@ step_of ms D P c = step_by ms D P c (move_of ms D P c)
 -- What that step puts has been noted.
 abbrev pub HasNoted : List Rule → List Fact → Option Choice → Attempt → Listed Note → Listed Note → Type 0
 HasNoted ms D c P ns ns' = notes_in ns' ≡ notes_in ns ++ noted (step_of ms D P c)
+
+-- The step deleted these tuples and put those.
+abbrev pub HasChanged : Step → Changed → Type 0
+HasChanged s c = (facts_of c.deleted ≡ (note s).deleted) × (facts_of c.puts ≡ (note s).puts)
+
+-- The test holds, or it does not, as is wanted.
+abbrev pub is_so : Bool → Bool → Bool
+is_so true b = b
+is_so false b = not b

@@ -1,5 +1,5 @@
 -- What is noted of updates that are taken whole in turn.
-use Rattle.std.specs.Prelude.{◌≡◌, ℕ, ◌+◌, Bool, true, false, List, [], ◌∷◌, ◌++◌, Option, Some, None}
+use Rattle.std.specs.Prelude.{◌≡◌, ℕ, ◌+◌, ◌-◌, Bool, true, false, List, [], ◌∷◌, ◌++◌, Option, Some, None}
 use Rattle.std.specs.Option.{option_map}
 use Rattle.yt_model.specs.Values.{Fact}
 use Rattle.yt_model.specs.Mappings.{Rule}
@@ -9,6 +9,7 @@ use Rattle.yt_grammar.specs.Checks.{rules_of}
 use Rattle.yt_grammar.specs.Sessions.{SessionData}
 use Rattle.yt_program.specs.Results.{StopTold, lack_of, stop_of}
 use Rattle.yt_program.specs.Wishes.{Wish, WishesReply, WishesChoice, WishesNothing, WishesStep, IsDone, IsSpent, IsRefused}
+use Rattle.yt_program.specs.declared.results.Lack.{Lack}
 use Rattle.yt_program.specs.declared.results.Stop.{Stop}
 use Rattle.yt_session.specs.Meanings.{request_of, requests_in, update_of}
 use Rattle.yt_session.specs.declared.sessions.SessionUpdate.{SessionUpdate}
@@ -18,7 +19,7 @@ use Rattle.yt_steps.specs.Serial.{Request, turns_in, turns_of}
 use Rattle.yt_provenance.specs.Courses.{steps_from, whole_steps, serial_steps}
 use Rattle.yt_provenance.specs.Notes.{Noted, notes_of}
 use Rattle.yt_serial.specs.Meanings.{requests_of}
-use Rattle.yt_serial.specs.Turns.{turn_of, whole_rest}
+use Rattle.yt_serial.specs.Turns.{rest_from, turn_of, whole_rest}
 use Rattle.yt_noted.specs.Meanings.{notes_in}
 use Rattle.yt_noted.specs.declared.notes.Note.{Note}
 use Rattle.yt_noted.specs.declared.runs.NotedRun.{NotedRun}
@@ -37,6 +38,14 @@ wants_none_done WishesStep = false
 abbrev pub left_from : List Rule → ℕ → List Fact → List Choice → ℕ → Attempt → List Noted
 left_from ms B D answers k P = notes_of (steps_from caused ms B P.operation D answers k P)
 
+-- From P on the attempt came to rest over D, as P', with this lack if it stopped at a question.
+abbrev pub RestsFrom : List Rule → ℕ → List Fact → List Choice → Attempt → Attempt → Option Lack → Type 0
+RestsFrom ms B D answers P P' lack = rest_from ms B D answers (B - P.steps) P ≡ (P', option_map lack_of lack)
+
+-- Behind the notes were added those of the steps from P on.
+abbrev pub HasNotedFrom : List Rule → ℕ → List Fact → List Choice → Attempt → Listed Note → Listed Note → Type 0
+HasNotedFrom ms B D answers P ns ns' = notes_in ns' ≡ notes_in ns ++ left_from ms B D answers (B - P.steps) P
+
 -- What is noted of an update that is taken whole over D.
 abbrev pub whole_notes : List Rule → ℕ → List Fact → ℕ → Request → List Noted
 whole_notes ms B D n r = notes_of (whole_steps caused ms B D (turn_of ms B n r))
@@ -46,6 +55,10 @@ abbrev pub HasTaken : List Rule → ℕ → List Fact → ℕ → SessionUpdate 
 HasTaken ms B D n u t =
     (whole_rest ms B D (turn_of ms B n (request_of (update_of u))) ≡ (t.program.attempt, option_map lack_of t.lack))
     × (notes_in t.notes ≡ whole_notes ms B D n (request_of (update_of u)))
+
+-- That holds of the mappings, the steps and the update n, wherever it was taken whole over D to this rest.
+abbrev pub OnceTaken : List Fact → ℕ → Taken → (List Rule → ℕ → SessionUpdate → Type 0) → Type 0
+OnceTaken D n t p = (ms : List Rule) (B : ℕ) (u : SessionUpdate) → HasTaken ms B D n u t → p ms B u
 
 -- What is noted of these updates, taken whole in turn over D. The first of them has the number n.
 unfoldable pub noted_from : List Rule → ℕ → List Fact → ℕ → List Request → List Noted

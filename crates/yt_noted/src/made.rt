@@ -8,13 +8,13 @@ ghost use Rattle.yt_program.specs.Wishes.{wish};
 ghost use Rattle.yt_provenance.specs.Notes.{note};
 ghost use Rattle.yt_serial.specs.Turns.{StepsBy, HasStepped, seen_with};
 ghost use Rattle.yt_noted.specs.Meanings.{note_of};
-ghost use Rattle.yt_noted.specs.Steps.{HasNoted, step_of};
+ghost use Rattle.yt_noted.specs.Steps.{HasChanged, HasNoted, step_of};
 
 use crate::notes::{Note, NoteList, add};
 use crate::ways::way;
 use crate::writes::{absent, deleted, latest, present};
 use std::alloc::Global;
-use yt_base::{Choice, Memory};
+use yt_base::{Choice, Memory, TupleList};
 use yt_eval::WatchedView;
 use yt_facts::IndexedFacts;
 use yt_limits::{Budget, Mappings};
@@ -74,15 +74,49 @@ fn noted(
         program.old.attempt (option_map choice_of (option_copied choice.entry)))) }
 {
     let way = way(alloc, program, view, choice, mappings)?;
-    let seen = program.own().len();
-    make(alloc, program, view, choice, mappings, budget)?;
-    let fresh = absent(alloc, view, latest(program.own(), seen))?;
-    see_all(alloc, view, program.own(), seen)?;
+    let changed = carry_out(alloc, program, view, choice, mappings, budget)?;
     Ok(Note {
         update: program.number(),
         step: program.steps(),
         way,
-        deleted: deleted(alloc, latest(program.own(), seen))?,
-        puts: present(alloc, view, fresh)?,
+        deleted: changed.deleted,
+        puts: changed.puts,
     })
+}
+
+// What a step deleted, and what it put.
+#[derive(Drop)]
+struct Changed {
+    deleted: TupleList,
+    puts: TupleList,
+}
+
+// Makes the step, and gives what it deleted and put.
+fn carry_out(
+    alloc: Global,
+    program: &mut Program,
+    view: &mut WatchedView<'_, IndexedFacts>,
+    choice: Option<&Choice>,
+    mappings: &Mappings<'_>,
+    budget: Budget,
+) -> Result<Changed, Memory>
+    requires wanted { StepsBy (wish program.old) (option_map choice_of (option_copied choice)) }
+    requires rules { view.old.rules ≡ mappings.now }
+    requires heading { view.old.heading ≡ direction_of program.old.attempt.operation }
+    requires seen { view.old.own ≡ program.old.attempt.own }
+    requires sorted { IsRepository view.old.below }
+    requires left { program.old.attempt.steps < budget }
+    ensures stepped { OnOk result (HasStepped mappings.now budget view.old.below
+        (option_map choice_of (option_copied choice.entry)) program.old program.new) }
+    ensures seen { OnOk result (view.new ≡ seen_with view.old program.new.attempt.own) }
+    ensures changed { IfOk result (HasChanged (step_of mappings.now view.old.below
+        program.old.attempt (option_map choice_of (option_copied choice.entry)))) }
+{
+    let seen = program.own().len();
+    make(alloc, program, view, choice, mappings, budget)?;
+    let fresh = absent(alloc, view, latest(program.own(), seen))?;
+    see_all(alloc, view, program.own(), seen)?;
+    let puts = present(alloc, view, fresh)?;
+    let deleted = deleted(alloc, latest(program.own(), seen))?;
+    Ok(Changed { deleted, puts })
 }

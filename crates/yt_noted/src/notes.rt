@@ -6,7 +6,7 @@ ghost use Rattle.yt_noted.specs.Meanings.{note_of, notes_in};
 use yt_base::{List, Memory, Sub, TupleList, Value};
 
 /// A substitution: of one value for another, or of a unifier.
-#[derive(Debug, Drop)]
+#[derive(Drop)]
 pub enum Rewriting {
     Replaces { from: Value, to: Value },
     Unifies(Sub),
@@ -14,7 +14,7 @@ pub enum Rewriting {
 
 /// How a step comes to the tuples that it puts: as they were handed in; as right sides of the mapping of this number,
 /// for this image of the left side; or by a substitution in others. A step that puts none is said to go the first way.
-#[derive(Debug, Drop)]
+#[derive(Drop)]
 pub enum Way {
     Inserts,
     Generates { mapping: u16, image: TupleList },
@@ -22,7 +22,7 @@ pub enum Way {
 }
 
 /// A step by its update and its number there, its way, the tuples that it deleted, and those that it put.
-#[derive(Debug, Drop)]
+#[derive(Drop)]
 pub struct Note {
     pub update: u32,
     pub step: u32,

@@ -1,17 +1,19 @@
 //! The noted run of a session: its updates taken whole in turn, up to the first that stops.
-ghost use Rattle.std.specs.Prelude.{◌≡◌, ◌≤◌, ◌++◌, [], if◌then◌else◌, length, None, is_some, true, IfOk, OnOk};
+ghost use Rattle.std.specs.Prelude.{◌≡◌, ◌≤◌, ◌++◌, [], if◌then◌else◌, length, true, is_some, is_none, None, Some, IfOk, OnOk};
+ghost use Rattle.std.specs.Option.{option_map};
 ghost use Rattle.yt_grammar.specs.Validity.{IsSession};
 ghost use Rattle.yt_model.specs.Repository.{IsRepository};
 ghost use Rattle.yt_program.specs.PointMeanings.{want_of};
-ghost use Rattle.yt_program.specs.Results.{result_of};
+ghost use Rattle.yt_program.specs.Results.{lack_of, result_of, stop_in, stop_of};
 ghost use Rattle.yt_provenance.specs.Courses.{is_done_with};
-ghost use Rattle.yt_serial.specs.Meanings.{HasTaken as HasTakenTurn, HasTakenAll, IsSerialRun, requests_of};
+ghost use Rattle.yt_serial.specs.Meanings.{HasCommitted, HasEnded, HasTaken as HasTakenTurn, HasTakenAll, IsSerialRun, requests_of};
 ghost use Rattle.yt_serial.specs.Runs.{told_from};
 ghost use Rattle.yt_session.specs.Base.{base_violation};
 ghost use Rattle.yt_session.specs.Meanings.{session_of};
-ghost use Rattle.yt_steps.specs.Attempts.{outcome_in};
+ghost use Rattle.yt_steps.specs.Attempts.{outcome_in, question_in};
+ghost use Rattle.yt_steps.specs.Serial.{stopped as stopped_lem};
 ghost use Rattle.yt_noted.specs.Meanings.{notes_in};
-ghost use Rattle.yt_noted.specs.Turns.{HasNotedTurn, HasNotedAll, IsNotedRun, noted_from, wants_none_done};
+ghost use Rattle.yt_noted.specs.Turns.{HasNotedTurn, HasNotedAll, IsNotedRun, OnceTaken, noted_from, wants_none_done};
 
 use crate::notes::{NoteList, add_all};
 use crate::wholes::{Taken, take_whole};
@@ -19,7 +21,7 @@ use std::alloc::Global;
 use yt_base::Memory;
 use yt_facts::IndexedFacts;
 use yt_limits::{Budget, Mappings};
-use yt_program::{FinishList, Outcome, Program, SessionResult, Stop, Want};
+use yt_program::{FinishList, Lack, Outcome, Program, SessionResult, Stop, Want};
 use yt_provenance::laws::steps_agree_in_scopes;
 use yt_serial::endings::{end, stop};
 use yt_serial::mappings_of;
@@ -147,28 +149,78 @@ fn turn(
         notes.old facts.old notes.new facts.new) }
 {
     let taken = take_whole(alloc, number, update, facts, mappings, budget)?;
+    close(alloc, finishes, notes, facts, number, taken)
+}
+
+// Ends the turn of an update that has come to rest.
+fn close(
+    alloc: Global,
+    finishes: &mut FinishList,
+    notes: &mut NoteList,
+    facts: &mut IndexedFacts,
+    number: u32,
+    taken: Taken,
+) -> Result<Option<Stop>, Memory>
+    requires sorted { IsRepository facts.old }
+    requires between { taken.program.reading ≡ None }
+    requires asked { is_some (question_in taken.program.attempt.phase) ≡ is_some taken.lack }
+    requires ended { is_some (outcome_in taken.program.attempt.phase) ≡ is_none taken.lack }
+    ensures sorted { OnOk result (IsRepository facts.new) }
+    ensures told { IfOk result (λ stop. OnceTaken facts.old number taken (λ ms B update.
+        HasTakenTurn ms B number update finishes.old facts.old finishes.new facts.new stop)) }
+    ensures noted { IfOk result (λ stop. OnceTaken facts.old number taken (λ ms B update.
+        HasNotedTurn ms B number update notes.old facts.old notes.new facts.new stop)) }
+{
     match taken.lack {
-        Some(lack) => Ok(Some(stop(alloc, &taken.program, number, lack)?)),
+        Some(lack) => Ok(Some(stopped(alloc, taken.program, number, lack)?)),
         None => {
-            let Taken {
-                program,
-                notes: made,
-                ..
-            } = taken;
-            keep(notes, made, &program)?;
-            end(alloc, finishes, facts, program)?;
+            ended(alloc, finishes, notes, facts, taken.program, taken.notes)?;
             Ok(None)
         }
     }
 }
 
-// Adds what was noted of an update that has ended, where it is done.
-fn keep(notes: &mut NoteList, made: NoteList, program: &Program) -> Result<(), Memory>
-    requires between { program.now.reading ≡ None }
-    ensures kept { OnOk result (notes_in notes.new ≡ notes_in notes.old ++
-        (if is_done_with (outcome_in program.now.attempt.phase) then notes_in made else [])) }
+// The stop of an update at a question for what is lacking, for which it is given up.
+fn stopped(alloc: Global, program: Program, number: u32, lack: Lack) -> Result<Stop, Memory>
+    requires between { program.reading ≡ None }
+    requires asked { is_some (question_in program.attempt.phase) ≡ true }
+    ensures told { IfOk result (λ told.
+        option_map stop_in (stopped_lem number program.attempt (lack_of lack)) ≡
+        Some (stop_of told)) }
 {
-    if is_done(program) {
+    let told = stop(alloc, &program, number, lack);
+    drop(program);
+    told
+}
+
+// Tells the finish of an update that has ended, and keeps its writes and, where it is done, what was noted of it.
+fn ended(
+    alloc: Global,
+    finishes: &mut FinishList,
+    notes: &mut NoteList,
+    facts: &mut IndexedFacts,
+    program: Program,
+    made: NoteList,
+) -> Result<(), Memory>
+    requires between { program.reading ≡ None }
+    requires ended { is_some (outcome_in program.attempt.phase) ≡ true }
+    ensures told { OnOk result (HasEnded program.attempt finishes.old finishes.new) }
+    ensures kept { OnOk result (HasCommitted facts.old program.attempt facts.new) }
+    ensures noted { OnOk result (notes_in notes.new ≡ notes_in notes.old ++
+        (if is_done_with (outcome_in program.attempt.phase) then notes_in made else [])) }
+{
+    let done = is_done(&program);
+    end(alloc, finishes, facts, program)?;
+    keep(notes, made, done)?;
+    Ok(())
+}
+
+// Adds what was noted of an update that has ended, where it is done.
+fn keep(notes: &mut NoteList, made: NoteList, done: bool) -> Result<(), Memory>
+    ensures kept { OnOk result (notes_in notes.new ≡ notes_in notes.old ++
+        (if done then notes_in made else [])) }
+{
+    if done {
         return add_all(notes, made);
     }
     Ok(())

@@ -8,10 +8,12 @@ ghost use Rattle.yt_chase.specs.Bound.{bound_in};
 ghost use Rattle.yt_chase.specs.BoundMeanings.{bound_of};
 ghost use Rattle.yt_program.specs.Wishes.{wish};
 ghost use Rattle.yt_provenance.specs.Puts.{Generates, image_of, stands_for as stands_for_lem, way_in, way_of_start as way_of_start_lem};
+ghost use Rattle.yt_query.specs.Meanings.{reply_of};
 ghost use Rattle.yt_serial.specs.Turns.{StepsBy};
 ghost use Rattle.yt_noted.specs.Meanings.{way_of};
 ghost use Rattle.yt_noted.specs.Steps.{seen_in, way_of_bound, holders_in};
 ghost use Rattle.yt_steps.specs.Rewriting.{standing_for};
+ghost use Rattle.yt_steps.specs.Steps.{tuples_of};
 
 use crate::notes::{Rewriting, Way};
 use std::alloc::Global;
@@ -97,12 +99,21 @@ fn stands(
         standing_for (null_of name) (holders_in (seen_in view.old) (null_of name))) }
     ensures same { view.new ≡ view.old }
 {
-    match view.eval(&Query::Occurs(name.update, name.place), alloc)? {
-        Answer::Tuples(tuples) => standing_for(alloc, name, &tuples),
-        Answer::Yes => unreachable!(),
-        Answer::No => unreachable!(),
-        Answer::Image(_) => unreachable!(),
-        Answer::Nothing => unreachable!(),
+    let answer = view.eval(&Query::Occurs(name.update, name.place), alloc)?;
+    stands_by(alloc, name, &answer)
+}
+
+// What a named null stands for by an answer that gives the tuples which hold it.
+fn stands_by(alloc: Global, name: Null, answer: &Answer) -> Result<Value, Memory>
+    ensures value { IfOk result (λ known. datum_of known ≡
+        standing_for (null_of name) (tuples_of (reply_of answer.now))) }
+{
+    match answer {
+        Answer::Tuples(tuples) => standing_for(alloc, name, tuples),
+        Answer::Yes => Ok(Value::Int(0)),
+        Answer::No => Ok(Value::Int(0)),
+        Answer::Image(_) => Ok(Value::Int(0)),
+        Answer::Nothing => Ok(Value::Int(0)),
     }
 }
 

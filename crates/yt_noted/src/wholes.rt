@@ -1,13 +1,14 @@
 //! An update taken whole, with the notes of its steps.
-ghost use Rattle.std.specs.Prelude.{◌≡◌, IfOk, None, is_some, is_none};
+ghost use Rattle.std.specs.Prelude.{◌≡◌, ◌<◌, [], IfOk, OnOk, None, is_some, is_none};
+ghost use Rattle.yt_base.specs.Contents.{choices_of};
 ghost use Rattle.yt_model.specs.Repository.{IsRepository};
 ghost use Rattle.yt_steps.specs.Attempts.{question_in, outcome_in};
-ghost use Rattle.yt_noted.specs.Turns.{HasTaken};
+ghost use Rattle.yt_noted.specs.Turns.{HasNotedFrom, HasTaken, RestsFrom};
 
 use crate::made::step;
 use crate::notes::NoteList;
 use std::alloc::Global;
-use yt_base::Memory;
+use yt_base::{ChoiceList, Memory};
 use yt_eval::WatchedView;
 use yt_facts::IndexedFacts;
 use yt_limits::{Budget, Mappings};
@@ -42,28 +43,61 @@ pub(crate) fn take_whole(
 {
     budget.is_within();
     let mut program = Program::start(alloc, &update.update, number, 0)?;
-    let mut view = WatchedView::new(alloc, facts, mappings.list(), program.direction())?;
     let mut notes = NoteList::new(alloc);
+    let answers = &update.answers;
+    match go_on(
+        alloc,
+        &mut program,
+        &mut notes,
+        answers,
+        facts,
+        mappings,
+        budget,
+    ) {
+        Ok(lack) => Ok(Taken {
+            program,
+            lack,
+            notes,
+        }),
+        Err(memory) => {
+            drop(program);
+            Err(memory)
+        }
+    }
+}
+
+// Makes the steps of the attempt, which has made none, over the repository, up to its rest there, and adds their notes.
+// It gives what is lacking.
+fn go_on(
+    alloc: Global,
+    program: &mut Program,
+    notes: &mut NoteList,
+    answers: &ChoiceList,
+    facts: &IndexedFacts,
+    mappings: &Mappings<'_>,
+    budget: Budget,
+) -> Result<Option<Lack>, Memory>
+    requires sorted { IsRepository facts.now }
+    requires between { program.old.reading ≡ None }
+    requires fresh { program.old.attempt.own ≡ [] }
+    requires left { program.old.attempt.steps < budget }
+    ensures rests { IfOk result (RestsFrom mappings.now budget facts.now (choices_of answers.now)
+        program.old.attempt program.new.attempt) }
+    ensures noted { OnOk result (HasNotedFrom mappings.now budget facts.now (choices_of answers.now)
+        program.old.attempt notes.old notes.new) }
+    ensures between { OnOk result (program.new.reading ≡ None) }
+    ensures asked { IfOk result (λ lack. is_some (question_in program.new.attempt.phase) ≡
+        is_some lack) }
+    ensures ended { IfOk result (λ lack. is_some (outcome_in program.new.attempt.phase) ≡
+        is_none lack) }
+{
+    let mut view = WatchedView::new(alloc, facts, mappings.list(), program.direction())?;
     'turns: loop {
-        match what_next(&program, &update.answers) {
+        match what_next(program, answers) {
             Next::Step(choice) => {
-                step(
-                    alloc,
-                    &mut program,
-                    &mut view,
-                    &mut notes,
-                    choice,
-                    mappings,
-                    budget,
-                )?;
+                step(alloc, program, &mut view, notes, choice, mappings, budget)?;
             }
-            Next::Rest(lack) => {
-                return Ok(Taken {
-                    program,
-                    lack,
-                    notes,
-                });
-            }
+            Next::Rest(lack) => return Ok(lack),
         }
     }
 }

@@ -4,7 +4,9 @@ ghost use Rattle.yt_model.specs.Repository.{has};
 ghost use Rattle.yt_base.specs.Contents.{changes_of, facts_of};
 ghost use Rattle.yt_base.specs.Meanings.{change_of, fact_of};
 ghost use Rattle.yt_provenance.specs.Puts.{inserted as inserted_lem, deleted as deleted_lem};
-ghost use Rattle.yt_noted.specs.Steps.{seen_in};
+ghost use Rattle.yt_query.specs.Meanings.{reply_of};
+ghost use Rattle.yt_steps.specs.Steps.{is_yes as is_yes_lem};
+ghost use Rattle.yt_noted.specs.Steps.{is_so, seen_in};
 
 use std::alloc::Global;
 use yt_base::{Memory, TryCopy, Tuple, TupleList, Write, WriteList};
@@ -30,26 +32,7 @@ pub(crate) fn absent(
         filter (λ t. not (has (seen_in view.old) t)) (inserted_lem (map change_of writes.now))) }
     ensures same { view.new ≡ view.old }
 {
-    without(alloc, view, inserted(alloc, writes)?)
-}
-
-// The tuples that are not seen in the view.
-fn without(
-    alloc: Global,
-    view: &mut WatchedView<'_, IndexedFacts>,
-    tuples: TupleList,
-) -> Result<TupleList, Memory>
-    ensures absent { IfOk result (λ others. facts_of others ≡
-        filter (λ t. not (has (seen_in view.old) t)) (facts_of tuples)) }
-    ensures same { view.new ≡ view.old }
-{
-    let mut others = TupleList::new(alloc);
-    for tuple in tuples.into_vec() {
-        if !is_seen(alloc, view, &tuple)? {
-            others.push(tuple)?;
-        }
-    }
-    Ok(others)
+    those(alloc, view, inserted(alloc, writes)?, false)
 }
 
 /// Those of the tuples that are seen in the view. It is refused only for want of memory.
@@ -62,16 +45,46 @@ pub(crate) fn present(
         filter (has (seen_in view.old)) (facts_of tuples)) }
     ensures same { view.new ≡ view.old }
 {
+    those(alloc, view, tuples, true)
+}
+
+// Those of the tuples that are seen in the view, or those that are not.
+fn those(
+    alloc: Global,
+    view: &mut WatchedView<'_, IndexedFacts>,
+    tuples: TupleList,
+    seen: bool,
+) -> Result<TupleList, Memory>
+    ensures those { IfOk result (λ those. facts_of those ≡
+        filter (λ t. is_so seen (has (seen_in view.old) t)) (facts_of tuples)) }
+    ensures same { view.new ≡ view.old }
+{
     let mut those = TupleList::new(alloc);
     for tuple in tuples.into_vec() {
-        if is_seen(alloc, view, &tuple)? {
+        if is_wanted(alloc, view, &tuple, seen)? {
             those.push(tuple)?;
         }
     }
     Ok(those)
 }
 
+// Whether the tuple is seen in the view, or is not, as is wanted.
+fn is_wanted(
+    alloc: Global,
+    view: &mut WatchedView<'_, IndexedFacts>,
+    tuple: &Tuple,
+    seen: bool,
+) -> Result<bool, Memory>
+    ensures wanted { IfOk result (λ wanted.
+        wanted ≡ is_so seen (has (seen_in view.old) (fact_of tuple.now))) }
+    ensures same { view.new ≡ view.old }
+{
+    let there = is_seen(alloc, view, tuple)?;
+    Ok(if seen { there } else { !there })
+}
+
 // Whether the tuple is seen in the view.
+#[tactic(auto, using(crate::proofs::Writing::seen_by))]
 fn is_seen(
     alloc: Global,
     view: &mut WatchedView<'_, IndexedFacts>,
@@ -81,13 +94,15 @@ fn is_seen(
     ensures same { view.new ≡ view.old }
 {
     let query = Query::Present(tuple.copy(alloc)?);
-    match view.eval(&query, alloc)? {
-        Answer::Yes => Ok(true),
-        Answer::No => Ok(false),
-        Answer::Image(_) => unreachable!(),
-        Answer::Nothing => unreachable!(),
-        Answer::Tuples(_) => unreachable!(),
-    }
+    let answer = view.eval(&query, alloc)?;
+    Ok(is_yes(&answer))
+}
+
+// Whether the answer is yes.
+fn is_yes(answer: &Answer) -> bool
+    ensures answer { result ≡ is_yes_lem (reply_of answer.now) }
+{
+    matches!(answer, Answer::Yes)
 }
 
 // The tuples that the writes insert, in turn.

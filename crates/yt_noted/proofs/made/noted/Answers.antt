@@ -1,15 +1,14 @@
-use Rattle.std.proofs.Common.{◌≡◌, ◌∙◌, ap, refl, sym, not, List, length, drop, map, filter}
+use Rattle.std.proofs.Common.{◌∙◌, ap, List, map}
 use Rattle.std.specs.Option.{option_map, option_copied}
-use Rattle.std.proofs.lemmas.List.{length-map}
-use Rattle.yt_model.specs.Values.{Fact}
-use Rattle.yt_model.specs.Repository.{Change, apply, has}
-use Rattle.yt_base.specs.Meanings.{change_of, choice_of, fact_of}
+use Rattle.yt_model.specs.Repository.{Change, apply}
+use Rattle.yt_base.specs.Meanings.{choice_of, fact_of}
 use Rattle.yt_eval.specs.Watched.{Watched}
 use Rattle.yt_program.specs.Courses.{between}
-use Rattle.yt_provenance.specs.Puts.{inserted, deleted, way_in}
+use Rattle.yt_provenance.specs.Notes.{note}
+use Rattle.yt_provenance.specs.Puts.{way_in}
 use Rattle.yt_serial.specs.Turns.{stepped}
 use Rattle.yt_noted.specs.Meanings.{way_of}
-use Rattle.yt_noted.specs.Steps.{seen_in}
+use Rattle.yt_noted.specs.Steps.{step_of}
 use Rattle.yt_noted.proofs.Writing.{note_made}
 use Rattle.yt_noted.proofs.made.noted.Goals as goal
 
@@ -18,22 +17,11 @@ returns-clause-note c =
     let ms = c.args.mappings.now in
     let view = c.args.view.now in
     let P = c.args.program.now.attempt in
-    let s = c.make.new.program in
     let choice = option_map choice_of (option_copied c.args.choice) in
-    let there : c.make.new.view ≡ view = c.in_ok-make.ensures.same ∙ c.way.ensures.same in
-    let kept : c.absent.new.view ≡ view = c.absent.ensures.same ∙ there in
-    let count : c.len-seen.result ≡ length P.own = c.len-seen.ensures.length ∙ (sym (length-map c.own.result.now.items change_of) ∙ ap length c.own.ensures.own) in
-    let behind : map change_of c.latest.result.now ≡ drop (length P.own) s.attempt.own = c.latest.ensures.latest ∙ (λ i. drop (count i) (c.own-2.ensures.own i)) in
-    let behind_too : map change_of c.latest-2.result.now ≡ drop (length P.own) s.attempt.own = c.latest-2.ensures.latest ∙ (λ i. drop (count i) (c.own-4.ensures.own i)) in
-    let before : seen_in c.make.new.view ≡ apply view.below P.own = ap seen_in there ∙ ap (apply view.below) c.requires.seen in
-    let after : seen_in c.see_all.new.view ≡ apply view.below s.attempt.own = ap seen_in c.in_ok-see_all.ensures.seen ∙ (λ i. apply (kept i).below (c.own-3.ensures.own i)) in
-    note_made ms c.args.budget view.below P choice s c.number.result c.steps.result (way_of c.in_ok-way.way)
-    (drop (length P.own) s.attempt.own) s.attempt.own
-    (map fact_of c.in_ok-deleted.field-0.items) (map fact_of c.in_ok-fresh.fresh.items) (map fact_of c.in_ok-present.field-0.items)
-    (c.in_ok-make.ensures.stepped ∙ ap (λ (v : Watched). between (stepped ms c.args.budget v.below P choice)) c.way.ensures.same)
+    note_made ms c.args.budget view.below P choice c.carry_out.new.program c.number.result c.steps.result (way_of c.in_ok-way.way)
+    (map fact_of c.in_ok-changed.changed.deleted.items) (map fact_of c.in_ok-changed.changed.puts.items)
+    (c.in_ok-changed.ensures.stepped ∙ ap (λ (v : Watched). between (stepped ms c.args.budget v.below P choice)) c.way.ensures.same)
     c.number.ensures.number c.steps.ensures.steps
     (c.in_ok-way.ensures.way ∙ ap (λ (own : List Change). way_in ms (apply view.below own) P.operation choice P.phase) c.requires.seen)
-    refl refl
-    (c.in_ok-deleted.ensures.deleted ∙ ap deleted behind_too)
-    (c.in_ok-fresh.ensures.absent ∙ (λ i. filter (λ t. not (has (before i) t)) (inserted (behind i))))
-    (c.in_ok-present.ensures.present ∙ ap (λ (E : List Fact). filter (has E) (map fact_of c.in_ok-fresh.fresh.items)) after)
+    (c.in_ok-changed.ensures.changed.0 ∙ ap (λ (v : Watched). (note (step_of ms v.below P choice)).deleted) c.way.ensures.same)
+    (c.in_ok-changed.ensures.changed.1 ∙ ap (λ (v : Watched). (note (step_of ms v.below P choice)).puts) c.way.ensures.same)

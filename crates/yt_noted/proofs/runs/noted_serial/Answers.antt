@@ -1,15 +1,11 @@
-use Rattle.std.proofs.Common.{◌≡◌, ◌∙◌, map, Result, Ok, Err, IfOk}
+use Rattle.std.proofs.Common.{◌≡◌, ◌∙◌, map}
 use Rattle.yt_grammar.specs.Checks.{rules_of}
 use Rattle.yt_session.specs.Meanings.{request_of, requests_in, session_of, update_of}
 use Rattle.yt_serial.specs.Runs.{told_from}
 use Rattle.yt_serial.proofs.Onward.{told_whole}
 use Rattle.yt_noted.specs.Turns.{noted_from}
-use Rattle.yt_noted.proofs.Turning.{noted_whole}
+use Rattle.yt_noted.proofs.Turning.{if_ok_weaker, noted_whole}
 use Rattle.yt_noted.proofs.runs.noted_serial.Goals as goal
-
-if_ok_weaker : {T E : Type 0} {P Q : T → Type 0} (r : Result T E) → ((x : T) → P x → Q x) → IfOk r P → IfOk r Q
-if_ok_weaker (Ok x) f h = f x h
-if_ok_weaker (Err e) f h = h
 
 pub returns-clause-told : goal.returns-clause-told
 returns-clause-told c =

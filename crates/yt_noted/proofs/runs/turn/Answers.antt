@@ -1,60 +1,8 @@
-use Rattle.std.specs.Prelude.{if◌then◌else◌}
-use Rattle.std.proofs.Common.{◌∙◌, ◌++◌, ap, map, subst, sym, List, [], append_assoc}
-use Rattle.std.specs.Option.{option_map}
-use Rattle.yt_machine.specs.Updates.{shown}
-use Rattle.yt_model.specs.Repository.{IsRepository}
-use Rattle.yt_model.proofs.Sets.{apply_in_order}
-use Rattle.yt_program.specs.Results.{finish_of, lack_of, stop_of}
-use Rattle.yt_session.specs.Meanings.{request_of, update_of}
-use Rattle.yt_steps.specs.Attempts.{outcome_in}
-use Rattle.yt_steps.specs.Chase.{caused_chase}
-use Rattle.yt_provenance.specs.Courses.{is_done_with}
-use Rattle.yt_provenance.specs.Notes.{Noted}
-use Rattle.yt_serial.specs.Runs.{behind}
-use Rattle.yt_serial.proofs.Onward.{goes_on, stops_here}
-use Rattle.yt_noted.specs.Meanings.{note_of}
-use Rattle.yt_noted.specs.Turns.{noted_from}
-use Rattle.yt_noted.proofs.Turning.{noted_on, noted_stop}
+use Rattle.yt_noted.proofs.Turning.{if_ok_weaker}
 use Rattle.yt_noted.proofs.runs.turn.Goals as goal
 
-pub returns-in_ok-stop-in-Some-clause-told : goal.returns-in_ok-stop-in-Some-clause-told
-returns-in_ok-stop-in-Some-clause-told c = λ rs.
-    ap (behind (map finish_of c.args.finishes.now.items))
-    (stops_here c.args.mappings.now c.args.budget c.args.facts.now c.args.number (request_of (update_of c.args.update.now)) rs
-    c.in_ok-taken.taken.program.attempt (lack_of c.in-Some.lack) (stop_of c.in_ok-stop-in-Some.field-0)
-    (c.in_ok-taken.ensures.taken.0 ∙ ap (λ l. (c.in_ok-taken.taken.program.attempt, option_map lack_of l)) c.in-Some.is)
-    c.in_ok-stop-in-Some.ensures.told)
+pub returns-clause-told : goal.returns-clause-told
+returns-clause-told c = if_ok_weaker c.close.result (λ stop h. h c.args.mappings.now c.args.budget c.args.update.now c.in_ok-taken.ensures.taken) c.close.ensures.told
 
-pub returns-in_ok-stop-in-Some-clause-noted : goal.returns-in_ok-stop-in-Some-clause-noted
-returns-in_ok-stop-in-Some-clause-noted c = λ rs.
-    ap (λ (ns : List Noted). map note_of c.args.notes.now.items ++ ns)
-    (noted_stop c.args.mappings.now c.args.budget c.args.facts.now c.args.number (request_of (update_of c.args.update.now)) rs
-    c.in_ok-taken.taken.program.attempt (lack_of c.in-Some.lack)
-    (c.in_ok-taken.ensures.taken.0 ∙ ap (λ l. (c.in_ok-taken.taken.program.attempt, option_map lack_of l)) c.in-Some.is))
-
-pub returns-in_ok-end-in-None-clause-sorted : goal.returns-in_ok-end-in-None-clause-sorted
-returns-in_ok-end-in-None-clause-sorted c =
-    let ms = c.args.mappings.now in
-    subst IsRepository (sym (c.in_ok-end-in-None.ensures.kept ms c.args.budget))
-    (apply_in_order c.args.facts.now (shown (caused_chase ms c.args.budget) c.in_ok-taken.taken.program.attempt) c.requires.sorted)
-
-pub returns-in_ok-end-in-None-clause-told : goal.returns-in_ok-end-in-None-clause-told
-returns-in_ok-end-in-None-clause-told c = λ rs.
-    goes_on c.args.mappings.now c.args.budget c.args.facts.now c.end.new.facts c.args.number (request_of (update_of c.args.update.now)) rs
-    c.in_ok-taken.taken.program.attempt (map finish_of c.args.finishes.now.items) (map finish_of c.end.new.finishes.items)
-    (c.in_ok-taken.ensures.taken.0 ∙ ap (λ l. (c.in_ok-taken.taken.program.attempt, option_map lack_of l)) c.in-None.is)
-    (c.in_ok-end-in-None.ensures.told c.args.number)
-    (c.in_ok-end-in-None.ensures.kept c.args.mappings.now c.args.budget)
-
-pub returns-in_ok-end-in-None-clause-noted : goal.returns-in_ok-end-in-None-clause-noted
-returns-in_ok-end-in-None-clause-noted c = λ rs.
-    let ms = c.args.mappings.now in
-    let P = c.in_ok-taken.taken.program.attempt in
-    let before = map note_of c.args.notes.now.items in
-    ap (λ (ns : List Noted). before ++ ns)
-    (noted_on ms c.args.budget c.args.facts.now c.end.new.facts c.args.number (request_of (update_of c.args.update.now)) rs P
-    (c.in_ok-taken.ensures.taken.0 ∙ ap (λ l. (P, option_map lack_of l)) c.in-None.is)
-    (c.in_ok-end-in-None.ensures.kept ms c.args.budget))
-    ∙ ap (λ (ns : List Noted). before ++ ((if is_done_with (outcome_in P.phase) then ns else []) ++ noted_from ms c.args.budget c.end.new.facts (Rattle.std.proofs.Common.◌+◌ c.args.number 1) rs)) (sym c.in_ok-taken.ensures.taken.1)
-    ∙ sym (append_assoc before (if is_done_with (outcome_in P.phase) then map note_of c.in_ok-taken.taken.notes.items else []) (noted_from ms c.args.budget c.end.new.facts (Rattle.std.proofs.Common.◌+◌ c.args.number 1) rs))
-    ∙ ap (λ (ns : List Noted). ns ++ noted_from ms c.args.budget c.end.new.facts (Rattle.std.proofs.Common.◌+◌ c.args.number 1) rs) (sym c.in_ok-keep-in-None.ensures.kept)
+pub returns-clause-noted : goal.returns-clause-noted
+returns-clause-noted c = if_ok_weaker c.close.result (λ stop h. h c.args.mappings.now c.args.budget c.args.update.now c.in_ok-taken.ensures.taken) c.close.ensures.noted

@@ -6,22 +6,22 @@ use Rattle.yt_program.specs.Courses.{between, State}
 use Rattle.yt_eval.specs.Watched.{Watched}
 use Rattle.std.specs.Option.{option_map, option_copied}
 use Rattle.yt_base.specs.Meanings.{choice_of}
-use Rattle.yt_session.specs.Meanings.{update_of, request_of}
 use Rattle.yt_program.specs.Results.{lack_of}
 use Rattle.yt_provenance.specs.Notes.{Noted, noted}
-use Rattle.yt_serial.specs.Turns.{stepped, turn_of, whole_rest}
+use Rattle.yt_serial.specs.Turns.{rest_from, stepped}
 use Rattle.yt_serial.proofs.Running.{stays_on, rests_there}
 use Rattle.yt_noted.specs.Meanings.{note_of}
 use Rattle.yt_noted.specs.Steps.{step_of}
 use Rattle.yt_noted.specs.Turns.{left_from}
 use Rattle.yt_noted.proofs.Noting.{notes_on, notes_rest}
-use Rattle.yt_noted.proofs.wholes.take_whole.Goals as goal
+use Rattle.yt_noted.proofs.wholes.go_on.Goals as goal
 
 pub turns-preserved : goal.turns-preserved
 turns-preserved c =
     let ms = c.args.mappings.now in
     let D = c.args.facts.now in
-    let answers = map choice_of c.args.update.now.answers.items in
+    let answers = map choice_of c.args.answers.now.items in
+    let P = c.args.program.now.attempt in
     let choice = option_map choice_of (option_copied c.in-Step.choice) in
     let below = ap (λ (v : Watched). v.below) c.turns.invariant.seen in
     let heading : direction_of c.turns.program.attempt.operation ≡ direction_of c.step.new.program.attempt.operation =
@@ -29,8 +29,7 @@ turns-preserved c =
     let made =
     c.in_ok-step-in-Step.ensures.stepped
     ∙ ap (λ (E : List Fact). between (stepped ms c.args.budget E c.turns.program.attempt choice)) below in
-    let kept = stays_on ms c.args.budget D answers
-    (whole_rest ms c.args.budget D (turn_of ms c.args.budget c.args.number (request_of (update_of c.args.update.now))))
+    let kept = stays_on ms c.args.budget D answers (rest_from ms c.args.budget D answers (c.args.budget - P.steps) P)
     c.turns.program c.step.new.program choice
     (c.turns.invariant.between, c.turns.invariant.left, c.turns.invariant.together)
     c.in-Step.ensures.next made in
@@ -52,17 +51,24 @@ turns-preserved c =
           ∙ ap (λ (ns : List Noted). ns ++ rest) (sym c.in_ok-step-in-Step.ensures.noted);
     }
 
-pub returns-in-Rest-clause-taken : goal.returns-in-Rest-clause-taken
-returns-in-Rest-clause-taken c =
+pub returns-in-Rest-clause-rests : goal.returns-in-Rest-clause-rests
+returns-in-Rest-clause-rests c =
     let ms = c.args.mappings.now in
-    let answers = map choice_of c.args.update.now.answers.items in (
-      rests_there ms c.args.budget c.args.facts.now answers
-          (whole_rest ms c.args.budget c.args.facts.now (turn_of ms c.args.budget c.args.number (request_of (update_of c.args.update.now))))
-          c.turns.program (option_map lack_of c.in-Rest.lack)
-          (c.turns.invariant.between, c.turns.invariant.left, c.turns.invariant.together) c.in-Rest.ensures.next,
-      sym
-          (c.turns.invariant.noted
-          ∙ ap (λ (ns : List Noted). map note_of c.turns.notes.items ++ ns)
-          (notes_rest ms c.args.budget c.args.facts.now answers c.turns.program (option_map lack_of c.in-Rest.lack) (c.args.budget - c.turns.program.attempt.steps) c.turns.invariant.between c.in-Rest.ensures.next)
-          ∙ append-nil (map note_of c.turns.notes.items)),
-    )
+    let D = c.args.facts.now in
+    let answers = map choice_of c.args.answers.now.items in
+    let P = c.args.program.now.attempt in
+    rests_there ms c.args.budget D answers (rest_from ms c.args.budget D answers (c.args.budget - P.steps) P)
+    c.turns.program (option_map lack_of c.in-Rest.lack)
+    (c.turns.invariant.between, c.turns.invariant.left, c.turns.invariant.together) c.in-Rest.ensures.next
+
+pub returns-in-Rest-clause-noted : goal.returns-in-Rest-clause-noted
+returns-in-Rest-clause-noted c =
+    let ms = c.args.mappings.now in
+    let D = c.args.facts.now in
+    let answers = map choice_of c.args.answers.now.items in
+    let before = map note_of c.turns.notes.items in
+    sym
+    (c.turns.invariant.noted
+    ∙ ap (λ (ns : List Noted). before ++ ns)
+    (notes_rest ms c.args.budget D answers c.turns.program (option_map lack_of c.in-Rest.lack) (c.args.budget - c.turns.program.attempt.steps) c.turns.invariant.between c.in-Rest.ensures.next)
+    ∙ append-nil before)
