@@ -36,7 +36,7 @@ help:
 	@echo 'make checks            what needs no prover: pages, figures, stored rows and tables of the built program'
 	@echo 'make differential SEED=1 COUNT=1000'
 	@echo '                       compare the built program with the reference in Python on random sessions'
-	@echo 'make hostile           attack the built program: refused memory, failing devices, cut and long inputs, workers'
+	@echo 'make hostile           attack the built programs: refused memory, failing devices, cut and long inputs, workers'
 	@echo 'make share             make the man page and the completions from share/words.tsv'
 	@echo 'make test              the gate: prove every crate, try every must-fail edit, run every test, program and check'
 
@@ -86,7 +86,7 @@ checks: $(PROGRAM)
 differential: $(PROGRAM)
 	tests/differential $(SEED) $(COUNT)
 
-hostile: $(PROGRAM)
+hostile: $(PROGRAM) $(LIVE)
 	tests/hostile
 
 test:

@@ -177,7 +177,7 @@ def full():
     yield told("1,000 updates are the most", 100, 3, True, text, calls)
 
 
-# Calls on a desk with their answers, as they are to be; the reference has to tell the same.
+# What each row shows, and calls on a desk with their answers, as they are to be; the reference has to tell the same.
 TWO_INSERTS = "relation A 1\nupdate a ann insert A(1)\nupdate b bob insert A(2)\n"
 ONE_INSERT = "relation A 1\nupdate a ann insert A(1)\n"
 BOTH_PLANNED = """next s1: ticket 1 of update 1, stamp 2
@@ -186,8 +186,8 @@ evaluate s1: planned
 evaluate s2: planned
 """
 DESK_ROWS = [
-    # tickets of one update, one after the other
-    (ONE_INSERT, """next s1: ticket 1 of update 1, stamp 1
+    ("tickets of one update, one after the other",
+     ONE_INSERT, """next s1: ticket 1 of update 1, stamp 1
 next s2: idle, 1 in flight
 evaluate s1: planned
 finish s1: stepped, entry 2
@@ -195,23 +195,23 @@ next s1: ticket 2 of update 1, stamp 2
 evaluate s1: planned
 finish s1: stepped, entry 3
 next s2: quiet"""),
-    # a plan that a step below makes stale; nothing is changed by it
-    (INSERT_DELETE, BOTH_PLANNED + "finish s1: stepped, entry 3\nfinish s2: stale, entry 3"),
-    # a plan is stale by the relation that was written, though no read of it has another value
-    (TWO_INSERTS, BOTH_PLANNED + "finish s1: stepped, entry 3\nfinish s2: stale, entry 3"),
-    # the upper update goes first and is restarted by the lower one, which makes its second plan stale
-    (INSERT_DELETE, BOTH_PLANNED + """finish s2: stepped, entry 3
+    ("a plan that a step below makes stale, and that changes nothing",
+     INSERT_DELETE, BOTH_PLANNED + "finish s1: stepped, entry 3\nfinish s2: stale, entry 3"),
+    ("a plan that is stale by the relation that was written, though no read of it has another value",
+     TWO_INSERTS, BOTH_PLANNED + "finish s1: stepped, entry 3\nfinish s2: stale, entry 3"),
+    ("an upper update that goes first and is restarted, so that its second plan is stale",
+     INSERT_DELETE, BOTH_PLANNED + """finish s2: stepped, entry 3
 next s2: ticket 3 of update 2, stamp 3
 evaluate s2: planned
 finish s1: stepped, entry 4
 finish s2: stale, entry 4"""),
-    # a ticket that is given back is given anew
-    (INSERT_DELETE, "next s1: ticket 1 of update 1, stamp 2\nback s1: back\nnext s1: ticket 2 of update 1, stamp 2"),
+    ("a ticket that is given back, and given anew",
+     INSERT_DELETE, "next s1: ticket 1 of update 1, stamp 2\nback s1: back\nnext s1: ticket 2 of update 1, stamp 2"),
 ]
 
 
 def desk_rows():
-    for text, calls in DESK_ROWS:
+    for _, text, calls in DESK_ROWS:
         session = read_session(b"youtopia 2\n" + text.encode() + b"end\n")
         wanted = [line.split(": ") for line in calls.splitlines()]
         case, lines = case_told(session, 100, 3, True, [call for call, _ in wanted])

@@ -1,7 +1,7 @@
 # Devices: each call of the input, of out and of err fails in turn, with pieces of 1, 7 and 20 bytes or with none. A failed read is
 # status 5 and nothing on out, a failed write status 6 and a prefix of the text; where err fails the status stays.
 rows=(one-repair conflict-abort travel travel-save ask-travel journal-travel recover-travel travel-format stuck-missing
-  base-violates refused-no-number recover-cut)
+  base-violates refused-no-number recover-cut explain one-repair-trace)
 if [ -n "$cheap" ]; then
   rows=(one-repair travel recover-travel stuck-missing base-violates)
 fi

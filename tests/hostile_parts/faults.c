@@ -13,6 +13,9 @@
    FAULTS_WANTING=L    what is told on err where memory is wanting, with the status 1, of another program than youtopia
    FAULTS_INSIDE=1     for programs with one thread: instead of a run from the start for each N, the one run is split in two at each call,
                        and the half in which the call is refused is taken to its end first
+   FAULTS_REPLIES=FILE of yt_live, which replies while it reads: a line 'IN OUT' of the file for each line of the input says that with
+                       these IN bytes read, OUT bytes are told. Behind each refused call there is what was told before it, which has what
+                       was due at the last read; behind a refused read all that is due, behind a refused request whole replies
 
    FAULTS_SHAKE=S      without FAULTS: nothing is refused, but threads sleep a moment at some of their requests of memory, by numbers
                        drawn with the seed S, so that they meet in other orders */
@@ -30,6 +33,7 @@
 #include <stdlib.h>
 #include <string.h>
 #include <sys/mman.h>
+#include <sys/sendfile.h>
 #include <sys/syscall.h>
 #include <sys/wait.h>
 #include <unistd.h>
@@ -37,7 +41,7 @@
 enum kind { MEMORY, THREAD, READ, WRITE, TOLD, KINDS };
 static const char *const NAMES[KINDS] = {"memory", "thread", "read", "write", "told"};
 
-enum { SECONDS = 60, SHOWN = 20, HUNG = 1000 + SIGALRM };
+enum { SECONDS = 60, SHOWN = 20, HUNG = 1000 + SIGALRM, MOST_REPLIES = 4096 };
 
 /* What a run tells. */
 struct telling {
@@ -52,14 +56,22 @@ static size_t piece;
 static int error = EIO;
 static struct telling own;
 static const char *wanting;
+static const char *program = "youtopia";
+static struct { size_t in, out; } replies[MOST_REPLIES];
+static int reply_count;             /* 0: the program tells nothing before it has read all */
 
 static bool attacked;               /* this is a run with a refused call */
 static long target;                 /* the number of that call */
 static long most;                   /* the last call that is attacked */
 static atomic_long calls;
-static atomic_bool *reached;        /* shared with the run: whether it came to the call */
+static struct {
+  size_t in, out, last;             /* how many came of the input, went to out, and had come before the last read */
+} bytes;
+static struct {
+  atomic_bool reached;
+  size_t in, out, last;
+} *at;                              /* shared with the run: whether it came to the call, and with how many bytes */
 static long passed, failed, undisturbed;
-static bool wrote;                  /* the run that is split wrote to out before the call */
 static int report = -1;
 
 extern void *__libc_malloc(size_t), *__libc_calloc(size_t, size_t), *__libc_realloc(void *, size_t), *__libc_memalign(size_t, size_t);
@@ -86,9 +98,9 @@ static const char *bytes_of(int file, size_t *size) {
   if (end < 0) give_up("no file");
   *size = end;
   if (end == 0) return "";
-  void *bytes = mmap(NULL, end, PROT_READ, MAP_PRIVATE, file, 0);
-  if (bytes == MAP_FAILED) give_up("mmap");
-  return bytes;
+  void *all = mmap(NULL, end, PROT_READ, MAP_PRIVATE, file, 0);
+  if (all == MAP_FAILED) give_up("mmap");
+  return all;
 }
 
 static const char *stored(const char *folder, const char *name, size_t *size) {
@@ -96,9 +108,9 @@ static const char *stored(const char *folder, const char *name, size_t *size) {
   snprintf(path, sizeof path, "%s/%s", folder, name);
   int file = open(path, O_RDONLY | O_CLOEXEC);
   if (file < 0) give_up(path);
-  const char *bytes = bytes_of(file, size);
+  const char *all = bytes_of(file, size);
   close(file);
-  return bytes;
+  return all;
 }
 
 /* ---- judging ---- */
@@ -109,8 +121,26 @@ static bool same(const struct telling *told, const struct telling *wanted) {
     && memcmp(told->out, wanted->out, told->out_size) == 0 && memcmp(told->err, wanted->err, err_size) == 0;
 }
 
-static struct telling failure(int status, size_t out_size, const char *line) {
+/* What is told with a status on err, behind these bytes on out. */
+static struct telling failure(int status, size_t out_size, const char *why) {
+  static char line[100];
+  snprintf(line, sizeof line, "%s: %s\n", program, why);
   return (struct telling){status, own.out, line, out_size, strlen(line)};
+}
+
+/* How many bytes are told with so many read. */
+static size_t due_with(size_t read) {
+  size_t due = 0;
+  for (int i = 0; i < reply_count && replies[i].in <= read; i++) due = replies[i].out;
+  return due;
+}
+
+/* Whether so many bytes on out are a number of whole replies. */
+static bool is_whole(size_t size) {
+  if (size == 0 || size == own.out_size) return true;
+  for (int i = 0; i < reply_count; i++)
+    if (replies[i].out == size) return true;
+  return false;
 }
 
 /* Whether this is what has to be told where call N was refused. */
@@ -119,11 +149,12 @@ static bool is_right(const struct telling *told, long number) {
   struct telling wanted = own;
   switch (kind) {
   case READ:
-    wanted = failure(5, 0, "youtopia: read fault\n");
+    wanted = failure(5, due_with(at->in), "read fault");
     return same(told, &wanted);
   case WRITE:
-    wanted = failure(6, taken, "youtopia: write fault\n");
-    return taken < own.out_size && same(told, &wanted);
+    if (reply_count) taken = at->out;
+    wanted = failure(6, taken, "write fault");
+    return taken < own.out_size && due_with(at->last) <= taken && same(told, &wanted);
   case TOLD:
     wanted.err_size = taken;
     return taken < own.err_size && same(told, &wanted);
@@ -132,8 +163,9 @@ static bool is_right(const struct telling *told, long number) {
       undisturbed++;
       return true;
     }
-    wanted = wanting != NULL ? failure(1, 0, wanting) : failure(7, 0, "youtopia: out of memory\n");
-    return !wrote && same(told, &wanted);
+    wanted = failure(7, reply_count ? at->out : 0, "out of memory");
+    if (wanting != NULL) wanted = (struct telling){1, own.out, wanting, 0, strlen(wanting)};
+    return is_whole(wanted.out_size) && due_with(at->last) <= wanted.out_size && same(told, &wanted);
   }
 }
 
@@ -145,11 +177,11 @@ static void sum_up(void) {
 }
 
 static void judge(const struct telling *told, long number) {
-  bool right = *reached ? is_right(told, number) : same(told, &own);
+  bool right = at->reached ? is_right(told, number) : same(told, &own);
   if (right) {
-    passed += *reached;
+    passed += at->reached;
   } else if (failed++ < SHOWN) {
-    say("FAILED %s %ld%s: status %d, %zu bytes on out, on err: %.*s\n", NAMES[kind], number, *reached ? "" : ", which was not reached",
+    say("FAILED %s %ld%s: status %d, %zu bytes on out, on err: %.*s\n", NAMES[kind], number, at->reached ? "" : ", which was not reached",
         told->status, told->out_size, (int)(told->err_size < 100 ? told->err_size : 100), told->err);
   }
   if (told->status == HUNG) {
@@ -160,12 +192,19 @@ static void judge(const struct telling *told, long number) {
 
 /* ---- running ---- */
 
+/* Has a stream go on in a file, behind what it was told so far in the run that is split. */
+static void go_on(int stream, int file) {
+  off_t start = 0, size = inside ? lseek(stream, 0, SEEK_CUR) : 0;
+  if (size > 0 && sendfile(file, stream, &start, size) != size) give_up("sendfile");
+  dup2(file, stream);
+}
+
 /* In the run that is to be attacked: its streams, and its clock. */
 static void begin(long number, int out, int err) {
   attacked = true;
   target = number;
-  dup2(out, 1);
-  dup2(err, 2);
+  go_on(1, out);
+  go_on(2, err);
   alarm(SECONDS);
 }
 
@@ -176,23 +215,31 @@ static int ended(pid_t run) {
   return WIFEXITED(status) ? WEXITSTATUS(status) : 1000 + WTERMSIG(status);
 }
 
+/* Tells with how many bytes the run came to the call. */
+static void note_bytes(void) {
+  at->in = bytes.in;
+  at->out = bytes.out;
+  at->last = bytes.last;
+}
+
 /* Splits: answers true in the new run whose call of this number is to be refused, and false behind it. */
 static bool attack(long number) {
   int out = memfd_create("out", MFD_CLOEXEC), err = memfd_create("err", MFD_CLOEXEC);
   off_t place = lseek(0, 0, SEEK_CUR);
-  *reached = inside;
+  at->reached = inside;
+  note_bytes();
   pid_t run = fork();
   if (out < 0 || err < 0 || run < 0) give_up("fork");
   if (run == 0) {
     begin(number, out, err);
     return true;
   }
-  struct telling told = {.status = ended(run)};
-  told.out = bytes_of(out, &told.out_size);
-  told.err = bytes_of(err, &told.err_size);
-  judge(&told, number);
-  if (told.out_size) munmap((void *)told.out, told.out_size);
-  if (told.err_size) munmap((void *)told.err, told.err_size);
+  struct telling end = {.status = ended(run)};
+  end.out = bytes_of(out, &end.out_size);
+  end.err = bytes_of(err, &end.err_size);
+  judge(&end, number);
+  if (end.out_size) munmap((void *)end.out, end.out_size);
+  if (end.err_size) munmap((void *)end.err, end.err_size);
   close(out);
   close(err);
   lseek(0, place, SEEK_SET);
@@ -205,7 +252,10 @@ static bool refuses(enum kind which) {
   long number = atomic_fetch_add(&calls, 1) + 1;
   if (!attacked) return inside && number <= most && attack(number);
   if (number < target || (number > target && !lasting)) return false;
-  *reached = true;
+  if (number == target) {
+    at->reached = true;
+    note_bytes();
+  }
   return true;
 }
 
@@ -229,12 +279,24 @@ static bool says(const char *name) {
   return getenv(name) != NULL;
 }
 
-static void read_plan(const char *name) {
+static void read_replies(const char *path) {
+  FILE *file = fopen(path, "re");
+  if (file == NULL) give_up(path);
+  while (reply_count < MOST_REPLIES && fscanf(file, "%zu %zu", &replies[reply_count].in, &replies[reply_count].out) == 2) reply_count++;
+  if (reply_count == 0 || !feof(file)) give_up(path);
+  fclose(file);
+}
+
+static void read_plan(const char *kind_name) {
   lasting = says("FAULTS_LASTING");
   mute = says("FAULTS_MUTE");
   inside = says("FAULTS_INSIDE");
   piece = says("FAULTS_PIECE") ? strtoul(getenv("FAULTS_PIECE"), NULL, 10) : 0;
   wanting = getenv("FAULTS_WANTING");
+  if (says("FAULTS_REPLIES")) {
+    program = "yt_live";
+    read_replies(getenv("FAULTS_REPLIES"));
+  }
   most = says("FAULTS_MOST") ? atol(getenv("FAULTS_MOST")) : LONG_MAX;
   error = says("FAULTS_ERROR") ? atoi(getenv("FAULTS_ERROR")) : EIO;
   size_t size;
@@ -243,38 +305,44 @@ static void read_plan(const char *name) {
   own.out = stored(row, "out", &own.out_size);
   own.err = stored(row, "err", &own.err_size);
   own.status = atoi(stored(row, "status", &size));
-  reached = mmap(NULL, sizeof *reached, PROT_READ | PROT_WRITE, MAP_SHARED | MAP_ANONYMOUS, -1, 0);
-  if (reached == MAP_FAILED) give_up("mmap");
+  at = mmap(NULL, sizeof *at, PROT_READ | PROT_WRITE, MAP_SHARED | MAP_ANONYMOUS, -1, 0);
+  if (at == MAP_FAILED) give_up("mmap");
   for (enum kind each = MEMORY; each < KINDS; each++)
-    if (strcmp(name, NAMES[each]) == 0) kind = each;
-  if (kind == KINDS) give_up(name);
+    if (strcmp(kind_name, NAMES[each]) == 0) kind = each;
+  if (kind == KINDS) give_up(kind_name);
 }
 
 /* Before main: all runs from the start, or the beginning of the one that is split. */
 __attribute__((constructor)) static void start(void) {
-  const char *name = getenv("FAULTS");
+  const char *kind_name = getenv("FAULTS");
   if (says("FAULTS_SHAKE")) shaken = strtoul(getenv("FAULTS_SHAKE"), NULL, 10);
-  if (name == NULL) return;
+  if (kind_name == NULL) return;
   report = fcntl(1, F_DUPFD_CLOEXEC, 100);
-  read_plan(name);
+  read_plan(kind_name);
   if (inside) {
-    int none = open("/dev/null", O_WRONLY | O_CLOEXEC);
-    dup2(none, 1);
-    dup2(none, 2);
+    dup2(memfd_create("out", MFD_CLOEXEC), 1);
+    dup2(memfd_create("err", MFD_CLOEXEC), 2);
     return;
   }
   long number = 1;
   do {
     lseek(0, 0, SEEK_SET);
     if (attack(number++)) return;
-  } while (*reached && number <= most);
+  } while (at->reached && number <= most);
   sum_up();
   _exit(failed > 0);
 }
 
-/* Behind main: the end of the one that is split. */
+/* Behind main: the end of the one that is split, which has told what the row tells. */
 __attribute__((destructor)) static void stop(void) {
-  if (inside && !attacked && kind != KINDS) sum_up();
+  if (!inside || attacked || kind == KINDS) return;
+  struct telling end = {.status = own.status};
+  end.out = bytes_of(1, &end.out_size);
+  end.err = bytes_of(2, &end.err_size);
+  mute = false;
+  at->reached = false;
+  judge(&end, 0);
+  sum_up();
 }
 
 /* So ends a program with threads, without its destructors. */
@@ -330,12 +398,18 @@ static ssize_t refused(void) {
 
 ssize_t read(int file, void *into, size_t room) {
   if (file == 0 && refuses(READ)) return refused();
-  return syscall(SYS_read, file, into, file == 0 && piece && piece < room ? piece : room);
+  ssize_t came = syscall(SYS_read, file, into, file == 0 && piece && piece < room ? piece : room);
+  if (file == 0 && came >= 0) {
+    bytes.last = bytes.in;
+    bytes.in += came;
+  }
+  return came;
 }
 
 ssize_t write(int file, const void *from, size_t size) {
   bool counts = file == 1 || file == 2;
   if ((file == 1 && refuses(WRITE)) || (file == 2 && (refuses(TOLD) || (mute && attacked)))) return refused();
-  wrote |= file == 1;
-  return syscall(SYS_write, file, from, counts && piece && piece < size ? piece : size);
+  ssize_t went = syscall(SYS_write, file, from, counts && piece && piece < size ? piece : size);
+  if (file == 1 && went > 0) bytes.out += went;
+  return went;
 }

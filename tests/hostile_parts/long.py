@@ -1,8 +1,8 @@
 #!/usr/bin/env python3
-"""long.py PROGRAM [cheap]: inputs at and one beyond the limits, and long in every other way, each within 4 GiB and 20 seconds.
+"""long.py PROGRAM LIVE [cheap]: inputs at and one beyond the limits, and long in every other way, each within 4 GiB and 20 seconds.
 
-What is right is written down beside each, or the reference tells it where it is quick. Then a large session with less and less memory, and
-last sessions whose matching explodes: only the clock of whoever runs them ends them, and then nothing was written. The last line is
+What is right is written down beside each, or the reference tells it where it is quick. So for conversations with yt_live, which is LIVE.
+Then a large session with less and less memory, and last sessions whose matching explodes: only the clock of whoever runs them ends them, and then nothing was written. The last line is
 'N passed, M failed'.
 """
 import sys
@@ -204,6 +204,34 @@ def at_output_limit():
             (9, b"", b"youtopia: output too large\n") if beyond else ended(sized(head + tuples + END) + b"\1" + sized(commit) + b"\0"))
 
 
+# ---- conversations ----
+
+def conversations():
+    """As long as the input of yt_live may be; what is right is written beside each."""
+    opening, ready = b"youtopia 1\nrelation A 1\nend\n", b"ready 0\n"
+    name = b"N" * 8388000
+    admitted, withdrawn = b'{"event":"admitted","update":1}\n', b'{"causes":[],"committed":1,"event":"withdrawn","update":1}\n'
+    yield "blank lines", filled(opening, b"quit", b"\n"), ended(ready + b"bye\n")
+    yield "blanks of one line", filled(opening, b"", b" "), ended(ready)
+    yield "a comment", filled(opening + b"#", b"\nstep", b"x"), ended(ready + b"idle\n")
+    yield "a word", filled(opening, b"\nstep", b"x"), ended(ready + b"refused line\nidle\n")
+    yield "open text", filled(opening + b'update a ann insert A("', b"\nstep", b"x"), ended(ready + b"refused line\nidle\n")
+    yield "zeros of a number", filled(opening + b"update a ann insert A(", b"7)\n", b"0"), ended(ready + admitted)
+    yield "no UTF-8", filled(opening, b"\nstep\n", b"\xff"), ended(ready + b"refused line\nidle\n")
+    yield "steps", opening + b"step\n" * 3355000, ended(ready + b"idle\n" * 3355000)
+    yield "a label", opening + b"update %s ann insert A(1)\nwithdraw %s\n" % (name, name), ended(ready + admitted + withdrawn)
+    yield "a label that is unknown", filled(opening + b"question ", b"\n", b"N"), ended(ready + b"refused label\n")
+    yield "values", opening + b"update a ann insert A(" + b"1," * 8000000 + b"1)\n", ended(ready + b"refused fact\n")
+    deleted = b"update a ann insert A(1)\nanswer a delete " + b"A(1)," * 3000000 + b"A(1)\n"
+    yield "facts of an answer", opening + deleted, ended(ready + admitted + b"refused ready\n")
+    yield "the session", filled(b"youtopia 1\n", b"end\nstep\n", b"\n"), ended(ready + b"idle\n")
+    yield "the session, which is all", filled(b"youtopia 1\n", b"end", b"\n"), ended(ready)
+    longer = 8, ready + b"idle\n", b"yt_live: input longer than 16777216 bytes\n"
+    yield "a byte too many", filled(opening + b"step\n", b"step", b"\n", LIMIT + 1), longer
+    yield "many bytes too many", filled(opening + b"step\n", b"", b" ", 3 * LIMIT), longer
+    yield "a byte too many behind the end", filled(opening + b"step\nquit\n", b"step", b"\n", LIMIT + 1), ended(ready + b"idle\nbye\n")
+
+
 # ---- little memory ----
 
 def narrow(tally, program):
@@ -234,7 +262,7 @@ def explosions():
 
 
 def main():
-    program, cheap = sys.argv[1], len(sys.argv) > 2
+    program, live, cheap = sys.argv[1], sys.argv[2], len(sys.argv) > 3
     tally = Tally()
     for series in (tokens, statements):
         for name, words, data in series():
@@ -243,6 +271,8 @@ def main():
     for series in () if cheap else (wholes, sessions, at_output_limit):
         for name, words, data, wanted in series():
             tally.compare(f"{name}, {words[0]}", wanted, told_within(program, words, data, MEGABYTES, SECONDS))
+    for name, data, wanted in () if cheap else conversations():
+        tally.compare(f"{name}, yt_live", wanted, told_within(live, [], data, MEGABYTES, SECONDS))
     if not cheap:
         narrow(tally, program)
     for name, words, data in explosions():

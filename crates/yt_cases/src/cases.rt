@@ -10,7 +10,8 @@ use yt_queue::{Deps, Settings};
 use yt_reader::read_session;
 use yt_session::Session;
 
-/// A case: a line `case STEPS RETRIES DEPS`, a session up to its line `end`, and lines with calls.
+/// A case: a line `case STEPS RETRIES DEPS`, a session up to its line `end`, and lines with calls. After any `Err` of `take` it is one to
+/// be let go.
 #[derive(Drop)]
 pub struct Case {
     head: Option<String>,

@@ -1,4 +1,4 @@
-//! The calls that may make an event, and why they are refused.
+//! The calls that may make an event, and why they are refused. For want of memory the core is as it was, and its program ends.
 use std::alloc::Global;
 use std::fmt;
 use yt_base::{Choice, Update};

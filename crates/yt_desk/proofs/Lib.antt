@@ -5,3 +5,4 @@ pub mod Boards
 pub mod Passing
 pub mod Closing
 pub mod Counting
+pub mod Dealing

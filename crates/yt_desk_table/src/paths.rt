@@ -11,7 +11,7 @@ struct Pick {
 }
 
 /// An order of the seats: one is picked at each of the first calls; at later ones it is the first that may come. A seat that was told to
-/// wait comes again once something was done.
+/// wait comes again once something was done. After any `Err` it is one to be let go.
 #[derive(Drop)]
 pub struct Path {
     seats: usize,

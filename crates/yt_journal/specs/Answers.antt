@@ -1,5 +1,5 @@
 -- When each answer of a call of a journal comes, and what it leaves.
-use Rattle.std.specs.Prelude.{◌≡◌, ℕ, ◌<◌, ◌≤◌, List, map, Result, Ok, Err, length}
+use Rattle.std.specs.Prelude.{◌≡◌, ◌⊎◌, ℕ, ◌<◌, ◌≤◌, List, map, Result, Ok, Err, length}
 use Rattle.yt_disk.specs.States.{State, HasFailed, IsLeft}
 use Rattle.yt_model.specs.Repository.{Change}
 use Rattle.yt_base.specs.Meanings.{change_of, fact_of}
@@ -21,12 +21,13 @@ use Rattle.yt_journal.specs.Damage.{IsDamagedAt}
 abbrev pub writes_of : Commit → List Change
 writes_of commit = logged (map change_of commit.writes.items)
 
--- a session of so many bytes: too large exactly above the limit, and the disk is then as it was
+-- A session of so many bytes: too large exactly above the limit, and the disk is then as it was. After a fault the disk
+-- reads what a crash may leave; so it may for want of memory, if it is not as it was.
 abbrev pub CreateTold : {D : Type 0} → ℕ → D → D → State → State → Result Hold CreateFault → Type 0
 CreateTold size old new before now (Ok journal) = size ≤ PAYLOAD_LIMIT
 CreateTold size old new before now (Err (creating.TooLarge bytes)) = (bytes ≡ size) × (PAYLOAD_LIMIT < size) × (new ≡ old)
-CreateTold size old new before now (Err creating.DiskFault) = (size ≤ PAYLOAD_LIMIT) × HasFailed before now
-CreateTold size old new before now (Err creating.Memory) = Unit {0}
+CreateTold size old new before now (Err creating.DiskFault) = (size ≤ PAYLOAD_LIMIT) × HasFailed before now × IsLeft now now.bytes
+CreateTold size old new before now (Err creating.Memory) = (new ≡ old) ⊎ IsLeft now now.bytes
 
 -- A commit of so many bytes: too large exactly above the limit, and the journal and the disk are then as they were. A
 -- fault comes only where the disk's count rose; the disk then reads what a crash may leave.

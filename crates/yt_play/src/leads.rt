@@ -10,7 +10,7 @@ pub struct Turn {
     pub call: Move,
 }
 
-/// One that says which seat makes which call next, and hears what was answered.
+/// One that says which seat makes which call next, and hears what was answered. After any `Err` it is one to be let go.
 pub trait Lead {
     /// The next call, where the seats are due to make these; None at the end.
     fn next(&mut self, due: [Move; 3]) -> Result<Option<Turn>, CaseRefusal>;

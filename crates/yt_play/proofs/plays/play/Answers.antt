@@ -1,6 +1,6 @@
-use Rattle.std.proofs.Common.{◌∙◌, ap, arith, map}
+use Rattle.std.proofs.Common.{◌∙◌, ap, map}
 use Rattle.yt_stamp.specs.Seats.{place_of}
-use Rattle.yt_play.proofs.Dealt.{dealt_own, back_own, back_all}
+use Rattle.yt_desk.proofs.Dealing.{dealt_own, back_own, back_all}
 use Rattle.yt_play.proofs.plays.play.Goals as goal
 
 pub of-requires-clause-own : goal.of-requires-clause-own

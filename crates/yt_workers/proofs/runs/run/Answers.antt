@@ -1,6 +1,7 @@
 use denote.Param.Send.{sendable}
 use Rattle.std.proofs.Common.{arith}
-use Rattle.yt_workers.proofs.Ran.{dealt_own, back_own, back_all, ended, told}
+use Rattle.yt_desk.proofs.Dealing.{dealt_own, back_own, back_all}
+use Rattle.yt_workers.proofs.Ran.{ended, told}
 use Rattle.yt_workers.proofs.Sent.{desk_sync}
 use Rattle.yt_workers.proofs.runs.run.Goals as goal
 

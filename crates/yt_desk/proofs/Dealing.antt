@@ -1,4 +1,4 @@
--- The seats of a desk, as they are dealt and as they come back.
+-- The seats of a desk, as they are dealt and as they come back: for whoever opens a desk, has its seats used, and closes it.
 use Rattle.std.proofs.Common.{◌≡◌, ◌∙◌, sym, refl, ap, subst, arith, ℕ, zero, suc, ◌<◌, List, [], ◌∷◌, append-nil, map, length, slice_index_or}
 use Rattle.std.proofs.lemmas.List.{length-map}
 use Rattle.std.specs.Prelude.{All}
@@ -20,7 +20,7 @@ module _ {A : Type 0} where
   elem_at (x ∷ xs) (suc k) d h = elem_at xs k d (omega arith)
 
   -- what holds of all holds of the k-th
-  of_all : (P : A → Type 0) (xs : List A) (k : ℕ) (x : A) → All P xs → get_elem? xs k ≡ some x → P x
+  pub of_all : (P : A → Type 0) (xs : List A) (k : ℕ) (x : A) → All P xs → get_elem? xs k ≡ some x → P x
   of_all P [] k x all e = absurd (some-ne-none x (sym e))
   of_all P (y ∷ xs) zero x all e = subst P (some-injective y x e) (all 0 y (omega arith))
   of_all P (y ∷ xs) (suc k) x all e = of_all P xs k x (λ j d h. all (suc j) d (omega arith)) e
