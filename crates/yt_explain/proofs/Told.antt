@@ -71,21 +71,14 @@ told_on all told more ns ms n S E e f g h =
 pub told_end : (all told : List Reason) (ns : List Noted) (S : List Fact) → all ≡ told ++ told_by (reverse ns) S → ns ≡ [] → all ≡ told ++ map rooted S
 told_end all told ns S e f = e ∙ ap (λ xs. told ++ told_by (reverse xs) S) f
 
--- Whether the tuple is in what the serial machine leaves, by what was told of the run.
-pub left_is : (ms : List Rule) (B : ℕ) (D : List Fact) (rs : List Request) (run : SessionResult) (t : Fact) (b : Bool)
-    → result_of run ≡ result_in (serial_result ms B D rs) → b ≡ has (facts_of run.repository) t → has (serial_result ms B D rs).repository t ≡ b
-left_is ms B D rs run t b e f = ap (λ (r : ResultTold). has r.repository t) (sym e) ∙ sym f
+-- What is told of a run and by its notes, where the tuple is left, is the explanation.
+pub told_where : (ms : List Rule) (B : ℕ) (D : List Fact) (rs : List Request) (t : Fact) (run : SessionResult) (ns : List Noted) → NotesTell
+    → result_of run ≡ result_in (serial_result ms B D rs) → ns ≡ notes_of (serial_steps every ms B D (turns_of ms B rs))
+    → (if has (facts_of run.repository) t then Some (told_by (reverse ns) (t ∷ [])) else None) ≡ explanation ms B D rs t
+told_where ms B D rs t run ns law e f = λ i. if has (left i) t then Some (all i) else None
+  where
+    left : facts_of run.repository ≡ (serial_result ms B D rs).repository
+    left = ap (λ (r : ResultTold). r.repository) e
 
--- What is told by the notes of the run is the explanation of a tuple that is left.
-pub told_is : (ms : List Rule) (B : ℕ) (D : List Fact) (rs : List Request) (t : Fact) (ns : List Noted) (told : List Reason) → NotesTell
-    → has (serial_result ms B D rs).repository t ≡ true → ns ≡ notes_of (serial_steps every ms B D (turns_of ms B rs)) → told ≡ told_by (reverse ns) (t ∷ [])
-    → Some told ≡ explanation ms B D rs t
-told_is ms B D rs t ns told law h e f =
-    let steps = serial_steps every ms B D (turns_of ms B rs) in
-    let all : told ≡ explained (reverse steps) (t ∷ []) = f ∙ (ap (λ xs. told_by (reverse xs) (t ∷ [])) e ∙ law steps (t ∷ [])) in
-    ap Some all ∙ sym (ap (λ b. if b then Some (explained (reverse steps) (t ∷ [])) else None) h)
-
--- There is none of one that is not.
-pub told_none : (ms : List Rule) (B : ℕ) (D : List Fact) (rs : List Request) (t : Fact) → has (serial_result ms B D rs).repository t ≡ false → None ≡ explanation ms B D rs t
-told_none ms B D rs t h =
-    sym (ap (λ b. if b then Some (explained (reverse (serial_steps every ms B D (turns_of ms B rs))) (t ∷ [])) else None) h)
+    all : told_by (reverse ns) (t ∷ []) ≡ explained (reverse (serial_steps every ms B D (turns_of ms B rs))) (t ∷ [])
+    all = ap (λ xs. told_by (reverse xs) (t ∷ [])) f ∙ law (serial_steps every ms B D (turns_of ms B rs)) (t ∷ [])

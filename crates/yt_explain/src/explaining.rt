@@ -1,5 +1,6 @@
 //! Explanations of the tuples that the serial run of a session leaves.
-ghost use Rattle.std.specs.Prelude.{◌≡◌, None, IfOk};
+ghost use Rattle.std.specs.Prelude.{◌≡◌, if◌then◌else◌, None, Some, [], ◌∷◌, reverse, IfOk};
+ghost use Rattle.std.specs.Option.{option_map};
 ghost use Rattle.yt_base.specs.Contents.{facts_of};
 ghost use Rattle.yt_base.specs.Meanings.{fact_of};
 ghost use Rattle.yt_grammar.specs.Validity.{IsSession};
@@ -7,7 +8,9 @@ ghost use Rattle.yt_model.specs.Repository.{has};
 ghost use Rattle.yt_serial.specs.Meanings.{IsSerialRun};
 ghost use Rattle.yt_session.specs.Base.{base_violation};
 ghost use Rattle.yt_session.specs.Meanings.{session_of};
-ghost use Rattle.yt_explain.specs.Meanings.{Explains};
+ghost use Rattle.yt_noted.specs.Meanings.{notes_in};
+ghost use Rattle.yt_provenance.specs.Notes.{told_by as told_by_lem};
+ghost use Rattle.yt_explain.specs.Meanings.{Explains, reasons_in};
 
 use crate::reasons::Explanation;
 use crate::telling::told_by;
@@ -15,7 +18,7 @@ use std::alloc::Global;
 use yt_base::{Memory, TryCopy, Tuple};
 use yt_facts::IndexedFacts;
 use yt_limits::Budget;
-use yt_noted::noted_serial;
+use yt_noted::{NoteList, NotedRun, noted_serial};
 use yt_program::SessionResult;
 use yt_provenance::laws::notes_tell;
 use yt_serial::base_of;
@@ -42,7 +45,12 @@ pub fn explain(
 {
     let base = base_of(alloc, session)?;
     let explained = explain_over(alloc, session, base, budget, tuple)?;
-    Ok(explained.explanation)
+    let Explained {
+        result,
+        explanation,
+    } = explained;
+    drop(result);
+    Ok(explanation)
 }
 
 /// The run of a session over its base, which is handed over as a set of tuples, with the explanation of a tuple. Refused
@@ -63,17 +71,30 @@ pub fn explain_over(
 {
     notes_tell();
     let run = noted_serial(alloc, session, base, budget)?;
-    if !is_left(&run.result, tuple) {
-        return Ok(Explained {
-            result: run.result,
-            explanation: None,
-        });
-    }
-    let explanation = told_by(alloc, run.notes, tuple.copy(alloc)?)?;
+    let NotedRun { result, notes } = run;
+    let explanation = told_if_left(alloc, &result, notes, tuple)?;
     Ok(Explained {
-        result: run.result,
-        explanation: Some(explanation),
+        result,
+        explanation,
     })
+}
+
+// The reasons for the tuple by the notes of a run, where it is in the repository that the run told.
+fn told_if_left(
+    alloc: Global,
+    told: &SessionResult,
+    notes: NoteList,
+    tuple: &Tuple,
+) -> Result<Option<Explanation>, Memory>
+    ensures told { IfOk result (λ explanation. option_map reasons_in explanation ≡
+        (if has (facts_of told.now.repository) (fact_of tuple.now)
+        then Some (told_by_lem (reverse (notes_in notes)) (fact_of tuple.now ∷ [])) else None)) }
+{
+    if !is_left(told, tuple) {
+        return Ok(None);
+    }
+    let explanation = told_by(alloc, notes, tuple.copy(alloc)?)?;
+    Ok(Some(explanation))
 }
 
 // Whether the tuple is in the repository that a run told.
