@@ -1,0 +1,4 @@
+pub mod Texts
+pub mod Objects
+pub mod Entries
+pub mod Single
