@@ -3,4 +3,4 @@
 
 mod laws;
 
-pub use crate::laws::{lines_claim_one_event, printed_entries_are_claimed};
+pub use crate::laws::{choices_are_read_again, lines_claim_one_event, printed_entries_are_claimed};
