@@ -84,7 +84,7 @@ on_some ms deps c firsts D rs causes l empty told is B n from sorted valid =
 -- ---- writes
 
 -- The readers of causes are those of the machine's.
-readers_are : (ms : List Rule) (B : ℕ) (cs : List CauseOfProgram) → readers_in cs ≡ readers (causes_meant ms B cs)
+pub readers_are : (ms : List Rule) (B : ℕ) (cs : List CauseOfProgram) → readers_in cs ≡ readers (causes_meant ms B cs)
 readers_are ms B [] = refl
 readers_are ms B (ConflictFound i r j old new ∷ cs) = ap (λ xs. i ∷ xs) (readers_are ms B cs)
 readers_are ms B (DependsFound i r on ∷ cs) = ap (λ xs. i ∷ xs) (readers_are ms B cs)

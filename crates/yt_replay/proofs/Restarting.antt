@@ -1,5 +1,5 @@
 -- Restarts one after the other, seat by seat, and what stands at a place.
-use Rattle.std.proofs.Common.{◌≡◌, ◌∙◌, ap, sym, refl, subst, ℕ, suc, zero, ◌<◌, ◌≤◌, ◌+◌, Bool, List, [], ◌∷◌, ◌++◌, map, length, get_or, take, drop, arith, append-nil}
+use Rattle.std.proofs.Common.{◌≡◌, ◌∙◌, ap, sym, refl, subst, ℕ, suc, zero, ◌<◌, ◌≤◌, ◌+◌, Bool, true, List, [], ◌∷◌, ◌++◌, map, length, get_or, take, drop, arith, append-nil}
 use Rattle.std.specs.Prelude.{if◌then◌else◌, Option, Some, slice_get, option_map}
 use Rattle.std.proofs.Math.ListN.{set}
 use Rattle.std.proofs.lemmas.List.{map-set, get_or-map, length-map, take-append-drop}
@@ -12,7 +12,7 @@ use Rattle.yt_model.specs.Mappings.{Rule}
 use Rattle.yt_steps.specs.Chase.{caused_chase}
 use Rattle.yt_seats.specs.Seatings.{update_of, updates_of, StandsAt, AreFrom}
 use Rattle.yt_seats.specs.Events.{KeepsPlace, KeepsPlaceBy}
-use Rattle.yt_seats.specs.Renewals.{HasOneMore}
+use Rattle.yt_seats.specs.Renewals.{HasOneMore, HasRestarted}
 use Rattle.yt_seats.specs.declared.seats.Seat.{Seat}
 use Rattle.yt_replay.specs.Causes.{readers_in}
 use Rattle.yt_replay.specs.Places.{AreBetween}
@@ -168,3 +168,8 @@ above_numbers rs up k r a l e u =
     let number : r.program.attempt.number ≡ suc k = (stands_placed rs k r a l e).number in
     let next : suc (suc k) ≡ 1 + suc k = omega arith in
     subst (λ (qs : List Seat). AreFrom (suc r.program.attempt.number) qs) (sym u) (from_on rs 1 (suc k) (suc r.program.attempt.number) (ap suc number ∙ next) a)
+
+-- An update that a cause is for begins its next attempt.
+pub restarted_if : (causes : List CauseOfProgram) (r r' : Seat) (n : ℕ) (b : Bool) → n ≡ r.program.attempt.number → b ≡ has_number (readers_in causes) n → b ≡ true → HasRestarted r r' → HasRestartedIf causes r r'
+restarted_if causes r r' n b e named t h ms B =
+    h ms B ∙ ap (λ d. if d then anew (caused_chase ms B) r.program.attempt.number (update_of ms B r) else update_of ms B r) (sym t ∙ named ∙ ap (has_number (readers_in causes)) e)

@@ -6,9 +6,10 @@ use Rattle.std.proofs.lemmas.Option.{same_Some, none-some}
 use Rattle.yt_model.specs.Values.{Fact}
 use Rattle.yt_model.specs.Repository.{Change, apply}
 use Rattle.yt_steps.proofs.Steady.{apply_join}
+use Rattle.yt_seats.specs.Programs.{IsBetween}
 use Rattle.yt_seats.specs.declared.seats.Seat.{Seat}
 use Rattle.yt_replay.specs.Levels.{RisesFrom, laid, raised, top}
-use Rattle.yt_replay.specs.Places.{StandOn, trail_of}
+use Rattle.yt_replay.specs.Places.{AreBetween, Stand, StandOn, trail_of}
 
 -- ---- up and down
 
@@ -78,12 +79,6 @@ stand_long D rs k levels l s =
 pub stand_more : (D : List Fact) (rs : List Seat) (k : ℕ) (r : Seat) (ws : List Change) (levels levels' : List (List Fact)) → k < length rs → r ≡ get_or rs k r → ws ≡ trail_of r → levels' ≡ raised levels ws → StandOn D rs k levels → StandOn D rs (suc k) levels'
 stand_more D rs k r ws levels levels' l e w m s = m ∙ (λ i. raised (s i) (w i)) ∙ laid_more trail_of [] D rs k r l e
 
--- What a walk down or up knows of the levels.
-pub record Stand (D : List Fact) (rs : List Seat) (levels : List (List Fact)) : Type 0 where
-  pub many : ℕ
-  pub within : many ≤ length rs
-  pub stand : StandOn D rs many levels
-
 -- One less.
 pub stand_less : (D : List Fact) (rs : List Seat) (h k : ℕ) (levels levels' : List (List Fact)) → length levels ≡ suc h → k < h → levels' ≡ drop 1 levels → Stand D rs levels → Stand D rs levels'
 stand_less D rs h k levels levels' l m e s = by s.many refl
@@ -132,3 +127,9 @@ raised_long Ds Es ws h l e = let m : length Es ≡ suc (length Ds) = ap (λ (Gs 
 -- It sinks back.
 pub sunk_one : (Ds Es Fs : List (List Fact)) (ws : List Change) → Es ≡ raised Ds ws → Fs ≡ drop 1 Es → Fs ≡ Ds
 sunk_one Ds Es Fs ws e f = f ∙ ap (λ (Gs : List (List Fact)). drop 1 Gs) e
+
+-- The seat at a place stands between two steps.
+pub between_at : (rs : List Seat) (k : ℕ) (r : Seat) → AreBetween rs → k < length rs → r ≡ get_or rs k r → IsBetween r.program
+between_at [] k r b l e = absurd (omega (arith, l))
+between_at (q ∷ rs) zero r b l e = subst (λ (x : Seat). IsBetween x.program) (sym e) b.0
+between_at (q ∷ rs) (suc k) r b l e = between_at rs k r b.1 (omega (arith, l)) e

@@ -22,6 +22,20 @@ trail_of r = trail (caused_chase [] 0) (update_of [] 0 r)
 abbrev pub StandOn : List Fact → List Seat → ℕ → List (List Fact) → Type 0
 StandOn D rs k levels = levels ≡ laid [] D (map trail_of (take k rs))
 
+-- The levels stand on some of the seats.
+pub record Stand (D : List Fact) (rs : List Seat) (levels : List (List Fact)) : Type 0 where
+  pub many : ℕ
+  pub within : many ≤ length rs
+  pub stand : StandOn D rs many levels
+
+-- Levels that stood on some of the seats still do.
+abbrev pub StandStill : List (List Fact) → List (List Fact) → Type 0
+StandStill old new = (D : List Fact) (rs : List Seat) → Stand D rs old → Stand D rs new
+
+-- They have risen to so many.
+abbrev pub HaveRisen : ℕ → List Seat → List (List Fact) → List (List Fact) → Type 0
+HaveRisen k rs old new = (D : List Fact) → Stand D rs old → StandOn D rs k new
+
 -- From any number of the seats the levels have come to so many.
 abbrev pub HaveCome : ℕ → List Seat → List (List Fact) → List (List Fact) → Type 0
 HaveCome k rs old new = (D : List Fact) (h : ℕ) → h ≤ length rs → StandOn D rs h old → StandOn D rs k new

@@ -1,5 +1,6 @@
 //! The beginning of a replay, and what admissions, deliveries and answers do.
-ghost use Rattle.std.specs.Prelude.{◌≤◌, ◌<◌, length, IfOk};
+ghost use Rattle.std.specs.Prelude.{◌≡◌, ◌≤◌, ◌<◌, length, slice_get, suc, IfOk};
+ghost use Rattle.std.specs.Option.{option_copied};
 ghost use Rattle.yt_base.specs.Meanings.{choice_of};
 ghost use Rattle.yt_grammar.specs.Validity.{IsSession};
 ghost use Rattle.yt_session.specs.Meanings.{session_of};
@@ -17,7 +18,7 @@ use yt_entries::Entry;
 use yt_limits::Budget;
 use yt_seats::{Seat, Settings, committed};
 use yt_serial::{base_of, mappings_of};
-use yt_session::Session;
+use yt_session::{Session, SessionUpdate};
 
 impl<'s> Replay<'s> {
     /// The history of the session in which nothing has happened yet. It is refused only for want of memory.
@@ -53,10 +54,10 @@ impl<'s> Replay<'s> {
         ensures made { IfOk result (HasMade events.Admits self.old self.new) }
     {
         let place = self.seats.len();
-        let Some(next) = self.handed.get(place) else {
+        let Some(next) = handed_at(self.handed, place) else {
             return Ok(None);
         };
-        let update = place as u32 + 1;
+        let update = number_at(place);
         let seat = Seat::admit(alloc, &next.update, update, &next.answers)?;
         self.seats.push(seat)?;
         Ok(Some(Entry::Admitted { update }))
@@ -126,4 +127,19 @@ impl<'s> Replay<'s> {
         let entry = answer_to(alloc, seats, self.settings, place, choice)?;
         Ok(entry)
     }
+}
+
+// The number of the update at the place.
+fn number_at(place: usize) -> u32
+    requires few { place < 1000 }
+    ensures number { result ≡ suc place }
+{
+    place as u32 + 1
+}
+
+// The update that was handed in at the place, if there is one.
+fn handed_at(handed: &[SessionUpdate], place: usize) -> Option<&SessionUpdate>
+    ensures there { option_copied result ≡ slice_get handed.now place }
+{
+    handed.get(place)
 }

@@ -9,8 +9,8 @@ use Rattle.yt_replay.proofs.withdrawing.prepare.Goals as goal
 pub trail-trail-requires : goal.trail-trail-requires
 trail-trail-requires c = record { between = (stands_placed c.args.seats.now c.args.place c.index-seats-place.result c.requires.numbers c.requires.within c.index-seats-place.is).between }
 
-pub causes_of_loss-causes-requires : goal.causes_of_loss-causes-requires
-causes_of_loss-causes-requires c = record { between = above_between c.args.seats.now _ c.args.place c.index-seats-place.result c.requires.numbers c.requires.within c.index-seats-place.is c.above-upper.ensures.above }
+pub causes_of_loss-requires : goal.causes_of_loss-requires
+causes_of_loss-requires c = record { between = above_between c.args.seats.now _ c.args.place c.index-seats-place.result c.requires.numbers c.requires.within c.index-seats-place.is c.above-upper.ensures.above }
 
 pub returns : goal.returns
 returns c = record {

@@ -1,6 +1,6 @@
-use Rattle.std.proofs.Common.{◌≡◌, ◌∙◌, ◌<◌, ◌≤◌, sym, true, false, map, length, arith, rules}
+use Rattle.std.proofs.Common.{◌≡◌, ◌∙◌, ◌<◌, ◌≤◌, ap, sym, ℕ, List, true, false, map, length, arith, rules}
 use Rattle.yt_base.specs.Meanings.{rule_of}
-use Rattle.yt_query.specs.Meanings.{Read}
+use Rattle.yt_query.specs.Meanings.{read_of}
 use Rattle.yt_replay.specs.Changes.{meets}
 use Rattle.yt_replay.proofs.Numbered.{passed_by, found_here, none_left}
 use Rattle.yt_replay.proofs.losses.Losses.first_met.Goals as goal
@@ -11,7 +11,7 @@ returns-then-is_met c =
     let m : c.is_met.result ≡ true = search rules in record {
       first =
           found_here (λ r. meets (map rule_of c.args.mappings.now.items) c.args.self.now.relations.items r.query) c.reads.number c.reads.read-index c.args.log.now _ c.reads.invariant.first c.read-item.result l c.read-item.is
-          (sym c.is_met.ensures.met ∙ m);
+          (ap (λ (ks : List ℕ). meets (map rule_of c.args.mappings.now.items) ks (read_of c.read-item.result).query) (sym c.as_slice.ensures.value) ∙ sym c.is_met.ensures.met ∙ m);
     }
 
 pub reads-preserved : goal.reads-preserved
@@ -21,7 +21,7 @@ reads-preserved c =
       number = omega (arith, c.reads.invariant.number);
       first =
           passed_by (λ r. meets (map rule_of c.args.mappings.now.items) c.args.self.now.relations.items r.query) c.reads.number c.reads.read-index c.args.log.now _ c.reads.invariant.first c.read-item.result l c.read-item.is
-          (sym c.is_met.ensures.met ∙ m);
+          (ap (λ (ks : List ℕ). meets (map rule_of c.args.mappings.now.items) ks (read_of c.read-item.result).query) (sym c.as_slice.ensures.value) ∙ sym c.is_met.ensures.met ∙ m);
     }
 
 pub returns : goal.returns

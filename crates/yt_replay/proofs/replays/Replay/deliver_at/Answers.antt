@@ -1,10 +1,10 @@
 use Rattle.std.proofs.Common.{refl, drop, length, arith}
 use Rattle.yt_replay.proofs.Done.{delivery_done}
 use Rattle.yt_replay.proofs.Going.{front, its_numbers, is_within}
-use Rattle.yt_replay.proofs.opening.Replay.deliver_at.Goals as goal
+use Rattle.yt_replay.proofs.replays.Replay.deliver_at.Goals as goal
 
-pub deliver_to-entry-requires : goal.deliver_to-entry-requires
-deliver_to-entry-requires c = record {
+pub deliver_to-requires : goal.deliver_to-requires
+deliver_to-requires c = record {
   within = is_within c.args.self.now c.requires.replay c.as_mut_slice.result.now c.as_mut_slice.ensures.value c.args.place c.requires.within;
   numbers = its_numbers c.args.self.now c.requires.replay c.as_mut_slice.result.now c.as_mut_slice.ensures.value;
 }

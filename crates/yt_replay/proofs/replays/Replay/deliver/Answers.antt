@@ -3,7 +3,7 @@ use Rattle.yt_replay.specs.declared.events.Event.TheVariants as events
 use Rattle.yt_replay.proofs.Deciding.{between_there, counted, is_there, it_is_within, made_at, not_deliverable, deliverable_there}
 use Rattle.yt_replay.proofs.Done.{nothing_made}
 use Rattle.yt_replay.proofs.Going.{its_numbers}
-use Rattle.yt_replay.proofs.opening.Replay.deliver.Goals as goal
+use Rattle.yt_replay.proofs.replays.Replay.deliver.Goals as goal
 
 pub returns-in_default : goal.returns-in_default
 returns-in_default c = record { made = (nothing_made c.args.self.now c.args.update c.in_default.ensures.place).2 }
@@ -20,8 +20,8 @@ is_deliverable-requires c = record { between = between_there c.args.self.now c.a
 pub returns-then-not-is_deliverable : goal.returns-then-not-is_deliverable
 returns-then-not-is_deliverable c = record { made = not_deliverable c.args.self.now c.args.update c.in-Some.place c.committed-before.result c.index-seats-place.result c.in-Some.ensures.place c.as_slice-seats.result.now c.as_slice-seats.ensures.value c.index-seats-place.is c.committed-before.ensures.committed c.is_deliverable.result c.is_deliverable.ensures.deliverable (search rules) }
 
-pub deliver_at-entry-requires : goal.deliver_at-entry-requires
-deliver_at-entry-requires c = record {
+pub deliver_at-requires : goal.deliver_at-requires
+deliver_at-requires c = record {
   replay = c.requires.replay;
   within = it_is_within c.args.self.now c.args.update c.in-Some.place c.committed-before.result c.index-seats-place.result c.in-Some.ensures.place c.as_slice-seats.result.now c.as_slice-seats.ensures.value c.index-seats-place.is c.committed-before.ensures.committed;
   deliverable = deliverable_there c.args.self.now c.args.update c.in-Some.place c.committed-before.result c.index-seats-place.result c.in-Some.ensures.place c.as_slice-seats.result.now c.as_slice-seats.ensures.value c.index-seats-place.is c.committed-before.ensures.committed c.is_deliverable.result c.is_deliverable.ensures.deliverable (search rules);

@@ -3,7 +3,7 @@ use Rattle.yt_seats.specs.Settings.{deps_of}
 use Rattle.yt_replay.specs.Levels.{top}
 use Rattle.yt_replay.proofs.Done.{step_done}
 use Rattle.yt_replay.proofs.Going.{front, its_between, its_more, its_numbers, is_left_there, is_most, is_ready_there, is_within, planned_there}
-use Rattle.yt_replay.proofs.stepping.Replay.step_at.Goals as goal
+use Rattle.yt_replay.proofs.replays.Replay.step_at.Goals as goal
 
 pub go_to-requires : goal.go_to-requires
 go_to-requires c = record {
@@ -11,16 +11,16 @@ go_to-requires c = record {
   between = its_between c.args.self.now c.requires.replay c.as_slice-seats.result.now c.as_slice-seats.ensures.value;
 }
 
-pub prepare-prepared-requires : goal.prepare-prepared-requires
-prepare-prepared-requires c = record {
+pub prepare-requires : goal.prepare-requires
+prepare-requires c = record {
   within = is_within c.args.self.now c.requires.replay c.as_slice-seats.result.now c.as_slice-seats.ensures.value c.args.place c.requires.within;
   numbers = its_numbers c.args.self.now c.requires.replay c.as_slice-seats.result.now c.as_slice-seats.ensures.value;
   ready = is_ready_there c.args.self.now c.requires.replay c.as_slice-seats.result.now c.as_slice-seats.ensures.value c.args.place c.args.before _ c.requires.ready;
   left = is_left_there c.args.self.now c.requires.replay c.as_slice-seats.result.now c.as_slice-seats.ensures.value c.args.place c.args.before _ c.requires.ready;
 }
 
-pub install-entry-requires : goal.install-entry-requires
-install-entry-requires c = record {
+pub install-requires : goal.install-requires
+install-requires c = record {
   within = is_within c.args.self.now c.requires.replay c.as_mut_slice.result.now c.as_mut_slice.ensures.value c.args.place c.requires.within;
   numbers = its_numbers c.args.self.now c.requires.replay c.as_mut_slice.result.now c.as_mut_slice.ensures.value;
   more = its_more c.args.self.now c.requires.replay c.as_mut_slice.result.now c.as_mut_slice.ensures.value;

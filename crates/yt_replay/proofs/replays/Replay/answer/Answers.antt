@@ -3,7 +3,7 @@ use Rattle.yt_replay.specs.declared.events.Event.TheVariants as events
 use Rattle.yt_replay.proofs.Deciding.{between_there, counted, is_there, it_is_within, made_at, not_taken, taken_there}
 use Rattle.yt_replay.proofs.Done.{nothing_answered}
 use Rattle.yt_replay.proofs.Going.{its_numbers}
-use Rattle.yt_replay.proofs.opening.Replay.answer.Goals as goal
+use Rattle.yt_replay.proofs.replays.Replay.answer.Goals as goal
 
 pub returns-in_default : goal.returns-in_default
 returns-in_default c = record { made = nothing_answered c.args.self.now c.args.update c.args.choice c.in_default.ensures.place }
@@ -20,8 +20,8 @@ takes-requires c = record { between = between_there c.args.self.now c.args.updat
 pub returns-then-not-takes : goal.returns-then-not-takes
 returns-then-not-takes c = record { made = not_taken c.args.self.now c.args.update c.in-Some.place c.committed-before.result c.index-seats-place.result c.in-Some.ensures.place c.as_slice-seats.result.now c.as_slice-seats.ensures.value c.index-seats-place.is c.committed-before.ensures.committed c.args.choice c.takes.result c.takes.ensures.takes (search rules) }
 
-pub answer_at-entry-requires : goal.answer_at-entry-requires
-answer_at-entry-requires c = record {
+pub answer_at-requires : goal.answer_at-requires
+answer_at-requires c = record {
   replay = c.requires.replay;
   within = it_is_within c.args.self.now c.args.update c.in-Some.place c.committed-before.result c.index-seats-place.result c.in-Some.ensures.place c.as_slice-seats.result.now c.as_slice-seats.ensures.value c.index-seats-place.is c.committed-before.ensures.committed;
   taken = taken_there c.args.self.now c.args.update c.in-Some.place c.committed-before.result c.index-seats-place.result c.in-Some.ensures.place c.as_slice-seats.result.now c.as_slice-seats.ensures.value c.index-seats-place.is c.committed-before.ensures.committed c.args.choice c.takes.result c.takes.ensures.takes (search rules);

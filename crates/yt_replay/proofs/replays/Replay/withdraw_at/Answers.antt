@@ -7,7 +7,7 @@ use Rattle.yt_replay.specs.Places.{trail_of}
 use Rattle.yt_replay.specs.Steps.{AtPlace}
 use Rattle.yt_replay.proofs.Done.{withdrawal_done}
 use Rattle.yt_replay.proofs.Going.{front, its_between, its_more, its_numbers, is_most, is_within}
-use Rattle.yt_replay.proofs.withdrawing.Replay.withdraw_at.Goals as goal
+use Rattle.yt_replay.proofs.replays.Replay.withdraw_at.Goals as goal
 
 pub go_to-requires : goal.go_to-requires
 go_to-requires c = record {
@@ -15,14 +15,14 @@ go_to-requires c = record {
   between = its_between c.args.self.now c.requires.replay c.as_slice-seats.result.now c.as_slice-seats.ensures.value;
 }
 
-pub prepare-causes-requires : goal.prepare-causes-requires
-prepare-causes-requires c = record {
+pub prepare-requires : goal.prepare-requires
+prepare-requires c = record {
   within = is_within c.args.self.now c.requires.replay c.as_slice-seats.result.now c.as_slice-seats.ensures.value c.args.place c.requires.within;
   numbers = its_numbers c.args.self.now c.requires.replay c.as_slice-seats.result.now c.as_slice-seats.ensures.value;
 }
 
-pub remove-entry-requires : goal.remove-entry-requires
-remove-entry-requires c = record {
+pub remove-requires : goal.remove-requires
+remove-requires c = record {
   within = is_within c.args.self.now c.requires.replay c.as_mut_slice.result.now c.as_mut_slice.ensures.value c.args.place c.requires.within;
   numbers = its_numbers c.args.self.now c.requires.replay c.as_mut_slice.result.now c.as_mut_slice.ensures.value;
   more = its_more c.args.self.now c.requires.replay c.as_mut_slice.result.now c.as_mut_slice.ensures.value;

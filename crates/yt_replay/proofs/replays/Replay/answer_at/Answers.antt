@@ -1,10 +1,10 @@
 use Rattle.std.proofs.Common.{refl, drop, length, arith}
 use Rattle.yt_replay.proofs.Done.{answer_done}
 use Rattle.yt_replay.proofs.Going.{front, its_numbers, is_within}
-use Rattle.yt_replay.proofs.opening.Replay.answer_at.Goals as goal
+use Rattle.yt_replay.proofs.replays.Replay.answer_at.Goals as goal
 
-pub answer_to-entry-requires : goal.answer_to-entry-requires
-answer_to-entry-requires c = record {
+pub answer_to-requires : goal.answer_to-requires
+answer_to-requires c = record {
   within = is_within c.args.self.now c.requires.replay c.as_mut_slice-seats.result.now c.as_mut_slice-seats.ensures.value c.args.place c.requires.within;
   numbers = its_numbers c.args.self.now c.requires.replay c.as_mut_slice-seats.result.now c.as_mut_slice-seats.ensures.value;
 }
