@@ -16,10 +16,6 @@ pub many_descended : (D : List Fact) (wss : List (List Change)) → length (desc
 many_descended D [] = refl
 many_descended D (ws ∷ wss) = ap suc (many_descended (apply D (reverse ws)) wss)
 
--- One more write is taken back first.
-pub one_more_back : (D : List Fact) (ws : List Change) (w : Change) → apply D (reverse (ws ++ w ∷ [])) ≡ apply (change D w) (reverse ws)
-one_more_back D ws w = ap (apply D) (reverse-append ws (w ∷ []))
-
 -- A set E, from which these writes lead back to the uppermost one, is one level more.
 pub one_level_more : (D E : List Fact) (made : List Change) (wss : List (List Change)) (ws : List Change)
     → E ≡ apply D made → apply E (reverse ws) ≡ D
@@ -32,11 +28,3 @@ one_level_more D E made wss ws e b =
 -- So many are kept.
 pub many_kept : (D : List Fact) (wss : List (List Change)) → length (descended D (reverse wss)) ≡ suc (length wss)
 many_kept D wss = many_descended D (reverse wss) ∙ ap suc (length-reverse wss)
-
--- Without the last list of writes the uppermost one goes, and the set is what that makes of it.
-pub one_level_less : (D E : List Fact) (wss vss : List (List Change)) (ws : List Change)
-    → wss ≡ vss ++ ws ∷ [] → E ≡ apply D (reverse ws)
-    → descended E (reverse vss) ≡ drop 1 (descended D (reverse wss))
-one_level_less D E wss vss ws e f =
-    (λ i. descended (f i) (reverse vss))
-    ∙ (λ i. drop 1 (descended D ((sym (reverse-append vss (ws ∷ [])) ∙ ap reverse (sym e)) i)))

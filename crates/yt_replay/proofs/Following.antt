@@ -46,6 +46,7 @@ use Rattle.yt_replay.specs.declared.replays.Replay.{Replay}
 use Rattle.yt_replay.proofs.Causing.{readers_are}
 use Rattle.yt_replay.proofs.Making.{below_sorted, follows, refused_unwritten, stand_same, top_is, valid_above}
 use Rattle.yt_replay.proofs.Restarting.{from_on, stands_at, within}
+use Rattle.yt_replay.proofs.Risen.{mapped_long}
 
 -- ---- lists
 
@@ -83,10 +84,6 @@ nothing_there : {A : Type 0} (xs : List A) (k : ℕ) → length xs ≤ k → sli
 nothing_there [] k l = refl
 nothing_there (x ∷ xs) zero l = absurd (omega (arith, l))
 nothing_there (x ∷ xs) (suc k) l = nothing_there xs k (omega (arith, l))
-
-mapped_long : {A B : Type 0} (f : A → B) (xs : List A) → length (map f xs) ≡ length xs
-mapped_long f [] = refl
-mapped_long f (x ∷ xs) = ap suc (mapped_long f xs)
 
 -- Nothing is done at an update that is not there.
 pub not_there : {C : Type 0} (ms : List Rule) (B : ℕ) (rs : List Seat) (n : ℕ) (allowed : ℕ → Update (caused_chase ms B) → Bool) (f : ℕ → Update (caused_chase ms B) → C) → None ≡ place_in rs n → where_allowed (updates_of ms B rs) n allowed f ≡ None

@@ -14,11 +14,6 @@ or_again : (a b : Bool) → ((b || a) || b) ≡ (b || a)
 or_again a true = refl
 or_again a false = or_none a
 
--- One more behind the others.
-pub one_more : (p : ℕ → Bool) (ks : List ℕ) (r : ℕ) → list_any p (ks ++ r ∷ []) ≡ (list_any p ks || p r)
-one_more p [] r = or_none (p r)
-one_more p (k ∷ ks) r = ap (λ b. p k || b) (one_more p ks r) ∙ or_join (p k) (list_any p ks) (p r)
-
 here : (test : ℕ → Bool) (r : ℕ) → ((k : ℕ) → test k ≡ true → k ≡ r) → (p : ℕ → Bool) (k : ℕ) (ks : List ℕ)
     → (list_any test ks ≡ true → list_any p ks ≡ (list_any p ks || p r))
     → (b : Bool) → test k ≡ b → (b || list_any test ks) ≡ true → (p k || list_any p ks) ≡ ((p k || list_any p ks) || p r)
@@ -30,11 +25,3 @@ pub one_again : (test : ℕ → Bool) (r : ℕ) → ((k : ℕ) → test k ≡ tr
     → list_any p ks ≡ (list_any p ks || p r)
 one_again test r f p [] e = ap (λ b. cond b (p r) false) e
 one_again test r f p (k ∷ ks) e = here test r f p k ks (one_again test r f p ks) (test k) refl e
-
--- One of what is left goes over to those that were gathered.
-pub goes_over : (a b c d : Bool) → b ≡ (a || c) → (b || d) ≡ (a || (c || d))
-goes_over a b c d e = ap (λ x. x || d) e ∙ sym (or_join a c d)
-
--- Nothing is left.
-pub none_left : (a : Bool) → (a || false) ≡ a
-none_left = or_none

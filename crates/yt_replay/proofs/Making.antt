@@ -144,9 +144,6 @@ module _ (g : Ground) (H : List PlainEntry) (r : Replay) (k : IsReplayOf g H r) 
   pub top_is : (i : ℕ) (levels : List (List Fact)) → StandOn g.base r.seats.items i levels → top levels ≡ below M g.base us i
   top_is i levels s = ap top s ∙ laid_top trail_of [] g.base (take i r.seats.items) ∙ ap (λ ws. apply g.base ws) (flat_same g.rules g.budget r.seats.items i)
 
-  pub stands : StandOn g.base r.seats.items k.height r.levels
-  stands = k.levels
-
 -- ---- any event
 
 -- The same seats below a place have the same levels there.

@@ -22,11 +22,6 @@ one_on : {A : Type 0} (n : ℕ) (found : Option (ℕ × A)) → option_map (coun
 one_on n None = refl
 one_on n (Some t) = let e : n + suc t.0 ≡ (n + 1) + t.0 = omega arith in λ i. Some (e i, t.1)
 
--- From the front on.
-pub from_the_front : {A : Type 0} (found : Option (ℕ × A)) → option_map (counted_on 0) found ≡ found
-from_the_front None = refl
-from_the_front (Some t) = let e : 0 + t.0 ≡ t.0 = omega arith in λ i. Some (e i, t.1)
-
 -- ---- the reads that are left
 
 module _ (p : Read → Bool) (n i : ℕ) (rs : List LoggedRead) (all : Option (ℕ × Read)) (left : option_map (counted_on {A = Read} n) (first_that p (map read_of (drop i rs))) ≡ all) where
@@ -76,6 +71,3 @@ unmet_tells ms relations h D own r m = λ i. m i && is_changed ms h D own (read_
 pub change_is : (ms : List Rule) (relations : List ℕ) (h : Direction) (D : List Fact) (own : List Change) (n : ℕ) (r : Read) (a : Reply) (log : List Read) → a ≡ value_now ms h D own r → Some (n, r) ≡ first_that (is_met_and_changed ms relations h D own) log
     → Some (record { number = n; read = r; now = a }) ≡ first_change ms relations h D own log
 change_is ms relations h D own n r a log e f = (λ i. Some (record { number = n; read = r; now = e i })) ∙ ap (option_map (changed_at ms h D own)) f
-
-pub change_none : (ms : List Rule) (relations : List ℕ) (h : Direction) (D : List Fact) (own : List Change) (log : List Read) → None ≡ first_that (is_met_and_changed ms relations h D own) log → None ≡ first_change ms relations h D own log
-change_none ms relations h D own log f = ap (option_map (changed_at ms h D own)) f

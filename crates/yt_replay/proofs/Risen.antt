@@ -41,7 +41,7 @@ taken_long xs zero l = refl
 taken_long [] (suc k) l = absurd (omega (arith, l))
 taken_long (x ∷ xs) (suc k) l = ap suc (taken_long xs k (omega (arith, l)))
 
-mapped_long : {A B : Type 0} (f : A → B) (xs : List A) → length (map f xs) ≡ length xs
+pub mapped_long : {A B : Type 0} (f : A → B) (xs : List A) → length (map f xs) ≡ length xs
 mapped_long f [] = refl
 mapped_long f (x ∷ xs) = ap suc (mapped_long f xs)
 
