@@ -1,19 +1,16 @@
 -- The causes of an event, where all reads were valid before it.
-use Rattle.std.proofs.Common.{◌≡◌, ◌∙◌, ap, refl, sym, subst, ℕ, suc, ◌==◌, Bool, true, false, not, ◌&&◌, ◌||◌, List, [], ◌∷◌, ◌++◌, append-nil, map, Option, None, Some}
+use Rattle.std.proofs.Common.{◌≡◌, ◌∙◌, ap, refl, sym, subst, ℕ, suc, ◌==◌, Bool, true, false, not, ◌||◌, List, [], ◌∷◌, ◌++◌, append-nil, map}
 use Rattle.std.specs.Prelude.{if◌then◌else◌}
 use Rattle.std.specs.List.{list_any}
 use Rattle.std.specs.Option.{option_map}
-use Rattle.std.proofs.lemmas.Bool.{and_parts, and_from, both_ways}
 use Rattle.std.proofs.lemmas.List.{map-append}
 use Rattle.yt_base.specs.Meanings.{change_of}
 use Rattle.yt_base.specs.declared.updates.Write.{Write}
-use Rattle.yt_entries.specs.Meanings.{cause_of}
 use Rattle.yt_entries.specs.declared.causes.Cause.{Cause as CauseOfProgram}
 use Rattle.yt_entries.specs.declared.causes.Cause.TheVariants.{Conflict as ConflictFound, Depends as DependsFound}
-use Rattle.yt_machine.specs.Cascade.{Cause, Member, cascade, conflicts, has_number, is_live, readers}
-use Rattle.yt_machine.specs.Effects.{causes_of_loss, causes_of_step, causes_of_writes, is_spent}
+use Rattle.yt_machine.specs.Cascade.{Member, cascade, conflicts, has_number, readers}
+use Rattle.yt_machine.specs.Effects.{causes_of_loss, causes_of_writes, is_spent}
 use Rattle.yt_machine.specs.Machine.{Machine}
-use Rattle.yt_machine.specs.Reads.{all_valid}
 use Rattle.yt_machine.specs.Standings.{is_ready, standing}
 use Rattle.yt_machine.specs.Steps.{next_move, step_writes, stepped}
 use Rattle.yt_machine.specs.Updates.{Deps, Settings, Update, hides, shown, trail}
@@ -31,7 +28,7 @@ use Rattle.yt_seats.specs.Programs.{HasShown, HasSpent, HasWritten, IsPlanOf}
 use Rattle.yt_seats.specs.Seatings.{AreFrom, update_of, updates_of}
 use Rattle.yt_seats.specs.Standings.{HasTrail}
 use Rattle.yt_seats.specs.declared.seats.Seat.{Seat}
-use Rattle.yt_replay.specs.Causes.{AreDependencesOn, AreMetConflicts, AreMetDependences, AreOfLoss, AreOfWrites, AreTold, Loses, cause_meant, causes_meant, members_of, reader_in, readers_in}
+use Rattle.yt_replay.specs.Causes.{AreDependencesOn, AreMetConflicts, AreMetDependences, AreOfLoss, AreOfWrites, AreTold, Loses, cause_meant, causes_meant, members_of, readers_in}
 use Rattle.yt_replay.specs.Levels.{raised, top}
 use Rattle.yt_replay.specs.Met.{AreValid, AreValidThat, is_none_of, is_open, met_cascade, met_conflicts, relations_in}
 use Rattle.yt_replay.specs.Relations.{AreRelationsOf}

@@ -1,6 +1,6 @@
 -- Whether an event is allowed at the update of a number, as a replay decides it.
-use Rattle.std.proofs.Common.{◌≡◌, ◌∙◌, ap, refl, sym, subst, ℕ, suc, ◌<◌, Bool, true, false, List, length, get_or, Option, Some, None}
-use Rattle.std.specs.Prelude.{if◌then◌else◌, ◌&&◌, slice_get}
+use Rattle.std.proofs.Common.{◌≡◌, ◌∙◌, ap, sym, subst, ℕ, suc, ◌<◌, Bool, true, false, List, length, get_or, Some, None}
+use Rattle.std.specs.Prelude.{◌&&◌, slice_get}
 use Rattle.std.proofs.lemmas.Option.{same_Some}
 use Rattle.yt_base.specs.Meanings.{choice_of}
 use Rattle.yt_base.specs.declared.updates.Choice.{Choice}
@@ -10,7 +10,7 @@ use Rattle.yt_history.specs.PlainEntries.{PlainEntry}
 use Rattle.yt_machine.specs.Cascade.{is_live}
 use Rattle.yt_machine.specs.Effects.{Event, Answers, Delivers, Steps, Withdraws, answer_effect, deliver_effect, effect, fits_question, may_answer, may_deliver, may_step, may_withdraw, step_effect, withdraw_effect}
 use Rattle.yt_machine.specs.Standings.{is_deliverable, is_paused, is_quiet, is_ready, standing}
-use Rattle.yt_machine.specs.Updates.{Update, committed}
+use Rattle.yt_machine.specs.Updates.{Update}
 use Rattle.yt_steps.specs.Chase.{caused_chase}
 use Rattle.yt_seats.specs.Programs.{IsBetween}
 use Rattle.yt_seats.specs.Seatings.{update_of, updates_of}

@@ -1,9 +1,9 @@
 -- Levels, as they are kept: the uppermost one, and what leads down from it.
-use Rattle.std.proofs.Common.{◌≡◌, ◌∙◌, ap, refl, sym, ℕ, suc, List, [], ◌∷◌, ◌++◌, map, length, drop}
+use Rattle.std.proofs.Common.{◌≡◌, ◌∙◌, ap, refl, sym, suc, List, [], ◌∷◌, ◌++◌, length}
 use Rattle.std.specs.Prelude.{reverse}
 use Rattle.std.proofs.lemmas.List.{reverse-append, length-reverse}
 use Rattle.yt_model.specs.Values.{Fact}
-use Rattle.yt_model.specs.Repository.{Change, apply, change}
+use Rattle.yt_model.specs.Repository.{Change, apply}
 use Rattle.yt_replay.specs.Levels.{descended, top, raised}
 
 -- The uppermost one is the set.

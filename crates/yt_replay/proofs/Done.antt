@@ -1,6 +1,5 @@
 -- Events at a place of a replay, as its methods make them.
-use Rattle.std.proofs.Common.{◌≡◌, ◌∙◌, ap, refl, sym, subst, ℕ, suc, ◌<◌, ◌≤◌, List, [], ◌∷◌, map, drop, length, Some, None, arith}
-use Rattle.std.specs.Prelude.{slice_get}
+use Rattle.std.proofs.Common.{◌≡◌, ◌∙◌, ap, refl, sym, subst, ℕ, suc, ◌<◌, ◌≤◌, List, [], ◌∷◌, map, drop, length, None, arith}
 use Rattle.yt_base.specs.Listed.{Listed}
 use Rattle.yt_base.specs.Meanings.{choice_of}
 use Rattle.yt_base.specs.declared.updates.Choice.{Choice}
@@ -10,7 +9,7 @@ use Rattle.yt_grammar.specs.Checks.{rules_of}
 use Rattle.yt_grammar.specs.Sessions.{SessionData, SessionUpdate}
 use Rattle.yt_history.proofs.Keeping.{histories_are_kept}
 use Rattle.yt_history.specs.CoreLaws.{Leave}
-use Rattle.yt_history.specs.Cores.{Ground, machine, session_over, updates_after, effect_after}
+use Rattle.yt_history.specs.Cores.{Ground, machine, session_over, effect_after}
 use Rattle.yt_history.specs.PlainEntries.{PlainEntry}
 use Rattle.yt_machine.specs.Effects.{Event, Answers, Delivers, Steps, Withdraws, answer_effect, deliver_effect, effect, may_answer, may_deliver, may_step, may_withdraw, step_effect, withdraw_effect}
 use Rattle.yt_machine.specs.Updates.{Settings, Update}

@@ -1,5 +1,5 @@
 -- Events at a place of a replay follow, or are not allowed.
-use Rattle.std.proofs.Common.{◌≡◌, ◌∙◌, ap, refl, sym, subst, ℕ, zero, suc, ◌<◌, ◌≤◌, ◌+◌, Bool, true, false, not, ◌&&◌, nat_lt, take, drop, Option, Some, None, List, [], ◌∷◌, ◌++◌, map, length, get_or, arith}
+use Rattle.std.proofs.Common.{◌≡◌, ◌∙◌, ap, refl, sym, subst, ℕ, zero, suc, ◌<◌, ◌≤◌, ◌+◌, Bool, true, false, ◌&&◌, nat_lt, take, drop, Some, None, List, [], ◌∷◌, ◌++◌, map, length, arith}
 use Rattle.std.specs.Prelude.{if◌then◌else◌, option_map, option_and_then, slice_get}
 use Rattle.std.proofs.lemmas.List.{map-append}
 use Rattle.std.proofs.lemmas.Bool.{ltb-true, ltb-false}
@@ -10,7 +10,7 @@ use Rattle.yt_base.specs.declared.updates.Write.{Write}
 use Rattle.yt_entries.specs.Meanings.{cause_of, entry_of}
 use Rattle.yt_entries.specs.declared.causes.Cause.{Cause as CauseOfProgram}
 use Rattle.yt_entries.specs.declared.entries.Entry.{Entry}
-use Rattle.yt_history.specs.Cores.{Ground, machine, session_over, updates_after, effect_after}
+use Rattle.yt_history.specs.Cores.{Ground, machine, session_over, effect_after}
 use Rattle.yt_entries.specs.declared.entries.Entry.TheVariants.{Admitted as AdmittedEntry}
 use Rattle.yt_history.specs.Histories.{submissions}
 use Rattle.yt_history.specs.PlainEntries.{PlainEntry, WasAdmitted, WasAnswered, WasDelivered, cause_kept, entry_kept, plain_entry}
@@ -36,7 +36,7 @@ use Rattle.yt_seats.specs.Seatings.{AreFrom, StandsAt, update_of, updates_of}
 use Rattle.yt_seats.specs.Settings.{settings_of}
 use Rattle.yt_seats.specs.Walks.{HasCommitted}
 use Rattle.yt_seats.specs.declared.seats.Seat.{Seat}
-use Rattle.yt_replay.specs.Causes.{AreOfLoss, causes_meant, readers_in}
+use Rattle.yt_replay.specs.Causes.{AreOfLoss, causes_meant}
 use Rattle.yt_replay.specs.Levels.{top}
 use Rattle.yt_replay.specs.Met.{AreValid}
 use Rattle.yt_replay.specs.Places.{HaveCome, StandOn, trail_of}

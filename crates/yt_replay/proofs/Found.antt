@@ -1,12 +1,12 @@
 -- Why one update is restarted, as the machine tells it.
-use Rattle.std.proofs.Common.{◌≡◌, ◌∙◌, ap, refl, sym, subst, ℕ, suc, ◌==◌, Bool, true, false, not, ◌&&◌, ◌||◌, nat_lt, List, [], ◌∷◌, ◌++◌, map, take, Option, None, Some}
-use Rattle.std.specs.Prelude.{if◌then◌else◌, is_some}
+use Rattle.std.proofs.Common.{◌≡◌, ◌∙◌, ap, refl, sym, subst, ℕ, suc, Bool, true, false, not, ◌&&◌, ◌||◌, nat_lt, List, [], ◌∷◌, map, Option, None, Some}
+use Rattle.std.specs.Prelude.{if◌then◌else◌}
 use Rattle.std.specs.List.{list_any}
 use Rattle.std.specs.Option.{option_map}
 use Rattle.std.proofs.lemmas.Bool.{or_parts}
 use Rattle.yt_entries.specs.Meanings.{cause_of}
 use Rattle.yt_entries.specs.declared.causes.Cause.{Cause as CauseOfProgram}
-use Rattle.yt_history.specs.PlainEntries.{PlainCause, cause_kept}
+use Rattle.yt_history.specs.PlainEntries.{cause_kept}
 use Rattle.yt_machine.specs.Cascade.{Cause, Conflict, Depends, Member, has_number, writer_for}
 use Rattle.yt_machine.specs.Machine.{Machine}
 use Rattle.yt_machine.specs.Reads.{Changed, first_that, is_valid, value_now}
@@ -17,13 +17,13 @@ use Rattle.yt_model.specs.Updates.{direction_of}
 use Rattle.yt_model.specs.Values.{Fact}
 use Rattle.yt_query.specs.Meanings.{Read, read_of}
 use Rattle.yt_steps.specs.Chase.{caused_chase, relation_of}
-use Rattle.yt_seats.specs.Seatings.{AreFrom, StandsAt, logged, update_of, updates_of}
+use Rattle.yt_seats.specs.Seatings.{StandsAt, logged, update_of}
 use Rattle.yt_seats.specs.Standings.{IsLive}
 use Rattle.yt_seats.specs.declared.seats.Seat.{Seat}
-use Rattle.yt_replay.specs.Causes.{AreTold, AreUnmet, IsFirstDependent, IsJoinOf, IsMetConflict, any_met, cause_meant, conflict_meant, dependence_meant, depends_by, least_writer, may_conflict, member_of, members_of, numbered_of, writes_of}
-use Rattle.yt_replay.specs.Changes.{ChangeMeant, IsFirstChange, change_meant, changed_at, first_change, is_changed, is_met_and_changed, meets}
+use Rattle.yt_replay.specs.Causes.{AreTold, IsFirstDependent, IsJoinOf, IsMetConflict, any_met, cause_meant, conflict_meant, dependence_meant, depends_by, least_writer, may_conflict, member_of, members_of, numbered_of, writes_of}
+use Rattle.yt_replay.specs.Changes.{IsFirstChange, change_meant, changed_at, is_changed, is_met_and_changed, meets}
 use Rattle.yt_replay.specs.Relations.{any_of}
-use Rattle.yt_replay.specs.Met.{has_turned, is_reached, met_conflict, met_conflicts, met_dependence, met_join}
+use Rattle.yt_replay.specs.Met.{has_turned, is_reached, met_conflict, met_join}
 use Rattle.yt_replay.specs.declared.changes.Change.{Change}
 use Rattle.yt_replay.specs.declared.losses.Losses.{Losses}
 use Rattle.yt_replay.specs.declared.losses.Member.{Member as MemberOfProgram}

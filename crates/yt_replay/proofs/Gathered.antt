@@ -1,5 +1,5 @@
 -- Numbers gathered, each once.
-use Rattle.std.proofs.Common.{◌≡◌, ◌∙◌, ap, refl, sym, ℕ, Bool, true, false, cond, ◌||◌, List, [], ◌∷◌, ◌++◌}
+use Rattle.std.proofs.Common.{◌≡◌, ◌∙◌, ap, refl, sym, ℕ, Bool, true, false, cond, ◌||◌, List, [], ◌∷◌}
 use Rattle.std.specs.List.{list_any}
 
 or_none : (b : Bool) → (b || false) ≡ b

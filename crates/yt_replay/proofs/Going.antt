@@ -1,19 +1,17 @@
 -- What a replay gives to the parts of an event at a place.
-use Rattle.std.proofs.Common.{◌≡◌, ◌∙◌, ap, refl, sym, subst, ℕ, zero, suc, ◌<◌, ◌≤◌, true, List, [], ◌∷◌, ◌++◌, take, drop, length, arith, Some}
+use Rattle.std.proofs.Common.{◌≡◌, ◌∙◌, ap, refl, sym, subst, ℕ, zero, suc, ◌<◌, ◌≤◌, true, List, [], ◌∷◌, ◌++◌, take, length, arith}
 use Rattle.std.specs.Prelude.{slice_get}
-use Rattle.yt_history.specs.Cores.{Ground, machine}
-use Rattle.yt_history.specs.PlainEntries.{PlainEntry}
+use Rattle.yt_history.specs.Cores.{machine}
 use Rattle.yt_machine.specs.Standings.{is_ready, standing}
 use Rattle.yt_machine.specs.Updates.{Settings, Deps}
 use Rattle.yt_model.specs.Mappings.{Rule}
 use Rattle.yt_model.specs.Values.{Fact}
-use Rattle.yt_plan.specs.declared.plans.Plan.{Plan}
 use Rattle.yt_seats.specs.Seatings.{AreFrom, update_of}
 use Rattle.yt_seats.specs.Settings.{settings_of}
 use Rattle.yt_seats.specs.declared.seats.Seat.{Seat}
 use Rattle.yt_replay.specs.Places.{AreBetween}
 use Rattle.yt_replay.specs.Prepared.{IsPreparedFor}
-use Rattle.yt_replay.specs.Replays.{IsReplay, IsReplayOf}
+use Rattle.yt_replay.specs.Replays.{IsReplay}
 use Rattle.yt_replay.specs.Restarts.{AllHaveOneMore}
 use Rattle.yt_replay.specs.Steps.{AtPlace, IsPlanSomewhere, IsReadyOf, IsReadySomewhere}
 use Rattle.yt_replay.specs.declared.replays.Replay.{Replay}

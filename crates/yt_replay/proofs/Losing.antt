@@ -1,18 +1,17 @@
 -- What is lost by one more member, and what a step knows of settled mappings.
-use Rattle.std.proofs.Common.{◌≡◌, ◌∙◌, ap, refl, sym, subst, ℕ, zero, suc, Bool, true, false, ◌||◌, List, [], ◌∷◌, ◌++◌, map}
+use Rattle.std.proofs.Common.{◌≡◌, ◌∙◌, ap, refl, sym, ℕ, Bool, true, false, ◌||◌, List, [], ◌∷◌, ◌++◌, map}
 use Rattle.std.specs.List.{list_any}
 use Rattle.std.proofs.lemmas.List.{map-append}
 use Rattle.yt_base.specs.Meanings.{change_of}
 use Rattle.yt_base.specs.declared.updates.Write.{Write}
 use Rattle.yt_machine.specs.Cascade.{with_member, without_member}
-use Rattle.yt_model.specs.Mappings.{Rule}
 use Rattle.yt_model.specs.Repository.{apply}
 use Rattle.yt_model.specs.Values.{Fact}
 use Rattle.yt_steps.specs.Chase.{caused_chase, relation_of}
 use Rattle.yt_seats.specs.Seatings.{update_of}
 use Rattle.yt_seats.specs.Standings.{HasTrail}
 use Rattle.yt_seats.specs.declared.seats.Seat.{Seat}
-use Rattle.yt_replay.specs.Causes.{AreTold, LeavesBelow, Loses, member_of, members_of, writes_of}
+use Rattle.yt_replay.specs.Causes.{LeavesBelow, Loses, member_of, members_of, writes_of}
 use Rattle.yt_replay.specs.Levels.{raised, top}
 use Rattle.yt_replay.specs.Relations.{HasMore}
 use Rattle.yt_replay.specs.declared.losses.Losses.{Losses}

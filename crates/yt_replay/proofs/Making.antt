@@ -1,9 +1,9 @@
 -- What holds of a replay by its history, and that an event which was made on it follows.
-use Rattle.std.proofs.Common.{◌≡◌, ◌∙◌, ap, refl, sym, subst, ℕ, zero, suc, ◌<◌, ◌≤◌, ◌+◌, ◌^◌, Bool, true, false, not, ◌&&◌, take, drop, Option, Some, None, List, [], ◌∷◌, ◌++◌, append-nil, map, length, get_or, arith}
-use Rattle.std.specs.Prelude.{if◌then◌else◌, option_map, option_and_then, slice_get}
+use Rattle.std.proofs.Common.{◌≡◌, ◌∙◌, ap, refl, sym, subst, ℕ, zero, suc, ◌<◌, ◌≤◌, ◌+◌, Bool, true, false, take, drop, Some, List, [], ◌∷◌, ◌++◌, map, length, arith}
+use Rattle.std.specs.Prelude.{if◌then◌else◌, option_map, slice_get}
 use Rattle.std.specs.List.{flat_map, list_all}
 use Rattle.std.proofs.lemmas.Bool.{both_ways}
-use Rattle.std.proofs.lemmas.Option.{same_Some, none-some, slice_get-map}
+use Rattle.std.proofs.lemmas.Option.{slice_get-map}
 use Rattle.yt_entries.specs.Meanings.{entry_of}
 use Rattle.yt_entries.specs.declared.entries.Entry.{Entry}
 use Rattle.yt_history.specs.Cores.{Ground, machine, session_over, entries_over, updates_after, effect_after}
@@ -15,10 +15,10 @@ use Rattle.yt_machine.specs.History.{IsHistory}
 use Rattle.yt_machine.specs.Histories.{empty_log, event_of}
 use Rattle.yt_machine.specs.Machine.{Machine, Laws}
 use Rattle.yt_machine.specs.Reads.{all_valid, is_valid}
-use Rattle.yt_machine.specs.Runs.{AreRuns, IsRun, Reached, more}
+use Rattle.yt_machine.specs.Runs.{AreRuns, Reached, more}
 use Rattle.yt_machine.specs.Standings.{is_ready, standing}
-use Rattle.yt_machine.specs.Steps.{next_move, next_state, stepped}
-use Rattle.yt_machine.specs.Updates.{Settings, Update, below, committed, hides, trail}
+use Rattle.yt_machine.specs.Steps.{next_move, stepped}
+use Rattle.yt_machine.specs.Updates.{Update, below, hides, trail}
 use Rattle.yt_machine.proofs.Events.{after_runs}
 use Rattle.yt_machine.proofs.Places.{runs_above, sound_below}
 use Rattle.yt_machine.proofs.Serials.{counted}

@@ -1,17 +1,17 @@
 -- The first read of a log that passes, with its number, found from the front.
-use Rattle.std.proofs.Common.{◌≡◌, ◌∙◌, ap, refl, sym, ℕ, suc, ◌+◌, ◌<◌, ◌≤◌, ◌↔◌, arith, Bool, true, false, not, ◌&&◌, cond, List, [], ◌∷◌, map, take, drop, length, get_or, Option, Some, None}
+use Rattle.std.proofs.Common.{◌≡◌, ◌∙◌, ap, refl, sym, ℕ, suc, ◌+◌, ◌<◌, ◌≤◌, ◌↔◌, arith, Bool, true, false, not, ◌&&◌, cond, List, map, drop, length, get_or, Option, Some, None}
 use Rattle.std.specs.Prelude.{option_map}
 use Rattle.std.proofs.lemmas.List.{drop_all}
 use Rattle.yt_machine.specs.Reads.{first_that}
 use Rattle.yt_model.proofs.Replies.{reply_is, reply_itself}
 use Rattle.yt_model.specs.Mappings.{Rule}
-use Rattle.yt_model.specs.Queries.{Reply, same_reply, value}
+use Rattle.yt_model.specs.Queries.{Reply, same_reply}
 use Rattle.yt_model.specs.Repository.{Change}
 use Rattle.yt_model.specs.Values.{Fact}
 use Rattle.yt_model.specs.Violations.{Direction}
 use Rattle.yt_query.specs.Meanings.{Read, read_of, reply_of}
 use Rattle.yt_query.specs.declared.log.LoggedRead.{LoggedRead}
-use Rattle.yt_replay.specs.Changes.{ChangeMeant, changed_at, first_change, is_changed, is_met_and_changed, meets, value_now}
+use Rattle.yt_replay.specs.Changes.{changed_at, first_change, is_changed, is_met_and_changed, meets, value_now}
 use Rattle.yt_replay.proofs.Leftover.{next_left}
 
 -- Counted from n on.

@@ -1,5 +1,5 @@
 -- What is put at the place of an event's update, and what is told of it.
-use Rattle.std.proofs.Common.{◌≡◌, ◌∙◌, ap, refl, sym, subst, ℕ, suc, ◌<◌, ◌+◌, List, ◌∷◌, ◌++◌, map, take, drop, length, get_or, arith}
+use Rattle.std.proofs.Common.{◌≡◌, ◌∙◌, ap, sym, subst, ℕ, suc, ◌<◌, ◌+◌, List, ◌∷◌, ◌++◌, map, take, drop, length, get_or, arith}
 use Rattle.std.specs.Prelude.{Some, slice_get, option_map}
 use Rattle.std.proofs.Math.ListN.{set}
 use Rattle.std.proofs.lemmas.List.{map-set}
@@ -8,7 +8,7 @@ use Rattle.yt_base.specs.Listed.{Listed}
 use Rattle.yt_base.specs.Meanings.{change_of, choice_of}
 use Rattle.yt_base.specs.declared.updates.Choice.{Choice}
 use Rattle.yt_base.specs.declared.updates.Write.{Write}
-use Rattle.yt_entries.specs.Meanings.{cause_of, standing_of}
+use Rattle.yt_entries.specs.Meanings.{cause_of}
 use Rattle.yt_entries.specs.declared.causes.Cause.{Cause as CauseOfProgram}
 use Rattle.yt_entries.specs.declared.entries.Entry.TheVariants.{Answered, Delivered, Stepped, Withdrawn}
 use Rattle.yt_entries.specs.declared.standings.Standing.{Standing}

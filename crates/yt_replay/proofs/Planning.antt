@@ -1,8 +1,7 @@
 -- The plan of the next step of a seat's update.
-use Rattle.std.proofs.Common.{◌≡◌, ◌∙◌, ap, refl, sym, subst, ℕ, zero, suc, slice_index_or, replicate, Bool, true, false, Option, List, map}
+use Rattle.std.proofs.Common.{◌≡◌, ◌∙◌, ap, refl, ℕ, zero, suc, slice_index_or, replicate, Bool, false, Option, List, map}
 use Rattle.std.proofs.lemmas.Bool.{both_ways}
 use Rattle.yt_model.specs.Mappings.{Rule}
-use Rattle.yt_model.specs.Repository.{apply}
 use Rattle.yt_model.specs.Updates.{Choice}
 use Rattle.yt_model.specs.Values.{Fact}
 use Rattle.yt_plan.specs.Planned.{HasSettled, WantsStep, at_rest, next_attempt, next_reads}

@@ -1,6 +1,5 @@
 -- What is prepared of a step or a withdrawal at a place.
 use Rattle.std.proofs.Common.{◌≡◌, ◌∙◌, ap, sym, subst, ℕ, suc, ◌<◌, List, [], map, drop, length, get_or}
-use Rattle.std.specs.Prelude.{slice_get}
 use Rattle.std.proofs.lemmas.Option.{same_Some}
 use Rattle.yt_base.specs.Listed.{Listed}
 use Rattle.yt_base.specs.Meanings.{change_of}

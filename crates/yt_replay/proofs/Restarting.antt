@@ -1,8 +1,8 @@
 -- Restarts one after the other, seat by seat, and what stands at a place.
-use Rattle.std.proofs.Common.{◌≡◌, ◌∙◌, ap, sym, refl, subst, ℕ, suc, zero, ◌<◌, ◌≤◌, ◌+◌, Bool, true, List, [], ◌∷◌, ◌++◌, map, length, get_or, take, drop, arith, append-nil}
-use Rattle.std.specs.Prelude.{if◌then◌else◌, Option, Some, slice_get, option_map}
+use Rattle.std.proofs.Common.{◌≡◌, ◌∙◌, ap, sym, refl, subst, ℕ, suc, zero, ◌<◌, ◌≤◌, ◌+◌, Bool, true, List, [], ◌∷◌, ◌++◌, length, get_or, take, drop, arith}
+use Rattle.std.specs.Prelude.{if◌then◌else◌, Some, slice_get, option_map}
 use Rattle.std.proofs.Math.ListN.{set}
-use Rattle.std.proofs.lemmas.List.{map-set, get_or-map, length-map, take-append-drop}
+use Rattle.std.proofs.lemmas.List.{map-set, get_or-map, length-map}
 use Rattle.std.proofs.lemmas.Option.{same_Some, none-some, slice_get-map}
 use Rattle.yt_entries.specs.declared.causes.Cause.{Cause as CauseOfProgram}
 use Rattle.yt_machine.specs.Machine.{Machine}
@@ -11,7 +11,7 @@ use Rattle.yt_machine.specs.Cascade.{anew, has_number, restarted}
 use Rattle.yt_model.specs.Mappings.{Rule}
 use Rattle.yt_steps.specs.Chase.{caused_chase}
 use Rattle.yt_seats.specs.Seatings.{update_of, updates_of, StandsAt, AreFrom}
-use Rattle.yt_seats.specs.Events.{KeepsPlace, KeepsPlaceBy}
+use Rattle.yt_seats.specs.Events.{KeepsPlace}
 use Rattle.yt_seats.specs.Renewals.{HasOneMore, HasRestarted}
 use Rattle.yt_seats.specs.declared.seats.Seat.{Seat}
 use Rattle.yt_replay.specs.Causes.{readers_in}

@@ -1,8 +1,6 @@
 -- Levels that rise over others and sink back, and those of a base and trails.
-use Rattle.std.proofs.Common.{◌≡◌, ◌∙◌, ap, refl, sym, subst, ℕ, zero, suc, ◌+◌, ◌-◌, ◌<◌, ◌≤◌, List, [], ◌∷◌, ◌++◌, map, take, drop, length, get_or, arith}
+use Rattle.std.proofs.Common.{◌≡◌, ◌∙◌, ap, refl, sym, subst, ℕ, zero, suc, ◌+◌, ◌-◌, ◌<◌, ◌≤◌, List, [], ◌∷◌, map, take, drop, length, get_or, arith}
 use Rattle.std.specs.List.{flat_map}
-use Rattle.std.specs.Prelude.{slice_get}
-use Rattle.std.proofs.lemmas.Option.{same_Some, none-some}
 use Rattle.yt_model.specs.Values.{Fact}
 use Rattle.yt_model.specs.Repository.{Change, apply}
 use Rattle.yt_steps.proofs.Steady.{apply_join}

@@ -1,5 +1,5 @@
 -- The first own writes of an attempt.
-use Rattle.std.proofs.Common.{◌≡◌, ap, refl, ℕ, zero, suc, ◌≤◌, List, [], ◌∷◌, map, take, length, arith}
+use Rattle.std.proofs.Common.{◌≡◌, ap, refl, ℕ, zero, suc, List, [], ◌∷◌, map, take}
 use Rattle.yt_base.specs.declared.updates.Write.{Write}
 use Rattle.yt_base.specs.Meanings.{change_of}
 use Rattle.yt_model.specs.Repository.{Change}

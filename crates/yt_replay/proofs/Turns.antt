@@ -12,7 +12,7 @@ use Rattle.yt_model.specs.Mappings.{Rule}
 use Rattle.yt_model.specs.Repository.{apply}
 use Rattle.yt_model.specs.Values.{Fact}
 use Rattle.yt_steps.specs.Chase.{caused_chase}
-use Rattle.yt_seats.specs.Seatings.{AreFrom, StandsAt, update_of, updates_of}
+use Rattle.yt_seats.specs.Seatings.{AreFrom, update_of, updates_of}
 use Rattle.yt_seats.specs.Standings.{HasTrail}
 use Rattle.yt_seats.specs.declared.seats.Seat.{Seat}
 use Rattle.yt_replay.specs.Causes.{AreTold, AreUnmet, IsJoinOf, IsMetConflict, LeavesBelow, cause_meant, causes_meant, members_of}

@@ -1,26 +1,25 @@
 -- Reads that mention none of the relations that were written need not be evaluated, where all reads were valid before.
-use Rattle.std.proofs.Common.{◌≡◌, ◌∙◌, ap, refl, sym, subst, ℕ, suc, ◌+◌, ◌≤◌, ◌==◌, ◌++◌, Bool, true, false, not, ◌&&◌, ◌||◌, cond, List, [], ◌∷◌, map, Option, None, Some, arith}
+use Rattle.std.proofs.Common.{◌≡◌, ◌∙◌, ap, refl, sym, subst, ℕ, suc, ◌≤◌, ◌==◌, ◌++◌, Bool, true, false, not, ◌&&◌, ◌||◌, List, [], ◌∷◌, map, Option, None, Some, arith}
 use Rattle.std.specs.Prelude.{if◌then◌else◌, option_map, option_to_list, is_some, flat_map}
 use Rattle.std.specs.List.{list_any, list_all, AllByRecursion}
-use Rattle.std.proofs.lemmas.Bool.{and_parts, and_from, or_parts, both_ways, eqb-true, eq-eqb}
-use Rattle.yt_machine.specs.Cascade.{Cause, Conflict, Depends, Member, readers, conflict_of, conflicts, cascade, dependence_of, read_depends, has_number, is_live, reads_of, with_member, without_member, writer_for}
+use Rattle.std.proofs.lemmas.Bool.{and_parts, or_parts, both_ways, eqb-true, eq-eqb}
+use Rattle.yt_machine.specs.Cascade.{Cause, Conflict, Depends, Member, readers, conflict_of, conflicts, cascade, dependence_of, read_depends, has_number, is_live, with_member, without_member, writer_for}
 use Rattle.yt_machine.specs.Machine.{Machine}
 use Rattle.yt_machine.specs.Reads.{Changed, all_valid, changed_read, first_that, is_valid, value_now}
-use Rattle.yt_machine.specs.Standings.{is_nil}
 use Rattle.yt_machine.specs.Updates.{Deps, Precise, Coarse, Read, Update, trail}
-use Rattle.yt_machine.proofs.Basics.{all_from, none_from, some_first, some_map}
+use Rattle.yt_machine.proofs.Basics.{all_from}
 use Rattle.yt_machine.proofs.Settling.{conflict_some}
 use Rattle.yt_machine.proofs.Walks.{readers_join}
 use Rattle.yt_model.specs.Mappings.{Rule}
 use Rattle.yt_model.specs.Mentions.{mentions}
-use Rattle.yt_model.specs.Queries.{Query, same_reply, value}
+use Rattle.yt_model.specs.Queries.{same_reply}
 use Rattle.yt_model.specs.Repository.{Change, IsRepository, apply}
 use Rattle.yt_model.specs.Updates.{Operation}
 use Rattle.yt_model.specs.Values.{Fact}
 use Rattle.yt_steps.proofs.ChaseLaws.{chase_laws}
 use Rattle.yt_steps.specs.Chase.{AgreeOn, caused, caused_chase, relation_of}
 use Rattle.yt_replay.specs.Changes.{meets}
-use Rattle.yt_replay.specs.Met.{is_none_of, AreValid, AreValidThat, is_open, met_change, met_conflict, met_conflicts, is_reached, has_turned, met_dependence, met_join, met_cascade, relations_in}
+use Rattle.yt_replay.specs.Met.{is_none_of, AreValidThat, is_open, met_conflict, met_conflicts, is_reached, has_turned, met_dependence, met_join, met_cascade, relations_in}
 
 -- ---- the first that passes
 

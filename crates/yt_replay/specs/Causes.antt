@@ -1,5 +1,5 @@
 -- Why an event restarts others.
-use Rattle.std.specs.Prelude.{◌≡◌, ◌==◌, ◌++◌, ℕ, suc, nat_lt, Bool, true, false, not, ◌&&◌, ◌||◌, if◌then◌else◌, List, [], ◌∷◌, map, Option, None, Some, option_map}
+use Rattle.std.specs.Prelude.{◌≡◌, ◌++◌, ℕ, suc, nat_lt, Bool, false, not, ◌&&◌, if◌then◌else◌, List, [], ◌∷◌, map, Option, option_map}
 use Rattle.std.specs.List.{list_any}
 use Rattle.yt_base.specs.Meanings.{change_of}
 use Rattle.yt_entries.specs.Meanings.{cause_of}

@@ -1,5 +1,5 @@
 -- The walks upwards, where only reads are evaluated that mention one of the relations which were written.
-use Rattle.std.specs.Prelude.{◌≡◌, ◌==◌, ◌++◌, ℕ, suc, Bool, true, false, not, ◌&&◌, ◌||◌, if◌then◌else◌, List, [], ◌∷◌, map, flat_map, Option, None, Some, option_map, option_to_list, is_some}
+use Rattle.std.specs.Prelude.{◌≡◌, ◌==◌, ◌++◌, ℕ, suc, Bool, true, not, ◌&&◌, ◌||◌, if◌then◌else◌, List, [], ◌∷◌, map, flat_map, Option, None, option_map, option_to_list, is_some}
 use Rattle.std.specs.List.{list_any}
 use Rattle.yt_machine.specs.Cascade.{Cause, Conflict, Depends, Member, has_number, is_live, reads_of, with_member, without_member, writer_for}
 use Rattle.yt_machine.specs.Machine.{Machine}

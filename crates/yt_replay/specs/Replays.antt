@@ -1,5 +1,5 @@
 -- What a replay is: the updates that a history left, and the base with the trails of the lowest of them.
-use Rattle.std.specs.Prelude.{◌≡◌, ◌==◌, ◌≤◌, ◌<◌, ℕ, zero, suc, nat_lt, Bool, true, if◌then◌else◌, List, [], ◌∷◌, ◌++◌, map, length, slice_get, Option, Some, None}
+use Rattle.std.specs.Prelude.{◌≡◌, ◌==◌, ◌≤◌, ℕ, zero, suc, nat_lt, Bool, if◌then◌else◌, List, [], ◌∷◌, ◌++◌, map, length, slice_get, Option, Some, None}
 use Rattle.yt_base.specs.Meanings.{choice_of}
 use Rattle.yt_entries.specs.Meanings.{entry_of, standing_of}
 use Rattle.yt_entries.specs.declared.standings.Standing.{Standing}

@@ -98,8 +98,8 @@ impl<'r> Losses<'r> {
         mappings: &MappingList,
         deps: Deps,
     ) -> Result<Option<Numbered<'a>>, Memory>
-        ensures first { IfOk result (IsFirstDependent (deps_of deps) (rules_in mappings.now) self.now
-            (top levels.now) seat.now) }
+        ensures first { IfOk result (IsFirstDependent (deps_of deps) (rules_in mappings.now)
+            self.now (top levels.now) seat.now) }
     {
         match deps {
             Deps::Precise => self.first_changed(alloc, levels, seat, mappings),

@@ -30,7 +30,8 @@ impl<'s> Replay<'s> {
     ) -> Result<Replay<'s>, Memory>
         requires valid { IsSession (session_of session.now) }
         requires retries { settings.retries ≤ 4 }
-        ensures begun { IfOk result (IsBegun (session_of session.now) budget (settings_of settings)) }
+        ensures begun { IfOk result
+            (IsBegun (session_of session.now) budget (settings_of settings)) }
     {
         budget.is_within();
         let mappings = mappings_of(session);

@@ -1,4 +1,4 @@
-use Rattle.std.proofs.Common.{◌≡◌, ℕ, map, drop}
+use Rattle.std.proofs.Common.{ℕ, map, drop}
 use Rattle.yt_base.specs.Meanings.{rule_of}
 use Rattle.yt_seats.specs.Seatings.{AreFrom, updates_of}
 use Rattle.yt_seats.specs.Settings.{deps_of}

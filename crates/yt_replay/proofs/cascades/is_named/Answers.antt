@@ -1,4 +1,4 @@
-use Rattle.std.proofs.Common.{◌≡◌, ◌∙◌, ◌==◌, ap, List, map, rules, tests}
+use Rattle.std.proofs.Common.{◌∙◌, ◌==◌, ap, List, rules, tests}
 use Rattle.std.proofs.lemmas.Iterator.Search.{any_from_yields_List}
 use Rattle.yt_base.proofs.Iterated.{mapped_from_slice}
 use Rattle.yt_entries.specs.declared.causes.Cause.{Cause}

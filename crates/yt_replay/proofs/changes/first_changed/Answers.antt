@@ -1,7 +1,6 @@
 use Rattle.std.proofs.Common.{◌≡◌, ◌∙◌, ◌+◌, ◌<◌, sym, true, false, map, length, arith}
 use Rattle.std.proofs.lemmas.Grind.{common_steps}
 use Rattle.yt_base.specs.Meanings.{change_of, heading_of, rule_of}
-use Rattle.yt_machine.specs.Reads.{first_that}
 use Rattle.yt_query.specs.Meanings.{read_of, reply_of}
 use Rattle.yt_replay.specs.Changes.{is_met_and_changed}
 use Rattle.yt_replay.proofs.Numbered.{passed_by, found_here, change_is, test_tells, unmet_tells}

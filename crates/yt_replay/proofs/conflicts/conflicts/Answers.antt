@@ -1,10 +1,6 @@
-use Rattle.std.proofs.Common.{◌≡◌, ◌∙◌, ap, sym, subst, List, length, map, take, arith}
+use Rattle.std.proofs.Common.{◌∙◌, map}
 use Rattle.yt_base.specs.Meanings.{rule_of}
-use Rattle.yt_model.specs.Values.{Fact}
-use Rattle.yt_seats.specs.declared.seats.Seat.{Seat}
-use Rattle.yt_replay.specs.Causes.{AreMetConflicts}
 use Rattle.yt_replay.specs.Levels.{top}
-use Rattle.yt_replay.specs.Places.{AreBetween}
 use Rattle.yt_replay.proofs.Risen.{risen_above, sunk_back}
 use Rattle.yt_replay.proofs.Turns.{between_taken, from_taken, reached_all}
 use Rattle.yt_replay.proofs.conflicts.conflicts.Goals as goal

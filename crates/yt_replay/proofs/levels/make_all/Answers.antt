@@ -1,4 +1,4 @@
-use Rattle.std.proofs.Common.{◌≡◌, ◌∙◌, ap, sym, ◌+◌, List, map, drop}
+use Rattle.std.proofs.Common.{◌∙◌, ap, sym, ◌+◌, List, map, drop}
 use Rattle.yt_base.specs.Meanings.{change_of}
 use Rattle.yt_base.specs.declared.updates.Write.{Write}
 use Rattle.yt_model.specs.Values.{Fact}

@@ -1,4 +1,4 @@
-use Rattle.std.proofs.Common.{◌≡◌, ◌<◌, ◌-◌, ◌+◌, ap, suc, List, [], length, map, arith}
+use Rattle.std.proofs.Common.{◌≡◌, ◌<◌, ap, suc, List, [], length, map, arith}
 use Rattle.yt_base.specs.Meanings.{change_of}
 use Rattle.yt_model.specs.Values.{Fact}
 use Rattle.yt_replay.proofs.Risen.{between_at, stand_raised, stand_there}

@@ -1,5 +1,5 @@
 use Rattle.std.proofs.Common.{◌<◌, length, arith}
-use Rattle.std.proofs.Common.{◌∙◌, refl}
+use Rattle.std.proofs.Common.{◌∙◌}
 use Rattle.yt_replay.specs.Causes.{readers_in}
 use Rattle.yt_replay.proofs.Restarting.{more_there, more_behind, put_with, turned, all_turned}
 use Rattle.yt_replay.proofs.restarts.restart_named.Goals as goal

@@ -1,4 +1,4 @@
-use Rattle.std.proofs.Common.{◌≡◌, ℕ, suc, ◌≤◌, List, ◌++◌, take, drop, length}
+use Rattle.std.proofs.Common.{◌≡◌, ℕ, suc, List, ◌++◌, take, drop}
 use Rattle.yt_machine.specs.Cascade.{restarted}
 use Rattle.yt_model.specs.Mappings.{Rule}
 use Rattle.yt_steps.specs.Chase.{caused_chase}

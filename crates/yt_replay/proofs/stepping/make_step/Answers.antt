@@ -1,10 +1,4 @@
-use Rattle.std.proofs.Common.{◌∙◌, ap, sym, subst, ◌≤◌, ◌+◌, length, arith}
-use Rattle.std.proofs.lemmas.Option.{same_Some}
-use Rattle.yt_machine.specs.Steps.{stepped}
-use Rattle.yt_steps.specs.Chase.{caused_chase}
-use Rattle.yt_seats.specs.Programs.{IsPlanOf}
-use Rattle.yt_seats.specs.Seatings.{update_of}
-use Rattle.yt_seats.specs.declared.seats.Seat.{Seat}
+use Rattle.std.proofs.Common.{arith}
 use Rattle.yt_replay.proofs.Placing.{numbers_stepped, step_made}
 use Rattle.yt_replay.proofs.Restarting.{more_above, more_behind, set_long}
 use Rattle.yt_replay.proofs.stepping.make_step.Goals as goal

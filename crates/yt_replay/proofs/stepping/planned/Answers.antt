@@ -1,4 +1,4 @@
-use Rattle.std.proofs.Common.{◌≡◌, ◌∙◌, ap, sym}
+use Rattle.std.proofs.Common.{◌∙◌}
 use Rattle.yt_replay.proofs.Planning.{nothing_settled, planned_is, wants_step}
 use Rattle.yt_replay.proofs.stepping.planned.Goals as goal
 

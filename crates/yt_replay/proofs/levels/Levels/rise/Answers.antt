@@ -1,4 +1,4 @@
-use Rattle.std.proofs.Common.{◌≡◌, ◌∙◌, ap, List, [], ◌∷◌, map}
+use Rattle.std.proofs.Common.{◌∙◌, ap, List, [], ◌∷◌, map}
 use Rattle.std.specs.Prelude.{reverse}
 use Rattle.std.proofs.lemmas.List.{map-append}
 use Rattle.yt_base.specs.Contents.{changes_of}

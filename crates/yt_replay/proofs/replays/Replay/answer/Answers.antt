@@ -1,6 +1,6 @@
 use Rattle.std.proofs.Common.{rules}
 use Rattle.yt_replay.specs.declared.events.Event.TheVariants as events
-use Rattle.yt_replay.proofs.Deciding.{between_there, counted, is_there, it_is_within, made_at, not_taken, taken_there}
+use Rattle.yt_replay.proofs.Deciding.{between_there, is_there, it_is_within, made_at, not_taken, taken_there}
 use Rattle.yt_replay.proofs.Done.{nothing_answered}
 use Rattle.yt_replay.proofs.Going.{its_numbers}
 use Rattle.yt_replay.proofs.replays.Replay.answer.Goals as goal
