@@ -1,0 +1,36 @@
+-- The plan of the next step of a seat's update.
+use Rattle.std.proofs.Common.{◌≡◌, ◌∙◌, ap, refl, ℕ, zero, suc, slice_index_or, replicate, Bool, false, Option, List, map}
+use Rattle.std.proofs.lemmas.Bool.{both_ways}
+use Rattle.yt_model.specs.Mappings.{Rule}
+use Rattle.yt_model.specs.Updates.{Choice}
+use Rattle.yt_model.specs.Values.{Fact}
+use Rattle.yt_plan.specs.Planned.{HasSettled, WantsStep, at_rest, next_attempt, next_reads}
+use Rattle.yt_plan.specs.declared.plans.Plan.{Plan}
+use Rattle.yt_program.specs.Wishes.{wish}
+use Rattle.yt_query.specs.Meanings.{read_of}
+use Rattle.yt_steps.specs.Attempts.{Attempt}
+use Rattle.yt_seats.specs.Programs.{HasNext, IsPlanOf}
+use Rattle.yt_seats.specs.Wants.{WantsNext}
+use Rattle.yt_seats.specs.declared.seats.Seat.{Seat}
+use Rattle.yt_replay.specs.Steps.{IsReadySomewhere}
+
+-- A ready update wants its next step with its next answer.
+pub wants_step : (r : Seat) (a : Option Choice) → IsReadySomewhere r → WantsNext r a → WantsStep (wish r.program) a
+wants_step r a f wants = wants f.rules f.budget f.settings f.committed f.number f.ready
+
+none_marked : (n m : ℕ) → slice_index_or (replicate n false) m false ≡ false
+none_marked zero m = refl
+none_marked (suc n) zero = refl
+none_marked (suc n) (suc m) = none_marked n m
+
+-- Without a mark nothing is said.
+pub nothing_settled : (k : ℕ) (ms : List Rule) (D : List Fact) (P : Attempt) (marks : List Bool) → marks ≡ replicate k false → HasSettled ms D P marks
+nothing_settled k ms D P marks e m h = absurd (both_ways (slice_index_or marks m false) (ap (λ (bs : List Bool). slice_index_or bs m false) e ∙ none_marked k m) h)
+
+-- What was planned over such a set is the plan over that of the uppermost level.
+pub planned_is : (ms : List Rule) (B : ℕ) (D E : List Fact) (r : Seat) (plan : Plan) (a : Option Choice) → D ≡ E → HasNext r a → plan.program ≡ at_rest (next_attempt ms B D r.program.attempt a)
+    → map read_of plan.reads.items ≡ next_reads ms D r.program.attempt a → IsPlanOf ms B E r plan
+planned_is ms B D E r plan a e next p q = record {
+  program = p ∙ (λ i. at_rest (next_attempt ms B (e i) r.program.attempt (next ms B i)));
+  reads = q ∙ (λ i. next_reads ms (e i) r.program.attempt (next ms B i));
+}

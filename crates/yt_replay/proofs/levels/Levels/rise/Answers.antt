@@ -1,0 +1,26 @@
+use Rattle.std.proofs.Common.{◌∙◌, ap, List, [], ◌∷◌, map}
+use Rattle.std.specs.Prelude.{reverse}
+use Rattle.std.proofs.lemmas.List.{map-append}
+use Rattle.yt_base.specs.Contents.{changes_of}
+use Rattle.yt_base.specs.Listed.{Listed}
+use Rattle.yt_base.specs.Meanings.{change_of}
+use Rattle.yt_base.specs.declared.updates.Write.{Write}
+use Rattle.yt_model.specs.Repository.{Change}
+use Rattle.yt_model.specs.Values.{Fact}
+use Rattle.yt_replay.specs.Levels.{descended, raised}
+use Rattle.yt_replay.proofs.Descending.{one_level_more}
+use Rattle.yt_replay.proofs.levels.Levels.rise.Goals as goal
+
+pub returns : goal.returns
+returns c =
+    let D = c.self.inside.facts in
+    let E = c.make_all.new.facts in
+    let made = map change_of c.args.writes.now in
+    let under = map changes_of c.self.inside.back.items in
+    record {
+      raised =
+          ap (λ (bs : List (Listed Write)). descended E (reverse (map changes_of bs))) c.in_ok-push.ensures.items
+          ∙ (ap (λ (l : List (List Change)). descended E (reverse l)) (map-append changes_of c.self.inside.back.items (c.in_ok-back.back ∷ []))
+          ∙ (one_level_more D E made under (changes_of c.in_ok-back.back) c.in_ok-back.ensures.made c.in_ok-back.ensures.back
+          ∙ ap (λ (Ds : List (List Fact)). raised Ds made) c.self.view_is));
+    }

@@ -1,0 +1,24 @@
+use Rattle.std.proofs.Common.{◌≡◌, ◌∙◌, ap, refl, sym, suc, length, arith, rules}
+use Rattle.std.specs.Prelude.{slice_get}
+use Rattle.yt_replay.proofs.Following.{admission_follows, none_admitted}
+use Rattle.yt_replay.proofs.Restarting.{within}
+use Rattle.yt_replay.proofs.replays.Replay.admit.Goals as goal
+
+pub returns-in_default : goal.returns-in_default
+returns-in_default c =
+    let many : length c.args.self.now.seats.items ≡ c.len-place.result = search rules in
+    record { made = λ g H k. (none_admitted g H c.args.self.now k (c.in_default.ensures.there ∙ ap (slice_get c.args.self.now.handed.now) (sym many)), k) }
+
+pub number_at-update-requires : goal.number_at-update-requires
+number_at-update-requires c =
+    let l = within c.args.self.now.handed.now c.len-place.result c.in-Some.next.now (sym c.in-Some.ensures.there) in
+    record { few = omega (arith, l, c.requires.replay.replays.few) }
+
+pub returns : goal.returns
+returns c =
+    let many : length c.args.self.now.seats.items ≡ c.len-place.result = search rules in
+    record {
+      made =
+          λ g H k. admission_follows g H c.args.self.now _ c.in-Some.next.now c.number_at-update.result c.in_ok-seat.seat k (c.in-Some.ensures.there ∙ ap (slice_get c.args.self.now.handed.now) (sym many)) (c.number_at-update.ensures.number ∙ ap suc (sym many))
+          c.in_ok-seat.ensures.admitted c.in_ok-seat.ensures.place refl refl refl refl refl c.in_ok-push.ensures.items;
+    }

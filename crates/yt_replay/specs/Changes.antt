@@ -1,0 +1,54 @@
+-- The first of an update's reads that has another value now, of those that mention one of some relations.
+use Rattle.std.specs.Prelude.{◌≡◌, ℕ, Bool, not, ◌&&◌, List, map, take, Option}
+use Rattle.std.specs.List.{list_any}
+use Rattle.std.specs.Option.{option_map}
+use Rattle.yt_machine.specs.Reads.{first_that}
+use Rattle.yt_model.specs.Mappings.{Rule}
+use Rattle.yt_model.specs.Mentions.{mentions}
+use Rattle.yt_model.specs.Queries.{Query, Reply, same_reply, value}
+use Rattle.yt_model.specs.Repository.{Change as Write}
+use Rattle.yt_model.specs.Updates.{direction_of}
+use Rattle.yt_model.specs.Values.{Fact}
+use Rattle.yt_model.specs.Violations.{Direction, Caused}
+use Rattle.yt_query.specs.Meanings.{Read, read_of, reply_of}
+use Rattle.yt_seats.specs.declared.seats.Seat.{Seat}
+use Rattle.yt_replay.specs.declared.changes.Change.{Change}
+
+-- The query mentions one of the relations.
+abbrev pub meets : List Rule → List ℕ → Query → Bool
+meets ms relations q = list_any (mentions ms q) relations
+
+-- The value of the read over D, by an attempt in this direction whose own writes are these: those count that were made when it asked.
+abbrev pub value_now : List Rule → Direction → List Fact → List Write → Read → Reply
+value_now ms h D own r = value ms r.query D (take r.own own) (Caused h)
+
+-- It has another value than its logged answer.
+abbrev pub is_changed : List Rule → Direction → List Fact → List Write → Read → Bool
+is_changed ms h D own r = not (same_reply r.reply (value_now ms h D own r))
+
+-- It mentions one of the relations, and has another value over D.
+abbrev pub is_met_and_changed : List Rule → List ℕ → Direction → List Fact → List Write → Read → Bool
+is_met_and_changed ms relations h D own r = meets ms relations r.query && is_changed ms h D own r
+
+-- A read that has another value now: its number in the log, from 1, the read, and its value now.
+pub record ChangeMeant : Type 0 where
+  pub number : ℕ
+  pub read : Read
+  pub now : Reply
+
+-- What a `Change` stands for.
+abbrev pub change_meant : Change → ChangeMeant
+change_meant c = record { number = c.number; read = read_of c.read.now; now = reply_of c.now }
+
+-- The read with its number, as a change over D.
+abbrev pub changed_at : List Rule → Direction → List Fact → List Write → ℕ × Read → ChangeMeant
+changed_at ms h D own t = record { number = t.0; read = t.1; now = value_now ms h D own t.1 }
+
+-- The first read of the log that mentions one of the relations and has another value over D.
+abbrev pub first_change : List Rule → List ℕ → Direction → List Fact → List Write → List Read → Option ChangeMeant
+first_change ms relations h D own log = option_map (changed_at ms h D own) (first_that (is_met_and_changed ms relations h D own) log)
+
+-- It is that read of the seat's update.
+abbrev pub IsFirstChange : List Rule → List ℕ → List Fact → Seat → Option Change → Type 0
+IsFirstChange ms relations D r found =
+    option_map change_meant found ≡ first_change ms relations (direction_of r.program.attempt.operation) D r.program.attempt.own (map read_of r.log.items)

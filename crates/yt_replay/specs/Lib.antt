@@ -1,0 +1,10 @@
+pub mod Relations
+pub mod Levels
+pub mod Changes
+pub mod Met
+pub mod Causes
+pub mod Restarts
+pub mod Places
+pub mod Steps
+pub mod Prepared
+pub mod Replays

@@ -1,0 +1,72 @@
+//! The relations of writes, and the queries that mention one of them.
+ghost use Rattle.std.specs.Prelude.{◌≡◌, ◌==◌, map, IfOk, OnOk};
+ghost use Rattle.std.specs.List.{list_any};
+ghost use Rattle.yt_base.specs.Contents.{rules_in};
+ghost use Rattle.yt_base.specs.Meanings.{change_of};
+ghost use Rattle.yt_query.specs.Meanings.{query_of};
+ghost use Rattle.yt_steps.specs.Chase.{relation_of as relation_of_lem};
+ghost use Rattle.yt_replay.specs.Changes.{meets};
+ghost use Rattle.yt_replay.specs.Relations.{AreRelationsOf, HasMore, HasOneMore};
+
+use std::alloc::Global;
+use yt_base::{MappingList, Memory, Write};
+use yt_query::{Query, mentions};
+
+/// The relations of which the writes are, each once. It is refused only for want of memory.
+pub(crate) fn relations_of(alloc: Global, writes: &[Write]) -> Result<Vec<u16>, Memory>
+    ensures same { IfOk result (λ relations.
+        AreRelationsOf (map change_of writes.now) relations.items) }
+{
+    let mut relations = Vec::new(alloc);
+    put_relations(&mut relations, writes)?;
+    Ok(relations)
+}
+
+/// Puts the relations of which the writes are behind the others, each that is none of them. It is refused only for want of
+/// memory.
+pub(crate) fn put_relations(relations: &mut Vec<u16>, writes: &[Write]) -> Result<(), Memory>
+    ensures more { OnOk result
+        (HasMore relations.old.items (map change_of writes.now) relations.new.items) }
+{
+    for write in writes {
+        put_relation(relations, relation_of(write))?;
+    }
+    Ok(())
+}
+
+// Puts the relation behind the others, where it is none of them. It is refused only for want of memory.
+fn put_relation(relations: &mut Vec<u16>, relation: u16) -> Result<(), Memory>
+    ensures more { OnOk result (HasOneMore relations.old.items relation relations.new.items) }
+{
+    if has(relations.as_slice(), relation) {
+        return Ok(());
+    }
+    relations.push(relation)?;
+    Ok(())
+}
+
+// Whether the relation is one of these.
+fn has(relations: &[u16], relation: u16) -> bool
+    ensures there { result ≡ list_any (λ k. k == relation) relations.now }
+{
+    relations.iter().any(|known| *known == relation)
+}
+
+/// The relation of the tuple that is written. It takes no memory.
+pub(crate) fn relation_of(write: &Write) -> u16
+    ensures relation { result ≡ relation_of_lem (change_of write.now) }
+{
+    match write {
+        Write::Insert(tuple) => tuple.relation,
+        Write::Delete(tuple) => tuple.relation,
+    }
+}
+
+/// Whether the query mentions one of the relations. It takes no memory.
+pub(crate) fn is_met(query: &Query, mappings: &MappingList, relations: &[u16]) -> bool
+    ensures met { result ≡ meets (rules_in mappings.now) relations.now (query_of query.now) }
+{
+    relations
+        .iter()
+        .any(|relation| mentions(query, mappings, *relation))
+}

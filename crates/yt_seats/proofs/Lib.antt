@@ -1,0 +1,4 @@
+pub mod Deciding
+pub mod Following
+pub mod Walking
+pub mod Answering

@@ -1,0 +1,22 @@
+//! Restarts.
+ghost use Rattle.std.specs.Prelude.{OnOk};
+ghost use Rattle.yt_seats.specs.Events.{KeepsPlace};
+ghost use Rattle.yt_seats.specs.Renewals.{HasOneMore, HasRestarted};
+
+use crate::seats::Seat;
+use std::alloc::Global;
+use yt_base::Memory;
+
+impl Seat {
+    /// Begins the next attempt: the update loses its writes and its log, and keeps its answers. It is refused only for want
+    /// of memory.
+    pub fn restart(&mut self, alloc: Global) -> Result<(), Memory>
+        requires more { HasOneMore self.old }
+        ensures restarted { OnOk result (HasRestarted self.old self.new) }
+        ensures place { OnOk result (KeepsPlace self.old self.new) }
+    {
+        self.program = self.program.anew(alloc)?;
+        self.log.clear();
+        Ok(())
+    }
+}
