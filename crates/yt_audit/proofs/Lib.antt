@@ -1,0 +1,4 @@
+pub mod Lined
+pub mod Growing
+pub mod Judged
+pub mod Lines
