@@ -27,7 +27,8 @@ fn push_others(out: &mut Vec<u8>, inner: bool, values: &[Value]) -> Result<(), A
     Ok(())
 }
 
-/// Adds values with a comma and a space between, nulls by their inner names where `inner` asks for them.
+/// Adds values with a comma and a space between, nulls by their inner names where `inner` asks for them. It is refused only for
+/// want of memory; the text is then one to be let go.
 pub fn push_values(out: &mut Vec<u8>, inner: bool, values: &[Value]) -> Result<(), AllocError>
     ensures { OnOk result (out.new.items ≡
         out.old.items ++ joined_text (value_text inner) (map datum_of values.now)) }

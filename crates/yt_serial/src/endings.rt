@@ -59,7 +59,8 @@ pub fn stop(alloc: Global, program: &Program, number: u32, lack: Lack) -> Result
     }
 }
 
-/// Tells the finish of an update that has ended, and keeps its writes. It is refused only for want of memory.
+/// Tells the finish of an update that has ended, and keeps its writes. It is refused only for want of memory; the facts may then have
+/// some of the writes, and they and the finishes are ones to be let go.
 pub fn end(
     alloc: Global,
     finishes: &mut FinishList,

@@ -104,7 +104,8 @@ impl<K: Drop, V: Drop> Branch<K, V> {
         Ok(Branch { node: Some(node) })
     }
 
-    /// The tree of the last entries of the list, `count` of them or all where there are fewer. They are taken out of it.
+    /// The tree of the last entries of the list, `count` of them or all where there are fewer. They are taken out of it. It is refused
+    /// only for want of memory; some of them may then be taken out, and the list is one to be let go.
     pub fn of_last(
         alloc: Global,
         entries: &mut Vec<(K, V)>,

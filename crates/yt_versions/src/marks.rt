@@ -75,7 +75,7 @@ impl Marks {
         }
     }
 
-    /// Touches the marks. It is refused only for want of memory.
+    /// Touches the marks. It is refused only for want of memory; they are then still in order, and ones to be let go.
     pub fn touch(&mut self, alloc: Global, touch: Touch) -> Result<(), Memory>
         ensures ok { OnOk result (self.new ≡ touched touch self.old) }
         ensures in_order { AreMarks self.old → AreMarks self.new }

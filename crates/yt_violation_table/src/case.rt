@@ -34,7 +34,7 @@ impl Case {
     }
 }
 
-/// Makes the write in the plain set. It is refused only for want of memory.
+/// Makes the write in the plain set. It is refused only for want of memory; the set is then as it was.
 pub fn write_plain(alloc: Global, facts: &mut PlainFacts, write: &Write) -> Result<(), Memory>
     ensures ok { OnOk result (facts.new ≡ change facts.old (change_of write.now)) }
 {
@@ -49,7 +49,7 @@ pub fn write_plain(alloc: Global, facts: &mut PlainFacts, write: &Write) -> Resu
     Ok(())
 }
 
-/// Makes the write in the indexed set. It is refused only for want of memory.
+/// Makes the write in the indexed set. It is refused only for want of memory; the set is then as it was.
 pub fn write_indexed(alloc: Global, facts: &mut IndexedFacts, write: &Write) -> Result<(), Memory>
     ensures ok { OnOk result (facts.new ≡ change facts.old (change_of write.now)) }
 {
