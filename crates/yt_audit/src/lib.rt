@@ -4,10 +4,12 @@
 //! event (`yt_replay`), and each line is compared with the text of its entry.
 #![tactic(auto)]
 
+mod commands;
 mod judging;
 mod terms;
 mod verdicts;
 
+pub use crate::commands::Audit;
 pub use crate::judging::audit;
 pub use crate::terms::Terms;
 pub use crate::verdicts::{Verdict, Why, verdict_line};
