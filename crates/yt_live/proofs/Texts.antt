@@ -42,6 +42,10 @@ greeted L kept e source out tmid writes first later x =
     ends_since (of_lines (attended L) kept.bytes) (of_lines (served L) kept.bytes) [] (ready_line L) kept.room kept.room source out source.bytes tmid source.faults writes
     (record { at_end = λ more. refl; so_far = λ more. refl }) (Consumes-nil source.bytes) first (omega arith) (omega arith) later e x
 
+-- memory was wanting before it
+pub none_yet : (L : Live) (kept : Kept) (left taken : Option (List ℕ)) (reads writes : ℕ) → Ends (of_lines (attended L) kept.bytes) kept.room ends.Memory (unmoved left reads) (unmoved taken writes)
+none_yet L kept left taken reads writes = ([], Consumes-nil left, omega arith, takes_none taken taken (attended L (lines_of (kept.bytes ++ left_of left))).replies (Keeps-refl taken))
+
 -- ---- the session of the text
 
 -- why it is refused is how what is served of it ends, before anything is replied

@@ -5,7 +5,9 @@ ghost use Rattle.yt_command.specs.Devices.{Takes, change};
 ghost use Rattle.yt_grammar.specs.Lines.{read};
 ghost use Rattle.yt_queue.specs.Settings.{settings_of};
 ghost use Rattle.yt_replies.specs.Meanings.{live_of};
-ghost use Rattle.yt_replies.specs.Turns.{line_turn};
+ghost use Rattle.yt_grammar.specs.Validity.{IsSession};
+ghost use Rattle.yt_replies.specs.Turns.{begun, line_turn};
+ghost use Rattle.yt_session.specs.Meanings.{session_of};
 ghost use Rattle.yt_live.specs.Ends.{Ends, EndsAlone, FailsReply, HasReplied, Serves, end_of, of_lines};
 ghost use Rattle.yt_live.specs.Streams.{MakesLegalHistories, attended, opened_with, ready_line, served};
 
@@ -17,6 +19,7 @@ use yt_limits::Budget;
 use yt_lines::{Lines, NextLine};
 use yt_queue::Settings;
 use yt_replies::Conversation;
+use yt_session::Session;
 use yt_text::{Sink, Source, write_all};
 
 /// The most bytes that an input may have.
@@ -120,6 +123,29 @@ fn attend<S: Source, O: Sink>(
     converse(alloc, conversation, lines, source, sink)
 }
 
+// The session, told to be ready, and then the lines of commands.
+fn serve_session<S: Source, O: Sink>(
+    alloc: Global,
+    session: &Session,
+    lines: &mut Lines,
+    source: &mut S,
+    sink: &mut O,
+    settings: Settings,
+    budget: Budget,
+) -> Result<(), LiveEnd>
+    requires retries { settings.retries ≤ 4 }
+    requires valid { IsSession (session_of session.now) }
+    ensures attends { Ends (of_lines (attended (begun budget (settings_of settings)
+        (session_of session.now))) lines.old.bytes) lines.old.room (end_of result)
+        (change S.left S.fault_count source.old source.new)
+        (change O.taken O.fault_count sink.old sink.new) }
+{
+    let mut conversation = Conversation::open(alloc, session, settings, budget)?;
+    let attended = attend(alloc, &mut conversation, lines, source, sink);
+    drop(conversation);
+    attended
+}
+
 // The session of the text, and then the lines of commands.
 fn serve_text<S: Source, O: Sink>(
     alloc: Global,
@@ -138,8 +164,30 @@ fn serve_text<S: Source, O: Sink>(
         (change O.taken O.fault_count sink.old sink.new) }
 {
     let session = session_in(alloc, text)?;
-    let mut conversation = Conversation::open(alloc, &session, settings, budget)?;
-    attend(alloc, &mut conversation, lines, source, sink)
+    let served = serve_session(alloc, &session, lines, source, sink, settings, budget);
+    drop(session);
+    served
+}
+
+// The session, told to be ready.
+fn greet_alone<O: Sink>(
+    alloc: Global,
+    session: &Session,
+    sink: &mut O,
+    settings: Settings,
+    budget: Budget,
+) -> Result<(), LiveEnd>
+    requires retries { settings.retries ≤ 4 }
+    requires valid { IsSession (session_of session.now) }
+    ensures ok { OnOk result (Takes (change O.taken O.fault_count sink.old sink.new)
+        (ready_line (begun budget (settings_of settings) (session_of session.now)))) }
+    ensures err { IfErr result (FailsReply (ready_line (begun budget (settings_of settings)
+        (session_of session.now))) (change O.taken O.fault_count sink.old sink.new)) }
+{
+    let conversation = Conversation::open(alloc, session, settings, budget)?;
+    let greeted = greet(alloc, &conversation, sink);
+    drop(conversation);
+    greeted
 }
 
 // The session of the text, at the end of the input.
@@ -156,8 +204,9 @@ fn serve_alone<O: Sink>(
         (end_of result) (change O.taken O.fault_count sink.old sink.new) }
 {
     let session = session_in(alloc, text)?;
-    let conversation = Conversation::open(alloc, &session, settings, budget)?;
-    greet(alloc, &conversation, sink)
+    let greeted = greet_alone(alloc, &session, sink, settings, budget);
+    drop(session);
+    greeted
 }
 
 // The session, and then the lines of commands.

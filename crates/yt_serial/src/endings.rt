@@ -35,9 +35,22 @@ pub(crate) fn finish(program: &Program) -> Finish
     }
 }
 
-/// What is told of the update of this number, which stops at a question for what is lacking. It is refused only for
-/// want of memory.
-pub fn stop(alloc: Global, program: &Program, number: u32, lack: Lack) -> Result<Stop, Memory>
+/// What is told of the update of this number, which stops at a question for what is lacking and is given up. It is refused
+/// only for want of memory.
+pub fn stop(alloc: Global, program: Program, number: u32, lack: Lack) -> Result<Stop, Memory>
+    requires between { program.reading ≡ None }
+    requires asked { is_some (question_in program.attempt.phase) ≡ true }
+    ensures told { IfOk result (λ stop.
+        option_map stop_in (stopped number program.attempt (lack_of lack)) ≡
+        Some (stop_of stop)) }
+{
+    let told = stop_at(alloc, &program, number, lack);
+    drop(program);
+    told
+}
+
+// What is told of the update of this number, at its question.
+fn stop_at(alloc: Global, program: &Program, number: u32, lack: Lack) -> Result<Stop, Memory>
     requires between { program.now.reading ≡ None }
     requires asked { is_some (question_in program.now.attempt.phase) ≡ true }
     ensures told { IfOk result (λ stop.
