@@ -55,7 +55,7 @@ impl Levels {
     }
 
     /// Puts one more level above the others: the uppermost one with these writes made. It is refused only for want of
-    /// memory.
+    /// memory; the levels are then ones to be let go.
     pub fn rise(&mut self, alloc: Global, writes: &[Write]) -> Result<(), Memory>
         ensures raised { OnOk result (self.new ≡ raised self.old (map change_of writes.now)) }
     {
@@ -64,7 +64,8 @@ impl Levels {
         Ok(())
     }
 
-    /// Takes the uppermost level away, where it is not the lowest too. It is refused only for want of memory.
+    /// Takes the uppermost level away, where it is not the lowest too. It is refused only for want of memory; the levels are then
+    /// ones to be let go.
     pub fn sink(&mut self) -> Result<(), Memory>
         requires above { 2 ≤ length self.old }
         ensures sunk { OnOk result (self.new ≡ drop 1 self.old) }
@@ -76,7 +77,8 @@ impl Levels {
         Ok(())
     }
 
-    /// Takes levels away until so many are left above the lowest. It is refused only for want of memory.
+    /// Takes levels away until so many are left above the lowest. It is refused only for want of memory; the levels are then ones to
+    /// be let go.
     pub fn sink_to(&mut self, height: usize) -> Result<(), Memory>
         requires above { height + 1 ≤ length self.old }
         ensures sunk { OnOk result

@@ -47,7 +47,7 @@ impl<'s> Replay<'s> {
     }
 
     /// What the event does, and its entry; None exactly where it is not allowed, and then nothing is done. It is refused only
-    /// for want of memory.
+    /// for want of memory; the replay is then one to be let go.
     pub fn make(&mut self, alloc: Global, event: Event) -> Result<Option<Entry>, Memory>
         requires replay { IsReplay self.old }
         ensures made { IfOk result (HasMade event self.old self.new) }

@@ -34,7 +34,8 @@ impl Seat {
         })
     }
 
-    /// Makes the step of the plan: its attempt and its reads are taken over. It is refused only for want of memory.
+    /// Makes the step of the plan: its attempt and its reads are taken over. It is refused only for want of memory; the update is
+    /// then one to be let go.
     pub fn step(&mut self, plan: Plan) -> Result<(), Memory>
         ensures stepped { OnOk result (HasStepped plan self.old self.new) }
         ensures place { OnOk result (KeepsPlaceBy plan self.old self.new) }
@@ -45,7 +46,8 @@ impl Seat {
         Ok(())
     }
 
-    /// Delivers the first recorded answer, if there is one. It is refused only for want of memory.
+    /// Delivers the first recorded answer, if there is one. It is refused only for want of memory; the update is then one to be let
+    /// go.
     pub fn deliver(&mut self) -> Result<(), Memory>
         ensures delivered { OnOk result (HasDelivered self.old self.new) }
         ensures place { OnOk result (KeepsPlace self.old self.new) }
@@ -58,7 +60,7 @@ impl Seat {
     }
 
     /// Puts the choice where the attempt waits for an answer; answers that were delivered for later questions are
-    /// dropped. It is refused only for want of memory.
+    /// dropped. It is refused only for want of memory; the update is then one to be let go.
     pub fn answer(&mut self, alloc: Global, choice: Choice) -> Result<(), Memory>
         ensures answered { OnOk result (HasAnswered choice self.old self.new) }
         ensures place { OnOk result (KeepsPlace self.old self.new) }

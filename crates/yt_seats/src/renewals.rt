@@ -9,7 +9,7 @@ use yt_base::Memory;
 
 impl Seat {
     /// Begins the next attempt: the update loses its writes and its log, and keeps its answers. It is refused only for want
-    /// of memory.
+    /// of memory; the update is then one to be let go.
     pub fn restart(&mut self, alloc: Global) -> Result<(), Memory>
         requires more { HasOneMore self.old }
         ensures restarted { OnOk result (HasRestarted self.old self.new) }
