@@ -49,14 +49,14 @@ pub mod updates;
 pub mod values;
 
 pub use crate::bindings::Binding;
-pub use crate::candidates::{Column, next_candidate};
+pub use crate::candidates::{Candidates, Column, next_candidate};
 pub use crate::copying::TryCopy;
 pub use crate::facts::Facts;
 pub use crate::lists::{List, Name, NameList, NumberList, Word};
 pub use crate::mappings::{Atom, AtomList, Mapping, MappingList, Term, TermRow};
 pub use crate::nulls::Null;
 pub use crate::substitutions::Sub;
-pub use crate::tuples::{Row, Tuple, TupleList};
+pub use crate::tuples::{FORCE_RELATION, Row, Tuple, TupleList};
 pub use crate::updates::{
     Choice, ChoiceList, Direction, Operation, Update, UpdateList, Write, WriteList,
 };

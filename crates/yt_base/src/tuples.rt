@@ -13,6 +13,9 @@ use std::alloc::Global;
 use std::cmp::Ordering;
 use yt_memory::Memory;
 
+/// The relation of the tuples that say which mappings are in force.
+pub const FORCE_RELATION: u16 = 65535;
+
 /// The values of a tuple by column.
 pub type Row = List<Value>;
 

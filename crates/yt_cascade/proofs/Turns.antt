@@ -1,7 +1,7 @@
 -- One turn of the walk upwards.
 use Rattle.std.proofs.Common.{◌≡◌, ◌∙◌, ap, refl, sym, subst, ℕ, suc, ◌+◌, ◌<◌, ◌≤◌, Bool, true, false, List, [], ◌∷◌, ◌++◌, Option, Some, None, is_some, append_assoc, append-nil, length, drop, get_or, map}
 use Rattle.std.proofs.lemmas.Bool.{both_ways}
-use Rattle.std.proofs.lemmas.List.{map-append, drop-map}
+use Rattle.std.proofs.lemmas.List.{drop_more, map-append, drop-map}
 use Rattle.yt_conflict.specs.Concerns.{AgreeBut}
 use Rattle.yt_conflict.specs.Trails.{writes_of, trails_of}
 use Rattle.yt_conflict.specs.declared.concerns.Trail.{Trail}
@@ -25,7 +25,6 @@ use Rattle.yt_queue.specs.Queues.{update_of, updates_of, AreFrom, StandsAt}
 use Rattle.yt_queue.specs.Walks.{AreUnread, ReadsAtMost}
 use Rattle.yt_queue.specs.declared.records.Record.{Record}
 use Rattle.yt_steps.specs.Chase.{caused_chase}
-use Rattle.yt_versions.proofs.Noting.{next_drop}
 use Rattle.yt_versions.specs.Standing.{Kept, seen, Retracted}
 use Rattle.yt_cascade.specs.declared.lost.Lost.{Lost}
 use Rattle.yt_cascade.specs.Held.{HoldFrom, AreVersions, laid, above}
@@ -78,6 +77,9 @@ unread_has_none : (M : Machine) (deps : Deps) (conflicting : Bool) (c j : ℕ) (
 unread_has_none M deps conflicting c j E N ks n u h =
     idle conflicting (is_live M c n u) (not (is_nil ks)) (conflict_by M j E n u u.log) (dependence_by M deps N ks n u u.log)
     (λ l. ap (conflict_by M j E n u) h) (λ l. ap (dependence_by M deps N ks n u) h)
+
+next_drop : {X : Type 0} (xs : List X) (i : ℕ) (x : X) → i < length xs → x ≡ get_or xs i x → drop i xs ≡ x ∷ drop (i + 1) xs
+next_drop xs i x l is = drop_more xs i x l ∙ ap (λ y. y ∷ drop (i + 1) xs) (sym is)
 
 -- The readers that are left have their numbers in turn.
 pub later_from : (n i : ℕ) (rs : List Record) (r : Record) → i < length rs → r ≡ get_or rs i r → AreFrom n (drop i rs) → StandsAt n r × AreFrom (suc n) (drop (i + 1) rs)

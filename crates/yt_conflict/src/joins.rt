@@ -9,10 +9,7 @@ ghost use Rattle.yt_base.specs.Contents.{rules_in};
 ghost use Rattle.yt_conflict.specs.Concerns.{agree, columns, concerns_rule, joins as joins_lem, joins_some as joins_some_lem, may_be as may_be_lem, may_enact as may_enact_lem, may_join as may_join_lem, stand_together as stand_together_lem};
 
 use crate::concerns::tuple_of;
-use yt_base::{Atom, Direction, Mapping, MappingList, Term, Tuple, Value, Write};
-
-// The relation of the tuples that say which mappings are in force.
-const FORCE_RELATION: u16 = 65535;
+use yt_base::{Atom, Direction, FORCE_RELATION, Mapping, MappingList, Term, Tuple, Value, Write};
 
 /// Whether the tuple may decide which violation of the mapping is the first that the own writes caused in this direction.
 /// Forward it joins with a tuple that they insert, or it is of a relation of the mapping and they put mappings in force;

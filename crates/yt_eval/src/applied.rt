@@ -10,11 +10,11 @@ ghost use Rattle.yt_eval.specs.Seen.{value_seen};
 ghost use Rattle.yt_eval.specs.Watched.{AreSettled, may_enact as may_enact_lem, seen_over};
 
 use crate::answers::{Writes, value_over};
-use crate::scopes::{Counted, FORCE_RELATION, relation_of};
+use crate::scopes::{Counted, relation_of};
 use crate::settled::Settled;
 use std::alloc::Global;
 use std::marker::Model;
-use yt_base::{Direction, Facts, MappingList, Memory, Write, WriteList};
+use yt_base::{Direction, FORCE_RELATION, Facts, MappingList, Memory, Write, WriteList};
 use yt_query::{Answer, Query};
 
 /// A set of tuples as an update sees it, where its own writes stand in a set that is there: none of them is applied anew.

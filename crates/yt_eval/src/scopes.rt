@@ -14,12 +14,9 @@ ghost use Rattle.yt_eval.specs.Watched.{AreForceless, may_enact, relation_in};
 ghost use Rattle.yt_base.specs.Contents.{changes_of};
 
 use std::alloc::Global;
-use yt_base::{Direction, Facts, Mapping, Memory, Tuple, Value, Write, WriteList};
+use yt_base::{Direction, FORCE_RELATION, Facts, Mapping, Memory, Tuple, Value, Write, WriteList};
 use yt_query::Answer;
 use yt_violation::{Scope, first_violation};
-
-/// The relation of the tuples that say which mappings are in force.
-pub(crate) const FORCE_RELATION: u16 = 65535;
 
 /// Which violations count: every one, or those that the own writes caused in a direction.
 #[derive(Clone, Copy)]

@@ -6,10 +6,10 @@ ghost use Rattle.yt_eval.specs.Watched.{asks_settled, with_settled, stirs, touch
 ghost use Rattle.yt_base.specs.Contents.{rules_in};
 ghost use Rattle.yt_query.specs.Meanings.{query_of};
 
-use crate::scopes::{FORCE_RELATION, relation_of};
+use crate::scopes::relation_of;
 use std::alloc::Global;
 use std::marker::Model;
-use yt_base::{Atom, Mapping, MappingList, Memory, Write};
+use yt_base::{Atom, FORCE_RELATION, Mapping, MappingList, Memory, Write};
 use yt_query::Query;
 
 /// A mark for each mapping by number: whether it is settled. Contracts see the marks.

@@ -10,3 +10,4 @@ pub mod Taking
 pub mod Changing
 pub mod Related
 pub mod Beginning
+pub mod AtHand

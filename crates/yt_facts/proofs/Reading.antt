@@ -1,11 +1,11 @@
 -- What is read of the set of tuples by its iterators, as what is found in the repository.
-use Rattle.std.proofs.Common.{◌≡◌, ℕ, suc, ◌<◌, ◌≤◌, arith, ap, refl, sym, ◌∙◌, List, [], ◌∷◌, map, Bool, true, false, cond, Some, None, Option, Bor}
+use Rattle.std.proofs.Common.{◌≡◌, ℕ, suc, ◌<◌, ◌≤◌, arith, ap, refl, sym, ◌∙◌, List, [], ◌∷◌, map, Bool, true, false, ◌||◌, cond, Some, None, Option, Bor}
 use Rattle.std.specs.Map.Iter.{TakesFirst, deref}
 use Rattle.std.specs.Option.{option_map, option_copied}
 use Rattle.std.specs.Prelude.{filter, find}
 use Rattle.std.specs.Cmp.Lexicographic.{slice_cmp}
-use Rattle.std.specs.List.{All}
-use Rattle.std.specs.Ordering.{is_lt, nat_cmp, ordering_then, MatchOrdering}
+use Rattle.std.specs.List.{All, list_any}
+use Rattle.std.specs.Ordering.{is_lt, is_gt, nat_cmp, ordering_then, MatchOrdering}
 use Rattle.std.specs.declared.cmp.Ordering.{Ordering}
 use Rattle.std.specs.declared.cmp.Ordering.TheVariants.{Less, Equal, Greater}
 use Rattle.std.proofs.lemmas.Bool.{ne_eqb}
@@ -51,3 +51,22 @@ none_past_end r last (k ∷ ks) h a =
     let below = not_above (fact_of last) (fact_of k) (a 0 k (omega arith)) in
     ap (λ b. cond b (Some (fact_of k)) (find (is_of r) (map fact_of ks))) (ne_eqb k.relation r (λ e. omega (arith, e, below, h)))
     ∙ none_past_end r last ks h (λ i d g. a (suc i) d (omega (arith, g)))
+
+-- ---- before the beginning
+
+-- What is not below has no lesser relation.
+not_below : (s t : Fact) → is_gt (fact_cmp s t) ≡ false → s.relation ≤ t.relation
+not_below s t = by (nat_cmp s.relation t.relation) (ranked s.relation t.relation _ refl)
+  where
+    by : (o : Ordering) → MatchOrdering o (s.relation < t.relation) (s.relation ≡ t.relation) (t.relation < s.relation) → is_gt (ordering_then o (slice_cmp datum_cmp s.values t.values)) ≡ false → s.relation ≤ t.relation
+    by Less m e = omega arith
+    by Equal m e = omega arith
+    by Greater m e = cc
+
+-- A relation below that of a tuple that none is below has no tuple.
+pub none_before_first : (r : ℕ) (first : Tuple) (ks : List Tuple) → r < first.relation → All (λ k. is_gt (tuple_cmp first k) ≡ false) ks → list_any (is_of r) (map fact_of ks) ≡ false
+none_before_first r first [] h a = refl
+none_before_first r first (k ∷ ks) h a =
+    let above = not_below (fact_of first) (fact_of k) (a 0 k (omega arith)) in
+    ap (λ b. b || list_any (is_of r) (map fact_of ks)) (ne_eqb k.relation r (λ e. omega (arith, e, above, h)))
+    ∙ none_before_first r first ks h (λ i d g. a (suc i) d (omega (arith, g)))

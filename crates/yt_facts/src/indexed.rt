@@ -8,7 +8,7 @@ use crate::plain::PlainFacts;
 use crate::relations::{Columns, drop_out, keep, keeps, kept};
 use std::alloc::Global;
 use std::marker::Model;
-use yt_base::{Facts, Memory, TryCopy, Tuple, TupleList, Value};
+use yt_base::{Candidates, Column, Facts, Memory, TryCopy, Tuple, TupleList, Value};
 
 /// A set of tuples with, for each relation, column and value, exactly its tuples that have the value there. So a scan
 /// by column takes steps as many as the logarithm of the set's size, as insertions, deletions and cursors do. Whether a
@@ -169,6 +169,16 @@ impl Facts for IndexedFacts {
         match kept(&self.relations, relation, column, value) {
             Some(group) => group.beyond(past),
             None => None,
+        }
+    }
+
+    fn candidates(&self, relation: u16, column: Option<Column<'_>>) -> Candidates<'_> {
+        match column {
+            Some(column) => match kept(&self.relations, relation, column.number, column.value) {
+                Some(group) => Candidates::Together(group.range()),
+                None => Candidates::Absent,
+            },
+            None => self.all.relation(relation),
         }
     }
 }

@@ -10,7 +10,7 @@ ghost use Rattle.yt_facts.specs.Begun.{HoldsOfFirst};
 use crate::plain::PlainFacts;
 use std::alloc::Global;
 use std::marker::Model;
-use yt_base::{Facts, Memory, TryCopy, Tuple, Value, Write};
+use yt_base::{Candidates, Column, Facts, Memory, TryCopy, Tuple, Value, Write};
 
 /// A set with writes applied to it in turn. It borrows the set, and keeps only the tuples that the writes take away
 /// from it or put into it. Contracts see the list of its tuples, in order.
@@ -135,6 +135,17 @@ impl<'a, F: Facts> Facts for Overlay<'a, F> {
         let course = Course::Column(relation, column, value);
         let left = remaining(self.facts, &self.gone, &course, below);
         least(left, self.added.scan(relation, column, value, past))
+    }
+
+    // What the set has at hand, where no write is among them.
+    fn candidates(&self, relation: u16, column: Option<Column<'_>>) -> Candidates<'_> {
+        let adds_none = self.added.lacks(relation, column);
+        let takes_none = self.gone.lacks(relation, column);
+        if adds_none && takes_none {
+            self.facts.candidates(relation, column)
+        } else {
+            Candidates::Apart
+        }
     }
 }
 

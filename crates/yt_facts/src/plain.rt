@@ -15,6 +15,7 @@ use std::ops::Bound;
 use yt_base::{Facts, List, Memory, TryCopy, Tuple, Value};
 
 mod listed;
+mod ranges;
 
 /// A set of tuples in a balanced tree: insertions, deletions and cursors take steps as many as the logarithm of its
 /// size. Only a scan by column goes over the relation. Contracts see the list of its tuples, in order.

@@ -1,0 +1,86 @@
+//! The tuples of a set as ranges of its tree.
+ghost use Rattle.std.specs.List.{list_any};
+ghost use Rattle.std.specs.Option.{option_map};
+ghost use Rattle.std.specs.Prelude.{◌≡◌, [], ◌+◌, false, map, None, IsTrue};
+ghost use Rattle.yt_model.specs.Cursors.{is_of};
+ghost use Rattle.yt_model.specs.Repository.{IsRepository};
+ghost use Rattle.yt_base.specs.Candidates.{column_of, is_candidate, all_candidates, AreAll};
+ghost use Rattle.yt_base.specs.Meanings.{fact_of};
+
+use super::PlainFacts;
+use std::collections::btree_set::Range;
+use std::ops::Bound;
+use yt_base::{Candidates, Column, List, Tuple, next_candidate};
+
+// So many tuples are few: to search them costs less than to go over the candidates one by one.
+const FEW: usize = 8;
+
+impl PlainFacts {
+    /// All its tuples, in order.
+    pub(crate) fn range(&self) -> Range<'_, Tuple>
+        ensures tuples { map fact_of result ≡ self.now }
+        ensures in_order { IsRepository self.now }
+    {
+        self.tuples.range(..)
+    }
+
+    /// All its tuples of the relation. Those of the last relation that there can be stand apart: no tuple bounds them.
+    pub(crate) fn relation(&self, relation: u16) -> Candidates<'_>
+        ensures all { AreAll result self.now (all_candidates self.now relation None) }
+    {
+        match relation.checked_add(1) {
+            Some(next) => Candidates::Together(self.between(relation, next)),
+            None => Candidates::Apart,
+        }
+    }
+
+    // All its tuples of a relation, of which the next one is given.
+    fn between(&self, relation: u16, next: u16) -> Range<'_, Tuple>
+        requires next { next ≡ relation + 1 }
+        ensures tuples { map fact_of result ≡ all_candidates self.now relation None }
+        ensures in_order { IsRepository self.now }
+    {
+        let first = self.least(relation);
+        let end = self.least(next);
+        self.tuples
+            .range((Bound::Included(&first), Bound::Excluded(&end)))
+    }
+
+    // The least tuple that the relation could have. It takes no memory.
+    fn least(&self, relation: u16) -> Tuple
+        ensures least { fact_of result ≡ record { relation = relation; values = [] } }
+    {
+        Tuple {
+            relation,
+            values: List::new(self.alloc),
+        }
+    }
+
+    /// Whether it is plain that it has no tuple of the relation with the column's value, where a column is given. Only a
+    /// set of few tuples is searched for one; of a larger one the first and the last tell.
+    pub(crate) fn lacks(&self, relation: u16, column: Option<Column<'_>>) -> bool
+        ensures none { IsTrue result →
+            list_any (is_candidate relation (option_map column_of column.entry)) self.now ≡ false }
+    {
+        if self.begins_behind(relation) {
+            return true;
+        }
+        if self.ends_before(relation) {
+            return true;
+        }
+        if self.len() > FEW {
+            return false;
+        }
+        next_candidate(self, relation, column, None).is_none()
+    }
+
+    // Whether the set begins behind the relation: it is empty, or its first tuple is of a greater one.
+    fn begins_behind(&self, relation: u16) -> bool
+        ensures none { IsTrue result → list_any (is_of relation) self.now ≡ false }
+    {
+        match self.tuples.first() {
+            Some(first) => first.relation > relation,
+            None => true,
+        }
+    }
+}
