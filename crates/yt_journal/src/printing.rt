@@ -7,11 +7,8 @@ ghost use Rattle.yt_journal.specs.Format.{commit_line, commit_text, logged, logg
 
 use crate::Commit;
 use std::alloc::Global;
-use yt_base::{Memory, Tuple, Write};
+use yt_base::{FORCE_RELATION, Memory, Tuple, Write};
 use yt_schema::{Schema, print_tuple};
-
-// The relation of the tuples that say which mappings are in force.
-const FORCE_RELATION: u16 = 65535;
 
 // Adds the line of a write of a tuple, by its sign.
 fn push_tuple(

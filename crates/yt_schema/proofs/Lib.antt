@@ -4,3 +4,4 @@ pub mod Noted
 pub mod Eached
 pub mod Fitted
 pub mod Lined
+mod Starting

@@ -1,8 +1,9 @@
 //! The printed form of a tuple.
 
-ghost use Rattle.std.specs.Prelude.{◌≡◌, ◌++◌, ◌∷◌, [], map, flat_map, IfOk, OnOk};
+ghost use Rattle.std.specs.Prelude.{◌≡◌, ◌++◌, ◌∷◌, [], map, flat_map, IfOk, OnOk, OnErr};
 ghost use Rattle.yt_base.specs.Meanings.{datum_of, fact_of};
 ghost use Rattle.yt_grammar.specs.Printing.{joined_text, tuple_text, value_text};
+ghost use Rattle.yt_schema.specs.Pages.{StartsWith};
 
 use crate::schema::Schema;
 use crate::spelling::push_value;
@@ -10,16 +11,18 @@ use std::alloc::{AllocError, Global};
 use yt_base::{Memory, Tuple, Value};
 
 fn push_other(out: &mut Vec<u8>, inner: bool, value: &Value) -> Result<(), AllocError>
-    ensures { OnOk result (out.new.items ≡
+    ensures ok { OnOk result (out.new.items ≡
         out.old.items ++ 44 ∷ 32 ∷ value_text inner (datum_of value.now)) }
+    ensures err { OnErr result (StartsWith out.old.items out.new.items) }
 {
     out.extend_from_slice(b", ")?;
     push_value(out, inner, value)
 }
 
 fn push_others(out: &mut Vec<u8>, inner: bool, values: &[Value]) -> Result<(), AllocError>
-    ensures { OnOk result (out.new.items ≡
+    ensures ok { OnOk result (out.new.items ≡
         out.old.items ++ flat_map (λ d. 44 ∷ 32 ∷ value_text inner d) (map datum_of values.now)) }
+    ensures err { OnErr result (StartsWith out.old.items out.new.items) }
 {
     for value in values {
         push_other(out, inner, value)?;
@@ -27,11 +30,11 @@ fn push_others(out: &mut Vec<u8>, inner: bool, values: &[Value]) -> Result<(), A
     Ok(())
 }
 
-/// Adds values with a comma and a space between, nulls by their inner names where `inner` asks for them. It is refused only for
-/// want of memory; the text is then one to be let go.
-pub fn push_values(out: &mut Vec<u8>, inner: bool, values: &[Value]) -> Result<(), AllocError>
-    ensures { OnOk result (out.new.items ≡
+// Adds values with a comma and a space between.
+fn push_all(out: &mut Vec<u8>, inner: bool, values: &[Value]) -> Result<(), AllocError>
+    ensures ok { OnOk result (out.new.items ≡
         out.old.items ++ joined_text (value_text inner) (map datum_of values.now)) }
+    ensures err { OnErr result (StartsWith out.old.items out.new.items) }
 {
     match values {
         [] => Ok(()),
@@ -40,6 +43,21 @@ pub fn push_values(out: &mut Vec<u8>, inner: bool, values: &[Value]) -> Result<(
             push_others(out, inner, others)
         }
     }
+}
+
+/// Adds values with a comma and a space between, nulls by their inner names where `inner` asks for them. It is refused only for
+/// want of memory; the text is then unchanged.
+pub fn push_values(out: &mut Vec<u8>, inner: bool, values: &[Value]) -> Result<(), AllocError>
+    ensures ok { OnOk result (out.new.items ≡
+        out.old.items ++ joined_text (value_text inner) (map datum_of values.now)) }
+    ensures err { OnErr result (out.new.items ≡ out.old.items) }
+{
+    let had = out.len();
+    let added = push_all(out, inner, values);
+    if added.is_err() {
+        out.truncate(had);
+    }
+    added
 }
 
 fn push_tuple(

@@ -1,10 +1,11 @@
 //! How names, numbers, nulls and texts are spelled.
 
-ghost use Rattle.std.specs.Prelude.{◌≡◌, ◌++◌, ◌∷◌, [], OnOk, flat_map};
+ghost use Rattle.std.specs.Prelude.{◌≡◌, ◌++◌, ◌∷◌, [], OnOk, OnErr, flat_map};
 ghost use Rattle.std.specs.Fmt.{decimal, signed_decimal};
 ghost use Rattle.yt_grammar.specs.Layout.{null_text, quoted, written_byte};
 ghost use Rattle.yt_grammar.specs.Printing.{null_name_text, value_text};
 ghost use Rattle.yt_base.specs.Meanings.{datum_of, null_of};
+ghost use Rattle.yt_schema.specs.Pages.{StartsWith};
 
 use itoa::Buffer;
 use std::alloc::AllocError;
@@ -12,7 +13,8 @@ use yt_base::{Null, Value};
 
 /// A number in plain decimal.
 pub(crate) fn push_number(out: &mut Vec<u8>, number: i64) -> Result<(), AllocError>
-    ensures { OnOk result (out.new.items ≡ out.old.items ++ signed_decimal number) }
+    ensures ok { OnOk result (out.new.items ≡ out.old.items ++ signed_decimal number) }
+    ensures err { OnErr result (StartsWith out.old.items out.new.items) }
 {
     let mut spelled = Buffer::new();
     out.extend_from_slice(spelled.format(number).as_bytes())
@@ -20,7 +22,8 @@ pub(crate) fn push_number(out: &mut Vec<u8>, number: i64) -> Result<(), AllocErr
 
 // A number that is not negative in plain decimal.
 fn push_natural(out: &mut Vec<u8>, number: u32) -> Result<(), AllocError>
-    ensures { OnOk result (out.new.items ≡ out.old.items ++ decimal number) }
+    ensures ok { OnOk result (out.new.items ≡ out.old.items ++ decimal number) }
+    ensures err { OnErr result (StartsWith out.old.items out.new.items) }
 {
     let mut digits = Buffer::new();
     out.extend_from_slice(digits.format(number).as_bytes())
@@ -28,7 +31,8 @@ fn push_natural(out: &mut Vec<u8>, number: u32) -> Result<(), AllocError>
 
 /// The null of an update and a place.
 pub(crate) fn push_null(out: &mut Vec<u8>, update: u32, place: u32) -> Result<(), AllocError>
-    ensures { OnOk result (out.new.items ≡ out.old.items ++ null_text update place) }
+    ensures ok { OnOk result (out.new.items ≡ out.old.items ++ null_text update place) }
+    ensures err { OnErr result (StartsWith out.old.items out.new.items) }
 {
     out.push(b'?')?;
     push_natural(out, update)?;
@@ -38,7 +42,9 @@ pub(crate) fn push_null(out: &mut Vec<u8>, update: u32, place: u32) -> Result<()
 
 // A null by its outer name, or by its inner name with the attempt.
 fn push_null_name(out: &mut Vec<u8>, inner: bool, null: Null) -> Result<(), AllocError>
-    ensures { OnOk result (out.new.items ≡ out.old.items ++ null_name_text inner (null_of null)) }
+    ensures ok { OnOk result (out.new.items ≡
+        out.old.items ++ null_name_text inner (null_of null)) }
+    ensures err { OnErr result (StartsWith out.old.items out.new.items) }
 {
     push_null(out, null.update, null.place)?;
     if !inner {
@@ -50,7 +56,8 @@ fn push_null_name(out: &mut Vec<u8>, inner: bool, null: Null) -> Result<(), Allo
 
 // A byte of a text.
 fn push_byte(out: &mut Vec<u8>, byte: u8) -> Result<(), AllocError>
-    ensures { OnOk result (out.new.items ≡ out.old.items ++ written_byte byte) }
+    ensures ok { OnOk result (out.new.items ≡ out.old.items ++ written_byte byte) }
+    ensures err { OnErr result (StartsWith out.old.items out.new.items) }
 {
     if byte == b'"' {
         return out.extend_from_slice(b"\\\"");
@@ -66,7 +73,8 @@ fn push_byte(out: &mut Vec<u8>, byte: u8) -> Result<(), AllocError>
 }
 
 fn push_bytes(out: &mut Vec<u8>, text: &[u8]) -> Result<(), AllocError>
-    ensures { OnOk result (out.new.items ≡ out.old.items ++ flat_map written_byte text.now) }
+    ensures ok { OnOk result (out.new.items ≡ out.old.items ++ flat_map written_byte text.now) }
+    ensures err { OnErr result (StartsWith out.old.items out.new.items) }
 {
     for byte in text {
         push_byte(out, *byte)?;
@@ -76,7 +84,8 @@ fn push_bytes(out: &mut Vec<u8>, text: &[u8]) -> Result<(), AllocError>
 
 /// A text in its quotes.
 pub(crate) fn push_text(out: &mut Vec<u8>, text: &[u8]) -> Result<(), AllocError>
-    ensures { OnOk result (out.new.items ≡ out.old.items ++ quoted text.now) }
+    ensures ok { OnOk result (out.new.items ≡ out.old.items ++ quoted text.now) }
+    ensures err { OnErr result (StartsWith out.old.items out.new.items) }
 {
     out.push(b'"')?;
     push_bytes(out, text)?;
@@ -86,7 +95,9 @@ pub(crate) fn push_text(out: &mut Vec<u8>, text: &[u8]) -> Result<(), AllocError
 
 /// A value, nulls by their inner names where that is asked for.
 pub(crate) fn push_value(out: &mut Vec<u8>, inner: bool, value: &Value) -> Result<(), AllocError>
-    ensures { OnOk result (out.new.items ≡ out.old.items ++ value_text inner (datum_of value.now)) }
+    ensures ok { OnOk result (out.new.items ≡
+        out.old.items ++ value_text inner (datum_of value.now)) }
+    ensures err { OnErr result (StartsWith out.old.items out.new.items) }
 {
     match value {
         Value::Int(number) => push_number(out, *number),

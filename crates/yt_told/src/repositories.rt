@@ -5,11 +5,8 @@ ghost use Rattle.yt_told.specs.Told.{AreAnswered};
 ghost use Rattle.yt_versions.specs.Standing.{seen};
 
 use std::alloc::Global;
-use yt_base::{Memory, TupleList};
+use yt_base::{FORCE_RELATION, Memory, TupleList};
 use yt_versions::Versions;
-
-// The relation of the tuples that say which mappings are in force.
-const FORCE_RELATION: u16 = 65535;
 
 /// What the update of this number sees, in order and by outer forms. It is refused only for want of memory.
 pub(crate) fn repository(
