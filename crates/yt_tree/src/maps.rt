@@ -47,12 +47,12 @@ impl<K: Ord + Share, V: Share> TreeMap<K, V> {
     }
 
     /// The map of these entries, made in as many steps as there are. It is refused only for want of memory.
-    pub fn from_sorted(alloc: Global, mut entries: Vec<(K, V)>) -> Result<TreeMap<K, V>, AllocError>
+    pub fn from_sorted(alloc: Global, entries: Vec<(K, V)>) -> Result<TreeMap<K, V>, AllocError>
         requires in_order { IsOrdered K.cmp entries.items }
         ensures same { IfOk result (λ map. map ≡ entries.items) }
     {
         let count = entries.len();
-        let all = Branch::of_last(alloc, &mut entries, count)?;
+        let (_, all) = Branch::of_last(alloc, entries, count)?;
         Ok(TreeMap {
             entries: all,
             count,

@@ -7,7 +7,7 @@ pub mod Numbered
 pub mod Standings
 pub mod Setting
 pub mod Scanning
-pub mod Noting
+pub mod Writing
 pub mod Holding
 pub mod Sent
 pub mod Walking

@@ -17,10 +17,10 @@ use Rattle.yt_model.proofs.Sets.{has-apply}
 use Rattle.yt_tree.specs.Orders.{is_at, without}
 use Rattle.yt_versions.specs.Chains.{newest_cmp, AreRows}
 use Rattle.yt_versions.specs.Marked.{marks_at, no_marks}
-use Rattle.yt_versions.specs.Standing.{Kept, StandFor, Published, Retracted, Folded, mark_in, written, last_written, wrote_in}
+use Rattle.yt_versions.specs.Standing.{Kept, StandFor, Published, Retracted, Folded, mark_in, written, last_written}
 use Rattle.yt_versions.specs.Based.{base_marks, based_at}
 use Rattle.yt_versions.specs.Touches.{touched, touched_at, written_at, unwritten_at, published_at, retracted_at, settled_at, folded_at}
-use Rattle.yt_versions.specs.Trails.{SameBut, no_trails, writes_to}
+use Rattle.yt_versions.specs.Trails.{SameBut, no_trails}
 use Rattle.yt_versions.specs.declared.marks.Marks.{Marks}
 use Rattle.yt_versions.specs.declared.marks.Touch.TheVariants.{Mark, Unmark, Settle}
 use Rattle.yt_versions.proofs.Looking.{look_insert, look_without}
@@ -100,24 +100,14 @@ last_both : (m : Option Bool) (ws vs : List Change) (t : Fact) → last_written 
 last_both m [] vs t = refl
 last_both m (w ∷ ws) vs t = last_both (option_or (written w t) m) ws vs t
 
-any_both : {X : Type 0} (p : X → Bool) (xs ys : List X) → list_any p (xs ++ ys) ≡ (list_any p xs || list_any p ys)
-any_both p [] ys = refl
-any_both p (x ∷ xs) ys = by (p x) (any_both p xs ys)
-  where
-    by : (b : Bool) → list_any p (xs ++ ys) ≡ (list_any p xs || list_any p ys) → (b || list_any p (xs ++ ys)) ≡ ((b || list_any p xs) || list_any p ys)
-    by true h = refl
-    by false h = h
-
 -- ---- published
 
-module _ (n : ℕ) (ws : List Change) (old new : Kept) (rows : AreRows new.rows) (made : (t : Fact) → marks_at new.rows t ≡ published_at n ws t (marks_at old.rows t))
-    (noted : (v r : ℕ) → wrote_in new.wrote v r ≡ cond (v == n) (wrote_in old.wrote v r || writes_to r ws) (wrote_in old.wrote v r)) where
+module _ (n : ℕ) (ws : List Change) (old new : Kept) (rows : AreRows new.rows) (made : (t : Fact) → marks_at new.rows t ≡ published_at n ws t (marks_at old.rows t)) where
   pub published_stands : Published n ws old new
   published_stands D before after stood grown others = record {
     rows = rows;
     base = λ t. ap (λ (m : Marks). m.in_base) (made t) ∙ published_keeps (λ (m : Marks). m.in_base) n (λ b m. refl) ws t (marks_at old.rows t) ∙ stood.base t;
     marks = λ v t. marks v t (cases_eq v n);
-    relations = λ v r. relations v r (cases_eq v n);
   }
     where
       marks : (v : ℕ) (t : Fact) → (v ≡ n) ⊎ (v ≡ n → ⊥) → mark_in (marks_at new.rows t) v ≡ last_written None (after v) t
@@ -129,15 +119,6 @@ module _ (n : ℕ) (ws : List Change) (old new : Kept) (rows : AreRows new.rows)
       marks v t (inr h) =
           ap (λ m. mark_in m v) (made t) ∙ published_keeps (λ m. mark_in m v) n (λ b m. marked_other n v b m h) ws t (marks_at old.rows t)
           ∙ stood.marks v t ∙ ap (λ (xs : List Change). last_written None xs t) (sym (others v h))
-
-      relations : (v r : ℕ) → (v ≡ n) ⊎ (v ≡ n → ⊥) → wrote_in new.wrote v r ≡ writes_to r (after v)
-      relations v r (inl e) =
-          let P : ℕ → Type 0 = λ k. wrote_in new.wrote k r ≡ writes_to r (after k) in
-          subst P (sym e)
-          (noted n r ∙ ap (λ b. cond b (wrote_in old.wrote n r || writes_to r ws) (wrote_in old.wrote n r)) (eq-eqb n n refl)
-          ∙ ap (λ b. b || writes_to r ws) (stood.relations n r) ∙ sym (any_both _ (before n) ws) ∙ ap (writes_to r) (sym grown))
-      relations v r (inr h) =
-          noted v r ∙ ap (λ b. cond b (wrote_in old.wrote v r || writes_to r ws) (wrote_in old.wrote v r)) (ne_eqb v n h) ∙ stood.relations v r ∙ ap (writes_to r) (sym (others v h))
 
 -- ---- writes taken back
 
@@ -165,8 +146,7 @@ retracted_own n (Delete s ∷ ws) t m h = by (same_fact t s) h (retracted_own n 
     by true h i = stays_none n ws t (touched (Unmark n) m) (unmarked_own n m)
     by false h i = i h
 
-module _ (n : ℕ) (ws : List Change) (old new : Kept) (made : (v : ℕ) (t : Fact) → mark_in (marks_at new.rows t) v ≡ mark_in (retracted_at n ws t (marks_at old.rows t)) v)
-    (noted : (v r : ℕ) → wrote_in new.wrote v r ≡ cond (v == n) false (wrote_in old.wrote v r)) where
+module _ (n : ℕ) (ws : List Change) (old new : Kept) (made : (v : ℕ) (t : Fact) → mark_in (marks_at new.rows t) v ≡ mark_in (retracted_at n ws t (marks_at old.rows t)) v) where
   module _ {D : List Fact} {before after : ℕ → List Change} (stood : StandFor old D before) (its : before n ≡ ws) (gone : after n ≡ []) (others : SameBut n before after) where
     gone_marks : (v : ℕ) (t : Fact) → (v ≡ n) ⊎ (v ≡ n → ⊥) → mark_in (marks_at new.rows t) v ≡ last_written None (after v) t
     gone_marks v t (inl e) =
@@ -179,21 +159,12 @@ module _ (n : ℕ) (ws : List Change) (old new : Kept) (made : (v : ℕ) (t : Fa
         made v t ∙ retracted_keeps (λ m. mark_in m v) n (λ m. unmarked_other n v m h) ws t (marks_at old.rows t)
         ∙ stood.marks v t ∙ ap (λ (xs : List Change). last_written None xs t) (sym (others v h))
 
-    gone_relations : (v r : ℕ) → (v ≡ n) ⊎ (v ≡ n → ⊥) → wrote_in new.wrote v r ≡ writes_to r (after v)
-    gone_relations v r (inl e) =
-        let P : ℕ → Type 0 = λ k. wrote_in new.wrote k r ≡ writes_to r (after k) in
-        subst P (sym e) (noted n r ∙ ap (λ b. cond b false (wrote_in old.wrote n r)) (eq-eqb n n refl) ∙ ap (writes_to r) (sym gone))
-    gone_relations v r (inr h) =
-        noted v r ∙ ap (λ b. cond b false (wrote_in old.wrote v r)) (ne_eqb v n h) ∙ stood.relations v r ∙ ap (writes_to r) (sym (others v h))
-
-module _ (n : ℕ) (ws : List Change) (old new : Kept) (rows : AreRows new.rows) (made : (t : Fact) → marks_at new.rows t ≡ retracted_at n ws t (marks_at old.rows t))
-    (noted : (v r : ℕ) → wrote_in new.wrote v r ≡ cond (v == n) false (wrote_in old.wrote v r)) where
+module _ (n : ℕ) (ws : List Change) (old new : Kept) (rows : AreRows new.rows) (made : (t : Fact) → marks_at new.rows t ≡ retracted_at n ws t (marks_at old.rows t)) where
   pub retracted_stands : Retracted n ws old new
   retracted_stands D before after stood its gone others = record {
     rows = rows;
     base = λ t. ap (λ (m : Marks). m.in_base) (made t) ∙ retracted_keeps (λ (m : Marks). m.in_base) n (λ m. refl) ws t (marks_at old.rows t) ∙ stood.base t;
-    marks = λ v t. gone_marks n ws old new (λ k u. ap (λ m. mark_in m k) (made u)) noted stood its gone others v t (cases_eq v n);
-    relations = λ v r. gone_relations n ws old new (λ k u. ap (λ m. mark_in m k) (made u)) noted stood its gone others v r (cases_eq v n);
+    marks = λ v t. gone_marks n ws old new (λ k u. ap (λ m. mark_in m k) (made u)) stood its gone others v t (cases_eq v n);
   }
 
 -- ---- gone over into the base
@@ -225,8 +196,7 @@ settled_chain n (Delete s ∷ ws) t m k e = settled_chain n ws t (settled_at n (
     by true = ap (without newest_cmp (record { 0 = n })) e
     by false = e
 
-module _ (n : ℕ) (ws : List Change) (old new : Kept) (rows : AreRows new.rows) (made : (t : Fact) → marks_at new.rows t ≡ folded_at n ws t (marks_at old.rows t))
-    (noted : (v r : ℕ) → wrote_in new.wrote v r ≡ cond (v == n) false (wrote_in old.wrote v r)) where
+module _ (n : ℕ) (ws : List Change) (old new : Kept) (rows : AreRows new.rows) (made : (t : Fact) → marks_at new.rows t ≡ folded_at n ws t (marks_at old.rows t)) where
   marked : (v : ℕ) (t : Fact) → mark_in (marks_at new.rows t) v ≡ mark_in (retracted_at n ws t (marks_at old.rows t)) v
   marked v t =
       ap (λ m. mark_in m v) (made t)
@@ -237,8 +207,7 @@ module _ (n : ℕ) (ws : List Change) (old new : Kept) (rows : AreRows new.rows)
     rows = rows;
     base = λ t.
         ap (λ (m : Marks). m.in_base) (made t) ∙ settled_base n ws t (marks_at old.rows t) ∙ ap (λ b. inserted_after b ws t) (stood.base t) ∙ sym (has-apply D ws t);
-    marks = λ v t. gone_marks n ws old new marked noted stood its gone others v t (cases_eq v n);
-    relations = λ v r. gone_relations n ws old new marked noted stood its gone others v r (cases_eq v n);
+    marks = λ v t. gone_marks n ws old new marked stood its gone others v t (cases_eq v n);
   }
 
 -- ---- put into the base
@@ -251,10 +220,9 @@ based_chain : (n : ℕ) (b : Bool) → mark_in (cond b base_marks no_marks) n �
 based_chain n true = refl
 based_chain n false = refl
 
-pub based_stands : (D : List Fact) (v : Kept) → AreRows v.rows → ((t : Fact) → marks_at v.rows t ≡ based_at D t) → v.wrote ≡ [] → StandFor v D no_trails
-based_stands D v rows made none = record {
+pub based_stands : (D : List Fact) (v : Kept) → AreRows v.rows → ((t : Fact) → marks_at v.rows t ≡ based_at D t) → StandFor v D no_trails
+based_stands D v rows made = record {
   rows = rows;
   base = λ t. ap (λ (m : Marks). m.in_base) (made t) ∙ based_base (has D t);
   marks = λ n t. ap (λ m. mark_in m n) (made t) ∙ based_chain n (has D t);
-  relations = λ n r. ap (λ (es : List (ℕ × List ℕ)). wrote_in es n r) none;
 }

@@ -1,8 +1,6 @@
 -- What versions stand for: a base, and the trail of each update.
-use Rattle.std.specs.Prelude.{◌≡◌, ℕ, suc, ◌==◌, ◌||◌, Bool, true, false, cond, List, [], ◌∷◌, ◌++◌, find, Option, Some, None}
-use Rattle.std.specs.List.{list_any}
+use Rattle.std.specs.Prelude.{◌≡◌, ℕ, suc, Bool, true, false, cond, List, [], ◌∷◌, ◌++◌, find, Option, Some, None}
 use Rattle.std.specs.Option.{option_map, option_or}
-use Rattle.std.specs.Ordering.{nat_cmp, is_eq}
 use Rattle.yt_base.specs.declared.tuples.Tuple.{Tuple}
 use Rattle.yt_machine.specs.Updates.{Update, trail, below}
 use Rattle.yt_model.specs.Mappings.{Rule}
@@ -11,16 +9,15 @@ use Rattle.yt_model.specs.Updates.{Operation}
 use Rattle.yt_model.specs.Values.{Fact, same_fact}
 use Rattle.yt_model.specs.Violations.{Scope}
 use Rattle.yt_steps.specs.Chase.{chase}
-use Rattle.yt_tree.specs.Orders.{is_at, value_at}
+use Rattle.yt_tree.specs.Orders.{is_at}
 use Rattle.yt_versions.specs.Chains.{newest_cmp, AreRows}
 use Rattle.yt_versions.specs.Marked.{marks_at, visible}
 use Rattle.yt_versions.specs.Trails.{SameBut, writes_below, writes_to, numbered}
 use Rattle.yt_versions.specs.declared.marks.Marks.{Marks}
 
--- What versions keep: tuples with their marks, and for each update the relations that it wrote.
+-- What versions keep: tuples with their marks.
 pub record Kept : Type 0 where
   pub rows : List (Tuple × Marks)
-  pub wrote : List (ℕ × List ℕ)
 
 -- The tuples that update n sees.
 abbrev pub seen : ℕ → Kept → List Fact
@@ -40,29 +37,11 @@ abbrev pub last_written : Option Bool → List Change → Fact → Option Bool
 last_written m [] t = m
 last_written m (w ∷ ws) t = last_written (option_or (written w t) m) ws t
 
--- Relation r is among them.
-abbrev pub is_among : ℕ → Option (List ℕ) → Bool
-is_among r None = false
-is_among r (Some rs) = list_any (λ x. is_eq (nat_cmp r x)) rs
-
--- Relation r is among those that update n wrote.
-abbrev pub wrote_in : List (ℕ × List ℕ) → ℕ → ℕ → Bool
-wrote_in es n r = is_among r (value_at nat_cmp n es)
-
--- Update n wrote the relations of these writes too, and the others what they wrote.
-abbrev pub NotesMore : ℕ → List Change → List (ℕ × List ℕ) → List (ℕ × List ℕ) → Type 0
-NotesMore n ws old new = (v r : ℕ) → wrote_in new v r ≡ cond (v == n) (wrote_in old v r || writes_to r ws) (wrote_in old v r)
-
--- Update n wrote no relation, and the others what they wrote.
-abbrev pub Forgets : ℕ → List (ℕ × List ℕ) → List (ℕ × List ℕ) → Type 0
-Forgets n old new = (v r : ℕ) → wrote_in new v r ≡ cond (v == n) false (wrote_in old v r)
-
 -- The versions have this base and these trails.
 pub record StandFor (v : Kept) (D : List Fact) (trails : ℕ → List Change) : Type 0 where
   pub rows : AreRows v.rows
   pub base : (t : Fact) → (marks_at v.rows t).in_base ≡ has D t
   pub marks : (n : ℕ) (t : Fact) → mark_in (marks_at v.rows t) n ≡ last_written None (trails n) t
-  pub relations : (n r : ℕ) → wrote_in v.wrote n r ≡ writes_to r (trails n)
 
 -- Whatever the versions stood for, update n has these writes more.
 abbrev pub Published : ℕ → List Change → Kept → Kept → Type 0

@@ -3,7 +3,6 @@
 use crate::below::Below;
 use crate::cells::Cell;
 use crate::marks::Marks;
-use crate::notes::Notes;
 use crate::versions::Versions;
 
 fn is_send<T: Send>(_value: &T) {}
@@ -18,11 +17,6 @@ fn marks_cross(marks: &Marks) {
 fn cells_cross(cell: &Cell) {
     is_send(cell);
     is_sync(cell);
-}
-
-fn notes_cross(notes: &Notes) {
-    is_send(notes);
-    is_sync(notes);
 }
 
 fn versions_cross(versions: &Versions) {

@@ -7,7 +7,6 @@ mod cells;
 mod crossing;
 mod laws;
 mod marks;
-mod notes;
 mod searches;
 mod tables;
 mod versions;

@@ -1,9 +1,9 @@
 //! What is known of one tuple.
-ghost use Rattle.std.specs.Prelude.{◌≡◌, OnOk};
+ghost use Rattle.std.specs.Prelude.{◌≡◌, OnOk, OnErr};
 ghost use Rattle.yt_versions.specs.Chains.{AreMarks};
 ghost use Rattle.yt_versions.specs.Based.{base_marks};
 ghost use Rattle.yt_versions.specs.Touches.{touched};
-ghost use Rattle.yt_versions.specs.Marked.{no_marks, is_nowhere as is_nowhere_lem, stands as stands_lem};
+ghost use Rattle.yt_versions.specs.Marked.{no_marks, is_nowhere as is_nowhere_lem, is_marked as is_marked_lem, stands as stands_lem};
 ghost use Rattle.yt_versions.specs.Unders.{is_under, under_rises};
 
 use std::alloc::{AllocError, Global};
@@ -75,9 +75,10 @@ impl Marks {
         }
     }
 
-    /// Touches the marks. It is refused only for want of memory; they are then still in order, and ones to be let go.
+    /// Touches the marks. It is refused only for want of memory; nothing is then changed.
     pub fn touch(&mut self, alloc: Global, touch: Touch) -> Result<(), Memory>
         ensures ok { OnOk result (self.new ≡ touched touch self.old) }
+        ensures err { OnErr result (self.new ≡ self.old) }
         ensures in_order { AreMarks self.old → AreMarks self.new }
     {
         match touch {
@@ -104,6 +105,16 @@ impl Marks {
         ensures { result ≡ is_nowhere_lem self.now }
     {
         !self.in_base && self.chain.len() == 0
+    }
+
+    /// Whether the update wrote the tuple.
+    pub fn is_marked(&self, number: u32) -> bool
+        ensures { result ≡ is_marked_lem number self.now }
+    {
+        match self.chain.get(&Reverse(number)) {
+            Some(_) => return true,
+            None => return false,
+        }
     }
 
     /// Whether the tuple is there for the update.

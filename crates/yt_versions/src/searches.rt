@@ -1,10 +1,10 @@
 //! What is looked for among the marked tuples and their cells.
-ghost use Rattle.std.specs.Prelude.{◌≡◌, Some, true};
+ghost use Rattle.std.specs.Prelude.{◌≡◌, None, Some, true};
 ghost use Rattle.std.specs.Option.{option_map, option_copied};
 ghost use Rattle.yt_model.specs.Values.{fact_cmp};
 ghost use Rattle.yt_base.specs.Meanings.{fact_of, datum_of};
 ghost use Rattle.yt_versions.specs.Indexed.{cell_of};
-ghost use Rattle.yt_versions.specs.Marked.{stands};
+ghost use Rattle.yt_versions.specs.Marked.{is_marked, stands};
 ghost use Rattle.yt_versions.specs.Zones.{place_beyond, place_of, place_in, place_lead};
 ghost use Rattle.yt_versions.specs.ZoneLaws.{at_before, at_past, beyond_before, beyond_past, of_before, of_past, in_before, in_past, lead_before, lead_past, from_rises};
 ghost use Rattle.yt_versions.specs.Walks.{is_from};
@@ -87,6 +87,31 @@ impl<'c> Search<Shared<Tuple>, Marks> for Zone<'c> {
 
     fn passes(&self, entry: &(Shared<Tuple>, Marks)) -> bool {
         entry.1.stands(self.number)
+    }
+}
+
+/// What is of the relation, and was written by the update.
+#[derive(Drop)]
+pub struct Written {
+    pub number: u32,
+    pub relation: u16,
+}
+
+impl Search<Shared<Tuple>, Marks> for Written {
+    ghost place = { λ s k. place_of s.relation None (fact_of k) };
+
+    ghost passes = { λ s e. is_marked s.number e.1 };
+
+    ghost stays_past = { λ s x y. of_past s.relation None (fact_of x) (fact_of y) };
+
+    ghost stays_before = { λ s x y. of_before s.relation None (fact_of x) (fact_of y) };
+
+    fn place(&self, key: &Shared<Tuple>) -> Ordering {
+        place_in_relation(self.relation, None, key.get())
+    }
+
+    fn passes(&self, entry: &(Shared<Tuple>, Marks)) -> bool {
+        entry.1.is_marked(self.number)
     }
 }
 

@@ -10,7 +10,7 @@ ghost use Rattle.std.specs.Option.{option_map, option_copied};
 
 use crate::cells::Cell;
 use crate::marks::{Marks, Touch};
-use crate::searches::{Beyond, From, Held, Lead, Scan, Zone};
+use crate::searches::{Beyond, From, Held, Lead, Scan, Written, Zone};
 use std::alloc::{AllocError, Global};
 use std::marker::Model;
 use yt_base::{List, TryCopy, Tuple, TupleList, Value};
@@ -92,6 +92,8 @@ impl Table {
 // The tuples that an update sees. Only `list` takes memory.
 impl Table {
     ghost use Rattle.std.specs.Prelude.{find};
+    ghost use Rattle.std.specs.Option.{is_some};
+    ghost use Rattle.yt_versions.specs.Marked.{is_row_by};
     ghost use Rattle.yt_model.specs.Cursors.{is_beyond, first_of, next_of, scan_of};
     ghost use Rattle.yt_model.specs.Repository.{has, IsRepository};
     ghost use Rattle.yt_base.specs.Meanings.{datum_of};
@@ -138,6 +140,16 @@ impl Table {
     {
         match self.rows.find_in(&Held { tuple }) {
             Some(entry) => return entry.1.stands(number),
+            None => return false,
+        }
+    }
+
+    /// Whether the update wrote a tuple of the relation.
+    pub fn is_marked(&self, number: u32, relation: u16) -> bool
+        ensures answer { result ≡ is_some (find (is_row_by number relation) self.now) }
+    {
+        match self.rows.find_in(&Written { number, relation }) {
+            Some(_) => return true,
             None => return false,
         }
     }

@@ -11,20 +11,17 @@ ghost use Rattle.yt_versions.specs.Trails.{no_trails};
 
 use crate::below::Below;
 use crate::marks::Touch;
-use crate::notes::{Notes, forgotten, has_noted, noted};
 use crate::tables::Table;
 use std::alloc::Global;
 use std::marker::Model;
 use yt_base::{Tuple, TupleList, Write};
 use yt_memory::Memory;
-use yt_tree::{Share, TreeMap};
 
 /// A base, and the writes of updates by number. What contracts see of them is a `Kept`, and what they stand for is said
 /// by `StandFor`.
 #[derive(Drop)]
 pub struct Versions {
     table: Table,
-    notes: Notes,
 }
 
 impl Model for Versions {
@@ -32,7 +29,7 @@ impl Model for Versions {
 
     ghost Value = { Kept };
 
-    ghost view = { λ v. record { rows = v.table; wrote = v.notes } };
+    ghost view = { λ v. record { rows = v.table } };
 }
 
 impl Versions {
@@ -43,20 +40,15 @@ impl Versions {
             StandFor versions (map fact_of base.now) no_trails) }
     {
         let table = Table::of(alloc, base)?;
-        Ok(Versions {
-            table,
-            notes: TreeMap::new(),
-        })
+        Ok(Versions { table })
     }
 
     /// Another handle to the same versions, in constant time. It is refused only for want of memory.
     pub fn share(&self) -> Result<Versions, Memory>
         ensures same { IfOk result (λ copy. copy ≡ self.now) }
     {
-        Ok(Versions {
-            table: self.table.share()?,
-            notes: self.notes.share()?,
-        })
+        let table = self.table.share()?;
+        Ok(Versions { table })
     }
 
     /// Adds writes behind those of the update. It is refused only for want of memory; nothing is then changed.
@@ -65,7 +57,6 @@ impl Versions {
         ensures err { OnErr result (self.new ≡ self.old) }
     {
         let table = with_writes(self.table.share()?, alloc, number, writes)?;
-        self.notes = noted(&self.notes, alloc, number, writes)?;
         self.table = table;
         Ok(())
     }
@@ -77,7 +68,6 @@ impl Versions {
         ensures err { OnErr result (self.new ≡ self.old) }
     {
         let table = without_writes(self.table.share()?, alloc, number, writes)?;
-        self.notes = forgotten(&self.notes, number)?;
         self.table = table;
         Ok(())
     }
@@ -90,16 +80,15 @@ impl Versions {
         ensures err { OnErr result (self.new ≡ self.old) }
     {
         let table = with_settled(self.table.share()?, alloc, number, writes)?;
-        self.notes = forgotten(&self.notes, number)?;
         self.table = table;
         Ok(())
     }
 
-    /// Whether the update wrote a tuple of the relation. It takes no memory.
+    /// Whether the update wrote a tuple of the relation. It takes no memory, and looks through the tuples of the relation.
     pub fn wrote(&self, number: u32, relation: u16) -> bool
         ensures answer { Wrote number relation result self.now }
     {
-        has_noted(&self.notes, number, relation)
+        self.table.is_marked(number, relation)
     }
 
     /// What the update sees. It takes no memory.

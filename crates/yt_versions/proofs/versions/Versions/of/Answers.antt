@@ -5,5 +5,5 @@ use Rattle.yt_versions.proofs.versions.Versions.of.Goals as goal
 
 pub returns : goal.returns
 returns c = record {
-  base = based_stands (map fact_of c.args.base.now) (record { rows = c.in_ok-table.table; wrote = c.new.result }) c.in_ok-table.ensures.in_order c.in_ok-table.ensures.marks c.new.ensures.empty;
+  base = based_stands (map fact_of c.args.base.now) (record { rows = c.in_ok-table.table }) c.in_ok-table.ensures.in_order c.in_ok-table.ensures.marks;
 }

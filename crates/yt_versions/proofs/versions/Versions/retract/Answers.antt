@@ -9,8 +9,8 @@ use Rattle.yt_versions.proofs.versions.Versions.retract.Goals as goal
 pub returns-clause-ok : goal.returns-clause-ok
 returns-clause-ok c =
     let ws = map change_of c.args.writes.now in
-    let new : Kept = record { rows = c.in_ok-table.table; wrote = c.in_ok-self-inside.field-0 } in
+    let new : Kept = record { rows = c.in_ok-table.table } in
     let P : Kept → Type 0 = λ v. Retracted c.args.number ws v new in
     subst P c.self.view_is
-    (retracted_stands c.args.number ws (record { rows = c.self.inside.table; wrote = c.self.inside.notes }) new c.in_ok-table.ensures.in_order
-    (λ t. c.in_ok-table.ensures.marks t ∙ ap (λ es. retracted_at c.args.number ws t (marks_at es t)) c.in_ok-share.ensures.same) c.in_ok-self-inside.ensures.gone)
+    (retracted_stands c.args.number ws (record { rows = c.self.inside.table }) new c.in_ok-table.ensures.in_order
+    (λ t. c.in_ok-table.ensures.marks t ∙ ap (λ es. retracted_at c.args.number ws t (marks_at es t)) c.in_ok-share.ensures.same))
