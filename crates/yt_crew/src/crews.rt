@@ -8,13 +8,14 @@ use std::alloc::{AllocError, Global};
 use std::sync::Wait;
 use std::thread;
 use std::thread::Threads;
+use std::time::Clock;
 use yt_gate::{Bench, Gate, work};
 
 /// Lets a worker work from each of the seats until nothing is left to do, each in a thread of its own, and gives the seats
 /// back in their order. Where no thread can be made the calling thread works in its place. On Ok each seat is at rest;
 /// `AllocError` comes where a worker, or the crew itself, had no memory.
 pub fn work_all<
-    R: Threads + Wait + Sync,
+    R: Threads + Wait + Clock + Sync,
     G: Gate + Sync,
     S: Send + Drop,
     B: Bench<Seat = S> + Sync,
@@ -52,7 +53,7 @@ fn hire<S: Drop>(seats: Vec<S>, workers: &mut Vec<Worker<S>>)
 }
 
 // Lets each worker work in a thread of its own.
-fn attend<R: Threads + Wait + Sync, G: Gate + Sync, S: Send, B: Bench<Seat = S> + Sync>(
+fn attend<R: Threads + Wait + Clock + Sync, G: Gate + Sync, S: Send, B: Bench<Seat = S> + Sync>(
     rt: &R,
     bench: &B,
     gate: &G,

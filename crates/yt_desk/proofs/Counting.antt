@@ -29,13 +29,13 @@ use Rattle.yt_desk.specs.Seats.{DeskSeat, first_over, IsResting}
 
 -- ---- counts of what is added
 
-gifts_meant : (g : Ground) (i : Item Ground PlainEntry) → gifts (item_over g i) ≡ gifts i
+pub gifts_meant : (g : Ground) (i : Item Ground PlainEntry) → gifts (item_over g i) ≡ gifts i
 gifts_meant g (Opened o n) = refl
 gifts_meant g (Entered e) = refl
 gifts_meant g (Gave t u) = refl
 gifts_meant g (Returned t) = refl
 
-returns_meant : (g : Ground) (i : Item Ground PlainEntry) → returns (item_over g i) ≡ returns i
+pub returns_meant : (g : Ground) (i : Item Ground PlainEntry) → returns (item_over g i) ≡ returns i
 returns_meant g (Opened o n) = refl
 returns_meant g (Entered e) = refl
 returns_meant g (Gave t u) = refl
@@ -46,7 +46,7 @@ module _ (g : Ground) (v : Item Ground PlainEntry → ℕ) (w : ItemOf (machine 
   sum_meant j [] = refl
   sum_meant j (x ∷ xs) = λ i. weight_for j x.maker (same x.entry i) + sum_meant j xs i
 
-  sum_added : (j : ℕ) (xs ys : Items) (n : Now (machine g)) (added : Record (machine g)) → Adds j g xs ys n added → sum_made_by v j ys ≡ sum_made_by v j xs + sum_made_by w j added
+  pub sum_added : (j : ℕ) (xs ys : Items) (n : Now (machine g)) (added : Record (machine g)) → Adds j g xs ys n added → sum_made_by v j ys ≡ sum_made_by v j xs + sum_made_by w j added
   sum_added j xs ys n added a =
       ap (sum_made_by v j) a.joined ∙ (sum_made_by-append v j xs a.items ∙ ap (λ m. sum_made_by v j xs + m) (sym (sum_meant j a.items) ∙ ap (sum_made_by w j) a.meant))
 
@@ -54,7 +54,7 @@ module _ (g : Ground) (v : Item Ground PlainEntry → ℕ) (w : ItemOf (machine 
 abbrev pub gave : (M : Machine) → ℕ → ℕ → ℕ → Record M
 gave M j t u = made (Gave t u) (Some j) ∷ []
 
-one_gift : (M : Machine) (j t u : ℕ) → (sum_made_by gifts j (gave M j t u) ≡ 1) × (sum_made_by returns j (gave M j t u) ≡ 0)
+pub one_gift : (M : Machine) (j t u : ℕ) → (sum_made_by gifts j (gave M j t u) ≡ 1) × (sum_made_by returns j (gave M j t u) ≡ 0)
 one_gift M j t u = (let own = weight_for-own j 1 in let none = weight_for-zero j (Some j) in (omega (arith, own), omega (arith, none)))
 
 -- a ticket returned
@@ -66,7 +66,7 @@ module _ {M : Machine} where
   none_of_entry w z j None = refl
   none_of_entry w z j (Some x) = (let a : weight_for j (Some j) (w (Entered x.entry)) ≡ 0 = ap (weight_for j (Some j)) (z x.entry) ∙ weight_for-zero j (Some j) in omega (arith, a))
 
-  one_step : (n : Now M) (t : record_tickets.Ticket) → (sum_made_by gifts t.maker (step_items n t) ≡ 0) × (sum_made_by returns t.maker (step_items n t) ≡ 1)
+  pub one_step : (n : Now M) (t : record_tickets.Ticket) → (sum_made_by gifts t.maker (step_items n t) ≡ 0) × (sum_made_by returns t.maker (step_items n t) ≡ 1)
   one_step n t =
       let x = effect M n.settings n.session n.updates (Steps t.update) in
       let b = one_back M t in (
@@ -74,10 +74,10 @@ module _ {M : Machine} where
         sum_made_by-append returns t.maker (entry_by t.maker x) (back_items t) ∙ (λ i. none_of_entry returns (λ e. refl) t.maker x i + b.1 i),
       )
 
-  next_counts : (n : Now M) (j : ℕ) (a : answers.Answer) (k : ℕ) → (sum_made_by gifts j (items_of_answer n j a) ≡ k) → answers.next_answer n ≡ a → sum_made_by gifts j (next_items n j) ≡ k
+  pub next_counts : (n : Now M) (j : ℕ) (a : answers.Answer) (k : ℕ) → (sum_made_by gifts j (items_of_answer n j a) ≡ k) → answers.next_answer n ≡ a → sum_made_by gifts j (next_items n j) ≡ k
   next_counts n j a k e h = ap (λ b. sum_made_by gifts j (items_of_answer n j b)) h ∙ e
 
-  next_returns : (n : Now M) (j : ℕ) (a : answers.Answer) → sum_made_by returns j (items_of_answer n j a) ≡ 0
+  pub next_returns : (n : Now M) (j : ℕ) (a : answers.Answer) → sum_made_by returns j (items_of_answer n j a) ≡ 0
   next_returns n j (answers.Gives u) = (one_gift M j (suc n.given) u).1
   next_returns n j (answers.Moves u) = none_of_entry returns (λ e. refl) j (effect M n.settings n.session n.updates (Delivers u))
   next_returns n j (answers.Waits u) = refl
@@ -116,7 +116,7 @@ module _ {S E : Type 0} where
   -- ---- over a turn
 
   -- `next` gives as many tickets as its answer says, and returns none
-  pub next_turn : (j now : ℕ) (g : Ground) (r q : Result (Answer (Ticket S)) E) (before after : Items) → now ≡ j → r ≡ q → AfterOthers j before (HasNext j g r after)
+  next_turn : (j now : ℕ) (g : Ground) (r q : Result (Answer (Ticket S)) E) (before after : Items) → now ≡ j → r ≡ q → AfterOthers j before (HasNext j g r after)
       → (sum_made_by gifts now after ≡ sum_made_by gifts j before + given_by q) × (sum_made_by returns now after ≡ sum_made_by returns j before)
   next_turn j now g r q before after same is a =
       let h = a.then in
@@ -127,6 +127,11 @@ module _ {S E : Type 0} where
     where
       plus_none : (m : ℕ) → m + 0 ≡ m
       plus_none m = omega arith
+
+  -- so much more is held
+  pub next_held : (j now : ℕ) (g : Ground) (r q : Result (Answer (Ticket S)) E) (before after : Items) → now ≡ j → r ≡ q → AfterOthers j before (HasNext j g r after)
+      → sum_made_by gifts now after + sum_made_by returns j before ≡ sum_made_by gifts j before + sum_made_by returns now after + given_by q
+  next_held j now g r q before after same is a = let c = next_turn j now g r q before after same is a in omega (arith, c.0, c.1)
 
   pub finish_turn : (question : List PlainEntry → Option ℕ) (j now : ℕ) (g : Ground) (t : Ticket S) (r q : Result Finished E) (before after : Items) → now ≡ j → r ≡ q → AfterOthers j before (HasFinished question j g t r after)
       → (sum_made_by gifts now after ≡ sum_made_by gifts j before) × (sum_made_by returns now after ≡ sum_made_by returns j before + returned_by q)

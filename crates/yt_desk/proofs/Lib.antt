@@ -5,4 +5,5 @@ pub mod Boards
 pub mod Passing
 pub mod Closing
 pub mod Counting
+pub mod Stretching
 pub mod Dealing

@@ -7,7 +7,9 @@ use Rattle.yt_desk.specs.declared.desk.Desk.{Desk}
 use Rattle.yt_desk.specs.declared.tickets.Ticket.{Ticket}
 use Rattle.yt_desk.specs.declared.tickets.Next.{Next}
 use Rattle.yt_desk.specs.declared.tickets.Finished.{Finished}
+use Rattle.yt_desk.specs.declared.tickets.Stretch.{Stretch}
 use Rattle.yt_desk.specs.Turns.{AfterOthers}
+use Rattle.yt_desk.specs.Stretches.{HasStretched}
 use Rattle.yt_desk.specs.Tickets.{IsOutFor, HasNext, HasFinished, HasGivenBack}
 use Rattle.yt_desk.specs.Seats.{DeskSeat, core_of}
 
@@ -19,6 +21,10 @@ module _ {C S P : Type 0} (over : C → Ground) where
   -- What `next` adds and answers, from the one to the other that the seat has seen.
   abbrev pub AnswersNext : {E : Type 0} → Desk C S P → DeskSeat → DeskSeat → Result (Next (Ticket S)) E → Type 0
   AnswersNext d s s' r = AfterOthers (number_of s) (seen_of s) (HasNext (number_of s) (over (core_of d)) r (seen_of s'))
+
+  -- What `stretch` adds.
+  abbrev pub Stretches : {E : Type 0} → Desk C S P → DeskSeat → DeskSeat → Result Stretch E → Type 0
+  Stretches d s s' r = AfterOthers (number_of s) (seen_of s) (HasStretched (number_of s) (over (core_of d)) r (seen_of s'))
 
   -- What `finish` does, where this tells the first entry in question past so many.
   abbrev pub Finishes : {E : Type 0} → (Ground → List PlainEntry → ℕ → Option ℕ) → Desk C S P → DeskSeat → DeskSeat → Ticket S → Result Finished E → Type 0

@@ -4,6 +4,7 @@ pub mod Marks
 pub mod Turns
 pub mod Cores
 pub mod Tickets
+pub mod Stretches
 pub mod Seats
 pub mod Calls
 pub mod Closing

@@ -1,7 +1,8 @@
 -- The marks of a desk.
-use Rattle.std.specs.Prelude.{ℕ, List, map, Some}
+use Rattle.std.specs.Prelude.{ℕ, List, [], ◌∷◌, map, Some}
 use Rattle.yt_stamp.specs.declared.history.Made.{Made}
 use Rattle.yt_record.specs.declared.item.Mark.{Mark}
+use Rattle.yt_record.specs.declared.item.Mark.TheVariants.{Next, Giving, Returning}
 use Rattle.yt_history.specs.Cores.{Ground}
 use Rattle.yt_history.specs.PlainEntries.{PlainEntry}
 use Rattle.yt_desk.specs.declared.board.Marked.{Marked}
@@ -10,6 +11,10 @@ use Rattle.yt_desk.specs.Shared.{Shared}
 -- A mark with its maker.
 abbrev pub made_of : Marked → Made Mark
 made_of m = record { entry = m.mark; maker = Some m.maker }
+
+-- The marks of a step that the seat j makes by the ticket of number n for the update u: it is given, the step is made, it is returned.
+abbrev pub step_marked : ℕ → ℕ → ℕ → List Marked
+step_marked j n u = record { mark = Giving n u; maker = j } ∷ record { mark = Next; maker = j } ∷ record { mark = Returning n; maker = j } ∷ []
 
 -- What the seats share, by the fields of a board.
 abbrev pub shared : Ground → List PlainEntry → ℕ → List Marked → List ℕ → ℕ → Shared

@@ -3,9 +3,10 @@
 use crate::board::Board;
 use crate::cores::Core;
 use crate::desk::Desk;
-use crate::tickets::{Finished, Next, Ticket};
+use crate::tickets::{Finished, Next, Stretch, Ticket};
 use std::alloc::AllocError;
 use std::sync::Wait;
+use std::time::Clock;
 use yt_gate::{Bench, Offer, Received};
 use yt_stamp::Seat;
 
@@ -49,14 +50,21 @@ impl<C: Core> Bench for Desk<C> {
 
     ghost rests = { IsResting };
 
-    fn offer<R: Wait>(
+    fn offer<R: Wait + Clock>(
         &self,
         rt: &R,
         seat: &mut Seat<Board<C>>,
+        most: u64,
     ) -> Result<Offer<Ticket<C::Snapshot>>, AllocError> {
+        if most > 0 {
+            return match self.stretch(rt, seat, most) {
+                Ok(Stretch { made: _, more }) => Ok(Offer::Moved { more }),
+                Err(_) => Err(AllocError),
+            };
+        }
         match self.next(rt, seat) {
             Ok(Next::Ticket(ticket)) => Ok(Offer::Ticket(ticket)),
-            Ok(Next::Delivered { update: _ }) => Ok(Offer::Moved),
+            Ok(Next::Delivered { update: _ }) => Ok(Offer::Moved { more: true }),
             Ok(Next::Idle { in_flight: _ }) => Ok(Offer::Idle),
             Ok(Next::Quiet) => Ok(Offer::Quiet),
             Err(_) => Err(AllocError),

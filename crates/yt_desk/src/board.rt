@@ -49,11 +49,11 @@ pub struct Marked {
 /// What the seats of a desk share: the core, how many entries its history had at the opening, the marks made since, the
 /// updates in flight, and how many tickets were given. There is room for the return of each ticket that is out.
 pub struct Board<C: Core> {
-    core: C,
+    pub(crate) core: C,
     opened: u64,
-    marks: Vec<Marked>,
-    busy: Vec<u32>,
-    given: u64,
+    pub(crate) marks: Vec<Marked>,
+    pub(crate) busy: Vec<u32>,
+    pub(crate) given: u64,
 }
 
 impl<C: Core> Model for Board<C> {

@@ -3,10 +3,11 @@ ghost use Rattle.std.specs.Prelude.{◌≡◌, ◌<◌, ◌≤◌, length, IfOk,
 
 use crate::board::Board;
 use crate::cores::Core;
-use crate::tickets::{Finished, Next, Ticket};
+use crate::tickets::{Finished, Next, Stretch, Ticket};
 use std::alloc::Global;
 use std::snapshot::Snapshot;
 use std::sync::Wait;
+use std::time::Clock;
 use yt_memory::Memory;
 use yt_stamp::{Seat, StampLock, new};
 
@@ -24,7 +25,7 @@ impl<C: Core> Desk<C> {
     ghost use Rattle.yt_history.specs.Cores.{IsLegalOver};
     ghost use Rattle.yt_desk.specs.Closing.{AllSeatsOf, Closes, ClosesSerially};
     ghost use Rattle.yt_desk.specs.Tickets.{IsPlanFor, IfGiven};
-    ghost use Rattle.yt_desk.specs.Calls.{IsOutAt, AnswersNext, Finishes, TakesBack};
+    ghost use Rattle.yt_desk.specs.Calls.{IsOutAt, AnswersNext, Stretches, Finishes, TakesBack};
 
     /// A desk over the core, with this many seats, from 1 to 16, numbered from 0 in order. Each seat has seen the opening,
     /// which has the core's whole history. Where there is no memory the core comes back.
@@ -72,6 +73,25 @@ impl<C: Core> Desk<C> {
         let answer = board.next(self.alloc, seat.number());
         self.lock.close_turn(seat, turn, board);
         answer
+    }
+
+    /// Makes up to `most` steps in one turn, each of the lowest ready update that is not in flight, until there is none or one
+    /// was not small. For want of memory those that were made stay.
+    pub fn stretch<R: Wait + Clock>(
+        &self,
+        rt: &R,
+        seat: &mut Seat<Board<C>>,
+        most: u64,
+    ) -> Result<Stretch, Memory>
+        requires own { IsSeatOf C.over C.history self.now seat.old }
+        ensures own { IsSeatOf C.over C.history self.now seat.new }
+        ensures place { place_of seat.new ≡ place_of seat.old }
+        ensures stretch { Stretches C.over self.now seat.old seat.new result }
+    {
+        let (turn, mut board) = self.lock.open(rt, seat);
+        let stretch = board.stretch(rt, self.alloc, seat.number(), most);
+        self.lock.close_turn(seat, turn, board);
+        stretch
     }
 
     /// The step of the ticket's update at the state that the ticket was given at. It takes neither the lock nor the runtime,

@@ -5,9 +5,10 @@ mod bench;
 mod board;
 mod cores;
 mod desk;
+mod stretches;
 mod tickets;
 
 pub use crate::board::{Board, Marked, Over, Told};
 pub use crate::cores::Core;
 pub use crate::desk::Desk;
-pub use crate::tickets::{Finished, Next, Ticket};
+pub use crate::tickets::{Finished, Next, Stretch, Ticket};

@@ -53,3 +53,12 @@ pub enum Finished {
     /// The entry of this number is in question for the plan. No step was made.
     Stale { entry: u64 },
 }
+
+/// What came of a stretch: steps that a seat made in one turn.
+#[derive(Drop)]
+pub struct Stretch {
+    /// How many were made.
+    pub made: u64,
+    /// Whether more may be made so: each was small, and none was wanting. It is a hint.
+    pub more: bool,
+}

@@ -6,7 +6,7 @@ use Rattle.yt_gate.specs.declared.bench.Offer.TheVariants.{Ticket, Moved, Idle, 
 -- a fact of the ticket, if the offer is one
 abbrev pub IfTicket : {T : Type 0} → (T → Type 0) → Offer T → Type 0
 IfTicket P (Ticket t) = P t
-IfTicket P Moved = Unit {0}
+IfTicket P (Moved s) = Unit {0}
 IfTicket P Idle = Unit {0}
 IfTicket P Quiet = Unit {0}
 
@@ -14,13 +14,13 @@ IfTicket P Quiet = Unit {0}
 abbrev pub IfQuiet : {T : Type 0} → Type 0 → Offer T → Type 0
 IfQuiet P Quiet = P
 IfQuiet P (Ticket t) = Unit {0}
-IfQuiet P Moved = Unit {0}
+IfQuiet P (Moved s) = Unit {0}
 IfQuiet P Idle = Unit {0}
 
 -- how many tickets an offer gives: one or none
 abbrev pub tickets_in : {T E : Type 0} → Result (Offer T) E → ℕ
 tickets_in (Ok (Ticket t)) = 1
-tickets_in (Ok Moved) = 0
+tickets_in (Ok (Moved s)) = 0
 tickets_in (Ok Idle) = 0
 tickets_in (Ok Quiet) = 0
 tickets_in (Err e) = 0

@@ -2,13 +2,14 @@
 
 use std::alloc::AllocError as Memory;
 use std::sync::Wait;
+use std::time::Clock;
 
 /// What a bench answers to a worker that asks for work.
 pub enum Offer<T> {
     /// A ticket, which the worker has to finish or give back.
     Ticket(T),
-    /// There was something to do, and the call did it.
-    Moved,
+    /// What there was to do the call did. It only tells a worker whether more may be had in this way.
+    Moved { more: bool },
     /// There is nothing to do now, but a ticket of another seat may bring something.
     Idle,
     /// Nothing is left to do.
@@ -73,15 +74,21 @@ pub trait Bench {
     /// The seat is at rest: nothing is left to do, as far as it has seen.
     ghost rests: { Self.Seat → Type 0 };
 
-    /// Looks for work. A ticket is then out for the seat, and after `Quiet` the seat is at rest.
-    fn offer<R: Wait>(&self, rt: &R, seat: &mut Self::Seat) -> Result<Offer<Self::Ticket>, Memory>
+    /// Looks for work, of which the bench may do up to `most` small pieces itself: a ticket that it takes for one of these is spent at
+    /// once. A ticket that it answers is out for the seat, and after `Quiet` the seat is at rest.
+    fn offer<R: Wait + Clock>(
+        &self,
+        rt: &R,
+        seat: &mut Self::Seat,
+        most: u64,
+    ) -> Result<Offer<Self::Ticket>, Memory>
         requires own { owns self.now seat.old }
         ensures own { owns self.now seat.new }
         ensures lock { lock seat.new ≡ lock seat.old }
         ensures number { seat_number seat.new ≡ seat_number seat.old }
         ensures seen { IsPrefix (seen seat.old) (seen seat.new) }
-        ensures given { given seat.new ≡ given seat.old + tickets_in result }
-        ensures spent { spent seat.new ≡ spent seat.old }
+        ensures held { given seat.new + spent seat.old ≡
+            given seat.old + spent seat.new + tickets_in result }
         ensures ticket { IfOk result (IfTicket (is_out self.now seat.new)) }
         ensures quiet { IfOk result (IfQuiet (rests seat.new)) };
 

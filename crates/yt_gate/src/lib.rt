@@ -5,10 +5,13 @@
 
 mod bench;
 mod gates;
+mod pace;
 mod rest;
+mod watch;
 mod worker;
 
 pub use crate::bench::{Bench, Offer, Received};
 pub use crate::gates::{Gate, MeetGate, OpenGate};
+pub use crate::watch::Watch;
 pub use crate::worker::work;
 pub use std::alloc::AllocError as Memory;

@@ -5,12 +5,15 @@ ghost use Rattle.yt_gate.specs.Offers.{tickets_spent};
 
 use crate::bench::{Bench, Offer, Received};
 use crate::gates::Gate;
+use crate::pace::Pace;
 use crate::rest::Rest;
+use crate::watch::Watch;
 use std::alloc::AllocError as Memory;
 use std::sync::Wait;
+use std::time::Clock;
 
 /// Works at the bench until nothing is left to do, and then answers Ok, with its seat at rest. On `Memory` a ticket that it holds is given back first. Whatever the answer, each ticket that it was given is spent, and the seat is the bench's own, as it was but for what it has seen since.
-pub fn work<B: Bench, G: Gate, R: Wait>(
+pub fn work<B: Bench, G: Gate, R: Wait + Clock>(
     rt: &R,
     bench: &B,
     seat: &mut B::Seat,
@@ -24,14 +27,18 @@ pub fn work<B: Bench, G: Gate, R: Wait>(
     ensures all_spent { B.spent seat.new + B.given seat.old ≡ B.given seat.new + B.spent seat.old }
     ensures rests { OnOk result (B.rests seat.new) }
 {
+    let mut pace = Pace::new();
     let mut rest = Rest::new();
     for _ in rt.forever() {
-        match bench.offer(rt, seat)? {
-            Offer::Ticket(ticket) => match serve(rt, bench, seat, gate, ticket)? {
+        match bench.offer(rt, seat, pace.most())? {
+            Offer::Ticket(ticket) => match serve(rt, bench, seat, gate, &mut pace, ticket)? {
                 Received::InTime => rest.end(),
                 Received::TooLate => rest.behind(rt),
             },
-            Offer::Moved => rest.end(),
+            Offer::Moved { more } => {
+                pace.moved(more);
+                rest.end();
+            }
             Offer::Idle => rest.idle(rt),
             Offer::Quiet => return Ok(()),
         }
@@ -40,11 +47,12 @@ pub fn work<B: Bench, G: Gate, R: Wait>(
 }
 
 // One ticket's work, within the gate, and how its plan was received. The ticket is spent, whatever the answer.
-fn serve<B: Bench, G: Gate, R: Wait>(
+fn serve<B: Bench, G: Gate, R: Wait + Clock>(
     rt: &R,
     bench: &B,
     seat: &mut B::Seat,
     gate: &G,
+    pace: &mut Pace,
     ticket: B::Ticket,
 ) -> Result<Received, Memory>
     requires own { B.owns bench.now seat.old }
@@ -58,7 +66,7 @@ fn serve<B: Bench, G: Gate, R: Wait>(
 {
     let call = bench.number(&ticket);
     gate.enter(call);
-    match complete(rt, bench, seat, ticket) {
+    match complete(rt, bench, seat, pace, ticket) {
         Ok(received) => {
             gate.leave(call);
             Ok(received)
@@ -71,10 +79,11 @@ fn serve<B: Bench, G: Gate, R: Wait>(
 }
 
 // Works out the ticket's plan and hands it in. On `Memory` the ticket is out still.
-fn complete<B: Bench, R: Wait>(
+fn complete<B: Bench, R: Wait + Clock>(
     rt: &R,
     bench: &B,
     seat: &mut B::Seat,
+    pace: &mut Pace,
     ticket: B::Ticket,
 ) -> Result<Received, (B::Ticket, Memory)>
     requires own { B.owns bench.now seat.old }
@@ -87,8 +96,12 @@ fn complete<B: Bench, R: Wait>(
     ensures spent { B.spent seat.new ≡ B.spent seat.old + tickets_spent result }
     ensures out { IfErr result (λ e. B.is_out bench.now seat.new e.0) }
 {
+    let watch = Watch::start(rt);
     match bench.evaluate(&ticket) {
-        Ok(plan) => bench.finish(rt, seat, ticket, plan),
+        Ok(plan) => {
+            pace.planned(watch.shows_small(rt));
+            bench.finish(rt, seat, ticket, plan)
+        }
         Err(memory) => Err((ticket, memory)),
     }
 }

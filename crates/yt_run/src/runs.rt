@@ -17,6 +17,7 @@ use crate::crews::Crew;
 use std::alloc::Global;
 use std::sync::Wait;
 use std::thread::Threads;
+use std::time::Clock;
 use yt_base::Memory;
 use yt_command::{Command, Failure, INPUT_LIMIT, Output, Status, deliver, fail};
 use yt_commands::{Format, OnSession, base_refusal, base_violation, ending_by};
@@ -92,7 +93,7 @@ fn run_output(
 
 impl Run {
     // Lets the workers take the updates of the session, whose base meets its mappings.
-    fn work<R: Threads + Wait + Sync, G: Gate + Sync>(
+    fn work<R: Threads + Wait + Clock + Sync, G: Gate + Sync>(
         self,
         rt: &R,
         gate: &G,
@@ -112,7 +113,7 @@ impl Run {
     }
 
     // What it makes of a session.
-    fn make<R: Threads + Wait + Sync, G: Gate + Sync>(
+    fn make<R: Threads + Wait + Clock + Sync, G: Gate + Sync>(
         self,
         rt: &R,
         gate: &G,
@@ -130,7 +131,7 @@ impl Run {
     }
 
     // What it makes of an input. One that spells no session is refused as every command on sessions refuses it.
-    fn make_of<R: Threads + Wait + Sync, G: Gate + Sync>(
+    fn make_of<R: Threads + Wait + Clock + Sync, G: Gate + Sync>(
         self,
         rt: &R,
         gate: &G,
@@ -148,7 +149,7 @@ impl Run {
     }
 
     // Reads all that the source has, and makes the output of it.
-    fn read_and_run<R: Threads + Wait + Sync, G: Gate + Sync, S: Source>(
+    fn read_and_run<R: Threads + Wait + Clock + Sync, G: Gate + Sync, S: Source>(
         self,
         rt: &R,
         gate: &G,
@@ -166,7 +167,7 @@ impl Run {
     /// Reads all of `source`, runs the session that it spells, and writes the text to `out` or the refusal to `err`, as
     /// `yt_command::perform` does it for a command without threads: each status has its row. Each worker passes the gate around the
     /// work at a ticket. The call may wait.
-    pub fn perform<R: Threads + Wait + Sync, G: Gate + Sync, S: Source, O: Sink, E: Sink>(
+    pub fn perform<R: Threads + Wait + Clock + Sync, G: Gate + Sync, S: Source, O: Sink, E: Sink>(
         self,
         rt: &R,
         gate: &G,

@@ -13,6 +13,7 @@ use std::alloc::Global;
 use std::marker::Model;
 use std::sync::Wait;
 use std::thread::Threads;
+use std::time::Clock;
 use yt_base::Memory;
 use yt_core::Core;
 use yt_entries::Entry;
@@ -68,7 +69,7 @@ impl<'s> WorkedSession<'s> {
 
 /// Runs the session by as many workers as seats, from 1 to 16, each in a thread of its own, until nothing is left to do. Where
 /// no thread can be made the calling thread works in its place. It is refused only for want of memory.
-pub fn worked<'s, R: Threads + Wait + Sync, G: Gate + Sync>(
+pub fn worked<'s, R: Threads + Wait + Clock + Sync, G: Gate + Sync>(
     rt: &R,
     gate: &G,
     alloc: Global,

@@ -11,10 +11,11 @@ use std::alloc::Global;
 use std::sync::Wait;
 use std::thread;
 use std::thread::Threads;
+use std::time::Clock;
 use yt_stamp::{Seat, new};
 
 // Lets each worker attend in a thread of its own.
-fn attend_all<R: Threads + Wait + Sync, D: Duty + Sync>(
+fn attend_all<R: Threads + Wait + Clock + Sync, D: Duty + Sync>(
     rt: &R,
     desk: &Desk,
     duty: &D,
@@ -66,7 +67,7 @@ fn dismiss(workers: Vec<Worker>, seats: &mut Vec<Seat<Board>>) -> bool
 }
 
 /// Lets as many workers as seats do their duty at a new board, and gives the board. None comes for want of memory alone.
-pub fn run<R: Threads + Wait + Sync, D: Duty + Sync>(
+pub fn run<R: Threads + Wait + Clock + Sync, D: Duty + Sync>(
     rt: &R,
     alloc: Global,
     tickets: u64,

@@ -2,6 +2,7 @@
 use crate::board::{Board, Ticket};
 use std::alloc::AllocError;
 use std::sync::Wait;
+use std::time::Clock;
 use yt_gate::{Bench, Offer, Received};
 use yt_stamp::{Seat, StampLock};
 
@@ -46,7 +47,12 @@ impl Bench for Desk {
 
     ghost rests = { Rests };
 
-    fn offer<R: Wait>(&self, rt: &R, seat: &mut Seat<Board>) -> Result<Offer<Ticket>, AllocError> {
+    fn offer<R: Wait + Clock>(
+        &self,
+        rt: &R,
+        seat: &mut Seat<Board>,
+        _most: u64,
+    ) -> Result<Offer<Ticket>, AllocError> {
         let (turn, mut board) = self.lock.open(rt, seat);
         let offer = board.offer(seat.number());
         self.lock.close_turn(seat, turn, board);

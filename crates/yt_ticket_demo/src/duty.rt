@@ -2,6 +2,7 @@
 use crate::desk::Desk;
 use crate::worker::Worker;
 use std::sync::Wait;
+use std::time::Clock;
 use yt_gate::{Gate, work};
 
 /// A worker's duty. Whatever it is, the seat stays the desk's own, in its place, and has seen no less.
@@ -9,7 +10,7 @@ pub trait Duty {
     ghost use Rattle.yt_ticket_demo.specs.Own.{Owns};
     ghost use Rattle.yt_ticket_demo.specs.Workers.{HasAttended};
 
-    fn attend<R: Wait>(&self, rt: &R, desk: &Desk, worker: &mut Worker)
+    fn attend<R: Wait + Clock>(&self, rt: &R, desk: &Desk, worker: &mut Worker)
         requires own { Owns desk.now worker.old.seat }
         ensures attended { HasAttended desk.now worker.old worker.new };
 }
@@ -21,7 +22,7 @@ pub struct Work<G: Gate> {
 }
 
 impl<G: Gate> Duty for Work<G> {
-    fn attend<R: Wait>(&self, rt: &R, desk: &Desk, worker: &mut Worker) {
+    fn attend<R: Wait + Clock>(&self, rt: &R, desk: &Desk, worker: &mut Worker) {
         worker.result = work(rt, desk, &mut worker.seat, &self.gate);
     }
 }
@@ -33,7 +34,7 @@ pub struct Turns {
 }
 
 impl Duty for Turns {
-    fn attend<R: Wait>(&self, rt: &R, desk: &Desk, worker: &mut Worker) {
+    fn attend<R: Wait + Clock>(&self, rt: &R, desk: &Desk, worker: &mut Worker) {
         for _ in 0..self.count {
             let (turn, board) = desk.lock.open(rt, &mut worker.seat);
             desk.lock.close_turn(&mut worker.seat, turn, board);

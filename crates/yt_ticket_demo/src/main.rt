@@ -17,10 +17,11 @@ use std::alloc::Global;
 use std::io;
 use std::sync::Wait;
 use std::thread::Threads;
+use std::time::Clock;
 use yt_gate::MeetGate;
 
 // Works off the tickets, and tells what came of them.
-fn show<R: Threads + Wait + Print + Sync>(
+fn show<R: Threads + Wait + Clock + Print + Sync>(
     rt: &R,
     alloc: Global,
     tickets: u64,
@@ -41,7 +42,7 @@ fn show<R: Threads + Wait + Print + Sync>(
 }
 
 // Takes the turns that the words ask for.
-fn time<R: Threads + Wait + Print + Sync>(
+fn time<R: Threads + Wait + Clock + Print + Sync>(
     rt: &R,
     alloc: Global,
     seats: u64,

@@ -5,6 +5,7 @@ ghost use Rattle.yt_desk.specs.Closing.{IsWhole, Ends};
 use std::alloc::Global;
 use std::sync::Wait;
 use std::thread::Threads;
+use std::time::Clock;
 use yt_crew::work_all;
 use yt_desk::{Core, Desk};
 use yt_gate::Gate;
@@ -14,7 +15,7 @@ use yt_memory::Memory;
 /// its own, and gives the core. Where no thread can be made the calling thread works in its place. Whatever the schedule,
 /// the core's history is then the serial machine's on the whole session. For want of memory the core comes back as the
 /// workers left it.
-pub fn run<R: Threads + Wait + Sync, G: Gate + Sync, C: Core + Send>(
+pub fn run<R: Threads + Wait + Clock + Sync, G: Gate + Sync, C: Core + Send>(
     rt: &R,
     gate: &G,
     alloc: Global,

@@ -1,16 +1,14 @@
-use Rattle.std.proofs.Common.{◌+◌, ◌∙◌, ap}
+use Rattle.std.proofs.Common.{◌+◌, ◌∙◌, ap, arith}
 use Rattle.yt_stamp.specs.Seats.{Place}
 use Rattle.yt_stamp.proofs.Histories.{sum_made_by-turn}
 use Rattle.yt_gate.specs.Offers.{tickets_in}
 use Rattle.yt_ticket_demo.specs.Events.{tickets_out, tickets_back}
 use Rattle.yt_ticket_demo.proofs.desk.DeskBench.offer.Goals as goal
 
-pub returns-clause-given : goal.returns-clause-given
-returns-clause-given g c =
+pub returns-clause-held : goal.returns-clause-held
+returns-clause-held g c =
     let opened = ap (λ (z : Place). z.number) c.open-turn.ensures.place in
-    sum_made_by-turn tickets_out (λ n. n + tickets_in c.offer-offer.result) _ _ _ _ _ _ _ (c.number.ensures ∙ opened) (ap (λ (z : Place). z.number) c.close_turn.ensures.place ∙ opened) c.open-turn.ensures.follows c.offer-offer.ensures.given c.close_turn.ensures.seen
-
-pub returns-clause-spent : goal.returns-clause-spent
-returns-clause-spent g c =
-    let opened = ap (λ (z : Place). z.number) c.open-turn.ensures.place in
-    sum_made_by-turn tickets_back (λ n. n) _ _ _ _ _ _ _ (c.number.ensures ∙ opened) (ap (λ (z : Place). z.number) c.close_turn.ensures.place ∙ opened) c.open-turn.ensures.follows c.offer-offer.ensures.returned c.close_turn.ensures.seen
+    let closed = ap (λ (z : Place). z.number) c.close_turn.ensures.place ∙ opened in
+    let given = sum_made_by-turn tickets_out (λ n. n + tickets_in c.offer-offer.result) _ _ _ _ _ _ _ (c.number.ensures ∙ opened) closed c.open-turn.ensures.follows c.offer-offer.ensures.given c.close_turn.ensures.seen in
+    let back = sum_made_by-turn tickets_back (λ n. n) _ _ _ _ _ _ _ (c.number.ensures ∙ opened) closed c.open-turn.ensures.follows c.offer-offer.ensures.returned c.close_turn.ensures.seen in
+    omega (arith, given, back)

@@ -1,0 +1,140 @@
+//! Steps that a seat makes behind the lock, several in one turn.
+ghost use Rattle.std.specs.Prelude.{◌≡◌, ◌+◌, ◌≤◌, ◌++◌, Some, OnOk, OnErr, vec_len, vec_capacity};
+ghost use Rattle.yt_desk.specs.Cores.{lowest_idle, IsReady, IsStep};
+ghost use Rattle.yt_desk.specs.Marks.{step_marked};
+
+use crate::board::{Board, Marked};
+use crate::cores::Core;
+use crate::tickets::Stretch;
+use std::alloc::Global;
+use std::time::Clock;
+use yt_gate::Watch;
+use yt_memory::Memory;
+use yt_record::Mark;
+
+impl<C: Core> Board<C> {
+    ghost use Rattle.yt_desk.specs.Shared.{items_of};
+    ghost use Rattle.yt_desk.specs.Stretches.{MadeStepOn, MakesStepOn, StretchOn};
+
+    /// Makes up to `most` steps for the seat, each of the lowest ready update that is not in flight, until there is none or one
+    /// was not small; one alone where a ticket is out.
+    pub(crate) fn stretch<R: Clock>(
+        &mut self,
+        rt: &R,
+        alloc: Global,
+        seat: u64,
+        most: u64,
+    ) -> Result<Stretch, Memory>
+        ensures over { self.new.over ≡ self.old.over }
+        ensures stretch { StretchOn seat self.old self.new result }
+    {
+        let most = self.at_once(most);
+        for made in 0..most {
+            match self.step_lowest(rt, alloc, seat)? {
+                Some(true) => {}
+                Some(false) => {
+                    return Ok(Stretch {
+                        made: made + 1,
+                        more: false,
+                    });
+                }
+                None => return Ok(Stretch { made, more: false }),
+            }
+        }
+        Ok(Stretch {
+            made: most,
+            more: true,
+        })
+    }
+
+    // How many of these steps may be made now. Where a ticket is out they could run ahead of its update, and begin anew because of it.
+    fn at_once(&self, most: u64) -> u64 {
+        if self.busy.is_empty() {
+            most
+        } else {
+            most.min(1)
+        }
+    }
+
+    // Makes the step of the lowest ready update that is not in flight, if there is one, and tells whether it was small.
+    fn step_lowest<R: Clock>(
+        &mut self,
+        rt: &R,
+        alloc: Global,
+        seat: u64,
+    ) -> Result<Option<bool>, Memory>
+        ensures over { self.new.over ≡ self.old.over }
+        ensures step { MakesStepOn seat self.old self.new result }
+    {
+        let Some(update) = self.core.lowest_idle(self.busy.as_slice()) else {
+            return Ok(None);
+        };
+        let small = self.step_whole(rt, alloc, seat, update)?;
+        Ok(Some(small))
+    }
+
+    // Makes the step of the lowest ready update that is not in flight, with the marks of a ticket that is given and returned.
+    fn step_whole<R: Clock>(
+        &mut self,
+        rt: &R,
+        alloc: Global,
+        seat: u64,
+        update: u32,
+    ) -> Result<bool, Memory>
+        requires idle { lowest_idle self.old.over self.old.history self.old.busy ≡ Some update }
+        ensures over { self.new.over ≡ self.old.over }
+        ensures step { OnOk result (MadeStepOn seat self.old self.new) }
+        ensures kept { OnErr result (items_of self.new ≡ items_of self.old) }
+    {
+        self.marks.reserve(self.busy.len() + 3)?;
+        let small = make_step(rt, &mut self.core, alloc, update)?;
+        let number = self.given + 1;
+        mark_step(&mut self.marks, seat, number, update);
+        self.given = number;
+        Ok(small)
+    }
+}
+
+// Makes the update's next step, and tells whether it was small: whether its plan was made soon. The snapshot is let go before the
+// plan is installed, so that the core has all that it changes for itself.
+fn make_step<R: Clock, C: Core>(
+    rt: &R,
+    core: &mut C,
+    alloc: Global,
+    update: u32,
+) -> Result<bool, Memory>
+    requires ready { IsReady (C.over core.old) (C.history core.old) update }
+    ensures over { C.over core.new ≡ C.over core.old }
+    ensures made { OnOk result (IsStep (C.over core.old) (C.history core.old) update
+        (C.history core.new)) }
+    ensures kept { OnErr result (C.history core.new ≡ C.history core.old) }
+{
+    let snapshot = core.snapshot(alloc, update)?;
+    let watch = Watch::start(rt);
+    let planned = C::plan(alloc, &snapshot);
+    let small = watch.shows_small(rt);
+    C::drop_snapshot(snapshot);
+    let plan = planned?;
+    core.install(alloc, plan)?;
+    Ok(small)
+}
+
+// Marks that the seat was given a ticket of this number for the update, made its step and returned it. There is room for that.
+fn mark_step(marks: &mut Vec<Marked>, seat: u64, number: u64, update: u32)
+    requires room { vec_len marks.old + 3 ≤ vec_capacity marks.old }
+    ensures marks { marks.new.items ≡ marks.old.items ++ step_marked seat number update }
+    ensures room { vec_capacity marks.new ≡ vec_capacity marks.old }
+{
+    marks.push_reserved(Marked {
+        mark: Mark::Giving(number, update as u64),
+        maker: seat,
+    });
+    marks.push_reserved(Marked {
+        mark: Mark::Next,
+        maker: seat,
+    });
+    marks.push_reserved(Marked {
+        mark: Mark::Returning(number),
+        maker: seat,
+    });
+}
