@@ -14,7 +14,8 @@ use Rattle.yt_model.specs.Mappings.{Rule}
 use Rattle.yt_grammar.specs.Cycles.{HasPlainCycle, has_plain_cycle}
 use Rattle.yt_grammar.specs.Checks.{rules_of}
 use Rattle.yt_session.specs.Base.{base_violation}
-use Rattle.yt_drill.specs.Draws.{next, drawn, columns}
+use Rattle.yt_draws.specs.Draws.{next, drawn}
+use Rattle.yt_drill.specs.Columns.{columns}
 use Rattle.yt_drill.specs.Drilled.{Kind, Inserts, Deletes, kind_of, kind_at, fact, operation_of, after_update, update_at, updates_from, m1, m2, m3, relations, with_updates, drilled}
 use Rattle.yt_drill.proofs.Called.{curator_named, labels_are_names}
 use Rattle.yt_drill.proofs.Curators.{few_curators}

@@ -6,7 +6,8 @@ use Rattle.yt_model.specs.Mappings.{Var, Pattern, Rule}
 use Rattle.yt_model.specs.Updates.{Operation, Adds, Removes, Choice, Expand}
 use Rattle.yt_grammar.specs.Names.{Name}
 use Rattle.yt_grammar.specs.Sessions.{RelationSchema, SessionMapping, SessionUpdate, SessionData}
-use Rattle.yt_drill.specs.Draws.{next, drawn, columns, after}
+use Rattle.yt_draws.specs.Draws.{next, drawn}
+use Rattle.yt_drill.specs.Columns.{columns, after}
 
 -- What an update does: inserts or deletes a tuple of this relation, with numbers below these.
 pub data Kind : Type 0 where

@@ -1,4 +1,4 @@
-pub mod Draws
+pub mod Columns
 pub mod Drilled
 pub mod Meanings
 pub mod Rows

@@ -4,7 +4,7 @@ use Rattle.yt_base.specs.Contents.{data_of}
 use Rattle.yt_base.specs.Listed.{Listed}
 use Rattle.yt_base.specs.declared.values.Value.{Value}
 use Rattle.yt_model.specs.Values.{Number}
-use Rattle.yt_drill.specs.Draws.{next, drawn}
+use Rattle.yt_draws.specs.Draws.{next, drawn}
 
 -- One more value was drawn, below this number.
 abbrev pub HasDrawn : ℕ → ℕ → Listed Value → Listed Value → Type 0

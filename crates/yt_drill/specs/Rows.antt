@@ -3,7 +3,7 @@ use Rattle.std.specs.Prelude.{◌≡◌, ℕ, ◌/◌, ◌^◌, pos, List, [], �
 use Rattle.yt_model.specs.Values.{Datum, Number}
 use Rattle.yt_model.specs.Updates.{Operation, Adds, Removes}
 use Rattle.yt_grammar.specs.Sessions.{SessionUpdate}
-use Rattle.yt_drill.specs.Draws.{next}
+use Rattle.yt_draws.specs.Draws.{next}
 use Rattle.yt_drill.specs.Drilled.{fact, updates_from}
 
 abbrev pub number : ℕ → Datum

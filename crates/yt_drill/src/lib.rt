@@ -1,13 +1,12 @@
 //! Sessions that are drawn from a seed.
 //!
-//! `specs/Draws.antt` says what is drawn, `specs/Drilled.antt` which session is made of it. Each is a session that the grammar
-//! accepts, over an empty base.
+//! `specs/Drilled.antt` says which session is made of the draws. Each is a session that the grammar accepts, over an empty base.
 #![tactic(auto)]
 
 mod counting;
-mod draws;
 mod drills;
 mod laws;
+mod tuples;
 mod updates;
 
 pub use crate::counting::Count;

@@ -3,12 +3,13 @@ ghost use Rattle.std.specs.Prelude.{◌≡◌, ◌+◌, ◌≤◌, map, IfOk, On
 ghost use Rattle.yt_base.specs.Contents.{choices_of};
 ghost use Rattle.yt_base.specs.Meanings.{operation_of as operation_meant};
 ghost use Rattle.yt_session.specs.Meanings.{update_of};
-ghost use Rattle.yt_drill.specs.Draws.{after};
+ghost use Rattle.yt_drill.specs.Columns.{after};
 ghost use Rattle.yt_drill.specs.Drilled.{after_update, below_in, curator as curator_lem, expansions as expansions_lem, kind_of, label as label_lem, operation_of, update_at, updates_from};
 
-use crate::draws::{draw, pair, triple};
+use crate::tuples::{pair, triple};
 use std::alloc::Global;
 use yt_base::{Choice, ChoiceList, List, Memory, Name, Operation, Update};
+use yt_draws::draw;
 use yt_session::{SessionUpdate, SessionUpdates};
 
 const CITY: u16 = 0;

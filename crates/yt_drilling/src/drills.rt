@@ -13,6 +13,7 @@ ghost use Rattle.yt_drilling.specs.Drilling.{drill_told, drilling, summary_outpu
 use std::alloc::Global;
 use std::sync::Wait;
 use std::thread::Threads;
+use std::time::Clock;
 use yt_base::Memory;
 use yt_command::{Failure, Output, Status, deliver, fail};
 use yt_commands::ending_by;
@@ -56,7 +57,7 @@ fn summary_output(
 
 impl Drill {
     // Lets the workers take the updates of a session, and gives what that comes to.
-    fn take<R: Threads + Wait + Sync, G: Gate + Sync>(
+    fn take<R: Threads + Wait + Clock + Sync, G: Gate + Sync>(
         self,
         rt: &R,
         gate: &G,
@@ -76,7 +77,7 @@ impl Drill {
     }
 
     // Lets them take those of the generated session.
-    fn work<R: Threads + Wait + Sync, G: Gate + Sync>(
+    fn work<R: Threads + Wait + Clock + Sync, G: Gate + Sync>(
         self,
         rt: &R,
         gate: &G,
@@ -91,7 +92,7 @@ impl Drill {
     }
 
     // What is made of that.
-    fn make<R: Threads + Wait + Sync, G: Gate + Sync>(
+    fn make<R: Threads + Wait + Clock + Sync, G: Gate + Sync>(
         self,
         rt: &R,
         gate: &G,
@@ -110,7 +111,7 @@ impl Drill {
     /// Runs the generated session, and writes its summary to `out`, as `yt_command::perform_alone` does it for a command
     /// without threads: each status has its row, and nothing is read. Each worker passes the gate around the work at a ticket.
     /// The call may wait.
-    pub fn perform<R: Threads + Wait + Sync, G: Gate + Sync, O: Sink, E: Sink>(
+    pub fn perform<R: Threads + Wait + Clock + Sync, G: Gate + Sync, O: Sink, E: Sink>(
         self,
         rt: &R,
         gate: &G,

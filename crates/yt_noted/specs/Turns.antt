@@ -9,7 +9,6 @@ use Rattle.yt_grammar.specs.Checks.{rules_of}
 use Rattle.yt_grammar.specs.Sessions.{SessionData}
 use Rattle.yt_program.specs.Results.{StopTold, lack_of, stop_of}
 use Rattle.yt_program.specs.Wishes.{Wish, WishesReply, WishesChoice, WishesNothing, WishesStep, IsDone, IsSpent, IsRefused}
-use Rattle.yt_program.specs.declared.results.Lack.{Lack}
 use Rattle.yt_program.specs.declared.results.Stop.{Stop}
 use Rattle.yt_session.specs.Meanings.{request_of, requests_in, update_of}
 use Rattle.yt_session.specs.declared.sessions.SessionUpdate.{SessionUpdate}
@@ -19,7 +18,7 @@ use Rattle.yt_steps.specs.Serial.{Request, turns_in, turns_of}
 use Rattle.yt_provenance.specs.Courses.{steps_from, whole_steps, serial_steps}
 use Rattle.yt_provenance.specs.Notes.{Noted, notes_of}
 use Rattle.yt_serial.specs.Meanings.{requests_of}
-use Rattle.yt_serial.specs.Turns.{rest_from, turn_of, whole_rest}
+use Rattle.yt_serial.specs.Turns.{turn_of, whole_rest}
 use Rattle.yt_noted.specs.Meanings.{notes_in}
 use Rattle.yt_noted.specs.declared.notes.Note.{Note}
 use Rattle.yt_noted.specs.declared.runs.NotedRun.{NotedRun}
@@ -37,10 +36,6 @@ wants_none_done WishesStep = false
 -- What is noted of the steps that an attempt has left over D.
 abbrev pub left_from : List Rule → ℕ → List Fact → List Choice → ℕ → Attempt → List Noted
 left_from ms B D answers k P = notes_of (steps_from caused ms B P.operation D answers k P)
-
--- From P on the attempt came to rest over D, as P', with this lack if it stopped at a question.
-abbrev pub RestsFrom : List Rule → ℕ → List Fact → List Choice → Attempt → Attempt → Option Lack → Type 0
-RestsFrom ms B D answers P P' lack = rest_from ms B D answers (B - P.steps) P ≡ (P', option_map lack_of lack)
 
 -- Behind the notes were added those of the steps from P on.
 abbrev pub HasNotedFrom : List Rule → ℕ → List Fact → List Choice → Attempt → Listed Note → Listed Note → Type 0

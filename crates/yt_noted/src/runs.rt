@@ -1,17 +1,15 @@
 //! The noted run of a session: its updates taken whole in turn, up to the first that stops.
-ghost use Rattle.std.specs.Prelude.{◌≡◌, ◌≤◌, ◌++◌, [], if◌then◌else◌, length, true, is_some, is_none, None, Some, IfOk, OnOk};
-ghost use Rattle.std.specs.Option.{option_map};
+ghost use Rattle.std.specs.Prelude.{◌≡◌, ◌≤◌, ◌++◌, [], if◌then◌else◌, length, true, is_some, is_none, None, IfOk, OnOk};
 ghost use Rattle.yt_grammar.specs.Validity.{IsSession};
 ghost use Rattle.yt_model.specs.Repository.{IsRepository};
 ghost use Rattle.yt_program.specs.PointMeanings.{want_of};
-ghost use Rattle.yt_program.specs.Results.{lack_of, result_of, stop_in, stop_of};
+ghost use Rattle.yt_program.specs.Results.{result_of};
 ghost use Rattle.yt_provenance.specs.Courses.{is_done_with};
 ghost use Rattle.yt_serial.specs.Meanings.{HasCommitted, HasEnded, HasTaken as HasTakenTurn, HasTakenAll, IsSerialRun, requests_of};
 ghost use Rattle.yt_serial.specs.Runs.{told_from};
 ghost use Rattle.yt_session.specs.Base.{base_violation};
 ghost use Rattle.yt_session.specs.Meanings.{session_of};
 ghost use Rattle.yt_steps.specs.Attempts.{outcome_in, question_in};
-ghost use Rattle.yt_steps.specs.Serial.{stopped as stopped_lem};
 ghost use Rattle.yt_noted.specs.Meanings.{notes_in};
 ghost use Rattle.yt_noted.specs.Turns.{HasNotedTurn, HasNotedAll, IsNotedRun, OnceTaken, noted_from, wants_none_done};
 
@@ -21,7 +19,7 @@ use std::alloc::Global;
 use yt_base::Memory;
 use yt_facts::IndexedFacts;
 use yt_limits::{Budget, Mappings};
-use yt_program::{FinishList, Lack, Outcome, Program, SessionResult, Stop, Want};
+use yt_program::{FinishList, Outcome, Program, SessionResult, Stop, Want};
 use yt_provenance::laws::steps_agree_in_scopes;
 use yt_serial::endings::{end, stop};
 use yt_serial::mappings_of;
@@ -172,25 +170,12 @@ fn close(
         HasNotedTurn ms B number update notes.old facts.old notes.new facts.new stop)) }
 {
     match taken.lack {
-        Some(lack) => Ok(Some(stopped(alloc, taken.program, number, lack)?)),
+        Some(lack) => Ok(Some(stop(alloc, taken.program, number, lack)?)),
         None => {
             ended(alloc, finishes, notes, facts, taken.program, taken.notes)?;
             Ok(None)
         }
     }
-}
-
-// The stop of an update at a question for what is lacking, for which it is given up.
-fn stopped(alloc: Global, program: Program, number: u32, lack: Lack) -> Result<Stop, Memory>
-    requires between { program.reading ≡ None }
-    requires asked { is_some (question_in program.attempt.phase) ≡ true }
-    ensures told { IfOk result (λ told.
-        option_map stop_in (stopped_lem number program.attempt (lack_of lack)) ≡
-        Some (stop_of told)) }
-{
-    let told = stop(alloc, &program, number, lack);
-    drop(program);
-    told
 }
 
 // Tells the finish of an update that has ended, and keeps its writes and, where it is done, what was noted of it.

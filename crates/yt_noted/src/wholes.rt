@@ -3,7 +3,8 @@ ghost use Rattle.std.specs.Prelude.{◌≡◌, ◌<◌, [], IfOk, OnOk, None, is
 ghost use Rattle.yt_base.specs.Contents.{choices_of};
 ghost use Rattle.yt_model.specs.Repository.{IsRepository};
 ghost use Rattle.yt_steps.specs.Attempts.{question_in, outcome_in};
-ghost use Rattle.yt_noted.specs.Turns.{HasNotedFrom, HasTaken, RestsFrom};
+ghost use Rattle.yt_serial.specs.Meanings.{RestsFrom};
+ghost use Rattle.yt_noted.specs.Turns.{HasNotedFrom, HasTaken};
 
 use crate::made::step;
 use crate::notes::NoteList;

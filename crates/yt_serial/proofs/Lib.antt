@@ -1,4 +1,5 @@
 pub mod Answered
+pub mod Making
 pub mod Running
 pub mod Telling
 pub mod Limits

@@ -1,11 +1,12 @@
 -- What the types of the serial run mean.
-use Rattle.std.specs.Prelude.{◌≡◌, ℕ, ◌+◌, List, ◌∷◌, map, Option, Some}
+use Rattle.std.specs.Prelude.{◌≡◌, ℕ, ◌+◌, ◌-◌, List, ◌∷◌, ◌++◌, map, Option, Some}
 use Rattle.std.specs.Option.{option_map, option_copied}
 use Rattle.yt_base.specs.Meanings.{choice_of}
 use Rattle.yt_machine.specs.Updates.{shown}
 use Rattle.yt_model.specs.Values.{Fact}
 use Rattle.yt_model.specs.Mappings.{Rule}
-use Rattle.yt_model.specs.Repository.{apply}
+use Rattle.yt_model.specs.Updates.{Choice}
+use Rattle.yt_model.specs.Repository.{Change, apply}
 use Rattle.yt_base.specs.Contents.{changes_of}
 use Rattle.yt_base.specs.Listed.{Listed}
 use Rattle.yt_base.specs.declared.updates.Write.{Write}
@@ -21,6 +22,7 @@ use Rattle.yt_program.specs.Results.{FinishTold, finish_of, lack_of, result_in, 
 use Rattle.yt_program.specs.Wishes.{end_in}
 use Rattle.yt_program.specs.declared.ends.Outcome.{Outcome}
 use Rattle.yt_program.specs.declared.results.Finish.{Finish}
+use Rattle.yt_program.specs.declared.results.Lack.{Lack}
 use Rattle.yt_program.specs.declared.results.SessionResult.{SessionResult}
 use Rattle.yt_program.specs.declared.results.Stop.{Stop}
 use Rattle.yt_serial.specs.Runs.{HasFinished, behind, told_after, told_at, told_from}
@@ -42,10 +44,18 @@ requests_of us = map request_of (map update_of us)
 abbrev pub finishes_of : Listed Finish → List FinishTold
 finishes_of fs = map finish_of fs.items
 
+-- From P on the attempt comes to rest over D, as P', with this lack if it stops at a question.
+abbrev pub RestsFrom : List Rule → ℕ → List Fact → List Choice → Attempt → Attempt → Option Lack → Type 0
+RestsFrom ms B D answers P P' lack = turns.rest_from ms B D answers (B - P.steps) P ≡ (P', option_map lack_of lack)
+
 -- Taken whole over D, the update of this number comes to rest there.
 abbrev pub RestsWhole : List Rule → ℕ → List Fact → ℕ → SessionUpdate → RestOfUpdate → Type 0
 RestsWhole ms B D n u rest =
     turns.whole_rest ms B D (turns.turn_of ms B n (request_of (update_of u))) ≡ (rest.program.attempt, option_map lack_of rest.lack)
+
+-- Some of the changes have been made in D, the first ones, and none of the others.
+abbrev pub HasMadeSome : List Fact → List Change → List Fact → Type 0
+HasMadeSome D changes D' = (some : List Change) × (others : List Change) × (changes ≡ some ++ others) × (D' ≡ apply D some)
 
 -- What is shown of the attempt, which has ended, has been made in D.
 abbrev pub HasCommitted : List Fact → Attempt → List Fact → Type 0

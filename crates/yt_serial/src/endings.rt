@@ -1,12 +1,12 @@
 //! What is told of an update that has come to rest.
-ghost use Rattle.std.specs.Prelude.{◌≡◌, ℕ, [], ◌∷◌, true, map, is_some, None, Some, IfOk, OnOk};
+ghost use Rattle.std.specs.Prelude.{◌≡◌, ℕ, [], ◌∷◌, true, map, is_some, None, Some, IfOk, OnOk, OnErr};
 ghost use Rattle.std.specs.Option.{option_map};
 ghost use Rattle.yt_steps.specs.Attempts.{question_in, outcome_in};
 ghost use Rattle.yt_steps.specs.Serial.{finished, stopped};
 ghost use Rattle.yt_program.specs.PointMeanings.{end_of};
 ghost use Rattle.yt_program.specs.Results.{finish_in, finish_of, lack_of, stop_in, stop_of};
 ghost use Rattle.yt_program.specs.Wishes.{end_in};
-ghost use Rattle.yt_serial.specs.Meanings.{HasCommitted, HasEnded};
+ghost use Rattle.yt_serial.specs.Meanings.{HasCommitted, HasEnded, HasMadeSome};
 
 use crate::repositories::keep;
 use std::alloc::Global;
@@ -35,9 +35,22 @@ pub(crate) fn finish(program: &Program) -> Finish
     }
 }
 
-/// What is told of the update of this number, which stops at a question for what is lacking. It is refused only for
-/// want of memory.
-pub fn stop(alloc: Global, program: &Program, number: u32, lack: Lack) -> Result<Stop, Memory>
+/// What is told of the update of this number, which stops at a question for what is lacking and is given up. It is refused
+/// only for want of memory.
+pub fn stop(alloc: Global, program: Program, number: u32, lack: Lack) -> Result<Stop, Memory>
+    requires between { program.reading ≡ None }
+    requires asked { is_some (question_in program.attempt.phase) ≡ true }
+    ensures told { IfOk result (λ stop.
+        option_map stop_in (stopped number program.attempt (lack_of lack)) ≡
+        Some (stop_of stop)) }
+{
+    let told = stop_at(alloc, &program, number, lack);
+    drop(program);
+    told
+}
+
+// What is told of the update of this number, at its question.
+fn stop_at(alloc: Global, program: &Program, number: u32, lack: Lack) -> Result<Stop, Memory>
     requires between { program.now.reading ≡ None }
     requires asked { is_some (question_in program.now.attempt.phase) ≡ true }
     ensures told { IfOk result (λ stop.
@@ -59,8 +72,8 @@ pub fn stop(alloc: Global, program: &Program, number: u32, lack: Lack) -> Result
     }
 }
 
-/// Tells the finish of an update that has ended, and keeps its writes. It is refused only for want of memory; the facts may then have
-/// some of the writes, and they and the finishes are ones to be let go.
+/// Tells the finish of an update that has ended, and keeps its writes. It is refused only for want of memory; the finishes are
+/// then unchanged, and some of the writes, the first ones, may have been made.
 pub fn end(
     alloc: Global,
     finishes: &mut FinishList,
@@ -71,9 +84,13 @@ pub fn end(
     requires ended { is_some (outcome_in program.attempt.phase) ≡ true }
     ensures told { OnOk result (HasEnded program.attempt finishes.old finishes.new) }
     ensures kept { OnOk result (HasCommitted facts.old program.attempt facts.new) }
+    ensures untold { OnErr result (finishes.new.items ≡ finishes.old.items) }
+    ensures unkept { OnErr result (HasMadeSome facts.old program.attempt.own facts.new) }
 {
     let finish = finish(&program);
-    keep(facts, program.into_own(alloc)?, finish.outcome)?;
+    let own = program.into_own(alloc)?;
+    finishes.reserve(1)?;
+    keep(facts, own, finish.outcome)?;
     finishes.push(finish)?;
     Ok(())
 }

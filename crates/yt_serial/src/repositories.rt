@@ -1,27 +1,25 @@
 //! The repository of a run: what an update leaves in it, and what is told of it.
-ghost use Rattle.std.specs.Prelude.{◌≡◌, IfOk, OnOk};
+ghost use Rattle.std.specs.Prelude.{◌≡◌, IfOk, OnOk, OnErr};
 ghost use Rattle.yt_model.specs.Repository.{apply, change};
 ghost use Rattle.yt_base.specs.Meanings.{change_of};
 ghost use Rattle.yt_steps.specs.Serial.{answered};
 ghost use Rattle.yt_base.specs.Contents.{changes_of, facts_of};
-ghost use Rattle.yt_serial.specs.Meanings.{HasKept};
+ghost use Rattle.yt_serial.specs.Meanings.{HasKept, HasMadeSome};
 
 use std::alloc::Global;
-use yt_base::{Memory, TupleList, Write, WriteList};
+use yt_base::{FORCE_RELATION, Memory, TupleList, Write, WriteList};
 use yt_facts::IndexedFacts;
 use yt_program::Outcome;
 
-// The relation of the tuples that say which mappings are in force.
-const FORCE_RELATION: u16 = 65535;
-
 /// Makes the writes of an update that has ended so: where it is done those that it made, and else none. It is refused
-/// only for want of memory.
+/// only for want of memory; some of them, the first ones, may then have been made.
 pub(crate) fn keep(
     facts: &mut IndexedFacts,
     writes: WriteList,
     outcome: Outcome,
 ) -> Result<(), Memory>
     ensures kept { OnOk result (HasKept facts.old writes outcome facts.new) }
+    ensures err { OnErr result (HasMadeSome facts.old (changes_of writes) facts.new) }
 {
     match outcome {
         Outcome::Done => make(facts, writes),
@@ -33,6 +31,7 @@ pub(crate) fn keep(
 // Makes the writes in turn.
 fn make(facts: &mut IndexedFacts, writes: WriteList) -> Result<(), Memory>
     ensures made { OnOk result (facts.new ≡ apply facts.old (changes_of writes)) }
+    ensures err { OnErr result (HasMadeSome facts.old (changes_of writes) facts.new) }
 {
     for write in writes.into_vec() {
         make_one(facts, write)?;
@@ -42,6 +41,7 @@ fn make(facts: &mut IndexedFacts, writes: WriteList) -> Result<(), Memory>
 
 fn make_one(facts: &mut IndexedFacts, write: Write) -> Result<(), Memory>
     ensures made { OnOk result (facts.new ≡ change facts.old (change_of write)) }
+    ensures err { OnErr result (facts.new ≡ facts.old) }
 {
     match write {
         Write::Insert(tuple) => {

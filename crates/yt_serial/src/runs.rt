@@ -137,7 +137,7 @@ fn turn(
 {
     let rest = take_whole(alloc, number, update, facts, mappings, budget)?;
     match rest.lack {
-        Some(lack) => Ok(Some(stop(alloc, &rest.program, number, lack)?)),
+        Some(lack) => Ok(Some(stop(alloc, rest.program, number, lack)?)),
         None => {
             end(alloc, finishes, facts, rest.program)?;
             Ok(None)

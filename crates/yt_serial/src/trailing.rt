@@ -113,7 +113,7 @@ fn turn(
 {
     let rest = take_whole(alloc, number, update, facts, mappings, budget)?;
     match rest.lack {
-        Some(lack) => Ok(Some(stop(alloc, &rest.program, number, lack)?)),
+        Some(lack) => Ok(Some(stop(alloc, rest.program, number, lack)?)),
         None => {
             end(alloc, trails, facts, rest.program)?;
             Ok(None)
@@ -134,8 +134,9 @@ fn end(
     ensures kept { OnOk result (HasCommitted facts.old program.attempt facts.new) }
 {
     let outcome = finish(&program).outcome;
-    let trail = trail(alloc, program.own(), outcome)?;
-    keep(facts, program.into_own(alloc)?, outcome)?;
+    let own = program.into_own(alloc)?;
+    let trail = trail(alloc, &own, outcome)?;
+    keep(facts, own, outcome)?;
     trails.push(trail)?;
     Ok(())
 }

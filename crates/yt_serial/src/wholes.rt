@@ -1,13 +1,14 @@
 //! An update taken whole: steps up to its end, or to a question where something is lacking.
-ghost use Rattle.std.specs.Prelude.{◌≡◌, IfOk, None, is_some, is_none};
+ghost use Rattle.std.specs.Prelude.{◌≡◌, ◌<◌, [], IfOk, OnOk, None, is_some, is_none};
+ghost use Rattle.yt_base.specs.Contents.{choices_of};
 ghost use Rattle.yt_model.specs.Repository.{IsRepository};
 ghost use Rattle.yt_steps.specs.Attempts.{question_in, outcome_in};
-ghost use Rattle.yt_serial.specs.Meanings.{RestsWhole};
+ghost use Rattle.yt_serial.specs.Meanings.{RestsFrom, RestsWhole};
 
 use crate::stepping::step;
 use crate::turns::{Next, what_next};
 use std::alloc::Global;
-use yt_base::Memory;
+use yt_base::{ChoiceList, Memory};
 use yt_eval::WatchedView;
 use yt_facts::IndexedFacts;
 use yt_limits::{Budget, Mappings};
@@ -40,13 +41,51 @@ pub(crate) fn take_whole(
 {
     budget.is_within();
     let mut program = Program::start(alloc, &update.update, number, 0)?;
+    match go_on(
+        alloc,
+        &mut program,
+        &update.answers,
+        facts,
+        mappings,
+        budget,
+    ) {
+        Ok(lack) => Ok(Rest { program, lack }),
+        Err(memory) => {
+            drop(program);
+            Err(memory)
+        }
+    }
+}
+
+// Makes the steps of the attempt, which has made none, over the repository, up to its rest there. It gives what is
+// lacking.
+fn go_on(
+    alloc: Global,
+    program: &mut Program,
+    answers: &ChoiceList,
+    facts: &IndexedFacts,
+    mappings: &Mappings<'_>,
+    budget: Budget,
+) -> Result<Option<Lack>, Memory>
+    requires sorted { IsRepository facts.now }
+    requires between { program.old.reading ≡ None }
+    requires fresh { program.old.attempt.own ≡ [] }
+    requires left { program.old.attempt.steps < budget }
+    ensures rests { IfOk result (RestsFrom mappings.now budget facts.now (choices_of answers.now)
+        program.old.attempt program.new.attempt) }
+    ensures between { OnOk result (program.new.reading ≡ None) }
+    ensures asked { IfOk result (λ lack. is_some (question_in program.new.attempt.phase) ≡
+        is_some lack) }
+    ensures ended { IfOk result (λ lack. is_some (outcome_in program.new.attempt.phase) ≡
+        is_none lack) }
+{
     let mut view = WatchedView::new(alloc, facts, mappings.list(), program.direction())?;
     'turns: loop {
-        match what_next(&program, &update.answers) {
+        match what_next(program, answers) {
             Next::Step(choice) => {
-                step(alloc, &mut program, &mut view, choice, mappings, budget)?;
+                step(alloc, program, &mut view, choice, mappings, budget)?;
             }
-            Next::Rest(lack) => return Ok(Rest { program, lack }),
+            Next::Rest(lack) => return Ok(lack),
         }
     }
 }

@@ -17,16 +17,16 @@ use Rattle.yt_noted.specs.Turns.{noted_from}
 use Rattle.yt_noted.proofs.Turning.{noted_on, noted_stop}
 use Rattle.yt_noted.proofs.runs.close.Goals as goal
 
-pub returns-in_ok-stopped-in-Some-clause-told : goal.returns-in_ok-stopped-in-Some-clause-told
-returns-in_ok-stopped-in-Some-clause-told c = λ ms B u h rs.
+pub returns-in_ok-stop-in-Some-clause-told : goal.returns-in_ok-stop-in-Some-clause-told
+returns-in_ok-stop-in-Some-clause-told c = λ ms B u h rs.
     ap (behind (map finish_of c.args.finishes.now.items))
     (stops_here ms B c.args.facts.now c.args.number (request_of (update_of u)) rs
-    c.args.taken.program.attempt (lack_of c.in-Some.lack) (stop_of c.in_ok-stopped-in-Some.field-0)
+    c.args.taken.program.attempt (lack_of c.in-Some.lack) (stop_of c.in_ok-stop-in-Some.field-0)
     (h.0 ∙ ap (λ l. (c.args.taken.program.attempt, option_map lack_of l)) c.in-Some.is)
-    c.in_ok-stopped-in-Some.ensures.told)
+    c.in_ok-stop-in-Some.ensures.told)
 
-pub returns-in_ok-stopped-in-Some-clause-noted : goal.returns-in_ok-stopped-in-Some-clause-noted
-returns-in_ok-stopped-in-Some-clause-noted c = λ ms B u h rs.
+pub returns-in_ok-stop-in-Some-clause-noted : goal.returns-in_ok-stop-in-Some-clause-noted
+returns-in_ok-stop-in-Some-clause-noted c = λ ms B u h rs.
     ap (λ (ns : List Noted). map note_of c.args.notes.now.items ++ ns)
     (noted_stop ms B c.args.facts.now c.args.number (request_of (update_of u)) rs
     c.args.taken.program.attempt (lack_of c.in-Some.lack)

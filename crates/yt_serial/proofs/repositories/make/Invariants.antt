@@ -4,6 +4,9 @@ use Rattle.yt_model.specs.Repository.{apply}
 use Rattle.yt_base.specs.Meanings.{change_of}
 use Rattle.yt_serial.proofs.repositories.make.Given as goal
 
--- The writes that are left lead to what all lead to.
+-- The writes that are left lead to what all lead to, and those before them were made.
 abbrev pub invariant-loop-write : goal.invariant-loop-write
-invariant-loop-write l = apply l.facts (map change_of (into_iter_items l.write-iterator)) ≡ apply l.fn.facts (map change_of l.fn.writes.items)
+invariant-loop-write l = record {
+  left : apply l.facts (map change_of (into_iter_items l.write-iterator)) ≡ apply l.fn.facts (map change_of l.fn.writes.items);
+  made : l.facts ≡ apply l.fn.facts (map change_of l.yielded);
+}

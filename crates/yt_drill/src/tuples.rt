@@ -1,35 +1,14 @@
-//! Numbers that are drawn from a seed.
+//! Tuples of numbers that are drawn from a seed.
 ghost use Rattle.std.specs.Prelude.{◌≡◌, ◌<◌, ◌∷◌, [], IfOk, OnOk};
 ghost use Rattle.yt_base.specs.Meanings.{fact_of};
-ghost use Rattle.yt_drill.specs.Draws.{after, columns, drawn as drawn_lem, next as next_lem};
+ghost use Rattle.yt_draws.specs.Draws.{next as next_lem};
+ghost use Rattle.yt_drill.specs.Columns.{after, columns};
 ghost use Rattle.yt_drill.specs.Drilled.{fact};
 ghost use Rattle.yt_drill.specs.Meanings.{HasDrawn};
 
 use std::alloc::Global;
 use yt_base::{List, Memory, Row, Tuple, Value};
-
-const MULTIPLIER: u128 = 6364136223846793005;
-
-const INCREMENT: u128 = 1442695040888963407;
-
-// The state after one draw.
-fn next(state: u64) -> u64
-    ensures next { result ≡ next_lem state }
-{
-    let moved = u128::from(state) * MULTIPLIER + INCREMENT;
-    (moved % 18_446_744_073_709_551_616) as u64
-}
-
-/// Draws a number below `most`.
-pub(crate) fn draw(state: &mut u64, most: u32) -> u32
-    requires some { 0 < most }
-    ensures number { result ≡ drawn_lem most (next_lem state.old) }
-    ensures state { state.new ≡ next_lem state.old }
-{
-    *state = next(*state);
-    let upper = *state / 8_589_934_592;
-    (upper % u64::from(most)) as u32
-}
+use yt_draws::draw;
 
 // Draws one more value.
 fn push(state: &mut u64, values: &mut Row, most: u32) -> Result<(), Memory>

@@ -1,10 +1,9 @@
 use Rattle.std.proofs.Common.{◌≡◌, ◌-◌, ◌<◌, false, None, is_some, map}
 use Rattle.yt_base.specs.Meanings.{choice_of}
 use Rattle.yt_model.specs.Updates.{direction_of}
-use Rattle.yt_session.specs.Meanings.{update_of, request_of}
 use Rattle.yt_steps.specs.Attempts.{outcome_in}
-use Rattle.yt_serial.specs.Turns.{rest_from, turn_of, whole_rest}
-use Rattle.yt_serial.proofs.wholes.take_whole.Given as goal
+use Rattle.yt_serial.specs.Turns.{rest_from}
+use Rattle.yt_serial.proofs.wholes.go_on.Given as goal
 
 -- Between two steps; the view is of these mappings, in the update's direction, and sees the own writes; from where the attempt comes to the same rest; some steps are left unless it has ended.
 abbrev pub invariant-turns : goal.invariant-turns
@@ -13,8 +12,8 @@ invariant-turns l = record {
   seen : l.view ≡ record { rules = l.mappings; heading = direction_of l.program.attempt.operation; below = l.facts; own = l.program.attempt.own };
   left : is_some (outcome_in l.program.attempt.phase) ≡ false → l.program.attempt.steps < l.budget;
   together :
-      whole_rest l.mappings l.budget l.facts (turn_of l.mappings l.budget l.number (request_of (update_of l.update)))
-      ≡ rest_from l.mappings l.budget l.facts (map choice_of l.update.answers.items) (l.budget - l.program.attempt.steps) l.program.attempt;
+      rest_from l.mappings l.budget l.facts (map choice_of l.answers.items) (l.budget - l.fn.program.attempt.steps) l.fn.program.attempt
+      ≡ rest_from l.mappings l.budget l.facts (map choice_of l.answers.items) (l.budget - l.program.attempt.steps) l.program.attempt;
 }
 
 -- How many steps are left.

@@ -1,25 +1,24 @@
-use Rattle.std.proofs.Common.{◌≡◌, ◌∙◌, ap, sym, List, map}
+use Rattle.std.proofs.Common.{◌≡◌, ◌∙◌, ◌-◌, ap, sym, List, map}
 use Rattle.yt_model.specs.Values.{Fact}
 use Rattle.yt_model.specs.Updates.{direction_of}
 use Rattle.yt_program.specs.Courses.{between, State}
 use Rattle.yt_eval.specs.Watched.{Watched}
 use Rattle.std.specs.Option.{option_map, option_copied}
 use Rattle.yt_base.specs.Meanings.{choice_of}
-use Rattle.yt_session.specs.Meanings.{update_of, request_of}
 use Rattle.yt_program.specs.Results.{lack_of}
-use Rattle.yt_serial.specs.Turns.{stepped, turn_of, whole_rest}
+use Rattle.yt_serial.specs.Turns.{rest_from, stepped}
 use Rattle.yt_serial.proofs.Running.{stays_on, rests_there}
-use Rattle.yt_serial.proofs.wholes.take_whole.Goals as goal
+use Rattle.yt_serial.proofs.wholes.go_on.Goals as goal
 
 pub turns-preserved : goal.turns-preserved
 turns-preserved c =
     let ms = c.args.mappings.now in
-    let answers = map choice_of c.args.update.now.answers.items in
+    let answers = map choice_of c.args.answers.now.items in
     let below = ap (λ (v : Watched). v.below) c.turns.invariant.seen in
     let heading : direction_of c.turns.program.attempt.operation ≡ direction_of c.step.new.program.attempt.operation =
     sym (ap (λ (s : State). direction_of s.attempt.operation) c.in_ok-step-in-Step.ensures.stepped) in
     let kept = stays_on ms c.args.budget c.args.facts.now answers
-    (whole_rest ms c.args.budget c.args.facts.now (turn_of ms c.args.budget c.args.number (request_of (update_of c.args.update.now))))
+    (rest_from ms c.args.budget c.args.facts.now answers (c.args.budget - c.args.program.now.attempt.steps) c.args.program.now.attempt)
     c.turns.program c.step.new.program (option_map choice_of (option_copied c.in-Step.choice))
     (c.turns.invariant.between, c.turns.invariant.left, c.turns.invariant.together)
     c.in-Step.ensures.next
@@ -35,11 +34,11 @@ turns-preserved c =
       together = kept.2;
     }
 
-pub returns-in-Rest-clause-rest : goal.returns-in-Rest-clause-rest
-returns-in-Rest-clause-rest c =
+pub returns-in-Rest-clause-rests : goal.returns-in-Rest-clause-rests
+returns-in-Rest-clause-rests c =
     let ms = c.args.mappings.now in
-    let answers = map choice_of c.args.update.now.answers.items in
+    let answers = map choice_of c.args.answers.now.items in
     rests_there ms c.args.budget c.args.facts.now answers
-    (whole_rest ms c.args.budget c.args.facts.now (turn_of ms c.args.budget c.args.number (request_of (update_of c.args.update.now))))
+    (rest_from ms c.args.budget c.args.facts.now answers (c.args.budget - c.args.program.now.attempt.steps) c.args.program.now.attempt)
     c.turns.program (option_map lack_of c.in-Rest.lack)
     (c.turns.invariant.between, c.turns.invariant.left, c.turns.invariant.together) c.in-Rest.ensures.next
