@@ -10,6 +10,7 @@ check 'the session of the README is run, and writes what it shows' "$(tests/page
 check 'the blocks of FORMATS are run, and write what they show' "$(tests/pages/blocks.py docs/FORMATS.md "$program" plain 2>&1)"
 check 'each example in the tables of faults of FORMATS is told so' "$(tests/pages/faults.py "$program" 2>&1)"
 check 'the blocks of the travel example are run, and write what they show' "$(tests/pages/blocks.py examples/travel/README.md "$program" 2>&1)"
+check 'the blocks of the example of an auditor are run, and write what they show' "$(tests/pages/blocks.py examples/audit/README.md "$program" 2>&1)"
 check 'the blocks of the journal example are run, and write what they show' "$(tests/pages/blocks.py examples/journal/README.md "$program" 2>&1)"
 check 'the blocks of the example of two curators who collide are run, and write what they show' \
   "$(tests/pages/blocks.py examples/collision/README.md "$program" 2>&1)"

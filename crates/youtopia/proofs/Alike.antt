@@ -2,6 +2,7 @@
 use Rattle.std.proofs.Common.{◌≡◌, ◌∙◌, ℕ, Bool, List, ap, ap₂, sym, subst}
 use Rattle.yt_command.specs.Devices.{Change}
 use Rattle.yt_command.specs.Outputs.{OutputView}
+use Rattle.yt_auditing.specs.Audited.{audited}
 use Rattle.yt_commands.specs.Asked.{asked}
 use Rattle.yt_commands.specs.Commands.{on_session, on_session_by}
 use Rattle.yt_commands.specs.Journaled.{journaled}
@@ -14,7 +15,7 @@ use Rattle.yt_run.specs.Runs.{running}
 use Rattle.yt_run.specs.Written.{WroteRun}
 use Rattle.yt_words.specs.Alike.{AreAlike}
 use Rattle.yt_words.specs.declared.names.CommandName.{CommandName}
-use Rattle.yt_words.specs.declared.names.CommandName.TheVariants.{Run, Serial, Format, Save, Ask, Explain, Drill, Journal}
+use Rattle.yt_words.specs.declared.names.CommandName.TheVariants.{Run, Serial, Format, Save, Ask, Explain, Audit, Drill, Journal}
 use Rattle.yt_words.specs.declared.reading.Options.{Options}
 use Rattle.youtopia.specs.Calls.{deps_of, makes, settings_in}
 use Rattle.youtopia.specs.Promises.{HasQuery, Wrote}
@@ -55,6 +56,8 @@ same_makes Explain o p input x same a =
 same_makes Run o p input x same a = run_like (λ trace n c. on_session_by (running trace n c) input x) o p same a
 same_makes Serial o p input x same a = subst (λ (n : ℕ). on_session (ran n) input x) same.steps a
 same_makes Save o p input x same a = subst (λ (n : ℕ). on_session (kept n) input x) same.steps a
+same_makes Audit o p input x same a =
+    subst (λ (c : Settings). audited p.steps c input x) (same_settings o p same) (subst (λ (n : ℕ). audited n (settings_in o) input x) same.steps a)
 same_makes Drill o p input x same a = drill_like (λ n count seed. drilling n count seed input x) o p same a
 same_makes Journal o p input x same a = subst (λ (n : ℕ). on_session (journaled n) input x) same.steps a
 same_makes Format o p input x same a = a

@@ -7,6 +7,7 @@ use Rattle.yt_command.specs.Rows.{Row}
 use Rattle.yt_command.specs.Statuses.{status_of}
 use Rattle.yt_command.specs.declared.statuses.Status.{Status}
 use Rattle.yt_command.specs.declared.statuses.Status.TheVariants.{OutOfMemory}
+use Rattle.yt_auditing.specs.Audited.{audited}
 use Rattle.yt_commands.specs.Commands.{on_session, on_session_by}
 use Rattle.yt_commands.specs.Journaled.{recovering}
 use Rattle.yt_commands.specs.Runs.{ran}
@@ -42,6 +43,16 @@ OneRecovered = (input : List ℕ) (x y : OutputView) → recovering input x → 
 abbrev pub OneRun : Type 0
 OneRun = (trace : Bool) (n : ℕ) (c : Settings) (input : List ℕ) (x y : OutputView) → on_session_by (running trace n c) input x → on_session (ran n) input y
     → status_of x ≡ status_of y
+
+-- an audited input has one output
+abbrev pub OneAudited : Type 0
+OneAudited = (n : ℕ) (c : Settings) (input : List ℕ) (x y : OutputView) → audited n c input x → audited n c input y → x ≡ y
+
+-- these laws together
+pub record StatusLaws : Type 0 where
+  pub recovered : OneRecovered
+  pub runs : OneRun
+  pub audited : OneAudited
 
 -- the same request, with what was done
 abbrev pub Done : Request → List Letters → Status → Change → Change → Change → Type 0

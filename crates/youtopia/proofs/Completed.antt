@@ -14,7 +14,7 @@ use Rattle.yt_words.specs.declared.reading.Options.{Options}
 use Rattle.yt_words.specs.declared.reading.Request.{Request}
 use Rattle.yt_words.specs.declared.reading.Request.TheVariants.{Command, Help, Version}
 use Rattle.youtopia.proofs.Alike.{same_makes}
-use Rattle.youtopia.proofs.Asked.{NeverBoth, OneThing, OneRecovered, OneRun, done}
+use Rattle.youtopia.proofs.Asked.{NeverBoth, OneThing, StatusLaws, done}
 use Rattle.youtopia.proofs.Due.{complete}
 use Rattle.youtopia.proofs.Statuses.{one_status}
 use Rattle.youtopia.specs.Calls.{Calls, Does, Performs, makes, telling}
@@ -37,11 +37,11 @@ row_done Drill p status source out err has did = did.0
 row_done Run p status source out err has row = row
 row_done _ p status source out err has row = row
 
-by_row : OneRecovered → OneRun → (k : CommandName) (p : Options) (status : Status) (source out err : Change) (input : List ℕ) (x : OutputView)
+by_row : StatusLaws → (k : CommandName) (p : Options) (status : Status) (source out err : Change) (input : List ℕ) (x : OutputView)
     → makes k p input x → Row status (makes k p) source out err → NothingFails input source out → (status ≡ status_of x) ⊎ (status ≡ OutOfMemory)
-by_row recovered runs k p status source out err input x made row fine =
+by_row laws k p status source out err input x made row fine =
     complete status (makes k p) source out err row input (status_of x) fine.held fine.short
-    (λ y it. one_status recovered runs k p input y x it made) fine.reads fine.writes
+    (λ y it. one_status laws k p input y x it made) fine.reads fine.writes
 
 by_telling : (text : List ℕ) (status : Status) (out err : Change) (input : List ℕ) (x : OutputView) → telling text input x
     → Row status (telling text) no_input out err → NothingFails input no_input out → (status ≡ status_of x) ⊎ (status ≡ OutOfMemory)
@@ -49,27 +49,27 @@ by_telling text status out err input x told row fine =
     complete status (telling text) no_input out err row input (status_of x) fine.held fine.short
     (λ y it. ap status_of (it ∙ sym told)) fine.reads fine.writes
 
-by_done : OneRecovered → OneRun → (words : List Letters) (status : Status) (source out err : Change) (request : Request) (input : List ℕ) (x : OutputView)
+by_done : StatusLaws → (words : List Letters) (status : Status) (source out err : Change) (request : Request) (input : List ℕ) (x : OutputView)
     → due request input x → NothingFails input (read_by request source) out → (other : Request) → AskTheSame request other
     → Performs other status source out err → (status ≡ status_of x) ⊎ (status ≡ OutOfMemory)
-by_done recovered runs words status source out err (Command o) input x made fine (Command p) same did =
+by_done laws words status source out err (Command o) input x made fine (Command p) same did =
     let it = subst (λ (k : CommandName). makes k p input x) same.command (same_makes o.command o p input x same made) in
-    by_row recovered runs p.command p status (read_for p.command source) out err input x it
+    by_row laws p.command p status (read_for p.command source) out err input x it
     (row_done p.command p status source out err (query_in p.command p input x it) did)
     (subst (λ (k : CommandName). NothingFails input (read_for k source) out) same.command fine)
-by_done recovered runs words status source out err (Command o) input x made fine Help same did = absurd same
-by_done recovered runs words status source out err (Command o) input x made fine Version same did = absurd same
-by_done recovered runs words status source out err Help input x told fine Help same did = by_telling _ status out err input x told did.0 fine
-by_done recovered runs words status source out err Help input x told fine (Command p) same did = absurd same
-by_done recovered runs words status source out err Help input x told fine Version same did = absurd same
-by_done recovered runs words status source out err Version input x told fine Version same did = by_telling _ status out err input x told did.0 fine
-by_done recovered runs words status source out err Version input x told fine (Command p) same did = absurd same
-by_done recovered runs words status source out err Version input x told fine Help same did = absurd same
+by_done laws words status source out err (Command o) input x made fine Help same did = absurd same
+by_done laws words status source out err (Command o) input x made fine Version same did = absurd same
+by_done laws words status source out err Help input x told fine Help same did = by_telling _ status out err input x told did.0 fine
+by_done laws words status source out err Help input x told fine (Command p) same did = absurd same
+by_done laws words status source out err Help input x told fine Version same did = absurd same
+by_done laws words status source out err Version input x told fine Version same did = by_telling _ status out err input x told did.0 fine
+by_done laws words status source out err Version input x told fine (Command p) same did = absurd same
+by_done laws words status source out err Version input x told fine Help same did = absurd same
 
-pub completes : NeverBoth → OneThing → OneRecovered → OneRun → (words : List Letters) (status : Status) (source out err : Change) → Calls words status source out err
+pub completes : NeverBoth → OneThing → StatusLaws → (words : List Letters) (status : Status) (source out err : Change) → Calls words status source out err
     → Completes words status source out
-completes never one recovered runs words status source out err calls = λ request input x asks made fine.
+completes never one laws words status source out err calls = λ request input x asks made fine.
     elim (done never one words status source out err request asks calls) [
       | inl wanting ↦ inr wanting
-      | inr did ↦ by_done recovered runs words status source out err request input x made fine did.0 did.1 did.3
+      | inr did ↦ by_done laws words status source out err request input x made fine did.0 did.1 did.3
     ]

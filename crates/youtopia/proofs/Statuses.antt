@@ -16,9 +16,9 @@ use Rattle.yt_grammar.specs.Sessions.{SessionData}
 use Rattle.yt_grammar.specs.Statements.{WrittenFact}
 use Rattle.yt_reader.specs.Facts.{SpellsFact}
 use Rattle.yt_words.specs.declared.names.CommandName.{CommandName}
-use Rattle.yt_words.specs.declared.names.CommandName.TheVariants.{Run, Serial, Format, Check, Save, Upgrade, Ask, Explain, Drill, Journal, Recover}
+use Rattle.yt_words.specs.declared.names.CommandName.TheVariants.{Run, Serial, Format, Check, Save, Upgrade, Ask, Explain, Audit, Drill, Journal, Recover}
 use Rattle.yt_words.specs.declared.reading.Options.{Options}
-use Rattle.youtopia.proofs.Asked.{OneRecovered, OneRun}
+use Rattle.youtopia.proofs.Asked.{OneRun, StatusLaws}
 use Rattle.youtopia.specs.Calls.{AsksFor, AsksWhy, makes, settings_in}
 
 one_ok : {A E : Type 0} (x y : A) → (let r : Result A E = Ok x in r) ≡ Ok y → x ≡ y
@@ -77,20 +77,21 @@ one_drill : (steps count seed : ℕ) (input : List ℕ) (x y : OutputView) → d
 unfolding drilling
 one_drill steps count seed input x y a b = ap status_of (a ∙ sym b)
 
-pub one_status : OneRecovered → OneRun → (k : CommandName) (options : Options) (input : List ℕ) (x y : OutputView) → makes k options input x
+pub one_status : StatusLaws → (k : CommandName) (options : Options) (input : List ℕ) (x y : OutputView) → makes k options input x
     → makes k options input y → status_of x ≡ status_of y
-one_status recovered runs Recover options input x y a b = recovered input x y a b
-one_status recovered runs Ask options input x y a b =
+one_status laws Recover options input x y a b = laws.recovered input x y a b
+one_status laws Audit options input x y a b = ap status_of (laws.audited options.steps (settings_in options) input x y a b)
+one_status laws Ask options input x y a b =
     one_of (asked options.steps b.0) input x y
     (subst (λ (q : WrittenAsk). on_session (asked options.steps q) input x) (one_asked options a.0 b.0 a.1 b.1) a.2) b.2
-one_status recovered runs Explain options input x y a b =
+one_status laws Explain options input x y a b =
     one_of (explained options.steps b.0) input x y
     (subst (λ (fact : WrittenFact). on_session (explained options.steps fact) input x) (one_why options a.0 b.0 a.1 b.1) a.2) b.2
-one_status recovered runs Run options input x y a b = one_run runs options input x y a b
-one_status recovered runs Serial options input x y a b = one_of (ran options.steps) input x y a b
-one_status recovered runs Save options input x y a b = one_of (kept options.steps) input x y a b
-one_status recovered runs Drill options input x y a b = one_drill options.steps options.count options.seed input x y a b
-one_status recovered runs Journal options input x y a b = one_of (journaled options.steps) input x y a b
-one_status recovered runs Format options input x y a b = one_of formatted input x y a b
-one_status recovered runs Upgrade options input x y a b = one_of upgraded_text input x y a b
-one_status recovered runs Check options input x y a b = one_of checked input x y a b
+one_status laws Run options input x y a b = one_run laws.runs options input x y a b
+one_status laws Serial options input x y a b = one_of (ran options.steps) input x y a b
+one_status laws Save options input x y a b = one_of (kept options.steps) input x y a b
+one_status laws Drill options input x y a b = one_drill options.steps options.count options.seed input x y a b
+one_status laws Journal options input x y a b = one_of (journaled options.steps) input x y a b
+one_status laws Format options input x y a b = one_of formatted input x y a b
+one_status laws Upgrade options input x y a b = one_of upgraded_text input x y a b
+one_status laws Check options input x y a b = one_of checked input x y a b

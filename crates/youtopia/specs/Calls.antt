@@ -12,6 +12,7 @@ use Rattle.yt_command.specs.declared.failures.Failure.TheVariants as failures
 use Rattle.yt_command.specs.declared.statuses.Status.{Status}
 use Rattle.yt_command.specs.declared.statuses.Status.TheVariants.{Usage, OutOfMemory}
 use Rattle.yt_ask.specs.Written.{WrittenAsk, SpellsAsk}
+use Rattle.yt_auditing.specs.Audited.{audited}
 use Rattle.yt_commands.specs.Asked.{asked}
 use Rattle.yt_commands.specs.Commands.{on_session, on_session_by, formatted, upgraded_text, checked}
 use Rattle.yt_commands.specs.Journaled.{journaled, recovering}
@@ -26,7 +27,7 @@ use Rattle.yt_words.specs.Alike.{text_of}
 use Rattle.yt_words.specs.Meaning.{Answers, AreInRange, is_refused}
 use Rattle.yt_words.specs.declared.help.TheConstants.{HELP, VERSION_LINE}
 use Rattle.yt_words.specs.declared.names.CommandName.{CommandName}
-use Rattle.yt_words.specs.declared.names.CommandName.TheVariants.{Run, Serial, Format, Check, Save, Upgrade, Ask, Explain, Drill, Journal, Recover}
+use Rattle.yt_words.specs.declared.names.CommandName.TheVariants.{Run, Serial, Format, Check, Save, Upgrade, Ask, Explain, Audit, Drill, Journal, Recover}
 use Rattle.yt_words.specs.declared.names.Deps.{Deps}
 use Rattle.yt_words.specs.declared.names.Deps.TheVariants.{Coarse, Precise}
 use Rattle.yt_words.specs.declared.reading.Options.{Options}
@@ -72,7 +73,8 @@ deps_of Precise = machine.Precise
 abbrev pub settings_in : Options → machine.Settings
 settings_in options = record { retries = options.retries; deps = deps_of options.deps }
 
--- what each command with its options makes of an input; `ask` asks the query that its option spells, `explain` explains the fact
+-- what each command with its options makes of an input; `ask` asks the query that its option spells, `explain` explains the fact,
+-- `audit` judges by the settings
 abbrev pub makes : CommandName → Options → Meaning
 makes Run options = on_session_by (running options.trace options.steps (settings_in options))
 makes Serial options = on_session (ran options.steps)
@@ -80,6 +82,7 @@ makes Format options = on_session formatted
 makes Check options = on_session checked
 makes Save options = on_session (kept options.steps)
 makes Upgrade options = on_session upgraded_text
+makes Audit options = audited options.steps (settings_in options)
 makes Drill options = drilling options.steps options.count options.seed
 makes Journal options = on_session (journaled options.steps)
 makes Recover options = recovering

@@ -2,12 +2,13 @@
 use Rattle.std.specs.Prelude.{◌≡◌, ◌⊎◌, ◌≤◌, ◌++◌, ℕ, List, Some, None, length}
 use Rattle.clap.specs.Words.{Text as Letters}
 use Rattle.yt_ask.specs.Written.{WrittenAsk}
+use Rattle.yt_claims.specs.Parts.{session_in}
 use Rattle.yt_command.specs.Devices.{Change, Fails, Takes, no_input}
 use Rattle.yt_command.specs.Outputs.{Meaning, OutputView}
 use Rattle.yt_command.specs.Statuses.{status_of, status_of_ending}
 use Rattle.yt_command.specs.declared.performing.TheConstants.{INPUT_LIMIT}
 use Rattle.yt_command.specs.declared.statuses.Status.{Status}
-use Rattle.yt_command.specs.declared.statuses.Status.TheVariants.{Ended, Stuck, OutOfMemory, TooLarge, QueryRefused}
+use Rattle.yt_command.specs.declared.statuses.Status.TheVariants.{Ended, Stuck, OutOfMemory, TooLarge, Refuted, QueryRefused}
 use Rattle.yt_commands.specs.Runs.{ending_by}
 use Rattle.yt_commands.specs.Written.{HasWritten, WroteWhatHolds}
 use Rattle.yt_drilling.specs.Drilling.{drill_told}
@@ -25,7 +26,7 @@ use Rattle.yt_summary.specs.Summaries.{summary_text}
 use Rattle.yt_words.specs.Meaning.{Answers}
 use Rattle.yt_words.specs.declared.help.TheConstants.{HELP, VERSION_LINE}
 use Rattle.yt_words.specs.declared.names.CommandName.{CommandName}
-use Rattle.yt_words.specs.declared.names.CommandName.TheVariants.{Run, Serial, Save, Ask, Explain, Drill, Journal, Recover}
+use Rattle.yt_words.specs.declared.names.CommandName.TheVariants.{Run, Serial, Save, Ask, Explain, Audit, Drill, Journal, Recover}
 use Rattle.yt_words.specs.declared.reading.Options.{Options}
 use Rattle.yt_words.specs.declared.reading.Request.{Request}
 use Rattle.yt_words.specs.declared.reading.Request.TheVariants.{Command, Help, Version}
@@ -68,6 +69,7 @@ MayEnd Serial status = (status ≡ Ended) ⊎ (status ≡ Stuck)
 MayEnd Save status = (status ≡ Ended) ⊎ ((status ≡ Stuck) ⊎ (status ≡ TooLarge))
 MayEnd Ask status = (status ≡ Ended) ⊎ ((status ≡ Stuck) ⊎ (status ≡ QueryRefused))
 MayEnd Explain status = (status ≡ Ended) ⊎ (status ≡ Stuck)
+MayEnd Audit status = (status ≡ Ended) ⊎ (status ≡ Refuted)
 MayEnd Journal status = (status ≡ Ended) ⊎ ((status ≡ Stuck) ⊎ (status ≡ TooLarge))
 MayEnd command status = status ≡ Ended
 
@@ -83,12 +85,17 @@ HasQuery Ask options = (q : WrittenAsk) × AsksFor options q
 HasQuery Explain options = (fact : WrittenFact) × AsksWhy options fact
 HasQuery command options = Unit {0}
 
+-- the part of an input that is read as a session: of `audit` that before the trace, else all
+abbrev pub session_for : CommandName → List ℕ → List ℕ
+session_for Audit input = session_in input
+session_for command input = input
+
 -- Accepted words of a command on sessions, a session whose base meets its mappings, and nothing fails: the command ends so,
 -- or memory was wanting.
 abbrev pub Serves : List Letters → Status → Change → Change → Type 0
 Serves words status source out =
     (options : Options) (input : List ℕ) (s : SessionData) → Answers words (Command options) → ReadsSession options.command
-    → HasQuery options.command options → Spells input s → base_violation s ≡ None → NothingFails input source out
+    → HasQuery options.command options → Spells (session_for options.command input) s → base_violation s ≡ None → NothingFails input source out
     → MayEnd options.command status ⊎ (status ≡ OutOfMemory)
 
 -- the commands that write the result of a run

@@ -1,6 +1,7 @@
 //! The program: one command between standard input, standard output and the standard error stream.
 #![tactic(auto)]
 
+mod auditing;
 mod explaining;
 mod plain;
 mod telling;

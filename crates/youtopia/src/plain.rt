@@ -5,6 +5,7 @@ ghost use Rattle.yt_command.specs.Devices.{change};
 ghost use Rattle.yt_words.specs.Meaning.{HasRanges};
 ghost use Rattle.youtopia.specs.Calls.{AsksFor, CallsPlainly, Does, DoesPlainly, LacksQuery, PerformsPlainly};
 
+use crate::auditing::audit_trace;
 use crate::explaining::explain_fact;
 use crate::telling::Telling;
 use std::alloc::Global;
@@ -66,6 +67,7 @@ fn command<S: Source, O: Sink, E: Sink>(
 ) -> Status
     requires some { 1 ≤ options.now.steps }
     requires most { options.now.steps ≤ 300 }
+    requires few { options.now.retries ≤ 4 }
     ensures does { DoesPlainly options.now.command options.now result
         (change S.left S.fault_count source.old source.new)
         (change O.taken O.fault_count out.old out.new)
@@ -82,6 +84,7 @@ fn command<S: Source, O: Sink, E: Sink>(
         CommandName::Upgrade => perform(alloc, &OnSession(Upgrade), source, out, err),
         CommandName::Ask => ask_query(alloc, options, source, out, err),
         CommandName::Explain => explain_fact(alloc, options, source, out, err),
+        CommandName::Audit => audit_trace(alloc, options, source, out, err),
         CommandName::Journal => perform(alloc, &OnSession(Journal { budget }), source, out, err),
         CommandName::Recover => perform(alloc, &Recover, source, out, err),
     }

@@ -6,6 +6,7 @@ use std::process::Abort;
 use std::sync::Wait;
 use std::test::Fail;
 use std::thread::Threads;
+use std::time::Clock;
 use yt_gate::{MeetGate, OpenGate};
 use yt_text::{MemSink, MemSource};
 
@@ -35,7 +36,7 @@ fn sink(alloc: Global, failing: u64) -> Result<MemSink, AllocError> {
 
 // The command `run` on the session, with a source and a sink that fail at these calls, ends with the status; `out` has
 // then taken `text` and `err` the line.
-fn ends<R: Abort + Threads + Wait + Sync>(
+fn ends<R: Abort + Threads + Wait + Clock + Sync>(
     rt: &R,
     alloc: Global,
     session: &[u8],
@@ -105,7 +106,7 @@ const CONFLICT: &[u8] =
     \"committed\":0,\"event\":\"stepped\",\"status\":\"ready\",\"update\":1,\"writes\":[\"+A(1)\"]}\n";
 
 // What `out` has taken of the command with these words on the session, done within the gate. The status is 0.
-fn told<R: Abort + Threads + Wait + Sync>(
+fn told<R: Abort + Threads + Wait + Clock + Sync>(
     rt: &R,
     alloc: Global,
     line: &[&str],

@@ -9,6 +9,8 @@ use crate::workers::{ByWorkers, by_workers, work};
 use std::alloc::Global;
 use std::sync::Wait;
 use std::thread::Threads;
+use std::time::Clock;
+use yt_auditing::audited_inputs_have_one_output;
 use yt_base::Memory;
 use yt_command::{Failure, Status, fail};
 use yt_commands::{performed_runs_write_what_holds, recovered_inputs_have_one_status};
@@ -38,7 +40,7 @@ fn work_asked_for<'a>(alloc: Global, words: &'a [String]) -> Result<Option<ByWor
 }
 
 // Does what the words ask for, or refuses them.
-fn answer<R: Threads + Wait + Sync, G: Gate + Sync, S: Source, O: Sink, E: Sink>(
+fn answer<R: Threads + Wait + Clock + Sync, G: Gate + Sync, S: Source, O: Sink, E: Sink>(
     rt: &R,
     gate: &G,
     alloc: Global,
@@ -70,7 +72,7 @@ fn answer<R: Threads + Wait + Sync, G: Gate + Sync, S: Source, O: Sink, E: Sink>
 /// serial machine's result on the session that it generates. Where nothing fails the status is that of the output
 /// which is due, or memory was wanting: of a session whose base meets its mappings a run ends, or stops at a question. In the
 /// repository that it writes every mapping in force holds.
-pub fn youtopia<R: Threads + Wait + Sync, G: Gate + Sync, S: Source, O: Sink, E: Sink>(
+pub fn youtopia<R: Threads + Wait + Clock + Sync, G: Gate + Sync, S: Source, O: Sink, E: Sink>(
     rt: &R,
     alloc: Global,
     words: &[String],
@@ -104,5 +106,6 @@ pub fn youtopia<R: Threads + Wait + Sync, G: Gate + Sync, S: Source, O: Sink, E:
     performed_runs_write_their_trace();
     performed_runs_write_what_holds();
     recovered_inputs_have_one_status();
+    audited_inputs_have_one_output();
     answer(rt, gate, alloc, words, source, out, err)
 }

@@ -10,6 +10,7 @@ ghost use Rattle.youtopia.specs.Calls.{Does, DoesWork, HasRangesIn, IsNamedBy, i
 use std::alloc::Global;
 use std::sync::Wait;
 use std::thread::Threads;
+use std::time::Clock;
 use yt_command::Status;
 use yt_drill::Count;
 use yt_gate::Gate;
@@ -56,7 +57,7 @@ fn settings_in(options: &Options<'_>) -> Settings
 }
 
 /// Does the work between the devices.
-pub(crate) fn work<R: Threads + Wait + Sync, G: Gate + Sync, S: Source, O: Sink, E: Sink>(
+pub(crate) fn work<R: Threads + Wait + Clock + Sync, G: Gate + Sync, S: Source, O: Sink, E: Sink>(
     rt: &R,
     gate: &G,
     alloc: Global,
@@ -78,7 +79,7 @@ pub(crate) fn work<R: Threads + Wait + Sync, G: Gate + Sync, S: Source, O: Sink,
 }
 
 // Does `run` with these options between the devices.
-fn run<R: Threads + Wait + Sync, G: Gate + Sync, S: Source, O: Sink, E: Sink>(
+fn run<R: Threads + Wait + Clock + Sync, G: Gate + Sync, S: Source, O: Sink, E: Sink>(
     rt: &R,
     gate: &G,
     alloc: Global,
@@ -102,7 +103,7 @@ fn run<R: Threads + Wait + Sync, G: Gate + Sync, S: Source, O: Sink, E: Sink>(
 }
 
 // Does `drill` with these options. It reads nothing.
-fn drill<R: Threads + Wait + Sync, G: Gate + Sync, O: Sink, E: Sink>(
+fn drill<R: Threads + Wait + Clock + Sync, G: Gate + Sync, O: Sink, E: Sink>(
     rt: &R,
     gate: &G,
     alloc: Global,

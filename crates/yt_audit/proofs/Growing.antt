@@ -1,6 +1,6 @@
 -- A history whose admissions come first grows by the entry of what is due.
-use Rattle.std.specs.Prelude.{◌≡◌, ◌+◌, ◌<◌, ◌≤◌, ℕ, suc, Bool, List, [], ◌∷◌, ◌++◌, map, length, Option, Some, None, option_map, slice_get}
-use Rattle.std.proofs.Common.{refl, sym, ap, ◌∙◌, arith, inl, inr}
+use Rattle.std.specs.Prelude.{◌≡◌, ◌+◌, ◌<◌, ◌≤◌, ℕ, suc, Bool, List, [], ◌∷◌, ◌++◌, map, length, min, Option, Some, None, option_map, slice_get}
+use Rattle.std.proofs.Common.{refl, sym, ap, subst, ◌∙◌, arith, inl, inr}
 use Rattle.std.proofs.lemmas.Bool.{cases_lt}
 use Rattle.std.proofs.lemmas.Option.{none-some, same_Some, slice_get_within}
 use Rattle.yt_history.specs.Cores.{Ground, machine, session_over, entries_over, updates_after, IsLegalOver, effect_after, grown}
@@ -17,8 +17,9 @@ use Rattle.yt_model.specs.Repository.{IsRepository}
 use Rattle.yt_replay.specs.Replays.{IsReplayOf}
 use Rattle.yt_replay.specs.declared.replays.Replay.{Replay}
 use Rattle.yt_claims.specs.Told.{Told, Admission, Step, Delivery, Answer, Withdrawal}
+use Rattle.yt_claimed.specs.Claimed.{told_by}
 use Rattle.yt_audit.specs.Judging.{Replays}
-use Rattle.yt_audit.specs.Verdicts.{AdmitsFirst, IsDue, event_told}
+use Rattle.yt_verdicts.specs.Verdicts.{AdmitsFirst, IsDue, IsTurn, event_told}
 
 -- ---- one more at the end
 
@@ -81,17 +82,59 @@ module _ (g : Ground) where
       by None done = absurd (none-some y done)
       by (Some s) done = ap (λ (z : Effect (machine g)). z.entry) (sym (same_Some (admit_effect (machine g) (updates_after g H) s) y done))
 
+  -- ---- what an entry tells
+
+  -- the event that an entry of the machine tells
+  abbrev told_of : Entry (machine g) → Told
+  told_of (Admitted i) = Admission i
+  told_of (Stepped e) = Step e.update
+  told_of (Delivered i s) = Delivery i
+  told_of (Answered i c s) = Answer i c
+  told_of (Withdrew i cs n) = Withdrawal i
+
+  plain_told : (e : Entry (machine g)) → told_by (plain_entry g.rules g.budget e) ≡ told_of e
+  plain_told (Admitted i) = refl
+  plain_told (Stepped e) = refl
+  plain_told (Delivered i s) = refl
+  plain_told (Answered i c s) = refl
+  plain_told (Withdrew i cs n) = refl
+
+  -- where something is done at an update, its entry tells that
+  at_update : (us : List (Update (machine g))) (i : ℕ) (allowed : ℕ → Update (machine g) → Bool) (f : ℕ → Update (machine g) → Effect (machine g)) (y : Effect (machine g)) (told : ℕ → Told)
+      → ((k : ℕ) (u : Update (machine g)) → told_of (f k u).entry ≡ told (suc k)) → where_allowed us i allowed f ≡ Some y → told_of y.entry ≡ told i
+  at_update us i allowed f y told each done =
+      let at = allowed_is us i allowed f y done in
+      ap (λ (z : Effect (machine g)). told_of z.entry) (sym at.made) ∙ each at.place at.item ∙ ap told (sym at.number)
+
+  -- the effect of an event that is due tells the event, where as many updates are admitted as there are entries, up to all
+  effect_tells : (H : List PlainEntry) (e : Told) → length (updates_after g H) ≡ min (length H) (length g.requests) → IsDue g H e → (y : Effect (machine g))
+      → effect_after g H (event_told g e) ≡ Some y → told_of y.entry ≡ e
+  effect_tells H (Admission u) many due y done =
+      let here : length (updates_after g H) ≡ length H = omega (arith, many, due.0) in
+      ap told_of (admission H y done) ∙ ap (λ n. Admission (suc n)) here ∙ ap Admission (sym due.1)
+  effect_tells H (Step u) many due y done = at_update (updates_after g H) u (may_step (machine g) g.settings (updates_after g H)) (step_effect (machine g) g.settings (session_over g) (updates_after g H)) y Step (λ k v. refl) done
+  effect_tells H (Delivery u) many due y done = at_update (updates_after g H) u (may_deliver (machine g) g.settings (updates_after g H)) (deliver_effect (machine g) g.settings (updates_after g H)) y Delivery (λ k v. refl) done
+  effect_tells H (Answer u c) many due y done = at_update (updates_after g H) u (may_answer (machine g) g.settings (updates_after g H) c) (answer_effect (machine g) g.settings (updates_after g H) c) y (λ n. Answer n c) (λ k v. refl) done
+  effect_tells H (Withdrawal u) many due y done = at_update (updates_after g H) u (may_withdraw (machine g) (updates_after g H)) (withdraw_effect (machine g) g.settings (session_over g) (updates_after g H)) y Withdrawal (λ k v. refl) done
+
+  -- the entry by which the entries have grown tells the event
+  pub entry_tells : (H : List PlainEntry) (e : Told) (x : PlainEntry) → length (updates_after g H) ≡ min (length H) (length g.requests) → IsDue g H e
+      → grown g H (event_told g e) ≡ Some (H ++ x ∷ []) → told_by x ≡ e
+  entry_tells H e x many due more =
+      let made = made_by H (event_told g e) x more in
+      ap told_by (sym made.entry) ∙ plain_told made.made.entry ∙ effect_tells H e many due made.made made.is
+
   -- ---- what comes first
 
   -- the place of an entry in a history with one more
-  first_more : (H : List PlainEntry) (x : PlainEntry) → AdmitsFirst g H → (length H < length g.requests → x ≡ WasAdmitted (suc (length H))) → AdmitsFirst g (H ++ x ∷ [])
-  first_more H x first next k e below there = elim (cases_lt k (length H)) [
-    | inl before ↦ first k e below (sym (pushed_same H (x ∷ []) k before) ∙ there)
+  first_more : (H : List PlainEntry) (x : PlainEntry) → AdmitsFirst g H → IsTurn g (length H) (told_by x) → AdmitsFirst g (H ++ x ∷ [])
+  first_more H x first turn k e there = elim (cases_lt k (length H)) [
+    | inl before ↦ first k e (sym (pushed_same H (x ∷ []) k before) ∙ there)
     | inr behind ↦
         let within : k < length (H ++ x ∷ []) = slice_get_within (H ++ x ∷ []) k e there in
         let last : k ≡ length H = omega (arith, within, length_more H x, behind) in
         let is : x ≡ e = same_Some x e (sym (last_is H x) ∙ ap (slice_get (H ++ x ∷ [])) (sym last) ∙ there) in
-        sym is ∙ next (omega (arith, last, below)) ∙ ap (λ n. WasAdmitted (suc n)) (sym last)
+        subst (λ n. IsTurn g n (told_by e)) (sym last) (subst (λ y. IsTurn g (length H) (told_by y)) is turn)
   ]
 
   -- ---- the whole
@@ -110,7 +153,7 @@ module _ (g : Ground) where
         let made = made_by H (event_told g e) x more in
         let none : is_admission x ≡ 0 = ap is_admission (sym made.entry) ∙ plain_admission made.made.entry ∙ no_admission H e whole due made.made made.is in
         record {
-          history = record { legal = after.left.legal; first = first_more H x stands.history.first (λ below. absurd (omega (arith, below, whole))) };
+          history = record { legal = after.left.legal; first = first_more H x stands.history.first (subst (IsDue g H) (sym (entry_tells H e x stands.admitted due more)) due) };
           admitted = omega (arith, admitted_more stands after, none, stands.admitted, length_more H x, whole);
           replay = after;
         }
@@ -123,7 +166,7 @@ module _ (g : Ground) where
         let entry : x ≡ WasAdmitted (suc (length H)) = sym made.entry ∙ ap (plain_entry g.rules g.budget) is in
         let one : is_admission x ≡ 1 = ap is_admission entry in
         record {
-          history = record { legal = after.left.legal; first = first_more H x stands.history.first (λ below. entry) };
+          history = record { legal = after.left.legal; first = first_more H x stands.history.first (subst (IsDue g H) (sym (entry_tells H (Admission u) x stands.admitted due more)) due) };
           admitted = omega (arith, admitted_more stands after, here, one, length_more H x, due.0);
           replay = after;
         }

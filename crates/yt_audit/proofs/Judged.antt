@@ -12,7 +12,8 @@ use Rattle.yt_replay.specs.Replays.{IsReplayOf, IsWholeReplay}
 use Rattle.yt_replay.specs.declared.replays.Replay.{Replay}
 use Rattle.yt_claims.specs.Forms.{HasLines, HasNoLines, IsCounted, IsOf, ended}
 use Rattle.yt_audit.specs.Judging.{AfterLine, IsVerdictIn, Replays, Stands}
-use Rattle.yt_audit.specs.Verdicts.{counted, IsFaultIn, at, IsVerdict, Trial, Verdict, Yes, No, why_of}
+use Rattle.yt_verdicts.specs.Verdicts.{counted, IsFaultIn, at, IsVerdict, Trial, Verdict, Yes, No}
+use Rattle.yt_audit.specs.Verdicts.{why_of}
 use Rattle.yt_audit.specs.declared.verdicts.Why.{Why}
 use Rattle.yt_audit.proofs.Lined.{ends, goes_on, trace_of}
 
@@ -80,7 +81,12 @@ module _ (g : Ground) (H : List PlainEntry) (r : Replay) (stands : Replays g H r
 -- ---- the whole text
 
 pub verdict_on : (t : Trial) (text : List ℕ) (lines : List (List ℕ)) (v : Verdict) → HasLines text lines → IsVerdictIn t lines v → IsVerdict t text v
-verdict_on t text lines (Yes n quiet) has yes_ = (yes_.0, record { same = trace_of t.relations text lines yes_.0 has yes_.2; history = yes_.1; all_admitted = yes_.3 }, yes_.4, yes_.5)
+verdict_on t text lines (Yes n quiet) has yes_ = (
+  yes_.0,
+  record { same = trace_of t.relations text lines yes_.0 has yes_.2; history = yes_.1; lines = lines; form = has; told = yes_.2; all_admitted = yes_.3 },
+  yes_.4,
+  yes_.5,
+)
 verdict_on t text lines (No line why) has fault = counted lines line why has fault
 
 pub counted_lines : (text rest : List ℕ) (lines : List (List ℕ)) → IsCounted text rest lines → HasLines text lines
@@ -91,9 +97,9 @@ pub stands_first : (t : Trial) (r : Replay) → IsReplayOf t.over [] r → Stand
 stands_first t r begun = record {
   H = [];
   replays = record {
-    history = record { legal = begun.left.legal; first = λ k e below there. absurd (none-some e there) };
+    history = record { legal = begun.left.legal; first = λ k e there. absurd (none-some e there) };
     admitted = let none : length (updates_after t.over []) ≡ 0 = refl in omega (arith, none);
     replay = begun;
   };
-  told = refl;
+  told = tt;
 }

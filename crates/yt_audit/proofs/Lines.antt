@@ -14,9 +14,9 @@ use Rattle.yt_trace.specs.Traces.{entry_line}
 use Rattle.yt_claims.specs.Claims.{Tells, TellsNothing}
 use Rattle.yt_claims.specs.Told.{Told}
 use Rattle.yt_audit.specs.Judging.{HasEvent, HasJudged}
-use Rattle.yt_audit.specs.Verdicts.{Trial}
+use Rattle.yt_verdicts.specs.Verdicts.{Trial}
 use Rattle.yt_audit.specs.declared.verdicts.Why.TheVariants as whys
-use Rattle.yt_audit.proofs.Growing.{grows}
+use Rattle.yt_audit.proofs.Growing.{entry_tells, grows}
 use Rattle.yt_audit.proofs.Lined.{line_more}
 
 module _ (relations : List RelationSchema) (line : List ℕ) (old new : Replay) where
@@ -61,7 +61,10 @@ module _ (relations : List RelationSchema) (line : List ℕ) (old new : Replay) 
           record {
             H = stands.H ++ entry_of entry ∷ [];
             replays = grows t.over (law t stands.H stands.replays.replay) stands.H old new (entry_of entry) e stands.replays is.0 (ap (grown t.over stands.H) (sym is.1) ∙ more.0) more.1;
-            told = line_more t.relations lines stands.H line (entry_of entry) stands.told (ap (λ rs. entry_line rs (entry_of entry)) same ∙ sym own);
+            told = line_more t.relations lines stands.H line (entry_of entry) stands.told (record {
+              text = own ∙ ap (λ rs. entry_line rs (entry_of entry)) (sym same);
+              tells = subst (Tells t.relations line) (sym (entry_tells t.over stands.H e (entry_of entry) stands.replays.admitted is.0 (ap (grown t.over stands.H) (sym is.1) ∙ more.0))) (tells_of t same);
+            });
           }
 
 -- It stays a replay.

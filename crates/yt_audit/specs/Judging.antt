@@ -8,7 +8,8 @@ use Rattle.yt_replay.specs.declared.events.Event.{Event}
 use Rattle.yt_replay.specs.declared.replays.Replay.{Replay}
 use Rattle.yt_claims.specs.Forms.{IsOf}
 use Rattle.yt_claims.specs.Told.{Told}
-use Rattle.yt_audit.specs.Verdicts.{AreLinesOf, IsDue, IsFaultIn, IsHistory, IsWrong, Trial, Verdict, Yes, No, event_told, is_quiet_after, why_of}
+use Rattle.yt_verdicts.specs.Verdicts.{AreLinesOf, IsDue, IsFaultIn, IsHistory, IsWrong, Trial, Verdict, Yes, No, event_told, is_quiet_after}
+use Rattle.yt_audit.specs.Verdicts.{why_of}
 use Rattle.yt_audit.specs.declared.verdicts.Why.{Why}
 
 -- As many updates are admitted as there are entries, up to all that the session has.

@@ -1,117 +1,11 @@
--- What a verdict on a trace means.
-use Rattle.std.specs.Prelude.{◌≡◌, ◌+◌, ◌<◌, ◌≤◌, ℕ, suc, Bool, true, false, List, [], ◌∷◌, ◌++◌, map, length, Some, None, slice_get, codes}
-use Rattle.std.specs.Fmt.{decimal}
-use Rattle.yt_grammar.specs.Checks.{rules_of}
-use Rattle.yt_grammar.specs.Sessions.{RelationSchema, SessionData}
-use Rattle.yt_history.specs.Cores.{Ground, machine, updates_after, effect_after, grown, IsLegalOver}
-use Rattle.yt_history.specs.PlainEntries.{PlainEntry, WasAdmitted}
-use Rattle.yt_machine.specs.Effects.{Event, Admits, Steps, Delivers, Answers, Withdraws}
-use Rattle.yt_machine.specs.Standings.{is_quiet}
-use Rattle.yt_seats.specs.Settings.{settings_of}
-use Rattle.yt_session.specs.Meanings.{requests_in}
-use Rattle.yt_trace.specs.Traces.{entry_line, trace_text}
-use Rattle.yt_claims.specs.Claims.{Tells, TellsNothing}
-use Rattle.yt_claims.specs.Forms.{HasLines, HasNoLines}
-use Rattle.yt_claims.specs.Told.{Told, Admission, Step, Delivery, Answer, Withdrawal}
-use Rattle.yt_audit.specs.declared.terms.Terms.{Terms}
+-- What the program's verdicts stand for.
+use Rattle.yt_verdicts.specs.Verdicts.{Verdict, Yes, No, Why, Form, NotAllowed, Effect}
 use Rattle.yt_audit.specs.declared.verdicts.Why.{Why as WhyOfProgram}
 use Rattle.yt_audit.specs.declared.verdicts.Why.TheVariants as whys
 use Rattle.yt_audit.specs.declared.verdicts.Verdict.{Verdict as VerdictOfProgram}
 use Rattle.yt_audit.specs.declared.verdicts.Verdict.TheVariants as verdicts
 
--- What is wrong with a line: it tells no event, or an event that is not allowed, or not what that event does.
-pub data Why : Type 0 where
-  Form : Why
-  NotAllowed : Why
-  Effect : Why
-
--- Yes, of so many entries, and whether it is quiet after them; or the first line at fault, and why.
-pub data Verdict : Type 0 where
-  Yes : ℕ → Bool → Verdict
-  No : ℕ → Why → Verdict
-
--- What a trace is judged by: the relations, and what its history is over.
-pub record Trial : Type 0 where
-  pub relations : List RelationSchema
-  pub over : Ground
-
--- The session with all its updates, by these terms.
-abbrev pub trial_of : SessionData → Terms → Trial
-trial_of s terms =
-    record {
-      relations = s.relations;
-      over = record { rules = rules_of s.mappings; budget = terms.budget; settings = settings_of terms.settings; base = s.base; requests = requests_in s; later = [] };
-    }
-
--- The event of a history.
-abbrev pub event_told : (g : Ground) → Told → Event (machine g)
-event_told g (Admission u) = Admits
-event_told g (Step u) = Steps u
-event_told g (Delivery u) = Delivers u
-event_told g (Answer u c) = Answers u c
-event_told g (Withdrawal u) = Withdraws u
-
--- The admissions of the session's updates come first, in order.
-abbrev pub AdmitsFirst : Ground → List PlainEntry → Type 0
-AdmitsFirst g H = (k : ℕ) (e : PlainEntry) → k < length g.requests → slice_get H k ≡ Some e → e ≡ WasAdmitted (suc k)
-
--- A legal history whose admissions come first.
-pub record IsHistory (g : Ground) (H : List PlainEntry) : Type 0 where
-  pub legal : IsLegalOver g H
-  pub first : AdmitsFirst g H
-
--- It is the turn of what is told, after these entries: the next update of the session is admitted, or all are.
-abbrev pub IsDue : Ground → List PlainEntry → Told → Type 0
-IsDue g H (Admission u) = (length H < length g.requests) × (u ≡ suc (length H))
-IsDue g H (Step u) = length g.requests ≤ length H
-IsDue g H (Delivery u) = length g.requests ≤ length H
-IsDue g H (Answer u c) = length g.requests ≤ length H
-IsDue g H (Withdrawal u) = length g.requests ≤ length H
-
--- The lines are those of the entries.
-abbrev pub AreLinesOf : List RelationSchema → List (List ℕ) → List PlainEntry → Type 0
-AreLinesOf relations lines H = map (entry_line relations) H ≡ map (λ line. line ++ 10 ∷ []) lines
-
--- This is wrong with a line that stands behind the text of these entries.
-abbrev pub IsWrong : Trial → List PlainEntry → List ℕ → Why → Type 0
-IsWrong t H line Form = TellsNothing t.relations line
-IsWrong t H line NotAllowed =
-    (e : Told) × Tells t.relations line e × (IsDue t.over H e → effect_after t.over H (event_told t.over e) ≡ None)
-IsWrong t H line Effect =
-    (e : Told) × (x : PlainEntry) × Tells t.relations line e × IsDue t.over H e
-    × (grown t.over H (event_told t.over e) ≡ Some (H ++ x ∷ [])) × (line ++ 10 ∷ [] ≡ entry_line t.relations x → ⊥)
-
--- The first line at fault among those behind the first, by its number from 1, and what is wrong with it.
-pub data IsFaultIn (t : Trial) (lines : List (List ℕ)) : ℕ → Why → Type 0 where
-  -- a line behind those that are the text of a history
-  at : (H : List PlainEntry) (before after : List (List ℕ)) (line : List ℕ) (why : Why) → lines ≡ before ++ line ∷ after
-      → IsHistory t.over H → AreLinesOf t.relations before H → IsWrong t H line why → IsFaultIn t lines (length before + 2) why
-  -- the end, before all updates of the session are admitted
-  early : (H : List PlainEntry) → IsHistory t.over H → AreLinesOf t.relations lines H → length H < length t.over.requests
-      → IsFaultIn t lines (length lines + 2) NotAllowed
-
--- The first line at fault in a text.
-pub data IsFault (t : Trial) (text : List ℕ) : ℕ → Why → Type 0 where
-  uncounted : HasNoLines text → IsFault t text 1 Form
-  counted : (lines : List (List ℕ)) (line : ℕ) (why : Why) → HasLines text lines → IsFaultIn t lines line why → IsFault t text line why
-
--- The text is that of a history, in which all updates of the session are admitted.
-pub record IsTraceOf (t : Trial) (text : List ℕ) (H : List PlainEntry) : Type 0 where
-  pub same : text ≡ trace_text t.relations H
-  pub history : IsHistory t.over H
-  pub all_admitted : length t.over.requests ≤ length H
-
--- Nothing is left to do after these entries.
-abbrev pub is_quiet_after : Ground → List PlainEntry → Bool
-is_quiet_after g H = is_quiet (machine g) g.settings (updates_after g H)
-
--- The verdict on a text: it is the trace of a history with so many entries, or this is its first fault.
-abbrev pub IsVerdict : Trial → List ℕ → Verdict → Type 0
-IsVerdict t text (Yes n quiet) = (H : List PlainEntry) × IsTraceOf t text H × (n ≡ length H) × (quiet ≡ is_quiet_after t.over H)
-IsVerdict t text (No line why) = IsFault t text line why
-
--- ---- what the program's types stand for, and how a verdict is told
-
+-- what a `Why` and a `Verdict` of the program stand for
 abbrev pub why_of : WhyOfProgram → Why
 why_of whys.Form = Form
 why_of whys.Event = NotAllowed
@@ -120,13 +14,3 @@ why_of whys.Effect = Effect
 abbrev pub verdict_of : VerdictOfProgram → Verdict
 verdict_of (verdicts.Yes entries quiet) = Yes entries quiet
 verdict_of (verdicts.No line why) = No line (why_of why)
-
-abbrev pub why_word : Why → List ℕ
-why_word Form = codes " form"
-why_word NotAllowed = codes " event"
-why_word Effect = codes " effect"
-
-abbrev pub verdict_text : Verdict → List ℕ
-verdict_text (Yes n true) = codes "yes entries " ++ (decimal n ++ codes " quiet")
-verdict_text (Yes n false) = codes "yes entries " ++ (decimal n ++ codes " open")
-verdict_text (No line why) = codes "no line " ++ (decimal line ++ why_word why)

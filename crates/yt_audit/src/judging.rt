@@ -9,7 +9,9 @@ ghost use Rattle.yt_replay.specs.Replays.{IsReplay};
 ghost use Rattle.yt_claims.specs.Claims.{claim_meant};
 ghost use Rattle.yt_claims.specs.Told.{Admission};
 ghost use Rattle.yt_audit.specs.Judging.{HasEnded, HasEvent, HasEventWhole, HasJudged, HasVerdict};
-ghost use Rattle.yt_audit.specs.Verdicts.{IsVerdict, trial_of, verdict_of};
+ghost use Rattle.yt_audit.specs.Verdicts.{verdict_of};
+ghost use Rattle.yt_seats.specs.Settings.{settings_of};
+ghost use Rattle.yt_verdicts.specs.Verdicts.{IsVerdict, trial_of};
 
 use crate::terms::Terms;
 use crate::verdicts::{Verdict, Why};
@@ -34,7 +36,8 @@ pub fn audit(
     requires valid { IsSession (session_of session.now) }
     requires met { base_violation (session_of session.now) ≡ None }
     ensures verdict { IfOk result (λ verdict.
-        IsVerdict (trial_of (session_of session.now) terms) trace.now (verdict_of verdict)) }
+        IsVerdict (trial_of (session_of session.now) terms.budget (settings_of terms.settings))
+        trace.now (verdict_of verdict)) }
 {
     let Some(lines) = counted_lines(alloc, trace)? else {
         return Ok(Verdict::No {

@@ -1,6 +1,7 @@
 //! What is told of a trace.
 ghost use Rattle.std.specs.Prelude.{◌≡◌, IfOk};
-ghost use Rattle.yt_audit.specs.Verdicts.{verdict_of, verdict_text};
+ghost use Rattle.yt_audit.specs.Verdicts.{verdict_of};
+ghost use Rattle.yt_verdicts.specs.Verdicts.{verdict_text};
 
 use std::alloc::Global;
 use yt_base::Memory;

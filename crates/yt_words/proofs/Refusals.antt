@@ -98,6 +98,7 @@ command_is_known command.Save = refl
 command_is_known command.Upgrade = refl
 command_is_known command.Ask = refl
 command_is_known command.Explain = refl
+command_is_known command.Audit = refl
 command_is_known command.Drill = refl
 command_is_known command.Journal = refl
 command_is_known command.Recover = refl

@@ -4,7 +4,7 @@ use Rattle.std.specs.List.{list_any}
 use Rattle.std.specs.Str.{bytes_eq}
 use Rattle.clap.specs.Words.{Text}
 use Rattle.yt_words.specs.declared.names.CommandName.{CommandName}
-use Rattle.yt_words.specs.declared.names.CommandName.TheVariants.{Run, Serial, Format, Check, Save, Upgrade, Ask, Explain, Drill, Journal, Recover}
+use Rattle.yt_words.specs.declared.names.CommandName.TheVariants.{Run, Serial, Format, Check, Save, Upgrade, Ask, Explain, Audit, Drill, Journal, Recover}
 use Rattle.yt_words.specs.declared.names.Deps.{Deps}
 use Rattle.yt_words.specs.declared.names.Deps.TheVariants.{Coarse, Precise}
 
@@ -18,13 +18,14 @@ command_text Save = codes "save"
 command_text Upgrade = codes "upgrade"
 command_text Ask = codes "ask"
 command_text Explain = codes "explain"
+command_text Audit = codes "audit"
 command_text Drill = codes "drill"
 command_text Journal = codes "journal"
 command_text Recover = codes "recover"
 
 -- the commands that there are
 abbrev pub commands : List CommandName
-commands = Run ∷ Serial ∷ Format ∷ Check ∷ Save ∷ Upgrade ∷ Ask ∷ Explain ∷ Drill ∷ Journal ∷ Recover ∷ []
+commands = Run ∷ Serial ∷ Format ∷ Check ∷ Save ∷ Upgrade ∷ Ask ∷ Explain ∷ Audit ∷ Drill ∷ Journal ∷ Recover ∷ []
 
 -- whether the text is the word of a command
 abbrev pub is_command : Text → Bool

@@ -22,6 +22,7 @@ Commands:
   upgrade   print the session in the newest format
   ask       run the updates; print the certain answers to a query
   explain   run the updates; print why a tuple is in what they left
+  audit     read a session and a trace; tell whether the trace is of a legal run
   drill     run the updates of a generated session; print what that comes to
   journal   run the updates, and write what they commit as a journal
   recover   read a journal; print its number of commits and what they left
@@ -42,8 +43,8 @@ Options:
 Statuses:
   0 done   1 stuck at a frontier   2 words refused   3 session refused
   4 base violates a mapping   5 read fault   6 write fault
-  7 out of memory   8 input too long   9 result too large   11 query refused
-  12 journal damaged
+  7 out of memory   8 input too long   9 result too large   10 trace refuted
+  11 query refused   12 journal damaged
 
 Example:
   youtopia run --steps 50 < travel.session

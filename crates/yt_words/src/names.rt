@@ -23,6 +23,8 @@ pub enum CommandName {
     Ask,
     /// Runs a session's updates one after the other, and prints why a tuple is in what they left.
     Explain,
+    /// Tells whether a trace is that of a legal history of a session.
+    Audit,
     /// Runs the updates of a session that is generated from a seed, and prints what that comes to.
     Drill,
     /// Runs a session's updates one after the other, and writes what they commit as a journal.
@@ -69,6 +71,9 @@ pub(crate) fn command_named(text: &str) -> Option<CommandName>
     }
     if text == "explain" {
         return Some(CommandName::Explain);
+    }
+    if text == "audit" {
+        return Some(CommandName::Audit);
     }
     if text == "drill" {
         return Some(CommandName::Drill);

@@ -15,13 +15,19 @@ returns-clause-drills g c =
 
 pub returns-clause-complete : goal.returns-clause-complete
 returns-clause-complete g c =
-    completes c.words_are_answered_or_refused.ensures.never_both c.words_ask_for_one_thing.ensures c.recovered_inputs_have_one_status.ensures
-    c.runs_have_the_serial_status.ensures _ _ _ _ _ c.answer.ensures.calls
+    completes c.words_are_answered_or_refused.ensures.never_both c.words_ask_for_one_thing.ensures record {
+      recovered = c.recovered_inputs_have_one_status.ensures;
+      runs = c.runs_have_the_serial_status.ensures;
+      audited = c.audited_inputs_have_one_output.ensures;
+    } _ _ _ _ _ c.answer.ensures.calls
 
 pub returns-clause-serves : goal.returns-clause-serves
 returns-clause-serves g c =
-    serves c.words_are_answered_or_refused.ensures.never_both c.words_ask_for_one_thing.ensures c.recovered_inputs_have_one_status.ensures
-    c.runs_have_the_serial_status.ensures _ _ _ _ _ c.answer.ensures.calls
+    serves c.words_are_answered_or_refused.ensures.never_both c.words_ask_for_one_thing.ensures record {
+      recovered = c.recovered_inputs_have_one_status.ensures;
+      runs = c.runs_have_the_serial_status.ensures;
+      audited = c.audited_inputs_have_one_output.ensures;
+    } _ _ _ _ _ c.answer.ensures.calls
 
 pub returns-clause-holds : goal.returns-clause-holds
 returns-clause-holds g c =

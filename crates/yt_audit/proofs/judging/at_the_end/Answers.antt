@@ -1,6 +1,6 @@
 use Rattle.std.specs.Prelude.{◌+◌}
 use Rattle.std.proofs.Common.{sym, subst, ◌∙◌}
-use Rattle.yt_audit.specs.Verdicts.{IsFaultIn, NotAllowed, early}
+use Rattle.yt_verdicts.specs.Verdicts.{IsFaultIn, NotAllowed, early}
 use Rattle.yt_audit.proofs.Judged.{all_are, some_are_not}
 use Rattle.yt_audit.proofs.Lined.{as_many}
 use Rattle.yt_audit.proofs.judging.at_the_end.Goals as goal

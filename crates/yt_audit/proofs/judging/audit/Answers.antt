@@ -2,7 +2,9 @@ use Rattle.std.specs.Prelude.{ℕ, List, IfNone, IfSome}
 use Rattle.std.proofs.Common.{refl, subst}
 use Rattle.yt_session.specs.Meanings.{session_of}
 use Rattle.yt_claims.specs.Forms.{HasNoLines, IsCounted}
-use Rattle.yt_audit.specs.Verdicts.{trial_of, uncounted, verdict_of}
+use Rattle.yt_audit.specs.Verdicts.{verdict_of}
+use Rattle.yt_seats.specs.Settings.{settings_of}
+use Rattle.yt_verdicts.specs.Verdicts.{trial_of, uncounted}
 use Rattle.yt_audit.proofs.Judged.{counted_lines, stands_first, verdict_on}
 use Rattle.yt_audit.proofs.judging.audit.Goals as goal
 
@@ -11,7 +13,7 @@ returns-in_default c = record { verdict = uncounted (subst (λ found. IfNone fou
 
 pub returns : goal.returns
 returns c =
-    let t = trial_of (session_of c.args.session.now) c.args.terms in
+    let t = trial_of (session_of c.args.session.now) c.args.terms.budget (settings_of c.args.terms.settings) in
     let counted = subst (λ found. IfSome found (λ rest. (lines : List (List ℕ)) × IsCounted c.args.trace.now rest.now lines)) c.in-Some.is c.in_ok-lines.ensures.lines in
     let stands = stands_first t c.in_ok-replay.replay c.in_ok-replay.ensures.begun in
     record {

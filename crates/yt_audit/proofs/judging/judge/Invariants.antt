@@ -3,7 +3,7 @@ use Rattle.std.specs.Prelude.{ℕ}
 use Rattle.yt_claims.specs.Forms.{IsOf}
 use Rattle.yt_replay.specs.Replays.{IsReplay}
 use Rattle.yt_audit.specs.Judging.{Stands}
-use Rattle.yt_audit.specs.Verdicts.{Trial}
+use Rattle.yt_verdicts.specs.Verdicts.{Trial}
 use Rattle.yt_audit.proofs.Judged.{Behind}
 use Rattle.yt_audit.proofs.judging.judge.Given as goal
 

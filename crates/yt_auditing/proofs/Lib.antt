@@ -1,0 +1,3 @@
+mod Audits
+mod Fronts
+mod OneOutput

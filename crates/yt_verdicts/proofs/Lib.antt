@@ -1,0 +1,5 @@
+pub mod Cuts
+mod Histories
+mod One
+mod Printed
+mod Having
