@@ -8,7 +8,7 @@ _youtopia() {
   esac
   case $word in
     -*) COMPREPLY=($(compgen -W "--workers --deps --steps --retries --trace --query --tuple --count --seed --help --version" -- "$word")) ;;
-    *) COMPREPLY=($(compgen -W "run serial format check save upgrade ask explain drill journal recover" -- "$word")) ;;
+    *) COMPREPLY=($(compgen -W "run serial format check save upgrade ask explain audit drill journal recover" -- "$word")) ;;
   esac
 }
 complete -F _youtopia youtopia
