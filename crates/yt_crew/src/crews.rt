@@ -9,11 +9,12 @@ use std::sync::Wait;
 use std::thread;
 use std::thread::Threads;
 use std::time::Clock;
-use yt_gate::{Bench, Gate, work};
+use yt_gate::{Bench, Gate, Places, work};
 
 /// Lets a worker work from each of the seats until nothing is left to do, each in a thread of its own, and gives the seats
-/// back in their order. Where no thread can be made the calling thread works in its place. On Ok each seat is at rest;
-/// `AllocError` comes where a worker, or the crew itself, had no memory.
+/// back in their order. As many of them are at work at once as there are processors for them, but two at least. Where no
+/// thread can be made the calling thread works in its place. On Ok each seat is at rest; `AllocError` comes where a worker,
+/// or the crew itself, had no memory.
 pub fn work_all<
     R: Threads + Wait + Clock + Sync,
     G: Gate + Sync,
@@ -33,7 +34,8 @@ pub fn work_all<
         return (seats, Err(AllocError));
     };
     hire(seats, &mut workers);
-    attend(rt, bench, gate, workers.as_mut_slice());
+    let places = Places::new(rt);
+    attend(rt, bench, gate, &places, workers.as_mut_slice());
     let result = dismiss(workers, &mut back);
     (back, result)
 }
@@ -57,6 +59,7 @@ fn attend<R: Threads + Wait + Clock + Sync, G: Gate + Sync, S: Send, B: Bench<Se
     rt: &R,
     bench: &B,
     gate: &G,
+    places: &Places,
     workers: &mut [Worker<S>],
 )
     requires own { All (λ w. B.owns bench.now w.seat) workers.old }
@@ -72,7 +75,7 @@ fn attend<R: Threads + Wait + Clock + Sync, G: Gate + Sync, S: Send, B: Bench<Se
             requires { B.owns bench.now worker.now.seat }
             ensures { Leaves (B.owns bench.entry.now) B.lock B.seat_number B.rests
                 worker.entry.now worker.exit.now }
-        { worker.result = work(rt, bench, &mut worker.seat, gate) },
+        { worker.result = work(rt, bench, &mut worker.seat, gate, places) },
     );
 }
 

@@ -54,6 +54,12 @@ impl Rest {
         }
     }
 
+    /// There was no place to work at.
+    pub(crate) fn stand_by<R: Wait>(&mut self, rt: &R) {
+        self.nap(rt);
+        self.count();
+    }
+
     fn count(&mut self) {
         self.vain = self.vain.saturating_add(1).min(DOUBLINGS);
     }

@@ -3,7 +3,7 @@ use crate::desk::Desk;
 use crate::worker::Worker;
 use std::sync::Wait;
 use std::time::Clock;
-use yt_gate::{Gate, work};
+use yt_gate::{Gate, Places, work};
 
 /// A worker's duty. Whatever it is, the seat stays the desk's own, in its place, and has seen no less.
 pub trait Duty {
@@ -19,11 +19,12 @@ pub trait Duty {
 #[derive(Drop)]
 pub struct Work<G: Gate> {
     pub gate: G,
+    pub places: Places,
 }
 
 impl<G: Gate> Duty for Work<G> {
     fn attend<R: Wait + Clock>(&self, rt: &R, desk: &Desk, worker: &mut Worker) {
-        worker.result = work(rt, desk, &mut worker.seat, &self.gate);
+        worker.result = work(rt, desk, &mut worker.seat, &self.gate, &self.places);
     }
 }
 

@@ -18,7 +18,7 @@ use std::io;
 use std::sync::Wait;
 use std::thread::Threads;
 use std::time::Clock;
-use yt_gate::MeetGate;
+use yt_gate::{MeetGate, Places};
 
 // Works off the tickets, and tells what came of them.
 fn show<R: Threads + Wait + Clock + Print + Sync>(
@@ -31,6 +31,7 @@ fn show<R: Threads + Wait + Clock + Print + Sync>(
 {
     let duty = Work {
         gate: MeetGate::new(),
+        places: Places::new(rt),
     };
     let Some(board) = run(rt, alloc, tickets, seats, &duty) else {
         return println!(rt; "no memory");
