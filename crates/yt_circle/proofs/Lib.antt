@@ -10,3 +10,4 @@ mod Lines
 mod Results
 mod Judged
 mod Audits
+mod Endings

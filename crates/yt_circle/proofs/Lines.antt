@@ -12,7 +12,7 @@ use Rattle.yt_circle.specs.Circle.{IsClosed}
 
 -- ---- a text that ends with a line feed
 
-abbrev is_fed : List ℕ → Bool
+abbrev pub is_fed : List ℕ → Bool
 is_fed [] = true
 is_fed (x ∷ []) = is_line_feed x
 is_fed (x ∷ y ∷ xs) = is_fed (y ∷ xs)
@@ -22,7 +22,7 @@ fed_behind [] = refl
 fed_behind (x ∷ []) = refl
 fed_behind (x ∷ y ∷ xs) = fed_behind (y ∷ xs)
 
-has_line : (x : ℕ) (xs : List ℕ) → is_some (slice_get (lines_in (x ∷ xs)) 0) ≡ true
+pub has_line : (x : ℕ) (xs : List ℕ) → is_some (slice_get (lines_in (x ∷ xs)) 0) ≡ true
 has_line x xs = by (is_line_feed x)
   where
     onto : (lines : List (List ℕ)) → is_some (slice_get (onto_first x lines) 0) ≡ true
@@ -37,7 +37,7 @@ onto_join : (x : ℕ) (ls ms : List (List ℕ)) → is_some (slice_get ls 0) ≡
 onto_join x [] ms some = absurd (false≢true some)
 onto_join x (l ∷ ls) ms some = refl
 
-lines_join : (xs ys : List ℕ) → is_fed xs ≡ true → lines_in (xs ++ ys) ≡ lines_in xs ++ lines_in ys
+pub lines_join : (xs ys : List ℕ) → is_fed xs ≡ true → lines_in (xs ++ ys) ≡ lines_in xs ++ lines_in ys
 lines_join [] ys fed = refl
 lines_join (x ∷ []) ys fed = rw fed refl
 lines_join (x ∷ y ∷ xs) ys fed = by (is_line_feed x) (lines_join (y ∷ xs) ys fed)

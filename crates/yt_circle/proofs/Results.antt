@@ -32,19 +32,19 @@ use Rattle.yt_circle.proofs.Lines.{bare_cut, before_behind, from_behind, line_cu
 
 -- ---- words without a line feed
 
-abbrev is_free : List ℕ → Bool
+abbrev pub is_free : List ℕ → Bool
 is_free bs = list_all (λ b. not (is_line_feed b)) bs
 
 not_true : (b : Bool) → not b ≡ true → b ≡ false
 not_true false e = refl
 not_true true e = cc
 
-free : (bs : List ℕ) → is_free bs ≡ true → Unfed bs
+pub free : (bs : List ℕ) → is_free bs ≡ true → Unfed bs
 free [] e = tt
 free (b ∷ bs) e = let p = and_parts (not (is_line_feed b)) (is_free bs) e in (not_true (is_line_feed b) p.0, free bs p.1)
 
 -- A name has no line feed; other words have none in any case.
-abbrev IsFree : Word → Type 0
+abbrev pub IsFree : Word → Type 0
 IsFree (name n) = Unfed n
 IsFree (number z) = Unit {0}
 IsFree (null u k) = Unit {0}
@@ -83,7 +83,7 @@ gap_free : (b : Bool) → Unfed (let g : List ℕ = if b then [] else 32 ∷ [] 
 gap_free true = tt
 gap_free false = (refl, tt)
 
-laid_free : (ws : List Word) → AllByRecursion IsFree ws → Unfed (laid_out ws)
+pub laid_free : (ws : List Word) → AllByRecursion IsFree ws → Unfed (laid_out ws)
 unfolding laid_out
 laid_free [] all = tt
 laid_free (w ∷ []) all = spelled_free w all.0

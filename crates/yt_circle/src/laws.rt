@@ -2,11 +2,14 @@
 ghost use Rattle.std.specs.Prelude.{◌≡◌, ℕ, List, None};
 ghost use Rattle.yt_circle.specs.Circle.{HasPrintable, IsAudited, IsCalled, IsInputOf, IsJudged, output_of, said_of};
 ghost use Rattle.yt_command.specs.Outputs.{OutputView};
+ghost use Rattle.yt_grammar.specs.Printing.{printed};
 ghost use Rattle.yt_seated.specs.Runs.{Run};
 ghost use Rattle.yt_session.specs.Base.{base_violation};
 ghost use Rattle.yt_verdicts.specs.Verdicts.{Verdict};
 
 use yt_auditing::audited_inputs_have_one_output;
+use yt_grammar::{sessions_are_read_again, words_are_read_again};
+use yt_inputs::inputs_are_statements;
 use yt_verdicts::{histories_have_their_verdict, verdicts_are_one};
 
 /// Every entry of a run can be printed: its update is one of the first 1,000, the numbers that it tells have at most 64 bits, and
@@ -35,4 +38,13 @@ pub fn what_run_writes_is_audited()
 {
     traces_of_runs_are_judged();
     audited_inputs_have_one_output();
+}
+
+/// The printed form of the session of a run is such an input.
+pub fn printed_sessions_are_inputs()
+    ensures { (r : Run) → IsCalled r → IsInputOf r (printed r.session) }
+{
+    inputs_are_statements();
+    sessions_are_read_again();
+    words_are_read_again();
 }

@@ -6,4 +6,7 @@
 
 mod laws;
 
-pub use crate::laws::{runs_are_printable, traces_of_runs_are_judged, what_run_writes_is_audited};
+pub use crate::laws::{
+    printed_sessions_are_inputs, runs_are_printable, traces_of_runs_are_judged,
+    what_run_writes_is_audited,
+};
