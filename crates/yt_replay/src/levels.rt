@@ -55,7 +55,8 @@ impl Levels {
     }
 
     /// Puts one more level above the others: the uppermost one with these writes made. It is refused only for want of
-    /// memory; the levels are then to be let go: they are as many as before, of other tuples.
+    /// memory; the levels are then to be let go: they are as many as before, and what
+    /// lies in them is left open.
     pub fn rise(&mut self, alloc: Global, writes: &[Write]) -> Result<(), Memory>
         ensures raised { OnOk result (self.new ≡ raised self.old (map change_of writes.now)) }
         ensures err { OnErr result (AreAsMany self.old self.new) }
@@ -66,7 +67,7 @@ impl Levels {
     }
 
     /// Takes the uppermost level away, where it is not the lowest too. It is refused only for want of memory; the levels are then
-    /// to be let go: they are one fewer, of other tuples.
+    /// to be let go: they are one fewer, and what lies in them is left open.
     pub fn sink(&mut self) -> Result<(), Memory>
         requires above { 2 ≤ length self.old }
         ensures sunk { OnOk result (self.new ≡ drop 1 self.old) }
@@ -80,7 +81,7 @@ impl Levels {
     }
 
     /// Takes levels away until so many are left above the lowest. It is refused only for want of memory; the levels are then to
-    /// be let go: they are still at least so many, of other tuples.
+    /// be let go: they are still at least so many, and what lies in them is left open.
     pub fn sink_to(&mut self, height: usize) -> Result<(), Memory>
         requires above { height + 1 ≤ length self.old }
         ensures sunk { OnOk result

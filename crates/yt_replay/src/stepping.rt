@@ -2,7 +2,6 @@
 ghost use Rattle.std.specs.Prelude.{◌≡◌, ◌<◌, ◌≤◌, drop, map, length, suc, IfOk, OnOk, OnErr};
 ghost use Rattle.yt_base.specs.Contents.{rules_in};
 ghost use Rattle.yt_base.specs.Meanings.{change_of};
-ghost use Rattle.yt_model.specs.Repository.{apply};
 ghost use Rattle.yt_seats.specs.Programs.{HasWritten, IsBetween, IsPlanOf};
 ghost use Rattle.yt_seats.specs.Seatings.{AreFrom};
 ghost use Rattle.yt_seats.specs.Settings.{deps_of, settings_of};
@@ -189,40 +188,27 @@ fn planned(
     requires left { seat.now.program.attempt.steps < budget }
     ensures planned { IfOk result (IsPlanOf mappings.now budget facts.now seat.now) }
 {
-    let with = with_own(alloc, facts, seat)?;
-    planned_over(alloc, mappings, budget, facts, &with, seat)
-}
-
-// The facts with the update's own writes made. It is refused only for want of memory.
-fn with_own<'f>(
-    alloc: Global,
-    facts: &'f IndexedFacts,
-    seat: &Seat,
-) -> Result<Overlay<'f, IndexedFacts>, Memory>
-    requires between { IsBetween seat.now.program }
-    ensures made { IfOk result (λ with. with ≡ apply facts.now seat.now.program.attempt.own) }
-{
     let mut with = Overlay::new(alloc, facts);
-    with.write_all(alloc, seat.program.own().as_slice())?;
-    Ok(with)
+    planned_over(alloc, mappings, budget, facts, &mut with, seat)
 }
 
-// The next step of the update, which is ready, over the facts below it, where these are they with its own writes made. It is
-// refused only for want of memory.
+// The next step of the update, which is ready, over the facts below it, where its own writes are made in an overlay of them. It
+// is refused only for want of memory; the overlay is then one to be let go.
 fn planned_over<'f>(
     alloc: Global,
     mappings: &Mappings<'_>,
     budget: Budget,
     facts: &'f IndexedFacts,
-    with: &Overlay<'f, IndexedFacts>,
+    with: &mut Overlay<'f, IndexedFacts>,
     seat: &Seat,
 ) -> Result<Plan, Memory>
     requires between { IsBetween seat.now.program }
     requires ready { IsReadySomewhere seat.now }
     requires left { seat.now.program.attempt.steps < budget }
-    requires with { with.now ≡ apply facts.now seat.now.program.attempt.own }
+    requires with { with.old ≡ facts.now }
     ensures planned { IfOk result (IsPlanOf mappings.now budget facts.now seat.now) }
 {
+    with.write_all(alloc, seat.program.own().as_slice())?;
     let settled = Settled::none(alloc, mappings.list().len())?;
     let answer = seat.next_answer();
     let program = &seat.program;
