@@ -11,3 +11,4 @@ pub mod Changing
 pub mod Related
 pub mod Beginning
 pub mod AtHand
+pub mod Few

@@ -14,6 +14,7 @@ use std::marker::Model;
 use std::ops::Bound;
 use yt_base::{Facts, List, Memory, TryCopy, Tuple, Value};
 
+mod few;
 mod listed;
 mod ranges;
 
@@ -142,6 +143,9 @@ impl Facts for PlainFacts {
     }
 
     fn first(&self, relation: u16) -> Option<&Tuple> {
+        if self.has_few() {
+            return self.first_of_few(relation);
+        }
         if self.ends_before(relation) {
             return None;
         }
@@ -167,6 +171,9 @@ impl Facts for PlainFacts {
         value: &Value,
         past: Option<&Tuple>,
     ) -> Option<&Tuple> {
+        if self.has_few() {
+            return self.scan_of_few(relation, column, value, past);
+        }
         let mut cursor = self.next(relation, past);
         while let Some(found) = cursor {
             if is_scanned(found, relation, column, value, past) {

@@ -12,9 +12,6 @@ use std::collections::btree_set::Range;
 use std::ops::Bound;
 use yt_base::{Candidates, Column, List, Tuple, next_candidate};
 
-// So many tuples are few: to search them costs less than to go over the candidates one by one.
-const FEW: usize = 8;
-
 impl PlainFacts {
     /// All its tuples, in order.
     pub(crate) fn range(&self) -> Range<'_, Tuple>
@@ -68,7 +65,7 @@ impl PlainFacts {
         if self.ends_before(relation) {
             return true;
         }
-        if self.len() > FEW {
+        if !self.has_few() {
             return false;
         }
         next_candidate(self, relation, column, None).is_none()
