@@ -1,14 +1,14 @@
 //! Which tuples may decide the first violation of a mapping that own writes caused.
 ghost use Rattle.std.specs.Option.{option_copied, option_map};
-ghost use Rattle.std.specs.Prelude.{◌≡◌, ◌==◌, ◌++◌, map, Some};
+ghost use Rattle.std.specs.Prelude.{◌≡◌, ◌==◌, map, Some};
 ghost use Rattle.std.specs.List.{list_all, list_any};
 ghost use Rattle.yt_base.specs.Meanings.{change_of, datum_of, fact_of, heading_of, pattern_of, rule_of, slot_of};
 ghost use Rattle.yt_model.specs.Mentions.{rule_mentions};
 ghost use Rattle.yt_model.specs.Violations.{Forward};
 ghost use Rattle.yt_base.specs.Contents.{rules_in};
-ghost use Rattle.yt_conflict.specs.Concerns.{agree, columns, concerns_rule, joins as joins_lem, joins_some as joins_some_lem, may_be as may_be_lem, may_enact as may_enact_lem, may_join as may_join_lem, stand_together as stand_together_lem};
+ghost use Rattle.yt_conflict.specs.Concerns.{adds as adds_lem, agree, breaks as breaks_lem, breaks_some as breaks_some_lem, columns, concerns_rule, has_come as has_come_lem, joins as joins_lem, joins_own as joins_own_lem, may_be as may_be_lem, may_enact as may_enact_lem, may_join as may_join_lem, may_make as may_make_lem, stand_together as stand_together_lem};
 
-use crate::concerns::tuple_of;
+use crate::concerns::{Sense, tuple_of};
 use yt_base::{Atom, Direction, FORCE_RELATION, Mapping, MappingList, Term, Tuple, Value, Write};
 
 /// Whether the tuple may decide which violation of the mapping is the first that the own writes caused in this direction.
@@ -40,29 +40,103 @@ fn may_decide_forward(mapping: &Mapping, own: &[Write], tuple: &Tuple) -> bool
     if may_enact_any(own) && is_of(mapping, tuple.relation) {
         return true;
     }
-    joins_own(mapping, own, tuple)
+    if joins_own(mapping, mapping.left.as_slice(), own, tuple) {
+        return true;
+    }
+    joins_own(mapping, mapping.right.as_slice(), own, tuple)
 }
 
-/// Whether one of the writes inserts a tuple that may join with this one by one of the mappings. It takes no memory.
-pub(crate) fn joins_some(mappings: &MappingList, own: &[Write], tuple: &Tuple) -> bool
-    ensures { result ≡ joins_some_lem (rules_in mappings.now) (map change_of own.now)
-        (fact_of tuple.now) }
+/// Whether the write may make a violation of the mapping that the own writes caused in this direction, where there was none.
+/// Forward it breaks the mapping with a tuple that they insert, or its tuple is of a relation of the mapping and they put
+/// mappings in force; backward its tuple is of a relation of the mapping. It takes no memory.
+pub(crate) fn may_make(
+    mapping: Option<&Mapping>,
+    direction: Direction,
+    own: &[Write],
+    sense: Sense,
+    write: &Write,
+) -> bool
+    ensures { result ≡ may_make_lem (heading_of direction) (map change_of own.now) sense
+        (option_map rule_of (option_copied mapping.entry)) (change_of write.now) }
+{
+    let Some(mapping) = mapping else {
+        return false;
+    };
+    match direction {
+        Direction::Forward => may_make_forward(mapping, own, sense, write),
+        Direction::Backward => is_of(mapping, tuple_of(write).relation),
+    }
+}
+
+// The same forward.
+fn may_make_forward(mapping: &Mapping, own: &[Write], sense: Sense, write: &Write) -> bool
+    ensures { result ≡ may_make_lem Forward (map change_of own.now) sense
+        (Some (rule_of mapping.now)) (change_of write.now) }
+{
+    if may_enact_any(own) && is_of(mapping, tuple_of(write).relation) {
+        return true;
+    }
+    breaks(mapping, sense, own, write)
+}
+
+/// Whether the write may break one of the mappings, with a tuple that the own writes insert. It takes no memory.
+pub(crate) fn breaks_some(
+    mappings: &MappingList,
+    sense: Sense,
+    own: &[Write],
+    write: &Write,
+) -> bool
+    ensures { result ≡ breaks_some_lem (rules_in mappings.now) sense (map change_of own.now)
+        (change_of write.now) }
 {
     mappings
         .as_slice()
         .iter()
-        .any(|mapping| joins_own(mapping, own, tuple))
+        .any(|mapping| breaks(mapping, sense, own, write))
 }
 
-// Whether one of the writes inserts a tuple that may join with this one. Where no atom is of its relation none does.
-fn joins_own(mapping: &Mapping, own: &[Write], tuple: &Tuple) -> bool
-    ensures { result ≡ list_any (joins_lem (rule_of mapping.now) (fact_of tuple.now))
-        (map change_of own.now) }
+// Whether the write may break the mapping, with a tuple that the own writes insert: with that at a left atom, a tuple that is
+// there since may stand at a left atom too, and one that was there at a right atom.
+fn breaks(mapping: &Mapping, sense: Sense, own: &[Write], write: &Write) -> bool
+    ensures { result ≡ breaks_lem (rule_of mapping.now) sense (map change_of own.now)
+        (change_of write.now) }
 {
-    if !is_of(mapping, tuple.relation) {
+    if adds(sense, write) {
+        return joins_own(mapping, mapping.left.as_slice(), own, tuple_of(write));
+    }
+    joins_own(mapping, mapping.right.as_slice(), own, tuple_of(write))
+}
+
+// Whether the tuple of the write is there since and was not before.
+fn adds(sense: Sense, write: &Write) -> bool
+    ensures { result ≡ adds_lem sense (change_of write.now) }
+{
+    match write {
+        Write::Insert(_) => has_come(sense),
+        Write::Delete(_) => !has_come(sense),
+    }
+}
+
+// Whether the writes came.
+fn has_come(sense: Sense) -> bool
+    ensures { result ≡ has_come_lem sense }
+{
+    match sense {
+        Sense::Came => true,
+        Sense::Went => false,
+    }
+}
+
+// Whether one of the writes inserts a tuple with which this one may stand at one of the atoms. Where none of them is of its
+// relation none does.
+fn joins_own(mapping: &Mapping, atoms: &[Atom], own: &[Write], tuple: &Tuple) -> bool
+    ensures { result ≡ joins_own_lem (map pattern_of atoms.now) (rule_of mapping.now)
+        (map change_of own.now) (fact_of tuple.now) }
+{
+    if !stands_in(atoms, tuple.relation) {
         return false;
     }
-    joins_any(mapping, own, tuple)
+    joins_any(mapping, atoms, own, tuple)
 }
 
 /// Whether one of the writes may put a mapping in force. It takes no memory.
@@ -96,50 +170,46 @@ fn stands_in(atoms: &[Atom], relation: u16) -> bool
     atoms.iter().any(|atom| atom.relation == relation)
 }
 
-// Whether one of the writes inserts a tuple that may join with this one.
-fn joins_any(mapping: &Mapping, own: &[Write], tuple: &Tuple) -> bool
-    ensures { result ≡ list_any (joins_lem (rule_of mapping.now) (fact_of tuple.now))
-        (map change_of own.now) }
+// Whether one of the writes inserts a tuple with which this one may stand at one of the atoms.
+fn joins_any(mapping: &Mapping, atoms: &[Atom], own: &[Write], tuple: &Tuple) -> bool
+    ensures { result ≡ joins_own_lem (map pattern_of atoms.now) (rule_of mapping.now)
+        (map change_of own.now) (fact_of tuple.now) }
 {
-    own.iter().any(|write| joins(mapping, write, tuple))
+    own.iter().any(|write| joins(mapping, atoms, write, tuple))
 }
 
-// Whether the write inserts a tuple that may join with this one.
-fn joins(mapping: &Mapping, write: &Write, tuple: &Tuple) -> bool
-    ensures { result ≡
-        joins_lem (rule_of mapping.now) (fact_of tuple.now) (change_of write.now) }
+// Whether the write inserts a tuple with which this one may stand at one of the atoms.
+fn joins(mapping: &Mapping, atoms: &[Atom], write: &Write, tuple: &Tuple) -> bool
+    ensures { result ≡ joins_lem (map pattern_of atoms.now) (rule_of mapping.now)
+        (fact_of tuple.now) (change_of write.now) }
 {
     match write {
-        Write::Insert(own) => may_join(mapping, own, tuple),
+        Write::Insert(own) => may_join(mapping, atoms, own, tuple),
         Write::Delete(_) => false,
     }
 }
 
-// Whether, with the first tuple at a left atom of the mapping, the second may stand at some atom of it.
-fn may_join(mapping: &Mapping, own: &Tuple, tuple: &Tuple) -> bool
-    ensures { result ≡
-        may_join_lem (rule_of mapping.now) (fact_of own.now) (fact_of tuple.now) }
+// Whether, with the first tuple at a left atom of the mapping, the second may stand at one of the atoms.
+fn may_join(mapping: &Mapping, atoms: &[Atom], own: &Tuple, tuple: &Tuple) -> bool
+    ensures { result ≡ may_join_lem (map pattern_of atoms.now) (rule_of mapping.now)
+        (fact_of own.now) (fact_of tuple.now) }
 {
     mapping
         .left
         .as_slice()
         .iter()
-        .any(|atom| joins_at(mapping, atom, own, tuple))
+        .any(|atom| joins_at(atom, atoms, own, tuple))
 }
 
-// Whether, with the first tuple at this atom, the second may stand at some atom of the mapping.
-fn joins_at(mapping: &Mapping, atom: &Atom, own: &Tuple, tuple: &Tuple) -> bool
+// Whether, with the first tuple at this atom, the second may stand at one of the others.
+fn joins_at(atom: &Atom, others: &[Atom], own: &Tuple, tuple: &Tuple) -> bool
     ensures { result ≡ list_any (λ c. stand_together_lem (pattern_of atom.now)
-        (fact_of own.now) c (fact_of tuple.now))
-        ((rule_of mapping.now).left ++ (rule_of mapping.now).right) }
+        (fact_of own.now) c (fact_of tuple.now)) (map pattern_of others.now) }
 {
     if !is_at(atom, own) {
         return false;
     }
-    if joins_among(mapping.left.as_slice(), atom, own, tuple) {
-        return true;
-    }
-    joins_among(mapping.right.as_slice(), atom, own, tuple)
+    joins_among(others, atom, own, tuple)
 }
 
 // Whether the tuple is of the atom's relation.
