@@ -14,7 +14,7 @@ use Rattle.yt_model.proofs.Bools.{not_both, both, and-true, and-false, or_left, 
 use Rattle.yt_model.proofs.Coarse.{after_agree, coarse_law}
 use Rattle.yt_model.proofs.Members.{has-filter}
 use Rattle.yt_model.proofs.Sets.{has-apply, apply_in_order, filter_in_order, same_exact, same_itself, same_repository}
-use Rattle.yt_conflict.specs.Concerns.{tuple_of, may_enact, joins_own, concerns_rule, concerns, adds, breaks, may_make, may_violate, is_nothing, is_hit, adds_it, takes_it, AgreeBut, UnmetValuesStay}
+use Rattle.yt_conflict.specs.Concerns.{tuple_of, may_enact, joins_own, concerns_rule, concerns, adds, side, breaks, may_make, may_violate, is_nothing, is_hit, adds_it, takes_it, AgreeBut, UnmetValuesStay}
 use Rattle.yt_conflict.specs.declared.concerns.Sense.{Sense}
 use Rattle.yt_conflict.specs.declared.concerns.Sense.TheVariants.{Came, Went}
 use Rattle.yt_conflict.proofs.Hits.{before_last, unhit}
@@ -131,10 +131,10 @@ module _ (ms : List Rule) (n : ℕ) (g : Sense) (trails : List (List Change)) (D
       ∙ ap image_reply
       (none_made m now own (any_of_taken c own) (apply D now) (apply E now)
       (λ t j k. has-apply D now t
-      ∙ rises now (has E t) (has D t) t (was_there g trails D E a (breaks m g own) t u (λ w x i. ap (λ b. if b then joins_own m.left m own (tuple_of w) else joins_own m.right m own (tuple_of w)) x ∙ ap (joins_own m.left m own) i ∙ j))
+      ∙ rises now (has E t) (has D t) t (was_there g trails D E a (breaks m g own) t u (λ w x i. ap (λ b. joins_own (side b m) m own (tuple_of w)) x ∙ ap (joins_own m.left m own) i ∙ j))
       (sym (has-apply E now t) ∙ k))
       (λ t j k. has-apply E now t
-      ∙ rises now (has D t) (has E t) t (is_there g trails D E a (breaks m g own) t u (λ w x i. ap (λ b. if b then joins_own m.left m own (tuple_of w) else joins_own m.right m own (tuple_of w)) x ∙ ap (joins_own m.right m own) i ∙ j))
+      ∙ rises now (has D t) (has E t) t (is_there g trails D E a (breaks m g own) t u (λ w x i. ap (λ b. joins_own (side b m) m own (tuple_of w)) x ∙ ap (joins_own m.right m own) i ∙ j))
       (sym (has-apply D now t) ∙ k))
       none)
 

@@ -51,6 +51,10 @@ joins cs m t (Delete s) = false
 abbrev pub joins_own : List Pattern → Rule → List Change → Fact → Bool
 joins_own cs m own t = list_any (joins cs m t) own
 
+-- So it may at some atom of the mapping.
+abbrev pub joins_either : Rule → List Change → Fact → Bool
+joins_either m own t = joins_own m.left m own t || joins_own m.right m own t
+
 -- The write may put a mapping in force.
 abbrev pub may_enact : Change → Bool
 may_enact w = (tuple_of w).relation == force_relation
@@ -59,8 +63,7 @@ may_enact w = (tuple_of w).relation == force_relation
 -- they insert, or it is of a relation of the mapping and they put mappings in force; backward it is of a relation of the mapping.
 abbrev pub concerns_rule : Direction → List Change → Option Rule → Fact → Bool
 concerns_rule Forward own None t = false
-concerns_rule Forward own (Some m) t =
-    (list_any may_enact own && rule_mentions (Some m) t.relation) || (joins_own m.left m own t || joins_own m.right m own t)
+concerns_rule Forward own (Some m) t = (list_any may_enact own && rule_mentions (Some m) t.relation) || joins_either m own t
 concerns_rule Backward own m t = rule_mentions m t.relation
 
 -- Tuples that join with no own insertion may decide violations as well: of an attempt backward, or one that puts mappings in force.
@@ -81,10 +84,15 @@ abbrev pub adds : Sense → Change → Bool
 adds g (Insert t) = has_come g
 adds g (Delete t) = not (has_come g)
 
+-- The left atoms of the mapping, or the right ones.
+abbrev pub side : Bool → Rule → List Pattern
+side true m = m.left
+side false m = m.right
+
 -- With a tuple that own writes insert at a left atom of the mapping, a tuple that is there since may stand at a left atom of
 -- it, or one that was there before at a right atom: so a violation that they cause may be made where there was none.
 abbrev pub breaks : Rule → Sense → List Change → Change → Bool
-breaks m g own w = if adds g w then joins_own m.left m own (tuple_of w) else joins_own m.right m own (tuple_of w)
+breaks m g own w = joins_own (side (adds g w) m) m own (tuple_of w)
 
 -- The write may make a violation of the mapping that own writes caused, where there was none. Forward it breaks the mapping;
 -- where they put mappings in force, and backward, its tuple is of a relation of the mapping.

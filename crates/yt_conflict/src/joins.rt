@@ -6,7 +6,7 @@ ghost use Rattle.yt_base.specs.Meanings.{change_of, datum_of, fact_of, heading_o
 ghost use Rattle.yt_model.specs.Mentions.{rule_mentions};
 ghost use Rattle.yt_model.specs.Violations.{Forward};
 ghost use Rattle.yt_base.specs.Contents.{rules_in};
-ghost use Rattle.yt_conflict.specs.Concerns.{adds as adds_lem, agree, breaks as breaks_lem, breaks_some as breaks_some_lem, columns, concerns_rule, has_come as has_come_lem, joins as joins_lem, joins_own as joins_own_lem, may_be as may_be_lem, may_enact as may_enact_lem, may_join as may_join_lem, may_make as may_make_lem, stand_together as stand_together_lem};
+ghost use Rattle.yt_conflict.specs.Concerns.{adds as adds_lem, agree, breaks as breaks_lem, breaks_some as breaks_some_lem, columns, concerns_rule, has_come as has_come_lem, joins as joins_lem, joins_either as joins_either_lem, joins_own as joins_own_lem, may_be as may_be_lem, may_enact as may_enact_lem, may_join as may_join_lem, may_make as may_make_lem, side as side_lem, stand_together as stand_together_lem};
 
 use crate::concerns::{Sense, tuple_of};
 use yt_base::{Atom, Direction, FORCE_RELATION, Mapping, MappingList, Term, Tuple, Value, Write};
@@ -40,6 +40,14 @@ fn may_decide_forward(mapping: &Mapping, own: &[Write], tuple: &Tuple) -> bool
     if may_enact_any(own) && is_of(mapping, tuple.relation) {
         return true;
     }
+    joins_either(mapping, own, tuple)
+}
+
+// Whether one of the writes inserts a tuple with which this one may stand at some atom of the mapping.
+fn joins_either(mapping: &Mapping, own: &[Write], tuple: &Tuple) -> bool
+    ensures { result ≡ joins_either_lem (rule_of mapping.now) (map change_of own.now)
+        (fact_of tuple.now) }
+{
     if joins_own(mapping, mapping.left.as_slice(), own, tuple) {
         return true;
     }
@@ -101,10 +109,18 @@ fn breaks(mapping: &Mapping, sense: Sense, own: &[Write], write: &Write) -> bool
     ensures { result ≡ breaks_lem (rule_of mapping.now) sense (map change_of own.now)
         (change_of write.now) }
 {
-    if adds(sense, write) {
-        return joins_own(mapping, mapping.left.as_slice(), own, tuple_of(write));
+    let atoms = side(mapping, adds(sense, write));
+    joins_own(mapping, atoms, own, tuple_of(write))
+}
+
+// The left atoms of the mapping, or the right ones.
+fn side(mapping: &Mapping, is_left: bool) -> &[Atom]
+    ensures { map pattern_of result.now ≡ side_lem is_left (rule_of mapping.now) }
+{
+    if is_left {
+        return mapping.left.as_slice();
     }
-    joins_own(mapping, mapping.right.as_slice(), own, tuple_of(write))
+    mapping.right.as_slice()
 }
 
 // Whether the tuple of the write is there since and was not before.
