@@ -14,7 +14,7 @@ use Rattle.yt_model.proofs.Bools.{not_both, both, and-true, and-false, or_left, 
 use Rattle.yt_model.proofs.Coarse.{after_agree, coarse_law}
 use Rattle.yt_model.proofs.Members.{has-filter}
 use Rattle.yt_model.proofs.Sets.{has-apply, apply_in_order, filter_in_order, same_exact, same_itself, same_repository}
-use Rattle.yt_conflict.specs.Concerns.{tuple_of, may_enact, joins_own, concerns_rule, concerns, adds, side, breaks, may_make, may_violate, is_nothing, is_hit, adds_it, takes_it, AgreeBut, UnmetValuesStay}
+use Rattle.yt_conflict.specs.Concerns.{tuple_of, may_enact, counts_all, at_side, joins_either, concerns_rule, concerns, adds, breaks, may_make, may_violate, is_nothing, is_hit, adds_it, takes_it, AgreeBut, UnmetValuesStay}
 use Rattle.yt_conflict.specs.declared.concerns.Sense.{Sense}
 use Rattle.yt_conflict.specs.declared.concerns.Sense.TheVariants.{Came, Went}
 use Rattle.yt_conflict.proofs.Hits.{before_last, unhit}
@@ -100,86 +100,84 @@ module _ (ms : List Rule) (n : ℕ) (g : Sense) (trails : List (List Change)) (D
   by_relations own scope h = coarse_law ms (Violation n) D E own scope a.sorted a.also (same_passing (is_mentioned ms (Violation n)) D E a.sorted a.also h)
 
   -- Where own writes put no mapping in force.
-  abbrev caused_value : List Fact → List Change → Rule → Reply
-  caused_value F now m = image_reply (first_violation (Caused Forward) now m (apply F now))
+  abbrev caused_value : Direction → List Fact → List Change → Rule → Reply
+  caused_value h F now m = image_reply (first_violation (Caused h) now m (apply F now))
 
-  by_caused : (own : List Change) (c : ℕ) (m : Rule) (F : List Fact) → slice_get ms n ≡ Some m → list_any may_enact own ≡ false → value ms (Violation n) F (take c own) (Caused Forward) ≡ caused_value F (take c own) m
-  by_caused own c m F e enacts =
+  scope_is : (h : Direction) (own : List Change) (c : ℕ) → counts_all h own ≡ false → scope_at (Caused h) (take c own) n ≡ Caused h
+  scope_is Forward own c enacts =
       let now = take c own in
       let unforced : list_any (inserts (force n)) now ≡ false = not_both (list_any (inserts (force n)) now) (λ i. both_ways (list_any may_enact own) enacts (any_of_taken c own may_enact (any_enacts n now i))) in
-      let scope : scope_at (Caused Forward) now n ≡ Caused Forward = ap (λ b. if b then Every else Caused Forward) unforced in
-      λ i. violation_reply (e i) (scope i) now (apply F now)
+      ap (λ b. if b then Every else Caused Forward) unforced
+  scope_is Backward own c enacts = refl
+
+  by_caused : (h : Direction) (own : List Change) (c : ℕ) (m : Rule) (F : List Fact) → slice_get ms n ≡ Some m → counts_all h own ≡ false → value ms (Violation n) F (take c own) (Caused h) ≡ caused_value h F (take c own) m
+  by_caused h own c m F e enacts = λ i. violation_reply (e i) (scope_is h own c enacts i) (take c own) (apply F (take c own))
 
   -- Where no write is of a tuple that joins.
-  by_joins : (own : List Change) (c : ℕ) (m : Rule) → slice_get ms n ≡ Some m → list_any may_enact own ≡ false → ((t : Fact) → (joins_own m.left m own t || joins_own m.right m own t) ≡ true → has D t ≡ has E t)
-      → value ms (Violation n) D (take c own) (Caused Forward) ≡ value ms (Violation n) E (take c own) (Caused Forward)
-  by_joins own c m e enacts h =
+  by_joins : (h : Direction) (own : List Change) (c : ℕ) (m : Rule) → slice_get ms n ≡ Some m → counts_all h own ≡ false → ((t : Fact) → joins_either h m own t ≡ true → has D t ≡ has E t)
+      → value ms (Violation n) D (take c own) (Caused h) ≡ value ms (Violation n) E (take c own) (Caused h)
+  by_joins h own c m e enacts same =
       let now = take c own in
-      let q : Fact → Bool = λ t. joins_own m.left m own t || joins_own m.right m own t in
-      let same : filter q (apply D now) ≡ filter q (apply E now) = after_agree q D E now a.sorted a.also (same_passing q D E a.sorted a.also h) in
-      by_caused own c m D e enacts
-      ∙ ap image_reply (first_joins m now own (any_of_taken c own) (apply D now) ∙ ap (first_violation (Caused Forward) now m) same ∙ sym (first_joins m now own (any_of_taken c own) (apply E now)))
-      ∙ sym (by_caused own c m E e enacts)
+      let q : Fact → Bool = λ t. joins_either h m own t in
+      let alike : filter q (apply D now) ≡ filter q (apply E now) = after_agree q D E now a.sorted a.also (same_passing q D E a.sorted a.also same) in
+      by_caused h own c m D e enacts
+      ∙ ap image_reply (first_joins m now own (any_of_taken c own) h (apply D now) ∙ ap (first_violation (Caused h) now m) alike ∙ sym (first_joins m now own (any_of_taken c own) h (apply E now)))
+      ∙ sym (by_caused h own c m E e enacts)
 
   -- Where no write breaks the mapping, and none was violated.
-  by_breaks : (own : List Change) (c : ℕ) (m : Rule) → slice_get ms n ≡ Some m → list_any may_enact own ≡ false → is_hit (breaks m g own) trails ≡ false
-      → value ms (Violation n) D (take c own) (Caused Forward) ≡ Nothing → value ms (Violation n) E (take c own) (Caused Forward) ≡ Nothing
-  by_breaks own c m e enacts u f =
+  by_breaks : (h : Direction) (own : List Change) (c : ℕ) (m : Rule) → slice_get ms n ≡ Some m → counts_all h own ≡ false → is_hit (breaks h m g own) trails ≡ false
+      → value ms (Violation n) D (take c own) (Caused h) ≡ Nothing → value ms (Violation n) E (take c own) (Caused h) ≡ Nothing
+  by_breaks h own c m e enacts u f =
       let now = take c own in
-      let none : first_violation (Caused Forward) now m (apply D now) ≡ None = nothing_found (first_violation (Caused Forward) now m (apply D now)) (sym (by_caused own c m D e enacts) ∙ f) in
-      by_caused own c m E e enacts
+      let none : first_violation (Caused h) now m (apply D now) ≡ None = nothing_found (first_violation (Caused h) now m (apply D now)) (sym (by_caused h own c m D e enacts) ∙ f) in
+      by_caused h own c m E e enacts
       ∙ ap image_reply
-      (none_made m now own (any_of_taken c own) (apply D now) (apply E now)
+      (none_made m now own (any_of_taken c own) h (apply D now) (apply E now)
       (λ t j k. has-apply D now t
-      ∙ rises now (has E t) (has D t) t (was_there g trails D E a (breaks m g own) t u (λ w x i. ap (λ b. joins_own (side b m) m own (tuple_of w)) x ∙ ap (joins_own m.left m own) i ∙ j))
+      ∙ rises now (has E t) (has D t) t (was_there g trails D E a (breaks h m g own) t u (λ w x i. ap (λ b. at_side b h m own (tuple_of w)) x ∙ ap (at_side true h m own) i ∙ j))
       (sym (has-apply E now t) ∙ k))
       (λ t j k. has-apply E now t
-      ∙ rises now (has D t) (has E t) t (is_there g trails D E a (breaks m g own) t u (λ w x i. ap (λ b. joins_own (side b m) m own (tuple_of w)) x ∙ ap (joins_own m.right m own) i ∙ j))
+      ∙ rises now (has D t) (has E t) t (is_there g trails D E a (breaks h m g own) t u (λ w x i. ap (λ b. at_side b h m own (tuple_of w)) x ∙ ap (at_side false h m own) i ∙ j))
       (sym (has-apply D now t) ∙ k))
       none)
 
-  no_rule : (own : List Change) (c : ℕ) (F : List Fact) → slice_get ms n ≡ None → value ms (Violation n) F (take c own) (Caused Forward) ≡ Nothing
-  no_rule own c F e = λ i. violation_reply (e i) (scope_at (Caused Forward) (take c own) n) (take c own) (apply F (take c own))
+  no_rule : (h : Direction) (own : List Change) (c : ℕ) (F : List Fact) → slice_get ms n ≡ None → value ms (Violation n) F (take c own) (Caused h) ≡ Nothing
+  no_rule h own c F e = λ i. violation_reply (e i) (scope_at (Caused h) (take c own) n) (take c own) (apply F (take c own))
 
   mentioned : (m : Rule) (t : Fact) → slice_get ms n ≡ Some m → is_mentioned ms (Violation n) t ≡ true → rule_mentions (Some m) t.relation ≡ true
   mentioned m t e i = ap (λ o. rule_mentions o t.relation) (sym e) ∙ i
 
   -- Where no write is of a tuple that may decide it.
-  by_rule : (own : List Change) (c : ℕ) (o : Option Rule) → slice_get ms n ≡ o → is_hit (λ w. concerns_rule Forward own o (tuple_of w)) trails ≡ false → value ms (Violation n) D (take c own) (Caused Forward) ≡ value ms (Violation n) E (take c own) (Caused Forward)
-  by_rule own c None e u = no_rule own c D e ∙ sym (no_rule own c E e)
-  by_rule own c (Some m) e u = by (list_any may_enact own) refl
+  by_rule : (h : Direction) (own : List Change) (c : ℕ) (o : Option Rule) → slice_get ms n ≡ o → is_hit (λ w. concerns_rule h own o (tuple_of w)) trails ≡ false → value ms (Violation n) D (take c own) (Caused h) ≡ value ms (Violation n) E (take c own) (Caused h)
+  by_rule h own c None e u = no_rule h own c D e ∙ sym (no_rule h own c E e)
+  by_rule h own c (Some m) e u = by (counts_all h own) refl
     where
-      by : (b : Bool) → list_any may_enact own ≡ b → value ms (Violation n) D (take c own) (Caused Forward) ≡ value ms (Violation n) E (take c own) (Caused Forward)
+      by : (b : Bool) → counts_all h own ≡ b → value ms (Violation n) D (take c own) (Caused h) ≡ value ms (Violation n) E (take c own) (Caused h)
       by true f =
-          by_relations (take c own) (Caused Forward)
-          (λ t i. same_there g trails D E a (concerns_rule Forward own (Some m)) u t (or_left (list_any may_enact own && rule_mentions (Some m) t.relation) (joins_own m.left m own t || joins_own m.right m own t) (λ j. f j && mentioned m t e i j)))
+          by_relations (take c own) (Caused h)
+          (λ t i. same_there g trails D E a (concerns_rule h own (Some m)) u t (or_left (counts_all h own && rule_mentions (Some m) t.relation) (joins_either h m own t) (λ j. f j && mentioned m t e i j)))
       by false f =
-          by_joins own c m e f
-          (λ t i. same_there g trails D E a (concerns_rule Forward own (Some m)) u t (or_right (list_any may_enact own && rule_mentions (Some m) t.relation) (joins_own m.left m own t || joins_own m.right m own t) i))
+          by_joins h own c m e f
+          (λ t i. same_there g trails D E a (concerns_rule h own (Some m)) u t (or_right (counts_all h own && rule_mentions (Some m) t.relation) (joins_either h m own t) i))
 
   -- Where there was none, and no write may make one.
-  none_by_rule : (own : List Change) (c : ℕ) (o : Option Rule) → slice_get ms n ≡ o → is_hit (may_make Forward own g o) trails ≡ false
-      → value ms (Violation n) D (take c own) (Caused Forward) ≡ Nothing → value ms (Violation n) E (take c own) (Caused Forward) ≡ Nothing
-  none_by_rule own c None e u v = no_rule own c E e
-  none_by_rule own c (Some m) e u v = by (list_any may_enact own) refl
+  none_by_rule : (h : Direction) (own : List Change) (c : ℕ) (o : Option Rule) → slice_get ms n ≡ o → is_hit (may_make h own g o) trails ≡ false
+      → value ms (Violation n) D (take c own) (Caused h) ≡ Nothing → value ms (Violation n) E (take c own) (Caused h) ≡ Nothing
+  none_by_rule h own c None e u v = no_rule h own c E e
+  none_by_rule h own c (Some m) e u v = by (counts_all h own) refl
     where
-      by : (b : Bool) → list_any may_enact own ≡ b → value ms (Violation n) E (take c own) (Caused Forward) ≡ Nothing
+      by : (b : Bool) → counts_all h own ≡ b → value ms (Violation n) E (take c own) (Caused h) ≡ Nothing
       by true f =
-          sym (by_relations (take c own) (Caused Forward)
+          sym (by_relations (take c own) (Caused h)
           (λ t i. same_there g trails D E a (λ s. rule_mentions (Some m) s.relation)
-          (unhit (may_make Forward own g (Some m)) (λ w. rule_mentions (Some m) (tuple_of w).relation)
-          (λ w k. or_left (list_any may_enact own && rule_mentions (Some m) (tuple_of w).relation) (breaks m g own w) (λ j. f j && k j)) trails u)
+          (unhit (may_make h own g (Some m)) (λ w. rule_mentions (Some m) (tuple_of w).relation)
+          (λ w k. or_left (counts_all h own && rule_mentions (Some m) (tuple_of w).relation) (breaks h m g own w) (λ j. f j && k j)) trails u)
           t (mentioned m t e i)))
           ∙ v
       by false f =
-          by_breaks own c m e f
-          (unhit (may_make Forward own g (Some m)) (breaks m g own) (λ w k. or_right (list_any may_enact own && rule_mentions (Some m) (tuple_of w).relation) (breaks m g own w) k) trails u)
+          by_breaks h own c m e f
+          (unhit (may_make h own g (Some m)) (breaks h m g own) (λ w k. or_right (counts_all h own && rule_mentions (Some m) (tuple_of w).relation) (breaks h m g own w) k) trails u)
           v
-
-  -- Either way.
-  none_made_by : (h : Direction) (own : List Change) (c : ℕ) → is_hit (may_make h own g (slice_get ms n)) trails ≡ false → value ms (Violation n) D (take c own) (Caused h) ≡ Nothing → value ms (Violation n) E (take c own) (Caused h) ≡ Nothing
-  none_made_by Forward own c u v = none_by_rule own c (slice_get ms n) refl u v
-  none_made_by Backward own c u v = sym (by_relations (take c own) (Caused Backward) (λ t e. same_there g trails D E a (is_mentioned ms (Violation n)) u t e)) ∙ v
 
 -- ---- any query
 
@@ -189,8 +187,7 @@ module _ (ms : List Rule) (own : List Change) (c : ℕ) (g : Sense) (trails : Li
   unconcerned h (Present t) u =
       ap (λ b. if b then Yes else No)
       (has-apply D (take c own) t ∙ ap (λ b. inserted_after b (take c own) t) (same_there g trails D E a (λ s. same_fact t s) u t (same_itself t)) ∙ sym (has-apply E (take c own) t))
-  unconcerned Forward (Violation n) u = by_rule ms n g trails D E a own c (slice_get ms n) refl u
-  unconcerned Backward (Violation n) u = by_relations ms n g trails D E a (take c own) (Caused Backward) (λ t e. same_there g trails D E a (is_mentioned ms (Violation n)) u t e)
+  unconcerned h (Violation n) u = by_rule ms n g trails D E a h own c (slice_get ms n) refl u
   unconcerned h (Specific t) u =
       ap Tuples (after_agree (λ s. more_specific s t) D E (take c own) a.sorted a.also (same_passing (λ s. more_specific s t) D E a.sorted a.also (λ s e. same_there g trails D E a (λ s. more_specific s t) u s e)))
   unconcerned h (Occurs v k) u =
@@ -199,7 +196,7 @@ module _ (ms : List Rule) (own : List Change) (c : ℕ) (g : Sense) (trails : Li
   -- One that was answered that there is no violation keeps that answer where no write may make one.
   none_still : (h : Direction) (q : Query) → is_hit (may_violate ms h own g q) trails ≡ false → value ms q D (take c own) (Caused h) ≡ Nothing → value ms q E (take c own) (Caused h) ≡ Nothing
   none_still h (Present t) u v = sym (unconcerned h (Present t) u) ∙ v
-  none_still h (Violation n) u v = none_made_by ms n g trails D E a h own c u v
+  none_still h (Violation n) u v = none_by_rule ms n g trails D E a h own c (slice_get ms n) refl u v
   none_still h (Specific t) u v = sym (unconcerned h (Specific t) u) ∙ v
   none_still h (Occurs w k) u v = sym (unconcerned h (Occurs w k) u) ∙ v
 

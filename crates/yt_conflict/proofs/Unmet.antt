@@ -9,10 +9,10 @@ use Rattle.yt_model.specs.Repository.{Change, Insert, Delete}
 use Rattle.yt_model.specs.Mappings.{Pattern, Rule}
 use Rattle.yt_model.specs.Mentions.{rule_mentions}
 use Rattle.yt_model.specs.Queries.{Query, Present, Violation, Specific, Occurs}
-use Rattle.yt_model.specs.Violations.{Direction, Forward, Backward}
+use Rattle.yt_model.specs.Violations.{Direction}
 use Rattle.yt_model.proofs.Bools.{and-false, or_left, or_right, differ}
 use Rattle.yt_query.specs.Meanings.{Read}
-use Rattle.yt_conflict.specs.Concerns.{agree, columns, stand_together, may_join, joins_own, may_enact, may_make, may_violate, concerns, breaks, breaks_some, tuple_of, counts_all, asks_violation, is_nothing, found_none, meets, is_hit, is_met, is_met_apart}
+use Rattle.yt_conflict.specs.Concerns.{agree, columns, stand_together, joins, joins_own, may_cause, seats, may_make, may_violate, concerns, breaks, breaks_some, tuple_of, counts_all, asks_violation, is_nothing, found_none, meets, is_hit, is_met, is_met_apart}
 use Rattle.yt_conflict.specs.declared.concerns.Sense.{Sense}
 use Rattle.yt_conflict.proofs.Hits.{neither, unhit}
 use Rattle.yt_conflict.specs.Changes.{Numbered, is_changed, value_now, is_met_and_changed, first_from, first_changed, meets_any, meets_any_apart}
@@ -31,10 +31,10 @@ unstood_at s t cs [] e = refl
 unstood_at s t cs (a ∷ as') e = neither (list_any (λ c. stand_together a s c t) cs) (list_any (λ a. list_any (λ c. stand_together a s c t) cs) as') (unstood a s t cs e) (unstood_at s t cs as' e)
 
 -- A tuple of a relation that none of the atoms has joins with none.
-pub unmentioned : (cs : List Pattern) (m : Rule) (t : Fact) (own : List Change) → list_any (λ c. c.relation == t.relation) cs ≡ false → joins_own cs m own t ≡ false
-unmentioned cs m t [] e = refl
-unmentioned cs m t (Insert s ∷ own) e = neither (may_join cs m s t) (joins_own cs m own t) (unstood_at s t cs m.left e) (unmentioned cs m t own e)
-unmentioned cs m t (Delete s ∷ own) e = unmentioned cs m t own e
+pub unmentioned : (h : Direction) (cs : List Pattern) (m : Rule) (t : Fact) (own : List Change) → list_any (λ c. c.relation == t.relation) cs ≡ false → joins_own h cs m own t ≡ false
+unmentioned h cs m t [] e = refl
+unmentioned h cs m t (w ∷ own) e =
+    neither (joins h cs m t w) (joins_own h cs m own t) (ap (λ b. may_cause h w && b) (unstood_at (tuple_of w) t cs (seats h m) e) ∙ and-false (may_cause h w)) (unmentioned h cs m t own e)
 
 -- Where the own insertion is of another relation than the left atom.
 pub elsewhere : (a : Pattern) (s t : Fact) (cs : List Pattern) → (a.relation == s.relation) ≡ false → false ≡ list_any (λ c. stand_together a s c t) cs
@@ -44,41 +44,40 @@ elsewhere a s t (c ∷ cs) e =
 
 -- ---- violations
 
--- A write that may make a violation forward breaks a mapping, where no own write puts one in force.
-broken : (own : List Change) (ms : List Rule) (n : ℕ) (g : Sense) (w : Change) → list_any may_enact own ≡ false → may_make Forward own g (slice_get ms n) w ≡ true → breaks_some ms g own w ≡ true
-broken own [] n g w f e = differ e
-broken own (m ∷ ms) zero g w f e =
-    or_left (breaks m g own w) (breaks_some ms g own w) (sym (ap (λ b. (b && rule_mentions (Some m) (tuple_of w).relation) || breaks m g own w) f) ∙ e)
-broken own (m ∷ ms) (suc n) g w f e = or_right (breaks m g own w) (breaks_some ms g own w) (broken own ms n g w f e)
+-- A write that may make a violation breaks a mapping, where no own write puts one in force.
+broken : (h : Direction) (own : List Change) (ms : List Rule) (n : ℕ) (g : Sense) (w : Change) → counts_all h own ≡ false → may_make h own g (slice_get ms n) w ≡ true → breaks_some ms h g own w ≡ true
+broken h own [] n g w f e = differ e
+broken h own (m ∷ ms) zero g w f e =
+    or_left (breaks h m g own w) (breaks_some ms h g own w) (sym (ap (λ b. (b && rule_mentions (Some m) (tuple_of w).relation) || breaks h m g own w) f) ∙ e)
+broken h own (m ∷ ms) (suc n) g w f e = or_right (breaks h m g own w) (breaks_some ms h g own w) (broken h own ms n g w f e)
 
 -- ---- logs
 
-module _ (ms : List Rule) (own : List Change) (g : Sense) (trails : List (List Change)) (f : list_any may_enact own ≡ false) (j : is_hit (breaks_some ms g own) trails ≡ false) where
-  met_breaks : (q : Query) (a : Bool) (w : Change) → (asks_violation q && a) ≡ true → (if a then may_violate ms Forward own g q w else concerns ms Forward own q (tuple_of w)) ≡ true → breaks_some ms g own w ≡ true
+module _ (ms : List Rule) (h : Direction) (own : List Change) (g : Sense) (trails : List (List Change)) (f : counts_all h own ≡ false) (j : is_hit (breaks_some ms h g own) trails ≡ false) where
+  met_breaks : (q : Query) (a : Bool) (w : Change) → (asks_violation q && a) ≡ true → (if a then may_violate ms h own g q w else concerns ms h own q (tuple_of w)) ≡ true → breaks_some ms h g own w ≡ true
   met_breaks (Present t) a w e k = differ e
-  met_breaks (Violation n) true w e k = broken own ms n g w f k
+  met_breaks (Violation n) true w e k = broken h own ms n g w f k
   met_breaks (Violation n) false w e k = differ e
   met_breaks (Specific t) a w e k = differ e
   met_breaks (Occurs u i) a w e k = differ e
 
-  read_unmet : (r : Read) → is_met_apart ms Forward own g trails r ≡ false → is_met ms Forward own g trails r ≡ false
+  read_unmet : (r : Read) → is_met_apart ms h own g trails r ≡ false → is_met ms h own g trails r ≡ false
   read_unmet r e = by (found_none r) refl e
     where
-      by : (b : Bool) → found_none r ≡ b → (if b then false else is_met ms Forward own g trails r) ≡ false → is_met ms Forward own g trails r ≡ false
-      by true i k = unhit (breaks_some ms g own) (meets ms Forward own g r) (λ w. met_breaks r.query (is_nothing r.reply) w i) trails j
+      by : (b : Bool) → found_none r ≡ b → (if b then false else is_met ms h own g trails r) ≡ false → is_met ms h own g trails r ≡ false
+      by true i k = unhit (breaks_some ms h g own) (meets ms h own g r) (λ w. met_breaks r.query (is_nothing r.reply) w i) trails j
       by false i k = k
 
-  log_unmet : (rs : List Read) → meets_any_apart ms Forward own g trails rs ≡ false → meets_any ms Forward own g trails rs ≡ false
+  log_unmet : (rs : List Read) → meets_any_apart ms h own g trails rs ≡ false → meets_any ms h own g trails rs ≡ false
   log_unmet [] e = refl
   log_unmet (r ∷ rs) e =
-      let parts = or_parts (is_met_apart ms Forward own g trails r) (meets_any_apart ms Forward own g trails rs) e in
-      neither (is_met ms Forward own g trails r) (meets_any ms Forward own g trails rs) (read_unmet r parts.0) (log_unmet rs parts.1)
+      let parts = or_parts (is_met_apart ms h own g trails r) (meets_any_apart ms h own g trails rs) e in
+      neither (is_met ms h own g trails r) (meets_any ms h own g trails rs) (read_unmet r parts.0) (log_unmet rs parts.1)
 
 -- No write meets a read: none breaks a mapping, and none meets one that asked for no violation or found one.
 pub all_unmet : (ms : List Rule) (h : Direction) (own : List Change) (g : Sense) (trails : List (List Change)) (rs : List Read)
-    → counts_all h own ≡ false → is_hit (breaks_some ms g own) trails ≡ false → meets_any_apart ms h own g trails rs ≡ false → meets_any ms h own g trails rs ≡ false
-all_unmet ms Forward own g trails rs f j e = log_unmet ms own g trails f j rs e
-all_unmet ms Backward own g trails rs f j e = differ (sym f)
+    → counts_all h own ≡ false → is_hit (breaks_some ms h g own) trails ≡ false → meets_any_apart ms h own g trails rs ≡ false → meets_any ms h own g trails rs ≡ false
+all_unmet ms h own g trails rs f j e = log_unmet ms h own g trails f j rs e
 
 -- Then none is changed.
 none_first : (ms : List Rule) (h : Direction) (D : List Fact) (own : List Change) (g : Sense) (trails : List (List Change)) (n : ℕ) (rs : List Read)

@@ -38,38 +38,63 @@ abbrev pub stand_together : Pattern → Fact → Pattern → Fact → Bool
 stand_together a s c t =
     (c.relation == t.relation) && ((a.relation == s.relation) && list_all (λ p. list_all (agree p) (columns c t)) (columns a s))
 
--- With the first tuple at a left atom of the mapping the second may stand at one of these atoms.
-abbrev pub may_join : List Pattern → Rule → Fact → Fact → Bool
-may_join cs m s t = list_any (λ a. list_any (λ c. stand_together a s c t) cs) m.left
+-- The atoms among which a violation that own writes caused has the tuple of one of them: forward those on the left, backward
+-- those on the right.
+abbrev pub seats : Direction → Rule → List Pattern
+seats Forward m = m.left
+seats Backward m = m.right
 
--- The write inserts a tuple with which this one may stand at one of them.
-abbrev pub joins : List Pattern → Rule → Fact → Change → Bool
-joins cs m t (Insert s) = may_join cs m s t
-joins cs m t (Delete s) = false
+-- The direction is forward.
+abbrev pub is_forward : Direction → Bool
+is_forward Forward = true
+is_forward Backward = false
 
--- One of the own writes does.
-abbrev pub joins_own : List Pattern → Rule → List Change → Fact → Bool
-joins_own cs m own t = list_any (joins cs m t) own
+-- The write may be the one: forward an insertion, backward a deletion.
+abbrev pub may_cause : Direction → Change → Bool
+may_cause h (Insert s) = is_forward h
+may_cause h (Delete s) = not (is_forward h)
 
--- So it may at some atom of the mapping.
-abbrev pub joins_either : Rule → List Change → Fact → Bool
-joins_either m own t = joins_own m.left m own t || joins_own m.right m own t
+-- With the first tuple at one of the seats the second may stand at one of these atoms.
+abbrev pub may_join : List Pattern → List Pattern → Fact → Fact → Bool
+may_join as' cs s t = list_any (λ a. list_any (λ c. stand_together a s c t) cs) as'
+
+-- The write may cause a violation of the mapping in which this tuple stands at one of them.
+abbrev pub joins : Direction → List Pattern → Rule → Fact → Change → Bool
+joins h cs m t w = may_cause h w && may_join (seats h m) cs (tuple_of w) t
+
+-- One of the own writes may.
+abbrev pub joins_own : Direction → List Pattern → Rule → List Change → Fact → Bool
+joins_own h cs m own t = list_any (joins h cs m t) own
+
+-- With the tuple on the right of the mapping such a violation may be met. Backward any tuple of a relation on the right may,
+-- since the variables that are on the right alone may stand for other values than in the tuple that was deleted.
+abbrev pub meets_right : Direction → Rule → List Change → Fact → Bool
+meets_right Forward m own t = joins_own Forward m.right m own t
+meets_right Backward m own t = list_any (λ c. c.relation == t.relation) m.right
+
+-- On the left such a violation may have the tuple, on the right the tuple may meet it.
+abbrev pub at_side : Bool → Direction → Rule → List Change → Fact → Bool
+at_side true h m own t = joins_own h m.left m own t
+at_side false h m own t = meets_right h m own t
+
+-- Either is so.
+abbrev pub joins_either : Direction → Rule → List Change → Fact → Bool
+joins_either h m own t = at_side true h m own t || at_side false h m own t
 
 -- The write may put a mapping in force.
 abbrev pub may_enact : Change → Bool
 may_enact w = (tuple_of w).relation == force_relation
 
--- The tuple may decide which violation of the mapping is the first that own writes caused. Forward it joins with a tuple that
--- they insert, or it is of a relation of the mapping and they put mappings in force; backward it is of a relation of the mapping.
-abbrev pub concerns_rule : Direction → List Change → Option Rule → Fact → Bool
-concerns_rule Forward own None t = false
-concerns_rule Forward own (Some m) t = (list_any may_enact own && rule_mentions (Some m) t.relation) || joins_either m own t
-concerns_rule Backward own m t = rule_mentions m t.relation
-
--- Tuples that join with no own insertion may decide violations as well: of an attempt backward, or one that puts mappings in force.
+-- Tuples that join with no own write may decide violations as well: forward, where own writes put mappings in force.
 abbrev pub counts_all : Direction → List Change → Bool
 counts_all Forward own = list_any may_enact own
-counts_all Backward own = true
+counts_all Backward own = false
+
+-- The tuple may decide which violation of the mapping is the first that own writes caused: it joins with one of them, or it is
+-- of a relation of the mapping and they put mappings in force.
+abbrev pub concerns_rule : Direction → List Change → Option Rule → Fact → Bool
+concerns_rule h own None t = false
+concerns_rule h own (Some m) t = (counts_all h own && rule_mentions (Some m) t.relation) || joins_either h m own t
 
 -- ---- violations where there was none
 
@@ -84,26 +109,20 @@ abbrev pub adds : Sense → Change → Bool
 adds g (Insert t) = has_come g
 adds g (Delete t) = not (has_come g)
 
--- The left atoms of the mapping, or the right ones.
-abbrev pub side : Bool → Rule → List Pattern
-side true m = m.left
-side false m = m.right
+-- A violation that own writes cause may be made where there was none: a tuple that is there since stands on the left of it, or
+-- one that was there before met it on the right.
+abbrev pub breaks : Direction → Rule → Sense → List Change → Change → Bool
+breaks h m g own w = at_side (adds g w) h m own (tuple_of w)
 
--- With a tuple that own writes insert at a left atom of the mapping, a tuple that is there since may stand at a left atom of
--- it, or one that was there before at a right atom: so a violation that they cause may be made where there was none.
-abbrev pub breaks : Rule → Sense → List Change → Change → Bool
-breaks m g own w = joins_own (side (adds g w) m) m own (tuple_of w)
-
--- The write may make a violation of the mapping that own writes caused, where there was none. Forward it breaks the mapping;
--- where they put mappings in force, and backward, its tuple is of a relation of the mapping.
+-- The write may make a violation of the mapping that own writes caused, where there was none: it breaks the mapping, or they
+-- put mappings in force and its tuple is of a relation of the mapping.
 abbrev pub may_make : Direction → List Change → Sense → Option Rule → Change → Bool
-may_make Forward own g None w = false
-may_make Forward own g (Some m) w = (list_any may_enact own && rule_mentions (Some m) (tuple_of w).relation) || breaks m g own w
-may_make Backward own g m w = rule_mentions m (tuple_of w).relation
+may_make h own g None w = false
+may_make h own g (Some m) w = (counts_all h own && rule_mentions (Some m) (tuple_of w).relation) || breaks h m g own w
 
 -- It breaks one of the mappings.
-abbrev pub breaks_some : List Rule → Sense → List Change → Change → Bool
-breaks_some ms g own w = list_any (λ m. breaks m g own w) ms
+abbrev pub breaks_some : List Rule → Direction → Sense → List Change → Change → Bool
+breaks_some ms h g own w = list_any (λ m. breaks h m g own w) ms
 
 -- ---- queries
 

@@ -56,9 +56,12 @@ pub record ConcernRows : Type 0 where
   pub elsewhere : decides (Insert (pair 3 1 2) ∷ []) (pair 1 2 5) ≡ false
   -- where the attempt put the mapping in force each tuple of its relations may decide
   pub enacted : decides (Insert (force 0) ∷ []) (pair 1 3 5) ≡ true
-  -- backward each does too, and none of another relation
-  pub backward : concerns join Backward wrote (Violation 0) (pair 1 3 5) ≡ true
-  pub unread : concerns join Backward wrote (Violation 0) (pair 3 3 5) ≡ false
+  -- backward a tuple on the left decides where it joins with a deletion, and on the right each does
+  pub backward : concerns join Backward (Delete (pair 2 1 9) ∷ []) (Violation 0) (pair 0 1 7) ≡ true
+  pub beside_it : concerns join Backward (Delete (pair 2 1 9) ∷ []) (Violation 0) (pair 0 4 7) ≡ false
+  pub on_right : concerns join Backward (Delete (pair 2 1 9) ∷ []) (Violation 0) (pair 2 4 8) ≡ true
+  pub inserted : concerns join Backward wrote (Violation 0) (pair 0 1 2) ≡ false
+  pub unread : concerns join Backward (Delete (pair 2 1 9) ∷ []) (Violation 0) (pair 3 1 9) ≡ false
   -- there is no mapping 1
   pub missing : concerns join Forward wrote (Violation 1) (pair 1 2 5) ≡ false
   -- `Present` is asked of one tuple
@@ -78,8 +81,11 @@ pub record ConcernRows : Type 0 where
   -- one that found a violation is met by each that joins
   pub found_comes : hits Came found (Insert (pair 2 1 9)) ≡ true
   pub found_goes : hits Came found (Delete (pair 1 2 5)) ≡ true
-  -- backward, or where the attempt put the mapping in force, each write of its relations meets both
-  pub all_backward : meets join Backward wrote Came in_vain (Insert (pair 2 4 9)) ≡ true
+  -- backward too what comes meets it on the left, and what goes on the right
+  pub back_comes : meets join Backward (Delete (pair 2 1 9) ∷ []) Came in_vain (Insert (pair 0 1 7)) ≡ true
+  pub back_goes : meets join Backward (Delete (pair 2 1 9) ∷ []) Came in_vain (Delete (pair 0 1 7)) ≡ false
+  pub back_right : meets join Backward (Delete (pair 2 1 9) ∷ []) Came in_vain (Insert (pair 2 4 9)) ≡ false
+  -- where the attempt put the mapping in force each write of its relations meets both
   pub all_enacted : meets join Forward (Insert (force 0) ∷ []) Came in_vain (Insert (pair 2 4 9)) ≡ true
   -- trails meet a read by any of their writes
   pub trails : is_met join Forward wrote Came ((Insert (pair 1 3 5) ∷ []) ∷ (Insert (pair 3 0 0) ∷ Insert (pair 1 2 5) ∷ []) ∷ []) in_vain ≡ true

@@ -6,10 +6,10 @@ ghost use Rattle.yt_base.specs.Meanings.{change_of, datum_of, fact_of, heading_o
 ghost use Rattle.yt_model.specs.Queries.{holds_null as holds_null_lem, is_named as is_named_lem};
 ghost use Rattle.yt_query.specs.Meanings.{query_of, read_of};
 ghost use Rattle.yt_conflict.specs.Changes.{meets_any, meets_any_apart};
-ghost use Rattle.yt_conflict.specs.Concerns.{breaks_some as breaks_some_lem, concerns as concerns_lem, counts_all as counts_all_lem, found_none as found_none_lem, is_hit, is_met as is_met_lem, is_met_apart, may_violate as may_violate_lem, meets as meets_lem, tuple_of as tuple_of_lem};
+ghost use Rattle.yt_conflict.specs.Concerns.{breaks_some as breaks_some_lem, concerns as concerns_lem, found_none as found_none_lem, is_hit, is_met as is_met_lem, is_met_apart, may_violate as may_violate_lem, meets as meets_lem, tuple_of as tuple_of_lem};
 ghost use Rattle.yt_conflict.specs.Trails.{trails_of};
 
-use crate::joins::{breaks_some, may_decide, may_enact_any, may_make};
+use crate::joins::{breaks_some, counts_all, may_decide, may_make};
 use yt_base::{Direction, MappingList, Tuple, Value, Write};
 use yt_query::{Answer, LoggedRead, Query};
 use yt_unifier::is_more_specific;
@@ -46,7 +46,7 @@ impl<'r> Reader<'r> {
             (heading_of self.now.direction) (map change_of self.now.own.now) self.now.sense
             (trails_of trails.now) (map read_of log.now) ≡ false }
     {
-        if self.counts_all() {
+        if counts_all(self.direction, self.own) {
             return true;
         }
         if self.is_broken(trails) {
@@ -55,31 +55,28 @@ impl<'r> Reader<'r> {
         self.meets_apart(trails, log)
     }
 
-    // Whether tuples that join with no own insertion may decide violations as well.
-    fn counts_all(&self) -> bool
-        ensures { result ≡ counts_all_lem (heading_of self.now.direction)
-            (map change_of self.now.own.now) }
-    {
-        match self.direction {
-            Direction::Forward => may_enact_any(self.own),
-            Direction::Backward => true,
-        }
-    }
-
-    // Whether a write of one of the trails may break one of the mappings, with an own insertion.
+    // Whether a write of one of the trails may break one of the mappings, with an own write.
     fn is_broken(&self, trails: &[Trail<'_>]) -> bool
         ensures { result ≡ is_hit (breaks_some_lem (rules_in self.now.mappings.now)
-            self.now.sense (map change_of self.now.own.now)) (trails_of trails.now) }
+            (heading_of self.now.direction) self.now.sense (map change_of self.now.own.now))
+            (trails_of trails.now) }
     {
         trails.iter().any(|trail| self.is_broken_by(trail.writes))
     }
 
-    // Whether one of the writes may break one of the mappings, with an own insertion.
+    // Whether one of the writes may break one of the mappings, with an own write.
     fn is_broken_by(&self, writes: &[Write]) -> bool
         ensures { result ≡ list_any (breaks_some_lem (rules_in self.now.mappings.now)
-            self.now.sense (map change_of self.now.own.now)) (map change_of writes.now) }
+            (heading_of self.now.direction) self.now.sense (map change_of self.now.own.now))
+            (map change_of writes.now) }
     {
-        writes.iter().any(|write| breaks_some(self.mappings, self.sense, self.own, write))
+        writes.iter().any(|write| breaks_some(
+            self.mappings,
+            self.direction,
+            self.sense,
+            self.own,
+            write,
+        ))
     }
 
     // Whether a write of one of the trails meets a read of the log, of those that asked for no violation or found one.

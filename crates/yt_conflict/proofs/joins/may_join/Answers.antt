@@ -9,4 +9,4 @@ use Rattle.yt_conflict.proofs.joins.may_join.Goals as goal
 pub returns : goal.returns
 returns c =
     any_from_yields_List (λ a. list_any (λ x. stand_together a (fact_of c.args.own.now) x (fact_of c.args.tuple.now)) (map pattern_of c.args.atoms.now)) c.any.new.self _ _ c.any.ensures.ran
-    (mapped_from_slice pattern_of c.args.mapping.now.left.items cc) (λ x b q k. search (rules, tests))
+    (mapped_from_slice pattern_of c.args.seats.now cc) (λ x b q k. search (rules, tests))
