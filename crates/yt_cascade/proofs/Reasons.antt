@@ -8,6 +8,8 @@ use Rattle.std.specs.Option.{option_map}
 use Rattle.yt_conflict.specs.Changes.{Numbered, Changed, first_from, is_changed, is_met_and_changed, value_now}
 use Rattle.yt_conflict.specs.Concerns.{AgreeBut, is_met}
 use Rattle.yt_conflict.specs.Trails.{trails_of}
+use Rattle.yt_conflict.specs.declared.concerns.Sense.{Sense}
+use Rattle.yt_conflict.specs.declared.concerns.Sense.TheVariants.{Went}
 use Rattle.yt_conflict.specs.declared.concerns.Trail.{Trail}
 use Rattle.yt_conflict.proofs.Staying.{unmet_values_stay}
 use Rattle.yt_entries.specs.Meanings.{cause_of as plain_of}
@@ -22,6 +24,7 @@ use Rattle.yt_machine.specs.Updates.{Read as ReadOfHistory, Deps, Precise, Coars
 use Rattle.yt_model.specs.Mappings.{Rule}
 use Rattle.yt_machine.proofs.Settling.{run_valid}
 use Rattle.yt_model.specs.Queries.{Reply, same_reply}
+use Rattle.yt_model.proofs.Replies.{reply_is, reply_itself}
 use Rattle.yt_model.specs.Repository.{Change}
 use Rattle.yt_model.specs.Updates.{Operation, direction_of}
 use Rattle.yt_model.specs.Values.{Fact}
@@ -76,9 +79,9 @@ first_met p met n [] h = refl
 first_met p met n (r ∷ rs) h = λ i. if same_test (met r) (p r) h.0 i then Some (record { number = n; read = r }) else first_met p met (suc n) rs h.1 i
 
 -- Where nothing is written none is met.
-none_met : (ms : List Rule) (op : Operation) (D : List Fact) (own : List Change) (n : ℕ) (rs : List Read) → first_from (is_met_and_changed ms (direction_of op) D own ([] ∷ [])) n rs ≡ None
-none_met ms op D own n [] = refl
-none_met ms op D own n (r ∷ rs) = none_met ms op D own (suc n) rs
+none_met : (ms : List Rule) (op : Operation) (D : List Fact) (own : List Change) (g : Sense) (n : ℕ) (rs : List Read) → first_from (is_met_and_changed ms (direction_of op) D own g ([] ∷ [])) n rs ≡ None
+none_met ms op D own g n [] = refl
+none_met ms op D own g n (r ∷ rs) = none_met ms op D own g (suc n) rs
 
 unmapped : {A B : Type 0} (f : A → B) (o : Option A) → None ≡ option_map f o → o ≡ None
 unmapped f None e = refl
@@ -88,13 +91,13 @@ module _ (ms : List Rule) (B : ℕ) where
   -- ---- reads that keep their values
 
   -- Reads that were valid have not changed where no write meets them.
-  keeps : (op : Operation) (own : List Change) (trails : List (List Change)) (D E : List Fact) → AgreeBut trails D E → (rs : List Read) → list_all (is_valid (caused_chase ms B) op D own) (map (logged ms B) rs) ≡ true
-      → AllByRecursion (λ r. is_met ms (direction_of op) own trails r.query ≡ false → is_changed ms (direction_of op) E own r ≡ false) rs
-  keeps op own trails D E a [] v = tt
-  keeps op own trails D E a (r ∷ rs) v =
+  keeps : (op : Operation) (own : List Change) (g : Sense) (trails : List (List Change)) (D E : List Fact) → AgreeBut g trails D E → (rs : List Read) → list_all (is_valid (caused_chase ms B) op D own) (map (logged ms B) rs) ≡ true
+      → AllByRecursion (λ r. is_met ms (direction_of op) own g trails r ≡ false → is_changed ms (direction_of op) E own r ≡ false) rs
+  keeps op own g trails D E a [] v = tt
+  keeps op own g trails D E a (r ∷ rs) v =
       let parts = and_parts (is_valid (caused_chase ms B) op D own (logged ms B r)) (list_all (is_valid (caused_chase ms B) op D own) (map (logged ms B) rs)) v in (
-        λ m. ap (λ (x : Reply). not (same_reply r.reply x)) (sym (unmet_values_stay ms (direction_of op) own r.query r.own trails D E a m)) ∙ ap not parts.0,
-        keeps op own trails D E a rs parts.1,
+        λ m. ap (λ (x : Reply). not (same_reply r.reply x)) (sym (unmet_values_stay ms (direction_of op) own r g trails D E a m (reply_is r.reply (value_now ms (direction_of op) D own r) parts.0))) ∙ ap not (reply_itself r.reply),
+        keeps op own g trails D E a rs parts.1,
       )
 
   was_not : (b : Bool) → not b ≡ false → b ≡ true
@@ -132,11 +135,11 @@ module _ (ms : List Rule) (B : ℕ) where
   now_in v r t = record { number = t.number; read = t.read; now = value_now ms (direction_of r.program.attempt.operation) (seen (number_of r) v) r.program.attempt.own t.read }
 
   -- It is the first of those that are met, where the reads were valid before.
-  met_first : (v : Kept) (trails : List (List Change)) (D : List Fact) (r : Record) → AgreeBut trails D (seen (number_of r) v) → ValidOver D r → first_changed_in ms v trails r ≡ option_map (now_in v r) (first_of_all v r)
-  met_first v trails D r a valid =
+  met_first : (v : Kept) (g : Sense) (trails : List (List Change)) (D : List Fact) (r : Record) → AgreeBut g trails D (seen (number_of r) v) → ValidOver D r → first_changed_in ms v g trails r ≡ option_map (now_in v r) (first_of_all v r)
+  met_first v g trails D r a valid =
       ap (option_map (now_in v r))
-      (first_met (is_changed ms (direction_of r.program.attempt.operation) (seen (number_of r) v) r.program.attempt.own) (λ t. is_met ms (direction_of r.program.attempt.operation) r.program.attempt.own trails t.query) 1 (reads r)
-      (keeps r.program.attempt.operation r.program.attempt.own trails D (seen (number_of r) v) a (reads r) valid))
+      (first_met (is_changed ms (direction_of r.program.attempt.operation) (seen (number_of r) v) r.program.attempt.own) (is_met ms (direction_of r.program.attempt.operation) r.program.attempt.own g trails) 1 (reads r)
+      (keeps r.program.attempt.operation r.program.attempt.own g trails D (seen (number_of r) v) a (reads r) valid))
 
   -- ---- conflicts
 
@@ -186,14 +189,14 @@ module _ (ms : List Rule) (B : ℕ) where
   as_numbered g e (Some t) = ap Some (e t)
 
   -- The first read that depends on what is lost, where the reads are valid over the whole.
-  pub first_depends : (deps : Deps) (E : List Fact) (lost : Lost) (r : Record) → AgreeBut (trails_of lost.members.items) E (seen (number_of r) lost.without) → ValidOver E r
+  pub first_depends : (deps : Deps) (E : List Fact) (lost : Lost) (r : Record) → AgreeBut Went (trails_of lost.members.items) E (seen (number_of r) lost.without) → ValidOver E r
       → option_map (paired ms B) (first_by deps ms lost r)
       ≡ first_that (read_depends (caused_chase ms B) deps r.program.attempt.operation (seen (number_of r) lost.without) r.program.attempt.own (members_of ms B lost.members.items)) (update_of ms B r).log
   first_depends Precise E lost r a valid =
       let D = seen (number_of r) lost.without in
       let op = r.program.attempt.operation in
       let own = r.program.attempt.own in
-      ap (λ o. option_map (paired ms B) (option_map (λ (c : Changed). record { number = c.number; read = c.read }) o)) (met_first lost.without (trails_of lost.members.items) E r a valid)
+      ap (λ o. option_map (paired ms B) (option_map (λ (c : Changed). record { number = c.number; read = c.read }) o)) (met_first lost.without Went (trails_of lost.members.items) E r a valid)
       ∙ ap (option_map (paired ms B)) (as_numbered (now_in lost.without r) (λ t. refl) (first_of_all lost.without r))
       ∙ first_is ms B (is_changed ms (direction_of op) D own) (read_depends (caused_chase ms B) Precise op D own (members_of ms B lost.members.items)) (λ q. refl) (reads r)
   first_depends Coarse E lost r a valid =
@@ -217,7 +220,7 @@ module _ (ms : List Rule) (B : ℕ) where
   where_members X Y [] e = refl
   where_members X Y (k ∷ ks) e = e
 
-  pub dependence_is : (deps : Deps) (E : List Fact) (lost : Lost) (r : Record) → AgreeBut (trails_of lost.members.items) E (seen (number_of r) lost.without) → ValidOver E r
+  pub dependence_is : (deps : Deps) (E : List Fact) (lost : Lost) (r : Record) → AgreeBut Went (trails_of lost.members.items) E (seen (number_of r) lost.without) → ValidOver E r
       → option_map (cause_kept ms B) (if is_nil lost.members.items then None else option_map (dependence_meant ms lost.members.items (number_of r)) (first_by deps ms lost r))
       ≡ (if not (is_nil (members_of ms B lost.members.items)) then dependence_in deps lost r else None)
   dependence_is deps E lost r a valid =
@@ -280,10 +283,10 @@ stays_in : (a : Above) (r : Record) → may_have_cause a.committed r ≡ true �
 stays_in a r h = not_true r.withdrawn (and_parts (nat_lt a.committed (number_of r)) (not r.withdrawn) (live_is a r h)).1
 
 module _ (a : Above) (ws : List Change) (lost : Lost) (r : Record) (l : may_have_cause a.committed r ≡ true) (B : ℕ) (few : 1 ≤ B)
-    (q : RanBelow a.rules B ws (trails_of lost.members.items) (seen (number_of r) a.whole) (seen (number_of r) lost.without) (number_of r) (update_of a.rules B r)) where
+    (q : RanBelow a.rules B a.sense ws (trails_of lost.members.items) (seen (number_of r) a.whole) (seen (number_of r) lost.without) (number_of r) (update_of a.rules B r)) where
   -- Its first changed read is one that the writes meet.
-  met_by_writes : first_changed_in a.rules a.whole (ws ∷ []) r ≡ option_map (now_in a.rules B a.whole r) (first_of_all a.rules B a.whole r)
-  met_by_writes = met_first a.rules B a.whole (ws ∷ []) q.before r q.event (run_is_valid a.rules B few q.before (number_of r) r (stays_in a r l) q.run)
+  met_by_writes : first_changed_in a.rules a.whole a.sense (ws ∷ []) r ≡ option_map (now_in a.rules B a.whole r) (first_of_all a.rules B a.whole r)
+  met_by_writes = met_first a.rules B a.whole a.sense (ws ∷ []) q.before r q.event (run_is_valid a.rules B few q.before (number_of r) r (stays_in a r l) q.run)
 
   -- The conflict that was found is that of the history.
   conflict_found : (x : Option CauseOfProgram) → IsConflictFor a ws r x → found_of a.rules B x ≡ conflict_in a.rules B a.update a.whole r
@@ -294,14 +297,14 @@ module _ (a : Above) (ws : List Change) (lost : Lost) (r : Record) (l : may_have
   valid_still : IsConflictFor a ws r None → ValidOver a.rules B (seen (number_of r) a.whole) r
   valid_still h =
       all_valid_now a.rules B r.program.attempt.operation r.program.attempt.own (seen (number_of r) a.whole) 1 (map read_of r.log.items)
-      (unmapped (now_in a.rules B a.whole r) (first_of_all a.rules B a.whole r) (sym (unmapped (conflict_meant a.update (number_of r)) (first_changed_in a.rules a.whole (ws ∷ []) r) h) ∙ met_by_writes))
+      (unmapped (now_in a.rules B a.whole r) (first_of_all a.rules B a.whole r) (sym (unmapped (conflict_meant a.update (number_of r)) (first_changed_in a.rules a.whole a.sense (ws ∷ []) r) h) ∙ met_by_writes))
 
 -- Without writes there is no conflict.
 pub no_conflict : (a : Above) (ws : List Change) (r : Record) → ws ≡ [] → IsConflictFor a ws r None
 no_conflict a ws r e =
-    sym (ap (λ vs. option_map (conflict_meant a.update (number_of r)) (first_changed_in a.rules a.whole (vs ∷ []) r)) e
+    sym (ap (λ vs. option_map (conflict_meant a.update (number_of r)) (first_changed_in a.rules a.whole a.sense (vs ∷ []) r)) e
     ∙ ap (λ o. option_map (conflict_meant a.update (number_of r)) (option_map (λ (t : Numbered). record { number = t.number; read = t.read; now = value_now a.rules (direction_of r.program.attempt.operation) (seen (number_of r) a.whole) r.program.attempt.own t.read }) o))
-    (none_met a.rules r.program.attempt.operation (seen (number_of r) a.whole) r.program.attempt.own 1 (map read_of r.log.items)))
+    (none_met a.rules r.program.attempt.operation (seen (number_of r) a.whole) r.program.attempt.own a.sense 1 (map read_of r.log.items)))
 
 -- A conflict comes first.
 pub conflict_first : (a : Above) (ws : List Change) (lost : Lost) (r : Record) (x : CauseOfProgram) → may_have_cause a.committed r ≡ true → IsConflictFor a ws r (Some x) → IsCauseFor a ws lost r (Some x)

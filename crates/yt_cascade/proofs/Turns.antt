@@ -4,6 +4,7 @@ use Rattle.std.proofs.lemmas.Bool.{both_ways}
 use Rattle.std.proofs.lemmas.List.{drop_more, map-append, drop-map}
 use Rattle.yt_conflict.specs.Concerns.{AgreeBut}
 use Rattle.yt_conflict.specs.Trails.{writes_of, trails_of}
+use Rattle.yt_conflict.specs.declared.concerns.Sense.TheVariants.{Went}
 use Rattle.yt_conflict.specs.declared.concerns.Trail.{Trail}
 use Rattle.yt_conflict.proofs.Staying.{agree_alone, agree_after, agree_more}
 use Rattle.yt_entries.specs.declared.causes.Cause.{Cause as CauseOfProgram}
@@ -92,16 +93,16 @@ trails_are ms B (k ∷ ks) = ap (λ ts. writes_of k ∷ ts) (trails_are ms B ks)
 
 -- What differs between the two versions below the next update, once this one has its say.
 gone_next : (ms : List Rule) (B : ℕ) (b : Bool) (E N F G : List Fact) (ks ls : List Trail) (n : ℕ) (u : Update (caused_chase ms B)) → F ≡ apply E (trail (caused_chase ms B) u) → G ≡ without_member (caused_chase ms B) b N u
-    → members_of ms B ls ≡ with_member (caused_chase ms B) b (members_of ms B ks) n u → AgreeBut (trails_of ks) E N → AgreeBut (trails_of ls) F G
+    → members_of ms B ls ≡ with_member (caused_chase ms B) b (members_of ms B ks) n u → AgreeBut Went (trails_of ks) E N → AgreeBut Went (trails_of ls) F G
 gone_next ms B true E N F G ks ls n u ef eg el a =
     let tr : List Change = trail (caused_chase ms B) u in
     let ts : trails_of ls ≡ trails_of ks ++ tr ∷ [] =
     trails_are ms B ls ∙ ap (map (λ (m : Member (caused_chase ms B)). m.trail)) el ∙ map-append (λ (m : Member (caused_chase ms B)). m.trail) (members_of ms B ks) (record { number = n; trail = tr } ∷ [])
     ∙ ap (λ zs. zs ++ tr ∷ []) (sym (trails_are ms B ks)) in
-    subst (λ zs. AgreeBut zs F G) (sym ts) (subst (λ X. AgreeBut (trails_of ks ++ tr ∷ []) X G) (sym ef) (subst (λ X. AgreeBut (trails_of ks ++ tr ∷ []) (apply E tr) X) (sym eg) (agree_more (trails_of ks) E N tr a)))
+    subst (λ zs. AgreeBut Went zs F G) (sym ts) (subst (λ X. AgreeBut Went (trails_of ks ++ tr ∷ []) X G) (sym ef) (subst (λ X. AgreeBut Went (trails_of ks ++ tr ∷ []) (apply E tr) X) (sym eg) (agree_more (trails_of ks) E N tr a)))
 gone_next ms B false E N F G ks ls n u ef eg el a =
     let ts : trails_of ls ≡ trails_of ks = trails_are ms B ls ∙ ap (map (λ (m : Member (caused_chase ms B)). m.trail)) el ∙ sym (trails_are ms B ks) in
-    subst (λ zs. AgreeBut zs F G) (sym ts) (subst (λ X. AgreeBut (trails_of ks) X G) (sym ef) (subst (λ X. AgreeBut (trails_of ks) (apply E (trail (caused_chase ms B) u)) X) (sym eg) (agree_after (trails_of ks) E N (trail (caused_chase ms B) u) a)))
+    subst (λ zs. AgreeBut Went zs F G) (sym ts) (subst (λ X. AgreeBut Went (trails_of ks) X G) (sym ef) (subst (λ X. AgreeBut Went (trails_of ks) (apply E (trail (caused_chase ms B) u)) X) (sym eg) (agree_after Went (trails_of ks) E N (trail (caused_chase ms B) u) a)))
 
 module _ (a : Above) (conflicting : Bool) (B : ℕ) (ws : List Change) where
   found_some : (x : Option CauseOfProgram) → is_some (found_of a.rules B x) ≡ is_some x
@@ -123,7 +124,7 @@ module _ (a : Above) (conflicting : Bool) (B : ℕ) (ws : List Change) where
         without = after.held;
         before = apply s.before (trail (caused_chase a.rules B) u);
         runs = s.runs.1;
-        event = subst (λ X. AgreeBut (ws ∷ []) (apply s.before (trail (caused_chase a.rules B) u)) X) (sym below) (agree_after (ws ∷ []) s.before (seen n a.whole) (trail (caused_chase a.rules B) u) s.event);
+        event = subst (λ X. AgreeBut a.sense (ws ∷ []) (apply s.before (trail (caused_chase a.rules B) u)) X) (sym below) (agree_after a.sense (ws ∷ []) s.before (seen n a.whole) (trail (caused_chase a.rules B) u) s.event);
         gone = gone_next a.rules B b (seen n a.whole) (seen n lost.without) (seen (suc n) a.whole) (seen (suc n) left.without) lost.members.items left.members.items n u below after.below after.members s.gone;
       }
 
@@ -136,10 +137,10 @@ module _ (a : Above) (conflicting : Bool) (B : ℕ) (ws : List Change) where
       let us = updates_of a.rules B rs in
       let s = t.stand in
       let e : number_of r ≡ n = t.from.0.number in
-      let here : RanBelow a.rules B ws (trails_of lost.members.items) (seen n a.whole) (seen n lost.without) n u = record { before = s.before; run = s.runs.0; event = s.event; lost = s.gone } in
+      let here : RanBelow a.rules B a.sense ws (trails_of lost.members.items) (seen n a.whole) (seen n lost.without) n u = record { before = s.before; run = s.runs.0; event = s.event; lost = s.gone } in
       let is : found_of a.rules B x ≡ cause_of (caused_chase a.rules B) a.deps conflicting a.committed a.update (seen n a.whole) (seen n lost.without) (members_of a.rules B lost.members.items) n u =
       subst (λ k. found_of a.rules B x ≡ cause_of (caused_chase a.rules B) a.deps conflicting a.committed a.update (seen k a.whole) (seen k lost.without) (members_of a.rules B lost.members.items) k u) e
-      (cause B conflicting few looks (subst (λ k. RanBelow a.rules B ws (trails_of lost.members.items) (seen k a.whole) (seen k lost.without) k u) (sym e) here)) in
+      (cause B conflicting few looks (subst (λ k. RanBelow a.rules B a.sense ws (trails_of lost.members.items) (seen k a.whole) (seen k lost.without) k u) (sym e) here)) in
       let after : LeavesLost a.rules B (is_some x) n u us lost left =
       subst (λ k. LeavesLost a.rules B (is_some x) k u us lost left) e (loses a.rules B us (subst (λ k. HoldFrom a.rules B k (u ∷ us) lost.without) (sym e) s.without)) in
       record {
@@ -198,8 +199,8 @@ of_writes a ws lost rs xs w k f B D lower u v few e h runs agree =
       without = subst (HoldFrom a.rules B (suc a.update) us) (sym w) whole;
       before = above a.rules B D lower u;
       runs = runs;
-      event = subst (λ X. AgreeBut (ws ∷ []) (above a.rules B D lower u) X) (sym below) agree;
-      gone = subst (λ (z : Kept). AgreeBut (trails_of lost.members.items) (seen (suc a.update) a.whole) (seen (suc a.update) z)) (sym w) (agree_alone (trails_of lost.members.items) (seen (suc a.update) a.whole) sorted);
+      event = subst (λ X. AgreeBut a.sense (ws ∷ []) (above a.rules B D lower u) X) (sym below) agree;
+      gone = subst (λ (z : Kept). AgreeBut Went (trails_of lost.members.items) (seen (suc a.update) a.whole) (seen (suc a.update) z)) (sym w) (agree_alone Went (trails_of lost.members.items) (seen (suc a.update) a.whole) sorted);
     })
     ∙ (λ i. settle (caused_chase a.rules B) a.deps true a.committed a.update (below i) ((ap (seen (suc a.update)) w ∙ below) i) (members_of a.rules B (k i)) (suc a.update) us)
 
@@ -224,9 +225,9 @@ of_loss a none lost ws rs xs w k l f B D lower u few e eu h runs =
       without = hold_without a.rules B a.update u us a.whole lost.without held gone;
       before = apply base tr;
       runs = runs;
-      event = subst (λ X. AgreeBut ([] ∷ []) (apply base tr) X) (sym with_it) (agree_alone ([] ∷ []) (apply base tr) (apply_in_order base tr sorted));
+      event = subst (λ X. AgreeBut a.sense ([] ∷ []) (apply base tr) X) (sym with_it) (agree_alone a.sense ([] ∷ []) (apply base tr) (apply_in_order base tr sorted));
       gone =
-          subst (λ zs. AgreeBut zs (seen (suc a.update) a.whole) (seen (suc a.update) lost.without)) (sym ts)
-          (subst (λ X. AgreeBut (tr ∷ []) X (seen (suc a.update) lost.without)) (sym with_it) (subst (λ X. AgreeBut (tr ∷ []) (apply base tr) X) (sym without_it) (agree_more [] base base tr (agree_alone [] base sorted))));
+          subst (λ zs. AgreeBut Went zs (seen (suc a.update) a.whole) (seen (suc a.update) lost.without)) (sym ts)
+          (subst (λ X. AgreeBut Went (tr ∷ []) X (seen (suc a.update) lost.without)) (sym with_it) (subst (λ X. AgreeBut Went (tr ∷ []) (apply base tr) X) (sym without_it) (agree_more [] base base tr (agree_alone Went [] base sorted))));
     })
     ∙ (λ i. settle (caused_chase a.rules B) a.deps false a.committed a.update (with_it i) (without_it i) (members i) (suc a.update) us)

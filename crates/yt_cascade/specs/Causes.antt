@@ -21,7 +21,7 @@ AreCausesOfWrites a ws upper xs =
     (B : ℕ) (D : List Fact) (lower : List (Update (caused_chase a.rules B))) (u v : Update (caused_chase a.rules B)) → 1 ≤ B
     → a.update ≡ suc (length lower) → AreVersions a.rules B D (lower ++ v ∷ updates_of a.rules B upper) a.whole
     → AreRuns (caused_chase a.rules B) (above a.rules B D lower u) (suc a.update) (updates_of a.rules B upper)
-    → AgreeBut (ws ∷ []) (above a.rules B D lower u) (above a.rules B D lower v)
+    → AgreeBut a.sense (ws ∷ []) (above a.rules B D lower u) (above a.rules B D lower v)
     → found_for a.rules B upper xs
     ≡ settle (caused_chase a.rules B) a.deps true a.committed a.update (above a.rules B D lower v) (above a.rules B D lower v) [] (suc a.update) (updates_of a.rules B upper)
 

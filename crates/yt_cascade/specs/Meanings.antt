@@ -2,6 +2,7 @@
 use Rattle.std.specs.Prelude.{ℕ, List, ◌++◌, map, length, drop, Option, None}
 use Rattle.std.specs.Option.{option_map}
 use Rattle.yt_conflict.specs.Trails.{writes_of}
+use Rattle.yt_conflict.specs.declared.concerns.Sense.{Sense}
 use Rattle.yt_conflict.specs.declared.concerns.Trail.{Trail}
 use Rattle.yt_entries.specs.Meanings.{cause_of}
 use Rattle.yt_entries.specs.declared.causes.Cause.{Cause as CauseOfProgram}
@@ -16,18 +17,19 @@ use Rattle.yt_versions.specs.Standing.{Kept}
 use Rattle.yt_cascade.specs.declared.cascades.Cascade.{Cascade}
 
 -- What a walk upwards goes by: the mappings, how dependences are tested, how many updates were committed when the event
--- began, the number of the event's update, and the versions with all trails.
+-- began, the number of the event's update, whether the writes of the event came or went, and the versions with all trails.
 pub record Above : Type 0 where
   pub rules : List Rule
   pub deps : Deps
   pub committed : ℕ
   pub update : ℕ
+  pub sense : Sense
   pub whole : Kept
 
 -- What a `Cascade` stands for.
 abbrev pub above_of : Cascade → Above
 above_of c =
-    record { rules = c.mappings.now; deps = deps_of c.deps; committed = c.committed; update = c.update; whole = c.whole.now }
+    record { rules = c.mappings.now; deps = deps_of c.deps; committed = c.committed; update = c.update; sense = c.sense; whole = c.whole.now }
 
 module _ (ms : List Rule) (B : ℕ) where
   -- The member of a history whose trail this is.

@@ -4,6 +4,8 @@ use Rattle.std.specs.List.{list_any}
 use Rattle.std.specs.Option.{option_map}
 use Rattle.yt_conflict.specs.Changes.{Changed, Numbered, first_from, first_changed}
 use Rattle.yt_conflict.specs.Trails.{writes_of, trails_of}
+use Rattle.yt_conflict.specs.declared.concerns.Sense.{Sense}
+use Rattle.yt_conflict.specs.declared.concerns.Sense.TheVariants.{Went}
 use Rattle.yt_conflict.specs.declared.concerns.Trail.{Trail}
 use Rattle.yt_machine.specs.Updates.{Deps, Precise, Coarse}
 use Rattle.yt_model.specs.Mappings.{Rule}
@@ -37,13 +39,13 @@ numbered_of x = record { number = x.number; read = read_of x.read.now }
 
 -- The first logged read of the record that a write of these trails meets and that has another value over what its update
 -- sees of the versions.
-abbrev pub first_changed_in : List Rule → Kept → List (List Change) → Record → Option Changed
-first_changed_in ms v trails r =
-    first_changed ms (direction_of r.program.attempt.operation) (seen r.program.attempt.number v) r.program.attempt.own trails (map read_of r.log.items)
+abbrev pub first_changed_in : List Rule → Kept → Sense → List (List Change) → Record → Option Changed
+first_changed_in ms v g trails r =
+    first_changed ms (direction_of r.program.attempt.operation) (seen r.program.attempt.number v) r.program.attempt.own g trails (map read_of r.log.items)
 
 -- The same without its value there, where these trails are lost.
 abbrev pub first_invalid : List Rule → Kept → List Trail → Record → Option Numbered
-first_invalid ms v ts r = option_map (λ c. record { number = c.number; read = c.read }) (first_changed_in ms v (trails_of ts) r)
+first_invalid ms v ts r = option_map (λ c. record { number = c.number; read = c.read }) (first_changed_in ms v Went (trails_of ts) r)
 
 -- The first of these reads that mentions a relation which one of the members wrote.
 abbrev pub first_reached : List Rule → List Trail → List Read → Option Numbered

@@ -4,6 +4,8 @@ use Rattle.std.specs.Option.{option_map}
 use Rattle.yt_conflict.specs.Changes.{Changed, Numbered}
 use Rattle.yt_conflict.specs.Concerns.{AgreeBut}
 use Rattle.yt_conflict.specs.Trails.{trails_of}
+use Rattle.yt_conflict.specs.declared.concerns.Sense.{Sense}
+use Rattle.yt_conflict.specs.declared.concerns.Sense.TheVariants.{Went}
 use Rattle.yt_conflict.specs.declared.concerns.Trail.{Trail}
 use Rattle.yt_conflict.specs.Meanings.{changed_of}
 use Rattle.yt_conflict.specs.declared.changes.Changed.{Changed as ChangedOfProgram}
@@ -49,7 +51,7 @@ IsConflict j n c x = option_map plain_of x ≡ option_map (conflict_meant j n) (
 
 -- It is the conflict of the reader with these writes, if that is live.
 abbrev pub IsConflictFor : Above → List Change → Record → Option Cause → Type 0
-IsConflictFor a ws r x = option_map plain_of x ≡ option_map (conflict_meant a.update (number_of r)) (first_changed_in a.rules a.whole (ws ∷ []) r)
+IsConflictFor a ws r x = option_map plain_of x ≡ option_map (conflict_meant a.update (number_of r)) (first_changed_in a.rules a.whole a.sense (ws ∷ []) r)
 
 -- The dependence of the reader of this number, by its read.
 abbrev pub dependence_meant : List Rule → List Trail → ℕ → Numbered → PlainCause
@@ -63,11 +65,11 @@ IsDependenceFor a lost r x =
 
 -- Update n was its run over what lay below it before the event. Since then these writes came or went there, which gave the
 -- whole; and these trails are lost, which leaves what is without them.
-pub record RanBelow (ms : List Rule) (B : ℕ) (ws : List Change) (trails : List (List Change)) (whole without : List Fact) (n : ℕ) (u : Update (caused_chase ms B)) : Type 0 where
+pub record RanBelow (ms : List Rule) (B : ℕ) (g : Sense) (ws : List Change) (trails : List (List Change)) (whole without : List Fact) (n : ℕ) (u : Update (caused_chase ms B)) : Type 0 where
   pub before : List Fact
   pub run : IsRun (caused_chase ms B) before n u
-  pub event : AgreeBut (ws ∷ []) before whole
-  pub lost : AgreeBut trails whole without
+  pub event : AgreeBut g (ws ∷ []) before whole
+  pub lost : AgreeBut Went trails whole without
 
 -- Without writes there is no conflict to look for.
 abbrev pub LooksFor : Bool → List Change → Type 0
@@ -77,7 +79,7 @@ LooksFor conflicting ws = conflicting ≡ false → ws ≡ []
 abbrev pub IsCauseFor : Above → List Change → Lost → Record → Option Cause → Type 0
 IsCauseFor a ws lost r x =
     (B : ℕ) (conflicting : Bool) → 1 ≤ B → LooksFor conflicting ws
-    → RanBelow a.rules B ws (trails_of lost.members.items) (seen (number_of r) a.whole) (seen (number_of r) lost.without) (number_of r) (update_of a.rules B r)
+    → RanBelow a.rules B a.sense ws (trails_of lost.members.items) (seen (number_of r) a.whole) (seen (number_of r) lost.without) (number_of r) (update_of a.rules B r)
     → found_of a.rules B x
     ≡ cause_of (caused_chase a.rules B) a.deps conflicting a.committed a.update (seen (number_of r) a.whole) (seen (number_of r) lost.without) (members_of a.rules B lost.members.items) (number_of r) (update_of a.rules B r)
 
@@ -105,8 +107,8 @@ pub record StandAbove (a : Above) (B : ℕ) (ws : List Change) (lost : Lost) (n 
   pub without : HoldFrom a.rules B n (updates_of a.rules B rs) lost.without
   pub before : List Fact
   pub runs : AreRuns (caused_chase a.rules B) before n (updates_of a.rules B rs)
-  pub event : AgreeBut (ws ∷ []) before (seen n a.whole)
-  pub gone : AgreeBut (trails_of lost.members.items) (seen n a.whole) (seen n lost.without)
+  pub event : AgreeBut a.sense (ws ∷ []) before (seen n a.whole)
+  pub gone : AgreeBut Went (trails_of lost.members.items) (seen n a.whole) (seen n lost.without)
 
 -- These are why each of the records' updates is restarted, which are those above the event's.
 abbrev pub AreFound : Above → List Change → Lost → List Record → List (Option Cause) → Type 0

@@ -10,19 +10,22 @@ ghost use Rattle.yt_cascade.specs.Walks.{AreFound};
 use crate::lost::Lost;
 use std::alloc::Global;
 use yt_base::{Memory, Write};
+use yt_conflict::Sense;
 use yt_entries::Cause;
 use yt_limits::Mappings;
 use yt_queue::{Deps, Record};
 use yt_versions::Versions;
 
 /// What a walk upwards from the update of an event goes by: the mappings, how dependences are tested, how many updates
-/// were committed when the event began, the update's number, and the versions, with the writes that the event made.
+/// were committed when the event began, the update's number, whether the writes of the event came or went, and the
+/// versions after them.
 #[derive(Drop)]
 pub struct Cascade<'a> {
     pub mappings: &'a Mappings<'a>,
     pub deps: Deps,
     pub committed: u32,
     pub update: u32,
+    pub sense: Sense,
     pub whole: &'a Versions,
 }
 

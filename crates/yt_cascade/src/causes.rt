@@ -88,6 +88,7 @@ impl<'a> Cascade<'a> {
             &below,
             own,
             direction,
+            self.sense,
             &trails,
         )?;
         self.conflict_by(alloc, reader.number(), changed)

@@ -8,7 +8,7 @@ use crate::cascades::Cascade;
 use crate::lost::Lost;
 use std::alloc::Global;
 use yt_base::Memory;
-use yt_conflict::first_changed;
+use yt_conflict::{Sense, first_changed};
 use yt_query::LoggedRead;
 use yt_queue::{Deps, Record};
 
@@ -60,6 +60,7 @@ impl<'a> Cascade<'a> {
             &below,
             own,
             direction,
+            Sense::Went,
             members,
         )?;
         match changed {

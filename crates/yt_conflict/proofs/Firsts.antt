@@ -12,6 +12,7 @@ use Rattle.yt_model.proofs.Replies.{reply_is, reply_itself}
 use Rattle.yt_query.specs.declared.log.LoggedRead.{LoggedRead}
 use Rattle.yt_query.specs.Meanings.{Read, read_of, reply_of}
 use Rattle.yt_conflict.specs.Concerns.{is_met}
+use Rattle.yt_conflict.specs.declared.concerns.Sense.{Sense}
 use Rattle.yt_conflict.specs.Changes.{Numbered, is_changed, is_met_and_changed, value_now, first_from, first_changed}
 
 here : (p : Read → Bool) (n i : ℕ) (rs : List LoggedRead) (r : LoggedRead) → i < length rs → r ≡ get_or rs i r
@@ -48,39 +49,39 @@ pub seen_then : (ms : List Rule) (h : Direction) (D : List Fact) (own : List Cha
 seen_then ms h D own r v n a e f k = k ∙ ap (λ (w : Seen). value ms (read_of r).query w.below w.own (Caused h)) e ∙ ap (λ ws. value ms (read_of r).query D ws (Caused h)) f
 
 -- So the test tells whether a read that is met has changed.
-pub test_tells : (ms : List Rule) (h : Direction) (D : List Fact) (own : List Change) (ts : List (List Change)) (r : LoggedRead) (t : Bool) (a : Reply)
-    → is_met ms h own ts (read_of r).query ≡ true → a ≡ value_now ms h D own (read_of r) → (t ≡ true) ↔ (a ≡ reply_of r.answer) → is_met_and_changed ms h D own ts (read_of r) ≡ not t
-test_tells ms h D own ts r t a m e s = (λ i. m i && is_changed ms h D own (read_of r)) ∙ changed_is t a (reply_of r.answer) (value_now ms h D own (read_of r)) s e
+pub test_tells : (ms : List Rule) (h : Direction) (D : List Fact) (own : List Change) (g : Sense) (ts : List (List Change)) (r : LoggedRead) (t : Bool) (a : Reply)
+    → is_met ms h own g ts (read_of r) ≡ true → a ≡ value_now ms h D own (read_of r) → (t ≡ true) ↔ (a ≡ reply_of r.answer) → is_met_and_changed ms h D own g ts (read_of r) ≡ not t
+test_tells ms h D own g ts r t a m e s = (λ i. m i && is_changed ms h D own (read_of r)) ∙ changed_is t a (reply_of r.answer) (value_now ms h D own (read_of r)) s e
 
 -- A read that has changed is the first.
-pub first_here : (ms : List Rule) (h : Direction) (D : List Fact) (own : List Change) (ts : List (List Change)) (n i : ℕ) (rs : List LoggedRead) (r : LoggedRead) (t : Bool) (a : Reply) → i < length rs → r ≡ get_or rs i r
-    → is_met ms h own ts (read_of r).query ≡ true → a ≡ value_now ms h D own (read_of r) → (t ≡ true) ↔ (a ≡ reply_of r.answer) → t ≡ false
-    → first_from (is_met_and_changed ms h D own ts) 1 (map read_of rs) ≡ first_from (is_met_and_changed ms h D own ts) (suc n) (map read_of (drop i rs))
-    → Some (record { number = n + 1; read = read_of r; now = a }) ≡ first_changed ms h D own ts (map read_of rs)
-first_here ms h D own ts n i rs r t a l e m v s f w =
+pub first_here : (ms : List Rule) (h : Direction) (D : List Fact) (own : List Change) (g : Sense) (ts : List (List Change)) (n i : ℕ) (rs : List LoggedRead) (r : LoggedRead) (t : Bool) (a : Reply) → i < length rs → r ≡ get_or rs i r
+    → is_met ms h own g ts (read_of r) ≡ true → a ≡ value_now ms h D own (read_of r) → (t ≡ true) ↔ (a ≡ reply_of r.answer) → t ≡ false
+    → first_from (is_met_and_changed ms h D own g ts) 1 (map read_of rs) ≡ first_from (is_met_and_changed ms h D own g ts) (suc n) (map read_of (drop i rs))
+    → Some (record { number = n + 1; read = read_of r; now = a }) ≡ first_changed ms h D own g ts (map read_of rs)
+first_here ms h D own g ts n i rs r t a l e m v s f w =
     (λ j. Some (record { number = add-one n j; read = read_of r; now = v j }))
     ∙ sym (ap (option_map (λ (x : Numbered). record { number = x.number; read = x.read; now = value_now ms h D own x.read }))
-    (found_here (is_met_and_changed ms h D own ts) (suc n) i rs r _ l e w (test_tells ms h D own ts r t a m v s ∙ ap not f)))
+    (found_here (is_met_and_changed ms h D own g ts) (suc n) i rs r _ l e w (test_tells ms h D own g ts r t a m v s ∙ ap not f)))
 
 -- One that passes not is gone by.
-pub first_past : (ms : List Rule) (h : Direction) (D : List Fact) (own : List Change) (ts : List (List Change)) (n i : ℕ) (rs : List LoggedRead) (r : LoggedRead) → i < length rs → r ≡ get_or rs i r
-    → is_met_and_changed ms h D own ts (read_of r) ≡ false
-    → first_from (is_met_and_changed ms h D own ts) 1 (map read_of rs) ≡ first_from (is_met_and_changed ms h D own ts) (suc n) (map read_of (drop i rs))
-    → first_from (is_met_and_changed ms h D own ts) 1 (map read_of rs) ≡ first_from (is_met_and_changed ms h D own ts) (suc (n + 1)) (map read_of (drop (i + 1) rs))
-first_past ms h D own ts n i rs r l e f w =
-    gone_by (is_met_and_changed ms h D own ts) (suc n) i rs r _ l e w f
-    ∙ ap (λ k. first_from (is_met_and_changed ms h D own ts) (suc k) (map read_of (drop (i + 1) rs))) (sym (add-one n))
+pub first_past : (ms : List Rule) (h : Direction) (D : List Fact) (own : List Change) (g : Sense) (ts : List (List Change)) (n i : ℕ) (rs : List LoggedRead) (r : LoggedRead) → i < length rs → r ≡ get_or rs i r
+    → is_met_and_changed ms h D own g ts (read_of r) ≡ false
+    → first_from (is_met_and_changed ms h D own g ts) 1 (map read_of rs) ≡ first_from (is_met_and_changed ms h D own g ts) (suc n) (map read_of (drop i rs))
+    → first_from (is_met_and_changed ms h D own g ts) 1 (map read_of rs) ≡ first_from (is_met_and_changed ms h D own g ts) (suc (n + 1)) (map read_of (drop (i + 1) rs))
+first_past ms h D own g ts n i rs r l e f w =
+    gone_by (is_met_and_changed ms h D own g ts) (suc n) i rs r _ l e w f
+    ∙ ap (λ k. first_from (is_met_and_changed ms h D own g ts) (suc k) (map read_of (drop (i + 1) rs))) (sym (add-one n))
 
 -- So is one that has its value still.
-pub first_on : (ms : List Rule) (h : Direction) (D : List Fact) (own : List Change) (ts : List (List Change)) (n i : ℕ) (rs : List LoggedRead) (r : LoggedRead) (t : Bool) (a : Reply) → i < length rs → r ≡ get_or rs i r
-    → is_met ms h own ts (read_of r).query ≡ true → a ≡ value_now ms h D own (read_of r) → (t ≡ true) ↔ (a ≡ reply_of r.answer) → t ≡ true
-    → first_from (is_met_and_changed ms h D own ts) 1 (map read_of rs) ≡ first_from (is_met_and_changed ms h D own ts) (suc n) (map read_of (drop i rs))
-    → first_from (is_met_and_changed ms h D own ts) 1 (map read_of rs) ≡ first_from (is_met_and_changed ms h D own ts) (suc (n + 1)) (map read_of (drop (i + 1) rs))
-first_on ms h D own ts n i rs r t a l e m v s f w = first_past ms h D own ts n i rs r l e (test_tells ms h D own ts r t a m v s ∙ ap not f) w
+pub first_on : (ms : List Rule) (h : Direction) (D : List Fact) (own : List Change) (g : Sense) (ts : List (List Change)) (n i : ℕ) (rs : List LoggedRead) (r : LoggedRead) (t : Bool) (a : Reply) → i < length rs → r ≡ get_or rs i r
+    → is_met ms h own g ts (read_of r) ≡ true → a ≡ value_now ms h D own (read_of r) → (t ≡ true) ↔ (a ≡ reply_of r.answer) → t ≡ true
+    → first_from (is_met_and_changed ms h D own g ts) 1 (map read_of rs) ≡ first_from (is_met_and_changed ms h D own g ts) (suc n) (map read_of (drop i rs))
+    → first_from (is_met_and_changed ms h D own g ts) 1 (map read_of rs) ≡ first_from (is_met_and_changed ms h D own g ts) (suc (n + 1)) (map read_of (drop (i + 1) rs))
+first_on ms h D own g ts n i rs r t a l e m v s f w = first_past ms h D own g ts n i rs r l e (test_tells ms h D own g ts r t a m v s ∙ ap not f) w
 
 -- And one that no write meets.
-pub first_unmet : (ms : List Rule) (h : Direction) (D : List Fact) (own : List Change) (ts : List (List Change)) (n i : ℕ) (rs : List LoggedRead) (r : LoggedRead) → i < length rs → r ≡ get_or rs i r
-    → is_met ms h own ts (read_of r).query ≡ false
-    → first_from (is_met_and_changed ms h D own ts) 1 (map read_of rs) ≡ first_from (is_met_and_changed ms h D own ts) (suc n) (map read_of (drop i rs))
-    → first_from (is_met_and_changed ms h D own ts) 1 (map read_of rs) ≡ first_from (is_met_and_changed ms h D own ts) (suc (n + 1)) (map read_of (drop (i + 1) rs))
-first_unmet ms h D own ts n i rs r l e m w = first_past ms h D own ts n i rs r l e (λ j. m j && is_changed ms h D own (read_of r)) w
+pub first_unmet : (ms : List Rule) (h : Direction) (D : List Fact) (own : List Change) (g : Sense) (ts : List (List Change)) (n i : ℕ) (rs : List LoggedRead) (r : LoggedRead) → i < length rs → r ≡ get_or rs i r
+    → is_met ms h own g ts (read_of r) ≡ false
+    → first_from (is_met_and_changed ms h D own g ts) 1 (map read_of rs) ≡ first_from (is_met_and_changed ms h D own g ts) (suc n) (map read_of (drop i rs))
+    → first_from (is_met_and_changed ms h D own g ts) 1 (map read_of rs) ≡ first_from (is_met_and_changed ms h D own g ts) (suc (n + 1)) (map read_of (drop (i + 1) rs))
+first_unmet ms h D own g ts n i rs r l e m w = first_past ms h D own g ts n i rs r l e (λ j. m j && is_changed ms h D own (read_of r)) w

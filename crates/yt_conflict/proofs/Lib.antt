@@ -1,4 +1,5 @@
 pub mod Seeing
+pub mod Hits
 pub mod Joining
 pub mod Staying
 pub mod Sides

@@ -9,14 +9,13 @@ use Rattle.yt_model.specs.Repository.{Change, Insert, Delete}
 use Rattle.yt_model.specs.Mappings.{Pattern, Rule}
 use Rattle.yt_model.specs.Mentions.{rule_mentions}
 use Rattle.yt_model.specs.Queries.{Query, Present, Violation, Specific, Occurs}
-use Rattle.yt_model.specs.Violations.{Direction, Forward, Backward}
+use Rattle.yt_model.specs.Violations.{Direction}
 use Rattle.yt_model.proofs.Bools.{and-false, or_left, or_right, differ}
 use Rattle.yt_query.specs.Meanings.{Read}
-use Rattle.yt_conflict.specs.Concerns.{agree, columns, stand_together, may_join, joins, may_enact, concerns_rule, tuple_of, joins_some, counts_all, is_hit_by, is_hit, is_met, is_met_apart}
+use Rattle.yt_conflict.specs.Concerns.{agree, columns, stand_together, joins, joins_own, may_cause, seats, may_make, may_violate, concerns, breaks, breaks_some, tuple_of, counts_all, asks_violation, is_nothing, found_none, meets, is_hit, is_met, is_met_apart}
+use Rattle.yt_conflict.specs.declared.concerns.Sense.{Sense}
+use Rattle.yt_conflict.proofs.Hits.{neither, unhit}
 use Rattle.yt_conflict.specs.Changes.{Numbered, is_changed, value_now, is_met_and_changed, first_from, first_changed, meets_any, meets_any_apart}
-
-neither : (a b : Bool) → a ≡ false → b ≡ false → (a || b) ≡ false
-neither a b e f = λ i. e i || f i
 
 -- ---- joins
 
@@ -31,11 +30,11 @@ unstood_at : (s t : Fact) (cs as' : List Pattern) → list_any (λ c. c.relation
 unstood_at s t cs [] e = refl
 unstood_at s t cs (a ∷ as') e = neither (list_any (λ c. stand_together a s c t) cs) (list_any (λ a. list_any (λ c. stand_together a s c t) cs) as') (unstood a s t cs e) (unstood_at s t cs as' e)
 
--- A tuple of a relation that the mapping does not mention joins with none.
-pub unmentioned : (m : Rule) (t : Fact) (own : List Change) → rule_mentions (Some m) t.relation ≡ false → list_any (joins m t) own ≡ false
-unmentioned m t [] e = refl
-unmentioned m t (Insert s ∷ own) e = neither (may_join m s t) (list_any (joins m t) own) (unstood_at s t (m.left ++ m.right) m.left e) (unmentioned m t own e)
-unmentioned m t (Delete s ∷ own) e = unmentioned m t own e
+-- A tuple of a relation that none of the atoms has joins with none.
+pub unmentioned : (h : Direction) (cs : List Pattern) (m : Rule) (t : Fact) (own : List Change) → list_any (λ c. c.relation == t.relation) cs ≡ false → joins_own h cs m own t ≡ false
+unmentioned h cs m t [] e = refl
+unmentioned h cs m t (w ∷ own) e =
+    neither (joins h cs m t w) (joins_own h cs m own t) (ap (λ b. may_cause h w && b) (unstood_at (tuple_of w) t cs (seats h m) e) ∙ and-false (may_cause h w)) (unmentioned h cs m t own e)
 
 -- Where the own insertion is of another relation than the left atom.
 pub elsewhere : (a : Pattern) (s t : Fact) (cs : List Pattern) → (a.relation == s.relation) ≡ false → false ≡ list_any (λ c. stand_together a s c t) cs
@@ -45,61 +44,51 @@ elsewhere a s t (c ∷ cs) e =
 
 -- ---- violations
 
--- A tuple that concerns a violation forward joins, where no own write puts a mapping in force.
-joined : (own : List Change) (ms : List Rule) (n : ℕ) (t : Fact) → list_any may_enact own ≡ false → concerns_rule Forward own (slice_get ms n) t ≡ true → joins_some ms own t ≡ true
-joined own [] n t f e = differ e
-joined own (m ∷ ms) zero t f e =
-    or_left (list_any (joins m t) own) (joins_some ms own t) (sym (ap (λ b. (b && rule_mentions (Some m) t.relation) || list_any (joins m t) own) f) ∙ e)
-joined own (m ∷ ms) (suc n) t f e = or_right (list_any (joins m t) own) (joins_some ms own t) (joined own ms n t f e)
-
--- What meets less is met less.
-unhit_by : (p q : Fact → Bool) → ((t : Fact) → p t ≡ true → q t ≡ true) → (ws : List Change) → is_hit_by q ws ≡ false → is_hit_by p ws ≡ false
-unhit_by p q h [] e = refl
-unhit_by p q h (w ∷ ws) e =
-    let parts = or_parts (q (tuple_of w)) (is_hit_by q ws) e in
-    neither (p (tuple_of w)) (is_hit_by p ws) (by (p (tuple_of w)) refl parts.0) (unhit_by p q h ws parts.1)
-  where
-    by : (b : Bool) → p (tuple_of w) ≡ b → q (tuple_of w) ≡ false → b ≡ false
-    by true f g = differ (sym g ∙ h (tuple_of w) f)
-    by false f g = refl
-
-unhit : (p q : Fact → Bool) → ((t : Fact) → p t ≡ true → q t ≡ true) → (trails : List (List Change)) → is_hit q trails ≡ false → is_hit p trails ≡ false
-unhit p q h [] e = refl
-unhit p q h (ws ∷ trails) e =
-    let parts = or_parts (is_hit_by q ws) (is_hit q trails) e in
-    neither (is_hit_by p ws) (is_hit p trails) (unhit_by p q h ws parts.0) (unhit p q h trails parts.1)
+-- A write that may make a violation breaks a mapping, where no own write puts one in force.
+broken : (h : Direction) (own : List Change) (ms : List Rule) (n : ℕ) (g : Sense) (w : Change) → counts_all h own ≡ false → may_make h own g (slice_get ms n) w ≡ true → breaks_some ms h g own w ≡ true
+broken h own [] n g w f e = differ e
+broken h own (m ∷ ms) zero g w f e =
+    or_left (breaks h m g own w) (breaks_some ms h g own w) (sym (ap (λ b. (b && rule_mentions (Some m) (tuple_of w).relation) || breaks h m g own w) f) ∙ e)
+broken h own (m ∷ ms) (suc n) g w f e = or_right (breaks h m g own w) (breaks_some ms h g own w) (broken h own ms n g w f e)
 
 -- ---- logs
 
-module _ (ms : List Rule) (own : List Change) (trails : List (List Change)) (f : list_any may_enact own ≡ false) (j : is_hit (joins_some ms own) trails ≡ false) where
-  query_unmet : (q : Query) → is_met_apart ms Forward own trails q ≡ false → is_met ms Forward own trails q ≡ false
-  query_unmet (Present t) e = e
-  query_unmet (Violation n) e = unhit (concerns_rule Forward own (slice_get ms n)) (joins_some ms own) (λ t. joined own ms n t f) trails j
-  query_unmet (Specific t) e = e
-  query_unmet (Occurs u k) e = e
+module _ (ms : List Rule) (h : Direction) (own : List Change) (g : Sense) (trails : List (List Change)) (f : counts_all h own ≡ false) (j : is_hit (breaks_some ms h g own) trails ≡ false) where
+  met_breaks : (q : Query) (a : Bool) (w : Change) → (asks_violation q && a) ≡ true → (if a then may_violate ms h own g q w else concerns ms h own q (tuple_of w)) ≡ true → breaks_some ms h g own w ≡ true
+  met_breaks (Present t) a w e k = differ e
+  met_breaks (Violation n) true w e k = broken h own ms n g w f k
+  met_breaks (Violation n) false w e k = differ e
+  met_breaks (Specific t) a w e k = differ e
+  met_breaks (Occurs u i) a w e k = differ e
 
-  log_unmet : (rs : List Read) → meets_any_apart ms Forward own trails rs ≡ false → meets_any ms Forward own trails rs ≡ false
+  read_unmet : (r : Read) → is_met_apart ms h own g trails r ≡ false → is_met ms h own g trails r ≡ false
+  read_unmet r e = by (found_none r) refl e
+    where
+      by : (b : Bool) → found_none r ≡ b → (if b then false else is_met ms h own g trails r) ≡ false → is_met ms h own g trails r ≡ false
+      by true i k = unhit (breaks_some ms h g own) (meets ms h own g r) (λ w. met_breaks r.query (is_nothing r.reply) w i) trails j
+      by false i k = k
+
+  log_unmet : (rs : List Read) → meets_any_apart ms h own g trails rs ≡ false → meets_any ms h own g trails rs ≡ false
   log_unmet [] e = refl
   log_unmet (r ∷ rs) e =
-      let parts = or_parts (is_met_apart ms Forward own trails r.query) (meets_any_apart ms Forward own trails rs) e in
-      neither (is_met ms Forward own trails r.query) (meets_any ms Forward own trails rs) (query_unmet r.query parts.0) (log_unmet rs parts.1)
+      let parts = or_parts (is_met_apart ms h own g trails r) (meets_any_apart ms h own g trails rs) e in
+      neither (is_met ms h own g trails r) (meets_any ms h own g trails rs) (read_unmet r parts.0) (log_unmet rs parts.1)
 
--- No write meets a read: none joins, and none meets one that asks for no violation.
-pub all_unmet : (ms : List Rule) (h : Direction) (own : List Change) (trails : List (List Change)) (rs : List Read)
-    → counts_all h own ≡ false → is_hit (joins_some ms own) trails ≡ false → meets_any_apart ms h own trails rs ≡ false → meets_any ms h own trails rs ≡ false
-all_unmet ms Forward own trails rs f j e = log_unmet ms own trails f j rs e
-all_unmet ms Backward own trails rs f j e = differ (sym f)
+-- No write meets a read: none breaks a mapping, and none meets one that asked for no violation or found one.
+pub all_unmet : (ms : List Rule) (h : Direction) (own : List Change) (g : Sense) (trails : List (List Change)) (rs : List Read)
+    → counts_all h own ≡ false → is_hit (breaks_some ms h g own) trails ≡ false → meets_any_apart ms h own g trails rs ≡ false → meets_any ms h own g trails rs ≡ false
+all_unmet ms h own g trails rs f j e = log_unmet ms h own g trails f j rs e
 
 -- Then none is changed.
-none_first : (ms : List Rule) (h : Direction) (D : List Fact) (own : List Change) (trails : List (List Change)) (n : ℕ) (rs : List Read)
-    → meets_any ms h own trails rs ≡ false → first_from (is_met_and_changed ms h D own trails) n rs ≡ None
-none_first ms h D own trails n [] e = refl
-none_first ms h D own trails n (r ∷ rs) e =
-    let parts = or_parts (is_met ms h own trails r.query) (meets_any ms h own trails rs) e in
-    ap (λ b. if b && is_changed ms h D own r then Some (record { number = n; read = r }) else first_from (is_met_and_changed ms h D own trails) (suc n) rs) parts.0
-    ∙ none_first ms h D own trails (suc n) rs parts.1
+none_first : (ms : List Rule) (h : Direction) (D : List Fact) (own : List Change) (g : Sense) (trails : List (List Change)) (n : ℕ) (rs : List Read)
+    → meets_any ms h own g trails rs ≡ false → first_from (is_met_and_changed ms h D own g trails) n rs ≡ None
+none_first ms h D own g trails n [] e = refl
+none_first ms h D own g trails n (r ∷ rs) e =
+    let parts = or_parts (is_met ms h own g trails r) (meets_any ms h own g trails rs) e in
+    ap (λ b. if b && is_changed ms h D own r then Some (record { number = n; read = r }) else first_from (is_met_and_changed ms h D own g trails) (suc n) rs) parts.0
+    ∙ none_first ms h D own g trails (suc n) rs parts.1
 
-pub none_changed : (ms : List Rule) (h : Direction) (D : List Fact) (own : List Change) (trails : List (List Change)) (rs : List Read)
-    → meets_any ms h own trails rs ≡ false → None ≡ first_changed ms h D own trails rs
-none_changed ms h D own trails rs e =
-    sym (ap (option_map (λ (r : Numbered). record { number = r.number; read = r.read; now = value_now ms h D own r.read })) (none_first ms h D own trails 1 rs e))
+pub none_changed : (ms : List Rule) (h : Direction) (D : List Fact) (own : List Change) (g : Sense) (trails : List (List Change)) (rs : List Read)
+    → meets_any ms h own g trails rs ≡ false → None ≡ first_changed ms h D own g trails rs
+none_changed ms h D own g trails rs e =
+    sym (ap (option_map (λ (r : Numbered). record { number = r.number; read = r.read; now = value_now ms h D own r.read })) (none_first ms h D own g trails 1 rs e))

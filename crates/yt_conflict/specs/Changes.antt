@@ -9,6 +9,7 @@ use Rattle.yt_model.specs.Violations.{Direction, Caused}
 use Rattle.yt_model.specs.Queries.{Reply, same_reply, value}
 use Rattle.yt_query.specs.Meanings.{Read}
 use Rattle.yt_conflict.specs.Concerns.{is_met, is_met_apart}
+use Rattle.yt_conflict.specs.declared.concerns.Sense.{Sense}
 
 -- The value of the read over D, by an attempt in this direction whose own writes are these: those count that were made when it asked.
 abbrev pub value_now : List Rule → Direction → List Fact → List Change → Read → Reply
@@ -35,18 +36,18 @@ pub record Changed : Type 0 where
   pub now : Reply
 
 -- A write of the trails meets one of the reads.
-abbrev pub meets_any : List Rule → Direction → List Change → List (List Change) → List Read → Bool
-meets_any ms h own trails rs = list_any (λ r. is_met ms h own trails r.query) rs
+abbrev pub meets_any : List Rule → Direction → List Change → Sense → List (List Change) → List Read → Bool
+meets_any ms h own g trails rs = list_any (is_met ms h own g trails) rs
 
--- One that asks for no violation.
-abbrev pub meets_any_apart : List Rule → Direction → List Change → List (List Change) → List Read → Bool
-meets_any_apart ms h own trails rs = list_any (λ r. is_met_apart ms h own trails r.query) rs
+-- One that asked for no violation or found one.
+abbrev pub meets_any_apart : List Rule → Direction → List Change → Sense → List (List Change) → List Read → Bool
+meets_any_apart ms h own g trails rs = list_any (is_met_apart ms h own g trails) rs
 
 -- A write of the trails meets the read, and it has another value over D.
-abbrev pub is_met_and_changed : List Rule → Direction → List Fact → List Change → List (List Change) → Read → Bool
-is_met_and_changed ms h D own trails r = is_met ms h own trails r.query && is_changed ms h D own r
+abbrev pub is_met_and_changed : List Rule → Direction → List Fact → List Change → Sense → List (List Change) → Read → Bool
+is_met_and_changed ms h D own g trails r = is_met ms h own g trails r && is_changed ms h D own r
 
 -- The first read of the log that a write of these trails meets and that has another value over D.
-abbrev pub first_changed : List Rule → Direction → List Fact → List Change → List (List Change) → List Read → Option Changed
-first_changed ms h D own trails log =
-    option_map (λ r. record { number = r.number; read = r.read; now = value_now ms h D own r.read }) (first_from (is_met_and_changed ms h D own trails) 1 log)
+abbrev pub first_changed : List Rule → Direction → List Fact → List Change → Sense → List (List Change) → List Read → Option Changed
+first_changed ms h D own g trails log =
+    option_map (λ r. record { number = r.number; read = r.read; now = value_now ms h D own r.read }) (first_from (is_met_and_changed ms h D own g trails) 1 log)

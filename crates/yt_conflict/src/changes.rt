@@ -8,7 +8,7 @@ ghost use Rattle.yt_conflict.specs.Meanings.{changed_of};
 ghost use Rattle.yt_conflict.specs.Trails.{trails_of};
 ghost use Rattle.yt_base.specs.Contents.{changes_of, rules_in};
 
-use crate::concerns::{Reader, Trail};
+use crate::concerns::{Reader, Sense, Trail};
 use crate::views::{see, standing_then};
 use std::alloc::Global;
 use yt_base::{Direction, Facts, MappingList, Memory, Write, WriteList};
@@ -25,7 +25,8 @@ pub struct Changed<'a> {
 }
 
 /// The first read of the log that a write of these trails meets and that has another value now, by an attempt in this
-/// direction with these own writes, where the facts lie below it. It is refused only for want of memory.
+/// direction with these own writes, where the facts lie below it; the writes came since the reads were made, or went.
+/// It is refused only for want of memory.
 pub fn first_changed<'a, F: Facts>(
     alloc: Global,
     log: &'a ReadLog,
@@ -33,15 +34,16 @@ pub fn first_changed<'a, F: Facts>(
     below: &F,
     own: &WriteList,
     direction: Direction,
+    sense: Sense,
     trails: &[Trail<'_>],
 ) -> Result<Option<Changed<'a>>, Memory>
     ensures first { IfOk result (λ found. option_map changed_of found ≡
         first_changed_lem (rules_in mappings.now) (heading_of direction) (F.tuples below.now)
-        (changes_of own.now) (trails_of trails.now) (map read_of log.now.items)) }
+        (changes_of own.now) sense (trails_of trails.now) (map read_of log.now.items)) }
 {
     let log = log.as_slice();
     let own = own.as_slice();
-    first_in(alloc, log, mappings, below, own, direction, trails)
+    first_in(alloc, log, mappings, below, own, direction, sense, trails)
 }
 
 // The same of a slice.
@@ -52,16 +54,18 @@ fn first_in<'a, F: Facts>(
     below: &F,
     own: &[Write],
     direction: Direction,
+    sense: Sense,
     trails: &[Trail<'_>],
 ) -> Result<Option<Changed<'a>>, Memory>
     ensures first { IfOk result (λ found. option_map changed_of found ≡
         first_changed_lem (rules_in mappings.now) (heading_of direction) (F.tuples below.now)
-        (map change_of own.now) (trails_of trails.now) (map read_of log.now)) }
+        (map change_of own.now) sense (trails_of trails.now) (map read_of log.now)) }
 {
     let reader = Reader {
         mappings,
         direction,
         own,
+        sense,
     };
     if !reader.may_be_met(trails, log) {
         return Ok(None);
@@ -71,7 +75,7 @@ fn first_in<'a, F: Facts>(
     let mut number = 0;
     'reads: for read in log {
         number += 1;
-        if !reader.is_met(trails, &read.query) {
+        if !reader.is_met(trails, read) {
             continue;
         }
         let count = standing_then(read.own, own);

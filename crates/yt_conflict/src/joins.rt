@@ -1,19 +1,17 @@
 //! Which tuples may decide the first violation of a mapping that own writes caused.
 ghost use Rattle.std.specs.Option.{option_copied, option_map};
-ghost use Rattle.std.specs.Prelude.{◌≡◌, ◌==◌, ◌++◌, map, Some};
+ghost use Rattle.std.specs.Prelude.{◌≡◌, ◌==◌, map, Some};
 ghost use Rattle.std.specs.List.{list_all, list_any};
 ghost use Rattle.yt_base.specs.Meanings.{change_of, datum_of, fact_of, heading_of, pattern_of, rule_of, slot_of};
 ghost use Rattle.yt_model.specs.Mentions.{rule_mentions};
-ghost use Rattle.yt_model.specs.Violations.{Forward};
 ghost use Rattle.yt_base.specs.Contents.{rules_in};
-ghost use Rattle.yt_conflict.specs.Concerns.{agree, columns, concerns_rule, joins as joins_lem, joins_some as joins_some_lem, may_be as may_be_lem, may_enact as may_enact_lem, may_join as may_join_lem, stand_together as stand_together_lem};
+ghost use Rattle.yt_conflict.specs.Concerns.{adds as adds_lem, agree, at_side as at_side_lem, breaks as breaks_lem, breaks_some as breaks_some_lem, columns, concerns_rule, counts_all as counts_all_lem, has_come as has_come_lem, is_forward as is_forward_lem, joins as joins_lem, joins_either as joins_either_lem, joins_own as joins_own_lem, may_be as may_be_lem, may_cause as may_cause_lem, may_enact as may_enact_lem, may_join as may_join_lem, may_make as may_make_lem, meets_right as meets_right_lem, seats as seats_lem, stand_together as stand_together_lem};
 
-use crate::concerns::tuple_of;
+use crate::concerns::{Sense, tuple_of};
 use yt_base::{Atom, Direction, FORCE_RELATION, Mapping, MappingList, Term, Tuple, Value, Write};
 
-/// Whether the tuple may decide which violation of the mapping is the first that the own writes caused in this direction.
-/// Forward it joins with a tuple that they insert, or it is of a relation of the mapping and they put mappings in force;
-/// backward it is of a relation of the mapping. It takes no memory.
+/// Whether the tuple may decide which violation of the mapping is the first that the own writes caused in this direction: it
+/// joins with one of them, or it is of a relation of the mapping and they put mappings in force. It takes no memory.
 pub(crate) fn may_decide(
     mapping: Option<&Mapping>,
     direction: Direction,
@@ -26,47 +24,185 @@ pub(crate) fn may_decide(
     let Some(mapping) = mapping else {
         return false;
     };
-    match direction {
-        Direction::Forward => may_decide_forward(mapping, own, tuple),
-        Direction::Backward => is_of(mapping, tuple.relation),
-    }
+    may_decide_of(mapping, direction, own, tuple)
 }
 
-// The same forward.
-fn may_decide_forward(mapping: &Mapping, own: &[Write], tuple: &Tuple) -> bool
-    ensures { result ≡ concerns_rule Forward (map change_of own.now)
+// The same of a mapping that there is.
+fn may_decide_of(mapping: &Mapping, direction: Direction, own: &[Write], tuple: &Tuple) -> bool
+    ensures { result ≡ concerns_rule (heading_of direction) (map change_of own.now)
         (Some (rule_of mapping.now)) (fact_of tuple.now) }
 {
-    if may_enact_any(own) && is_of(mapping, tuple.relation) {
+    if counts_all(direction, own) && is_of(mapping, tuple.relation) {
         return true;
     }
-    joins_own(mapping, own, tuple)
+    joins_either(mapping, direction, own, tuple)
 }
 
-/// Whether one of the writes inserts a tuple that may join with this one by one of the mappings. It takes no memory.
-pub(crate) fn joins_some(mappings: &MappingList, own: &[Write], tuple: &Tuple) -> bool
-    ensures { result ≡ joins_some_lem (rules_in mappings.now) (map change_of own.now)
-        (fact_of tuple.now) }
+/// Whether tuples that join with no own write may decide violations as well. It takes no memory.
+pub(crate) fn counts_all(direction: Direction, own: &[Write]) -> bool
+    ensures { result ≡ counts_all_lem (heading_of direction) (map change_of own.now) }
+{
+    match direction {
+        Direction::Forward => may_enact_any(own),
+        Direction::Backward => false,
+    }
+}
+
+// Whether a violation that own writes caused may have the tuple on the left, or be met with it on the right.
+fn joins_either(mapping: &Mapping, direction: Direction, own: &[Write], tuple: &Tuple) -> bool
+    ensures { result ≡ joins_either_lem (heading_of direction) (rule_of mapping.now)
+        (map change_of own.now) (fact_of tuple.now) }
+{
+    if at_side(mapping, true, direction, own, tuple) {
+        return true;
+    }
+    at_side(mapping, false, direction, own, tuple)
+}
+
+/// Whether the write may make a violation of the mapping that the own writes caused in this direction, where there was none: it
+/// breaks the mapping, or its tuple is of a relation of the mapping and they put mappings in force. It takes no memory.
+pub(crate) fn may_make(
+    mapping: Option<&Mapping>,
+    direction: Direction,
+    own: &[Write],
+    sense: Sense,
+    write: &Write,
+) -> bool
+    ensures { result ≡ may_make_lem (heading_of direction) (map change_of own.now) sense
+        (option_map rule_of (option_copied mapping.entry)) (change_of write.now) }
+{
+    let Some(mapping) = mapping else {
+        return false;
+    };
+    may_make_of(mapping, direction, own, sense, write)
+}
+
+// The same of a mapping that there is.
+fn may_make_of(
+    mapping: &Mapping,
+    direction: Direction,
+    own: &[Write],
+    sense: Sense,
+    write: &Write,
+) -> bool
+    ensures { result ≡ may_make_lem (heading_of direction) (map change_of own.now) sense
+        (Some (rule_of mapping.now)) (change_of write.now) }
+{
+    if counts_all(direction, own) && is_of(mapping, tuple_of(write).relation) {
+        return true;
+    }
+    breaks(mapping, direction, sense, own, write)
+}
+
+/// Whether the write may break one of the mappings, with one of the own writes. It takes no memory.
+pub(crate) fn breaks_some(
+    mappings: &MappingList,
+    direction: Direction,
+    sense: Sense,
+    own: &[Write],
+    write: &Write,
+) -> bool
+    ensures { result ≡ breaks_some_lem (rules_in mappings.now) (heading_of direction) sense
+        (map change_of own.now) (change_of write.now) }
 {
     mappings
         .as_slice()
         .iter()
-        .any(|mapping| joins_own(mapping, own, tuple))
+        .any(|mapping| breaks(mapping, direction, sense, own, write))
 }
 
-// Whether one of the writes inserts a tuple that may join with this one. Where no atom is of its relation none does.
-fn joins_own(mapping: &Mapping, own: &[Write], tuple: &Tuple) -> bool
-    ensures { result ≡ list_any (joins_lem (rule_of mapping.now) (fact_of tuple.now))
-        (map change_of own.now) }
+// Whether the write may break the mapping, with one of the own writes: a violation that they cause may have on the left a
+// tuple that is there since, or was met on the right with one that is gone.
+fn breaks(
+    mapping: &Mapping,
+    direction: Direction,
+    sense: Sense,
+    own: &[Write],
+    write: &Write,
+) -> bool
+    ensures { result ≡ breaks_lem (heading_of direction) (rule_of mapping.now) sense
+        (map change_of own.now) (change_of write.now) }
 {
-    if !is_of(mapping, tuple.relation) {
+    at_side(mapping, adds(sense, write), direction, own, tuple_of(write))
+}
+
+// Whether the tuple of the write is there since and was not before.
+fn adds(sense: Sense, write: &Write) -> bool
+    ensures { result ≡ adds_lem sense (change_of write.now) }
+{
+    match write {
+        Write::Insert(_) => has_come(sense),
+        Write::Delete(_) => !has_come(sense),
+    }
+}
+
+// Whether the writes came.
+fn has_come(sense: Sense) -> bool
+    ensures { result ≡ has_come_lem sense }
+{
+    match sense {
+        Sense::Came => true,
+        Sense::Went => false,
+    }
+}
+
+// Whether a violation that own writes caused may have the tuple on the left, or on the right be met with it.
+fn at_side(
+    mapping: &Mapping,
+    is_left: bool,
+    direction: Direction,
+    own: &[Write],
+    tuple: &Tuple,
+) -> bool
+    ensures { result ≡ at_side_lem is_left (heading_of direction) (rule_of mapping.now)
+        (map change_of own.now) (fact_of tuple.now) }
+{
+    if is_left {
+        return joins_left(mapping, direction, own, tuple);
+    }
+    meets_right(mapping, direction, own, tuple)
+}
+
+// Whether a violation that own writes caused may have the tuple on the left.
+fn joins_left(mapping: &Mapping, direction: Direction, own: &[Write], tuple: &Tuple) -> bool
+    ensures { result ≡ joins_own_lem (heading_of direction) (rule_of mapping.now).left
+        (rule_of mapping.now) (map change_of own.now) (fact_of tuple.now) }
+{
+    joins_own(mapping, direction, mapping.left.as_slice(), own, tuple)
+}
+
+// Whether a violation that own writes caused may be met with the tuple on the right.
+fn meets_right(mapping: &Mapping, direction: Direction, own: &[Write], tuple: &Tuple) -> bool
+    ensures { result ≡ meets_right_lem (heading_of direction) (rule_of mapping.now)
+        (map change_of own.now) (fact_of tuple.now) }
+{
+    let atoms = mapping.right.as_slice();
+    match direction {
+        Direction::Forward => joins_own(mapping, direction, atoms, own, tuple),
+        Direction::Backward => stands_in(atoms, tuple.relation),
+    }
+}
+
+// Whether one of the writes may cause a violation in which the tuple stands at one of the atoms. Where none of these is of its
+// relation none may.
+fn joins_own(
+    mapping: &Mapping,
+    direction: Direction,
+    atoms: &[Atom],
+    own: &[Write],
+    tuple: &Tuple,
+) -> bool
+    ensures { result ≡ joins_own_lem (heading_of direction) (map pattern_of atoms.now)
+        (rule_of mapping.now) (map change_of own.now) (fact_of tuple.now) }
+{
+    if !stands_in(atoms, tuple.relation) {
         return false;
     }
-    joins_any(mapping, own, tuple)
+    joins_any(mapping, direction, atoms, own, tuple)
 }
 
-/// Whether one of the writes may put a mapping in force. It takes no memory.
-pub(crate) fn may_enact_any(own: &[Write]) -> bool
+// Whether one of the writes may put a mapping in force.
+fn may_enact_any(own: &[Write]) -> bool
     ensures { result ≡ list_any may_enact_lem (map change_of own.now) }
 {
     own.iter().any(|write| may_enact(write))
@@ -96,50 +232,85 @@ fn stands_in(atoms: &[Atom], relation: u16) -> bool
     atoms.iter().any(|atom| atom.relation == relation)
 }
 
-// Whether one of the writes inserts a tuple that may join with this one.
-fn joins_any(mapping: &Mapping, own: &[Write], tuple: &Tuple) -> bool
-    ensures { result ≡ list_any (joins_lem (rule_of mapping.now) (fact_of tuple.now))
-        (map change_of own.now) }
+// Whether one of the writes may cause a violation in which the tuple stands at one of the atoms.
+fn joins_any(
+    mapping: &Mapping,
+    direction: Direction,
+    atoms: &[Atom],
+    own: &[Write],
+    tuple: &Tuple,
+) -> bool
+    ensures { result ≡ joins_own_lem (heading_of direction) (map pattern_of atoms.now)
+        (rule_of mapping.now) (map change_of own.now) (fact_of tuple.now) }
 {
-    own.iter().any(|write| joins(mapping, write, tuple))
+    own.iter()
+        .any(|write| joins(mapping, direction, atoms, write, tuple))
 }
 
-// Whether the write inserts a tuple that may join with this one.
-fn joins(mapping: &Mapping, write: &Write, tuple: &Tuple) -> bool
-    ensures { result ≡
-        joins_lem (rule_of mapping.now) (fact_of tuple.now) (change_of write.now) }
+// Whether the write may cause a violation in which the tuple stands at one of the atoms.
+fn joins(
+    mapping: &Mapping,
+    direction: Direction,
+    atoms: &[Atom],
+    write: &Write,
+    tuple: &Tuple,
+) -> bool
+    ensures { result ≡ joins_lem (heading_of direction) (map pattern_of atoms.now)
+        (rule_of mapping.now) (fact_of tuple.now) (change_of write.now) }
+{
+    if !may_cause(direction, write) {
+        return false;
+    }
+    may_join(seats(mapping, direction), atoms, tuple_of(write), tuple)
+}
+
+// Whether the write may cause violations in this direction.
+fn may_cause(direction: Direction, write: &Write) -> bool
+    ensures { result ≡ may_cause_lem (heading_of direction) (change_of write.now) }
 {
     match write {
-        Write::Insert(own) => may_join(mapping, own, tuple),
-        Write::Delete(_) => false,
+        Write::Insert(_) => is_forward(direction),
+        Write::Delete(_) => !is_forward(direction),
     }
 }
 
-// Whether, with the first tuple at a left atom of the mapping, the second may stand at some atom of it.
-fn may_join(mapping: &Mapping, own: &Tuple, tuple: &Tuple) -> bool
-    ensures { result ≡
-        may_join_lem (rule_of mapping.now) (fact_of own.now) (fact_of tuple.now) }
+// Whether the direction is forward.
+fn is_forward(direction: Direction) -> bool
+    ensures { result ≡ is_forward_lem (heading_of direction) }
 {
-    mapping
-        .left
-        .as_slice()
-        .iter()
-        .any(|atom| joins_at(mapping, atom, own, tuple))
+    match direction {
+        Direction::Forward => true,
+        Direction::Backward => false,
+    }
 }
 
-// Whether, with the first tuple at this atom, the second may stand at some atom of the mapping.
-fn joins_at(mapping: &Mapping, atom: &Atom, own: &Tuple, tuple: &Tuple) -> bool
+// The atoms among which a violation that own writes caused has the tuple of one of them.
+fn seats(mapping: &Mapping, direction: Direction) -> &[Atom]
+    ensures { map pattern_of result.now ≡ seats_lem (heading_of direction) (rule_of mapping.now) }
+{
+    match direction {
+        Direction::Forward => mapping.left.as_slice(),
+        Direction::Backward => mapping.right.as_slice(),
+    }
+}
+
+// Whether, with the first tuple at one of the seats, the second may stand at one of the atoms.
+fn may_join(seats: &[Atom], atoms: &[Atom], own: &Tuple, tuple: &Tuple) -> bool
+    ensures { result ≡ may_join_lem (map pattern_of seats.now) (map pattern_of atoms.now)
+        (fact_of own.now) (fact_of tuple.now) }
+{
+    seats.iter().any(|atom| joins_at(atom, atoms, own, tuple))
+}
+
+// Whether, with the first tuple at this atom, the second may stand at one of the others.
+fn joins_at(atom: &Atom, others: &[Atom], own: &Tuple, tuple: &Tuple) -> bool
     ensures { result ≡ list_any (λ c. stand_together_lem (pattern_of atom.now)
-        (fact_of own.now) c (fact_of tuple.now))
-        ((rule_of mapping.now).left ++ (rule_of mapping.now).right) }
+        (fact_of own.now) c (fact_of tuple.now)) (map pattern_of others.now) }
 {
     if !is_at(atom, own) {
         return false;
     }
-    if joins_among(mapping.left.as_slice(), atom, own, tuple) {
-        return true;
-    }
-    joins_among(mapping.right.as_slice(), atom, own, tuple)
+    joins_among(others, atom, own, tuple)
 }
 
 // Whether the tuple is of the atom's relation.

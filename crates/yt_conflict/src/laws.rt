@@ -2,12 +2,13 @@
 ghost use Rattle.yt_conflict.specs.Concerns.{UnmetValuesStay};
 ghost use Rattle.yt_conflict.specs.Rows.{ConcernRows};
 
-/// A query that no write meets has one value over repositories that have the same tuples but for those of the writes.
+/// A read that no write meets keeps its value: over repositories that have the same tuples but for those of the writes its
+/// reply is the value of its query over the second where it is over the first.
 pub fn unmet_values_stay()
     ensures { UnmetValuesStay }
 {}
 
-/// Which tuples concern which queries, row by row.
+/// Which tuples concern which queries, and which writes meet which reads, row by row.
 pub fn tuples_concern_queries()
     ensures { ConcernRows }
 {}

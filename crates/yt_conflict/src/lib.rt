@@ -1,7 +1,7 @@
 //! Whether the reads that an attempt has logged still have their values over what lies below it now.
 //!
-//! Between two moments writes came or went below the attempt. A read that none of them concerns has the value that it had, by
-//! the law `unmet_values_stay`; only the others are evaluated anew.
+//! Between two moments writes came or went below the attempt. A read that none of them meets has the value that it had, by the
+//! law `unmet_values_stay`; only the others are evaluated anew.
 #![tactic(auto)]
 
 mod changes;
@@ -11,5 +11,5 @@ mod laws;
 mod views;
 
 pub use crate::changes::{Changed, first_changed};
-pub use crate::concerns::Trail;
+pub use crate::concerns::{Sense, Trail};
 pub use crate::laws::{tuples_concern_queries, unmet_values_stay};

@@ -5,6 +5,7 @@ use Rattle.std.specs.List.{flat_map}
 use Rattle.yt_base.specs.Meanings.{change_of}
 use Rattle.yt_base.specs.declared.updates.Write.{Write}
 use Rattle.yt_conflict.specs.Concerns.{AgreeBut}
+use Rattle.yt_conflict.specs.declared.concerns.Sense.TheVariants.{Came, Went}
 use Rattle.yt_conflict.proofs.Staying.{agree_alone, agree_back, agree_more}
 use Rattle.yt_entries.specs.Meanings.{cause_of}
 use Rattle.yt_entries.specs.declared.causes.Cause.{Cause as CauseOfProgram}
@@ -98,23 +99,23 @@ shows_more r plan ws b old new hidden t written put ms B D s c n may p E before 
     same
 
 -- What came or went by it: all that the attempt showed, where it hides its writes then.
-pub turned_hidden : (r : Record) (plan : Plan) (ws : List Write) (b : Bool) → HasHidden plan.program b → b ≡ true → HasTrail r ws → HasTurned r plan ws
+pub turned_hidden : (r : Record) (plan : Plan) (ws : List Write) (b : Bool) → HasHidden plan.program b → b ≡ true → HasTrail r ws → HasTurned r plan Went ws
 turned_hidden r plan ws b hidden t trail_is ms B D E s c n may p sorted =
     let after : trail (caused_chase ms B) (stepped (caused_chase ms B) D (update_of ms B r)) ≡ [] =
     hidden_trail ms B D (update_of ms B r) (ap (λ (P : Rattle.yt_steps.specs.Attempts.Attempt). hides (option_map ending (outcome_in P.phase))) (sym (plan_state ms B D r plan p)) ∙ sym hidden ∙ t) in
-    subst (λ vs. AgreeBut (map change_of ws ∷ []) (apply E vs) (apply E (trail (caused_chase ms B) (stepped (caused_chase ms B) D (update_of ms B r))))) (trail_is ms B)
-    (subst (λ vs. AgreeBut (map change_of ws ∷ []) (apply E (map change_of ws)) (apply E vs)) (sym after) (agree_more [] E E (map change_of ws) (agree_alone [] E sorted)))
+    subst (λ vs. AgreeBut Went (map change_of ws ∷ []) (apply E vs) (apply E (trail (caused_chase ms B) (stepped (caused_chase ms B) D (update_of ms B r))))) (trail_is ms B)
+    (subst (λ vs. AgreeBut Went (map change_of ws ∷ []) (apply E (map change_of ws)) (apply E vs)) (sym after) (agree_more [] E E (map change_of ws) (agree_alone Went [] E sorted)))
 
 -- Else the writes of the step.
-pub turned_more : (r : Record) (plan : Plan) (ws : List Write) (b : Bool) → HasHidden plan.program b → b ≡ false → HasWritten r plan ws → HasTurned r plan ws
+pub turned_more : (r : Record) (plan : Plan) (ws : List Write) (b : Bool) → HasHidden plan.program b → b ≡ false → HasWritten r plan ws → HasTurned r plan Came ws
 turned_more r plan ws b hidden t written ms B D E s c n may p sorted =
     let before : List Fact = apply E (trail (caused_chase ms B) (update_of ms B r)) in
     let after : trail (caused_chase ms B) (stepped (caused_chase ms B) D (update_of ms B r)) ≡ trail (caused_chase ms B) (update_of ms B r) ++ map change_of ws =
     longer_trail ms B D (update_of ms B r) s c n may (ap (λ (P : Rattle.yt_steps.specs.Attempts.Attempt). hides (option_map ending (outcome_in P.phase))) (sym (plan_state ms B D r plan p)) ∙ sym hidden ∙ t)
     ∙ ap (λ vs. trail (caused_chase ms B) (update_of ms B r) ++ vs) (sym (written ms B D p)) in
     let sorted_then : IsRepository before = apply_in_order E (trail (caused_chase ms B) (update_of ms B r)) sorted in
-    subst (λ X. AgreeBut (map change_of ws ∷ []) before X) (sym (ap (apply E) after ∙ apply_join E (trail (caused_chase ms B) (update_of ms B r)) (map change_of ws)))
-    (agree_back (map change_of ws ∷ []) (apply before (map change_of ws)) before (agree_more [] before before (map change_of ws) (agree_alone [] before sorted_then)))
+    subst (λ X. AgreeBut Came (map change_of ws ∷ []) before X) (sym (ap (apply E) after ∙ apply_join E (trail (caused_chase ms B) (update_of ms B r)) (map change_of ws)))
+    (agree_back (map change_of ws ∷ []) (apply before (map change_of ws)) before (agree_more [] before before (map change_of ws) (agree_alone Went [] before sorted_then)))
 
 -- ---- the causes
 
@@ -134,7 +135,7 @@ module _ (ms : List Rule) (B : ℕ) where
       }
 
 pub found_in_writes : (a : Above) (s : Settings) (old : Kept) (r : Record) (upper : List Record) (plan : Plan) (ws : List Write) (found : List (Option CauseOfProgram)) (b : Bool)
-    → a.deps ≡ s.deps → a.update ≡ r.program.attempt.number → HasSpent plan.program b → b ≡ false → HasTurned r plan ws → AreCausesOfWrites a (map change_of ws) upper found
+    → a.deps ≡ s.deps → a.update ≡ r.program.attempt.number → HasSpent plan.program b → b ≡ false → HasTurned r plan a.sense ws → AreCausesOfWrites a (map change_of ws) upper found
     → WereFound a.rules s a.committed old a.whole r upper plan found
 found_in_writes a s old r upper plan ws found b d n spent f turned are B E lower c m few e ran may before after p =
     let ms = a.rules in

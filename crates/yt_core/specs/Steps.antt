@@ -4,6 +4,7 @@ use Rattle.std.specs.Option.{option_map}
 use Rattle.yt_base.specs.Meanings.{change_of}
 use Rattle.yt_base.specs.declared.updates.Write.{Write}
 use Rattle.yt_conflict.specs.Concerns.{AgreeBut}
+use Rattle.yt_conflict.specs.declared.concerns.Sense.{Sense}
 use Rattle.yt_entries.specs.Meanings.{cause_of}
 use Rattle.yt_entries.specs.declared.causes.Cause.{Cause as CauseOfProgram}
 use Rattle.yt_history.specs.PlainEntries.{cause_kept}
@@ -78,10 +79,10 @@ ShowsStep r plan old new =
     → Replaces ms B r.program.attempt.number (trail (caused_chase ms B) (update_of ms B r)) (trail (caused_chase ms B) (stepped (caused_chase ms B) D (update_of ms B r))) old new
 
 -- In any such history: but for the tuples of these writes the same tuples lie above the update before and after the step.
-abbrev pub HasTurned : Record → Plan → List Write → Type 0
-HasTurned r plan ws =
+abbrev pub HasTurned : Record → Plan → Sense → List Write → Type 0
+HasTurned r plan g ws =
     (ms : List Rule) (B : ℕ) (D E : List Fact) (s : Settings) (c n : ℕ) → MayStep ms B s c n r → IsPlanOf ms B D r plan → IsRepository E
-    → AgreeBut (map change_of ws ∷ []) (apply E (trail (caused_chase ms B) (update_of ms B r))) (apply E (trail (caused_chase ms B) (stepped (caused_chase ms B) D (update_of ms B r))))
+    → AgreeBut g (map change_of ws ∷ []) (apply E (trail (caused_chase ms B) (update_of ms B r))) (apply E (trail (caused_chase ms B) (stepped (caused_chase ms B) D (update_of ms B r))))
 
 -- Each of the upper updates was its run over what lay below it before the event, where u stands above the lower ones.
 abbrev pub RanAbove : (ms : List Rule) (B : ℕ) → List Fact → List (Update (caused_chase ms B)) → Update (caused_chase ms B) → List (Update (caused_chase ms B)) → Type 0

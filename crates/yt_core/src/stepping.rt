@@ -14,6 +14,7 @@ use crate::aftermaths::{Aftermath, settled};
 use std::alloc::Global;
 use yt_base::{Memory, TryCopy, Write, WriteList};
 use yt_cascade::Cascade;
+use yt_conflict::Sense;
 use yt_entries::{Cause, CauseList, Entry, EntryList};
 use yt_limits::Mappings;
 use yt_plan::Plan;
@@ -84,30 +85,32 @@ fn found<'a>(
         found.items) }
     ensures long { IfOk result (λ found. length found.items ≡ readers) }
 {
+    let (sense, written) = turned(item, plan);
     let mut walk = Cascade {
         mappings,
         deps: settings.deps,
         committed,
         update: item.number(),
+        sense,
         whole: after,
     };
     if has_spent(&plan.program) {
         walk.whole = versions;
         return walk.causes_of_loss(alloc, item.trail(), upper, readers);
     }
-    walk.causes_of_writes(alloc, turned(item, plan), upper, readers)
+    walk.causes_of_writes(alloc, written, upper, readers)
 }
 
 // The writes that come by the step, or that go where the attempt ends by it spent or refused.
-fn turned<'a>(item: &'a Record, plan: &'a Plan) -> &'a [Write]
+fn turned<'a>(item: &'a Record, plan: &'a Plan) -> (Sense, &'a [Write])
     requires between { IsBetween item.now.program }
     requires after { IsBetween plan.now.program }
-    ensures turned { HasTurned item.now plan.now result.now }
+    ensures turned { HasTurned item.now plan.now result.0 result.1.now }
 {
     if hides(&plan.program) {
-        return item.trail();
+        return (Sense::Went, item.trail());
     }
-    item.written(plan)
+    (Sense::Came, item.written(plan))
 }
 
 // The versions with the writes that the step shows; without those of the update where it ends by it spent or refused.

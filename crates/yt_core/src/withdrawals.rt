@@ -12,6 +12,7 @@ use crate::stepping::{above, put_last};
 use std::alloc::Global;
 use yt_base::Memory;
 use yt_cascade::Cascade;
+use yt_conflict::Sense;
 use yt_entries::{Cause, CauseList, Entry, EntryList};
 use yt_limits::Mappings;
 use yt_program::Program;
@@ -142,6 +143,7 @@ fn found_lost<'a>(
         deps: settings.deps,
         committed,
         update: item.number(),
+        sense: Sense::Went,
         whole: versions,
     };
     walk.causes_of_loss(alloc, item.trail(), upper, upper.len())

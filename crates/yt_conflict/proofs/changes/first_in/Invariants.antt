@@ -12,6 +12,6 @@ invariant-reads g l = record {
   seen : l.view ≡ record { below = g.F.Facts.tuples l.below; own = take l.seen (map change_of l.own) };
   number : l.number ≡ l.read-index;
   first :
-      first_from (is_met_and_changed (map rule_of l.mappings.items) (heading_of l.direction) (g.F.Facts.tuples l.below) (map change_of l.own) (trails_of l.trails)) 1 (map read_of l.log)
-      ≡ first_from (is_met_and_changed (map rule_of l.mappings.items) (heading_of l.direction) (g.F.Facts.tuples l.below) (map change_of l.own) (trails_of l.trails)) (suc l.number) (map read_of (drop l.read-index l.log));
+      first_from (is_met_and_changed (map rule_of l.mappings.items) (heading_of l.direction) (g.F.Facts.tuples l.below) (map change_of l.own) l.fn.sense (trails_of l.trails)) 1 (map read_of l.log)
+      ≡ first_from (is_met_and_changed (map rule_of l.mappings.items) (heading_of l.direction) (g.F.Facts.tuples l.below) (map change_of l.own) l.fn.sense (trails_of l.trails)) (suc l.number) (map read_of (drop l.read-index l.log));
 }

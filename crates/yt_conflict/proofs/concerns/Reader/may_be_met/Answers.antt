@@ -8,6 +8,6 @@ use Rattle.yt_conflict.proofs.concerns.Reader.may_be_met.Goals as goal
 
 pub returns : goal.returns
 returns c = record {
-  unmet = λ e. all_unmet (rules_in c.args.self.now.mappings.now) (heading_of c.args.self.now.direction) (map change_of c.args.self.now.own.now) (trails_of c.args.trails.now) (map read_of c.args.log.now)
-      (sym c.counts_all.ensures ∙ c.if-counts_all.false) (sym c.is_joined.ensures ∙ c.if-is_joined.false) (sym c.meets_apart.ensures ∙ e);
+  unmet = λ e. all_unmet (rules_in c.args.self.now.mappings.now) (heading_of c.args.self.now.direction) (map change_of c.args.self.now.own.now) c.args.self.now.sense (trails_of c.args.trails.now) (map read_of c.args.log.now)
+      (sym c.counts_all.ensures ∙ c.if-counts_all.false) (sym c.is_broken.ensures ∙ c.if-is_broken.false) (sym c.meets_apart.ensures ∙ e);
 }

@@ -10,5 +10,5 @@ use Rattle.yt_conflict.proofs.concerns.Reader.meets_apart.Goals as goal
 
 pub returns : goal.returns
 returns c =
-    any_from_yields_List (λ r. is_met_apart (rules_in c.args.self.now.mappings.now) (heading_of c.args.self.now.direction) (map change_of c.args.self.now.own.now) (trails_of c.args.trails.now) r.query) c.any.new.self _ _ c.any.ensures.ran
+    any_from_yields_List (is_met_apart (rules_in c.args.self.now.mappings.now) (heading_of c.args.self.now.direction) (map change_of c.args.self.now.own.now) c.args.self.now.sense (trails_of c.args.trails.now)) c.any.new.self _ _ c.any.ensures.ran
     (mapped_from_slice read_of c.args.log.now cc) (λ x b q k. search (rules, tests))
