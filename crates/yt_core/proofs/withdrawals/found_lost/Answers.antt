@@ -1,4 +1,5 @@
 use Rattle.std.proofs.Common.{refl, arith, length}
+use Rattle.yt_conflict.specs.declared.concerns.Sense.TheVariants.{Went}
 use Rattle.yt_queue.proofs.Unread.{all_may_read}
 use Rattle.yt_queue.specs.Settings.{settings_of}
 use Rattle.yt_core.proofs.Placing.{if_ok}
@@ -8,7 +9,7 @@ use Rattle.yt_core.proofs.withdrawals.found_lost.Goals as goal
 pub returns-clause-found : goal.returns-clause-found
 returns-clause-found c =
     if_ok c.causes_of_loss.result _ _
-    (λ found are. loss_found _ (settings_of c.args.settings) c.args.item.now c.args.upper.now c.trail.result.now found.items refl c.number.ensures.number c.trail.ensures.trail are)
+    (λ found are. loss_found (record { rules = c.args.mappings.now; deps = (settings_of c.args.settings).deps; committed = c.args.committed; update = c.number.result; sense = Went; whole = c.args.versions.now }) (settings_of c.args.settings) c.args.item.now c.args.upper.now c.trail.result.now found.items refl c.number.ensures.number c.trail.ensures.trail are)
     c.causes_of_loss.ensures.causes
 
 pub causes_of_loss-requires-clause-read : goal.causes_of_loss-requires-clause-read
