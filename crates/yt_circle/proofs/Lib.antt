@@ -1,0 +1,13 @@
+mod Utf8
+mod Suited
+mod Walked
+mod Written
+mod Depths
+mod Counts
+mod Entries
+mod Turns
+mod Lines
+mod Results
+mod Judged
+mod Audits
+mod Endings

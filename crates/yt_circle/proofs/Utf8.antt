@@ -1,0 +1,176 @@
+-- What is printed of a tuple with texts of UTF-8 is UTF-8.
+use Rattle.std.specs.Prelude.{◌≡◌, ◌+◌, ◌/◌, ◌%◌, ◌<◌, ◌≤◌, ◌==◌, nat_lt, ℕ, zero, suc, pos, negsuc, Bool, true, false, cond, if◌then◌else◌, List, [], ◌∷◌, ◌++◌, flat_map, IsUtf8}
+use Rattle.std.proofs.Common.{refl, sym, ap, ◌∙◌, subst, arith, append-nil}
+use Rattle.std.specs.Fmt.{decimal, signed_decimal, digit_glyph, digits, digits_onto}
+use Rattle.std.specs.List.{AllByRecursion, list_all}
+use Rattle.std.specs.Str.{is_utf8, encode_utf8_all, all_scalars}
+use Rattle.std.proofs.Math.Utf8.{encode, scalar, next}
+use Rattle.std.proofs.lemmas.Bool.{and_parts}
+use Rattle.std.proofs.lemmas.Bool.Decides.{nat_tests}
+use Rattle.std.proofs.lemmas.Grind.{flat_map-append}
+use Rattle.std.proofs.lemmas.Nat.{mod_below}
+use Rattle.std.proofs.lemmas.Str.{IsUtf8-append, IsUtf8-from_is_utf8, IsUtf8-nil}
+use Rattle.json.proofs.Printed.Utf8.{are_ascii, IsUtf8-are_ascii}
+use Rattle.yt_lex.specs.Bytes.{begins_name, continues_name}
+use Rattle.yt_model.specs.Mappings.{force_relation}
+use Rattle.yt_model.specs.Values.{Datum, Number, Text, Unknown, Fact, NullName}
+use Rattle.yt_model.proofs.Bools.{both}
+use Rattle.yt_grammar.specs.Layout.{is_name, null_text, quoted, written_byte}
+use Rattle.yt_grammar.specs.Names.{Name}
+use Rattle.yt_grammar.specs.Printing.{joined_text, name_of, null_name_text, tuple_text, value_text}
+use Rattle.yt_grammar.specs.Sessions.{RelationSchema, relation_names}
+use Rattle.yt_grammar.specs.Validity.{AreNew}
+
+-- ---- texts in quotes
+
+-- a byte above 127 stands for itself
+plain_byte : (b : ℕ) → 128 ≤ b → written_byte b ≡ b ∷ []
+plain_byte b le =
+    let q : (b == 34) ≡ false = grind (arith, nat_tests) in
+    let s : (b == 92) ≡ false = grind (arith, nat_tests) in
+    let f : (b == 10) ≡ false = grind (arith, nat_tests) in
+    rw (q, s, f) refl
+
+plain_bytes : (bytes : List ℕ) → AllByRecursion (λ b. 128 ≤ b) bytes → flat_map written_byte bytes ≡ bytes
+plain_bytes [] all = refl
+plain_bytes (b ∷ bytes) all = rw (plain_byte b all.0, plain_bytes bytes all.1) refl
+
+next_high : (n : ℕ) → 128 ≤ next n
+next_high n = omega arith
+
+-- the bytes of a character above 127 are above 127
+high_bytes : (c : ℕ) → nat_lt c 128 ≡ false → AllByRecursion (λ b. 128 ≤ b) (encode c)
+unfolding encode
+high_bytes c high = rw high (by (nat_lt c 2048) (nat_lt c 65536)) where
+  by : (x y : Bool) → AllByRecursion (λ b. 128 ≤ b) (cond x ((192 + c / 64) ∷ next c ∷ []) (cond y ((224 + c / 4096) ∷ next (c / 64) ∷ next c ∷ []) ((240 + c / 262144) ∷ next (c / 4096) ∷ next (c / 64) ∷ next c ∷ [])))
+  by true y = (omega arith, (next_high c, tt))
+  by false true = (omega arith, (next_high (c / 64), (next_high c, tt)))
+  by false false = (omega arith, (next_high (c / 4096), (next_high (c / 64), (next_high c, tt))))
+
+one_character : (c : ℕ) → scalar c ≡ true → IsUtf8 (encode c)
+one_character c s = (c ∷ [], (rw s refl, append-nil (encode c)))
+
+low_byte : (b : ℕ) → nat_lt b 128 ≡ true → IsUtf8 (written_byte b)
+low_byte b low = by (b == 34) (b == 92) (b == 10) refl refl refl where
+  by : (q s f : Bool) → (b == 34) ≡ q → (b == 92) ≡ s → (b == 10) ≡ f → IsUtf8 (written_byte b)
+  by true s f e1 e2 e3 = rw e1 (IsUtf8-are_ascii (92 ∷ 34 ∷ []) refl)
+  by false true f e1 e2 e3 = rw (e1, e2) (IsUtf8-are_ascii (92 ∷ 92 ∷ []) refl)
+  by false false true e1 e2 e3 = rw (e1, e2, e3) (IsUtf8-are_ascii (92 ∷ 110 ∷ []) refl)
+  by false false false e1 e2 e3 = rw (e1, e2, e3) (IsUtf8-are_ascii (b ∷ []) (rw low refl))
+
+character_written : (c : ℕ) → scalar c ≡ true → IsUtf8 (flat_map written_byte (encode c))
+unfolding encode
+character_written c s = by (nat_lt c 128) refl where
+  by : (low : Bool) → nat_lt c 128 ≡ low → IsUtf8 (flat_map written_byte (encode c))
+  by true e =
+      let one : encode c ≡ c ∷ [] = rw e refl in
+      subst IsUtf8 (sym (ap (flat_map written_byte) one ∙ append-nil (written_byte c))) (low_byte c e)
+  by false e = subst IsUtf8 (sym (plain_bytes (encode c) (high_bytes c e))) (one_character c s)
+
+characters_written : (cs : List ℕ) → all_scalars cs ≡ true → IsUtf8 (flat_map written_byte (encode_utf8_all cs))
+characters_written [] all = IsUtf8-nil
+characters_written (c ∷ cs) all =
+    let parts = and_parts (scalar c) (all_scalars cs) all in
+    subst IsUtf8 (sym (flat_map-append written_byte (encode c) (encode_utf8_all cs))) (IsUtf8-append (flat_map written_byte (encode c)) (flat_map written_byte (encode_utf8_all cs)) (character_written c parts.0) (characters_written cs parts.1))
+
+text_written : (t : List ℕ) → IsUtf8 t → IsUtf8 (quoted t)
+text_written t u =
+    IsUtf8-append (34 ∷ []) (flat_map written_byte t ++ 34 ∷ []) (IsUtf8-are_ascii (34 ∷ []) refl)
+    (IsUtf8-append (flat_map written_byte t) (34 ∷ []) (subst (λ (bytes : List ℕ). IsUtf8 (flat_map written_byte bytes)) u.1.1 (characters_written u.0 u.1.0)) (IsUtf8-are_ascii (34 ∷ []) refl))
+
+-- ---- numbers
+
+glyph : (d : ℕ) → d < 10 → nat_lt (digit_glyph false d) 128 ≡ true
+glyph d low = let e : nat_lt d 10 ≡ true = grind (arith, nat_tests) in rw e (let f : nat_lt (48 + d) 128 ≡ true = grind (arith, nat_tests) in f)
+
+either : (b : Bool) (xs ys : List ℕ) → are_ascii xs ≡ true → are_ascii ys ≡ true → are_ascii (if b then xs else ys) ≡ true
+either true xs ys one other = one
+either false xs ys one other = other
+
+spelled : (k n : ℕ) (rest : List ℕ) → are_ascii rest ≡ true → are_ascii (digits_onto k 10 false n rest) ≡ true
+spelled zero n rest none = none
+spelled (suc k) n rest none =
+    let low : n % 10 < 10 = mod_below n 10 (omega arith) in
+    let more : are_ascii (digit_glyph false (n % 10) ∷ rest) ≡ true = both (nat_lt (digit_glyph false (n % 10)) 128) (are_ascii rest) (glyph (n % 10) low) none in
+    either (n / 10 == 0) (digit_glyph false (n % 10) ∷ rest) (digits_onto k 10 false (n / 10) (digit_glyph false (n % 10) ∷ rest)) more
+    (spelled k (n / 10) (digit_glyph false (n % 10) ∷ rest) more)
+
+decimal_text : (n : ℕ) → IsUtf8 (decimal n)
+unfolding digits
+decimal_text n = IsUtf8-are_ascii (decimal n) (spelled 64 n [] refl)
+
+signed : (n : ℕ) → IsUtf8 (signed_decimal (negsuc n))
+signed n = IsUtf8-append (45 ∷ []) (decimal (suc n)) (IsUtf8-are_ascii (45 ∷ []) refl) (decimal_text (suc n))
+
+null : (n : NullName) → IsUtf8 (null_name_text true n)
+null n =
+    IsUtf8-append (null_text n.update n.place) (64 ∷ decimal n.attempt)
+    (IsUtf8-append (63 ∷ []) (decimal n.update ++ 46 ∷ decimal n.place) (IsUtf8-are_ascii (63 ∷ []) refl)
+    (IsUtf8-append (decimal n.update) (46 ∷ decimal n.place) (decimal_text n.update) (IsUtf8-append (46 ∷ []) (decimal n.place) (IsUtf8-are_ascii (46 ∷ []) refl) (decimal_text n.place))))
+    (IsUtf8-append (64 ∷ []) (decimal n.attempt) (IsUtf8-are_ascii (64 ∷ []) refl) (decimal_text n.attempt))
+
+-- ---- values
+
+-- The value is no text, or one of UTF-8.
+abbrev pub is_textual : Datum → Bool
+is_textual (Number z) = true
+is_textual (Text t) = is_utf8 t
+is_textual (Unknown n) = true
+
+value : (d : Datum) → is_textual d ≡ true → IsUtf8 (value_text true d)
+value (Number (pos n)) e = decimal_text n
+value (Number (negsuc n)) e = signed n
+value (Text t) e = text_written t (IsUtf8-from_is_utf8 t e)
+value (Unknown n) e = null n
+
+others : (ds : List Datum) → list_all is_textual ds ≡ true → IsUtf8 (flat_map (λ d. 44 ∷ 32 ∷ value_text true d) ds)
+others [] e = IsUtf8-nil
+others (d ∷ ds) e =
+    let p = and_parts (is_textual d) (list_all is_textual ds) e in
+    IsUtf8-append (44 ∷ 32 ∷ value_text true d) (flat_map (λ x. 44 ∷ 32 ∷ value_text true x) ds)
+    (IsUtf8-append (44 ∷ 32 ∷ []) (value_text true d) (IsUtf8-are_ascii (44 ∷ 32 ∷ []) refl) (value d p.0)) (others ds p.1)
+
+values : (ds : List Datum) → list_all is_textual ds ≡ true → IsUtf8 (joined_text (value_text true) ds)
+values [] e = IsUtf8-nil
+values (d ∷ ds) e =
+    let p = and_parts (is_textual d) (list_all is_textual ds) e in
+    IsUtf8-append (value_text true d) (flat_map (λ x. 44 ∷ 32 ∷ value_text true x) ds) (value d p.0) (others ds p.1)
+
+-- ---- names
+
+name_low : (b : ℕ) → continues_name b ≡ true → nat_lt b 128 ≡ true
+name_low b e = grind (arith, nat_tests)
+
+first_low : (b : ℕ) → begins_name b ≡ true → nat_lt b 128 ≡ true
+first_low b e = grind (arith, nat_tests)
+
+rest_low : (bs : List ℕ) → list_all continues_name bs ≡ true → are_ascii bs ≡ true
+rest_low [] e = refl
+rest_low (b ∷ bs) e = let p = and_parts (continues_name b) (list_all continues_name bs) e in both (nat_lt b 128) (are_ascii bs) (name_low b p.0) (rest_low bs p.1)
+
+name_text : (n : List ℕ) → is_name n ≡ true → IsUtf8 n
+name_text [] e = IsUtf8-nil
+name_text (b ∷ n) e =
+    let p = and_parts (begins_name b) (list_all continues_name n) e in
+    IsUtf8-are_ascii (b ∷ n) (both (nat_lt b 128) (are_ascii n) (first_low b p.0) (rest_low n p.1))
+
+named : (before names : List Name) (r : ℕ) → AreNew before names → IsUtf8 (name_of names r)
+named before [] r new = IsUtf8-nil
+named before (n ∷ names) zero new = name_text n new.0
+named before (n ∷ names) (suc r) new = named (before ++ n ∷ []) names r new.2
+
+-- ---- tuples
+
+tuple : (relations : List RelationSchema) (t : Fact) → AreNew [] (relation_names relations) → list_all is_textual t.values ≡ true → IsUtf8 (tuple_text relations true t)
+tuple relations t names e = by (t.relation == force_relation)
+  where
+    by : (b : Bool) → IsUtf8 (if b then 42 ∷ joined_text (value_text true) t.values else name_of (relation_names relations) t.relation ++ (40 ∷ (joined_text (value_text true) t.values ++ 41 ∷ [])))
+    by true = IsUtf8-append (42 ∷ []) (joined_text (value_text true) t.values) (IsUtf8-are_ascii (42 ∷ []) refl) (values t.values e)
+    by false =
+        IsUtf8-append (name_of (relation_names relations) t.relation) (40 ∷ (joined_text (value_text true) t.values ++ 41 ∷ [])) (named [] (relation_names relations) t.relation names)
+        (IsUtf8-append (40 ∷ []) (joined_text (value_text true) t.values ++ 41 ∷ []) (IsUtf8-are_ascii (40 ∷ []) refl)
+        (IsUtf8-append (joined_text (value_text true) t.values) (41 ∷ []) (values t.values e) (IsUtf8-are_ascii (41 ∷ []) refl)))
+
+-- The tuple with its sign before it is UTF-8.
+pub signed_tuple : (relations : List RelationSchema) (sign : ℕ) (t : Fact) → nat_lt sign 128 ≡ true → AreNew [] (relation_names relations) → list_all is_textual t.values ≡ true → IsUtf8 (sign ∷ tuple_text relations true t)
+signed_tuple relations sign t low names e = IsUtf8-append (sign ∷ []) (tuple_text relations true t) (IsUtf8-are_ascii (sign ∷ []) (rw low refl)) (tuple relations t names e)
