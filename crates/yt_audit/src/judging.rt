@@ -117,7 +117,7 @@ fn fault_in(
     let Some(entry) = replay.make(alloc, event)? else {
         return Ok(Some(Why::Event));
     };
-    if tells(alloc, schema, &entry, line)? {
+    if tells(alloc, schema, entry, line)? {
         return Ok(None);
     }
     Ok(Some(Why::Effect))
@@ -159,14 +159,23 @@ fn admission_of(replay: &Replay<'_>, update: u32) -> Option<Event>
     Some(Event::Admits)
 }
 
-// Whether the line is the text of the entry. It is refused only for want of memory.
-fn tells(alloc: Global, schema: &Schema, entry: &Entry, line: &[u8]) -> Result<bool, Memory>
+// Whether the line is the text of the entry, which is let go. It is refused only for want of memory.
+fn tells(alloc: Global, schema: &Schema, entry: Entry, line: &[u8]) -> Result<bool, Memory>
     ensures tells { IfOk result (λ same. IsTrue same ↔
-        (line.now ++ 10 ∷ [] ≡ entry_line schema.now (entry_of entry.now))) }
+        (line.now ++ 10 ∷ [] ≡ entry_line schema.now (entry_of entry))) }
 {
-    let text = entry_line(alloc, schema, entry)?;
+    let text = text_of(alloc, schema, entry)?;
     match text.as_slice().strip_suffix(b"\n") {
         Some(told) => Ok(told == line),
         None => Ok(false),
     }
+}
+
+// The text of the entry, which is let go. It is refused only for want of memory.
+fn text_of(alloc: Global, schema: &Schema, entry: Entry) -> Result<Vec<u8>, Memory>
+    ensures line { IfOk result (λ text. text.items ≡ entry_line schema.now (entry_of entry)) }
+{
+    let text = entry_line(alloc, schema, &entry);
+    drop(entry);
+    text
 }

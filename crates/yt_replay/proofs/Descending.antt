@@ -1,7 +1,10 @@
 -- Levels, as they are kept: the uppermost one, and what leads down from it.
-use Rattle.std.proofs.Common.{◌≡◌, ◌∙◌, ap, refl, sym, suc, List, [], ◌∷◌, ◌++◌, length}
+use Rattle.std.proofs.Common.{◌≡◌, ◌∙◌, ap, refl, sym, suc, ◌+◌, List, [], ◌∷◌, ◌++◌, map, length, arith}
 use Rattle.std.specs.Prelude.{reverse}
-use Rattle.std.proofs.lemmas.List.{reverse-append, length-reverse}
+use Rattle.std.proofs.lemmas.List.{reverse-append, length-append, length-map, length-reverse}
+use Rattle.yt_base.specs.Contents.{changes_of}
+use Rattle.yt_base.specs.Listed.{Listed}
+use Rattle.yt_base.specs.declared.updates.Write.{Write}
 use Rattle.yt_model.specs.Values.{Fact}
 use Rattle.yt_model.specs.Repository.{Change, apply}
 use Rattle.yt_replay.specs.Levels.{descended, top, raised}
@@ -28,3 +31,16 @@ one_level_more D E made wss ws e b =
 -- So many are kept.
 pub many_kept : (D : List Fact) (wss : List (List Change)) → length (descended D (reverse wss)) ≡ suc (length wss)
 many_kept D wss = many_descended D (reverse wss) ∙ ap suc (length-reverse wss)
+
+-- Over another set there are as many.
+pub as_many : (D E : List Fact) (wss : List (List Change)) → length (descended E (reverse wss)) ≡ length (descended D (reverse wss))
+as_many D E wss = many_kept E wss ∙ sym (many_kept D wss)
+
+-- Where the last list of writes is taken away, there is one fewer.
+pub one_fewer : (D E : List Fact) (all less : List (Listed Write)) (last : Listed Write) → all ≡ less ++ last ∷ []
+    → suc (length (descended E (reverse (map changes_of less)))) ≡ length (descended D (reverse (map changes_of all)))
+one_fewer D E all less last e =
+    let long : length all ≡ length less + 1 = ap length e ∙ length-append less (last ∷ []) in
+    let after : length (descended E (reverse (map changes_of less))) ≡ suc (length less) = many_kept E (map changes_of less) ∙ ap suc (length-map less changes_of) in
+    let before : length (descended D (reverse (map changes_of all))) ≡ suc (length all) = many_kept D (map changes_of all) ∙ ap suc (length-map all changes_of) in
+    omega (arith, long, after, before)

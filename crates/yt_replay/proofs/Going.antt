@@ -11,7 +11,7 @@ use Rattle.yt_seats.specs.Settings.{settings_of}
 use Rattle.yt_seats.specs.declared.seats.Seat.{Seat}
 use Rattle.yt_replay.specs.Places.{AreBetween}
 use Rattle.yt_replay.specs.Prepared.{IsPreparedFor}
-use Rattle.yt_replay.specs.Replays.{IsReplay}
+use Rattle.yt_replay.specs.Replays.{IsLeftOf, IsReplay}
 use Rattle.yt_replay.specs.Restarts.{AllHaveOneMore}
 use Rattle.yt_replay.specs.Steps.{AtPlace, IsPlanSomewhere, IsReadyOf, IsReadySomewhere}
 use Rattle.yt_replay.specs.declared.replays.Replay.{Replay}
@@ -26,6 +26,10 @@ front [] (y ∷ ys) zero h = refl
 front [] ys (suc n) h = absurd (omega (arith, h))
 front (x ∷ xs) ys zero h = absurd (omega (arith, h))
 front (x ∷ xs) ys (suc n) h = ap (λ zs. x ∷ zs) (front xs ys n (omega (arith, h)))
+
+-- What is left of a replay where its seats are these, and all else but its levels is as before.
+pub left_with : (r r' : Replay) (rs : List Seat) → r'.seats.items ≡ rs → AreFrom 1 rs → r'.mappings ≡ r.mappings → r'.budget ≡ r.budget → r'.settings ≡ r.settings → r'.handed ≡ r.handed → IsLeftOf r r'
+left_with r r' rs e numbers mappings budget settings handed = record { mappings = mappings; budget = budget; settings = settings; handed = handed; numbers = subst (λ (qs : List Seat). AreFrom 1 qs) (sym e) numbers }
 
 module _ (r : Replay) (k : IsReplay r) (rs : List Seat) (slice : rs ≡ r.seats.items) where
   pub its_numbers : AreFrom 1 rs

@@ -1,5 +1,6 @@
 -- The plan of the next step of a seat's update.
 use Rattle.std.proofs.Common.{◌≡◌, ◌∙◌, ap, refl, ℕ, zero, suc, slice_index_or, replicate, Bool, false, Option, List, map}
+use Rattle.std.specs.Prelude.{IfOk, Result, Ok, Err}
 use Rattle.std.proofs.lemmas.Bool.{both_ways}
 use Rattle.yt_model.specs.Mappings.{Rule}
 use Rattle.yt_model.specs.Updates.{Choice}
@@ -34,3 +35,9 @@ planned_is ms B D E r plan a e next p q = record {
   program = p ∙ (λ i. at_rest (next_attempt ms B (e i) r.program.attempt (next ms B i)));
   reads = q ∙ (λ i. next_reads ms (e i) r.program.attempt (next ms B i));
 }
+
+-- Where there is one.
+pub planned_ok : {M : Type 0} (ms : List Rule) (B : ℕ) (D E : List Fact) (r : Seat) (o : Result Plan M) (a : Option Choice) → D ≡ E → HasNext r a → IfOk o (λ plan. plan.program ≡ at_rest (next_attempt ms B D r.program.attempt a))
+    → IfOk o (λ plan. map read_of plan.reads.items ≡ next_reads ms D r.program.attempt a) → IfOk o (IsPlanOf ms B E r)
+planned_ok ms B D E r (Ok plan) a e next p q = planned_is ms B D E r plan a e next p q
+planned_ok ms B D E r (Err m) a e next p q = tt

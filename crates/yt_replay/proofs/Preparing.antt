@@ -28,13 +28,17 @@ plan_between ms B D r plan p = ap (λ (s : State). s.reading) p.program
 pub above_between : (rs up : List Seat) (k : ℕ) (r : Seat) → AreFrom 1 rs → k < length rs → r ≡ get_or rs k r → up ≡ drop (suc k) rs → AreBetween up
 above_between rs up k r a l e u = all_between (suc r.program.attempt.number) up (above_numbers rs up k r a l e u)
 
+-- Copies of what the step shows say the same.
+pub written_copies : (r : Seat) (plan : Plan) (ws vs : List Write) → map change_of vs ≡ map change_of ws → HasWritten r plan ws → HasWritten r plan vs
+written_copies r plan ws vs same written ms B D p = same ∙ written ms B D p
+
 -- What was prepared for the seat at the place.
-pub prepared_there : (ms : List Rule) (B : ℕ) (deps : Deps) (c : ℕ) (rs up : List Seat) (k : ℕ) (r : Seat) (D : List Fact) (plan : Plan) (causes : Listed CauseOfProgram) (writes : Listed Write) (attempt : ℕ) (ws : List Write) → k < length rs → r ≡ get_or rs k r → up ≡ drop (suc k) rs
-    → IsPlanOf ms B D r plan → AreOfStep ms deps c r plan D up causes.items → HasWritten r plan ws → map change_of writes.items ≡ map change_of ws → attempt ≡ r.program.attempt.attempt
+pub prepared_there : (ms : List Rule) (B : ℕ) (deps : Deps) (c : ℕ) (rs up : List Seat) (k : ℕ) (r : Seat) (D : List Fact) (plan : Plan) (causes : Listed CauseOfProgram) (writes : Listed Write) (attempt : ℕ) → k < length rs → r ≡ get_or rs k r → up ≡ drop (suc k) rs
+    → IsPlanOf ms B D r plan → AreOfStep ms deps c r plan D up causes.items → HasWritten r plan writes.items → attempt ≡ r.program.attempt.attempt
     → AtPlace k rs (λ q. IsPreparedFor ms B deps c q D (drop (suc k) rs) (record { plan = plan; attempt = attempt; writes = writes; causes = causes }))
-prepared_there ms B deps c rs up k r D plan causes writes attempt ws l e u planned are written same is q spot =
+prepared_there ms B deps c rs up k r D plan causes writes attempt l e u planned are written is q spot =
     subst (λ (x : Seat). IsPreparedFor ms B deps c x D (drop (suc k) rs) (record { plan = plan; attempt = attempt; writes = writes; causes = causes })) (same_Some r q (sym (there_is rs k r l e) ∙ spot))
-    (record { planned = planned; causes = subst (λ (qs : List Seat). AreOfStep ms deps c r plan D qs causes.items) u are; written = λ ms' B' D' p. same ∙ written ms' B' D' p; attempt = is })
+    (record { planned = planned; causes = subst (λ (qs : List Seat). AreOfStep ms deps c r plan D qs causes.items) u are; written = written; attempt = is })
 
 -- The causes of the loss of its trail.
 pub loss_there : (ms : List Rule) (deps : Deps) (c n : ℕ) (rs up : List Seat) (k : ℕ) (r : Seat) (D : List Fact) (ws : List Write) (causes : List CauseOfProgram) → AreFrom 1 rs → k < length rs → r ≡ get_or rs k r → up ≡ drop (suc k) rs → n ≡ r.program.attempt.number → HasTrail r ws

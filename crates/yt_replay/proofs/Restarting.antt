@@ -11,7 +11,8 @@ use Rattle.yt_machine.specs.Cascade.{anew, has_number, restarted}
 use Rattle.yt_model.specs.Mappings.{Rule}
 use Rattle.yt_steps.specs.Chase.{caused_chase}
 use Rattle.yt_seats.specs.Seatings.{update_of, updates_of, StandsAt, AreFrom}
-use Rattle.yt_seats.specs.Events.{KeepsPlace}
+use Rattle.yt_program.specs.Courses.{State}
+use Rattle.yt_seats.specs.Events.{IsSame, KeepsPlace}
 use Rattle.yt_seats.specs.Renewals.{HasOneMore, HasRestarted}
 use Rattle.yt_seats.specs.declared.seats.Seat.{Seat}
 use Rattle.yt_replay.specs.Causes.{readers_in}
@@ -58,6 +59,10 @@ put_there (x ∷ rs) n (suc k) r v a h e f = let l : k < length rs = omega (arit
 -- A seat that keeps its place can be put there.
 pub put_with : (rs : List Seat) (k : ℕ) (r v : Seat) → AreFrom 1 rs → k < length rs → r ≡ get_or rs k r → KeepsPlace (get_or rs k r) v → AreFrom 1 (set rs k v)
 put_with rs k r v a l e f = put_there rs 1 k r v a l e (subst (λ (q : Seat). KeepsPlace q v) (sym e) f)
+
+-- A seat that stands for the same update, at the same moment, keeps its place.
+pub same_place : (r v : Seat) → IsSame r v → KeepsPlace r v
+same_place r v same n at = record { number = ap (λ (s : State). s.attempt.number) same.0 ∙ at.number; between = ap (λ (s : State). s.reading) same.0 ∙ at.between }
 
 past_set : {A : Type 0} (xs : List A) (k : ℕ) (y : A) → drop (suc k) (set xs k y) ≡ drop (suc k) xs
 past_set [] k y = refl

@@ -1,5 +1,5 @@
 -- Levels of a set of tuples, from the uppermost one down to the lowest.
-use Rattle.std.specs.Prelude.{◌≡◌, ℕ, ◌+◌, List, [], ◌∷◌, map, reverse, drop, length}
+use Rattle.std.specs.Prelude.{◌≡◌, ℕ, ◌+◌, ◌≤◌, suc, List, [], ◌∷◌, map, reverse, drop, length}
 use Rattle.yt_base.specs.Meanings.{change_of}
 use Rattle.yt_base.specs.declared.updates.Write.{Write}
 use Rattle.yt_model.specs.Values.{Fact}
@@ -18,6 +18,18 @@ top (D ∷ Ds) = D
 -- one level more: the uppermost one with these writes made
 abbrev pub raised : List (List Fact) → List Change → List (List Fact)
 raised Ds ws = apply (top Ds) ws ∷ Ds
+
+-- There are as many levels as before; which tuples lie in them is left open.
+abbrev pub AreAsMany : List (List Fact) → List (List Fact) → Type 0
+AreAsMany old new = length new ≡ length old
+
+-- There is one level less; which tuples lie in the others is left open.
+abbrev pub AreOneFewer : List (List Fact) → List (List Fact) → Type 0
+AreOneFewer old new = suc (length new) ≡ length old
+
+-- There are at least so many above the lowest, and no more than before; which tuples lie in them is left open.
+abbrev pub AreStill : ℕ → List (List Fact) → List (List Fact) → Type 0
+AreStill h old new = (h + 1 ≤ length new) × (length new ≤ length old)
 
 -- The new writes lead from the new set, the last of them first, to where the old ones led from the old set.
 abbrev pub LeadsBack : List Fact → List Write → List Fact → List Write → Type 0

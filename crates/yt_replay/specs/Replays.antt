@@ -48,6 +48,14 @@ pub record IsReplay (r : Replay) : Type 0 where
   pub history : List PlainEntry
   pub replays : IsReplayOf over history r
 
+-- It is of the same session by the same terms, and its seats are those of updates 1, 2, .. between two steps. Of which history it is is left open.
+pub record IsLeftOf (old new : Replay) : Type 0 where
+  pub mappings : new.mappings ≡ old.mappings
+  pub budget : new.budget ≡ old.budget
+  pub settings : new.settings ≡ old.settings
+  pub handed : new.handed ≡ old.handed
+  pub numbers : AreFrom 1 new.seats.items
+
 -- What a replay of the session is over, by these terms.
 abbrev pub ground_of : SessionData → ℕ → Settings → Ground
 ground_of s budget c = record { rules = rules_of s.mappings; budget = budget; settings = c; base = s.base; requests = requests_in s; later = [] }

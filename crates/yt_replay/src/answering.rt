@@ -1,5 +1,5 @@
 //! Deliveries of recorded answers, and answers by people, at a place among the seats.
-ghost use Rattle.std.specs.Prelude.{◌<◌, length, IfOk, OnOk};
+ghost use Rattle.std.specs.Prelude.{◌<◌, length, IfOk, OnOk, OnErr};
 ghost use Rattle.yt_base.specs.Meanings.{choice_of};
 ghost use Rattle.yt_seats.specs.Seatings.{AreFrom};
 ghost use Rattle.yt_seats.specs.Settings.{settings_of};
@@ -22,6 +22,7 @@ pub(crate) fn deliver_to(
     ensures delivered { IfOk result
         (IsDelivered (settings_of settings) place seats.old seats.new) }
     ensures numbers { OnOk result (AreFrom 1 seats.new) }
+    ensures err { OnErr result (AreFrom 1 seats.new) }
 {
     seats[place].deliver()?;
     let update = seats[place].number();
@@ -42,6 +43,7 @@ pub(crate) fn answer_to(
     ensures answered { IfOk result
         (IsAnswered (settings_of settings) place (choice_of choice) seats.old seats.new) }
     ensures numbers { OnOk result (AreFrom 1 seats.new) }
+    ensures err { OnErr result (AreFrom 1 seats.new) }
 {
     let copy = choice.copy(alloc)?;
     seats[place].answer(alloc, copy)?;

@@ -1,8 +1,8 @@
 //! A set of tuples that goes up and down over writes.
-ghost use Rattle.std.specs.Prelude.{◌≡◌, ◌+◌, ◌-◌, ◌≤◌, ◌∷◌, [], suc, length, drop, map, reverse, IfOk, OnOk};
+ghost use Rattle.std.specs.Prelude.{◌≡◌, ◌+◌, ◌-◌, ◌≤◌, ◌∷◌, [], suc, length, drop, map, reverse, IfOk, OnOk, OnErr};
 ghost use Rattle.yt_base.specs.Meanings.{change_of};
 ghost use Rattle.yt_model.specs.Repository.{apply, change};
-ghost use Rattle.yt_replay.specs.Levels.{LeadsBack, raised, top};
+ghost use Rattle.yt_replay.specs.Levels.{AreAsMany, AreOneFewer, AreStill, LeadsBack, raised, top};
 
 use std::alloc::Global;
 use std::marker::Model;
@@ -55,9 +55,10 @@ impl Levels {
     }
 
     /// Puts one more level above the others: the uppermost one with these writes made. It is refused only for want of
-    /// memory; the levels are then ones to be let go.
+    /// memory; the levels are then to be let go: they are as many as before, of other tuples.
     pub fn rise(&mut self, alloc: Global, writes: &[Write]) -> Result<(), Memory>
         ensures raised { OnOk result (self.new ≡ raised self.old (map change_of writes.now)) }
+        ensures err { OnErr result (AreAsMany self.old self.new) }
     {
         let back = make_all(alloc, &mut self.facts, writes)?;
         self.back.push(back)?;
@@ -65,10 +66,11 @@ impl Levels {
     }
 
     /// Takes the uppermost level away, where it is not the lowest too. It is refused only for want of memory; the levels are then
-    /// ones to be let go.
+    /// to be let go: they are one fewer, of other tuples.
     pub fn sink(&mut self) -> Result<(), Memory>
         requires above { 2 ≤ length self.old }
         ensures sunk { OnOk result (self.new ≡ drop 1 self.old) }
+        ensures err { OnErr result (AreOneFewer self.old self.new) }
     {
         let Some(back) = self.back.pop() else {
             return Ok(());
@@ -77,12 +79,13 @@ impl Levels {
         Ok(())
     }
 
-    /// Takes levels away until so many are left above the lowest. It is refused only for want of memory; the levels are then ones to
-    /// be let go.
+    /// Takes levels away until so many are left above the lowest. It is refused only for want of memory; the levels are then to
+    /// be let go: they are still at least so many, of other tuples.
     pub fn sink_to(&mut self, height: usize) -> Result<(), Memory>
         requires above { height + 1 ≤ length self.old }
         ensures sunk { OnOk result
             (self.new ≡ drop (length self.old - (height + 1)) self.old) }
+        ensures err { OnErr result (AreStill height self.old self.new) }
     {
         while self.height() > height {
             self.sink()?;

@@ -1,12 +1,12 @@
 //! The beginning of a replay, and what admissions, deliveries and answers do.
-ghost use Rattle.std.specs.Prelude.{◌≡◌, ◌≤◌, ◌<◌, length, slice_get, suc, IfOk};
+ghost use Rattle.std.specs.Prelude.{◌≡◌, ◌≤◌, ◌<◌, length, slice_get, suc, IfOk, OnErr};
 ghost use Rattle.std.specs.Option.{option_copied};
 ghost use Rattle.yt_base.specs.Meanings.{choice_of};
 ghost use Rattle.yt_grammar.specs.Validity.{IsSession};
 ghost use Rattle.yt_session.specs.Meanings.{session_of};
 ghost use Rattle.yt_seats.specs.Settings.{settings_of};
 ghost use Rattle.yt_replay.specs.declared.events.Event.TheVariants as events;
-ghost use Rattle.yt_replay.specs.Replays.{HasMade, HasMadeAt, IsBegun, IsReplay};
+ghost use Rattle.yt_replay.specs.Replays.{HasMade, HasMadeAt, IsBegun, IsLeftOf, IsReplay};
 ghost use Rattle.yt_replay.specs.Steps.{IsDeliverableOf, TakesOf};
 
 use crate::answering::{answer_to, deliver_to};
@@ -53,6 +53,7 @@ impl<'s> Replay<'s> {
     pub(crate) fn admit(&mut self, alloc: Global) -> Result<Option<Entry>, Memory>
         requires replay { IsReplay self.old }
         ensures made { IfOk result (HasMade events.Admits self.old self.new) }
+        ensures err { OnErr result (IsLeftOf self.old self.new) }
     {
         let place = self.seats.len();
         let Some(next) = handed_at(self.handed, place) else {
@@ -68,6 +69,7 @@ impl<'s> Replay<'s> {
     pub(crate) fn deliver(&mut self, update: u32) -> Result<Option<Entry>, Memory>
         requires replay { IsReplay self.old }
         ensures made { IfOk result (HasMade (events.Delivers update) self.old self.new) }
+        ensures err { OnErr result (IsLeftOf self.old self.new) }
     {
         let Some(place) = self.place_of(update) else {
             return Ok(None);
@@ -88,6 +90,7 @@ impl<'s> Replay<'s> {
         requires deliverable { IsDeliverableOf (settings_of self.old.settings) place
             self.old.seats.items }
         ensures made { IfOk result (HasMadeAt events.Delivers place self.old self.new) }
+        ensures err { OnErr result (IsLeftOf self.old self.new) }
     {
         let entry = deliver_to(self.seats.as_mut_slice(), self.settings, place)?;
         Ok(entry)
@@ -102,6 +105,7 @@ impl<'s> Replay<'s> {
     ) -> Result<Option<Entry>, Memory>
         requires replay { IsReplay self.old }
         ensures made { IfOk result (HasMade (events.Answers update choice) self.old self.new) }
+        ensures err { OnErr result (IsLeftOf self.old self.new) }
     {
         let Some(place) = self.place_of(update) else {
             return Ok(None);
@@ -123,6 +127,7 @@ impl<'s> Replay<'s> {
             self.old.seats.items }
         ensures made { IfOk result (HasMadeAt (λ u. events.Answers u choice) place self.old
             self.new) }
+        ensures err { OnErr result (IsLeftOf self.old self.new) }
     {
         let seats = self.seats.as_mut_slice();
         let entry = answer_to(alloc, seats, self.settings, place, choice)?;

@@ -1,6 +1,6 @@
 //! A replay, and what it tells.
-ghost use Rattle.std.specs.Prelude.{◌≡◌, IfOk};
-ghost use Rattle.yt_replay.specs.Replays.{HasMade, HasCount, IsQuietReplay, IsReplay, IsWholeReplay, place_in};
+ghost use Rattle.std.specs.Prelude.{◌≡◌, IfOk, OnErr};
+ghost use Rattle.yt_replay.specs.Replays.{HasMade, HasCount, IsLeftOf, IsQuietReplay, IsReplay, IsWholeReplay, place_in};
 
 use crate::events::Event;
 use crate::levels::Levels;
@@ -47,10 +47,11 @@ impl<'s> Replay<'s> {
     }
 
     /// What the event does, and its entry; None exactly where it is not allowed, and then nothing is done. It is refused only
-    /// for want of memory; the replay is then one to be let go.
+    /// for want of memory; the replay is then one to be let go, of the same session, with its updates at their places.
     pub fn make(&mut self, alloc: Global, event: Event) -> Result<Option<Entry>, Memory>
         requires replay { IsReplay self.old }
         ensures made { IfOk result (HasMade event self.old self.new) }
+        ensures err { OnErr result (IsLeftOf self.old self.new) }
     {
         match event {
             Event::Admits => self.admit(alloc),

@@ -1,7 +1,7 @@
 //! Restarts of those that an event aborts.
-ghost use Rattle.std.specs.Prelude.{◌≤◌, drop, length, OnOk};
+ghost use Rattle.std.specs.Prelude.{◌≤◌, drop, length, OnOk, OnErr};
 ghost use Rattle.yt_seats.specs.Seatings.{AreFrom};
-ghost use Rattle.yt_seats.specs.Events.{KeepsPlace};
+ghost use Rattle.yt_seats.specs.Events.{IsSame, KeepsPlace};
 ghost use Rattle.yt_seats.specs.Renewals.{HasOneMore};
 ghost use Rattle.yt_replay.specs.Restarts.{AllHaveOneMore, HasRestartedIf, HaveRestarted};
 
@@ -23,6 +23,7 @@ pub(crate) fn restart_named(
     requires more { AllHaveOneMore (drop from seats.old) }
     ensures restarted { OnOk result (HaveRestarted from causes.now.items seats.old seats.new) }
     ensures numbers { OnOk result (AreFrom 1 seats.new) }
+    ensures err { OnErr result (AreFrom 1 seats.new) }
 {
     for place in from..seats.len() {
         restart_if_named(alloc, &mut seats[place], causes)?;
@@ -35,6 +36,7 @@ fn restart_if_named(alloc: Global, seat: &mut Seat, causes: &CauseList) -> Resul
     requires more { HasOneMore seat.old }
     ensures restarted { OnOk result (HasRestartedIf causes.now.items seat.old seat.new) }
     ensures place { OnOk result (KeepsPlace seat.old seat.new) }
+    ensures err { OnErr result (IsSame seat.old seat.new) }
 {
     if is_named(causes, seat.number()) {
         seat.restart(alloc)?;

@@ -1,8 +1,9 @@
 //! Steps.
-ghost use Rattle.std.specs.Prelude.{◌≡◌, ◌<◌, ◌≤◌, drop, map, length, suc, IfOk, OnOk};
+ghost use Rattle.std.specs.Prelude.{◌≡◌, ◌<◌, ◌≤◌, drop, map, length, suc, IfOk, OnOk, OnErr};
 ghost use Rattle.yt_base.specs.Contents.{rules_in};
 ghost use Rattle.yt_base.specs.Meanings.{change_of};
-ghost use Rattle.yt_seats.specs.Programs.{IsBetween, IsPlanOf};
+ghost use Rattle.yt_model.specs.Repository.{apply};
+ghost use Rattle.yt_seats.specs.Programs.{HasWritten, IsBetween, IsPlanOf};
 ghost use Rattle.yt_seats.specs.Seatings.{AreFrom};
 ghost use Rattle.yt_seats.specs.Settings.{deps_of, settings_of};
 ghost use Rattle.yt_seats.specs.Walks.{HasCommitted};
@@ -10,7 +11,7 @@ ghost use Rattle.yt_replay.specs.declared.events.Event.TheVariants as events;
 ghost use Rattle.yt_replay.specs.Levels.{top};
 ghost use Rattle.yt_replay.specs.Places.{AreBetween};
 ghost use Rattle.yt_replay.specs.Restarts.{AllHaveOneMore};
-ghost use Rattle.yt_replay.specs.Replays.{HasMade, HasMadeAt, IsReplay};
+ghost use Rattle.yt_replay.specs.Replays.{HasMade, HasMadeAt, IsLeftOf, IsReplay};
 ghost use Rattle.yt_replay.specs.Steps.{AreOfStep, AtPlace, IsPlanSomewhere, IsReadyOf, IsReadySomewhere, IsStepMade, TellsStep};
 ghost use Rattle.yt_replay.specs.Prepared.{IsInstalled, IsPreparedFor};
 
@@ -24,7 +25,7 @@ use std::alloc::Global;
 use yt_base::{Memory, TryCopy, Write, WriteList};
 use yt_entries::{CauseList, Entry};
 use yt_eval::Settled;
-use yt_facts::Overlay;
+use yt_facts::{IndexedFacts, Overlay};
 use yt_limits::{Budget, Mappings};
 use yt_plan::{Plan, plan_step};
 use yt_seats::{Deps, Seat, Settings, committed, has_spent, shown};
@@ -34,6 +35,7 @@ impl<'s> Replay<'s> {
     pub(crate) fn step(&mut self, alloc: Global, update: u32) -> Result<Option<Entry>, Memory>
         requires replay { IsReplay self.old }
         ensures made { IfOk result (HasMade (events.Steps update) self.old self.new) }
+        ensures err { OnErr result (IsLeftOf self.old self.new) }
     {
         let Some(place) = self.place_of(update) else {
             return Ok(None);
@@ -55,6 +57,7 @@ impl<'s> Replay<'s> {
         requires ready { AtPlace place self.old.seats.items
             (IsReadyOf (settings_of self.old.settings) before (suc place)) }
         ensures made { IfOk result (HasMadeAt events.Steps place self.old self.new) }
+        ensures err { OnErr result (IsLeftOf self.old self.new) }
     {
         let settings = self.settings;
         let mappings = &self.mappings;
@@ -101,19 +104,48 @@ fn prepare(
 {
     let seat = &seats[place];
     let upper = above(seats, place);
-    let plan = planned(alloc, mappings, budget, levels, seat)?;
+    let plan = planned(alloc, mappings, budget, levels.facts(), seat)?;
     let scene = Scene {
         mappings: mappings.list(),
         committed: before,
     };
-    let causes = causes_of_step(alloc, levels, seat, upper, scene, deps, &plan)?;
-    let writes = copies(alloc, seat.written(&plan))?;
-    Ok(Prepared {
-        plan,
-        attempt: seat.program.attempt(),
-        writes,
-        causes,
-    })
+    match told_of_step(alloc, levels, seat, upper, scene, deps, &plan) {
+        Ok((writes, causes)) => Ok(Prepared {
+            plan,
+            attempt: seat.program.attempt(),
+            writes,
+            causes,
+        }),
+        Err(memory) => {
+            drop(plan);
+            Err(memory)
+        }
+    }
+}
+
+// The writes that the step of the plan shows, and why it restarts others, where the uppermost level lies below the update. It
+// is refused only for want of memory.
+fn told_of_step(
+    alloc: Global,
+    levels: &mut Levels,
+    seat: &Seat,
+    upper: &[Seat],
+    scene: Scene<'_>,
+    deps: Deps,
+    plan: &Plan,
+) -> Result<(WriteList, CauseList), Memory>
+    requires between { IsBetween seat.now.program }
+    requires planned { IsBetween plan.now.program }
+    requires above { AreBetween upper.now }
+    ensures writes { IfOk result (λ told. HasWritten seat.now plan.now told.0.items) }
+    ensures causes { IfOk result (λ told. AreOfStep (rules_in scene.entry.mappings.now)
+        (deps_of deps) scene.entry.committed seat.now plan.now (top levels.old) upper.now
+        told.1.items) }
+    ensures levels { OnOk result (levels.new ≡ levels.old) }
+{
+    let writes = copies(alloc, seat.written(plan))?;
+    let causes = causes_of_step(alloc, levels, seat, upper, scene, deps, plan)?;
+    Ok((writes, causes))
 }
 
 // Makes the step at the place, and gives its entry. It is refused only for want of memory.
@@ -131,6 +163,7 @@ fn install(
     ensures made { IfOk result
         (IsInstalled (settings_of settings) place prepared seats.old seats.new) }
     ensures numbers { OnOk result (AreFrom 1 seats.new) }
+    ensures err { OnErr result (AreFrom 1 seats.new) }
 {
     let Prepared {
         plan,
@@ -143,30 +176,60 @@ fn install(
     Ok(entry)
 }
 
-// The next step of the update, which is ready, below which the uppermost level lies. It is refused only for want of memory.
+// The next step of the update, which is ready, over the facts below it. It is refused only for want of memory.
 fn planned(
     alloc: Global,
     mappings: &Mappings<'_>,
     budget: Budget,
-    levels: &Levels,
+    facts: &IndexedFacts,
     seat: &Seat,
 ) -> Result<Plan, Memory>
     requires between { IsBetween seat.now.program }
     requires ready { IsReadySomewhere seat.now }
     requires left { seat.now.program.attempt.steps < budget }
-    ensures planned { IfOk result (IsPlanOf mappings.now budget (top levels.now) seat.now) }
+    ensures planned { IfOk result (IsPlanOf mappings.now budget facts.now seat.now) }
 {
-    let facts = levels.facts();
-    let below = Overlay::new(alloc, facts);
+    let with = with_own(alloc, facts, seat)?;
+    planned_over(alloc, mappings, budget, facts, &with, seat)
+}
+
+// The facts with the update's own writes made. It is refused only for want of memory.
+fn with_own<'f>(
+    alloc: Global,
+    facts: &'f IndexedFacts,
+    seat: &Seat,
+) -> Result<Overlay<'f, IndexedFacts>, Memory>
+    requires between { IsBetween seat.now.program }
+    ensures made { IfOk result (λ with. with ≡ apply facts.now seat.now.program.attempt.own) }
+{
     let mut with = Overlay::new(alloc, facts);
     with.write_all(alloc, seat.program.own().as_slice())?;
+    Ok(with)
+}
+
+// The next step of the update, which is ready, over the facts below it, where these are they with its own writes made. It is
+// refused only for want of memory.
+fn planned_over<'f>(
+    alloc: Global,
+    mappings: &Mappings<'_>,
+    budget: Budget,
+    facts: &'f IndexedFacts,
+    with: &Overlay<'f, IndexedFacts>,
+    seat: &Seat,
+) -> Result<Plan, Memory>
+    requires between { IsBetween seat.now.program }
+    requires ready { IsReadySomewhere seat.now }
+    requires left { seat.now.program.attempt.steps < budget }
+    requires with { with.now ≡ apply facts.now seat.now.program.attempt.own }
+    ensures planned { IfOk result (IsPlanOf mappings.now budget facts.now seat.now) }
+{
     let settled = Settled::none(alloc, mappings.list().len())?;
     let answer = seat.next_answer();
     let program = &seat.program;
-    let plan = plan_step(
-        alloc, program, answer, mappings, budget, &below, &with, settled,
-    )?;
-    Ok(plan)
+    let below = Overlay::new(alloc, facts);
+    plan_step(
+        alloc, program, answer, mappings, budget, &below, with, settled,
+    )
 }
 
 // Why the step of the plan restarts others, where the uppermost level lies below the update. It is refused only for want of
@@ -214,6 +277,7 @@ fn make_step(
     requires planned { AtPlace place seats.old (IsPlanSomewhere plan) }
     ensures made { OnOk result (IsStepMade place plan causes.now.items seats.old seats.new) }
     ensures numbers { OnOk result (AreFrom 1 seats.new) }
+    ensures err { OnErr result (AreFrom 1 seats.new) }
 {
     seats[place].step(plan)?;
     restart_named(alloc, seats, place + 1, causes)?;

@@ -1,5 +1,5 @@
 //! Withdrawals.
-ghost use Rattle.std.specs.Prelude.{◌≡◌, ◌<◌, drop, length, suc, IfOk, OnOk};
+ghost use Rattle.std.specs.Prelude.{◌≡◌, ◌<◌, drop, length, suc, IfOk, OnOk, OnErr};
 ghost use Rattle.yt_base.specs.Contents.{rules_in};
 ghost use Rattle.yt_seats.specs.Seatings.{AreFrom};
 ghost use Rattle.yt_seats.specs.Settings.{deps_of};
@@ -10,7 +10,7 @@ ghost use Rattle.yt_replay.specs.Places.{trail_of};
 ghost use Rattle.yt_replay.specs.Prepared.{IsWithdrawal};
 ghost use Rattle.yt_replay.specs.declared.events.Event.TheVariants as events;
 ghost use Rattle.yt_replay.specs.Restarts.{AllHaveOneMore};
-ghost use Rattle.yt_replay.specs.Replays.{HasMade, HasMadeAt, IsReplay};
+ghost use Rattle.yt_replay.specs.Replays.{HasMade, HasMadeAt, IsLeftOf, IsReplay};
 ghost use Rattle.yt_replay.specs.Steps.{AtPlace, IsLiveOf, IsRemoved, TellsWithdrawal};
 
 use crate::causes::causes_of_loss;
@@ -29,6 +29,7 @@ impl<'s> Replay<'s> {
     pub(crate) fn withdraw(&mut self, alloc: Global, update: u32) -> Result<Option<Entry>, Memory>
         requires replay { IsReplay self.old }
         ensures made { IfOk result (HasMade (events.Withdraws update) self.old self.new) }
+        ensures err { OnErr result (IsLeftOf self.old self.new) }
     {
         let Some(place) = self.place_of(update) else {
             return Ok(None);
@@ -49,6 +50,7 @@ impl<'s> Replay<'s> {
         requires committed { HasCommitted self.old.seats.items before }
         requires live { AtPlace place self.old.seats.items (IsLiveOf before (suc place)) }
         ensures made { IfOk result (HasMadeAt events.Withdraws place self.old self.new) }
+        ensures err { OnErr result (IsLeftOf self.old self.new) }
     {
         let mappings = self.mappings.list();
         let deps = self.settings.deps;
@@ -103,6 +105,7 @@ fn remove(
     requires more { AllHaveOneMore seats.old }
     ensures removed { IfOk result (IsWithdrawal place causes seats.old seats.new) }
     ensures numbers { OnOk result (AreFrom 1 seats.new) }
+    ensures err { OnErr result (AreFrom 1 seats.new) }
 {
     make_withdrawal(alloc, seats, place, &causes)?;
     let entry = withdrawal_entry(seats, place, causes);
@@ -121,6 +124,7 @@ fn make_withdrawal(
     requires more { AllHaveOneMore seats.old }
     ensures made { OnOk result (IsRemoved place causes.now.items seats.old seats.new) }
     ensures numbers { OnOk result (AreFrom 1 seats.new) }
+    ensures err { OnErr result (AreFrom 1 seats.new) }
 {
     seats[place].withdraw();
     restart_named(alloc, seats, place + 1, causes)?;

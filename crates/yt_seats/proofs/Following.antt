@@ -3,6 +3,7 @@ use Rattle.std.proofs.Common.{◌≡◌, ◌∙◌, ap, sym, refl, ℕ, suc, zer
 use Rattle.std.specs.Prelude.{if◌then◌else◌}
 use Rattle.std.proofs.lemmas.List.{map-append, drop-map, drop_at, length-map, length-append, take_rest}
 use Rattle.std.proofs.lemmas.Simd.{map-map}
+use Rattle.yt_base.specs.Listed.{Listed}
 use Rattle.yt_base.specs.Meanings.{change_of, choice_of}
 use Rattle.yt_base.specs.declared.updates.Write.{Write}
 use Rattle.yt_machine.specs.Trees.{result_of, log_of}
@@ -21,6 +22,7 @@ use Rattle.yt_steps.specs.Attempts.{outcome_in}
 use Rattle.yt_steps.specs.Steps.{step}
 use Rattle.yt_steps.specs.Chase.{caused_chase, ending}
 use Rattle.std.specs.Option.{option_map}
+use Rattle.yt_seats.specs.Events.{HasStepped, KeepsPlaceBy}
 use Rattle.yt_seats.specs.Programs.{IsPlanOf}
 use Rattle.yt_seats.specs.Seatings.{logged, update_of}
 use Rattle.yt_seats.specs.declared.seats.Seat.{Seat}
@@ -96,3 +98,18 @@ unwritten ms B D r plan ws n p h e l =
     let c = next_answer (caused_chase ms B) (map choice_of r.answers.items) P in
     let m = result_of (answers_over ms D P) (step ms P c) in
     none_behind (hides (option_map ending (outcome_in (next_attempt ms B D P c).phase))) P.own m.writes ws n e (h ∙ ap (λ (t : State). shown (caused_chase ms B) t.attempt) p.program) l
+
+-- ---- a log with more room
+
+-- The seat with this log.
+abbrev with_log : Seat → Listed LoggedRead → Seat
+with_log r log = record { program = r.program; log = log; withdrawn = r.withdrawn; answers = r.answers; inbox = r.inbox }
+
+-- What a step makes of a seat rests on the reads of its log alone.
+pub stepped_roomy : (r : Seat) (log : Listed LoggedRead) (plan : Plan) (r' : Seat) → log.items ≡ r.log.items → HasStepped plan (with_log r log) r' → HasStepped plan r r'
+stepped_roomy r log plan r' e h ms B D p =
+    h ms B D (record { program = p.program; reads = p.reads })
+    ∙ ap (λ (xs : List LoggedRead). stepped (caused_chase ms B) D (update_of ms B (with_log r (record { items = xs; spare = log.spare })))) e
+
+pub placed_roomy : (r : Seat) (log : Listed LoggedRead) (plan : Plan) (r' : Seat) → KeepsPlaceBy plan (with_log r log) r' → KeepsPlaceBy plan r r'
+placed_roomy r log plan r' h ms B D n p s = h ms B D n (record { program = p.program; reads = p.reads }) (record { number = s.number; between = s.between })

@@ -18,6 +18,10 @@ use Rattle.yt_seats.specs.declared.seats.Seat.{Seat}
 abbrev pub KeepsPlace : Seat → Seat → Type 0
 KeepsPlace r r' = (n : ℕ) → StandsAt n r → StandsAt n r'
 
+-- The seats stand for the same update, at the same moment of the same attempt.
+abbrev pub IsSame : Seat → Seat → Type 0
+IsSame r r' = (r'.program ≡ r.program) × ((ms : List Rule) (B : ℕ) → update_of ms B r' ≡ update_of ms B r)
+
 -- Update n as it is when it is admitted, with these answers recorded.
 abbrev pub IsAdmitted : ℕ → Update → Listed Choice → Seat → Type 0
 IsAdmitted n u cs r =

@@ -1,8 +1,8 @@
 //! What an event does to one seat.
-ghost use Rattle.std.specs.Prelude.{◌≡◌, ◌++◌, map, take, IfOk, OnOk};
+ghost use Rattle.std.specs.Prelude.{◌≡◌, ◌≤◌, ◌++◌, [], ◌∷◌, length, map, take, IfOk, OnOk, OnErr, IsOk};
 ghost use Rattle.yt_base.specs.Meanings.{choice_of};
 ghost use Rattle.yt_seats.specs.Seatings.{StandsAt};
-ghost use Rattle.yt_seats.specs.Events.{IsAdmitted, KeepsPlace, KeepsPlaceBy, HasStepped, HasDelivered, HasAnswered, HasWithdrawn};
+ghost use Rattle.yt_seats.specs.Events.{IsAdmitted, IsSame, KeepsPlace, KeepsPlaceBy, HasStepped, HasDelivered, HasAnswered, HasWithdrawn};
 
 use crate::seats::Seat;
 use std::alloc::Global;
@@ -35,23 +35,40 @@ impl Seat {
     }
 
     /// Makes the step of the plan: its attempt and its reads are taken over. It is refused only for want of memory; the update is
-    /// then one to be let go.
+    /// then as it was.
     pub fn step(&mut self, plan: Plan) -> Result<(), Memory>
         ensures stepped { OnOk result (HasStepped plan self.old self.new) }
         ensures place { OnOk result (KeepsPlaceBy plan self.old self.new) }
+        ensures err { OnErr result (IsSame self.old self.new) }
     {
-        let Plan { program, reads } = plan;
-        take_over(&mut self.log, reads)?;
-        self.program = program;
-        Ok(())
+        match self.log.reserve(plan.reads.len()) {
+            Ok(()) => self.follow(plan),
+            Err(memory) => {
+                drop(plan);
+                Err(memory)
+            }
+        }
     }
 
-    /// Delivers the first recorded answer, if there is one. It is refused only for want of memory; the update is then one to be let
-    /// go.
+    // Makes the step of the plan, where there is room for its reads.
+    fn follow(&mut self, plan: Plan) -> Result<(), Memory>
+        requires room { length plan.reads.items ≤ self.old.log.spare }
+        ensures ok { IsOk result }
+        ensures stepped { HasStepped plan self.old self.new }
+        ensures place { KeepsPlaceBy plan self.old self.new }
+    {
+        let Plan { program, reads } = plan;
+        self.program = program;
+        take_over(&mut self.log, reads)
+    }
+
+    /// Delivers the first recorded answer, if there is one. It is refused only for want of memory; the update is then as it was.
     pub fn deliver(&mut self) -> Result<(), Memory>
         ensures delivered { OnOk result (HasDelivered self.old self.new) }
         ensures place { OnOk result (KeepsPlace self.old self.new) }
+        ensures err { OnErr result (IsSame self.old self.new) }
     {
+        self.answers.reserve(1)?;
         if let Some(choice) = self.inbox.pop_front() {
             self.answers.push(choice)?;
             return Ok(());
@@ -60,14 +77,14 @@ impl Seat {
     }
 
     /// Puts the choice where the attempt waits for an answer; answers that were delivered for later questions are
-    /// dropped. It is refused only for want of memory; the update is then one to be let go.
+    /// dropped. It is refused only for want of memory; the update is then as it was.
     pub fn answer(&mut self, alloc: Global, choice: Choice) -> Result<(), Memory>
         ensures answered { OnOk result (HasAnswered choice self.old self.new) }
         ensures place { OnOk result (KeepsPlace self.old self.new) }
+        ensures err { OnErr result (IsSame self.old self.new) }
     {
         let taken = self.program.taken() as usize;
-        keep(alloc, &mut self.answers, taken);
-        self.answers.push(choice)?;
+        put_at(alloc, &mut self.answers, taken, choice)?;
         Ok(())
     }
 
@@ -93,13 +110,36 @@ fn queued(alloc: Global, answers: &ChoiceList) -> Result<VecDeque<Choice>, Memor
     Ok(queue)
 }
 
-// Puts the reads at the end of the log. It is refused only for want of memory.
+// Puts the reads at the end of the log, which has room for them.
 fn take_over(log: &mut ReadLog, reads: ReadLog) -> Result<(), Memory>
-    ensures all { OnOk result (log.new.items ≡ log.old.items ++ reads.items) }
+    requires room { length reads.items ≤ log.old.spare }
+    ensures ok { IsOk result }
+    ensures all { log.new.items ≡ log.old.items ++ reads.items }
 {
     for read in reads.into_vec() {
         log.push(read)?;
     }
+    Ok(())
+}
+
+// Puts the choice behind so many of the answers, in place of all others. It is refused only for want of memory; the answers
+// are then as they were.
+fn put_at(
+    alloc: Global,
+    answers: &mut ChoiceList,
+    many: usize,
+    choice: Choice,
+) -> Result<(), Memory>
+    ensures put { OnOk result
+        (answers.new.items ≡ take many answers.old.items ++ choice ∷ []) }
+    ensures err { OnErr result (answers.new.items ≡ answers.old.items) }
+{
+    if many < answers.len() {
+        keep(alloc, answers, many + 1);
+        answers.put(many, choice);
+        return Ok(());
+    }
+    answers.push(choice)?;
     Ok(())
 }
 

@@ -1,6 +1,6 @@
 //! Restarts.
-ghost use Rattle.std.specs.Prelude.{OnOk};
-ghost use Rattle.yt_seats.specs.Events.{KeepsPlace};
+ghost use Rattle.std.specs.Prelude.{OnOk, OnErr};
+ghost use Rattle.yt_seats.specs.Events.{IsSame, KeepsPlace};
 ghost use Rattle.yt_seats.specs.Renewals.{HasOneMore, HasRestarted};
 
 use crate::seats::Seat;
@@ -9,11 +9,12 @@ use yt_base::Memory;
 
 impl Seat {
     /// Begins the next attempt: the update loses its writes and its log, and keeps its answers. It is refused only for want
-    /// of memory; the update is then one to be let go.
+    /// of memory; the update is then as it was.
     pub fn restart(&mut self, alloc: Global) -> Result<(), Memory>
         requires more { HasOneMore self.old }
         ensures restarted { OnOk result (HasRestarted self.old self.new) }
         ensures place { OnOk result (KeepsPlace self.old self.new) }
+        ensures err { OnErr result (IsSame self.old self.new) }
     {
         self.program = self.program.anew(alloc)?;
         self.log.clear();

@@ -1,5 +1,5 @@
 //! A case: a mapping, a base, and own writes.
-ghost use Rattle.std.specs.Prelude.{◌≡◌, OnOk};
+ghost use Rattle.std.specs.Prelude.{◌≡◌, OnOk, OnErr};
 ghost use Rattle.yt_model.specs.Repository.{change};
 ghost use Rattle.yt_base.specs.Meanings.{change_of};
 
@@ -37,6 +37,7 @@ impl Case {
 /// Makes the write in the plain set. It is refused only for want of memory; the set is then as it was.
 pub fn write_plain(alloc: Global, facts: &mut PlainFacts, write: &Write) -> Result<(), Memory>
     ensures ok { OnOk result (facts.new ≡ change facts.old (change_of write.now)) }
+    ensures err { OnErr result (facts.new ≡ facts.old) }
 {
     match write {
         Write::Insert(tuple) => {
@@ -52,6 +53,7 @@ pub fn write_plain(alloc: Global, facts: &mut PlainFacts, write: &Write) -> Resu
 /// Makes the write in the indexed set. It is refused only for want of memory; the set is then as it was.
 pub fn write_indexed(alloc: Global, facts: &mut IndexedFacts, write: &Write) -> Result<(), Memory>
     ensures ok { OnOk result (facts.new ≡ change facts.old (change_of write.now)) }
+    ensures err { OnErr result (facts.new ≡ facts.old) }
 {
     match write {
         Write::Insert(tuple) => {

@@ -2,7 +2,8 @@ use Rattle.std.proofs.Common.{◌∙◌, ap, sym, arith}
 use Rattle.yt_seats.specs.Settings.{settings_of}
 use Rattle.yt_seats.specs.declared.seats.Seat.{Seat}
 use Rattle.yt_replay.proofs.Placing.{delivered_there}
-use Rattle.yt_replay.proofs.Restarting.{put_with, set_long}
+use Rattle.yt_replay.proofs.Restarting.{put_with, set_long, same_place}
+use Rattle.yt_facts.proofs.Groups.{held_err}
 use Rattle.yt_replay.proofs.answering.deliver_to.Goals as goal
 
 pub standing_at-standing-requires : goal.standing_at-standing-requires
@@ -19,4 +20,10 @@ returns c =
           delivered_there (settings_of c.args.settings) c.args.seats.now c.args.place c.index-seats-place.result c.deliver.new.self c.number-update.result c.index-seats-place-2.result c.standing_at-standing.result c.requires.within c.index-seats-place.is numbers c.index-seats-place-2.is
           (c.number-update.ensures.number ∙ ap (λ (q : Seat). q.program.attempt.number) (sym c.index-seats-place-2.is)) c.in_ok-deliver.ensures.delivered c.standing_at-standing.ensures.standing;
       numbers = numbers;
+      err = tt;
     }
+
+pub returns-in_err-deliver-clause-err : goal.returns-in_err-deliver-clause-err
+returns-in_err-deliver-clause-err c =
+    held_err c.from_residual.result
+    (put_with c.args.seats.now c.args.place c.index-seats-place.result c.deliver.new.self c.requires.numbers c.requires.within c.index-seats-place.is (same_place _ _ c.in_err-deliver.ensures.err))

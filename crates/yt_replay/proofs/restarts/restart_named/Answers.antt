@@ -1,7 +1,8 @@
 use Rattle.std.proofs.Common.{◌<◌, length, arith}
 use Rattle.std.proofs.Common.{◌∙◌}
 use Rattle.yt_replay.specs.Causes.{readers_in}
-use Rattle.yt_replay.proofs.Restarting.{more_there, more_behind, put_with, turned, all_turned}
+use Rattle.yt_replay.proofs.Restarting.{more_there, more_behind, put_with, turned, all_turned, same_place}
+use Rattle.yt_facts.proofs.Groups.{held_err}
 use Rattle.yt_replay.proofs.restarts.restart_named.Goals as goal
 
 pub restart_if_named-requires : goal.restart_if_named-requires
@@ -24,3 +25,11 @@ loop-place-preserved c =
 
 pub returns-clause-restarted : goal.returns-clause-restarted
 returns-clause-restarted c = λ ms B. all_turned ms B c.loop-place.seats c.loop-place.place (readers_in c.args.causes.now.items) _ (omega arith) (c.loop-place.invariant.left ms B)
+
+pub returns-in_err-restart_if_named-clause-err : goal.returns-in_err-restart_if_named-clause-err
+returns-in_err-restart_if_named-clause-err c =
+    let rs = c.loop-place.seats in
+    let k = c.loop-place.place in
+    let r = c.index-seats-place.result in
+    let l : k < length rs = omega arith in
+    held_err c.from_residual.result (put_with rs k r c.restart_if_named.new.seat c.loop-place.invariant.numbers l c.index-seats-place.is (same_place _ _ c.in_err-restart_if_named.ensures.err))

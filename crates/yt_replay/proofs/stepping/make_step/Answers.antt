@@ -1,6 +1,7 @@
 use Rattle.std.proofs.Common.{arith}
 use Rattle.yt_replay.proofs.Placing.{numbers_stepped, step_made}
-use Rattle.yt_replay.proofs.Restarting.{more_above, more_behind, set_long}
+use Rattle.yt_replay.proofs.Restarting.{more_above, more_behind, set_long, put_with, same_place}
+use Rattle.yt_facts.proofs.Groups.{held_err}
 use Rattle.yt_replay.proofs.stepping.make_step.Goals as goal
 
 pub restart_named-requires : goal.restart_named-requires
@@ -19,3 +20,8 @@ restart_named-requires c =
 pub returns-clause-made : goal.returns-clause-made
 returns-clause-made c =
     step_made c.args.seats.now c.restart_named.new.seats c.args.place c.index-seats-place.result c.step.new.self c.args.plan c.args.causes.now.items c.requires.within c.index-seats-place.is c.in_ok-step.ensures.stepped c.in_ok-restart_named.ensures.restarted
+
+pub returns-in_err-step-clause-err : goal.returns-in_err-step-clause-err
+returns-in_err-step-clause-err c =
+    held_err c.from_residual.result
+    (put_with c.args.seats.now c.args.place c.index-seats-place.result c.step.new.self c.requires.numbers c.requires.within c.index-seats-place.is (same_place _ _ c.in_err-step.ensures.err))

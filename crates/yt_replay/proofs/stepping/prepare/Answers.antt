@@ -1,5 +1,7 @@
-use Rattle.std.proofs.Common.{subst, List}
+use Rattle.std.proofs.Common.{subst, List, ◌∙◌}
 use Rattle.yt_model.specs.Mappings.{Rule}
+use Rattle.yt_model.specs.Values.{Fact}
+use Rattle.yt_seats.specs.Programs.{IsPlanOf}
 use Rattle.yt_seats.specs.Settings.{deps_of}
 use Rattle.yt_replay.specs.Levels.{top}
 use Rattle.yt_replay.specs.Steps.{AreOfStep}
@@ -14,21 +16,18 @@ planned-requires c = record {
   left = c.requires.left c.index-seats-place.result (there_is c.args.seats.now c.args.place c.index-seats-place.result c.requires.within c.index-seats-place.is);
 }
 
-pub causes_of_step-requires : goal.causes_of_step-requires
-causes_of_step-requires c = record {
+pub told_of_step-requires : goal.told_of_step-requires
+told_of_step-requires c = record {
   between = (stands_placed c.args.seats.now c.args.place c.index-seats-place.result c.requires.numbers c.requires.within c.index-seats-place.is).between;
-  planned = plan_between c.args.mappings.now c.args.budget (top c.args.levels.now) c.index-seats-place.result c.in_ok-plan.plan c.in_ok-plan.ensures.planned;
+  planned = plan_between c.args.mappings.now c.args.budget c.facts.result.now c.index-seats-place.result c.in_ok-plan.plan c.in_ok-plan.ensures.planned;
   above = above_between c.args.seats.now _ c.args.place c.index-seats-place.result c.requires.numbers c.requires.within c.index-seats-place.is c.above-upper.ensures.above;
 }
 
-pub written-requires : goal.written-requires
-written-requires c = record { between = plan_between c.args.mappings.now c.args.budget (top c.args.levels.now) c.index-seats-place.result c.in_ok-plan.plan c.in_ok-plan.ensures.planned }
-
-pub returns : goal.returns
-returns c = record {
+pub returns-in-Ok : goal.returns-in-Ok
+returns-in-Ok c = record {
   prepared =
-      prepared_there c.args.mappings.now c.args.budget (deps_of c.args.deps) c.args.before c.args.seats.now c.above-upper.result.now c.args.place c.index-seats-place.result (top c.args.levels.now) c.in_ok-plan.plan c.in_ok-causes.causes c.in_ok-writes.writes c.attempt.result c.written.result.now c.requires.within c.index-seats-place.is
-      c.above-upper.ensures.above c.in_ok-plan.ensures.planned
-      (subst (λ (ms : List Rule). AreOfStep ms (deps_of c.args.deps) c.args.before c.index-seats-place.result c.in_ok-plan.plan (top c.args.levels.now) c.above-upper.result.now c.in_ok-causes.causes.items) c.list.ensures.rules c.in_ok-causes.ensures.causes) c.written.ensures.written c.in_ok-writes.ensures.same c.attempt.ensures.attempt;
-  levels = c.in_ok-causes.ensures.levels;
+      prepared_there c.args.mappings.now c.args.budget (deps_of c.args.deps) c.args.before c.args.seats.now c.above-upper.result.now c.args.place c.index-seats-place.result (top c.args.levels.now) c.in_ok-plan.plan c.in-Ok.causes c.in-Ok.writes c.attempt.result c.requires.within c.index-seats-place.is
+      c.above-upper.ensures.above (subst (λ (D : List Fact). IsPlanOf c.args.mappings.now c.args.budget D c.index-seats-place.result c.in_ok-plan.plan) c.facts.ensures.top c.in_ok-plan.ensures.planned)
+      (subst (λ (ms : List Rule). AreOfStep ms (deps_of c.args.deps) c.args.before c.index-seats-place.result c.in_ok-plan.plan (top c.args.levels.now) c.above-upper.result.now c.in-Ok.causes.items) c.list.ensures.rules c.in-Ok.ensures.causes) c.in-Ok.ensures.writes c.attempt.ensures.attempt;
+  levels = c.in-Ok.ensures.levels;
 }

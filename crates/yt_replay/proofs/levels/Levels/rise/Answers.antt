@@ -1,4 +1,4 @@
-use Rattle.std.proofs.Common.{◌∙◌, ap, List, [], ◌∷◌, map}
+use Rattle.std.proofs.Common.{◌∙◌, ap, List, [], ◌∷◌, map, sym, length}
 use Rattle.std.specs.Prelude.{reverse}
 use Rattle.std.proofs.lemmas.List.{map-append}
 use Rattle.yt_base.specs.Contents.{changes_of}
@@ -8,7 +8,8 @@ use Rattle.yt_base.specs.declared.updates.Write.{Write}
 use Rattle.yt_model.specs.Repository.{Change}
 use Rattle.yt_model.specs.Values.{Fact}
 use Rattle.yt_replay.specs.Levels.{descended, raised}
-use Rattle.yt_replay.proofs.Descending.{one_level_more}
+use Rattle.yt_replay.proofs.Descending.{one_level_more, as_many}
+use Rattle.yt_facts.proofs.Groups.{held_err}
 use Rattle.yt_replay.proofs.levels.Levels.rise.Goals as goal
 
 pub returns : goal.returns
@@ -23,4 +24,15 @@ returns c =
           ∙ (ap (λ (l : List (List Change)). descended E (reverse l)) (map-append changes_of c.self.inside.back.items (c.in_ok-back.back ∷ []))
           ∙ (one_level_more D E made under (changes_of c.in_ok-back.back) c.in_ok-back.ensures.made c.in_ok-back.ensures.back
           ∙ ap (λ (Ds : List (List Fact)). raised Ds made) c.self.view_is));
+      err = tt;
     }
+
+pub returns-in_err-back-clause-err : goal.returns-in_err-back-clause-err
+returns-in_err-back-clause-err c = held_err c.from_residual.result (as_many c.self.inside.facts c.make_all.new.facts (map changes_of c.self.inside.back.items) ∙ ap length c.self.view_is)
+
+pub returns-in_err-push-clause-err : goal.returns-in_err-push-clause-err
+returns-in_err-push-clause-err c =
+    held_err c.from_residual-in_err-push.result
+    (ap (λ (bs : List (Listed Write)). length (descended c.make_all.new.facts (reverse (map changes_of bs)))) c.in_err-push.ensures.items
+    ∙ as_many c.self.inside.facts c.make_all.new.facts (map changes_of c.self.inside.back.items)
+    ∙ ap length c.self.view_is)

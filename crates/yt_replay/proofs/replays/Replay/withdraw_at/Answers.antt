@@ -6,7 +6,8 @@ use Rattle.yt_replay.specs.Levels.{top}
 use Rattle.yt_replay.specs.Places.{trail_of}
 use Rattle.yt_replay.specs.Steps.{AtPlace}
 use Rattle.yt_replay.proofs.Done.{withdrawal_done}
-use Rattle.yt_replay.proofs.Going.{front, its_between, its_more, its_numbers, is_most, is_within}
+use Rattle.yt_replay.proofs.Going.{front, its_between, its_more, its_numbers, is_most, is_within, left_with}
+use Rattle.yt_facts.proofs.Groups.{held_err}
 use Rattle.yt_replay.proofs.replays.Replay.withdraw_at.Goals as goal
 
 pub go_to-requires : goal.go_to-requires
@@ -36,4 +37,16 @@ returns c = record {
       (subst (λ (ms : List Rule). AtPlace c.args.place c.as_slice-seats.result.now (λ r. AreOfLoss ms (deps_of c.args.self.now.settings.deps) c.args.before (suc c.args.place) (trail_of r) (top c.go_to.new.levels) (drop (suc c.args.place) c.as_slice-seats.result.now) c.in_ok-causes.causes.items))
       c.list-mappings.ensures.rules c.in_ok-causes.ensures.causes) c.in_ok-entry.ensures.removed c.in_ok-entry.ensures.numbers
       (front c.remove.new.seats (drop (length c.remove.new.seats) c.args.self.now.seats.items) c.args.self.now.seats.len (omega arith)) c.in_ok-causes.ensures.levels (record { mappings = refl; budget = refl; settings = refl; handed = refl });
+  err = tt;
 }
+
+pub returns-in_err-go_to-clause-err : goal.returns-in_err-go_to-clause-err
+returns-in_err-go_to-clause-err c = held_err c.from_residual.result (left_with c.args.self.now _ c.args.self.now.seats.items refl c.requires.replay.replays.numbers refl refl refl refl)
+
+pub returns-in_err-causes-clause-err : goal.returns-in_err-causes-clause-err
+returns-in_err-causes-clause-err c = held_err c.from_residual-in_err-causes.result (left_with c.args.self.now _ c.args.self.now.seats.items refl c.requires.replay.replays.numbers refl refl refl refl)
+
+pub returns-in_err-entry-clause-err : goal.returns-in_err-entry-clause-err
+returns-in_err-entry-clause-err c =
+    held_err c.from_residual-in_err-entry.result
+    (left_with c.args.self.now _ c.remove.new.seats (front c.remove.new.seats (drop (length c.remove.new.seats) c.args.self.now.seats.items) c.args.self.now.seats.len (omega arith)) c.in_err-entry.ensures.err refl refl refl refl)

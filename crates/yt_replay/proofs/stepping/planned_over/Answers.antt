@@ -1,6 +1,5 @@
-use Rattle.std.proofs.Common.{◌∙◌}
-use Rattle.yt_replay.proofs.Planning.{nothing_settled, planned_is, wants_step}
-use Rattle.yt_replay.proofs.stepping.planned.Goals as goal
+use Rattle.yt_replay.proofs.Planning.{nothing_settled, planned_ok, wants_step}
+use Rattle.yt_replay.proofs.stepping.planned_over.Goals as goal
 
 pub plan_step-requires-clause-settled : goal.plan_step-requires-clause-settled
 plan_step-requires-clause-settled c = nothing_settled _ c.args.mappings.now c.new-below.result c.args.seat.now.program.attempt c.in_ok-settled.settled c.in_ok-settled.ensures.none
@@ -10,5 +9,5 @@ plan_step-requires-clause-wanted c = wants_step c.args.seat.now _ c.requires.rea
 
 pub returns : goal.returns
 returns c = record {
-  planned = planned_is c.args.mappings.now c.args.budget _ _ c.args.seat.now c.in_ok-plan.plan _ (c.new-below.ensures.same ∙ c.facts-facts.ensures.top) c.next_answer-answer.ensures.next c.in_ok-plan.ensures.program c.in_ok-plan.ensures.reads;
+  planned = planned_ok c.args.mappings.now c.args.budget _ _ c.args.seat.now c.plan_step.result _ c.new-below.ensures.same c.next_answer-answer.ensures.next c.plan_step.ensures.program c.plan_step.ensures.reads;
 }
