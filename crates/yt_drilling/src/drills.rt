@@ -72,8 +72,7 @@ impl Drill {
         let settings = self.crew.settings();
         let seats = self.crew.seats();
         let run = worked(rt, gate, alloc, session, settings, self.budget, seats)?;
-        let told = run.result(alloc)?;
-        Ok(told)
+        run.result(alloc)
     }
 
     // Lets them take those of the generated session.
@@ -87,8 +86,7 @@ impl Drill {
             drill_told self.budget self.count self.seed) }
     {
         let session = drill(alloc, self.count, self.seed)?;
-        let told = self.take(rt, gate, alloc, &session)?;
-        Ok(told)
+        self.take(rt, gate, alloc, &session)
     }
 
     // What is made of that.
@@ -104,8 +102,7 @@ impl Drill {
         let count = self.count;
         let seed = self.seed;
         let told = self.work(rt, gate, alloc)?;
-        let output = summary_output(alloc, count, seed, &told)?;
-        Ok(output)
+        summary_output(alloc, count, seed, &told)
     }
 
     /// Runs the generated session, and writes its summary to `out`, as `yt_command::perform_alone` does it for a command

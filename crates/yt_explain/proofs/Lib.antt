@@ -1,4 +1,3 @@
 pub mod Comparing
 pub mod Naming
-pub mod Sought
 pub mod Told

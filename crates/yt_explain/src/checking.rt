@@ -7,10 +7,10 @@ ghost use Rattle.yt_session.specs.Meanings.{session_of};
 ghost use Rattle.yt_explain.specs.Meanings.{IsExplained, IsTold};
 
 use crate::explaining::explain;
-use crate::reasons::Explanation;
 use std::alloc::Global;
 use yt_base::{Memory, Tuple};
 use yt_limits::Budget;
+use yt_reasons::{Explanation, same_reasons};
 use yt_session::Session;
 
 /// Whether the reasons are the explanation of the first of their tuples in the repository that the serial run of the
@@ -46,7 +46,7 @@ fn is_told(
         IsTold budget (session_of session.now) (fact_of tuple.now) explanation.now) }
 {
     match explain(alloc, session, budget, tuple)? {
-        Some(told) => Ok(told == *explanation),
+        Some(told) => Ok(same_reasons(&told, explanation)),
         None => Ok(false),
     }
 }

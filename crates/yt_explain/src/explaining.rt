@@ -10,10 +10,9 @@ ghost use Rattle.yt_session.specs.Base.{base_violation};
 ghost use Rattle.yt_session.specs.Meanings.{session_of};
 ghost use Rattle.yt_noted.specs.Meanings.{notes_in};
 ghost use Rattle.yt_provenance.specs.Notes.{told_by as told_by_lem};
-ghost use Rattle.yt_explain.specs.Meanings.{Explains, reasons_in};
+ghost use Rattle.yt_reasons.specs.Meanings.{reasons_in};
+ghost use Rattle.yt_explain.specs.Meanings.{Explains};
 
-use crate::reasons::Explanation;
-use crate::telling::told_by;
 use std::alloc::Global;
 use yt_base::{Memory, TryCopy, Tuple};
 use yt_facts::IndexedFacts;
@@ -21,6 +20,7 @@ use yt_limits::Budget;
 use yt_noted::{NoteList, NotedRun, noted_serial};
 use yt_program::SessionResult;
 use yt_provenance::laws::notes_tell;
+use yt_reasons::{Explanation, told_by};
 use yt_serial::base_of;
 use yt_session::Session;
 

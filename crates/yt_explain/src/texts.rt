@@ -5,13 +5,13 @@ ghost use Rattle.yt_grammar.specs.Printing.{name_of};
 ghost use Rattle.yt_grammar.specs.Sessions.{mapping_names};
 ghost use Rattle.yt_json.specs.Lines.{with_json, with_all};
 ghost use Rattle.yt_session.specs.Meanings.{session_of};
-ghost use Rattle.yt_explain.specs.Meanings.{reason_of, reasons_in};
+ghost use Rattle.yt_reasons.specs.Meanings.{reason_of, reasons_in};
 ghost use Rattle.yt_explain.specs.Texts.{explanation_text as explanation_text_lem, fact_json, facts_json, generated_json, inserted_json, mappings_of, reason_json, reason_line, rewritten_json, rooted_json};
 
-use crate::reasons::{Explanation, How, Reason};
 use std::alloc::Global;
 use yt_base::{MappingList, Memory, Tuple};
 use yt_json::Line;
+use yt_reasons::{Explanation, How, Reason};
 use yt_schema::{Schema, print_tuple};
 use yt_session::Session;
 

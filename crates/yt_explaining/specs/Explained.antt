@@ -38,6 +38,10 @@ reasons_for steps s (Some t) = explanation_in steps s t
 abbrev pub reasons_output : SessionData → ResultTold → Option (List Reason) → OutputView
 reasons_output s told reasons = Text (ending_by told.stop) (reasons_text s reasons)
 
+-- what is printed of a run that left no such tuple
+abbrev pub absent_output : ResultTold → OutputView
+absent_output told = Text (ending_by told.stop) absent_text
+
 -- the fact explained in what the serial machine leaves
 abbrev pub explained_of : ℕ → WrittenFact → SessionData → OutputView
 explained_of steps fact s = reasons_output s (serial_told steps s) (reasons_for steps s (known_fact (fact_of s.relations fact)))

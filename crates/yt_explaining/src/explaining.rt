@@ -3,20 +3,20 @@ ghost use Rattle.std.specs.Prelude.{◌≡◌, None, IfOk};
 ghost use Rattle.std.specs.Option.{option_map};
 ghost use Rattle.yt_base.specs.Meanings.{fact_of as tuple_meant};
 ghost use Rattle.yt_command.specs.Outputs.{view_of};
-ghost use Rattle.yt_explain.specs.Meanings.{reasons_in};
+ghost use Rattle.yt_reasons.specs.Meanings.{reasons_in};
 ghost use Rattle.yt_forms.specs.Views.{fact_of as fact_meant};
 ghost use Rattle.yt_grammar.specs.Validity.{IsSession};
 ghost use Rattle.yt_program.specs.Results.{result_of};
 ghost use Rattle.yt_report.specs.Results.{serial_told};
 ghost use Rattle.yt_session.specs.Base.{base_violation};
 ghost use Rattle.yt_session.specs.Meanings.{session_of};
-ghost use Rattle.yt_explaining.specs.Explained.{absent_text, explained, explained_of, explanation_in, reasons_output, reasons_text};
+ghost use Rattle.yt_explaining.specs.Explained.{absent_output, absent_text, explained, explained_of, explanation_in, reasons_output, reasons_text};
 
 use std::alloc::Global;
 use yt_base::{Memory, Tuple};
 use yt_command::Output;
 use yt_commands::{SessionCommand, base_refusal, base_violation, ending_by};
-use yt_explain::{Explained, Explanation, explain_over, explanation_text};
+use yt_explain::{Explanation, explain_over, explanation_text};
 use yt_facts::IndexedFacts;
 use yt_limits::Budget;
 use yt_program::SessionResult;
@@ -73,6 +73,50 @@ fn reasons_output(
     Ok(Output::Text(ending_by(told), text))
 }
 
+// What is printed of a run that left no such tuple.
+fn absent_output(alloc: Global, told: &SessionResult) -> Result<Output, Memory>
+    ensures { IfOk result (λ output. view_of output ≡ absent_output (result_of told.now)) }
+{
+    let text = absent_text(alloc)?;
+    Ok(Output::Text(ending_by(told), text))
+}
+
+// What is printed of the run over the base, with the reasons for the tuple.
+fn with_reasons(
+    alloc: Global,
+    session: &Session,
+    base: IndexedFacts,
+    budget: Budget,
+    tuple: &Tuple,
+) -> Result<Output, Memory>
+    requires valid { IsSession (session_of session.now) }
+    requires met { base_violation (session_of session.now) ≡ None }
+    requires base { base ≡ (session_of session.now).base }
+    ensures { IfOk result (λ output. view_of output ≡
+        reasons_output (session_of session.now) (serial_told budget (session_of session.now))
+        (explanation_in budget (session_of session.now) (tuple_meant tuple.now))) }
+{
+    let run = explain_over(alloc, session, base, budget, tuple)?;
+    reasons_output(alloc, session, &run.result, &run.explanation)
+}
+
+// What is printed of the run over the base, for a fact that is no tuple of the schema.
+fn without_reasons(
+    alloc: Global,
+    session: &Session,
+    base: IndexedFacts,
+    budget: Budget,
+) -> Result<Output, Memory>
+    requires valid { IsSession (session_of session.now) }
+    requires met { base_violation (session_of session.now) ≡ None }
+    requires base { base ≡ (session_of session.now).base }
+    ensures { IfOk result (λ output. view_of output ≡
+        absent_output (serial_told budget (session_of session.now))) }
+{
+    let told = serial_over(alloc, session, base, budget)?;
+    absent_output(alloc, &told)
+}
+
 // What is made of a session whose base violates no mapping.
 fn over_base(
     alloc: Global,
@@ -88,14 +132,26 @@ fn over_base(
         explained_of budget (fact_meant fact.now) (session_of session.now)) }
 {
     match tuple_in(alloc, &session.schema, fact)? {
-        Some(tuple) => {
-            let run = explain_over(alloc, session, base, budget, &tuple)?;
-            reasons_output(alloc, session, &run.result, &run.explanation)
-        }
-        None => {
-            let told = serial_over(alloc, session, base, budget)?;
-            reasons_output(alloc, session, &told, &None)
-        }
+        Some(tuple) => with_reasons(alloc, session, base, budget, &tuple),
+        None => without_reasons(alloc, session, base, budget),
+    }
+}
+
+// What is made of a session.
+fn output_of(
+    alloc: Global,
+    session: &Session,
+    budget: Budget,
+    fact: &RawFact,
+) -> Result<Output, Memory>
+    requires valid { IsSession (session_of session.now) }
+    ensures { IfOk result (λ output. view_of output ≡
+        explained budget (fact_meant fact.now) (session_of session.now)) }
+{
+    let base = base_of(alloc, session)?;
+    match base_violation(alloc, session, &base)? {
+        Some(violated) => base_refusal(alloc, &session.schema, &violated),
+        None => over_base(alloc, session, base, budget, fact),
     }
 }
 
@@ -103,10 +159,6 @@ impl<'a> SessionCommand for Explain<'a> {
     ghost makes = { λ c s output. output ≡ explained c.budget (fact_meant c.fact.now) s };
 
     fn make(&self, alloc: Global, session: Session) -> Result<Output, Memory> {
-        let base = base_of(alloc, &session)?;
-        if let Some(violated) = base_violation(alloc, &session, &base)? {
-            return base_refusal(alloc, &session.schema, &violated);
-        }
-        over_base(alloc, &session, base, self.budget, self.fact)
+        output_of(alloc, &session, self.budget, self.fact)
     }
 }

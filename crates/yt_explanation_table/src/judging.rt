@@ -38,16 +38,47 @@ fn tell(
     requires valid { IsSession (session_of session.now) }
     requires met { base_violation (session_of session.now) ≡ None }
 {
+    let reasons = tell_whole(alloc, text, session, number, tuple)?;
+    for place in 0..reasons {
+        tell_broken(alloc, text, session, number, tuple, place)?;
+    }
+    Ok(())
+}
+
+// Tells of it as it is, and gives how many reasons it has.
+fn tell_whole(
+    alloc: Global,
+    text: &mut String,
+    session: &Session,
+    number: usize,
+    tuple: &Tuple,
+) -> Result<usize, Memory>
+    requires valid { IsSession (session_of session.now) }
+    requires met { base_violation (session_of session.now) ≡ None }
+{
     let Some(whole) = explain(alloc, session, Budget::new(STEPS), tuple)? else {
-        return Ok(());
+        return Ok(0);
     };
     let taken = check_explanation(alloc, session, Budget::new(STEPS), &whole)?;
     text.push_str(&format!(in alloc; "{number} whole {}\n", said(taken))?)?;
-    for place in 0..whole.len() {
-        for (way, name) in BREAKS {
-            let taken = is_taken(alloc, session, tuple, place, way)?;
-            text.push_str(&format!(in alloc; "{number} {name} {place} {}\n", said(taken))?)?;
-        }
+    Ok(whole.len())
+}
+
+// Tells of it with the reason at the place broken, in each way.
+fn tell_broken(
+    alloc: Global,
+    text: &mut String,
+    session: &Session,
+    number: usize,
+    tuple: &Tuple,
+    place: usize,
+) -> Result<(), Memory>
+    requires valid { IsSession (session_of session.now) }
+    requires met { base_violation (session_of session.now) ≡ None }
+{
+    for (way, name) in BREAKS {
+        let taken = is_taken(alloc, session, tuple, place, way)?;
+        text.push_str(&format!(in alloc; "{number} {name} {place} {}\n", said(taken))?)?;
     }
     Ok(())
 }

@@ -1,7 +1,7 @@
 use Rattle.std.proofs.Common.{◌≡◌, map, take}
 use Rattle.std.specs.List.{flat_map}
 use Rattle.yt_session.specs.Meanings.{session_of}
-use Rattle.yt_explain.specs.Meanings.{reason_of}
+use Rattle.yt_reasons.specs.Meanings.{reason_of}
 use Rattle.yt_explain.specs.Texts.{reason_line}
 use Rattle.yt_explain.proofs.texts.explanation_text.Given as goal
 

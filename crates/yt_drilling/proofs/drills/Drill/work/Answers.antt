@@ -1,3 +1,4 @@
+use Rattle.std.proofs.lemmas.Result.{IfOk-weaker}
 use Rattle.yt_drilling.proofs.Told.{tells_drilled}
 use Rattle.yt_drilling.proofs.drills.Drill.work.Goals as goal
 
@@ -8,4 +9,4 @@ pub take-requires-clause-met : goal.take-requires-clause-met
 take-requires-clause-met g c = λ κs lives. c.in_ok-session.ensures.met
 
 pub returns : goal.returns
-returns g c = tells_drilled _ _ _ _ _ c.in_ok-told.ensures c.in_ok-session.ensures.drilled
+returns g c = IfOk-weaker c.take.result _ _ (λ told h. tells_drilled _ _ _ _ _ h c.in_ok-session.ensures.drilled) c.take.ensures

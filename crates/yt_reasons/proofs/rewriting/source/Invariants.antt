@@ -2,7 +2,7 @@ use Rattle.std.proofs.Common.{◌≡◌, map, drop}
 use Rattle.yt_base.specs.Meanings.{fact_of}
 use Rattle.yt_noted.specs.Meanings.{rewriting_of}
 use Rattle.yt_provenance.specs.Reasons.{source}
-use Rattle.yt_explain.proofs.rewriting.source.Given as goal
+use Rattle.yt_reasons.proofs.rewriting.source.Given as goal
 
 -- The first of all is the first of those that are left.
 abbrev pub invariant-loop-from : goal.invariant-loop-from

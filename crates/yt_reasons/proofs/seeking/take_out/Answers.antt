@@ -3,8 +3,8 @@ use Rattle.std.proofs.lemmas.List.{map_push}
 use Rattle.yt_base.specs.Meanings.{fact_of}
 use Rattle.yt_model.specs.Values.{Fact}
 use Rattle.yt_model.specs.Repository.{has}
-use Rattle.yt_explain.proofs.Sought.{all_left, none_taken, taken_next}
-use Rattle.yt_explain.proofs.seeking.take_out.Goals as goal
+use Rattle.yt_reasons.proofs.Sought.{all_left, none_taken, taken_next}
+use Rattle.yt_reasons.proofs.seeking.take_out.Goals as goal
 
 pub loop-tuple-init : goal.loop-tuple-init
 loop-tuple-init c =

@@ -1,7 +1,7 @@
 use Rattle.std.proofs.Common.{◌≡◌, map, take}
 use Rattle.yt_base.specs.Meanings.{datum_of}
 use Rattle.yt_steps.specs.Rewriting.{replacing}
-use Rattle.yt_explain.proofs.rewriting.replaced.Given as goal
+use Rattle.yt_reasons.proofs.rewriting.replaced.Given as goal
 
 -- The values so far.
 abbrev pub invariant-loop-value : goal.invariant-loop-value

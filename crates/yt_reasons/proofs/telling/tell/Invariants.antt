@@ -3,9 +3,9 @@ use Rattle.yt_base.specs.Meanings.{fact_of}
 use Rattle.yt_model.specs.Repository.{Insert, apply, has}
 use Rattle.yt_provenance.specs.Notes.{reason_by}
 use Rattle.yt_noted.specs.Meanings.{note_of}
-use Rattle.yt_explain.specs.Meanings.{reason_of}
-use Rattle.yt_explain.proofs.Told.{resting}
-use Rattle.yt_explain.proofs.telling.tell.Given as goal
+use Rattle.yt_reasons.specs.Meanings.{reason_of}
+use Rattle.yt_reasons.proofs.Told.{resting}
+use Rattle.yt_reasons.proofs.telling.tell.Given as goal
 
 -- The reasons for those so far were told, and what they rest on is sought.
 abbrev pub invariant-loop-tuple : goal.invariant-loop-tuple

@@ -1,8 +1,8 @@
 use Rattle.std.proofs.Common.{◌≡◌, ◌++◌, map}
 use Rattle.yt_base.specs.Meanings.{fact_of}
 use Rattle.yt_provenance.specs.Reasons.{rooted}
-use Rattle.yt_explain.specs.Meanings.{reason_of}
-use Rattle.yt_explain.proofs.telling.root.Given as goal
+use Rattle.yt_reasons.specs.Meanings.{reason_of}
+use Rattle.yt_reasons.proofs.telling.root.Given as goal
 
 -- Those so far were told.
 abbrev pub invariant-loop-tuple : goal.invariant-loop-tuple

@@ -3,9 +3,9 @@ use Rattle.std.proofs.lemmas.List.{map-append}
 use Rattle.yt_base.specs.Meanings.{fact_of}
 use Rattle.yt_provenance.specs.Notes.{told_by}
 use Rattle.yt_noted.specs.Meanings.{note_of}
-use Rattle.yt_explain.specs.Meanings.{reason_of}
-use Rattle.yt_explain.proofs.Told.{told_on}
-use Rattle.yt_explain.proofs.telling.told_by.Goals as goal
+use Rattle.yt_reasons.specs.Meanings.{reason_of}
+use Rattle.yt_reasons.proofs.Told.{told_on}
+use Rattle.yt_reasons.proofs.telling.told_by.Goals as goal
 
 pub notes-preserved : goal.notes-preserved
 notes-preserved c =

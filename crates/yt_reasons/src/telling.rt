@@ -5,7 +5,7 @@ ghost use Rattle.yt_base.specs.Meanings.{fact_of};
 ghost use Rattle.yt_provenance.specs.Notes.{reason_by as reason_by_lem, told_by as told_by_lem};
 ghost use Rattle.yt_provenance.specs.Reasons.{premises, rooted};
 ghost use Rattle.yt_noted.specs.Meanings.{note_of, notes_in};
-ghost use Rattle.yt_explain.specs.Meanings.{HasTold, how_of, reason_of, reasons_in};
+ghost use Rattle.yt_reasons.specs.Meanings.{HasTold, how_of, reason_of, reasons_in};
 
 use crate::reasons::{Explanation, How, Reason};
 use crate::rewriting::source;
@@ -16,7 +16,7 @@ use yt_facts::PlainFacts;
 use yt_noted::{Note, NoteList, Way};
 
 /// The reasons for a tuple by these notes. It is refused only for want of memory.
-pub(crate) fn told_by(alloc: Global, notes: NoteList, tuple: Tuple) -> Result<Explanation, Memory>
+pub fn told_by(alloc: Global, notes: NoteList, tuple: Tuple) -> Result<Explanation, Memory>
     ensures told { IfOk result (λ reasons. reasons_in reasons ≡
         told_by_lem (reverse (notes_in notes)) (fact_of tuple ∷ [])) }
 {

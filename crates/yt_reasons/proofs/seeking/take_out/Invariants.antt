@@ -1,7 +1,7 @@
 use Rattle.std.proofs.Common.{◌≡◌, not, map, filter}
 use Rattle.yt_base.specs.Meanings.{fact_of}
 use Rattle.yt_model.specs.Repository.{has}
-use Rattle.yt_explain.proofs.seeking.take_out.Given as goal
+use Rattle.yt_reasons.proofs.seeking.take_out.Given as goal
 
 -- Of those so far what was sought is taken, and nothing else.
 abbrev pub invariant-loop-tuple : goal.invariant-loop-tuple

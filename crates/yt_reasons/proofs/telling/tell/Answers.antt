@@ -6,9 +6,9 @@ use Rattle.yt_model.specs.Repository.{Insert, IsRepository, apply, has}
 use Rattle.yt_model.proofs.Sets.{apply_in_order, filter_in_order}
 use Rattle.yt_provenance.specs.Notes.{reason_by}
 use Rattle.yt_noted.specs.Meanings.{note_of}
-use Rattle.yt_explain.specs.Meanings.{reason_of}
-use Rattle.yt_explain.proofs.Told.{resting, sought_step, told_step}
-use Rattle.yt_explain.proofs.telling.tell.Goals as goal
+use Rattle.yt_reasons.specs.Meanings.{reason_of}
+use Rattle.yt_reasons.proofs.Told.{resting, sought_step, told_step}
+use Rattle.yt_reasons.proofs.telling.tell.Goals as goal
 
 pub loop-tuple-preserved : goal.loop-tuple-preserved
 loop-tuple-preserved c =

@@ -4,7 +4,7 @@ ghost use Rattle.yt_model.specs.Repository.{Delete, Insert, IsRepository, apply,
 ghost use Rattle.yt_base.specs.Contents.{facts_of};
 ghost use Rattle.yt_base.specs.Meanings.{fact_of};
 ghost use Rattle.yt_provenance.specs.Reasons.{premises};
-ghost use Rattle.yt_explain.specs.Meanings.{how_of};
+ghost use Rattle.yt_reasons.specs.Meanings.{how_of};
 
 use crate::reasons::How;
 use std::alloc::Global;

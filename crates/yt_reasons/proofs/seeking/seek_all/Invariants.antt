@@ -1,7 +1,7 @@
 use Rattle.std.proofs.Common.{◌≡◌, map, drop}
 use Rattle.yt_base.specs.Meanings.{fact_of}
 use Rattle.yt_model.specs.Repository.{Insert, apply}
-use Rattle.yt_explain.proofs.seeking.seek_all.Given as goal
+use Rattle.yt_reasons.proofs.seeking.seek_all.Given as goal
 
 -- What is sought with those that are left is all.
 abbrev pub invariant-loop-tuple : goal.invariant-loop-tuple

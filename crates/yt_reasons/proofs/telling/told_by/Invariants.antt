@@ -3,8 +3,8 @@ use Rattle.yt_base.specs.Meanings.{fact_of}
 use Rattle.yt_model.specs.Repository.{IsRepository}
 use Rattle.yt_provenance.specs.Notes.{told_by}
 use Rattle.yt_noted.specs.Meanings.{note_of}
-use Rattle.yt_explain.specs.Meanings.{reason_of}
-use Rattle.yt_explain.proofs.telling.told_by.Given as goal
+use Rattle.yt_reasons.specs.Meanings.{reason_of}
+use Rattle.yt_reasons.proofs.telling.told_by.Given as goal
 
 -- What is told is what is told so far, and then what is told by the notes that are left of what is still sought.
 abbrev pub invariant-notes : goal.invariant-notes
