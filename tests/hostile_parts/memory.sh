@@ -4,7 +4,8 @@
 # Each command on sessions of all kinds, and each refusal that has read something.
 rows=(one-repair conflict-abort cascade taken-null travel travel-serial travel-save travel-check travel-format format-2-upgrade
   ask-travel journal-travel recover-travel added-mapping negative-frontier-both replace-merges stuck-missing stuck-save base-violates
-  refused-no-number ask-arity recover-cut travel-eight-workers explain drill-one one-repair-trace added-mapping-spent)
+  refused-no-number ask-arity recover-cut travel-eight-workers explain drill-one one-repair-trace added-mapping-spent
+  audit audit-conflict audit-open audit-form)
 most=${cheap:+2000}
 for row in "${rows[@]}"; do
   attack "tests/rows/$row" FAULTS=memory FAULTS_MOST="${most:-5000}"
