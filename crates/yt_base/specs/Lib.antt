@@ -3,3 +3,4 @@ pub mod Meanings
 pub mod Maps
 pub mod Candidates
 pub mod Contents
+pub mod Held

@@ -43,6 +43,7 @@ pub mod mappings;
 pub mod nulls;
 mod orders;
 pub mod outer;
+pub mod rows;
 pub mod substitutions;
 pub mod tuples;
 pub mod updates;
@@ -55,8 +56,9 @@ pub use crate::facts::Facts;
 pub use crate::lists::{List, Name, NameList, NumberList, Word};
 pub use crate::mappings::{Atom, AtomList, Mapping, MappingList, Term, TermRow};
 pub use crate::nulls::Null;
+pub use crate::rows::{Row, ValueList};
 pub use crate::substitutions::Sub;
-pub use crate::tuples::{FORCE_RELATION, Row, Tuple, TupleList};
+pub use crate::tuples::{FORCE_RELATION, Tuple, TupleList};
 pub use crate::updates::{
     Choice, ChoiceList, Direction, Operation, Update, UpdateList, Write, WriteList,
 };

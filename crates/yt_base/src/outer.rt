@@ -56,10 +56,7 @@ impl Tuple {
         for value in self.values.as_slice() {
             values.push(value.outer(alloc)?)?;
         }
-        Ok(Tuple {
-            relation: self.relation,
-            values,
-        })
+        Tuple::new(alloc, self.relation, values)
     }
 
     /// Whether the two have one outer form. It takes no memory.

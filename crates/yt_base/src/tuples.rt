@@ -1,23 +1,20 @@
 //! Tuples, their order, their copies, and their outer forms.
-ghost use Rattle.std.specs.Prelude.{◌≡◌, refl, IfOk};
+ghost use Rattle.std.specs.Prelude.{◌≡◌, [], refl, map, IfOk};
 ghost use Rattle.std.specs.Ordering.{on, as_partial_cmp, eq_by_cmp};
 ghost use Rattle.std.specs.Cmp.{on_total, eq_by_cmp_equiv, partial_equiv_from_equiv, po};
 ghost use Rattle.yt_model.specs.Values.{Fact, fact_cmp};
-ghost use Rattle.yt_base.specs.Meanings.{fact_of};
+ghost use Rattle.yt_base.specs.Meanings.{datum_of, fact_of};
 ghost use Rattle.yt_model.proofs.Order.{fact_total};
 
 use crate::copying::TryCopy;
 use crate::lists::List;
-use crate::values::Value;
+use crate::rows::{Row, ValueList};
 use std::alloc::Global;
 use std::cmp::Ordering;
 use yt_memory::Memory;
 
 /// The relation of the tuples that say which mappings are in force.
 pub const FORCE_RELATION: u16 = 65535;
-
-/// The values of a tuple by column.
-pub type Row = List<Value>;
 
 /// Tuples.
 pub type TupleList = List<Tuple>;
@@ -28,6 +25,29 @@ pub type TupleList = List<Tuple>;
 pub struct Tuple {
     pub relation: u16,
     pub values: Row,
+}
+
+impl Tuple {
+    /// The tuple of the relation with these values. It is refused only for want of memory.
+    pub fn new(alloc: Global, relation: u16, values: ValueList) -> Result<Tuple, Memory>
+        ensures tuple { IfOk result (λ tuple. fact_of tuple ≡
+            record { relation = relation; values = map datum_of values.items }) }
+    {
+        Ok(Tuple {
+            relation,
+            values: Row::new(alloc, values)?,
+        })
+    }
+
+    /// The tuple of the relation without values, which is its least one. It takes no memory.
+    pub fn least(relation: u16) -> Tuple
+        ensures least { fact_of result ≡ record { relation = relation; values = [] } }
+    {
+        Tuple {
+            relation,
+            values: Row::empty(),
+        }
+    }
 }
 
 impl PartialEq for Tuple {
@@ -66,7 +86,7 @@ impl Ord for Tuple {
     fn cmp(&self, other: &Tuple) -> Ordering {
         match self.relation.cmp(&other.relation) {
             Ordering::Less => Ordering::Less,
-            Ordering::Equal => self.values.cmp(&other.values),
+            Ordering::Equal => self.values.order(&other.values),
             Ordering::Greater => Ordering::Greater,
         }
     }
@@ -77,12 +97,12 @@ impl TryCopy for Tuple {
 
     ghost meaning = { fact_of };
 
-    fn copy(&self, alloc: Global) -> Result<Tuple, Memory>
+    fn copy(&self, _alloc: Global) -> Result<Tuple, Memory>
         ensures same { IfOk result (λ copy. fact_of copy ≡ fact_of self.now) }
     {
         Ok(Tuple {
             relation: self.relation,
-            values: self.values.copy(alloc)?,
+            values: self.values.share()?,
         })
     }
 }

@@ -10,7 +10,7 @@ ghost use Rattle.yt_steps.specs.Rewriting.{binding_of};
 ghost use Rattle.yt_chase.specs.Nulls.{drawn_from, values_in};
 
 use std::alloc::Global;
-use yt_base::{List, Mapping, Memory, Null, Row, TryCopy, TupleList, Value};
+use yt_base::{List, Mapping, Memory, Null, TryCopy, TupleList, Value, ValueList};
 use yt_match::PartialMatch;
 
 /// From where an attempt draws its nulls: the numbers of the update and of the attempt, and how many nulls it has drawn.
@@ -37,7 +37,7 @@ pub(crate) fn values_at(
     mapping: &Mapping,
     image: &TupleList,
     fresh: Fresh,
-) -> Result<Row, Memory>
+) -> Result<ValueList, Memory>
     requires { fresh.drawn + (rule_of mapping.now).existential < 2 ^ 32 }
     ensures value { IfOk result (λ values.
         data_of values ≡ values_in fresh (rule_of mapping.now) (facts_of image.now)) }
@@ -48,7 +48,11 @@ pub(crate) fn values_at(
 }
 
 // The values of the variables on the left at the image.
-fn universal_values(alloc: Global, mapping: &Mapping, image: &TupleList) -> Result<Row, Memory>
+fn universal_values(
+    alloc: Global,
+    mapping: &Mapping,
+    image: &TupleList,
+) -> Result<ValueList, Memory>
     ensures value { IfOk result (λ values.
         data_of values ≡ binding_of (rule_of mapping.now) (facts_of image.now)) }
 {
@@ -61,7 +65,11 @@ fn universal_values(alloc: Global, mapping: &Mapping, image: &TupleList) -> Resu
 }
 
 // The values of the first variables, as far as they are known.
-fn known_values<'a>(alloc: Global, partial: &PartialMatch<'a>, count: u16) -> Result<Row, Memory>
+fn known_values<'a>(
+    alloc: Global,
+    partial: &PartialMatch<'a>,
+    count: u16,
+) -> Result<ValueList, Memory>
     ensures value { IfOk result (λ values.
         data_of values ≡ map (λ v. unwrap_or (known_at partial.now v) (Number (pos 0)))
         (range_with_len 0 count)) }
@@ -89,7 +97,7 @@ fn known_value<'a>(
 }
 
 // Adds so many fresh nulls to the values.
-fn draw(values: &mut Row, fresh: Fresh, count: usize) -> Result<(), Memory>
+fn draw(values: &mut ValueList, fresh: Fresh, count: usize) -> Result<(), Memory>
     requires { fresh.drawn + count < 2 ^ 32 }
     ensures ok { OnOk result (data_of values.new ≡ data_of values.old ++ drawn_from fresh count) }
 {

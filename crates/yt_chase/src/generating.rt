@@ -9,7 +9,7 @@ ghost use Rattle.yt_chase.specs.Stages.{repair_of, repairing_of, IsSound};
 
 use crate::stages::{Generation, Stage};
 use std::alloc::Global;
-use yt_base::{Atom, List, Memory, Row, Term, TermRow, TryCopy, Tuple, Value};
+use yt_base::{Atom, List, Memory, Term, TermRow, TryCopy, Tuple, Value, ValueList};
 use yt_limits::Mappings;
 
 /// The tuple that the repair generates next. It is refused only for want of memory.
@@ -23,10 +23,7 @@ pub(crate) fn generated(
 {
     match right_atoms(mappings, generation.mapping).get(generation.atom) {
         Some(atom) => tuple_under(alloc, &generation.binding, atom),
-        None => Ok(Tuple {
-            relation: 0,
-            values: List::new(alloc),
-        }),
+        None => Ok(Tuple::least(0)),
     }
 }
 
@@ -57,18 +54,16 @@ fn right_atoms<'a>(mappings: &Mappings<'a>, number: u16) -> &'a [Atom]
 }
 
 /// The tuple that the atom is under the values. It is refused only for want of memory.
-pub(crate) fn tuple_under(alloc: Global, binding: &Row, atom: &Atom) -> Result<Tuple, Memory>
+pub(crate) fn tuple_under(alloc: Global, binding: &ValueList, atom: &Atom) -> Result<Tuple, Memory>
     ensures value { IfOk result (λ tuple.
         fact_of tuple ≡ fact_under (listed_lem (data_of binding.now)) (pattern_of atom.now)) }
 {
-    Ok(Tuple {
-        relation: atom.relation,
-        values: values_under(alloc, binding, &atom.terms)?,
-    })
+    let values = values_under(alloc, binding, &atom.terms)?;
+    Tuple::new(alloc, atom.relation, values)
 }
 
 // The values of the terms under the values of the variables.
-fn values_under(alloc: Global, binding: &Row, terms: &TermRow) -> Result<Row, Memory>
+fn values_under(alloc: Global, binding: &ValueList, terms: &TermRow) -> Result<ValueList, Memory>
     ensures value { IfOk result (λ values.
         data_of values ≡ map (value_under (listed_lem (data_of binding.now)))
         (map slot_of terms.now.items)) }
@@ -82,7 +77,7 @@ fn values_under(alloc: Global, binding: &Row, terms: &TermRow) -> Result<Row, Me
 }
 
 // The value of the term; the number 0 for a variable that has none.
-fn value_of(alloc: Global, binding: &Row, term: &Term) -> Result<Value, Memory>
+fn value_of(alloc: Global, binding: &ValueList, term: &Term) -> Result<Value, Memory>
     ensures value { IfOk result (λ value.
         datum_of value ≡ value_under (listed_lem (data_of binding.now)) (slot_of term.now)) }
 {

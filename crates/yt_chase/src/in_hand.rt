@@ -17,14 +17,14 @@ use crate::planning::plan;
 use crate::repairs::Repair;
 use crate::stages::{Generation, Stage};
 use std::alloc::Global;
-use yt_base::{AtomList, Memory, Row, Sub, Tuple, TupleList};
+use yt_base::{AtomList, Memory, Sub, Tuple, TupleList, ValueList};
 use yt_frontier::Question;
 
 /// The number of a mapping, and the values of its variables.
 #[derive(Clone, Copy)]
 pub struct Bound<'a> {
     pub mapping: u16,
-    pub values: &'a Row,
+    pub values: &'a ValueList,
 }
 
 impl Repair {
@@ -100,7 +100,7 @@ fn bound_by(generation: &Generation) -> Bound<'_>
 }
 
 /// The image of the atoms under the values of the variables. It is refused only for want of memory.
-pub fn image(alloc: Global, values: &Row, atoms: &AtomList) -> Result<TupleList, Memory>
+pub fn image(alloc: Global, values: &ValueList, atoms: &AtomList) -> Result<TupleList, Memory>
     ensures image { IfOk result
         (λ tuples. map fact_of tuples.items ≡
         image_under (listed (map datum_of values.now.items)) (map pattern_of atoms.now.items)) }

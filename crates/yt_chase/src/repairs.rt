@@ -20,7 +20,7 @@ use crate::stages::{Generation, Stage};
 use crate::wants::{Progress, RepairWant};
 use std::alloc::Global;
 use std::marker::Model;
-use yt_base::{Choice, Mapping, Memory, Row, TryCopy, TupleList, WriteList};
+use yt_base::{Choice, Mapping, Memory, TryCopy, TupleList, ValueList, WriteList};
 use yt_limits::Mappings;
 use yt_query::{Answer, Query};
 
@@ -84,7 +84,7 @@ impl Repair {
     {
         let generation = Generation {
             mapping: number,
-            binding: Row::new(alloc),
+            binding: ValueList::new(alloc),
             atom: 0,
         };
         let (stage, writes) = look_back(alloc, number, in_order(alloc, image)?)?;

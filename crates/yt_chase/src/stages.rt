@@ -1,5 +1,5 @@
 //! The parts of a repair: the values of its variables, and the stage at which it stands.
-use yt_base::{List, Null, Row, Sub, TupleList};
+use yt_base::{List, Null, Sub, TupleList, ValueList};
 use yt_frontier::Question;
 use yt_query::Query;
 
@@ -8,7 +8,7 @@ use yt_query::Query;
 #[derive(Debug, Drop)]
 pub(crate) struct Generation {
     pub(crate) mapping: u16,
-    pub(crate) binding: Row,
+    pub(crate) binding: ValueList,
     pub(crate) atom: usize,
 }
 

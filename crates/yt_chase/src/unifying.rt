@@ -76,7 +76,7 @@ pub(crate) fn unify(
     ensures own { OnErr result (own.new.items ≡ own.old.items) }
 {
     let writes = rewrite(alloc, sub, tuples)?;
-    let binding = apply_row(alloc, sub, &generation.binding)?;
+    let binding = apply_row(alloc, sub, generation.binding.as_slice())?;
     append(alloc, own, writes)?;
     generation.binding = binding;
     Ok(go_on(generation, mappings))

@@ -83,7 +83,7 @@ pub(crate) fn bounded_fact(
     } = fact;
     let relation = schema.relation_of(alloc, &name, values.len())?;
     nulls_within(most, values.as_slice())?;
-    Ok(Tuple { relation, values })
+    Ok(Tuple::new(alloc, relation, values)?)
 }
 
 #[tactic(auto, unfolding(yt_grammar::specs::Reading::each))]

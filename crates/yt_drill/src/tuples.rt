@@ -7,11 +7,11 @@ ghost use Rattle.yt_drill.specs.Drilled.{fact};
 ghost use Rattle.yt_drill.specs.Meanings.{HasDrawn};
 
 use std::alloc::Global;
-use yt_base::{List, Memory, Row, Tuple, Value};
+use yt_base::{List, Memory, Tuple, Value, ValueList};
 use yt_draws::draw;
 
 // Draws one more value.
-fn push(state: &mut u64, values: &mut Row, most: u32) -> Result<(), Memory>
+fn push(state: &mut u64, values: &mut ValueList, most: u32) -> Result<(), Memory>
     requires some { 0 < most }
     ensures pushed { OnOk result (HasDrawn most state.old values.old values.new) }
     ensures state { OnOk result (state.new ≡ next_lem state.old) }
@@ -38,7 +38,7 @@ pub(crate) fn pair(
     let mut values = List::new(alloc);
     push(state, &mut values, first)?;
     push(state, &mut values, second)?;
-    Ok(Tuple { relation, values })
+    Tuple::new(alloc, relation, values)
 }
 
 /// A tuple of three such numbers. It is refused only for want of memory.
@@ -61,5 +61,5 @@ pub(crate) fn triple(
     push(state, &mut values, first)?;
     push(state, &mut values, second)?;
     push(state, &mut values, third)?;
-    Ok(Tuple { relation, values })
+    Tuple::new(alloc, relation, values)
 }

@@ -149,10 +149,7 @@ impl Facts for PlainFacts {
         if self.ends_before(relation) {
             return None;
         }
-        let least = Tuple {
-            relation,
-            values: List::new(self.alloc),
-        };
+        let least = Tuple::least(relation);
         let found = self
             .tuples
             .range((Bound::Included(&least), Bound::Unbounded))

@@ -12,7 +12,7 @@ use crate::cursor::Words;
 use crate::faults::{FormRefusal, wants};
 use crate::words::{RawFact, Word};
 use std::alloc::Global;
-use yt_base::{List, Memory, Name, Null, Row, Value};
+use yt_base::{List, Memory, Name, Null, Value, ValueList};
 use yt_grammar::Wanted;
 use yt_schema::{RawAtom, RawTerm, RawTermList};
 
@@ -134,7 +134,7 @@ fn term_at(alloc: Global, words: Words<'_>) -> Result<(RawTerm, bool, Words<'_>)
     }
 }
 
-fn values_at(alloc: Global, words: Words<'_>) -> Result<(Row, Words<'_>), FormRefusal>
+fn values_at(alloc: Global, words: Words<'_>) -> Result<(ValueList, Words<'_>), FormRefusal>
     ensures gives { Gives (λ x. (map datum_of x.0.items, words_of x.1)) result
         (many (length (words_of words.entry)) (item_at missing.Value value_of)
         (words_of words.entry)) }

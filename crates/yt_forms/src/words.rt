@@ -5,7 +5,7 @@ ghost use Rattle.yt_lex.specs.Spelling.{spells, text_of};
 ghost use Rattle.yt_lex.specs.declared.TokenKind.TheVariants.{Text};
 
 use std::alloc::Global;
-use yt_base::{List, Memory, Name, Row};
+use yt_base::{List, Memory, Name, ValueList};
 use yt_lex::{TokenKind, null_of, number_of, text_of};
 use yt_schema::RawAtomList;
 
@@ -35,7 +35,7 @@ pub enum Word<'a> {
 #[derive(Debug, Drop)]
 pub struct RawFact {
     pub relation: Name,
-    pub values: Row,
+    pub values: ValueList,
 }
 
 /// Facts from left to right.

@@ -119,10 +119,7 @@ pub(crate) fn resolved(alloc: Global, found: &[Standing], tuple: &Tuple) -> Resu
     for value in tuple.values.as_slice() {
         values.push(settled(alloc, found, value)?)?;
     }
-    Ok(Tuple {
-        relation: tuple.relation,
-        values,
-    })
+    Tuple::new(alloc, tuple.relation, values)
 }
 
 // What the value stands for: itself, where it is no null.

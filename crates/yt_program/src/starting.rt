@@ -16,7 +16,7 @@ use crate::rows::{Naming, NullList, Row};
 use crate::turns::Turn;
 use crate::writes::one;
 use std::alloc::Global;
-use yt_base::{Memory, Operation, Row as ValueRow, TryCopy, Tuple, Value, Write, WriteList};
+use yt_base::{Memory, Operation, TryCopy, Tuple, Value, ValueList, Write, WriteList};
 use yt_chase::nulls_in;
 use yt_query::{Answer, Query};
 
@@ -54,12 +54,9 @@ fn look_up(alloc: Global, operation: &Operation, tuple: &Tuple) -> Result<Turn, 
 pub(crate) fn force(alloc: Global, mapping: u16) -> Result<Tuple, Memory>
     ensures value { IfOk result (λ tuple. fact_of tuple ≡ force_lem mapping) }
 {
-    let mut values = ValueRow::new(alloc);
+    let mut values = ValueList::new(alloc);
     values.push(Value::Int(i64::from(mapping)))?;
-    Ok(Tuple {
-        relation: u16::MAX,
-        values,
-    })
+    Tuple::new(alloc, u16::MAX, values)
 }
 
 // Asks for the named null at place `next`, with those found before it; after the last one, whether the operation's

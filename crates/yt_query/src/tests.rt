@@ -6,7 +6,7 @@ use yt_base::{Atom, List, Mapping, MappingList, Memory, Term, TryCopy, Tuple, Tu
 fn tuple(alloc: Global, relation: u16, number: i64) -> Result<Tuple, Memory> {
     let mut values = List::new(alloc);
     values.push(Value::Int(number))?;
-    Ok(Tuple { relation, values })
+    Tuple::new(alloc, relation, values)
 }
 
 fn tuples(alloc: Global, numbers: &[i64]) -> Result<TupleList, Memory> {

@@ -64,10 +64,7 @@ fn tuple_of(alloc: Global, schema: &Schema, fact: RawFact) -> Result<Tuple, Line
     ensures { Gives tuple_meant result (fact_of schema.now (fact_meant fact)) }
 {
     let relation = schema.relation_of(alloc, &fact.relation, fact.values.len())?;
-    Ok(Tuple {
-        relation,
-        values: fact.values,
-    })
+    Ok(Tuple::new(alloc, relation, fact.values)?)
 }
 
 /// The tuple of a schema that a fact is; None exactly where the schema lacks its relation, or has it with another number

@@ -50,10 +50,7 @@ fn replaced(alloc: Global, from: &Value, to: &Value, tuple: &Tuple) -> Result<Tu
     for value in tuple.values.as_slice() {
         values.push(replaced_value(alloc, from, to, value)?)?;
     }
-    Ok(Tuple {
-        relation: tuple.relation,
-        values,
-    })
+    Tuple::new(alloc, tuple.relation, values)
 }
 
 fn replaced_value(alloc: Global, from: &Value, to: &Value, value: &Value) -> Result<Value, Memory>

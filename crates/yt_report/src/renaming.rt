@@ -113,10 +113,7 @@ fn base_fact(alloc: Global, nulls: &[Null], tuple: &Tuple) -> Result<Tuple, Memo
     for value in tuple.values.as_slice() {
         values.push(base_value(alloc, nulls, value)?)?;
     }
-    Ok(Tuple {
-        relation: tuple.relation,
-        values,
-    })
+    Tuple::new(alloc, tuple.relation, values)
 }
 
 /// The tuples of a repository as those of a base. It is refused only for want of memory.

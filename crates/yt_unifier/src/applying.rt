@@ -5,27 +5,25 @@ ghost use Rattle.yt_base.specs.Meanings.{datum_of, fact_of};
 ghost use Rattle.yt_base.specs.Maps.{images_of, moved_by};
 
 use std::alloc::Global;
-use yt_base::{List, Memory, Row, Sub, TryCopy, Tuple, Value};
+use yt_base::{List, Memory, Sub, TryCopy, Tuple, Value, ValueList};
 
 /// The tuple with each null that has an image replaced by it. It is refused only for want of memory.
 pub fn apply(alloc: Global, sub: &Sub, tuple: &Tuple) -> Result<Tuple, Memory>
     ensures value { IfOk result (λ moved. fact_of moved ≡
         under (moved_by (images_of sub.now)) (fact_of tuple.now)) }
 {
-    Ok(Tuple {
-        relation: tuple.relation,
-        values: apply_row(alloc, sub, &tuple.values)?,
-    })
+    let values = apply_row(alloc, sub, tuple.values.as_slice())?;
+    Tuple::new(alloc, tuple.relation, values)
 }
 
 /// The values with each null that has an image replaced by it. It is refused only for want of memory.
-pub fn apply_row(alloc: Global, sub: &Sub, row: &Row) -> Result<Row, Memory>
+pub fn apply_row(alloc: Global, sub: &Sub, row: &[Value]) -> Result<ValueList, Memory>
     ensures value { IfOk result (λ moved. map datum_of moved.items ≡
-        map (moved_by (images_of sub.now)) (map datum_of row.now.items)) }
+        map (moved_by (images_of sub.now)) (map datum_of row.now)) }
 {
     let mut values = List::new(alloc);
     values.reserve(row.len())?;
-    for value in row.as_slice() {
+    for value in row {
         values.push(moved(alloc, sub, value)?)?;
     }
     Ok(values)

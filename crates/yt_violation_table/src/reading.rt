@@ -68,10 +68,7 @@ fn read_tuple(alloc: Global, text: &str) -> Result<Tuple, CaseRefusal> {
     for word in words.split_whitespace() {
         values.push(read_value(alloc, word)?)?;
     }
-    Ok(Tuple {
-        relation: relation.parse::<u16>()?,
-        values,
-    })
+    Ok(Tuple::new(alloc, relation.parse::<u16>()?, values)?)
 }
 
 // A variable, as `x0`, or a value.

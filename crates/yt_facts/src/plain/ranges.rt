@@ -37,20 +37,10 @@ impl PlainFacts {
         ensures tuples { map fact_of result ≡ all_candidates self.now relation None }
         ensures in_order { IsRepository self.now }
     {
-        let first = self.least(relation);
-        let end = self.least(next);
+        let first = Tuple::least(relation);
+        let end = Tuple::least(next);
         self.tuples
             .range((Bound::Included(&first), Bound::Excluded(&end)))
-    }
-
-    // The least tuple that the relation could have. It takes no memory.
-    fn least(&self, relation: u16) -> Tuple
-        ensures least { fact_of result ≡ record { relation = relation; values = [] } }
-    {
-        Tuple {
-            relation,
-            values: List::new(self.alloc),
-        }
     }
 
     /// Whether it is plain that it has no tuple of the relation with the column's value, where a column is given. Only a
