@@ -95,13 +95,13 @@ impl Row {
 
     /// Another handle to the same values. It is refused only where there are too many.
     pub fn share(&self) -> Result<Row, Memory>
-        ensures same { IfOk result (λ row. row.items ≡ self.now.items) }
+        ensures same { IfOk result (λ row. row ≡ self.now) }
     {
         match &self.values {
             Some(values) => Ok(Row {
                 values: Some(Arc::try_clone(values)?),
             }),
-            None => Ok(Row::empty()),
+            None => Ok(Row { values: None }),
         }
     }
 }

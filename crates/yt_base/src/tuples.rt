@@ -39,6 +39,16 @@ impl Tuple {
         })
     }
 
+    /// Another handle to the same tuple. It is refused only where there are too many.
+    pub fn share(&self) -> Result<Tuple, Memory>
+        ensures same { IfOk result (λ tuple. tuple ≡ self.now) }
+    {
+        Ok(Tuple {
+            relation: self.relation,
+            values: self.values.share()?,
+        })
+    }
+
     /// The tuple of the relation without values, which is its least one. It takes no memory.
     pub fn least(relation: u16) -> Tuple
         ensures least { fact_of result ≡ record { relation = relation; values = [] } }
@@ -100,9 +110,6 @@ impl TryCopy for Tuple {
     fn copy(&self, _alloc: Global) -> Result<Tuple, Memory>
         ensures same { IfOk result (λ copy. fact_of copy ≡ fact_of self.now) }
     {
-        Ok(Tuple {
-            relation: self.relation,
-            values: self.values.share()?,
-        })
+        self.share()
     }
 }

@@ -1,18 +1,13 @@
-// Trees and shared values are Send and Sync, where keys and values are.
+// Trees are Send and Sync, where keys and values are.
 
 use crate::branch::Branch;
 use crate::cursors::Cursor;
 use crate::maps::TreeMap;
-use crate::shares::{Share, Shared};
+use crate::shares::Share;
 
 fn is_send<T: Send>(_value: &T) {}
 
 fn is_sync<T: Sync>(_value: &T) {}
-
-fn shared_crosses<T: Send + Sync>(shared: &Shared<T>) {
-    is_send(shared);
-    is_sync(shared);
-}
 
 fn branch_crosses<K: Send + Sync, V: Send + Sync>(branch: &Branch<K, V>) {
     is_send(branch);

@@ -17,4 +17,4 @@ pub use crate::cuts::{Above, AtLeast, Cut, Start};
 pub use crate::maps::TreeMap;
 pub use crate::searches::Search;
 pub use crate::sets::TreeSet;
-pub use crate::shares::{Share, Shared};
+pub use crate::shares::Share;

@@ -7,16 +7,17 @@ ghost use Rattle.yt_base.specs.Meanings.{datum_of};
 ghost use Rattle.yt_versions.specs.Cells.{value_in, values_cmp, cell_cmp, cell_total};
 ghost use Rattle.yt_versions.specs.Indexed.{cell_of};
 
+use crate::handles::Handle;
 use std::alloc::AllocError;
 use std::cmp::Ordering;
 use yt_base::{Tuple, Value};
-use yt_tree::{Share, Shared};
+use yt_tree::Share;
 
 /// A tuple at a column, counted from 0. Cells are ordered by column, by the value there, and by the tuple.
 #[derive(Drop)]
 pub struct Cell {
     pub column: usize,
-    pub tuple: Shared<Tuple>,
+    pub tuple: Handle,
 }
 
 impl Share for Cell {

@@ -5,6 +5,7 @@
 mod below;
 mod cells;
 mod crossing;
+mod handles;
 mod laws;
 mod marks;
 mod searches;

@@ -10,10 +10,11 @@ ghost use Rattle.yt_versions.specs.ZoneLaws.{at_before, at_past, beyond_before, 
 ghost use Rattle.yt_versions.specs.Walks.{is_from};
 
 use crate::cells::{Cell, values_order};
+use crate::handles::Handle;
 use crate::marks::Marks;
 use std::cmp::Ordering;
 use yt_base::{Tuple, Value};
-use yt_tree::{Cut, Search, Shared};
+use yt_tree::{Cut, Search};
 
 /// The tuple itself, whether or not it is there for an update.
 #[derive(Drop)]
@@ -21,7 +22,7 @@ pub struct Held<'c> {
     pub tuple: &'c Tuple,
 }
 
-impl<'c> Search<Shared<Tuple>, Marks> for Held<'c> {
+impl<'c> Search<Handle, Marks> for Held<'c> {
     ghost place = { λ s k. fact_cmp (fact_of k) (fact_of s.tuple.now) };
 
     ghost passes = { λ _ _. true };
@@ -30,11 +31,11 @@ impl<'c> Search<Shared<Tuple>, Marks> for Held<'c> {
 
     ghost stays_before = { λ s x y. at_before (fact_of s.tuple.now) (fact_of x) (fact_of y) };
 
-    fn place(&self, key: &Shared<Tuple>) -> Ordering {
+    fn place(&self, key: &Handle) -> Ordering {
         key.get().cmp(self.tuple)
     }
 
-    fn passes(&self, _entry: &(Shared<Tuple>, Marks)) -> bool {
+    fn passes(&self, _entry: &(Handle, Marks)) -> bool {
         true
     }
 }
@@ -46,7 +47,7 @@ pub struct Beyond<'c> {
     pub past: Option<&'c Tuple>,
 }
 
-impl<'c> Search<Shared<Tuple>, Marks> for Beyond<'c> {
+impl<'c> Search<Handle, Marks> for Beyond<'c> {
     ghost place = { λ s k. place_beyond (option_map fact_of (option_copied s.past)) (fact_of k) };
 
     ghost passes = { λ s e. stands s.number e.1 };
@@ -55,11 +56,11 @@ impl<'c> Search<Shared<Tuple>, Marks> for Beyond<'c> {
 
     ghost stays_before = { λ s x y. beyond_before (option_map fact_of (option_copied s.past)) (fact_of x) (fact_of y) };
 
-    fn place(&self, key: &Shared<Tuple>) -> Ordering {
+    fn place(&self, key: &Handle) -> Ordering {
         place_after(self.past, key.get())
     }
 
-    fn passes(&self, entry: &(Shared<Tuple>, Marks)) -> bool {
+    fn passes(&self, entry: &(Handle, Marks)) -> bool {
         entry.1.stands(self.number)
     }
 }
@@ -72,7 +73,7 @@ pub struct Zone<'c> {
     pub past: Option<&'c Tuple>,
 }
 
-impl<'c> Search<Shared<Tuple>, Marks> for Zone<'c> {
+impl<'c> Search<Handle, Marks> for Zone<'c> {
     ghost place = { λ s k. place_of s.relation (option_map fact_of (option_copied s.past)) (fact_of k) };
 
     ghost passes = { λ s e. stands s.number e.1 };
@@ -81,11 +82,11 @@ impl<'c> Search<Shared<Tuple>, Marks> for Zone<'c> {
 
     ghost stays_before = { λ s x y. of_before s.relation (option_map fact_of (option_copied s.past)) (fact_of x) (fact_of y) };
 
-    fn place(&self, key: &Shared<Tuple>) -> Ordering {
+    fn place(&self, key: &Handle) -> Ordering {
         place_in_relation(self.relation, self.past, key.get())
     }
 
-    fn passes(&self, entry: &(Shared<Tuple>, Marks)) -> bool {
+    fn passes(&self, entry: &(Handle, Marks)) -> bool {
         entry.1.stands(self.number)
     }
 }
@@ -97,7 +98,7 @@ pub struct Written {
     pub relation: u16,
 }
 
-impl Search<Shared<Tuple>, Marks> for Written {
+impl Search<Handle, Marks> for Written {
     ghost place = { λ s k. place_of s.relation None (fact_of k) };
 
     ghost passes = { λ s e. is_marked s.number e.1 };
@@ -106,11 +107,11 @@ impl Search<Shared<Tuple>, Marks> for Written {
 
     ghost stays_before = { λ s x y. of_before s.relation None (fact_of x) (fact_of y) };
 
-    fn place(&self, key: &Shared<Tuple>) -> Ordering {
+    fn place(&self, key: &Handle) -> Ordering {
         place_in_relation(self.relation, None, key.get())
     }
 
-    fn passes(&self, entry: &(Shared<Tuple>, Marks)) -> bool {
+    fn passes(&self, entry: &(Handle, Marks)) -> bool {
         entry.1.is_marked(self.number)
     }
 }
@@ -125,7 +126,7 @@ pub struct Lead<'c> {
     pub past: Option<&'c Tuple>,
 }
 
-impl<'c> Search<Shared<Tuple>, Marks> for Lead<'c> {
+impl<'c> Search<Handle, Marks> for Lead<'c> {
     ghost place = { λ s k. place_lead s.relation (datum_of s.value.now) (option_map fact_of (option_copied s.past)) (fact_of k) };
 
     ghost passes = { λ s e. stands s.number e.1 };
@@ -134,7 +135,7 @@ impl<'c> Search<Shared<Tuple>, Marks> for Lead<'c> {
 
     ghost stays_before = { λ s x y. lead_before s.relation (datum_of s.value.now) (option_map fact_of (option_copied s.past)) (fact_of x) (fact_of y) };
 
-    fn place(&self, key: &Shared<Tuple>) -> Ordering {
+    fn place(&self, key: &Handle) -> Ordering {
         let tuple = key.get();
         match tuple.relation.cmp(&self.relation) {
             Ordering::Less => Ordering::Less,
@@ -147,7 +148,7 @@ impl<'c> Search<Shared<Tuple>, Marks> for Lead<'c> {
         }
     }
 
-    fn passes(&self, entry: &(Shared<Tuple>, Marks)) -> bool {
+    fn passes(&self, entry: &(Handle, Marks)) -> bool {
         entry.1.stands(self.number)
     }
 }
@@ -195,12 +196,12 @@ pub struct From {
     pub relation: u16,
 }
 
-impl Cut<Shared<Tuple>> for From {
+impl Cut<Handle> for From {
     ghost reaches = { λ c k. is_from c.relation k };
 
     ghost rises = { λ c x y. from_rises c.relation (fact_of x) (fact_of y) };
 
-    fn reaches(&self, key: &Shared<Tuple>) -> bool {
+    fn reaches(&self, key: &Handle) -> bool {
         self.relation <= key.get().relation
     }
 }

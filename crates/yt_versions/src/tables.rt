@@ -9,18 +9,19 @@ ghost use Rattle.yt_versions.specs.Marked.{marks_at};
 ghost use Rattle.std.specs.Option.{option_map, option_copied};
 
 use crate::cells::Cell;
+use crate::handles::Handle;
 use crate::marks::{Marks, Touch};
 use crate::searches::{Beyond, From, Held, Lead, Scan, Written, Zone};
 use std::alloc::{AllocError, Global};
 use std::marker::Model;
-use yt_base::{List, TryCopy, Tuple, TupleList, Value};
+use yt_base::{List, Tuple, TupleList, Value};
 use yt_memory::Memory;
-use yt_tree::{Cursor, Share, Shared, Start, TreeMap};
+use yt_tree::{Cursor, Share, Start, TreeMap};
 
 /// Tuples with their marks, in order, and an index of them by cells. Contracts see the tuples with their marks.
 #[derive(Drop)]
 pub struct Table {
-    rows: TreeMap<Shared<Tuple>, Marks>,
+    rows: TreeMap<Handle, Marks>,
     cells: TreeMap<Cell, Marks>,
 }
 
@@ -81,7 +82,7 @@ impl Table {
             mut rows,
             mut cells,
         } = self;
-        let (key, mut marks) = entry_of(&rows, alloc, tuple)?;
+        let (key, mut marks) = entry_of(&rows, tuple)?;
         marks.touch(alloc, touch)?;
         set_cells(&mut cells, alloc, &key, &marks)?;
         set(&mut rows, alloc, key, marks)?;
@@ -111,14 +112,14 @@ impl Table {
         let mut cursor = self.rows.cursor(&Start);
         while let Some(row) = cursor.next() {
             if row.1.stands(number) {
-                list.push(row.0.get().copy(alloc)?)?;
+                list.push(row.0.get().share()?)?;
             }
         }
         Ok(list)
     }
 
     /// A cursor before the tuples of the relation.
-    pub fn from_relation(&self, relation: u16) -> Cursor<'_, Shared<Tuple>, Marks>
+    pub fn from_relation(&self, relation: u16) -> Cursor<'_, Handle, Marks>
         ensures rest { result ≡ reached (is_from relation) self.now }
         ensures in_order { IsOrdered (on fact_of fact_cmp) self.now }
     {
@@ -126,7 +127,7 @@ impl Table {
     }
 
     /// Puts the cursor before the tuples of the relation. It costs less than another cursor.
-    pub fn place<'t>(&'t self, cursor: &mut Cursor<'t, Shared<Tuple>, Marks>, relation: u16)
+    pub fn place<'t>(&'t self, cursor: &mut Cursor<'t, Handle, Marks>, relation: u16)
         ensures rest { cursor.new ≡ reached (is_from relation) self.now }
         ensures in_order { IsOrdered (on fact_of fact_cmp) self.now }
     {
@@ -233,11 +234,7 @@ impl Table {
 }
 
 // A handle of the tuple, with what is known of it.
-fn entry_of(
-    rows: &TreeMap<Shared<Tuple>, Marks>,
-    alloc: Global,
-    tuple: &Tuple,
-) -> Result<(Shared<Tuple>, Marks), Memory>
+fn entry_of(rows: &TreeMap<Handle, Marks>, tuple: &Tuple) -> Result<(Handle, Marks), Memory>
     requires { AreRows rows.now }
     ensures tuple { IfOk result (λ e. fact_of e.0 ≡ fact_of tuple.now) }
     ensures marks { IfOk result (λ e. e.1 ≡ marks_at rows.now (fact_of tuple.now)) }
@@ -249,10 +246,7 @@ fn entry_of(
             let marks = entry.1.share()?;
             return Ok((key, marks));
         }
-        None => match Shared::new(alloc, tuple.copy(alloc)?) {
-            Ok(key) => return Ok((key, Marks::new())),
-            Err(_) => return Err(Memory),
-        },
+        None => return Ok((Handle::new(tuple.share()?), Marks::new())),
     }
 }
 
@@ -280,7 +274,7 @@ fn set<K: Ord + Share>(
 fn set_cells(
     cells: &mut TreeMap<Cell, Marks>,
     alloc: Global,
-    tuple: &Shared<Tuple>,
+    tuple: &Handle,
     marks: &Marks,
 ) -> Result<(), Memory>
     ensures ok { OnOk result
@@ -297,7 +291,7 @@ fn set_cells(
 fn set_cell(
     cells: &mut TreeMap<Cell, Marks>,
     alloc: Global,
-    tuple: &Shared<Tuple>,
+    tuple: &Handle,
     column: usize,
     marks: &Marks,
 ) -> Result<(), Memory>
@@ -319,16 +313,14 @@ fn based(
     cells: &mut TreeMap<Cell, Marks>,
     alloc: Global,
     tuple: &Tuple,
-) -> Result<(Shared<Tuple>, Marks), Memory>
+) -> Result<(Handle, Marks), Memory>
     ensures tuple { IfOk result (λ e. fact_of e.0 ≡ fact_of tuple.now) }
     ensures marks { IfOk result (λ e. e.1 ≡ base_marks) }
     ensures cells { OnOk result (CellsHave (fact_of tuple.now) (length (fact_of tuple.now).values)
         base_marks cells.old cells.new) }
 {
     let marks = Marks::based();
-    let Ok(key) = Shared::new(alloc, tuple.copy(alloc)?) else {
-        return Err(Memory);
-    };
+    let key = Handle::new(tuple.share()?);
     set_cells(cells, alloc, &key, &marks)?;
     Ok((key, marks))
 }
@@ -338,7 +330,7 @@ fn all_based(
     cells: &mut TreeMap<Cell, Marks>,
     alloc: Global,
     base: &[Tuple],
-) -> Result<Vec<(Shared<Tuple>, Marks)>, Memory>
+) -> Result<Vec<(Handle, Marks)>, Memory>
     requires empty { cells.old ≡ [] }
     ensures entries { IfOk result (λ es. AreBased (map fact_of base.now) es.items) }
     ensures index { IfOk result (λ es. IsIndex es.items cells.new) }
@@ -352,7 +344,7 @@ fn all_based(
 }
 
 // The tuple of a row.
-fn tuple_in(found: Option<&(Shared<Tuple>, Marks)>) -> Option<&Tuple>
+fn tuple_in(found: Option<&(Handle, Marks)>) -> Option<&Tuple>
     ensures { option_copied result ≡ option_map (λ e. e.0) (option_copied found.entry) }
 {
     match found {

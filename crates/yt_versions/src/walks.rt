@@ -7,16 +7,17 @@ ghost use Rattle.yt_versions.specs.Standing.{seen};
 ghost use Rattle.yt_versions.specs.Walks.{walked};
 
 use crate::below::Below;
+use crate::handles::Handle;
 use crate::marks::Marks;
 use std::marker::Model;
 use yt_base::Tuple;
-use yt_tree::{Cursor, Shared};
+use yt_tree::Cursor;
 
 /// A place among the tuples of a relation that an update sees, from which one steps on. Contracts see those that are still
 /// to come.
 #[derive(Drop)]
 pub struct Walk<'v> {
-    cursor: Cursor<'v, Shared<Tuple>, Marks>,
+    cursor: Cursor<'v, Handle, Marks>,
     number: u32,
     relation: u16,
     ended: bool,
@@ -78,11 +79,7 @@ impl<'v> Walk<'v> {
 }
 
 // The next tuple of the relation that the update sees.
-fn step<'v>(
-    cursor: &mut Cursor<'v, Shared<Tuple>, Marks>,
-    number: u32,
-    relation: u16,
-) -> Option<&'v Tuple>
+fn step<'v>(cursor: &mut Cursor<'v, Handle, Marks>, number: u32, relation: u16) -> Option<&'v Tuple>
     ensures some { IfSome result (λ t.
         walked relation number cursor.old ≡ fact_of t.now ∷ walked relation number cursor.new) }
     ensures none { IfNone result (walked relation number cursor.old ≡ []) }

@@ -1,9 +1,9 @@
-use Rattle.std.proofs.Common.{◌∙◌, ap, map, ◌&&◌, true}
+use Rattle.std.proofs.Common.{◌∙◌, ap, ◌&&◌, true}
 use Rattle.std.specs.Ordering.{is_le}
 use Rattle.yt_model.specs.Values.{fact_cmp}
 use Rattle.yt_model.specs.Cursors.{is_of, kept_if, first_of}
 use Rattle.yt_model.proofs.Ranges.{from_least, first_from}
-use Rattle.yt_base.specs.Meanings.{fact_of, datum_of}
+use Rattle.yt_base.specs.Meanings.{fact_of}
 use Rattle.yt_facts.proofs.Reading.{next_is_find}
 use Rattle.yt_facts.proofs.plain.PlainFactsFacts.first.Goals as goal
 
@@ -11,6 +11,6 @@ pub returns-clause-found : goal.returns-clause-found
 returns-clause-found c =
     c.of_relation.ensures.kept
     ∙ ap (kept_if (is_of c.args.relation))
-    (next_is_find _ (from_least c.args.relation) (λ k. ap (λ ds. is_le (fact_cmp (record { relation = c.args.relation; values = map datum_of ds }) (fact_of k)) && true) c.new.ensures.empty) c.self.inside.tuples.keys _ _ _ (c.range.ensures.between tt) c.next-found.ensures.steps)
+    (next_is_find _ (from_least c.args.relation) (λ k. ap (λ F. is_le (fact_cmp F (fact_of k)) && true) c.least-least.ensures.least) c.self.inside.tuples.keys _ _ _ (c.range.ensures.between tt) c.next-found.ensures.steps)
     ∙ first_from c.args.relation _ c.self.invariant
     ∙ ap (λ D. first_of D c.args.relation) c.self.view_is

@@ -1,0 +1,90 @@
+//! A tuple as a key of trees, which share it.
+ghost use Rattle.std.specs.Prelude.{◌≡◌, refl};
+ghost use Rattle.std.specs.Ordering.{on, as_partial_cmp, eq_by_cmp};
+ghost use Rattle.std.specs.Cmp.{on_total, eq_by_cmp_equiv, partial_equiv_from_equiv, po};
+ghost use Rattle.yt_model.specs.Values.{fact_cmp};
+ghost use Rattle.yt_base.specs.Meanings.{fact_of};
+ghost use Rattle.yt_model.proofs.Order.{fact_total};
+
+use std::alloc::AllocError;
+use std::cmp::Ordering;
+use std::marker::Model;
+use yt_base::Tuple;
+use yt_tree::Share;
+
+/// A handle of a tuple. Contracts see the tuple.
+#[derive(Drop)]
+pub struct Handle {
+    tuple: Tuple,
+}
+
+impl Model for Handle {
+    ghost use Rattle.yt_base.specs.declared.tuples.Tuple.{Tuple};
+
+    ghost Value = { Tuple };
+
+    ghost view = { λ h. h.tuple };
+}
+
+impl Handle {
+    /// A handle of the tuple.
+    pub fn new(tuple: Tuple) -> Handle
+        ensures same { result ≡ tuple }
+    {
+        Handle { tuple }
+    }
+
+    /// The tuple.
+    pub fn get(&self) -> &Tuple
+        ensures same { result.now ≡ self.now }
+    {
+        &self.tuple
+    }
+}
+
+impl Share for Handle {
+    fn share(&self) -> Result<Handle, AllocError> {
+        match self.tuple.share() {
+            Ok(tuple) => Ok(Handle { tuple }),
+            Err(_) => Err(AllocError),
+        }
+    }
+}
+
+impl PartialEq for Handle {
+    ghost eq = { eq_by_cmp (on fact_of fact_cmp) };
+
+    ghost laws = { partial_equiv_from_equiv (eq_by_cmp_equiv (on_total fact_of fact_total)) };
+
+    fn eq(&self, other: &Handle) -> bool {
+        self.cmp(other).is_eq()
+    }
+}
+
+impl Eq for Handle {
+    ghost laws = { eq_by_cmp_equiv (on_total fact_of fact_total) };
+}
+
+impl PartialOrd for Handle {
+    ghost partial_cmp = { as_partial_cmp (on fact_of fact_cmp) };
+
+    ghost laws = { po (on_total fact_of fact_total) (λ _ _. refl) };
+
+    fn partial_cmp(&self, other: &Handle) -> Option<Ordering> {
+        Some(self.cmp(other))
+    }
+}
+
+impl Ord for Handle {
+    ghost cmp = { on fact_of fact_cmp };
+
+    ghost total = { on_total fact_of fact_total };
+
+    ghost matches_partial_cmp = { λ _ _. refl };
+
+    ghost matches_eq = { λ _ _. refl };
+
+    fn cmp(&self, other: &Handle) -> Ordering {
+        self.tuple.cmp(&other.tuple)
+    }
+}
