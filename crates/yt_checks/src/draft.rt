@@ -15,7 +15,7 @@ use crate::updates::Updates;
 use std::alloc::Global;
 use std::marker::Model;
 use yt_base::{List, MappingList, Memory};
-use yt_facts::PlainFacts;
+use yt_facts::RisingFacts;
 use yt_forms::RawStatement;
 use yt_schema::Schema;
 use yt_session::Session;
@@ -26,7 +26,7 @@ pub struct Draft {
     format: u8,
     schema: Schema,
     mappings: MappingList,
-    base: PlainFacts,
+    base: RisingFacts,
     updates: Updates,
 }
 
@@ -51,7 +51,7 @@ impl Draft {
             format,
             schema: Schema::new(alloc),
             mappings: List::new(alloc),
-            base: PlainFacts::new(alloc),
+            base: RisingFacts::new(alloc),
             updates: Updates::new(alloc),
         }
     }

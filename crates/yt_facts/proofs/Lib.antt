@@ -12,3 +12,4 @@ pub mod Related
 pub mod Beginning
 pub mod AtHand
 pub mod Few
+pub mod Behind

@@ -7,8 +7,10 @@ mod indexed;
 mod overlay;
 mod plain;
 mod relations;
+mod rising;
 mod scanned;
 
 pub use crate::indexed::IndexedFacts;
 pub use crate::overlay::Overlay;
 pub use crate::plain::PlainFacts;
+pub use crate::rising::RisingFacts;

@@ -65,6 +65,7 @@ impl PlainFacts {
         ensures ok { OnOk result (self.new ≡ change self.old (Insert (fact_of tuple))) }
         ensures given_back { IfErr result (λ refused. refused.0 ≡ tuple) }
         ensures err { OnErr result (self.new ≡ self.old) }
+        ensures in_order { IsRepository self.new }
     {
         match self.tuples.insert(tuple) {
             Ok(added) => return Ok(added),

@@ -14,7 +14,7 @@ use crate::limits::{arity_of, has_relation, most_relations, most_tuples};
 use crate::mappings::{has_mapping, mapping_of, mappings_full};
 use crate::refusals::{TakeRefusal, limit};
 use std::alloc::Global;
-use yt_base::{Facts, Mapping, Name};
+use yt_base::{Mapping, Name};
 use yt_forms::{RawFact, RawMapping};
 use yt_schema::{SchemaRefusal, Which};
 
@@ -86,7 +86,7 @@ impl Draft {
         ensures err { OnErr result (self.new ≡ self.old) }
     {
         let tuple = bounded_fact(alloc, &self.schema, 0, fact)?;
-        if most_tuples(self.format) <= self.base.len() && !self.base.contains(&tuple) {
+        if most_tuples(self.format) <= self.base.len() && !self.base.find(&tuple)? {
             return Err(limit(Which::Base));
         }
         self.base.insert(tuple)?;

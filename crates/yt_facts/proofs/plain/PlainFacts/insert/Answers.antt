@@ -17,3 +17,6 @@ returns-in-Ok-clause-ok c =
     ap (map fact_of) c.in-Ok.ensures.keys
     ∙ insert_mapped c.args.tuple c.self.inside.tuples.keys
     ∙ ap (λ D. change D (Insert (fact_of c.args.tuple))) c.self.view_is
+
+pub returns-in-Ok-clause-in_order : goal.returns-in-Ok-clause-in_order
+returns-in-Ok-clause-in_order c = sorted_mapped _ c.insert.ensures.ordered
