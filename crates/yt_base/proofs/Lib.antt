@@ -7,3 +7,4 @@ pub mod Images
 pub mod Gathering
 pub mod Turns
 pub mod NextCandidates
+pub mod Sent

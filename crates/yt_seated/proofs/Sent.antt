@@ -4,7 +4,7 @@ use denote.Param.SendFields.{declared_send}
 use denote.Ref.{NamedLft}
 use Rattle.std.proofs.Crossing.{crosses}
 use Rattle.yt_versions.proofs.Sent.{versions_send}
-use Rattle.yt_base.specs.contracts.tuples.Tuple as tuples
+use Rattle.yt_base.proofs.Sent.{tuple_send}
 use Rattle.yt_base.specs.contracts.updates.Operation as operations
 use Rattle.yt_query.specs.contracts.log.LoggedRead as reads
 use Rattle.yt_chase.specs.contracts.repairs.Repair as repairs
@@ -19,10 +19,7 @@ use Rattle.yt_core.specs.contracts.cores.Core as core
 use Rattle.yt_seated.specs.contracts.seated.Seated as seated
 
 operation_send : IsSend operations.the_row
-operation_send = search (sendable, crosses) depth 60 fits 6000
-
-tuple_send : IsSend tuples.the_row
-tuple_send = search (sendable, crosses) depth 60 fits 6000
+operation_send = search (sendable, crosses, tuple_send) depth 60 fits 6000
 
 repair_send : IsSend repairs.the_row
 repair_send = search (sendable, crosses, tuple_send) depth 60 fits 6000
@@ -32,7 +29,7 @@ point_send = search (sendable, crosses, tuple_send, repair_send) depth 60 fits 6
 
 -- The writes, which copies of a program share.
 own_inside_send : IsSend own_inside.the_row
-own_inside_send = search (sendable, crosses) depth 60 fits 6000
+own_inside_send = search (sendable, crosses, tuple_send) depth 60 fits 6000
 
 own_send : IsSend own.the_row
 own_send = view_send _ _ _ _ _ own_inside_send
@@ -45,13 +42,13 @@ program_send : IsSend programs.the_row
 program_send = view_send _ _ _ _ _ inside_send
 
 read_send : IsSend reads.the_row
-read_send = search (sendable, crosses) depth 60 fits 6000
+read_send = search (sendable, crosses, tuple_send) depth 60 fits 6000
 
 record_send : IsSend records.the_row
 record_send = search (sendable, crosses, read_send, program_send) depth 60 fits 6000
 
 entry_send : IsSend entries.the_row
-entry_send = search (sendable, crosses) depth 60 fits 6000
+entry_send = search (sendable, crosses, tuple_send) depth 60 fits 6000
 
 core_send : (κ : NamedLft) → IsSend (core.the_row κ)
 core_send κ = search (sendable, crosses, versions_send, record_send, entry_send) depth 60 fits 6000

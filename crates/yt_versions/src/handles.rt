@@ -36,7 +36,7 @@ impl Handle {
 
     /// The tuple.
     pub fn get(&self) -> &Tuple
-        ensures same { result.now ≡ self.now }
+        ensures { result.now ≡ self.now }
     {
         &self.tuple
     }

@@ -9,5 +9,5 @@ returns-in-Some-clause-tuple c = ap fact_of c.in_ok-key-in-Some.ensures.same ∙
 pub returns-in-Some-clause-marks : goal.returns-in-Some-clause-marks
 returns-in-Some-clause-marks c = c.in_ok-marks-in-Some.ensures.same ∙ held_marks (fact_of c.args.tuple.now) refl c.in-Some.ensures.found
 
-pub returns-in-Ok-clause-marks : goal.returns-in-Ok-clause-marks
-returns-in-Ok-clause-marks c = c.new-in-Ok.ensures.none ∙ held_marks (fact_of c.args.tuple.now) refl c.in-None.ensures.found
+pub returns-in-None-clause-marks : goal.returns-in-None-clause-marks
+returns-in-None-clause-marks c = c.new-in-None.ensures.none ∙ held_marks (fact_of c.args.tuple.now) refl c.in-None.ensures.found
