@@ -141,8 +141,7 @@ impl Program {
                 self.hand = hand;
                 Ok(())
             }
-            Point::Ended(_) => unreachable!(),
-            Point::Reading(_) => unreachable!(),
+            _ => unreachable!(),
         }
     }
 
@@ -227,9 +226,7 @@ impl Program {
                 }
                 Ok(())
             }
-            Point::Start => unreachable!(),
-            Point::Look => unreachable!(),
-            Point::Ended(_) => unreachable!(),
+            _ => unreachable!(),
         }
     }
 
@@ -260,10 +257,7 @@ impl Program {
                 }
                 Ok(())
             }
-            Point::Start => unreachable!(),
-            Point::Look => unreachable!(),
-            Point::Ended(_) => unreachable!(),
-            Point::Reading(_) => unreachable!(),
+            _ => unreachable!(),
         }
     }
 
