@@ -1,29 +1,14 @@
 //! The end of the step of an insertion or a deletion, once it is known whether its tuple is there.
-ghost use Rattle.std.specs.Prelude.{◌≡◌, ◌↔◌, IsTrue, OnOk, OnErr};
+ghost use Rattle.std.specs.Prelude.{◌≡◌, OnOk, OnErr};
 ghost use Rattle.std.specs.Option.{option_map};
 ghost use Rattle.yt_base.specs.Meanings.{fact_of, operation_of};
 ghost use Rattle.yt_query.specs.Meanings.{query_of};
 ghost use Rattle.yt_program.specs.PointMeanings.{HasWritten, IsWriting, tuple_asked_at, tuple_at, tuple_in};
 
 use crate::points::Point;
-use crate::rows::Row;
 use std::mem;
 use yt_base::{Memory, Operation, Tuple, Write, WriteList};
 use yt_query::Query;
-
-/// Whether it is asked whether the operation's tuple is there.
-pub(crate) fn is_writing(row: &Row) -> bool
-    ensures answer { IsTrue result ↔ (row.now ≡ Row.Writing) }
-{
-    match row {
-        Row::Writing => true,
-        Row::Naming(_) => false,
-        Row::Replacing(_) => false,
-        Row::Renaming { .. } => false,
-        Row::Forcing(_) => false,
-        Row::Violating(_) => false,
-    }
-}
 
 /// An insertion writes the tuple that is asked about where it is not there, a deletion where it is, behind the own writes.
 /// A look comes next. It is refused only for want of memory; everything is then unchanged.
