@@ -29,13 +29,13 @@ pub(crate) fn plan(
     ensures nulls { IfOk result (λ plan.
         map null_of plan.1.items ≡ nulls_moved_with tuple.now candidates.now form.now) }
 {
-    let sub = unifier(alloc, tuple, chosen_of(tuple, candidates, form))?;
+    let sub = unifier(alloc, tuple, named_candidate(tuple, candidates, form))?;
     let nulls = moved_nulls(alloc, &sub, tuple)?;
     Ok((sub, nulls.into_vec()))
 }
 
-// The candidate of this form, as the steps of the chase define it: where none has the form, the tuple itself.
-fn chosen_of<'a>(tuple: &'a Tuple, candidates: &'a TupleList, form: &Tuple) -> &'a Tuple
+// The candidate that the form names. As the steps of the chase define it, that is the tuple itself where none has the form.
+fn named_candidate<'a>(tuple: &'a Tuple, candidates: &'a TupleList, form: &Tuple) -> &'a Tuple
     ensures { fact_of result.now ≡ chosen_candidate (fact_of tuple.now)
         (facts_of candidates.now) (fact_of form.now) }
 {

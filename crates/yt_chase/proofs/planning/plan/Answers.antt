@@ -11,14 +11,14 @@ use Rattle.yt_chase.proofs.planning.plan.Goals as goal
 pub unifier-requires : goal.unifier-requires
 unifier-requires c =
     let t = fact_of c.args.tuple.now in
-    subst (λ (s : Fact). more_specific s t ≡ true) (sym c.chosen_of.ensures)
+    subst (λ (s : Fact). more_specific s t ≡ true) (sym c.named_candidate.ensures)
     (candidate_specific t (map fact_of c.args.candidates.now.items) (fact_of c.args.form.now) c.requires)
 
 pub returns-clause-unifier : goal.returns-clause-unifier
-returns-clause-unifier c = c.in_ok-sub.ensures.value ∙ ap (unifier (fact_of c.args.tuple.now)) c.chosen_of.ensures
+returns-clause-unifier c = c.in_ok-sub.ensures.value ∙ ap (unifier (fact_of c.args.tuple.now)) c.named_candidate.ensures
 
 pub returns-clause-nulls : goal.returns-clause-nulls
 returns-clause-nulls c =
     let t = fact_of c.args.tuple.now in
     ap (map null_of) c.into_vec.ensures.same ∙ c.in_ok-nulls.ensures.value
-    ∙ ap (λ f. filter (moves f) (sorted_nulls (nulls_in t.values))) (c.in_ok-sub.ensures.value ∙ ap (unifier t) c.chosen_of.ensures)
+    ∙ ap (λ f. filter (moves f) (sorted_nulls (nulls_in t.values))) (c.in_ok-sub.ensures.value ∙ ap (unifier t) c.named_candidate.ensures)
