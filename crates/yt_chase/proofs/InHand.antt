@@ -5,7 +5,6 @@ use Rattle.yt_model.specs.Unifier.{unifier}
 use Rattle.yt_base.specs.Meanings.{fact_of}
 use Rattle.yt_base.specs.declared.tuples.Tuple.{Tuple}
 use Rattle.yt_base.specs.Listed.{Listed}
-use Rattle.yt_frontier.specs.declared.questions.Question.{Question}
 use Rattle.yt_frontier.specs.declared.questions.Question.TheVariants.{Positive}
 use Rattle.yt_steps.specs.Questions.{candidate}
 use Rattle.yt_chase.specs.declared.stages.Generation.{Generation}
@@ -16,7 +15,7 @@ use Rattle.yt_chase.specs.Stages.{repairing_of}
 use Rattle.yt_chase.specs.Bound.{unifier_in}
 use Rattle.std.specs.Prelude.{ℕ}
 
-pub unifier_is : (g : Generation) (s : Stage) (q : Question) (n : ℕ) (t : Tuple) (cs : Listed Tuple) (o : Fact) (f : Datum → Datum)
-    → s ≡ Waiting q → q ≡ Positive n t cs → f ≡ unifier (fact_of t) (candidate (fact_of t) (map fact_of cs.items) o)
+pub unifier_is : (g : Generation) (s : Stage) (n : ℕ) (t : Tuple) (cs : Listed Tuple) (o : Fact) (f : Datum → Datum)
+    → s ≡ Waiting (Positive n t cs) → f ≡ unifier (fact_of t) (candidate (fact_of t) (map fact_of cs.items) o)
     → f ≡ unifier_in (phase_of (repairing_of g s)) o
-unifier_is g s q n t cs o f a b e = e ∙ sym (ap (λ (x : Stage). unifier_in (phase_of (repairing_of g x)) o) (a ∙ ap Waiting b))
+unifier_is g s n t cs o f a e = e ∙ sym (ap (λ (x : Stage). unifier_in (phase_of (repairing_of g x)) o) a)

@@ -1,27 +1,25 @@
 -- The step of an answer `unify`, by the substitution that the program has for the unifier.
 use Rattle.std.proofs.Common.{◌≡◌, ℕ, ◌<◌, ap, sym, ◌∙◌, List, [], ◌∷◌, ◌++◌, map, length, get_or, Some, refl, arith}
 use Rattle.std.specs.List.{flat_map, remove}
-use Rattle.yt_machine.specs.Trees.{Node}
 use Rattle.yt_model.specs.Values.{NullName, Datum, Fact}
 use Rattle.yt_model.specs.Repository.{Change}
 use Rattle.yt_model.specs.Mappings.{Rule}
 use Rattle.yt_model.specs.Queries.{Occurs}
 use Rattle.yt_model.specs.Unifier.{unifier}
-use Rattle.yt_model.specs.Updates.{Unify}
+use Rattle.yt_model.specs.Updates.{Choice, Unify}
 use Rattle.yt_base.specs.Listed.{Listed}
 use Rattle.yt_base.specs.declared.nulls.Null.{Null}
 use Rattle.yt_base.specs.declared.tuples.Tuple.{Tuple}
 use Rattle.yt_base.specs.Meanings.{null_of, fact_of}
 use Rattle.yt_base.specs.Maps.{images_of, moved_by}
-use Rattle.yt_frontier.specs.declared.questions.Question.{Question}
 use Rattle.yt_frontier.specs.declared.questions.Question.TheVariants.{Positive}
 use Rattle.yt_steps.specs.Attempts.{Repair, Phase, Asked, Attempt, Positive as PositiveMeant}
 use Rattle.yt_steps.specs.Questions.{candidate}
 use Rattle.yt_steps.specs.Rewriting.{in_order, rewrite, moved_nulls, next_atom}
-use Rattle.yt_steps.specs.Steps.{makes, tuples_of, gather, unify, step_in}
+use Rattle.yt_steps.specs.Steps.{makes, gather, unify, step_in}
 use Rattle.yt_chase.specs.Repairs.{Gathering, Unifying as UnifyingMeant, phase_of, tree_in, unified, moved_repair}
 use Rattle.yt_chase.specs.Stands.{Stand, Within, Moved, settled}
-use Rattle.yt_chase.specs.Stages.{gathering_of, repair_of, repairing_of}
+use Rattle.yt_chase.specs.Stages.{gathering_of, repair_of, repairing_of, AsksFirst}
 use Rattle.yt_chase.specs.declared.stages.Gathering.{Gathering as Collected}
 use Rattle.yt_chase.specs.declared.stages.Generation.{Generation}
 use Rattle.yt_chase.specs.declared.stages.Stage.{Stage}
@@ -33,47 +31,50 @@ by_unifier : (ms : List Rule) (r : Repair) (t c : Fact) (f : Datum → Datum) (n
 by_unifier ms r t c f ns e h = λ i. gather (h i) (λ ts. makes (rewrite (e i) (in_order ts)) (next_atom ms (moved_repair (e i) r)))
 
 -- What the definition says of the answer at a stage.
-abbrev pub said : List Rule → List Change → Generation → Stage → Fact → Attempt → Stand
-said ms own g stage o P = settled own (phase_of (repairing_of g stage)) (step_in ms P (Some (Unify o)) (phase_of (repairing_of g stage)))
+abbrev pub said : List Rule → List Change → Generation → Stage → Choice → Attempt → Stand
+said ms own g stage c P = settled own (phase_of (repairing_of g stage)) (step_in ms P (Some c) (phase_of (repairing_of g stage)))
 
-at_question : (ms : List Rule) (own : List Change) (g : Generation) (stage : Stage) (q : Question) (m : ℕ) (t : Tuple) (cs : Listed Tuple) (o : Fact) (P : Attempt) → stage ≡ Waiting q → q ≡ Positive m t cs
-    → said ms own g stage o P
+at_question : (ms : List Rule) (own : List Change) (g : Generation) (stage : Stage) (m : ℕ) (t : Tuple) (cs : Listed Tuple) (c : Choice) (o : Fact) (P : Attempt) → stage ≡ Waiting (Positive m t cs) → c ≡ Unify o
+    → said ms own g stage c P
     ≡ settled own (Asked (PositiveMeant (repair_of g) (fact_of t) (map fact_of cs.items))) (unify ms (repair_of g) (fact_of t) (candidate (fact_of t) (map fact_of cs.items) o))
-at_question ms own g stage q m t cs o P is pos = ap (λ k. said ms own g k o P) (is ∙ ap Waiting pos)
+at_question ms own g stage m t cs c o P is e = λ i. said ms own g (is i) (e i) P
 
 no_nulls : (ns : List Null) → length ns ≡ 0 → map null_of ns ≡ []
 no_nulls [] e = refl
 no_nulls (n ∷ ns) e = absurd (omega arith)
 
 -- Where no null moves the step ends at once.
-pub ends_at_once : (ms : List Rule) (own own' : List Change) (g : Generation) (stage : Stage) (q : Question) (m : ℕ) (t : Tuple) (cs : Listed Tuple) (o : Fact) (f : Datum → Datum) (ns : List Null) (es : List Tuple) (ph : Phase) → stage ≡ Waiting q → q ≡ Positive m t cs
+pub ends_at_once : (ms : List Rule) (own own' : List Change) (g : Generation) (stage : Stage) (m : ℕ) (t : Tuple) (cs : Listed Tuple) (c : Choice) (o : Fact) (f : Datum → Datum) (ns : List Null) (es : List Tuple) (ph : Phase) → stage ≡ Waiting (Positive m t cs) → c ≡ Unify o
     → f ≡ unifier (fact_of t) (candidate (fact_of t) (map fact_of cs.items) o) → map null_of ns ≡ moved_nulls (fact_of t) (candidate (fact_of t) (map fact_of cs.items) o) → length ns ≡ 0 → es ≡ []
-    → own' ≡ own ++ rewrite f (map fact_of es) → ph ≡ next_atom ms (moved_repair f (repair_of g)) → (P : Attempt) → Moved own' ph 0 ≡ said ms own g stage o P
-ends_at_once ms own own' g stage q m t cs o f ns es ph is pos e h none empty w p P =
+    → own' ≡ own ++ rewrite f (map fact_of es) → ph ≡ next_atom ms (moved_repair f (repair_of g)) → (P : Attempt) → Moved own' ph 0 ≡ said ms own g stage c P
+ends_at_once ms own own' g stage m t cs c o f ns es ph is chosen e h none empty w p P =
     let tf : Fact = fact_of t in
-    let c : Fact = candidate tf (map fact_of cs.items) o in
+    let s : Fact = candidate tf (map fact_of cs.items) o in
     let written : own' ≡ own ++ rewrite f [] = w ∙ ap (λ (l : List Tuple). own ++ rewrite f (map fact_of l)) empty in
     (λ i. Moved (written i) (p i) 0)
-    ∙ ap (settled own (Asked (PositiveMeant (repair_of g) tf (map fact_of cs.items)))) (by_unifier ms (repair_of g) tf c f [] e (sym (no_nulls ns none) ∙ h))
-    ∙ sym (at_question ms own g stage q m t cs o P is pos)
+    ∙ ap (settled own (Asked (PositiveMeant (repair_of g) tf (map fact_of cs.items)))) (by_unifier ms (repair_of g) tf s f [] e (sym (no_nulls ns none) ∙ h))
+    ∙ sym (at_question ms own g stage m t cs c o P is chosen)
 
-asked_first : (own : List Change) (p : Phase) (ms : List Rule) (r : Repair) (images : List (NullName × Datum)) (ns later : List Null) (n : Null) → 0 < length ns → n ≡ get_or ns 0 n → later ≡ remove ns 0
-    → Within own p (Node (Occurs n.update n.place) (λ a. gather (map null_of later) (λ ts. unified ms r images (tuples_of a ++ ts)))) ≡ settled own p (gather (map null_of ns) (λ ts. unified ms r images ts))
-asked_first own p ms r images [] later n l e h = absurd (omega arith)
-asked_first own p ms r images (x ∷ xs) later n l e h = λ i. Within own p (Node (Occurs (e i).update (e i).place) (λ a. gather (map null_of (h i)) (λ ts. unified ms r images (tuples_of a ++ ts))))
+-- The first null that moves is asked for.
+pub begun : (images : List (NullName × Datum)) (ns later : List Null) (n : Null) (fs : List (Listed Tuple)) (G : Gathering) → 0 < length ns → n ≡ get_or ns 0 n → later ≡ remove ns 0 → fs ≡ []
+    → G ≡ record { images = images; query = Occurs n.update n.place; later = map null_of later; found = flat_map (λ l. map fact_of l.items) fs } → AsksFirst images (map null_of ns) G
+begun images [] later n fs G long first rest none whole = absurd (omega arith)
+begun images (x ∷ xs) later n fs G long first rest none whole =
+    whole ∙ (λ i. record { images = images; query = Occurs (first i).update (first i).place; later = map null_of (rest i); found = flat_map (λ l. map fact_of l.items) (none i) })
 
--- Else the first null that moves is asked for.
-pub asks_first : (ms : List Rule) (own : List Change) (g : Generation) (stage after : Stage) (q : Question) (m : ℕ) (t : Tuple) (cs : Listed Tuple) (o : Fact) (images : List (NullName × Datum)) (ns later : List Null) (n : Null) (fs : List (Listed Tuple)) (G : Collected) → stage ≡ Waiting q → q ≡ Positive m t cs
+asked_first : (own : List Change) (p : Phase) (ms : List Rule) (r : Repair) (t : Fact) (cs : List Fact) (images : List (NullName × Datum)) (ns : List NullName) (G : Gathering) → AsksFirst images ns G
+    → Within own p (tree_in ms (UnifyingMeant r t cs G)) ≡ settled own p (gather ns (λ ts. unified ms r images ts))
+asked_first own p ms r t cs images [] G b = absurd b
+asked_first own p ms r t cs images (n ∷ ns) G b = ap (λ (K : Gathering). Within own p (tree_in ms (UnifyingMeant r t cs K))) b
+
+-- So the step of the answer is within its first query.
+pub asks_first : (ms : List Rule) (own : List Change) (g : Generation) (stage after : Stage) (m : ℕ) (t : Tuple) (cs : Listed Tuple) (c : Choice) (o : Fact) (images : List (NullName × Datum)) (ns : List Null) (G : Collected) → stage ≡ Waiting (Positive m t cs) → c ≡ Unify o
     → moved_by (images_of images) ≡ unifier (fact_of t) (candidate (fact_of t) (map fact_of cs.items) o) → map null_of ns ≡ moved_nulls (fact_of t) (candidate (fact_of t) (map fact_of cs.items) o)
-    → 0 < length ns → n ≡ get_or ns 0 n → later ≡ remove ns 0 → fs ≡ [] → gathering_of G ≡ record { images = images; query = Occurs n.update n.place; later = map null_of later; found = flat_map (λ l. map fact_of l.items) fs }
-    → after ≡ Unifying q G → (P : Attempt) → Within own (phase_of (repairing_of g after)) (tree_in ms (repairing_of g after)) ≡ said ms own g stage o P
-asks_first ms own g stage after q m t cs o images ns later n fs G is pos e h long first rest none whole on P =
+    → AsksFirst images (map null_of ns) (gathering_of G) → after ≡ Unifying (Positive m t cs) G → (P : Attempt) → Within own (phase_of (repairing_of g after)) (tree_in ms (repairing_of g after)) ≡ said ms own g stage c P
+asks_first ms own g stage after m t cs c o images ns G is chosen e h first on P =
     let tf : Fact = fact_of t in
     let p : Phase = Asked (PositiveMeant (repair_of g) tf (map fact_of cs.items)) in
-    let start : Gathering = record { images = images; query = Occurs n.update n.place; later = map null_of later; found = [] } in
-    let begun : gathering_of G ≡ start = whole ∙ ap (λ (l : List (Listed Tuple)). record { images = images; query = Occurs n.update n.place; later = map null_of later; found = flat_map (λ a. map fact_of a.items) l }) none in
-    ap (λ k. Within own (phase_of (repairing_of g k)) (tree_in ms (repairing_of g k))) (on ∙ ap (λ k. Unifying k G) pos)
-    ∙ ap (λ (K : Gathering). Within own p (tree_in ms (UnifyingMeant (repair_of g) tf (map fact_of cs.items) K))) begun
-    ∙ asked_first own p ms (repair_of g) images ns later n long first rest
+    ap (λ k. Within own (phase_of (repairing_of g k)) (tree_in ms (repairing_of g k))) on
+    ∙ asked_first own p ms (repair_of g) tf (map fact_of cs.items) images (map null_of ns) (gathering_of G) first
     ∙ ap (settled own p) (by_unifier ms (repair_of g) tf (candidate tf (map fact_of cs.items) o) (moved_by (images_of images)) (map null_of ns) e h)
-    ∙ sym (at_question ms own g stage q m t cs o P is pos)
+    ∙ sym (at_question ms own g stage m t cs c o P is chosen)

@@ -1,7 +1,8 @@
 -- What the parts of a `Repair` stand for, and what is true of them.
-use Rattle.std.specs.Prelude.{◌≡◌, ℕ, true, false, List, [], map}
+use Rattle.std.specs.Prelude.{◌≡◌, ℕ, true, false, List, [], ◌∷◌, map}
 use Rattle.std.specs.List.{list_all, flat_map}
-use Rattle.yt_model.specs.Values.{Fact}
+use Rattle.yt_model.specs.Values.{NullName, Datum, Fact}
+use Rattle.yt_model.specs.Queries.{Occurs as OccursMeant}
 use Rattle.yt_model.specs.Specific.{more_specific}
 use Rattle.yt_model.specs.Mappings.{Rule}
 use Rattle.yt_base.specs.Contents.{changes_of}
@@ -41,6 +42,11 @@ gathering_of g =
 abbrev pub HasKept : Gathering → List Fact → Gathering → Type 0
 HasKept g ts g' = gathering_of g' ≡ meant.asking_next (gathering_of g).later (gathering_of g) ts
 
+-- The step of `unify` by these images asks for the first of these nulls.
+abbrev pub AsksFirst : List (NullName × Datum) → List NullName → meant.Gathering → Type 0
+AsksFirst images [] G = ⊥
+AsksFirst images (n ∷ ns) G = G ≡ record { images = images; query = OccursMeant n.update n.place; later = ns; found = [] }
+
 -- The step of a generation with this query.
 abbrev pub querying : Repair → Query → meant.Repairing
 querying r (Present t) = meant.Checking r (fact_of t)
@@ -70,38 +76,10 @@ repairing_of g Repaired = meant.Repaired
 abbrev pub SameRepair : Generation → Stage → Generation → Stage → Type 0
 SameRepair g s g' s' = repairing_of g' s' ≡ repairing_of g s
 
--- The query for tuples that are more specific than one, and that tuple.
-abbrev pub IsSpecific : Query → Type 0
-IsSpecific (Present t) = ⊥
-IsSpecific (Violation n) = ⊥
-IsSpecific (Specific t) = Unit {0}
-IsSpecific (Occurs u k) = ⊥
-
-abbrev pub tuple_asked : Query → Fact
-tuple_asked (Present t) = fact_of t
-tuple_asked (Violation n) = record { relation = 0; values = [] }
-tuple_asked (Specific t) = fact_of t
-tuple_asked (Occurs u k) = record { relation = 0; values = [] }
-
 -- The end of a generation's step, by these more specific tuples, after these own writes.
 abbrev pub HasCompared : List Rule → List Fact → Listed Write → Generation → Fact → Listed Write → meant.Repairing → Type 0
 HasCompared ms candidates own g t own' s' =
     stand ms false (changes_of own') s' ≡ settled (changes_of own) (Generate (repair_of g)) (compared ms (repair_of g) t candidates)
-
--- A generation asks for tuples that are more specific than its tuple, and that tuple.
-abbrev pub IsComparing : Stage → Type 0
-IsComparing Generating = ⊥
-IsComparing (Querying q) = IsSpecific q
-IsComparing (Waiting q) = ⊥
-IsComparing (Unifying q u) = ⊥
-IsComparing Repaired = ⊥
-
-abbrev pub tuple_at : Stage → Fact
-tuple_at Generating = record { relation = 0; values = [] }
-tuple_at (Querying q) = tuple_asked q
-tuple_at (Waiting q) = record { relation = 0; values = [] }
-tuple_at (Unifying q u) = record { relation = 0; values = [] }
-tuple_at Repaired = record { relation = 0; values = [] }
 
 -- A generation asks whether its tuple is present, or for more specific ones.
 abbrev pub IsOfGeneration : Query → Type 0

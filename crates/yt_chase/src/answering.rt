@@ -1,19 +1,17 @@
 //! How a step goes on by the answer to its query.
 ghost use Rattle.std.specs.Prelude.{◌≡◌, IfOk, OnErr};
-ghost use Rattle.yt_base.specs.declared.tuples.Tuple.{Tuple};
 ghost use Rattle.yt_query.specs.Meanings.{reply_of};
 ghost use Rattle.yt_chase.specs.Stands.{wanted, TakesReply};
 ghost use Rattle.yt_chase.specs.Stages.{repairing_of, IsSound, SameRepair};
 ghost use Rattle.yt_chase.specs.Transitions.{AsksAs, HasAnswered};
 
 use crate::answers::{is_yes, tuples_of};
-use crate::comparing::compared;
+use crate::comparing::{compared, taken};
 use crate::generating::go_on;
 use crate::stages::{Generation, Stage};
 use crate::unifying::{all_found, ask_next, unify};
 use crate::wants::Progress;
 use std::alloc::Global;
-use std::mem;
 use yt_base::{Memory, WriteList};
 use yt_limits::Mappings;
 use yt_query::{Answer, Query};
@@ -40,17 +38,17 @@ pub(crate) fn answered(
     ensures own { OnErr result (own.new.items ≡ own.old.items) }
 {
     match stage {
-        Stage::Querying(Query::Present(_)) => {
+        Stage::Querying(Query::Present(tuple)) => {
             if is_yes(answer) {
                 *stage = go_on(generation, mappings);
                 Ok(Progress::Ends)
             } else {
-                *stage = compare(mem::replace(stage, Stage::Repaired));
+                *stage = Stage::Querying(Query::Specific(taken(alloc, tuple)));
                 Ok(Progress::Asks)
             }
         }
-        Stage::Querying(Query::Specific(_)) => {
-            compared(alloc, generation, stage, own, tuples_of(answer), mappings)?;
+        Stage::Querying(Query::Specific(tuple)) => {
+            *stage = compared(alloc, generation, own, tuple, tuples_of(answer), mappings)?;
             Ok(Progress::Ends)
         }
         Stage::Unifying(_, gathering) => {
@@ -64,21 +62,6 @@ pub(crate) fn answered(
                 Ok(Progress::Asks)
             }
         }
-        Stage::Querying(Query::Violation(_)) => unreachable!(),
-        Stage::Querying(Query::Occurs(_, _)) => unreachable!(),
-        Stage::Generating => unreachable!(),
-        Stage::Waiting(_) => unreachable!(),
-        Stage::Repaired => unreachable!(),
-    }
-}
-
-// The stage that asks for more specific tuples, after the one that asks whether the tuple is present.
-fn compare(stage: Stage) -> Stage
-    ensures { (t : Tuple) → stage ≡ Stage.Querying (Query.Present t) →
-        result ≡ Stage.Querying (Query.Specific t) }
-{
-    match stage {
-        Stage::Querying(Query::Present(tuple)) => Stage::Querying(Query::Specific(tuple)),
-        other => other,
+        _ => unreachable!(),
     }
 }

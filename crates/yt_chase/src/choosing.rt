@@ -1,11 +1,12 @@
 //! The step of the answer to a question.
-ghost use Rattle.std.specs.Prelude.{◌≡◌, IfOk, OnErr};
-ghost use Rattle.yt_model.specs.Updates.{Expand, Unify, Drop as DropThese};
-ghost use Rattle.yt_base.specs.Contents.{facts_of};
-ghost use Rattle.yt_base.specs.Meanings.{fact_of, choice_of};
+ghost use Rattle.std.specs.Prelude.{◌≡◌, ◌<◌, ◌++◌, length, map, IfOk, OnOk, OnErr};
+ghost use Rattle.yt_model.specs.Repository.{Delete};
+ghost use Rattle.yt_base.specs.Contents.{changes_of, facts_of};
+ghost use Rattle.yt_base.specs.Meanings.{choice_of, null_of};
 ghost use Rattle.yt_frontier.specs.declared.questions.Question.{Question as QuestionOfProgram};
+ghost use Rattle.yt_steps.specs.Questions.{named};
 ghost use Rattle.yt_chase.specs.Stands.{wanted, TakesChoice};
-ghost use Rattle.yt_chase.specs.Stages.{repairing_of, IsSound, SameRepair};
+ghost use Rattle.yt_chase.specs.Stages.{gathering_of, repairing_of, AsksFirst, IsSound, SameRepair};
 ghost use Rattle.yt_chase.specs.Transitions.{AsksAs, HasChosen};
 
 use crate::generating::go_on;
@@ -17,7 +18,7 @@ use crate::wants::Progress;
 use crate::writes::{append, insert};
 use std::alloc::Global;
 use std::mem;
-use yt_base::{Choice, List, Memory, Tuple, TupleList, WriteList};
+use yt_base::{Choice, List, Memory, Null, Sub, TupleList, WriteList};
 use yt_frontier::{Question, named_tuples};
 use yt_limits::Mappings;
 use yt_query::Query;
@@ -44,86 +45,54 @@ pub(crate) fn chosen(
     ensures err { OnErr result (SameRepair generation.old stage.old generation.new stage.new) }
     ensures own { OnErr result (own.new.items ≡ own.old.items) }
 {
-    match choice {
-        Choice::Expand => expand(alloc, generation, stage, own, mappings),
-        Choice::Unify(form) => begin_unifying(alloc, generation, stage, own, form, mappings),
-        Choice::Delete(forms) => delete(alloc, generation, stage, own, forms, mappings),
+    match (&*stage, choice) {
+        (Stage::Waiting(Question::Positive { tuple, .. }), Choice::Expand) => {
+            insert(alloc, own, tuple)?;
+            *stage = go_on(generation, mappings);
+            Ok(Progress::Ends)
+        }
+        (
+            Stage::Waiting(
+                Question::Positive {
+                    tuple,
+                    candidates,
+                    ..
+                },
+            ),
+            Choice::Unify(form),
+        ) => {
+            let (sub, nulls) = plan(alloc, tuple, candidates, form)?;
+            if nulls.is_empty() {
+                let found = TupleList::new(alloc);
+                *stage = unify(alloc, generation, own, &sub, &found, mappings)?;
+                Ok(Progress::Ends)
+            } else {
+                let gathering = first_asked(alloc, sub, nulls);
+                *stage = unifying(mem::replace(stage, Stage::Repaired), gathering);
+                Ok(Progress::Asks)
+            }
+        }
+        (Stage::Waiting(Question::Negative { tuples, .. }), Choice::Delete(forms)) => {
+            delete(alloc, own, tuples, forms)?;
+            *stage = Stage::Repaired;
+            Ok(Progress::Ends)
+        }
+        _ => unreachable!(),
     }
 }
 
-// The step of `Expand`: the generated tuple is inserted.
-fn expand(
-    alloc: Global,
-    generation: &mut Generation,
-    stage: &mut Stage,
-    own: &mut WriteList,
-    mappings: &Mappings<'_>,
-) -> Result<Progress, Memory>
-    requires fits { IsSound generation.old stage.old }
-    requires choice { TakesChoice (wanted (repairing_of generation.old stage.old)) Expand }
-    ensures step { IfOk result (HasChosen mappings.now Choice.Expand
-        own.old (repairing_of generation.old stage.old)
-        own.new (repairing_of generation.new stage.new)) }
-    ensures asks { IfOk result (AsksAs (repairing_of generation.new stage.new)) }
-    ensures sound { IsSound generation.new stage.new }
-    ensures err { OnErr result (SameRepair generation.old stage.old generation.new stage.new) }
-    ensures own { OnErr result (own.new.items ≡ own.old.items) }
+// The step of `Unify` at its first query: the first of the nulls that the unifier moves is asked for.
+fn first_asked(alloc: Global, sub: Sub, nulls: Vec<Null>) -> Gathering
+    requires { 0 < length nulls.items }
+    ensures { AsksFirst sub (map null_of nulls.items) (gathering_of result) }
 {
-    let Stage::Waiting(Question::Positive { tuple, .. }) = &*stage else {
-        unreachable!()
-    };
-    insert(alloc, own, tuple)?;
-    *stage = go_on(generation, mappings);
-    Ok(Progress::Ends)
-}
-
-// The step of `Unify` with the candidate of this form, up to its first query or its end.
-fn begin_unifying(
-    alloc: Global,
-    generation: &mut Generation,
-    stage: &mut Stage,
-    own: &mut WriteList,
-    form: &Tuple,
-    mappings: &Mappings<'_>,
-) -> Result<Progress, Memory>
-    requires fits { IsSound generation.old stage.old }
-    requires choice { TakesChoice
-        (wanted (repairing_of generation.old stage.old)) (Unify (fact_of form.now)) }
-    ensures step { IfOk result (HasChosen mappings.now (Choice.Unify form.now)
-        own.old (repairing_of generation.old stage.old)
-        own.new (repairing_of generation.new stage.new)) }
-    ensures asks { IfOk result (AsksAs (repairing_of generation.new stage.new)) }
-    ensures sound { IsSound generation.new stage.new }
-    ensures err { OnErr result (SameRepair generation.old stage.old generation.new stage.new) }
-    ensures own { OnErr result (own.new.items ≡ own.old.items) }
-{
-    let Stage::Waiting(question) = &*stage else {
-        unreachable!()
-    };
-    let Question::Positive {
-        tuple,
-        candidates,
-        ..
-    } = question
-    else {
-        unreachable!()
-    };
-    let (sub, nulls) = plan(alloc, tuple, candidates, form)?;
     let mut later = nulls;
-    if later.is_empty() {
-        let found = TupleList::new(alloc);
-        *stage = unify(alloc, generation, own, &sub, &found, mappings)?;
-        Ok(Progress::Ends)
-    } else {
-        let null = later.remove(0);
-        let gathering = Gathering {
-            sub,
-            query: Query::Occurs(null.update, null.place),
-            later,
-            found: List::new(alloc),
-        };
-        *stage = unifying(mem::replace(stage, Stage::Repaired), gathering);
-        Ok(Progress::Asks)
+    let null = later.remove(0);
+    Gathering {
+        sub,
+        query: Query::Occurs(null.update, null.place),
+        later,
+        found: List::new(alloc),
     }
 }
 
@@ -138,31 +107,19 @@ fn unifying(stage: Stage, gathering: Gathering) -> Stage
     }
 }
 
-// The step of `Delete`: the tuples of these forms are deleted.
+// Deletes those of the tuples whose outer forms are given, by writes behind the own ones. It is refused only for want of
+// memory; the own writes are then unchanged.
 fn delete(
     alloc: Global,
-    generation: &mut Generation,
-    stage: &mut Stage,
     own: &mut WriteList,
+    tuples: &TupleList,
     forms: &TupleList,
-    mappings: &Mappings<'_>,
-) -> Result<Progress, Memory>
-    requires fits { IsSound generation.old stage.old }
-    requires choice { TakesChoice
-        (wanted (repairing_of generation.old stage.old)) (DropThese (facts_of forms.now)) }
-    ensures step { IfOk result (HasChosen mappings.now (Choice.Delete forms.now)
-        own.old (repairing_of generation.old stage.old)
-        own.new (repairing_of generation.new stage.new)) }
-    ensures asks { IfOk result (AsksAs (repairing_of generation.new stage.new)) }
-    ensures sound { IsSound generation.new stage.new }
-    ensures err { OnErr result (SameRepair generation.old stage.old generation.new stage.new) }
-    ensures own { OnErr result (own.new.items ≡ own.old.items) }
+) -> Result<(), Memory>
+    ensures ok { OnOk result (
+        changes_of own.new ≡ changes_of own.old ++
+        map Delete (named (facts_of tuples.now) (facts_of forms.now))) }
+    ensures err { OnErr result (own.new.items ≡ own.old.items) }
 {
-    let Stage::Waiting(Question::Negative { tuples, .. }) = &*stage else {
-        unreachable!()
-    };
     let writes = deletions(alloc, named_tuples(alloc, tuples, forms)?)?;
-    append(alloc, own, writes)?;
-    *stage = Stage::Repaired;
-    Ok(Progress::Ends)
+    append(alloc, own, writes)
 }

@@ -1,75 +1,63 @@
 //! The step of a right atom once it is known which tuples are more specific than the generated one.
-ghost use Rattle.std.specs.Prelude.{◌≡◌, true, false, map, OnOk, OnErr};
+ghost use Rattle.std.specs.Prelude.{◌≡◌, true, false, map, IfOk, OnErr};
 ghost use Rattle.std.specs.List.{list_all};
 ghost use Rattle.yt_model.specs.Specific.{more_specific};
 ghost use Rattle.yt_base.specs.Meanings.{fact_of};
 ghost use Rattle.yt_chase.specs.Repairs.{is_asking};
-ghost use Rattle.yt_chase.specs.Stages.{repairing_of, tuple_at, HasCompared, IsComparing, IsSound};
+ghost use Rattle.yt_chase.specs.Stages.{repairing_of, HasCompared, IsSound};
 
 use crate::answers::copies;
 use crate::generating::go_on;
 use crate::stages::{Generation, Stage};
 use std::alloc::Global;
 use std::mem;
-use yt_base::{Memory, Tuple, Write, WriteList};
+use yt_base::{Memory, Row, Tuple, Write, WriteList};
 use yt_frontier::Question;
 use yt_limits::Mappings;
-use yt_query::Query;
 
-/// The end of the step, by these more specific tuples: with none of them the generated tuple is inserted, else a person
-/// is asked. It is refused only for want of memory; the repair then stands where it stood, and the own writes are
-/// unchanged.
+/// The stage at the end of the step, by the tuples that are more specific than the generated one: with none of them the
+/// generated tuple is inserted, else a person is asked. Either way it is taken out of where it is. It is refused only for
+/// want of memory; everything is then unchanged.
 pub(crate) fn compared(
     alloc: Global,
     generation: &mut Generation,
-    stage: &mut Stage,
     own: &mut WriteList,
+    tuple: &mut Tuple,
     candidates: &[Tuple],
     mappings: &Mappings<'_>,
-) -> Result<(), Memory>
-    requires comparing { IsComparing stage.old }
-    requires specific { list_all (λ s. more_specific s (tuple_at stage.old))
+) -> Result<Stage, Memory>
+    requires specific { list_all (λ s. more_specific s (fact_of tuple.old))
         (map fact_of candidates.now) ≡ true }
-    ensures step { OnOk result (HasCompared mappings.now (map fact_of candidates.now)
-        own.old generation.old (tuple_at stage.old)
-        own.new (repairing_of generation.new stage.new)) }
-    ensures rests { OnOk result (is_asking (repairing_of generation.new stage.new) ≡ false) }
-    ensures sound { OnOk result (IsSound generation.new stage.new) }
+    ensures step { IfOk result (λ stage. HasCompared mappings.now (map fact_of candidates.now)
+        own.old generation.old (fact_of tuple.old)
+        own.new (repairing_of generation.new stage)) }
+    ensures rests { IfOk result (λ stage. is_asking (repairing_of generation.new stage) ≡ false) }
+    ensures sound { IfOk result (λ stage. IsSound generation.new stage) }
     ensures generation { OnErr result (generation.new ≡ generation.old) }
-    ensures stage { OnErr result (stage.new ≡ stage.old) }
+    ensures tuple { OnErr result (tuple.new ≡ tuple.old) }
     ensures own { OnErr result (own.new.items ≡ own.old.items) }
 {
     if candidates.is_empty() {
         own.reserve(1)?;
-        let tuple = generated(mem::replace(stage, Stage::Repaired));
-        own.push(Write::Insert(tuple))?;
-        *stage = go_on(generation, mappings);
+        own.push(Write::Insert(taken(alloc, tuple)))?;
+        Ok(go_on(generation, mappings))
     } else {
         let candidates = copies(alloc, candidates)?;
-        *stage = Stage::Waiting(Question::Positive {
+        Ok(Stage::Waiting(Question::Positive {
             mapping: generation.mapping,
-            tuple: generated(mem::replace(stage, Stage::Repaired)),
+            tuple: taken(alloc, tuple),
             candidates,
-        });
+        }))
     }
-    Ok(())
 }
 
-// The generated tuple, of which more specific ones are asked for.
-fn generated(stage: Stage) -> Tuple
-    requires { IsComparing stage }
-    ensures tuple { fact_of result ≡ tuple_at stage }
+/// The tuple, taken out of a place that is then written anew. It takes no memory.
+pub(crate) fn taken(alloc: Global, tuple: &mut Tuple) -> Tuple
+    ensures tuple { result ≡ tuple.old }
 {
-    match stage {
-        Stage::Querying(query) => match query {
-            Query::Specific(tuple) => tuple,
-            Query::Present(_) => unreachable!(),
-            Query::Violation(_) => unreachable!(),
-            Query::Occurs(_, _) => unreachable!(),
-        },
-        Stage::Generating => unreachable!(),
-        Stage::Waiting(_) => unreachable!(),
-        Stage::Unifying(_, _) => unreachable!(),
-        Stage::Repaired => unreachable!(),
-    }
+    let nothing = Tuple {
+        relation: 0,
+        values: Row::new(alloc),
+    };
+    mem::replace(tuple, nothing)
 }

@@ -69,19 +69,19 @@ fn unifier_at(
         (λ sub. moved_by (images_of sub) ≡
         unifier_in (phase_of (repairing_of generation.now stage.now)) (fact_of form.now)) }
 {
-    let Stage::Waiting(question) = stage else {
-        unreachable!()
-    };
-    let Question::Positive {
-        tuple,
-        candidates,
-        ..
-    } = question
-    else {
-        unreachable!()
-    };
-    let (sub, _) = plan(alloc, tuple, candidates, form)?;
-    Ok(sub)
+    match stage {
+        Stage::Waiting(
+            Question::Positive {
+                tuple,
+                candidates,
+                ..
+            },
+        ) => {
+            let (sub, _) = plan(alloc, tuple, candidates, form)?;
+            Ok(sub)
+        }
+        _ => unreachable!(),
+    }
 }
 
 // The mapping of a generation and the values of its variables.

@@ -5,7 +5,7 @@ ghost use Rattle.yt_model.specs.Specific.{more_specific};
 ghost use Rattle.yt_base.specs.Contents.{facts_of};
 ghost use Rattle.yt_base.specs.Meanings.{null_of, fact_of};
 ghost use Rattle.yt_base.specs.Maps.{images_of, moved_by};
-ghost use Rattle.yt_steps.specs.Questions.{is_outer_of};
+ghost use Rattle.yt_steps.specs.Questions.{candidate as chosen_candidate};
 ghost use Rattle.yt_chase.specs.Unifying.{nulls_moved_with, unifier_with};
 
 use crate::nulls::moved_nulls;
@@ -22,18 +22,22 @@ pub(crate) fn plan(
     candidates: &TupleList,
     form: &Tuple,
 ) -> Result<(Sub, Vec<Null>), Memory>
-    requires specific { list_all (λ s. more_specific s (fact_of tuple.now))
+    requires { list_all (λ s. more_specific s (fact_of tuple.now))
         (facts_of candidates.now) ≡ true }
-    requires fits { is_outer_of (facts_of candidates.now) (fact_of form.now) ≡ true }
     ensures unifier { IfOk result (λ plan.
         moved_by (images_of plan.0) ≡ unifier_with tuple.now candidates.now form.now) }
     ensures nulls { IfOk result (λ plan.
         map null_of plan.1.items ≡ nulls_moved_with tuple.now candidates.now form.now) }
 {
-    let Some(candidate) = candidate(candidates, form) else {
-        unreachable!()
-    };
-    let sub = unifier(alloc, tuple, candidate)?;
+    let sub = unifier(alloc, tuple, named_candidate(tuple, candidates, form))?;
     let nulls = moved_nulls(alloc, &sub, tuple)?;
     Ok((sub, nulls.into_vec()))
+}
+
+// The candidate that the form names. As the steps of the chase define it, that is the tuple itself where none has the form.
+fn named_candidate<'a>(tuple: &'a Tuple, candidates: &'a TupleList, form: &Tuple) -> &'a Tuple
+    ensures { fact_of result.now ≡ chosen_candidate (fact_of tuple.now)
+        (facts_of candidates.now) (fact_of form.now) }
+{
+    candidate(candidates, form).unwrap_or(tuple)
 }

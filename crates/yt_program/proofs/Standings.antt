@@ -4,6 +4,10 @@ use Rattle.std.specs.List.{list_any}
 use Rattle.yt_model.specs.Values.{NullName, Datum, Number, Text, Unknown, Fact}
 use Rattle.yt_model.specs.Queries.{Reply, Yes, No, Image, Nothing, Tuples, is_named, holds_null}
 use Rattle.yt_model.proofs.Bools.{differ}
+use Rattle.yt_base.specs.Meanings.{datum_of}
+use Rattle.yt_base.specs.declared.nulls.Null.{Null}
+use Rattle.yt_base.specs.declared.values.Value.{Value}
+use Rattle.yt_base.specs.declared.values.Value.TheVariants.{Int, Word, Null as NullValue}
 use Rattle.yt_base.specs.Maps.{moved_by, give_image, no_image, same_null}
 use Rattle.yt_query.specs.Kinds.{IsListOf, AreInOrder}
 use Rattle.yt_steps.specs.Rewriting.{standing_for, replacing}
@@ -44,6 +48,12 @@ known n No us d k h e = absurd k
 known n (Image ts) us d k h e = absurd k
 known n Nothing us d k h e = absurd k
 known n (Tuples ts) us d k h e = known_in n ts us d k h e
+
+-- A value that means a null is one.
+pub not_another : (v : Value) → IsUnknown (datum_of v) → ((n : Null) → v ≡ NullValue n → ⊥) → ⊥
+not_another (Int i) u h = absurd u
+not_another (Word w) u h = absurd u
+not_another (NullValue n) u h = h n refl
 
 moved_one : (n : NullName) (d x : Datum) → moved_by (give_image no_image n d) x ≡ replacing (Unknown n) d x
 moved_one n d (Number i) = refl

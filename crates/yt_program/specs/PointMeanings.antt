@@ -1,6 +1,7 @@
 -- What is wanted of a program and where it stands, in the terms of the steps of the chase.
 use Rattle.std.specs.Prelude.{◌≡◌, Bool, [], Option, Some, None, if◌then◌else◌}
 use Rattle.yt_model.specs.Values.{Fact}
+use Rattle.yt_model.specs.Queries.{Query, Present, Violation, Specific, Occurs}
 use Rattle.yt_model.specs.Updates.{Operation}
 use Rattle.yt_base.specs.Contents.{changes_of}
 use Rattle.yt_base.specs.Listed.{Listed}
@@ -84,6 +85,20 @@ tuple_at Look = record { relation = 0; values = [] }
 tuple_at (Repair r) = record { relation = 0; values = [] }
 tuple_at (Ended e) = record { relation = 0; values = [] }
 tuple_at (ReadingPoint r) = tuple_asked (query_of r.query)
+
+-- The tuple of which a query asks whether it is there, if it asks that.
+abbrev pub tuple_in : Query → Option Fact
+tuple_in (Present t) = Some t
+tuple_in (Violation n) = None
+tuple_in (Specific t) = None
+tuple_in (Occurs u k) = None
+
+abbrev pub tuple_asked_at : Point → Option Fact
+tuple_asked_at Start = None
+tuple_asked_at Look = None
+tuple_asked_at (Repair r) = None
+tuple_asked_at (Ended e) = None
+tuple_asked_at (ReadingPoint r) = tuple_in (query_of r.query)
 
 -- The step of the operation has ended with its writes behind the own ones, once it is known whether its tuple is there. A look comes next.
 abbrev pub HasWritten : Operation → Fact → Bool → Listed Write → Listed Write → Type 0

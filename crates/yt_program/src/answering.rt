@@ -1,5 +1,5 @@
 //! How a step of an operation or of a look goes on by an answer.
-ghost use Rattle.std.specs.Prelude.{◌≡◌, ◌+◌, ◌<◌, IfOk};
+ghost use Rattle.std.specs.Prelude.{◌≡◌, ◌+◌, ◌<◌, IfOk, IfSome, IfNone};
 ghost use Rattle.yt_base.specs.Meanings.{operation_of};
 ghost use Rattle.yt_query.specs.Meanings.{query_of, reply_of};
 ghost use Rattle.yt_query.specs.Kinds.{IsOfKind};
@@ -19,8 +19,8 @@ use yt_chase::Fresh;
 use yt_limits::Mappings;
 use yt_query::Answer;
 
-/// Goes on by the answer to the query that is asked, which is not whether the operation's tuple is there. It is refused
-/// only for want of memory.
+/// Goes on by the answer to the query that is asked. It gives None where that is whether the operation's tuple is there,
+/// which is then to be written where it stands. It is refused only for want of memory.
 pub(crate) fn answered(
     alloc: Global,
     operation: &Operation,
@@ -28,25 +28,26 @@ pub(crate) fn answered(
     reading: &Reading,
     answer: &Answer,
     mappings: &Mappings<'_>,
-) -> Result<Turn, Memory>
-    requires going { reading.now.row ≡ Row.Writing → ⊥ }
+) -> Result<Option<Turn>, Memory>
     requires room { fresh.drawn + 64 < 4294967296 }
     requires kind { IsOfKind mappings.now (query_of reading.now.query) (reply_of answer.now) }
-    ensures value { IfOk result
+    ensures value { IfOk result (λ turn. IfSome turn
         (HasGoneOnAs mappings.now fresh (operation_of operation.now) (reading_of reading.now)
-        (reply_of answer.now)) }
-    ensures turn { IfOk result (IsTurnOf (begun_in (reading_of reading.now))) }
+        (reply_of answer.now))) }
+    ensures turn { IfOk result (λ turn. IfSome turn (IsTurnOf (begun_in (reading_of reading.now)))) }
+    ensures writing { IfOk result (λ turn. IfNone turn (reading.now.row ≡ Row.Writing)) }
 {
-    match &reading.row {
-        Row::Naming(naming) => found_name(alloc, operation, naming, answer),
-        Row::Writing => unreachable!(),
-        Row::Replacing(name) => found_replaced(alloc, operation, *name, answer),
+    let turn = match &reading.row {
+        Row::Writing => return Ok(None),
+        Row::Naming(naming) => found_name(alloc, operation, naming, answer)?,
+        Row::Replacing(name) => found_replaced(alloc, operation, *name, answer)?,
         Row::Renaming { name, null, tuples } => {
-            found_replacement(alloc, *name, *null, tuples, answer)
+            found_replacement(alloc, *name, *null, tuples, answer)?
         }
-        Row::Forcing(place) => found_force(alloc, fresh.update, *place, answer, mappings),
+        Row::Forcing(place) => found_force(alloc, fresh.update, *place, answer, mappings)?,
         Row::Violating(place) => {
-            found_violation(alloc, operation, fresh, *place, answer, mappings)
+            found_violation(alloc, operation, fresh, *place, answer, mappings)?
         }
-    }
+    };
+    Ok(Some(turn))
 }

@@ -35,13 +35,7 @@ impl Program {
         requires between { self.now.reading ≡ None }
         ensures start { result ≡ is_start self.now.attempt.phase }
     {
-        match &self.point {
-            Point::Start => true,
-            Point::Look => false,
-            Point::Repair(_) => false,
-            Point::Ended(_) => false,
-            Point::Reading(_) => unreachable!(),
-        }
+        matches!(&self.point, Point::Start)
     }
 
     /// The mapping of the forward repair in hand, and the values of its variables; None exactly where none is in hand.
@@ -68,10 +62,7 @@ impl Program {
     {
         match &self.point {
             Point::Repair(repair) => repair.unifier_with(alloc, form),
-            Point::Start => unreachable!(),
-            Point::Look => unreachable!(),
-            Point::Ended(_) => unreachable!(),
-            Point::Reading(_) => unreachable!(),
+            _ => unreachable!(),
         }
     }
 }

@@ -25,13 +25,7 @@ impl Point {
     pub(crate) fn has_ended(&self) -> bool
         ensures ended { result ≡ is_some (outcome_in (phase_at self.now)) }
     {
-        match self {
-            Point::Ended(_) => true,
-            Point::Start => false,
-            Point::Look => false,
-            Point::Repair(_) => false,
-            Point::Reading(_) => false,
-        }
+        matches!(self, Point::Ended(_))
     }
 }
 

@@ -23,7 +23,6 @@ use crate::points::Point;
 use crate::repairing::{generates, want_of_repair};
 use crate::starting::{is_yes, start};
 use crate::turns::Turn;
-use crate::writing::is_writing;
 use std::alloc::Global;
 use std::marker::Model;
 use yt_base::{Choice, Memory, Operation, TryCopy, Update};
@@ -141,8 +140,7 @@ impl Program {
                 self.hand = hand;
                 Ok(())
             }
-            Point::Ended(_) => unreachable!(),
-            Point::Reading(_) => unreachable!(),
+            _ => unreachable!(),
         }
     }
 
@@ -210,15 +208,16 @@ impl Program {
         let fresh = self.fresh();
         match &mut self.point {
             Point::Reading(reading) => {
-                if is_writing(&reading.row) {
-                    let there = is_yes(answer);
-                    self.own
-                        .write(alloc, &self.operation, &mut self.point, there)?;
-                    self.land(0, hand);
-                    return Ok(());
+                match answered(alloc, &self.operation, fresh, reading, answer, mappings)? {
+                    Some(turn) => self.follow(alloc, turn, hand),
+                    None => {
+                        let there = is_yes(answer);
+                        self.own
+                            .write(alloc, &self.operation, &mut self.point, there)?;
+                        self.land(0, hand);
+                        Ok(())
+                    }
                 }
-                let turn = answered(alloc, &self.operation, fresh, reading, answer, mappings)?;
-                self.follow(alloc, turn, hand)
             }
             Point::Repair(repair) => {
                 match self.own.answer(alloc, repair, answer, mappings)? {
@@ -227,9 +226,7 @@ impl Program {
                 }
                 Ok(())
             }
-            Point::Start => unreachable!(),
-            Point::Look => unreachable!(),
-            Point::Ended(_) => unreachable!(),
+            _ => unreachable!(),
         }
     }
 
@@ -260,10 +257,7 @@ impl Program {
                 }
                 Ok(())
             }
-            Point::Start => unreachable!(),
-            Point::Look => unreachable!(),
-            Point::Ended(_) => unreachable!(),
-            Point::Reading(_) => unreachable!(),
+            _ => unreachable!(),
         }
     }
 

@@ -28,10 +28,5 @@ pub(crate) fn generates(repair: &Repair) -> bool
     ensures generates { result ≡ true → wanted repair.now ≡ WantsStep }
     ensures looks { result ≡ false → phase_of repair.now ≡ Look }
 {
-    match repair.wants() {
-        RepairWant::NextStep => true,
-        RepairWant::Finished => false,
-        RepairWant::Query(_) => unreachable!(),
-        RepairWant::Question(_) => unreachable!(),
-    }
+    matches!(repair.wants(), RepairWant::NextStep)
 }

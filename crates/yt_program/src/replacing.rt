@@ -38,8 +38,7 @@ pub(crate) fn found_replaced(
     match holders(answer) {
         Some(tuples) => match standing_for(alloc, name, tuples)? {
             Value::Null(null) => replaced(alloc, operation, null, tuples),
-            Value::Int(_) => unreachable!(),
-            Value::Word(_) => unreachable!(),
+            _ => unreachable!(),
         },
         None => Ok(Turn::refuses(alloc, name)),
     }

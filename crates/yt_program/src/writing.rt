@@ -1,28 +1,14 @@
 //! The end of the step of an insertion or a deletion, once it is known whether its tuple is there.
-ghost use Rattle.std.specs.Prelude.{◌≡◌, ◌↔◌, IsTrue, OnOk, OnErr};
+ghost use Rattle.std.specs.Prelude.{◌≡◌, OnOk, OnErr};
+ghost use Rattle.std.specs.Option.{option_map};
 ghost use Rattle.yt_base.specs.Meanings.{fact_of, operation_of};
-ghost use Rattle.yt_program.specs.PointMeanings.{HasWritten, IsWriting, tuple_at};
+ghost use Rattle.yt_query.specs.Meanings.{query_of};
+ghost use Rattle.yt_program.specs.PointMeanings.{HasWritten, IsWriting, tuple_asked_at, tuple_at, tuple_in};
 
 use crate::points::Point;
-use crate::readings::Reading;
-use crate::rows::Row;
 use std::mem;
 use yt_base::{Memory, Operation, Tuple, Write, WriteList};
 use yt_query::Query;
-
-/// Whether it is asked whether the operation's tuple is there.
-pub(crate) fn is_writing(row: &Row) -> bool
-    ensures answer { IsTrue result ↔ (row.now ≡ Row.Writing) }
-{
-    match row {
-        Row::Writing => true,
-        Row::Naming(_) => false,
-        Row::Replacing(_) => false,
-        Row::Renaming { .. } => false,
-        Row::Forcing(_) => false,
-        Row::Violating(_) => false,
-    }
-}
 
 /// An insertion writes the tuple that is asked about where it is not there, a deletion where it is, behind the own writes.
 /// A look comes next. It is refused only for want of memory; everything is then unchanged.
@@ -40,35 +26,30 @@ pub(crate) fn write(
     ensures own { OnErr result (own.new.items ≡ own.old.items) }
 {
     own.reserve(1)?;
-    let tuple = asked(mem::replace(point, Point::Look));
-    match operation {
-        Operation::Insert(_) => if !there {
-            own.push(Write::Insert(tuple))?;
-        },
-        Operation::Delete(_) => if there {
-            own.push(Write::Delete(tuple))?;
-        },
-        Operation::Replace(_, _) => {}
-        Operation::Enact(_) => {}
+    match (operation, there, asked(mem::replace(point, Point::Look))) {
+        (Operation::Insert(_), false, Some(tuple)) => own.push(Write::Insert(tuple))?,
+        (Operation::Delete(_), true, Some(tuple)) => own.push(Write::Delete(tuple))?,
+        _ => {}
     }
     Ok(())
 }
 
-// The tuple that is asked about.
-fn asked(point: Point) -> Tuple
-    requires { IsWriting point }
-    ensures tuple { fact_of result ≡ tuple_at point }
+// The tuple that is asked about, if one is.
+fn asked(point: Point) -> Option<Tuple>
+    ensures { option_map fact_of result ≡ tuple_asked_at point }
 {
     match point {
-        Point::Reading(Reading { query, .. }) => match query {
-            Query::Present(tuple) => tuple,
-            Query::Specific(_) => unreachable!(),
-            Query::Violation(_) => unreachable!(),
-            Query::Occurs(_, _) => unreachable!(),
-        },
-        Point::Start => unreachable!(),
-        Point::Look => unreachable!(),
-        Point::Repair(_) => unreachable!(),
-        Point::Ended(_) => unreachable!(),
+        Point::Reading(reading) => tuple_of(reading.query),
+        _ => None,
+    }
+}
+
+// The tuple that the query asks for, if it asks whether one is there.
+fn tuple_of(query: Query) -> Option<Tuple>
+    ensures { option_map fact_of result ≡ tuple_in (query_of query) }
+{
+    match query {
+        Query::Present(tuple) => Some(tuple),
+        _ => None,
     }
 }
