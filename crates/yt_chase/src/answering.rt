@@ -43,7 +43,7 @@ pub(crate) fn answered(
                 *stage = go_on(generation, mappings);
                 Ok(Progress::Ends)
             } else {
-                *stage = Stage::Querying(Query::Specific(taken(alloc, tuple)));
+                *stage = Stage::Querying(Query::Specific(taken(tuple)));
                 Ok(Progress::Asks)
             }
         }

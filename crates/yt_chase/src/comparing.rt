@@ -11,7 +11,7 @@ use crate::generating::go_on;
 use crate::stages::{Generation, Stage};
 use std::alloc::Global;
 use std::mem;
-use yt_base::{Memory, Row, Tuple, Write, WriteList};
+use yt_base::{Memory, Tuple, Write, WriteList};
 use yt_frontier::Question;
 use yt_limits::Mappings;
 
@@ -39,25 +39,21 @@ pub(crate) fn compared(
 {
     if candidates.is_empty() {
         own.reserve(1)?;
-        own.push(Write::Insert(taken(alloc, tuple)))?;
+        own.push(Write::Insert(taken(tuple)))?;
         Ok(go_on(generation, mappings))
     } else {
         let candidates = copies(alloc, candidates)?;
         Ok(Stage::Waiting(Question::Positive {
             mapping: generation.mapping,
-            tuple: taken(alloc, tuple),
+            tuple: taken(tuple),
             candidates,
         }))
     }
 }
 
 /// The tuple, taken out of a place that is then written anew. It takes no memory.
-pub(crate) fn taken(alloc: Global, tuple: &mut Tuple) -> Tuple
+pub(crate) fn taken(tuple: &mut Tuple) -> Tuple
     ensures tuple { result ≡ tuple.old }
 {
-    let nothing = Tuple {
-        relation: 0,
-        values: Row::new(alloc),
-    };
-    mem::replace(tuple, nothing)
+    mem::replace(tuple, Tuple::least(0))
 }
