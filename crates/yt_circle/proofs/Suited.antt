@@ -18,7 +18,7 @@ use Rattle.yt_grammar.specs.Validity.{IsValue, HasColumns, IsFact, IsSlot, IsAto
 use Rattle.yt_session.proofs.Suiting.{no_force, few_relations}
 use Rattle.yt_steps.proofs.Passing.{all_mapped, index_passes}
 use Rattle.yt_kept.proofs.Closed.{is_plain, Resolves, Closed}
-use Rattle.yt_kept.proofs.Fitting.{has_columns, columns_pass, names_mapping}
+use Rattle.yt_kept.proofs.Fitting.{has_columns, columns_pass, names_mapping, named_nulls, named_stay}
 use Rattle.yt_kept.proofs.Rules.{IsRule, mapping_rules}
 use Rattle.yt_circle.proofs.Utf8.{is_textual}
 
@@ -44,22 +44,6 @@ named_values (Number (pos n) ∷ d ∷ ds) h = differ h
 named_values (Number (negsuc n) ∷ ds) h = differ h
 named_values (Text w ∷ ds) h = differ h
 named_values (Unknown m ∷ ds) h = differ h
-
-named_nulls : (v j : ℕ) (ds : List Datum) → names_mapping ds ≡ true → list_any (is_named v j) ds ≡ false
-named_nulls v j [] h = differ h
-named_nulls v j (Number (pos n) ∷ []) h = refl
-named_nulls v j (Number (pos n) ∷ d ∷ ds) h = differ h
-named_nulls v j (Number (negsuc n) ∷ ds) h = differ h
-named_nulls v j (Text w ∷ ds) h = differ h
-named_nulls v j (Unknown m ∷ ds) h = differ h
-
-named_stay : (f : Datum → Datum) → KeepsConstants f → (ds : List Datum) → names_mapping ds ≡ true → map f ds ≡ ds
-named_stay f c [] h = refl
-named_stay f c (Number (pos n) ∷ []) h = λ i. c.0 (pos n) i ∷ []
-named_stay f c (Number (pos n) ∷ d ∷ ds) h = differ h
-named_stay f c (Number (negsuc n) ∷ ds) h = differ h
-named_stay f c (Text w ∷ ds) h = differ h
-named_stay f c (Unknown m ∷ ds) h = differ h
 
 resolved : (below : ℕ) (f : Datum → Datum) → Resolves is_textual f → (d : Datum) → IsValue below d → is_textual (f d) ≡ true
 resolved below f r (Number z) h = ap is_textual (r.0.0 z)

@@ -20,63 +20,14 @@ use Rattle.yt_grammar.specs.Names.{Name}
 use Rattle.yt_grammar.specs.Printing.{joined_text, name_of, null_name_text, tuple_text, value_text}
 use Rattle.yt_grammar.specs.Sessions.{RelationSchema, relation_names}
 use Rattle.yt_grammar.specs.Validity.{AreNew}
+use Rattle.yt_grammar.proofs.Utf.{text_written as text_within}
 
 -- ---- texts in quotes
-
--- a byte above 127 stands for itself
-plain_byte : (b : ℕ) → 128 ≤ b → written_byte b ≡ b ∷ []
-plain_byte b le =
-    let q : (b == 34) ≡ false = grind (arith, nat_tests) in
-    let s : (b == 92) ≡ false = grind (arith, nat_tests) in
-    let f : (b == 10) ≡ false = grind (arith, nat_tests) in
-    rw (q, s, f) refl
-
-plain_bytes : (bytes : List ℕ) → AllByRecursion (λ b. 128 ≤ b) bytes → flat_map written_byte bytes ≡ bytes
-plain_bytes [] all = refl
-plain_bytes (b ∷ bytes) all = rw (plain_byte b all.0, plain_bytes bytes all.1) refl
-
-next_high : (n : ℕ) → 128 ≤ next n
-next_high n = omega arith
-
--- the bytes of a character above 127 are above 127
-high_bytes : (c : ℕ) → nat_lt c 128 ≡ false → AllByRecursion (λ b. 128 ≤ b) (encode c)
-unfolding encode
-high_bytes c high = rw high (by (nat_lt c 2048) (nat_lt c 65536)) where
-  by : (x y : Bool) → AllByRecursion (λ b. 128 ≤ b) (cond x ((192 + c / 64) ∷ next c ∷ []) (cond y ((224 + c / 4096) ∷ next (c / 64) ∷ next c ∷ []) ((240 + c / 262144) ∷ next (c / 4096) ∷ next (c / 64) ∷ next c ∷ [])))
-  by true y = (omega arith, (next_high c, tt))
-  by false true = (omega arith, (next_high (c / 64), (next_high c, tt)))
-  by false false = (omega arith, (next_high (c / 4096), (next_high (c / 64), (next_high c, tt))))
-
-one_character : (c : ℕ) → scalar c ≡ true → IsUtf8 (encode c)
-one_character c s = (c ∷ [], (rw s refl, append-nil (encode c)))
-
-low_byte : (b : ℕ) → nat_lt b 128 ≡ true → IsUtf8 (written_byte b)
-low_byte b low = by (b == 34) (b == 92) (b == 10) refl refl refl where
-  by : (q s f : Bool) → (b == 34) ≡ q → (b == 92) ≡ s → (b == 10) ≡ f → IsUtf8 (written_byte b)
-  by true s f e1 e2 e3 = rw e1 (IsUtf8-are_ascii (92 ∷ 34 ∷ []) refl)
-  by false true f e1 e2 e3 = rw (e1, e2) (IsUtf8-are_ascii (92 ∷ 92 ∷ []) refl)
-  by false false true e1 e2 e3 = rw (e1, e2, e3) (IsUtf8-are_ascii (92 ∷ 110 ∷ []) refl)
-  by false false false e1 e2 e3 = rw (e1, e2, e3) (IsUtf8-are_ascii (b ∷ []) (rw low refl))
-
-character_written : (c : ℕ) → scalar c ≡ true → IsUtf8 (flat_map written_byte (encode c))
-unfolding encode
-character_written c s = by (nat_lt c 128) refl where
-  by : (low : Bool) → nat_lt c 128 ≡ low → IsUtf8 (flat_map written_byte (encode c))
-  by true e =
-      let one : encode c ≡ c ∷ [] = rw e refl in
-      subst IsUtf8 (sym (ap (flat_map written_byte) one ∙ append-nil (written_byte c))) (low_byte c e)
-  by false e = subst IsUtf8 (sym (plain_bytes (encode c) (high_bytes c e))) (one_character c s)
-
-characters_written : (cs : List ℕ) → all_scalars cs ≡ true → IsUtf8 (flat_map written_byte (encode_utf8_all cs))
-characters_written [] all = IsUtf8-nil
-characters_written (c ∷ cs) all =
-    let parts = and_parts (scalar c) (all_scalars cs) all in
-    subst IsUtf8 (sym (flat_map-append written_byte (encode c) (encode_utf8_all cs))) (IsUtf8-append (flat_map written_byte (encode c)) (flat_map written_byte (encode_utf8_all cs)) (character_written c parts.0) (characters_written cs parts.1))
 
 text_written : (t : List ℕ) → IsUtf8 t → IsUtf8 (quoted t)
 text_written t u =
     IsUtf8-append (34 ∷ []) (flat_map written_byte t ++ 34 ∷ []) (IsUtf8-are_ascii (34 ∷ []) refl)
-    (IsUtf8-append (flat_map written_byte t) (34 ∷ []) (subst (λ (bytes : List ℕ). IsUtf8 (flat_map written_byte bytes)) u.1.1 (characters_written u.0 u.1.0)) (IsUtf8-are_ascii (34 ∷ []) refl))
+    (IsUtf8-append (flat_map written_byte t) (34 ∷ []) (text_within t u) (IsUtf8-are_ascii (34 ∷ []) refl))
 
 -- ---- numbers
 

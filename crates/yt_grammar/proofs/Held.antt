@@ -23,7 +23,8 @@ use Rattle.yt_grammar.proofs.Many.{bind_ok, ok_is}
 use Rattle.yt_grammar.proofs.Spoken.{ArePrinted}
 use Rattle.yt_grammar.proofs.Stated.{statement_only}
 use Rattle.yt_grammar.proofs.Listened.{words_printed, lines_text}
-use Rattle.yt_grammar.proofs.Kept.{bare, RelationsAlone, relation_kept, mapping_added_so, initial_kept, tuple_kept, update_kept, answer_kept}
+use Rattle.yt_grammar.proofs.Kept.{bare, RelationsAlone, relation_kept, mapping_added_so, initial_kept, tuple_kept, update_kept}
+use Rattle.yt_grammar.proofs.Answered.{answer_kept}
 
 -- A session that is read so far: it is valid, and has only what its section may have.
 record Open (section : Section) (s : SessionData) : Type 0 where

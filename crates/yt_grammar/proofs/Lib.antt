@@ -13,7 +13,7 @@ mod Runs
 mod Build
 mod Acts
 mod Whole
-mod Utf
+pub mod Utf
 mod Round
 mod Only
 mod Sole
@@ -24,6 +24,7 @@ mod Placed
 mod Passed
 mod Grows
 mod Kept
+mod Answered
 mod Held
 mod Once
 mod Direct

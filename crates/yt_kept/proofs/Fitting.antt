@@ -135,7 +135,7 @@ named_values most k (Number (negsuc n) ∷ ds) h = differ h
 named_values most k (Text w ∷ ds) h = differ h
 named_values most k (Unknown m ∷ ds) h = differ h
 
-named_nulls : (v j : ℕ) (ds : List Datum) → names_mapping ds ≡ true → list_any (is_named v j) ds ≡ false
+pub named_nulls : (v j : ℕ) (ds : List Datum) → names_mapping ds ≡ true → list_any (is_named v j) ds ≡ false
 named_nulls v j [] h = differ h
 named_nulls v j (Number (pos n) ∷ []) h = refl
 named_nulls v j (Number (pos n) ∷ d ∷ ds) h = differ h
@@ -143,7 +143,7 @@ named_nulls v j (Number (negsuc n) ∷ ds) h = differ h
 named_nulls v j (Text w ∷ ds) h = differ h
 named_nulls v j (Unknown m ∷ ds) h = differ h
 
-named_stay : (f : Datum → Datum) → KeepsConstants f → (ds : List Datum) → names_mapping ds ≡ true → map f ds ≡ ds
+pub named_stay : (f : Datum → Datum) → KeepsConstants f → (ds : List Datum) → names_mapping ds ≡ true → map f ds ≡ ds
 named_stay f c [] h = refl
 named_stay f c (Number (pos n) ∷ []) h = λ i. c.0 (pos n) i ∷ []
 named_stay f c (Number (pos n) ∷ d ∷ ds) h = differ h
