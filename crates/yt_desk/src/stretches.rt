@@ -95,8 +95,8 @@ impl<C: Core> Board<C> {
     }
 }
 
-// Makes the update's next step, and tells whether it was small: whether its plan was made soon. The snapshot is let go before the
-// plan is installed, so that the core has all that it changes for itself.
+// Makes the update's next step, and tells whether it was small: whether its plan was made soon. The snapshot, which shares what
+// the core holds, is let go before the plan is installed.
 fn make_step<R: Clock, C: Core>(
     rt: &R,
     core: &mut C,
