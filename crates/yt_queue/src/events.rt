@@ -1,5 +1,5 @@
 //! What an event does to one record. Whatever may be refused for want of memory comes before it.
-ghost use Rattle.std.specs.Prelude.{◌≡◌, ◌≤◌, [], ◌∷◌, ◌++◌, length, map, take, IfOk, OnOk};
+ghost use Rattle.std.specs.Prelude.{◌≡◌, ◌+◌, ◌≤◌, [], ◌∷◌, ◌++◌, length, map, take, IfOk, OnOk};
 ghost use Rattle.yt_base.specs.Meanings.{choice_of};
 ghost use Rattle.yt_queue.specs.Queues.{StandsAt};
 ghost use Rattle.yt_queue.specs.Events.{IsAdmitted, IsSame, KeepsPlace, KeepsPlaceBy, HasRoom, HasRoomFor, HasStepped, HasDelivered, HasAnswered, HasWithdrawn};
@@ -118,19 +118,17 @@ fn take_over(log: &mut ReadLog, reads: ReadLog)
     ensures all { log.new.items ≡ log.old.items ++ reads.items }
 {
     for read in reads.into_vec() {
-        match log.push(read) {
-            Ok(()) => {}
-            Err(_) => unreachable!(),
-        }
+        put_last(log, read);
     }
 }
 
-// Puts the answer at the end of the list, which has room for it.
-fn put_last(answers: &mut ChoiceList, choice: Choice)
-    requires room { 1 ≤ answers.old.spare }
-    ensures all { answers.new.items ≡ answers.old.items ++ choice ∷ [] }
+// Puts the item at the end of the list, which has room for it.
+fn put_last<T: Drop>(list: &mut List<T>, item: T)
+    requires room { 1 ≤ list.old.spare }
+    ensures all { list.new.items ≡ list.old.items ++ item ∷ [] }
+    ensures spare { list.old.spare ≤ list.new.spare + 1 }
 {
-    match answers.push(choice) {
+    match list.push(item) {
         Ok(()) => {}
         Err(_) => unreachable!(),
     }

@@ -29,9 +29,7 @@ pub(crate) fn finish(program: &Program) -> Finish
             steps: program.steps(),
             nulls: program.nulls(),
         },
-        Want::Read(_) => unreachable!(),
-        Want::Choice(_) => unreachable!(),
-        Want::NextStep => unreachable!(),
+        _ => unreachable!(),
     }
 }
 
@@ -66,9 +64,7 @@ fn stop_at(alloc: Global, program: &Program, number: u32, lack: Lack) -> Result<
                 lack,
             })
         }
-        Want::Read(_) => unreachable!(),
-        Want::Ended(_) => unreachable!(),
-        Want::NextStep => unreachable!(),
+        _ => unreachable!(),
     }
 }
 
