@@ -122,7 +122,9 @@ impl<'s> Snapshot<'s> {
 pub(crate) fn planned(alloc: Global, snapshot: Snapshot<'_>) -> Result<Plan, Memory>
     ensures same { IfOk result (λ plan. plan ≡ snapshot.entry) }
 {
-    snapshot.plan(alloc)
+    let plan = snapshot.plan(alloc);
+    drop(snapshot);
+    plan
 }
 
 /// A snapshot of the next step of the update at the place, which is ready. It is refused only for want of memory.

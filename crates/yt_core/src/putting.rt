@@ -49,12 +49,17 @@ pub(crate) fn step_at(
     ensures history { OnErr result (history.new.items ≡ history.old.items) }
     ensures long { length queue.new ≡ length queue.old }
 {
-    let prepared = ready_step(
+    match ready_step(
         alloc, mappings, settings, least, most, versions, queue, history, place, &plan,
-    )?;
-    Ok(put_step(
-        settings, least, versions, queue, history, place, plan, prepared,
-    ))
+    ) {
+        Ok(prepared) => Ok(put_step(
+            settings, least, versions, queue, history, place, plan, prepared,
+        )),
+        Err(refusal) => {
+            drop(plan);
+            Err(refusal)
+        }
+    }
 }
 
 // Makes room for the step of the plan, and prepares what it leaves, where at least so many are committed and at most so many

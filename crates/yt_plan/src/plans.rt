@@ -56,13 +56,18 @@ pub fn plan_step<F: Facts>(
 {
     let mut known = settled;
     let mut after = program.copy(alloc)?;
-    let reads = take_step(
+    match take_step(
         alloc, program, &mut after, choice, mappings, budget, below, with, &mut known,
-    )?;
-    Ok(Plan {
-        program: after,
-        reads,
-    })
+    ) {
+        Ok(reads) => Ok(Plan {
+            program: after,
+            reads,
+        }),
+        Err(refusal) => {
+            drop(after);
+            Err(refusal)
+        }
+    }
 }
 
 // Takes the next step of the attempt on a copy of it, and gives its reads.
