@@ -1,5 +1,6 @@
 -- What is told of a core is told of its updates, and a core that was opened and drained has come to what the serial machine comes to.
 use Rattle.std.proofs.Common.{◌≡◌, ◌∙◌, ap, sym, refl, subst, ℕ, zero, suc, ◌≤◌, true, Some, None, List, map, length, arith}
+use Rattle.std.specs.Prelude.{Result, Ok, Err, IfOk, OnOk}
 use Rattle.yt_machine.specs.Bounds.{admissions_in}
 use Rattle.yt_machine.specs.Histories.{event_of}
 use Rattle.yt_machine.specs.Serial.{first_stop}
@@ -87,3 +88,8 @@ drained_serially s budget c n a b r valid meets count e some sorted legal t quie
     let rests : is_quiet_at last ≡ true = subst (λ (x : State). is_quiet_at x ≡ true) same quiet in
     let telling : IsResultOf last r = subst (λ (x : State). IsResultOf x r) same told in
     telling ∙ sym (ap result_in (drained_law s budget c t.turns H b.history valid meets sorted_there some_there (begun s budget c some_there sorted_there n count legal_there) turns rests))
+
+-- Of a result: what holds if it is good, and what holds of the good value, give a third.
+pub if_ok_both : {A E : Type 0} (r : Result A E) (S : Type 0) (P Q : A → Type 0) → ((x : A) → S → P x → Q x) → OnOk r S → IfOk r P → IfOk r Q
+if_ok_both (Ok x) S P Q f s h = f x s h
+if_ok_both (Err e) S P Q f s h = tt

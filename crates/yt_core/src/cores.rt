@@ -16,10 +16,11 @@ ghost use Rattle.yt_core.specs.Planned.{IsStepAt};
 
 use crate::admitting::{admissions, admitted};
 use crate::deliveries::deliver_at;
-use crate::plans::{Plan, Snapshot, snapshot_at};
+use crate::plans::{Plan, Snapshot, planned, snapshot_at};
+use crate::putting::step_at;
 use crate::refusals::{DeliverRefusal, StepRefusal};
 use crate::standings::{has_waiting, place_of, question, standing};
-use crate::stepping::{raised, step_at};
+use crate::stepping::raised;
 use std::alloc::Global;
 use std::marker::Model;
 use yt_base::{Memory, TupleList, UpdateList};
@@ -283,10 +284,19 @@ impl<'s> Core<'s> {
         ensures number { IfOk result (λ n. n ≡ length self.new.history) }
         ensures kept { OnErr result (self.new ≡ self.old) }
     {
-        let snapshot = self.snapshot(alloc, update)?;
-        let plan = snapshot.plan(alloc)?;
+        let plan = self.next_plan(alloc, update)?;
         let number = self.install(alloc, plan)?;
         Ok(number)
+    }
+
+    // The plan of the next step of the update, which is ready. It is refused only for want of memory.
+    fn next_plan(&self, alloc: Global, update: u32) -> Result<Plan, Memory>
+        requires ready { standing_at self.now update ≡ Some Ready }
+        ensures update { IfOk result (λ plan. plan.update ≡ update) }
+        ensures step { IfOk result (IsStepAt self.now) }
+    {
+        let snapshot = self.snapshot(alloc, update)?;
+        planned(alloc, snapshot)
     }
 
     // Delivers the first of the answers that wait for the update, which is pending, if there is one.

@@ -14,6 +14,7 @@ mod cores;
 mod deliveries;
 mod draining;
 mod plans;
+mod putting;
 mod refusals;
 mod results;
 mod standings;

@@ -118,6 +118,15 @@ impl<'s> Snapshot<'s> {
     }
 }
 
+/// The plan of the step of the snapshot, which is given up. It is refused only for want of memory.
+pub(crate) fn planned(alloc: Global, snapshot: Snapshot<'_>) -> Result<Plan, Memory>
+    ensures same { IfOk result (λ plan. plan ≡ snapshot.entry) }
+{
+    let plan = snapshot.plan(alloc);
+    drop(snapshot);
+    plan
+}
+
 /// A snapshot of the next step of the update at the place, which is ready. It is refused only for want of memory.
 pub(crate) fn snapshot_at<'s>(
     alloc: Global,
@@ -158,10 +167,10 @@ fn snapshot_of<'s>(
     ensures taken { IfOk result (IsSnapshotOf (map rule_of mappings.now.items) budget versions.now
         item.now) }
 {
-    let answer = next_answer(alloc, item)?;
-    let program = item.program.copy(alloc)?;
     let settled = settled_by(alloc, mappings, &item.program, item.log.as_slice())?;
+    let answer = next_answer(alloc, item)?;
     let versions = versions.share()?;
+    let program = item.program.copy(alloc)?;
     Ok(Snapshot {
         mappings: Mappings::of(mappings),
         budget,

@@ -1,10 +1,12 @@
 //! What is told of a core, and what a session comes to whose core is drained.
-ghost use Rattle.std.specs.Prelude.{◌≡◌, ◌≤◌, None, IfOk};
+ghost use Rattle.std.specs.Prelude.{◌≡◌, ◌≤◌, None, true, IfOk, OnOk};
 ghost use Rattle.yt_grammar.specs.Validity.{IsSession};
 ghost use Rattle.yt_session.specs.Base.{base_violation};
 ghost use Rattle.yt_session.specs.Meanings.{session_of};
 ghost use Rattle.yt_serial.specs.Meanings.{IsSerialRun};
+ghost use Rattle.yt_core.specs.Drained.{HasTurned};
 ghost use Rattle.yt_core.specs.Results.{IsResultOf};
+ghost use Rattle.yt_core.specs.States.{is_quiet_at};
 
 use crate::cores::Core;
 use std::alloc::Global;
@@ -41,6 +43,15 @@ pub fn drained(
 {
     let mut core = Core::open(alloc, session, settings, budget)?;
     core.is_legal();
+    came_to(alloc, &mut core)
+}
+
+// What the core comes to once it is drained. It is refused only for want of memory.
+fn came_to(alloc: Global, core: &mut Core<'_>) -> Result<SessionResult, Memory>
+    ensures turned { HasTurned core.old core.new }
+    ensures quiet { OnOk result (is_quiet_at core.new ≡ true) }
+    ensures told { IfOk result (IsResultOf core.new) }
+{
     core.drain(alloc)?;
     let told = core.result(alloc)?;
     Ok(told)

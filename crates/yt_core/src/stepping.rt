@@ -1,13 +1,13 @@
 //! A step: it is prepared while nothing is changed, and then put in place, which cannot fail.
-ghost use Rattle.std.specs.Prelude.{◌≡◌, ◌<◌, ◌≤◌, suc, [], ◌∷◌, ◌++◌, drop, length, map, IfOk, OnOk, OnErr};
+ghost use Rattle.std.specs.Prelude.{◌≡◌, ◌<◌, ◌≤◌, suc, [], ◌∷◌, ◌++◌, drop, length, map, IfOk, OnOk};
 ghost use Rattle.yt_base.specs.Meanings.{change_of};
 ghost use Rattle.yt_queue.specs.Programs.{IsBetween};
 ghost use Rattle.yt_queue.specs.Queues.{AreFrom};
 ghost use Rattle.yt_queue.specs.Renewals.{AllHaveOneMore, AreFresh};
 ghost use Rattle.yt_queue.specs.Settings.{settings_of};
-ghost use Rattle.yt_queue.specs.Walks.{CommitsAtLeast, HasCommitted, ReadsAtMost};
+ghost use Rattle.yt_queue.specs.Walks.{CommitsAtLeast, ReadsAtMost};
 ghost use Rattle.yt_core.specs.Aftermaths.{AllBetween};
-ghost use Rattle.yt_core.specs.Follows.{AreSame, HasRoomAt, IsPlanAt, IsPreparedAt, IsInstalled, KeepsCommitted, KeepsUnread, TellsStep, StepsTo};
+ghost use Rattle.yt_core.specs.Follows.{AreSame, HasRoomAt, IsPlanAt, IsPreparedAt, IsInstalled, KeepsCommitted, KeepsUnread};
 ghost use Rattle.yt_core.specs.Steps.{HasHidden, HasTurned, ShowsStep, WereFound, IsPrepared};
 
 use crate::aftermaths::{Aftermath, settled};
@@ -15,7 +15,7 @@ use std::alloc::Global;
 use yt_base::{Memory, TryCopy, Write, WriteList};
 use yt_cascade::Cascade;
 use yt_conflict::Sense;
-use yt_entries::{Cause, CauseList, Entry, EntryList};
+use yt_entries::{Cause, Entry, EntryList};
 use yt_limits::Mappings;
 use yt_plan::Plan;
 use yt_program::{Outcome, Program};
@@ -56,8 +56,8 @@ pub(crate) fn prepare(
     let found = found(
         alloc, mappings, settings, committed, versions, &after, item, upper, readers, plan,
     )?;
-    let left = settled(alloc, after, upper, found)?;
     let writes = copied(alloc, item.written(plan))?;
+    let left = settled(alloc, after, upper, found)?;
     Ok(Prepared { writes, left })
 }
 
@@ -226,103 +226,12 @@ pub(crate) fn install(queue: &mut [Record], place: usize, plan: Plan, fresh: Vec
     restart_marked(queue, place + 1, fresh);
 }
 
-// The entry of the step that the update at the place made, where so many are committed.
-fn step_entry(
-    settings: Settings,
-    committed: u32,
-    queue: &[Record],
-    place: usize,
-    attempt: u32,
-    writes: WriteList,
-    causes: CauseList,
-) -> Entry
-    requires place { place < length queue.now }
-    requires numbers { AreFrom 1 queue.now }
-    requires committed { HasCommitted queue.now committed }
-    ensures told { TellsStep (settings_of settings) place attempt writes causes queue.now result }
-{
-    let record = &queue[place];
-    let update = record.number();
-    let standing = record.standing(settings, committed, update);
-    Entry::Stepped {
-        update,
-        attempt,
-        standing,
-        writes,
-        causes,
-        committed,
-    }
-}
-
-// Makes the step of the plan, which is the next one of the update at the place, where at least so many are committed and at
-// most so many have read something. It gives how many are committed then. There is room for it. It is refused only for want
-// of memory; nothing is then changed.
-fn make_step(
-    alloc: Global,
-    mappings: &Mappings<'_>,
-    settings: Settings,
-    least: u32,
-    most: u32,
-    versions: &mut Versions,
-    queue: &mut [Record],
-    history: &mut EntryList,
-    place: usize,
-    plan: Plan,
-) -> Result<u32, Memory>
-    requires place { place < length queue.old }
-    requires numbers { AreFrom 1 queue.old }
-    requires least { CommitsAtLeast queue.old least }
-    requires most { ReadsAtMost queue.old most }
-    requires few { most ≤ length queue.old }
-    requires more { AllHaveOneMore queue.old }
-    requires room { HasRoomAt place plan queue.old }
-    requires plan { IsPlanAt place plan queue.old }
-    requires after { IsBetween plan.program }
-    requires spare { 1 ≤ history.old.spare }
-    ensures made { OnOk result (StepsTo mappings.now (settings_of settings) place plan versions.old
-        queue.old history.old.items versions.new queue.new history.new.items) }
-    ensures committed { IfOk result (CommitsAtLeast queue.new) }
-    ensures most { OnOk result (KeepsUnread place queue.old queue.new) }
-    ensures versions { OnErr result (versions.new ≡ versions.old) }
-    ensures queue { OnErr result (queue.new ≡ queue.old) }
-    ensures history { OnErr result (history.new ≡ history.old) }
-    ensures long { length queue.new ≡ length queue.old }
-{
-    let prepared = prepare_at(
-        alloc, mappings, settings, least, most, versions, queue, place, &plan,
-    )?;
-    let Prepared { writes, left } = prepared;
-    let attempt = queue[place].program.attempt();
-    install(queue, place, plan, left.fresh);
-    *versions = left.versions;
-    let committed = committed_from(queue, least_below(least, place));
-    let entry = step_entry(
-        settings,
-        committed,
-        queue,
-        place,
-        attempt,
-        writes,
-        left.causes,
-    );
-    put_last(history, entry);
-    Ok(committed)
-}
-
 /// So many, or all up to the update, which has made a step.
 pub(crate) fn raised(most: u32, update: u32) -> u32
     ensures most { most ≤ result }
     ensures update { update ≤ result }
 {
     if most < update { update } else { most }
-}
-
-// So many, where they are all below the place.
-fn least_below(least: u32, place: usize) -> u32
-    ensures least { result ≤ least }
-    ensures below { result ≤ place }
-{
-    if least as usize <= place { least } else { 0 }
 }
 
 /// Puts the entry at the end of the history, which has room for it.
@@ -352,43 +261,4 @@ pub(crate) fn reserve_step(
 {
     queue[place].reserve_reads(plan)?;
     history.reserve(1)
-}
-
-/// Makes the step of the plan, which is the next one of the update at the place, where at least so many are committed and
-/// at most so many have read something. It gives how many are committed at least then. It is refused only for want of
-/// memory; what the queue and the history mean then stays.
-pub(crate) fn step_at(
-    alloc: Global,
-    mappings: &Mappings<'_>,
-    settings: Settings,
-    least: u32,
-    most: u32,
-    versions: &mut Versions,
-    queue: &mut [Record],
-    history: &mut EntryList,
-    place: usize,
-    plan: Plan,
-) -> Result<u32, Memory>
-    requires place { place < length queue.old }
-    requires numbers { AreFrom 1 queue.old }
-    requires least { CommitsAtLeast queue.old least }
-    requires most { ReadsAtMost queue.old most }
-    requires few { most ≤ length queue.old }
-    requires more { AllHaveOneMore queue.old }
-    requires plan { IsPlanAt place plan queue.old }
-    requires after { IsBetween plan.program }
-    ensures made { OnOk result (StepsTo mappings.now (settings_of settings) place plan versions.old
-        queue.old history.old.items versions.new queue.new history.new.items) }
-    ensures committed { IfOk result (CommitsAtLeast queue.new) }
-    ensures most { OnOk result (KeepsUnread place queue.old queue.new) }
-    ensures versions { OnErr result (versions.new ≡ versions.old) }
-    ensures queue { OnErr result (AreSame queue.old queue.new) }
-    ensures history { OnErr result (history.new.items ≡ history.old.items) }
-    ensures long { length queue.new ≡ length queue.old }
-{
-    reserve_step(queue, history, place, &plan)?;
-    let committed = make_step(
-        alloc, mappings, settings, least, most, versions, queue, history, place, plan,
-    )?;
-    Ok(committed)
 }

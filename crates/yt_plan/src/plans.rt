@@ -54,23 +54,57 @@ pub fn plan_step<F: Facts>(
         ≡ next_reads mappings.now (F.tuples below.now) program.now.attempt
         (option_map choice_of (option_copied choice.entry))) }
 {
+    let mut known = settled;
+    let mut after = program.copy(alloc)?;
+    match take_step(
+        alloc, program, &mut after, choice, mappings, budget, below, with, &mut known,
+    ) {
+        Ok(reads) => Ok(Plan {
+            program: after,
+            reads,
+        }),
+        Err(refusal) => {
+            drop(after);
+            Err(refusal)
+        }
+    }
+}
+
+// Takes the next step of the attempt on a copy of it, and gives its reads.
+fn take_step<F: Facts>(
+    alloc: Global,
+    program: &Program,
+    after: &mut Program,
+    choice: Option<&Choice>,
+    mappings: &Mappings<'_>,
+    budget: Budget,
+    below: &F,
+    with: &F,
+    settled: &mut Settled,
+) -> Result<ReadLog, Memory>
+    requires same { after.old ≡ program.now }
+    requires applied { F.tuples with.now ≡ apply (F.tuples below.now) program.now.attempt.own }
+    requires settled { HasSettled mappings.now (F.tuples below.now) program.now.attempt settled.old }
+    requires wanted { WantsStep (wish program.now) (option_map choice_of (option_copied choice)) }
+    requires left { program.now.attempt.steps < budget }
+    ensures program { OnOk result (after.new ≡ at_rest
+        (next_attempt mappings.now budget (F.tuples below.now) program.now.attempt
+        (option_map choice_of (option_copied choice.entry)))) }
+    ensures reads { IfOk result (λ reads.
+        map read_of reads.items
+        ≡ next_reads mappings.now (F.tuples below.now) program.now.attempt
+        (option_map choice_of (option_copied choice.entry))) }
+{
     // The set tells that it is in order.
     let _ = below.beyond(None);
     let own = program.own();
     let view = AppliedView::new(below, with, own);
-    let mut after = program.copy(alloc)?;
-    begin(alloc, &mut after, choice, mappings, budget)?;
+    begin(alloc, after, choice, mappings, budget)?;
     let made = own.len() as u64;
     let direction = program.direction();
-    let mut known = settled;
-    let reads = answer_all(
-        alloc, &mut after, &view, &mut known, mappings, direction, made,
-    )?;
+    let reads = answer_all(alloc, after, &view, settled, mappings, direction, made)?;
     after.share(alloc)?;
-    Ok(Plan {
-        program: after,
-        reads,
-    })
+    Ok(reads)
 }
 
 // Begins the step, up to its first query or its end.

@@ -15,6 +15,6 @@ returns-then-has_spent-clause-found c =
 pub returns-clause-found : goal.returns-clause-found
 returns-clause-found c =
     if_ok c.causes_of_writes.result _ _
-    (λ found are. found_in_writes _ (settings_of c.args.settings) c.args.versions.now c.args.item.now c.args.upper.now c.args.plan.now c.turned-sense.result.1.now found.items c.has_spent.result refl c.number.ensures.number
+    (λ found are. found_in_writes (record { rules = c.args.mappings.now; deps = (settings_of c.args.settings).deps; committed = c.args.committed; update = c.number.result; sense = c.turned-sense.result.0; whole = c.args.after.now }) (settings_of c.args.settings) c.args.versions.now c.args.item.now c.args.upper.now c.args.plan.now c.turned-sense.result.1.now found.items c.has_spent.result refl c.number.ensures.number
     c.has_spent.ensures.spent c.if-has_spent.false c.turned-sense.ensures.turned are)
     c.causes_of_writes.ensures.causes

@@ -6,7 +6,7 @@ use Rattle.yt_steps.specs.Steps.{step}
 use Rattle.yt_program.specs.Courses.{State, coming_to, course}
 use Rattle.yt_plan.specs.Planned.{at_rest}
 use Rattle.yt_plan.proofs.Answering.{planned, planned_reads, made_so_far}
-use Rattle.yt_plan.proofs.plans.plan_step.Goals as goal
+use Rattle.yt_plan.proofs.plans.take_step.Goals as goal
 
 pub returns-clause-program : goal.returns-clause-program
 returns-clause-program g c =
@@ -14,7 +14,7 @@ returns-clause-program g c =
     let P = c.args.program.now.attempt in
     let seen = c.new-view.ensures.seen in
     let own = ap (λ (v : Seen). v.own) seen ∙ c.own-own.ensures.own in
-    let begun = c.in_ok-begin.ensures.step ∙ ap (λ (s : State). coming_to c.args.budget s.attempt (step ms s.attempt (option_map choice_of (option_copied c.args.choice)))) c.in_ok-after.ensures.same in
+    let begun = c.in_ok-begin.ensures.step ∙ ap (λ (s : State). coming_to c.args.budget s.attempt (step ms s.attempt (option_map choice_of (option_copied c.args.choice)))) c.requires.same in
     c.share.ensures.same
     ∙ c.in_ok-reads.ensures.answered
     ∙ ap at_rest (planned ms c.args.budget (g.F.Facts.tuples c.args.below.now) P (option_map choice_of (option_copied c.args.choice))
@@ -27,7 +27,7 @@ returns-clause-reads g c =
     let P = c.args.program.now.attempt in
     let seen = c.new-view.ensures.seen in
     let own = ap (λ (v : Seen). v.own) seen ∙ c.own-own.ensures.own in
-    let begun = c.in_ok-begin.ensures.step ∙ ap (λ (s : State). coming_to c.args.budget s.attempt (step ms s.attempt (option_map choice_of (option_copied c.args.choice)))) c.in_ok-after.ensures.same in
+    let begun = c.in_ok-begin.ensures.step ∙ ap (λ (s : State). coming_to c.args.budget s.attempt (step ms s.attempt (option_map choice_of (option_copied c.args.choice)))) c.requires.same in
     c.in_ok-reads.ensures.reads
     ∙ planned_reads ms c.args.budget c.len-made.result (g.F.Facts.tuples c.args.below.now) P (option_map choice_of (option_copied c.args.choice))
     (course ms c.begin.new.program) c.new-view.result.below c.new-view.result.own (heading_of c.direction-direction.result)

@@ -1,7 +1,7 @@
 use Rattle.yt_queue.specs.Settings.{settings_of}
 use Rattle.yt_core.proofs.Entering.{step_told}
 use Rattle.yt_core.proofs.Telling.{between_there}
-use Rattle.yt_core.proofs.stepping.step_entry.Goals as goal
+use Rattle.yt_core.proofs.putting.step_entry.Goals as goal
 
 pub standing-standing-requires : goal.standing-standing-requires
 standing-standing-requires c =
