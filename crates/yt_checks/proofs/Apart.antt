@@ -81,17 +81,19 @@ later n r [] lt a = tt
 later n r (D ∷ Ds) lt a = both (λ u. r < u.relation) D (gathered Ds) (greater n r D lt a.0) (later (suc n) r Ds (omega arith) a.1)
 
 -- What is put into the set of its relation is put into the whole.
-pub put_apart : (n : ℕ) (Ds : List (List Fact)) (i : ℕ) (D : List Fact) (t : Fact) → AreApart n Ds → i < length Ds → D ≡ get_or Ds i D → t.relation ≡ n + i → gathered (slice_set Ds i (insert_key fact_cmp D t)) ≡ insert_key fact_cmp (gathered Ds) t
-put_apart n [] i D t a lt is r = absurd (omega arith)
-put_apart n (E ∷ Ds) zero D t a lt is r =
-    ap (λ F. insert_key fact_cmp F t ++ gathered Ds) is ∙ sym (put_before E (gathered Ds) t (later (suc n) t.relation Ds (omega arith) a.1))
-put_apart n (E ∷ Ds) (suc i) D t a lt is r =
-    ap (λ l. E ++ l) (put_apart (suc n) Ds i D t a.1 (omega arith) is (omega arith)) ∙ sym (put_behind E (gathered Ds) t (lesser n t.relation E (omega arith) a.0))
+pub put_apart : (n : ℕ) (Ds : List (List Fact)) (i : ℕ) (D E : List Fact) (t : Fact) → AreApart n Ds → i < length Ds → D ≡ get_or Ds i D → t.relation ≡ n + i → E ≡ insert_key fact_cmp D t → gathered (slice_set Ds i E) ≡ insert_key fact_cmp (gathered Ds) t
+put_apart n [] i D E t a lt is r put = absurd (omega arith)
+put_apart n (F ∷ Ds) zero D E t a lt is r put =
+    ap (λ G. G ++ gathered Ds) (put ∙ ap (λ G. insert_key fact_cmp G t) is) ∙ sym (put_before F (gathered Ds) t (later (suc n) t.relation Ds (omega arith) a.1))
+put_apart n (F ∷ Ds) (suc i) D E t a lt is r put =
+    ap (λ l. F ++ l) (put_apart (suc n) Ds i D E t a.1 (omega arith) is (omega arith) put) ∙ sym (put_behind F (gathered Ds) t (lesser n t.relation F (omega arith) a.0))
 
-pub kept_apart : (n : ℕ) (Ds : List (List Fact)) (i : ℕ) (D : List Fact) (t : Fact) → AreApart n Ds → i < length Ds → D ≡ get_or Ds i D → t.relation ≡ n + i → AreApart n (slice_set Ds i (insert_key fact_cmp D t))
-kept_apart n [] i D t a lt is r = absurd (omega arith)
-kept_apart n (E ∷ Ds) zero D t a lt is r = (insert_all (λ u. u.relation ≡ n) D t (subst (AllByRecursion (λ u. u.relation ≡ n)) (sym is) a.0) (omega arith), a.1)
-kept_apart n (E ∷ Ds) (suc i) D t a lt is r = (a.0, kept_apart (suc n) Ds i D t a.1 (omega arith) is (omega arith))
+pub kept_apart : (n : ℕ) (Ds : List (List Fact)) (i : ℕ) (D E : List Fact) (t : Fact) → AreApart n Ds → i < length Ds → D ≡ get_or Ds i D → t.relation ≡ n + i → E ≡ insert_key fact_cmp D t → AreApart n (slice_set Ds i E)
+kept_apart n [] i D E t a lt is r put = absurd (omega arith)
+kept_apart n (F ∷ Ds) zero D E t a lt is r put =
+    let all : AllByRecursion (λ u. u.relation ≡ n) D = subst (AllByRecursion (λ u. u.relation ≡ n)) (sym is) a.0 in
+    (subst (AllByRecursion (λ u. u.relation ≡ n)) (sym put) (insert_all (λ u. u.relation ≡ n) D t all (omega arith)), a.1)
+kept_apart n (F ∷ Ds) (suc i) D E t a lt is r put = (a.0, kept_apart (suc n) Ds i D E t a.1 (omega arith) is (omega arith) put)
 
 -- What is sought in the set of its relation is sought in the whole.
 pub sought_apart : (n : ℕ) (Ds : List (List Fact)) (i : ℕ) (D : List Fact) (t : Fact) → AreApart n Ds → i < length Ds → D ≡ get_or Ds i D → t.relation ≡ n + i → has D t ≡ has (gathered Ds) t

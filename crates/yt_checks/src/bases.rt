@@ -10,11 +10,12 @@ use std::marker::Model;
 use yt_base::{List, Memory, Tuple, TupleList};
 use yt_facts::RisingFacts;
 
-/// A set of tuples, put in one by one, in little time as long as those of each relation come in order. Contracts see the
-/// list of its tuples, in order. It keeps a set for each relation, and a number of which it has no more tuples.
+/// A set of tuples, put in one by one: a set for each relation, each a list as long as its own tuples come in order.
+/// Contracts see the list of all tuples, in order.
 #[derive(Drop)]
 pub(crate) struct Base {
     relations: Vec<RisingFacts>,
+    // There are no more tuples. As long as it is below a limit, none have to be counted.
     most: usize,
     alloc: Global,
 }
@@ -43,7 +44,7 @@ impl Base {
         }
     }
 
-    /// Whether there are so many tuples.
+    /// Whether there are so many tuples, or more.
     pub(crate) fn is_full(&self, most: usize) -> bool
         ensures full { result ≡ nat_le most (length self.now) }
     {
@@ -88,7 +89,7 @@ impl Base {
     }
 }
 
-// Whether the sets have so many tuples together.
+// Whether the sets together have so many tuples, or more.
 fn are_so_many(relations: &[RisingFacts], most: usize) -> bool
     ensures reached { result ≡ nat_le most (length (gathered relations.now)) }
 {

@@ -1,5 +1,4 @@
-use Rattle.std.proofs.Common.{◌≡◌, ◌∙◌, ap, arith, length, sym, subst, List}
-use Rattle.std.specs.Prelude.{slice_set}
+use Rattle.std.proofs.Common.{◌∙◌, ap, arith, length, sym, subst, List}
 use Rattle.std.specs.BTreeSet.{insert_key}
 use Rattle.yt_model.specs.Values.{Fact, fact_cmp}
 use Rattle.yt_base.specs.Meanings.{fact_of}
@@ -27,20 +26,15 @@ returns-in_err-insert-clause-longer c =
 pub returns-clause-ok : goal.returns-clause-ok
 returns-clause-ok c =
     let t = fact_of c.args.tuple in
-    ap (λ (D : List Fact). gathered (slice_set c.reach.new.relations.items c.args.tuple.relation D)) c.in_ok-insert.ensures.ok
-    ∙ put_apart 0 c.reach.new.relations.items c.args.tuple.relation c.index_mut.result.now t c.reach.ensures.apart c.in_ok-reach.ensures.there c.index_mut.ensures.value (omega arith)
+    put_apart 0 c.reach.new.relations.items c.args.tuple.relation c.index_mut.result.now c.insert.new.self t c.reach.ensures.apart c.in_ok-reach.ensures.there c.index_mut.ensures.value (omega arith) c.in_ok-insert.ensures.ok
     ∙ ap (λ (D : List Fact). insert_key fact_cmp D t) c.reach.ensures.same
 
 pub returns-clause-apart : goal.returns-clause-apart
 returns-clause-apart c =
-    subst (λ (D : List Fact). AreApart 0 (slice_set c.reach.new.relations.items c.args.tuple.relation D)) (sym c.in_ok-insert.ensures.ok)
-    (kept_apart 0 c.reach.new.relations.items c.args.tuple.relation c.index_mut.result.now (fact_of c.args.tuple) c.reach.ensures.apart c.in_ok-reach.ensures.there c.index_mut.ensures.value (omega arith))
+    kept_apart 0 c.reach.new.relations.items c.args.tuple.relation c.index_mut.result.now c.insert.new.self (fact_of c.args.tuple) c.reach.ensures.apart c.in_ok-reach.ensures.there c.index_mut.ensures.value (omega arith) c.in_ok-insert.ensures.ok
 
 pub returns-clause-longer : goal.returns-clause-longer
 returns-clause-longer c =
     let t = fact_of c.args.tuple in
-    let put : gathered (slice_set c.reach.new.relations.items c.args.tuple.relation c.insert.new.self) ≡ insert_key fact_cmp (gathered c.args.relations.now.items) t =
-    ap (λ (D : List Fact). gathered (slice_set c.reach.new.relations.items c.args.tuple.relation D)) c.in_ok-insert.ensures.ok
-    ∙ put_apart 0 c.reach.new.relations.items c.args.tuple.relation c.index_mut.result.now t c.reach.ensures.apart c.in_ok-reach.ensures.there c.index_mut.ensures.value (omega arith)
-    ∙ ap (λ (D : List Fact). insert_key fact_cmp D t) c.reach.ensures.same in
-    omega (arith, ap length put, insert_longer (gathered c.args.relations.now.items) t)
+    let put = put_apart 0 c.reach.new.relations.items c.args.tuple.relation c.index_mut.result.now c.insert.new.self t c.reach.ensures.apart c.in_ok-reach.ensures.there c.index_mut.ensures.value (omega arith) c.in_ok-insert.ensures.ok in
+    omega (arith, ap length put, insert_longer (gathered c.reach.new.relations.items) t, ap length c.reach.ensures.same)
