@@ -1,4 +1,5 @@
 pub mod Answering
+pub mod Apart
 pub mod Bits
 pub mod Carried
 pub mod Found

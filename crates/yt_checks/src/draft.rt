@@ -10,12 +10,12 @@ ghost use Rattle.yt_checks.specs.Answers.{Gives};
 mod asked;
 mod given;
 
+use crate::bases::Base;
 use crate::refusals::TakeRefusal;
 use crate::updates::Updates;
 use std::alloc::Global;
 use std::marker::Model;
 use yt_base::{List, MappingList, Memory};
-use yt_facts::RisingFacts;
 use yt_forms::RawStatement;
 use yt_schema::Schema;
 use yt_session::Session;
@@ -26,7 +26,7 @@ pub struct Draft {
     format: u8,
     schema: Schema,
     mappings: MappingList,
-    base: RisingFacts,
+    base: Base,
     updates: Updates,
 }
 
@@ -51,7 +51,7 @@ impl Draft {
             format,
             schema: Schema::new(alloc),
             mappings: List::new(alloc),
-            base: RisingFacts::new(alloc),
+            base: Base::new(alloc),
             updates: Updates::new(alloc),
         }
     }

@@ -6,6 +6,7 @@
 //! memory is the fault that is found, and that want of memory may come in place of any answer.
 #![tactic(auto)]
 
+mod bases;
 mod cycles;
 mod draft;
 mod facts;

@@ -22,7 +22,7 @@ mod Heard
 mod Listened
 mod Placed
 mod Passed
-mod Grows
+pub mod Grows
 mod Kept
 mod Answered
 mod Held

@@ -86,7 +86,7 @@ impl Draft {
         ensures err { OnErr result (self.new ≡ self.old) }
     {
         let tuple = bounded_fact(alloc, &self.schema, 0, fact)?;
-        if most_tuples(self.format) <= self.base.len() && !self.base.find(&tuple)? {
+        if self.base.is_full(most_tuples(self.format)) && !self.base.find(&tuple)? {
             return Err(limit(Which::Base));
         }
         self.base.insert(tuple)?;
