@@ -3,9 +3,11 @@
 
 mod numbers;
 mod ordered;
+mod shown;
 
 pub use numbers::Grid;
 pub use ordered::{Words, WordsOf};
+pub use shown::{shown_table, shown_words};
 
 /// A [`Grid`] written out as a table: each row has a heading in quotes and a colon before its cells,
 /// and a semicolon behind them. The headings are for the reader alone.
@@ -15,6 +17,3 @@ macro_rules! grid {
         $crate::Grid::new([$([$($cell),*]),*])
     };
 }
-
-#[cfg(test)]
-mod tests;

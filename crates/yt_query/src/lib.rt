@@ -14,6 +14,3 @@ pub use crate::answers::Answer;
 pub use crate::laws::values_are_of_their_kind;
 pub use crate::log::{LoggedRead, ReadLog};
 pub use crate::queries::{Query, mentions};
-
-#[cfg(test)]
-mod tests;
