@@ -1,10 +1,10 @@
 -- A core may go to other threads.
-use denote.Param.Send.{IsSend, sendable, view_send}
+use denote.Param.Send.{IsSend, IsSync, sendable, view_send}
 use denote.Param.SendFields.{declared_send}
 use denote.Ref.{NamedLft}
 use Rattle.std.proofs.Crossing.{crosses}
 use Rattle.yt_versions.proofs.Sent.{versions_send}
-use Rattle.yt_base.proofs.Sent.{tuple_send}
+use Rattle.yt_base.proofs.Sent.{tuple_send, tuple_sync}
 use Rattle.yt_base.specs.contracts.updates.Operation as operations
 use Rattle.yt_query.specs.contracts.log.LoggedRead as reads
 use Rattle.yt_chase.specs.contracts.repairs.Repair as repairs
@@ -16,6 +16,9 @@ use Rattle.yt_program.specs.contracts.programs.Program.TheInside as inside
 use Rattle.yt_queue.specs.contracts.records.Record as records
 use Rattle.yt_entries.specs.contracts.entries.Entry as entries
 use Rattle.yt_core.specs.contracts.cores.Core as core
+use Rattle.yt_base.specs.contracts.updates.Update as updates
+use Rattle.yt_base.specs.contracts.updates.Choice as choices
+use Rattle.yt_session.specs.contracts.sessions.SessionUpdate as session_updates
 use Rattle.yt_seated.specs.contracts.seated.Seated as seated
 
 operation_send : IsSend operations.the_row
@@ -50,8 +53,21 @@ record_send = search (sendable, crosses, read_send, program_send) depth 60 fits 
 entry_send : IsSend entries.the_row
 entry_send = search (sendable, crosses, tuple_send) depth 60 fits 6000
 
+-- A core lends the base and the updates of its session, so other threads see them.
+operation_sync : IsSync operations.the_row
+operation_sync = search (sendable, crosses, tuple_sync) depth 60 fits 6000
+
+choice_sync : IsSync choices.the_row
+choice_sync = search (sendable, crosses, tuple_sync) depth 60 fits 6000
+
+session_update_sync : IsSync session_updates.the_row
+session_update_sync = search (sendable, crosses, operation_sync, choice_sync) depth 60 fits 6000
+
+update_send : IsSend updates.the_row
+update_send = search (sendable, crosses, operation_send) depth 60 fits 6000
+
 core_send : (κ : NamedLft) → IsSend (core.the_row κ)
-core_send κ = search (sendable, crosses, versions_send, record_send, entry_send) depth 60 fits 6000
+core_send κ = search (sendable, crosses, versions_send, record_send, entry_send, update_send, session_update_sync, tuple_sync) depth 60 fits 6000
 
 pub seated_send : (κ : NamedLft) → IsSend (seated.the_row κ)
 seated_send κ = search (sendable, crosses, core_send) depth 60 fits 6000
