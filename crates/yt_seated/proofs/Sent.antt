@@ -22,7 +22,7 @@ use Rattle.yt_session.specs.contracts.sessions.SessionUpdate as session_updates
 use Rattle.yt_seated.specs.contracts.seated.Seated as seated
 
 operation_send : IsSend operations.the_row
-operation_send = search (sendable, crosses, tuple_send) depth 60 fits 6000
+operation_send = search (sendable, crosses) depth 60 fits 6000
 
 repair_send : IsSend repairs.the_row
 repair_send = search (sendable, crosses, tuple_send) depth 60 fits 6000
@@ -32,7 +32,7 @@ point_send = search (sendable, crosses, tuple_send, repair_send) depth 60 fits 6
 
 -- The writes, which copies of a program share.
 own_inside_send : IsSend own_inside.the_row
-own_inside_send = search (sendable, crosses, tuple_send) depth 60 fits 6000
+own_inside_send = search (sendable, crosses) depth 60 fits 6000
 
 own_send : IsSend own.the_row
 own_send = view_send _ _ _ _ _ own_inside_send
@@ -54,17 +54,14 @@ entry_send : IsSend entries.the_row
 entry_send = search (sendable, crosses, tuple_send) depth 60 fits 6000
 
 -- A core lends the base and the updates of its session, so other threads see them.
-operation_sync : IsSync operations.the_row
-operation_sync = search (sendable, crosses, tuple_sync) depth 60 fits 6000
-
 choice_sync : IsSync choices.the_row
 choice_sync = search (sendable, crosses, tuple_sync) depth 60 fits 6000
 
 session_update_sync : IsSync session_updates.the_row
-session_update_sync = search (sendable, crosses, operation_sync, choice_sync) depth 60 fits 6000
+session_update_sync = search (sendable, crosses, choice_sync) depth 60 fits 6000
 
 update_send : IsSend updates.the_row
-update_send = search (sendable, crosses, operation_send) depth 60 fits 6000
+update_send = search (sendable, crosses) depth 60 fits 6000
 
 core_send : (κ : NamedLft) → IsSend (core.the_row κ)
 core_send κ = search (sendable, crosses, versions_send, record_send, entry_send, update_send, session_update_sync, tuple_sync) depth 60 fits 6000
