@@ -9,7 +9,7 @@ ghost use Rattle.yt_base.specs.Contents.{changes_of};
 ghost use Rattle.yt_disk.specs.InMemory.{bytes_of, state_of, unused_disk};
 ghost use Rattle.yt_journal.specs.Format.{IsWrite, journal_text, logged};
 ghost use Rattle.yt_journal.specs.Journals.{IsInHand};
-ghost use Rattle.yt_logged.specs.Logged.{AreLogged, commits_of, opening_of};
+ghost use Rattle.yt_logged.specs.Logged.{AreLogged, commits_of, journal_of, opening_of};
 ghost use Rattle.yt_program.specs.Results.{stop_of};
 ghost use Rattle.yt_report.specs.Pages.{mappings_of};
 ghost use Rattle.yt_schema.specs.Meanings.{session_mapping_of};
@@ -40,31 +40,26 @@ pub struct Journal {
     pub budget: Budget,
 }
 
-// The mappings that no update adds.
-fn initial_mappings(alloc: Global, mappings: MappingList) -> Result<MappingList, Memory>
-    ensures { IfOk result
-        (λ initial. mappings_of initial ≡ initial_mappings (mappings_of mappings)) }
+// The mappings that no update adds. It takes no memory.
+fn initial_mappings(mappings: MappingList) -> MappingList
+    ensures { mappings_of result ≡ initial_mappings (mappings_of mappings) }
 {
-    let mut kept = MappingList::new(alloc);
-    for mapping in mappings.into_vec() {
-        if mapping.since == 0 {
-            kept.push(mapping)?;
-        }
-    }
-    Ok(kept)
+    let mut kept = mappings.into_vec();
+    kept.retain(|mapping| mapping.since == 0);
+    List::from_vec(kept)
 }
 
-// What the session begins with.
-fn opening_of(alloc: Global, session: Session) -> Result<Session, Memory>
-    ensures { IfOk result (λ opening. session_of opening ≡ opening_of (session_of session)) }
+// What the session begins with. It takes no memory.
+fn opening_of(alloc: Global, session: Session) -> Session
+    ensures { session_of result ≡ opening_of (session_of session) }
 {
-    Ok(Session {
+    Session {
         format: session.format,
         schema: session.schema,
-        mappings: initial_mappings(alloc, session.mappings)?,
+        mappings: initial_mappings(session.mappings),
         base: session.base,
         updates: List::new(alloc),
-    })
+    }
 }
 
 // Appends a commit. None where the journal is too long with it.
@@ -185,7 +180,23 @@ fn ending_by(stop: &Option<Stop>) -> Ending
     }
 }
 
-// The journal of what a run of the session left.
+// The journal of what a run of the session left; None where it is too long.
+fn journal_left(alloc: Global, session: Session, left: Trailed) -> Result<Option<Vec<u8>>, Memory>
+    requires session { IsSession (session_of session) }
+    requires writes { AreLogged session.schema (commits_of (trails_of left.trails)) }
+    requires few { length left.trails.items ≤ 1000 }
+    ensures text { IfOk result (λ found. IfSome found (λ text.
+        (text.items ≡ journal_of (session_of session) (trails_of left.trails))
+        × (is_too_long text.items ≡ false))) }
+    ensures none { IfOk result (λ found. IfNone found
+        (is_too_long (journal_of (session_of session) (trails_of left.trails)) ≡ true)) }
+{
+    openings_are_sessions();
+    let opening = opening_of(alloc, session);
+    journal_of(alloc, &opening, left.trails)
+}
+
+// What is written of what a run of the session left.
 fn journal_output(alloc: Global, session: Session, left: Trailed) -> Result<Output, Memory>
     requires session { IsSession (session_of session) }
     requires writes { AreLogged session.schema (commits_of (trails_of left.trails)) }
@@ -193,10 +204,8 @@ fn journal_output(alloc: Global, session: Session, left: Trailed) -> Result<Outp
     ensures { IfOk result
         (λ output. view_of output ≡ journal_output (session_of session) (trailed_of left)) }
 {
-    openings_are_sessions();
     let ending = ending_by(&left.stop);
-    let opening = opening_of(alloc, session)?;
-    match journal_of(alloc, &opening, left.trails)? {
+    match journal_left(alloc, session, left)? {
         Some(text) => Ok(Output::Text(ending, text)),
         None => Ok(Output::Refused(Refusal::TooLarge, too_large_line(alloc)?)),
     }
