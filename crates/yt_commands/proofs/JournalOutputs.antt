@@ -29,12 +29,6 @@ told_text s left e text f here h =
     let short : is_too_long (journal_of s left.trails) ≡ false = ap is_too_long (sym here) ∙ h in
     (λ i. Text (f i) (here i)) ∙ sym (ap (λ b. if b then Refused TooLarge too_large_line else Text (ending_by left.stop) (journal_of s left.trails)) short)
 
--- where the base violates no mapping
-pub unless_none : {E : Type 0} (s : SessionData) (output : OutputView) (r : Result Output E) (found : Option Violated) → IfOk r (λ o. view_of o ≡ output) → option_map violated_of found ≡ base_violation s → found ≡ None
-    → IfOk r (λ o. view_of o ≡ unless_violated s output (base_violation s))
-unless_none s output r found made base none =
-    IfOk-weaker r _ _ (λ o is. is ∙ ap (unless_violated s output) (sym (ap (option_map violated_of) none) ∙ base)) made
-
 -- ---- what the run left can be logged
 
 pub run_of : (s : SessionData) (steps : ℕ) → IsSession s → 1 ≤ steps → steps ≤ 300 → IsRun steps s

@@ -1,8 +1,8 @@
 //! The command `journal`: what a session begins with and what its updates commit, as a journal.
-ghost use Rattle.std.specs.Prelude.{◌≡◌, ◌+◌, ◌≤◌, [], length, map, not, false, true, IfOk, IfSome, IfNone};
+ghost use Rattle.std.specs.Prelude.{◌≡◌, ◌+◌, ◌≤◌, [], length, map, not, false, true, IfErr, IfOk, IfSome, IfNone, None};
 ghost use Rattle.std.specs.List.{AllByRecursion};
 ghost use Rattle.std.specs.Option.{option_map};
-ghost use Rattle.yt_command.specs.Outputs.{view_of};
+ghost use Rattle.yt_command.specs.Outputs.{OutputView, view_of};
 ghost use Rattle.yt_grammar.specs.Sessions.{initial_mappings};
 ghost use Rattle.yt_grammar.specs.Validity.{IsSession};
 ghost use Rattle.yt_base.specs.Contents.{changes_of};
@@ -13,12 +13,14 @@ ghost use Rattle.yt_logged.specs.Logged.{AreLogged, commits_of, journal_of, open
 ghost use Rattle.yt_program.specs.Results.{stop_of};
 ghost use Rattle.yt_report.specs.Pages.{mappings_of};
 ghost use Rattle.yt_schema.specs.Meanings.{session_mapping_of};
-ghost use Rattle.yt_serial.specs.Trails.{trailed_of, trails_of};
+ghost use Rattle.yt_serial.specs.Trails.{IsTrailed, trailed_of, trails_of};
+ghost use Rattle.yt_session.specs.Base.{base_violation};
 ghost use Rattle.yt_session.specs.Meanings.{session_of};
+ghost use Rattle.yt_commands.specs.Commands.{unless_violated};
 ghost use Rattle.yt_commands.specs.Journaled.{HasJournal, HasOneMore, IsOneTooMany, is_too_long, journal_output, journaled};
 ghost use Rattle.yt_commands.specs.Runs.{ending_by};
 
-use crate::base::{base_refusal, base_violation};
+use crate::base::met_base;
 use crate::reading::SessionCommand;
 use crate::runs::too_large_line;
 use std::alloc::Global;
@@ -29,7 +31,7 @@ use yt_journal::{AppendFault, Commit, CreateFault, Journal as Place, append, cre
 use yt_limits::Budget;
 use yt_logged::{openings_are_sessions, trails_are_logged};
 use yt_program::Stop;
-use yt_serial::{TrailList, Trailed, base_of, trails};
+use yt_serial::{TrailList, Trailed, trails};
 use yt_session::Session;
 
 /// `journal`: the updates taken whole, one after the other; what the session begins with, and what each of them commits, as
@@ -211,17 +213,35 @@ fn journal_output(alloc: Global, session: Session, left: Trailed) -> Result<Outp
     }
 }
 
+// What a run of the session leaves; the refusal of its base, where that violates a mapping.
+fn left_of(
+    alloc: Global,
+    session: &Session,
+    budget: Budget,
+) -> Result<Result<Trailed, Output>, Memory>
+    requires valid { IsSession (session_of session.now) }
+    ensures left { IfOk result (λ found. IfOk found (IsTrailed budget (session_of session.now))) }
+    ensures met { IfOk result (λ found. IfOk found (λ _.
+        base_violation (session_of session.now) ≡ None)) }
+    ensures violated { IfOk result (λ found. IfErr found (λ refusal. (output : OutputView) →
+        view_of refusal ≡ unless_violated (session_of session.now) output
+        (base_violation (session_of session.now)))) }
+{
+    match met_base(alloc, session)? {
+        Ok(base) => Ok(Ok(trails(alloc, session, base, budget)?)),
+        Err(refusal) => Ok(Err(refusal)),
+    }
+}
+
 impl SessionCommand for Journal {
     ghost makes = { λ c s output. output ≡ journaled c.budget s };
 
     fn make(&self, alloc: Global, session: Session) -> Result<Output, Memory> {
         trails_are_logged();
         self.budget.is_within();
-        let base = base_of(alloc, &session)?;
-        if let Some(violated) = base_violation(alloc, &session, &base)? {
-            return base_refusal(alloc, &session.schema, &violated);
+        match left_of(alloc, &session, self.budget)? {
+            Ok(left) => journal_output(alloc, session, left),
+            Err(refusal) => Ok(refusal),
         }
-        let left = trails(alloc, &session, base, self.budget)?;
-        journal_output(alloc, session, left)
     }
 }
