@@ -1,25 +1,18 @@
 -- What the command `journal` writes of what a run left.
-use Rattle.std.proofs.Common.{◌≡◌, ◌∙◌, ℕ, ◌≤◌, ap, sym, subst, List, length, true, false, Option, None, Result, IfOk, arith}
-use Rattle.std.specs.Prelude.{option_map, if◌then◌else◌}
-use Rattle.std.proofs.lemmas.Result.{IfOk-weaker}
+use Rattle.std.proofs.Common.{◌≡◌, ◌∙◌, ℕ, ◌≤◌, ap, sym, subst, List, length, false, arith}
+use Rattle.std.specs.Prelude.{if◌then◌else◌}
 use Rattle.yt_base.specs.Contents.{changes_of}
 use Rattle.yt_model.proofs.Maps.{length_map}
-use Rattle.yt_command.specs.Outputs.{OutputView, Text, Refused, view_of}
+use Rattle.yt_command.specs.Outputs.{Text, Refused}
 use Rattle.yt_command.specs.declared.outputs.Ending.{Ending}
-use Rattle.yt_command.specs.declared.outputs.Output.{Output}
 use Rattle.yt_command.specs.declared.outputs.Refusal.TheVariants.{TooLarge}
 use Rattle.yt_grammar.specs.Sessions.{SessionData}
 use Rattle.yt_grammar.specs.Validity.{IsSession}
-use Rattle.yt_journal.specs.Format.{journal_text}
-use Rattle.yt_logged.specs.Logged.{AreLogged, IsRun, commits_of, journal_of, opening_of}
+use Rattle.yt_logged.specs.Logged.{AreLogged, IsRun, commits_of, journal_of}
 use Rattle.yt_serial.specs.Trails.{IsTrailed, TrailsTold, trails_by, trails_of}
 use Rattle.yt_serial.specs.declared.trailing.Trailed.{Trailed}
-use Rattle.yt_session.specs.Base.{base_violation}
-use Rattle.yt_commands.specs.Commands.{unless_violated}
 use Rattle.yt_commands.specs.Journaled.{is_too_long, journal_output}
 use Rattle.yt_commands.specs.Runs.{ending_by, too_large_line}
-use Rattle.yt_commands.specs.Violations.{violated_of}
-use Rattle.yt_commands.specs.declared.base.Violated.{Violated}
 
 -- ---- the output
 

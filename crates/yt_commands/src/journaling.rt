@@ -1,5 +1,5 @@
 //! The command `journal`: what a session begins with and what its updates commit, as a journal.
-ghost use Rattle.std.specs.Prelude.{◌≡◌, ◌+◌, ◌≤◌, [], length, map, not, false, true, IfErr, IfOk, IfSome, IfNone, None};
+ghost use Rattle.std.specs.Prelude.{◌≡◌, ◌+◌, ◌≤◌, [], length, not, false, true, IfErr, IfOk, IfSome, IfNone, None};
 ghost use Rattle.std.specs.List.{AllByRecursion};
 ghost use Rattle.std.specs.Option.{option_map};
 ghost use Rattle.yt_command.specs.Outputs.{OutputView, view_of};
@@ -12,7 +12,6 @@ ghost use Rattle.yt_journal.specs.Journals.{IsInHand};
 ghost use Rattle.yt_logged.specs.Logged.{AreLogged, commits_of, journal_of, opening_of};
 ghost use Rattle.yt_program.specs.Results.{stop_of};
 ghost use Rattle.yt_report.specs.Pages.{mappings_of};
-ghost use Rattle.yt_schema.specs.Meanings.{session_mapping_of};
 ghost use Rattle.yt_serial.specs.Trails.{IsTrailed, trailed_of, trails_of};
 ghost use Rattle.yt_session.specs.Base.{base_violation};
 ghost use Rattle.yt_session.specs.Meanings.{session_of};
@@ -24,7 +23,7 @@ use crate::base::met_base;
 use crate::reading::SessionCommand;
 use crate::runs::too_large_line;
 use std::alloc::Global;
-use yt_base::{List, MappingList, Memory, WriteList};
+use yt_base::{List, MappingList, Memory};
 use yt_command::{Ending, INPUT_LIMIT, Output, Refusal};
 use yt_disk::MemDisk;
 use yt_journal::{AppendFault, Commit, CreateFault, Journal as Place, append, create};

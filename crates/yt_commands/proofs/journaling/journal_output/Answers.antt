@@ -1,4 +1,3 @@
-use Rattle.std.proofs.Common.{refl}
 use Rattle.yt_serial.specs.Trails.{trailed_of}
 use Rattle.yt_session.specs.Meanings.{session_of}
 use Rattle.yt_commands.proofs.JournalOutputs.{told_text}
