@@ -1,46 +1,26 @@
 -- What the command `journal` writes of what a run left.
-use Rattle.std.proofs.Common.{◌≡◌, ◌∙◌, ℕ, ◌≤◌, ap, sym, subst, List, length, true, false, Option, None, Result, IfOk, arith}
-use Rattle.std.specs.Prelude.{option_map, if◌then◌else◌}
-use Rattle.std.proofs.lemmas.Result.{IfOk-weaker}
+use Rattle.std.proofs.Common.{◌≡◌, ◌∙◌, ℕ, ◌≤◌, ap, sym, subst, List, length, false, arith}
+use Rattle.std.specs.Prelude.{if◌then◌else◌}
 use Rattle.yt_base.specs.Contents.{changes_of}
 use Rattle.yt_model.proofs.Maps.{length_map}
-use Rattle.yt_command.specs.Outputs.{OutputView, Text, Refused, view_of}
+use Rattle.yt_command.specs.Outputs.{Text, Refused}
 use Rattle.yt_command.specs.declared.outputs.Ending.{Ending}
-use Rattle.yt_command.specs.declared.outputs.Output.{Output}
 use Rattle.yt_command.specs.declared.outputs.Refusal.TheVariants.{TooLarge}
 use Rattle.yt_grammar.specs.Sessions.{SessionData}
 use Rattle.yt_grammar.specs.Validity.{IsSession}
-use Rattle.yt_journal.specs.Format.{journal_text}
-use Rattle.yt_logged.specs.Logged.{AreLogged, IsRun, commits_of, journal_of, opening_of}
+use Rattle.yt_logged.specs.Logged.{AreLogged, IsRun, commits_of, journal_of}
 use Rattle.yt_serial.specs.Trails.{IsTrailed, TrailsTold, trails_by, trails_of}
 use Rattle.yt_serial.specs.declared.trailing.Trailed.{Trailed}
-use Rattle.yt_session.specs.Base.{base_violation}
-use Rattle.yt_commands.specs.Commands.{unless_violated}
 use Rattle.yt_commands.specs.Journaled.{is_too_long, journal_output}
 use Rattle.yt_commands.specs.Runs.{ending_by, too_large_line}
-use Rattle.yt_commands.specs.Violations.{violated_of}
-use Rattle.yt_commands.specs.declared.base.Violated.{Violated}
 
 -- ---- the output
 
-pub told_text : (s opening : SessionData) (left : TrailsTold) (e : Ending) (text : List ℕ) → opening ≡ opening_of s → e ≡ ending_by left.stop → text ≡ journal_text opening (commits_of left.trails) → is_too_long text ≡ false
+pub told_text : (s : SessionData) (left : TrailsTold) (e : Ending) (text : List ℕ) → e ≡ ending_by left.stop → text ≡ journal_of s left.trails → is_too_long text ≡ false
     → Text e text ≡ journal_output s left
-told_text s opening left e text same f g h =
-    let here : text ≡ journal_of s left.trails = g ∙ ap (λ o. journal_text o (commits_of left.trails)) same in
+told_text s left e text f here h =
     let short : is_too_long (journal_of s left.trails) ≡ false = ap is_too_long (sym here) ∙ h in
     (λ i. Text (f i) (here i)) ∙ sym (ap (λ b. if b then Refused TooLarge too_large_line else Text (ending_by left.stop) (journal_of s left.trails)) short)
-
-pub told_long : (s opening : SessionData) (left : TrailsTold) (line : List ℕ) → opening ≡ opening_of s → line ≡ too_large_line → is_too_long (journal_text opening (commits_of left.trails)) ≡ true
-    → Refused TooLarge line ≡ journal_output s left
-told_long s opening left line same f h =
-    let long : is_too_long (journal_of s left.trails) ≡ true = ap (λ o. is_too_long (journal_text o (commits_of left.trails))) (sym same) ∙ h in
-    ap (Refused TooLarge) f ∙ sym (ap (λ b. if b then Refused TooLarge too_large_line else Text (ending_by left.stop) (journal_of s left.trails)) long)
-
--- where the base violates no mapping
-pub unless_none : {E : Type 0} (s : SessionData) (output : OutputView) (r : Result Output E) (found : Option Violated) → IfOk r (λ o. view_of o ≡ output) → option_map violated_of found ≡ base_violation s → found ≡ None
-    → IfOk r (λ o. view_of o ≡ unless_violated s output (base_violation s))
-unless_none s output r found made base none =
-    IfOk-weaker r _ _ (λ o is. is ∙ ap (unless_violated s output) (sym (ap (option_map violated_of) none) ∙ base)) made
 
 -- ---- what the run left can be logged
 

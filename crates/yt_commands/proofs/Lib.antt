@@ -2,4 +2,3 @@ mod JournalOutputs
 mod Journals
 mod Performed
 mod RecoverOutputs
-mod Unviolated

@@ -10,11 +10,12 @@ ghost use Rattle.yt_command.specs.Outputs.{view_of};
 ghost use Rattle.yt_grammar.specs.Faults.{Arity, UnknownRelation, kind_text};
 ghost use Rattle.yt_grammar.specs.Validity.{IsSession};
 ghost use Rattle.yt_program.specs.Results.{result_of};
+ghost use Rattle.yt_report.specs.Results.{serial_told};
 ghost use Rattle.yt_session.specs.Base.{base_violation};
 ghost use Rattle.yt_session.specs.Meanings.{session_of};
 ghost use Rattle.yt_commands.specs.Asked.{answers_output, asked, asked_of, query_line};
 
-use crate::base::{base_refusal, base_violation};
+use crate::base::met_base;
 use crate::reading::SessionCommand;
 use crate::runs::ending_by;
 use std::alloc::Global;
@@ -24,7 +25,7 @@ use yt_command::{Output, Refusal};
 use yt_facts::{IndexedFacts, PlainFacts};
 use yt_limits::Budget;
 use yt_program::SessionResult;
-use yt_serial::{base_of, serial_over};
+use yt_serial::serial_over;
 use yt_session::Session;
 
 /// `ask`: the updates taken whole, one after the other; the certain answers to a query over the repository that they
@@ -104,6 +105,25 @@ fn arity_line(alloc: Global, name: &Name, expected: u16, found: u64) -> Result<V
     query_line(alloc, &words)
 }
 
+// What is made of it where the query goes with its relations.
+fn over_bound(
+    alloc: Global,
+    session: &Session,
+    base: IndexedFacts,
+    budget: Budget,
+    query: &BoundAsk,
+) -> Result<Output, Memory>
+    requires safe { IsSafe (query_of query.now) }
+    requires valid { IsSession (session_of session.now) }
+    requires met { base_violation (session_of session.now) ≡ None }
+    requires base { base ≡ (session_of session.now).base }
+    ensures { IfOk result (λ output. view_of output
+        ≡ answers_output (serial_told budget (session_of session.now)) (query_of query.now)) }
+{
+    let told = serial_over(alloc, session, base, budget)?;
+    answers_output(alloc, query, &told)
+}
+
 // What is made of a session whose base violates no mapping.
 fn over_base(
     alloc: Global,
@@ -120,10 +140,7 @@ fn over_base(
         ≡ asked_of budget (written_of query.now) (session_of session.now)) }
 {
     match bind_ask(alloc, &session.schema, query) {
-        Ok(bound) => {
-            let told = serial_over(alloc, session, base, budget)?;
-            answers_output(alloc, &bound, &told)
-        }
+        Ok(bound) => over_bound(alloc, session, base, budget, &bound),
         Err(AskRefusal::UnknownRelation(name)) => Ok(Output::Refused(
             Refusal::QueryRefused,
             unknown_line(alloc, &name)?,
@@ -142,14 +159,23 @@ fn over_base(
     }
 }
 
+// What `ask` makes of the session.
+fn asked(alloc: Global, session: &Session, budget: Budget, query: &RawAsk) -> Result<Output, Memory>
+    requires spelled { is_ask (written_of query.now) ≡ true }
+    requires valid { IsSession (session_of session.now) }
+    ensures asked { IfOk result (λ output. view_of output
+        ≡ asked budget (written_of query.now) (session_of session.now)) }
+{
+    match met_base(alloc, session)? {
+        Ok(base) => over_base(alloc, session, base, budget, query),
+        Err(refusal) => Ok(refusal),
+    }
+}
+
 impl<'a> SessionCommand for Ask<'a> {
     ghost makes = { λ c s output. output ≡ asked c.budget (written_of c.query.now) s };
 
     fn make(&self, alloc: Global, session: Session) -> Result<Output, Memory> {
-        let base = base_of(alloc, &session)?;
-        if let Some(violated) = base_violation(alloc, &session, &base)? {
-            return base_refusal(alloc, &session.schema, &violated);
-        }
-        over_base(alloc, &session, base, self.budget, self.query)
+        asked(alloc, &session, self.budget, self.query)
     }
 }

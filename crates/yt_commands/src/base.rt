@@ -1,12 +1,14 @@
 //! Whether the base of a session meets the mappings that are in force from the start.
-ghost use Rattle.std.specs.Prelude.{◌≡◌, ◌++◌, ◌∷◌, [], flat_map, false, map, option_map, IfOk, OnOk};
+ghost use Rattle.std.specs.Prelude.{◌≡◌, ◌++◌, ◌∷◌, [], None, flat_map, false, map, option_map, IfErr, IfOk, OnOk};
 ghost use Rattle.yt_base.specs.Meanings.{fact_of};
-ghost use Rattle.yt_command.specs.Outputs.{Refused, view_of};
+ghost use Rattle.yt_command.specs.Outputs.{OutputView, Refused, view_of};
+ghost use Rattle.yt_grammar.specs.Validity.{IsSession};
 ghost use Rattle.yt_schema.specs.Meanings.{session_mapping_of};
 ghost use Rattle.yt_session.specs.Meanings.{session_of};
 ghost use Rattle.yt_grammar.specs.Printing.{joined_text, tuple_text};
 ghost use Rattle.yt_session.specs.Base.{base_violation, first_violated, violated_by};
 ghost use Rattle.yt_commands.specs.Base.{base_line};
+ghost use Rattle.yt_commands.specs.Commands.{unless_violated};
 ghost use Rattle.yt_commands.specs.Violations.{violated_of};
 
 use std::alloc::Global;
@@ -14,6 +16,7 @@ use yt_base::{Facts, Mapping, Memory, Tuple, TupleList};
 use yt_command::{Output, Refusal};
 use yt_facts::IndexedFacts;
 use yt_schema::{Schema, print_tuple};
+use yt_serial::base_of;
 use yt_session::Session;
 use yt_violation::{Scope, first_violation};
 
@@ -138,4 +141,25 @@ pub fn base_refusal(
         Refused Refusal.BaseViolates (base_line schema.now (violated_of violated.now))) }
 {
     Ok(Output::Refused(Refusal::BaseViolates, base_line(alloc, schema, violated)?))
+}
+
+/// The base of the session as a set of tuples, where it meets the mappings that are in force from the start; else the
+/// refusal that tells its first violation. It is refused only for want of memory.
+pub(crate) fn met_base(
+    alloc: Global,
+    session: &Session,
+) -> Result<Result<IndexedFacts, Output>, Memory>
+    requires valid { IsSession (session_of session.now) }
+    ensures base { IfOk result (λ found. IfOk found (λ base. base ≡ (session_of session.now).base)) }
+    ensures met { IfOk result (λ found. IfOk found (λ _.
+        base_violation (session_of session.now) ≡ None)) }
+    ensures violated { IfOk result (λ found. IfErr found (λ refusal. (output : OutputView) →
+        view_of refusal ≡ unless_violated (session_of session.now) output
+        (base_violation (session_of session.now)))) }
+{
+    let base = base_of(alloc, session)?;
+    match base_violation(alloc, session, &base)? {
+        Some(violated) => Ok(Err(base_refusal(alloc, &session.schema, &violated)?)),
+        None => Ok(Ok(base)),
+    }
 }

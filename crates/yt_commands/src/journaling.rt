@@ -1,35 +1,36 @@
 //! The command `journal`: what a session begins with and what its updates commit, as a journal.
-ghost use Rattle.std.specs.Prelude.{◌≡◌, ◌+◌, ◌≤◌, [], length, map, not, false, true, IfOk, IfSome, IfNone};
+ghost use Rattle.std.specs.Prelude.{◌≡◌, ◌+◌, ◌≤◌, [], length, not, false, true, IfErr, IfOk, IfSome, IfNone, None};
 ghost use Rattle.std.specs.List.{AllByRecursion};
 ghost use Rattle.std.specs.Option.{option_map};
-ghost use Rattle.yt_command.specs.Outputs.{view_of};
+ghost use Rattle.yt_command.specs.Outputs.{OutputView, view_of};
 ghost use Rattle.yt_grammar.specs.Sessions.{initial_mappings};
 ghost use Rattle.yt_grammar.specs.Validity.{IsSession};
 ghost use Rattle.yt_base.specs.Contents.{changes_of};
 ghost use Rattle.yt_disk.specs.InMemory.{bytes_of, state_of, unused_disk};
 ghost use Rattle.yt_journal.specs.Format.{IsWrite, journal_text, logged};
 ghost use Rattle.yt_journal.specs.Journals.{IsInHand};
-ghost use Rattle.yt_logged.specs.Logged.{AreLogged, commits_of, opening_of};
+ghost use Rattle.yt_logged.specs.Logged.{AreLogged, commits_of, journal_of, opening_of};
 ghost use Rattle.yt_program.specs.Results.{stop_of};
 ghost use Rattle.yt_report.specs.Pages.{mappings_of};
-ghost use Rattle.yt_schema.specs.Meanings.{session_mapping_of};
-ghost use Rattle.yt_serial.specs.Trails.{trailed_of, trails_of};
+ghost use Rattle.yt_serial.specs.Trails.{IsTrailed, trailed_of, trails_of};
+ghost use Rattle.yt_session.specs.Base.{base_violation};
 ghost use Rattle.yt_session.specs.Meanings.{session_of};
+ghost use Rattle.yt_commands.specs.Commands.{unless_violated};
 ghost use Rattle.yt_commands.specs.Journaled.{HasJournal, HasOneMore, IsOneTooMany, is_too_long, journal_output, journaled};
 ghost use Rattle.yt_commands.specs.Runs.{ending_by};
 
-use crate::base::{base_refusal, base_violation};
+use crate::base::met_base;
 use crate::reading::SessionCommand;
 use crate::runs::too_large_line;
 use std::alloc::Global;
-use yt_base::{List, MappingList, Memory, WriteList};
+use yt_base::{List, MappingList, Memory};
 use yt_command::{Ending, INPUT_LIMIT, Output, Refusal};
 use yt_disk::MemDisk;
 use yt_journal::{AppendFault, Commit, CreateFault, Journal as Place, append, create};
 use yt_limits::Budget;
 use yt_logged::{openings_are_sessions, trails_are_logged};
 use yt_program::Stop;
-use yt_serial::{TrailList, Trailed, base_of, trails};
+use yt_serial::{TrailList, Trailed, trails};
 use yt_session::Session;
 
 /// `journal`: the updates taken whole, one after the other; what the session begins with, and what each of them commits, as
@@ -40,31 +41,26 @@ pub struct Journal {
     pub budget: Budget,
 }
 
-// The mappings that no update adds.
-fn initial_mappings(alloc: Global, mappings: MappingList) -> Result<MappingList, Memory>
-    ensures { IfOk result
-        (λ initial. mappings_of initial ≡ initial_mappings (mappings_of mappings)) }
+// The mappings that no update adds. It takes no memory.
+fn initial_mappings(mappings: MappingList) -> MappingList
+    ensures { mappings_of result ≡ initial_mappings (mappings_of mappings) }
 {
-    let mut kept = MappingList::new(alloc);
-    for mapping in mappings.into_vec() {
-        if mapping.since == 0 {
-            kept.push(mapping)?;
-        }
-    }
-    Ok(kept)
+    let mut kept = mappings.into_vec();
+    kept.retain(|mapping| mapping.since == 0);
+    List::from_vec(kept)
 }
 
-// What the session begins with.
-fn opening_of(alloc: Global, session: Session) -> Result<Session, Memory>
-    ensures { IfOk result (λ opening. session_of opening ≡ opening_of (session_of session)) }
+// What the session begins with. It takes no memory.
+fn opening_of(alloc: Global, session: Session) -> Session
+    ensures { session_of result ≡ opening_of (session_of session) }
 {
-    Ok(Session {
+    Session {
         format: session.format,
         schema: session.schema,
-        mappings: initial_mappings(alloc, session.mappings)?,
+        mappings: initial_mappings(session.mappings),
         base: session.base,
         updates: List::new(alloc),
-    })
+    }
 }
 
 // Appends a commit. None where the journal is too long with it.
@@ -185,7 +181,23 @@ fn ending_by(stop: &Option<Stop>) -> Ending
     }
 }
 
-// The journal of what a run of the session left.
+// The journal of what a run of the session left; None where it is too long.
+fn journal_left(alloc: Global, session: Session, left: Trailed) -> Result<Option<Vec<u8>>, Memory>
+    requires session { IsSession (session_of session) }
+    requires writes { AreLogged session.schema (commits_of (trails_of left.trails)) }
+    requires few { length left.trails.items ≤ 1000 }
+    ensures text { IfOk result (λ found. IfSome found (λ text.
+        (text.items ≡ journal_of (session_of session) (trails_of left.trails))
+        × (is_too_long text.items ≡ false))) }
+    ensures none { IfOk result (λ found. IfNone found
+        (is_too_long (journal_of (session_of session) (trails_of left.trails)) ≡ true)) }
+{
+    openings_are_sessions();
+    let opening = opening_of(alloc, session);
+    journal_of(alloc, &opening, left.trails)
+}
+
+// What is written of what a run of the session left.
 fn journal_output(alloc: Global, session: Session, left: Trailed) -> Result<Output, Memory>
     requires session { IsSession (session_of session) }
     requires writes { AreLogged session.schema (commits_of (trails_of left.trails)) }
@@ -193,12 +205,30 @@ fn journal_output(alloc: Global, session: Session, left: Trailed) -> Result<Outp
     ensures { IfOk result
         (λ output. view_of output ≡ journal_output (session_of session) (trailed_of left)) }
 {
-    openings_are_sessions();
     let ending = ending_by(&left.stop);
-    let opening = opening_of(alloc, session)?;
-    match journal_of(alloc, &opening, left.trails)? {
+    match journal_left(alloc, session, left)? {
         Some(text) => Ok(Output::Text(ending, text)),
         None => Ok(Output::Refused(Refusal::TooLarge, too_large_line(alloc)?)),
+    }
+}
+
+// What a run of the session leaves; the refusal of its base, where that violates a mapping.
+fn left_of(
+    alloc: Global,
+    session: &Session,
+    budget: Budget,
+) -> Result<Result<Trailed, Output>, Memory>
+    requires valid { IsSession (session_of session.now) }
+    ensures left { IfOk result (λ found. IfOk found (IsTrailed budget (session_of session.now))) }
+    ensures met { IfOk result (λ found. IfOk found (λ _.
+        base_violation (session_of session.now) ≡ None)) }
+    ensures violated { IfOk result (λ found. IfErr found (λ refusal. (output : OutputView) →
+        view_of refusal ≡ unless_violated (session_of session.now) output
+        (base_violation (session_of session.now)))) }
+{
+    match met_base(alloc, session)? {
+        Ok(base) => Ok(Ok(trails(alloc, session, base, budget)?)),
+        Err(refusal) => Ok(Err(refusal)),
     }
 }
 
@@ -208,11 +238,9 @@ impl SessionCommand for Journal {
     fn make(&self, alloc: Global, session: Session) -> Result<Output, Memory> {
         trails_are_logged();
         self.budget.is_within();
-        let base = base_of(alloc, &session)?;
-        if let Some(violated) = base_violation(alloc, &session, &base)? {
-            return base_refusal(alloc, &session.schema, &violated);
+        match left_of(alloc, &session, self.budget)? {
+            Ok(left) => journal_output(alloc, session, left),
+            Err(refusal) => Ok(refusal),
         }
-        let left = trails(alloc, &session, base, self.budget)?;
-        journal_output(alloc, session, left)
     }
 }

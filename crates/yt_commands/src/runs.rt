@@ -1,12 +1,16 @@
 //! The commands that run a session's updates on one thread: `serial`, which prints the result, and `save`, which prints what
 //! is left as a session.
-ghost use Rattle.std.specs.Prelude.{◌≡◌, IfOk};
-ghost use Rattle.yt_command.specs.Outputs.{view_of};
+ghost use Rattle.std.specs.Prelude.{◌≡◌, None, IfErr, IfOk};
+ghost use Rattle.yt_command.specs.Outputs.{OutputView, view_of};
+ghost use Rattle.yt_grammar.specs.Validity.{IsSession};
 ghost use Rattle.yt_program.specs.Results.{result_of};
+ghost use Rattle.yt_report.specs.Results.{serial_told};
+ghost use Rattle.yt_session.specs.Base.{base_violation};
 ghost use Rattle.yt_session.specs.Meanings.{session_of};
+ghost use Rattle.yt_commands.specs.Commands.{unless_violated};
 ghost use Rattle.yt_commands.specs.Runs.{ending_by, kept, ran, result_output, saved_output, too_large_line};
 
-use crate::base::{base_refusal, base_violation};
+use crate::base::met_base;
 use crate::reading::SessionCommand;
 use std::alloc::Global;
 use yt_base::Memory;
@@ -15,7 +19,7 @@ use yt_limits::Budget;
 use yt_print::print_session;
 use yt_program::SessionResult;
 use yt_report::{SaveRefusal, result_text, saved};
-use yt_serial::{base_of, serial_over};
+use yt_serial::serial_over;
 use yt_session::Session;
 
 /// `serial`: the updates taken whole, one after the other; how each ended, where they stopped, if they did, and
@@ -76,16 +80,44 @@ fn saved_output(alloc: Global, session: Session, told: &SessionResult) -> Result
     }
 }
 
+// What a run of the session tells; the refusal of its base, where that violates a mapping.
+fn told_of(
+    alloc: Global,
+    session: &Session,
+    budget: Budget,
+) -> Result<Result<SessionResult, Output>, Memory>
+    requires valid { IsSession (session_of session.now) }
+    ensures told { IfOk result (λ found. IfOk found (λ told.
+        result_of told ≡ serial_told budget (session_of session.now))) }
+    ensures met { IfOk result (λ found. IfOk found (λ _.
+        base_violation (session_of session.now) ≡ None)) }
+    ensures violated { IfOk result (λ found. IfErr found (λ refusal. (output : OutputView) →
+        view_of refusal ≡ unless_violated (session_of session.now) output
+        (base_violation (session_of session.now)))) }
+{
+    match met_base(alloc, session)? {
+        Ok(base) => Ok(Ok(serial_over(alloc, session, base, budget)?)),
+        Err(refusal) => Ok(Err(refusal)),
+    }
+}
+
+// What `serial` makes of the session.
+fn ran(alloc: Global, session: &Session, budget: Budget) -> Result<Output, Memory>
+    requires valid { IsSession (session_of session.now) }
+    ensures ran { IfOk result
+        (λ output. view_of output ≡ ran budget (session_of session.now)) }
+{
+    match told_of(alloc, session, budget)? {
+        Ok(told) => result_output(alloc, session, &told),
+        Err(refusal) => Ok(refusal),
+    }
+}
+
 impl SessionCommand for Serial {
     ghost makes = { λ c s output. output ≡ ran c.budget s };
 
     fn make(&self, alloc: Global, session: Session) -> Result<Output, Memory> {
-        let base = base_of(alloc, &session)?;
-        if let Some(violated) = base_violation(alloc, &session, &base)? {
-            return base_refusal(alloc, &session.schema, &violated);
-        }
-        let told = serial_over(alloc, &session, base, self.budget)?;
-        result_output(alloc, &session, &told)
+        ran(alloc, &session, self.budget)
     }
 }
 
@@ -93,11 +125,9 @@ impl SessionCommand for Save {
     ghost makes = { λ c s output. output ≡ kept c.budget s };
 
     fn make(&self, alloc: Global, session: Session) -> Result<Output, Memory> {
-        let base = base_of(alloc, &session)?;
-        if let Some(violated) = base_violation(alloc, &session, &base)? {
-            return base_refusal(alloc, &session.schema, &violated);
+        match told_of(alloc, &session, self.budget)? {
+            Ok(told) => saved_output(alloc, session, &told),
+            Err(refusal) => Ok(refusal),
         }
-        let told = serial_over(alloc, &session, base, self.budget)?;
-        saved_output(alloc, session, &told)
     }
 }

@@ -1,18 +1,17 @@
 //! The commands that only look at a session: `format`, `upgrade` and `check`.
-ghost use Rattle.std.specs.Prelude.{◌≡◌, None, Some, option_map, IfOk};
+ghost use Rattle.std.specs.Prelude.{◌≡◌, IfOk};
 ghost use Rattle.yt_command.specs.Outputs.{view_of};
 ghost use Rattle.yt_grammar.specs.Validity.{IsSession};
 ghost use Rattle.yt_session.specs.Meanings.{session_of};
 ghost use Rattle.yt_commands.specs.Commands.{checked, formatted, upgraded_text};
 
-use crate::base::{base_refusal, base_violation};
+use crate::base::met_base;
 use crate::counts::count_line;
 use crate::reading::SessionCommand;
 use std::alloc::Global;
 use yt_base::Memory;
 use yt_command::{Ending, Output};
 use yt_print::{print_session, print_upgraded};
-use yt_serial::base_of;
 use yt_session::Session;
 
 /// `format`: the session's printed form.
@@ -26,6 +25,17 @@ pub struct Upgrade;
 /// `check`: the numbers of the session's parts, where its base meets the mappings that are in force from the start.
 #[derive(Clone, Copy, Debug)]
 pub struct Check;
+
+// What `check` makes of the session.
+fn checked(alloc: Global, session: &Session) -> Result<Output, Memory>
+    requires valid { IsSession (session_of session.now) }
+    ensures checked { IfOk result (λ output. view_of output ≡ checked (session_of session.now)) }
+{
+    match met_base(alloc, session)? {
+        Ok(_) => Ok(Output::Text(Ending::Ended, count_line(alloc, session)?)),
+        Err(refusal) => Ok(refusal),
+    }
+}
 
 impl SessionCommand for Format {
     ghost makes = { λ _ s output. output ≡ formatted s };
@@ -47,10 +57,6 @@ impl SessionCommand for Check {
     ghost makes = { λ _ s output. output ≡ checked s };
 
     fn make(&self, alloc: Global, session: Session) -> Result<Output, Memory> {
-        let base = base_of(alloc, &session)?;
-        match base_violation(alloc, &session, &base)? {
-            Some(violated) => base_refusal(alloc, &session.schema, &violated),
-            None => Ok(Output::Text(Ending::Ended, count_line(alloc, &session)?)),
-        }
+        checked(alloc, &session)
     }
 }
