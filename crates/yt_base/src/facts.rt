@@ -5,7 +5,7 @@ ghost use Rattle.yt_model.specs.Cursors.{is_beyond, first_of, next_of, scan_of};
 ghost use Rattle.yt_model.specs.Repository.{has, IsRepository};
 ghost use Rattle.yt_model.specs.Values.{Fact};
 ghost use Rattle.yt_base.specs.Meanings.{fact_of, datum_of};
-ghost use Rattle.yt_base.specs.Candidates.{column_of, all_candidates, AreAll};
+ghost use Rattle.yt_base.specs.Candidates.{column_of, further_candidates, AreAll};
 
 use crate::candidates::{Candidates, Column};
 use crate::tuples::Tuple;
@@ -55,11 +55,17 @@ pub trait Facts {
             (option_map fact_of (option_copied past.entry)) }
         ensures in_order { IsRepository (tuples self.now) };
 
-    /// All tuples of the relation that have the column's value, where a column is given, as far as the set has them at
-    /// hand. One that has no better way says that they stand apart.
-    fn candidates(&self, _relation: u16, _column: Option<Column<'_>>) -> Candidates<'_>
+    /// All tuples of the relation that have the column's value, where a column is given, and are above `past`, where that is
+    /// given, as far as the set has them at hand. One that has no better way says that they stand apart.
+    fn candidates(
+        &self,
+        _relation: u16,
+        _column: Option<Column<'_>>,
+        _past: Option<&Tuple>,
+    ) -> Candidates<'_>
         ensures all { AreAll result (tuples self.now)
-            (all_candidates (tuples self.now) _relation (option_map column_of _column.entry)) }
+            (further_candidates (tuples self.now) _relation (option_map column_of _column.entry)
+            (option_map fact_of (option_copied _past.entry))) }
     {
         Candidates::Apart
     }

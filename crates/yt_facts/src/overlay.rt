@@ -2,6 +2,7 @@
 ghost use Rattle.std.specs.Prelude.{◌≡◌, ◌&&◌, not, find, map, OnErr, OnOk};
 ghost use Rattle.std.specs.Option.{option_map, option_copied};
 ghost use Rattle.yt_model.specs.Repository.{Delete, Insert, has, change, apply, IsRepository};
+ghost use Rattle.yt_base.specs.Candidates.{column_of, all_candidates, AreAll};
 ghost use Rattle.yt_base.specs.Meanings.{fact_of, change_of};
 ghost use Rattle.yt_facts.specs.Courses.{comes_after, ahead};
 ghost use Rattle.yt_facts.specs.Overlaid.{lesser};
@@ -138,11 +139,29 @@ impl<'a, F: Facts> Facts for Overlay<'a, F> {
     }
 
     // What the set has at hand, where no write is among them.
-    fn candidates(&self, relation: u16, column: Option<Column<'_>>) -> Candidates<'_> {
+    fn candidates(
+        &self,
+        relation: u16,
+        column: Option<Column<'_>>,
+        past: Option<&Tuple>,
+    ) -> Candidates<'_> {
+        match past {
+            Some(_) => Candidates::Apart,
+            None => self.unwritten(relation, column),
+        }
+    }
+}
+
+impl<'a, F: Facts> Overlay<'a, F> {
+    // All candidates, as the set has them at hand, where no write is among them.
+    fn unwritten(&self, relation: u16, column: Option<Column<'_>>) -> Candidates<'_>
+        ensures all { AreAll result self.now
+            (all_candidates self.now relation (option_map column_of column.entry)) }
+    {
         let adds_none = self.added.lacks(relation, column);
         let takes_none = self.gone.lacks(relation, column);
         if adds_none && takes_none {
-            self.facts.candidates(relation, column)
+            self.facts.candidates(relation, column, None)
         } else {
             Candidates::Apart
         }

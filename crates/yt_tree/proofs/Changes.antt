@@ -128,7 +128,7 @@ module _ {K V : Type 0} {R : K → K → Ordering} (p : K → Bool) (rises : (x 
 -- ---- in a zone
 
 module _ {K V : Type 0} (place : K → Ordering) (passes : K × V → Bool) where
-  out_of : (a : Ordering) → is_eq a ≡ false → (l : List (K × V)) → AllByRecursion (λ (x : K × V). place x.0 ≡ a) l → AllByRecursion (λ (x : K × V). is_sought place passes x ≡ false) l
+  pub out_of : (a : Ordering) → is_eq a ≡ false → (l : List (K × V)) → AllByRecursion (λ (x : K × V). place x.0 ≡ a) l → AllByRecursion (λ (x : K × V). is_sought place passes x ≡ false) l
   out_of a n = all_weaker _ _ (λ x h. ap (λ b. is_eq b && passes x) h ∙ ap (λ b. b && passes x) n)
 
 module _ {K V : Type 0} {R : K → K → Ordering} (place : K → Ordering) (passes : K × V → Bool) {d l : List (K × V)} {e : K × V} {r : List (K × V)} (is : d ≡ l ++ e ∷ r) (s : Sides R l e r) where

@@ -3,3 +3,5 @@ pub mod Changes
 pub mod Keeping
 pub mod Passing
 pub mod Lengths
+pub mod Gathering
+pub mod Places

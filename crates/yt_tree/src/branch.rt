@@ -1,11 +1,15 @@
 //! Binary trees of entries, whose nodes may be shared with other trees. Nothing is claimed of their balance.
-ghost use Rattle.std.specs.Prelude.{◌≡◌, ◌-◌, [], ◌∷◌, ◌++◌, vec_len, IfOk, IfErr};
+ghost use Rattle.std.specs.Prelude.{◌≡◌, ◌-◌, ◌≤◌, [], ◌∷◌, ◌++◌, map, filter, vec_len, IfOk, IfErr};
 ghost use Rattle.std.specs.Option.{option_copied};
 ghost use Rattle.yt_tree.specs.Nodes.{entries_at};
 ghost use Rattle.yt_tree.specs.Orders.{IsOrdered, entry_at, first_reached, first_sought};
+ghost use Rattle.yt_tree.specs.Bounds.{AreWithin};
+ghost use Rattle.yt_tree.specs.Few.{all_shown, with_first};
 
+use crate::bounds::{Bounds, place_within};
 use crate::cuts::Cut;
-use crate::searches::Search;
+use crate::few::Few;
+use crate::searches::{Search, Show};
 use crate::shares::Share;
 use std::alloc::{AllocError, Global};
 use std::cmp::Ordering;
@@ -210,5 +214,51 @@ impl<K: Ord + Share, V: Share> Branch<K, V> {
             }
             Ordering::Greater => node.left.find_in(search),
         }
+    }
+
+    /// Adds what is shown of the first entries that are sought, of as many as there is room for. The keys are known to keep
+    /// within the bounds.
+    pub(crate) fn gather<'a, T, S: Search<K, V> + Show<K, V, T>>(
+        &'a self,
+        search: &S,
+        bounds: Bounds,
+        found: &mut Few<'a, T>,
+    )
+        requires in_order { IsOrdered K.cmp self.now }
+        requires within { AreWithin bounds (S.place search.now) self.now }
+        ensures first { found.new ≡ with_first found.old
+            (all_shown S.shown (S.place search.now) (S.passes search.now) self.now) }
+    {
+        let Some(shared) = &self.node else {
+            return;
+        };
+        let node: &Node<K, V> = shared;
+        match place_within(search, bounds, &node.entry.0) {
+            Ordering::Less => node.right.gather(search, bounds, found),
+            Ordering::Equal => {
+                node.left.gather(search, bounds.below(), found);
+                if found.is_full() {
+                    return;
+                }
+                add_passing(search, &node.entry, found);
+                node.right.gather(search, bounds.above(), found);
+            }
+            Ordering::Greater => node.left.gather(search, bounds, found),
+        }
+    }
+}
+
+// Puts what is shown of the entry behind what was found, where the entry passes.
+fn add_passing<'a, K: Ord, V, T, S: Search<K, V> + Show<K, V, T>>(
+    search: &S,
+    entry: &'a (K, V),
+    found: &mut Few<'a, T>,
+)
+    requires room { 1 ≤ found.old.room }
+    ensures added { found.new ≡ with_first found.old
+        (map S.shown (filter (S.passes search.now) (entry.now ∷ []))) }
+{
+    if search.passes(entry) {
+        found.push(S::show(entry));
     }
 }

@@ -3,11 +3,14 @@ ghost use Rattle.std.specs.Prelude.{◌≡◌, [], length, IfOk, OnOk, OnErr, If
 ghost use Rattle.std.specs.Option.{option_copied, is_some};
 ghost use Rattle.std.specs.BTreeMap.{insert_entry};
 ghost use Rattle.yt_tree.specs.Orders.{IsOrdered, entry_at, value_at, reached, first_reached, first_sought, without};
+ghost use Rattle.yt_tree.specs.Few.{all_shown, no_item, with_first};
 
+use crate::bounds::Bounds;
 use crate::branch::Branch;
 use crate::cursors::Cursor;
 use crate::cuts::Cut;
-use crate::searches::Search;
+use crate::few::Few;
+use crate::searches::{Search, Show};
 use crate::shares::Share;
 use std::alloc::{AllocError, Global};
 use std::marker::Model;
@@ -89,6 +92,17 @@ impl<K: Ord + Share, V: Share> TreeMap<K, V> {
         ensures in_order { IsOrdered K.cmp self.now }
     {
         self.entries.find_in(search)
+    }
+
+    /// What is shown of the first entries that are sought: of all of them, or of as many as there is room for.
+    pub fn gather<T, S: Search<K, V> + Show<K, V, T>>(&self, search: &S) -> Few<'_, T>
+        ensures first { result ≡ with_first no_item
+            (all_shown S.shown (S.place search.now) (S.passes search.now) self.now) }
+        ensures in_order { IsOrdered K.cmp self.now }
+    {
+        let mut found = Few::new();
+        self.entries.gather(search, Bounds::none(), &mut found);
+        found
     }
 
     /// A cursor before the first entry behind the cut.

@@ -5,7 +5,7 @@ ghost use Rattle.yt_versions.specs.Standing.{seen};
 
 use crate::versions::Versions;
 use std::alloc::Global;
-use yt_base::{Facts, Tuple, TupleList, Value};
+use yt_base::{Candidates, Column, Facts, Tuple, TupleList, Value};
 use yt_memory::Memory;
 
 /// The versions as they are for one update.
@@ -54,5 +54,15 @@ impl<'v> Facts for Below<'v> {
         self.versions
             .table()
             .scan(self.number, relation, column, value, past)
+    }
+
+    fn candidates(
+        &self,
+        relation: u16,
+        column: Option<Column<'_>>,
+        past: Option<&Tuple>,
+    ) -> Candidates<'_> {
+        let table = self.versions.table();
+        Candidates::Few(table.candidates(self.number, relation, column, past))
     }
 }

@@ -14,7 +14,7 @@ use crate::handles::Handle;
 use crate::marks::Marks;
 use std::cmp::Ordering;
 use yt_base::{Tuple, Value};
-use yt_tree::{Cut, Search};
+use yt_tree::{Cut, Search, Show};
 
 /// The tuple itself, whether or not it is there for an update.
 #[derive(Drop)]
@@ -91,6 +91,12 @@ impl<'c> Search<Handle, Marks> for Zone<'c> {
     }
 }
 
+impl<'c> Show<Handle, Marks, Tuple> for Zone<'c> {
+    fn show(entry: &(Handle, Marks)) -> &Tuple {
+        entry.0.get()
+    }
+}
+
 /// What is of the relation, and was written by the update.
 #[derive(Drop)]
 pub struct Written {
@@ -153,6 +159,12 @@ impl<'c> Search<Handle, Marks> for Lead<'c> {
     }
 }
 
+impl<'c> Show<Handle, Marks, Tuple> for Lead<'c> {
+    fn show(entry: &(Handle, Marks)) -> &Tuple {
+        entry.0.get()
+    }
+}
+
 /// The cells with the value in the column, whose tuple is of the relation, comes after a tuple, where one is given, and
 /// is there for the update.
 #[derive(Drop)]
@@ -187,6 +199,12 @@ impl<'c> Search<Cell, Marks> for Scan<'c> {
 
     fn passes(&self, entry: &(Cell, Marks)) -> bool {
         entry.1.stands(self.number)
+    }
+}
+
+impl<'c> Show<Cell, Marks, Tuple> for Scan<'c> {
+    fn show(entry: &(Cell, Marks)) -> &Tuple {
+        entry.0.tuple.get()
     }
 }
 

@@ -14,9 +14,9 @@ use crate::marks::{Marks, Touch};
 use crate::searches::{Beyond, From, Held, Lead, Scan, Written, Zone};
 use std::alloc::{AllocError, Global};
 use std::marker::Model;
-use yt_base::{List, Tuple, TupleList, Value};
+use yt_base::{Column, List, Tuple, TupleList, Value};
 use yt_memory::Memory;
-use yt_tree::{Cursor, Share, Start, TreeMap};
+use yt_tree::{Cursor, Few, Share, Start, TreeMap};
 
 /// Tuples with their marks, in order, and an index of them by cells. Contracts see the tuples with their marks.
 #[derive(Drop)]
@@ -230,6 +230,42 @@ impl Table {
             Some(entry) => return Some(entry.0.tuple.get()),
             None => return None,
         }
+    }
+}
+
+// The candidates that an update sees, a few at a time.
+impl Table {
+    /// The first tuples of the relation that it sees, with the column's value where a column is given, and above `past` where
+    /// that is given: all of them, or as many as there is room for.
+    pub fn candidates(
+        &self,
+        number: u32,
+        relation: u16,
+        column: Option<Column<'_>>,
+        past: Option<&Tuple>,
+    ) -> Few<'_, Tuple> {
+        let Some(Column { number: at, value }) = column else {
+            return self.rows.gather(&Zone {
+                number,
+                relation,
+                past,
+            });
+        };
+        if at == 0 {
+            return self.rows.gather(&Lead {
+                number,
+                relation,
+                value,
+                past,
+            });
+        }
+        self.cells.gather(&Scan {
+            number,
+            relation,
+            column: at as usize,
+            value,
+            past,
+        })
     }
 }
 

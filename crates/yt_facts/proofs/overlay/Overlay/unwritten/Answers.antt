@@ -1,7 +1,7 @@
 use Rattle.std.specs.Option.{option_map}
 use Rattle.yt_base.specs.Candidates.{column_of, is_candidate}
 use Rattle.yt_facts.proofs.AtHand.{passed_on}
-use Rattle.yt_facts.proofs.overlay.OverlayFacts.candidates.Goals as goal
+use Rattle.yt_facts.proofs.overlay.Overlay.unwritten.Goals as goal
 
 pub returns-then-takes_none : goal.returns-then-takes_none
 returns-then-takes_none g c = record {

@@ -5,7 +5,7 @@ use Rattle.yt_base.specs.Candidates.{column_of, all_candidates}
 use Rattle.yt_base.specs.Meanings.{datum_of}
 use Rattle.yt_facts.proofs.AtHand.{group_all}
 use Rattle.yt_facts.proofs.Held.{empty_in_order}
-use Rattle.yt_facts.proofs.indexed.IndexedFactsFacts.candidates.Goals as goal
+use Rattle.yt_facts.proofs.indexed.IndexedFacts.all_candidates.Goals as goal
 
 pub returns-in-Some-kept : goal.returns-in-Some-kept
 returns-in-Some-kept c =
