@@ -12,3 +12,4 @@ pub mod Holding
 pub mod Sent
 pub mod Walking
 pub mod Basing
+pub mod Gathering

@@ -92,7 +92,11 @@ impl<'c> Search<Handle, Marks> for Zone<'c> {
 }
 
 impl<'c> Show<Handle, Marks, Tuple> for Zone<'c> {
-    fn show(entry: &(Handle, Marks)) -> &Tuple {
+    ghost shown = { λ e. e.0 };
+
+    fn show(entry: &(Handle, Marks)) -> &Tuple
+        ensures { result.now ≡ entry.now.0 }
+    {
         entry.0.get()
     }
 }
@@ -160,7 +164,11 @@ impl<'c> Search<Handle, Marks> for Lead<'c> {
 }
 
 impl<'c> Show<Handle, Marks, Tuple> for Lead<'c> {
-    fn show(entry: &(Handle, Marks)) -> &Tuple {
+    ghost shown = { λ e. e.0 };
+
+    fn show(entry: &(Handle, Marks)) -> &Tuple
+        ensures { result.now ≡ entry.now.0 }
+    {
         entry.0.get()
     }
 }
@@ -203,7 +211,11 @@ impl<'c> Search<Cell, Marks> for Scan<'c> {
 }
 
 impl<'c> Show<Cell, Marks, Tuple> for Scan<'c> {
-    fn show(entry: &(Cell, Marks)) -> &Tuple {
+    ghost shown = { λ e. e.0.tuple };
+
+    fn show(entry: &(Cell, Marks)) -> &Tuple
+        ensures { result.now ≡ entry.now.0.tuple }
+    {
         entry.0.tuple.get()
     }
 }

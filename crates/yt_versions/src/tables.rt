@@ -233,8 +233,14 @@ impl Table {
     }
 }
 
-// The candidates that an update sees, a few at a time.
+// The candidates that an update sees, a few at a time. No call takes memory.
 impl Table {
+    ghost use Rattle.std.specs.Prelude.{Some};
+    ghost use Rattle.yt_base.specs.Candidates.{column_of, further_candidates, AreFirst};
+    ghost use Rattle.yt_base.specs.Meanings.{datum_of};
+    ghost use Rattle.yt_model.specs.Repository.{IsRepository};
+    ghost use Rattle.yt_versions.specs.Marked.{visible};
+
     /// The first tuples of the relation that it sees, with the column's value where a column is given, and above `past` where
     /// that is given: all of them, or as many as there is room for.
     pub fn candidates(
@@ -243,15 +249,35 @@ impl Table {
         relation: u16,
         column: Option<Column<'_>>,
         past: Option<&Tuple>,
-    ) -> Few<'_, Tuple> {
-        let Some(Column { number: at, value }) = column else {
-            return self.rows.gather(&Zone {
+    ) -> Few<'_, Tuple>
+        ensures first { AreFirst result (further_candidates (visible number self.now) relation
+            (option_map column_of column.entry) (option_map fact_of (option_copied past.entry))) }
+        ensures in_order { IsRepository (visible number self.now) }
+    {
+        match column {
+            Some(column) => self.few_at(number, relation, column, past),
+            None => self.rows.gather(&Zone {
                 number,
                 relation,
                 past,
-            });
-        };
-        if at == 0 {
+            }),
+        }
+    }
+
+    // Those of them with the value in the column.
+    fn few_at(
+        &self,
+        number: u32,
+        relation: u16,
+        column: Column<'_>,
+        past: Option<&Tuple>,
+    ) -> Few<'_, Tuple>
+        ensures first { AreFirst result (further_candidates (visible number self.now) relation
+            (Some (column_of column.entry)) (option_map fact_of (option_copied past.entry))) }
+        ensures in_order { IsRepository (visible number self.now) }
+    {
+        let value = column.value;
+        if column.number == 0 {
             return self.rows.gather(&Lead {
                 number,
                 relation,
@@ -262,7 +288,7 @@ impl Table {
         self.cells.gather(&Scan {
             number,
             relation,
-            column: at as usize,
+            column: column.number as usize,
             value,
             past,
         })
