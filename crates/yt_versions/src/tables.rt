@@ -11,12 +11,12 @@ ghost use Rattle.std.specs.Option.{option_map, option_copied};
 use crate::cells::Cell;
 use crate::handles::Handle;
 use crate::marks::{Marks, Touch};
-use crate::searches::{Beyond, From, Held, Lead, Scan, Written, Zone};
+use crate::searches::{Beyond, Held, Lead, Scan, Written, Zone};
 use std::alloc::{AllocError, Global};
 use std::marker::Model;
 use yt_base::{Column, List, Tuple, TupleList, Value};
 use yt_memory::Memory;
-use yt_tree::{Cursor, Few, Share, Start, TreeMap};
+use yt_tree::{Few, Share, Start, TreeMap};
 
 /// Tuples with their marks, in order, and an index of them by cells. Contracts see the tuples with their marks.
 #[derive(Drop)]
@@ -100,9 +100,7 @@ impl Table {
     ghost use Rattle.yt_base.specs.Meanings.{datum_of};
     ghost use Rattle.std.specs.Ordering.{on};
     ghost use Rattle.yt_model.specs.Values.{fact_cmp};
-    ghost use Rattle.yt_tree.specs.Orders.{reached};
     ghost use Rattle.yt_versions.specs.Marked.{visible};
-    ghost use Rattle.yt_versions.specs.Walks.{is_from};
 
     /// The tuples that it sees, in order, copied. It is refused only for want of memory.
     pub fn list(&self, alloc: Global, number: u32) -> Result<TupleList, Memory>
@@ -116,22 +114,6 @@ impl Table {
             }
         }
         Ok(list)
-    }
-
-    /// A cursor before the tuples of the relation.
-    pub fn from_relation(&self, relation: u16) -> Cursor<'_, Handle, Marks>
-        ensures rest { result ≡ reached (is_from relation) self.now }
-        ensures in_order { IsOrdered (on fact_of fact_cmp) self.now }
-    {
-        self.rows.cursor(&From { relation })
-    }
-
-    /// Puts the cursor before the tuples of the relation. It costs less than another cursor.
-    pub fn place<'t>(&'t self, cursor: &mut Cursor<'t, Handle, Marks>, relation: u16)
-        ensures rest { cursor.new ≡ reached (is_from relation) self.now }
-        ensures in_order { IsOrdered (on fact_of fact_cmp) self.now }
-    {
-        self.rows.place(cursor, &From { relation });
     }
 
     /// Whether the update sees the tuple.
