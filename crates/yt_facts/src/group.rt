@@ -6,7 +6,7 @@ ghost use Rattle.yt_model.specs.Repository.{has, change, Insert, Delete, IsRepos
 ghost use Rattle.yt_base.specs.Candidates.{column_of, is_candidate, AreAll};
 ghost use Rattle.yt_base.specs.Meanings.{fact_of};
 
-use crate::listed::ListedFacts;
+use crate::listed::{Held, ListedFacts};
 use crate::plain::PlainFacts;
 use std::alloc::Global;
 use std::marker::Model;
@@ -23,13 +23,6 @@ pub struct Group {
     alloc: Global,
 }
 
-// The tuples as a list, or as a tree.
-#[derive(Debug, Drop)]
-pub(crate) enum Held {
-    Listed(ListedFacts),
-    Tree(PlainFacts),
-}
-
 impl Model for Group {
     ghost use Rattle.std.specs.Prelude.{List};
     ghost use Rattle.yt_model.specs.Values.{Fact};
@@ -37,11 +30,11 @@ impl Model for Group {
     ghost Value = { List Fact };
 
     ghost use Rattle.yt_model.specs.Repository.{IsRepository};
-    ghost use Rattle.yt_facts.specs.Grouped.{tuples_in};
+    ghost use Rattle.yt_facts.specs.Rising.{tuples_held};
 
-    ghost view = { λ g. tuples_in g.held };
+    ghost view = { λ g. tuples_held g.held };
 
-    ghost invariant = { λ g. IsRepository (tuples_in g.held) };
+    ghost invariant = { λ g. IsRepository (tuples_held g.held) };
 }
 
 impl Group {
@@ -79,7 +72,7 @@ impl Group {
                 if tuples.len() < FEW {
                     return tuples.insert(tuple);
                 }
-                let Ok(facts) = tree_of(self.alloc, tuples) else {
+                let Ok(facts) = tuples.tree(self.alloc) else {
                     return Err((tuple, Memory));
                 };
                 self.insert_into(facts, tuple)
@@ -179,11 +172,4 @@ impl Facts for Group {
             Held::Tree(facts) => facts.scan(relation, column, value, past),
         }
     }
-}
-
-// The set as a tree.
-fn tree_of(alloc: Global, tuples: &ListedFacts) -> Result<PlainFacts, Memory>
-    ensures same { IfOk result (λ facts. facts ≡ tuples.now) }
-{
-    PlainFacts::of_owned(alloc, tuples.list(alloc)?)
 }

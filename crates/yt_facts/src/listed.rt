@@ -1,22 +1,35 @@
 //! A set of tuples in a list.
 ghost use Rattle.std.specs.Option.{option_map, option_copied};
 ghost use Rattle.std.specs.List.{remove};
-ghost use Rattle.std.specs.Prelude.{◌≡◌, ◌<◌, ◌≤◌, [], not, length, map, find, IfOk, OnOk, OnErr, IfErr};
+ghost use Rattle.std.specs.Prelude.{◌≡◌, ◌<◌, ◌≤◌, [], not, length, map, find, IsTrue, IfOk, OnOk, OnErr, IfErr};
 ghost use Rattle.yt_model.specs.Cursors.{is_beyond as is_beyond_tuple, first_of, next_of, scan_of};
 ghost use Rattle.yt_model.specs.Repository.{has, change, Insert, Delete, IsRepository};
 ghost use Rattle.yt_base.specs.Meanings.{fact_of, datum_of};
 ghost use Rattle.yt_facts.specs.Places.{IsBetween};
+ghost use Rattle.yt_facts.specs.Rising.{IsBehind};
 
+use crate::plain::PlainFacts;
 use crate::scanned::{is_beyond, is_scanned, of_relation};
 use std::alloc::Global;
+use std::cmp::Ordering;
 use std::marker::Model;
 use yt_base::{List, Memory, TryCopy, Tuple, TupleList, Value};
+
+// To move so many tuples costs no more than to search a tree for the place of one.
+const NEAR: usize = 1024;
 
 /// A set of tuples in a list, in order. A tuple is searched for by halves, and those behind its place are moved where one is put
 /// in or taken out. The first tuple takes the memory of one. Contracts see the list of its tuples, in order.
 #[derive(Debug, Drop)]
 pub(crate) struct ListedFacts {
     tuples: Vec<Tuple>,
+}
+
+/// The tuples of a set as a list or as a tree.
+#[derive(Debug, Drop)]
+pub(crate) enum Held {
+    Listed(ListedFacts),
+    Tree(PlainFacts),
 }
 
 impl Model for ListedFacts {
@@ -71,6 +84,29 @@ impl ListedFacts {
         Ok(list)
     }
 
+    /// The tuples as a list, taken out of the set. It takes no memory.
+    pub(crate) fn into_list(self) -> TupleList
+        ensures tuples { map fact_of result.items ≡ self }
+    {
+        let ListedFacts { tuples } = self;
+        List::from_vec(tuples)
+    }
+
+    /// The set as a tree. It is refused only for want of memory.
+    pub(crate) fn tree(&self, alloc: Global) -> Result<PlainFacts, Memory>
+        ensures same { IfOk result (λ facts. facts ≡ self.now) }
+    {
+        PlainFacts::of_owned(alloc, self.list(alloc)?)
+    }
+
+    /// Whether the tuple belongs near the end, so that few tuples are moved where it is put in.
+    pub(crate) fn ends_near(&self, tuple: &Tuple) -> bool {
+        match self.tuples.len().checked_sub(NEAR) {
+            Some(place) => self.tuples[place].cmp(tuple).is_lt(),
+            None => true,
+        }
+    }
+
     /// Puts a tuple in, and tells whether it is new. It is refused only for want of memory; it then hands the tuple
     /// back, and the set is unchanged.
     pub(crate) fn insert(&mut self, tuple: Tuple) -> Result<bool, (Tuple, Memory)>
@@ -80,6 +116,9 @@ impl ListedFacts {
         ensures err { OnErr result (self.new ≡ self.old) }
         ensures in_order { IsRepository self.new }
     {
+        if comes_behind(&self.tuples, &tuple) {
+            return add(&mut self.tuples, tuple);
+        }
         match self.tuples.binary_search(&tuple) {
             Ok(_) => Ok(false),
             Err(place) => put_at(&mut self.tuples, place, tuple),
@@ -171,10 +210,24 @@ impl ListedFacts {
     }
 }
 
-// Puts a tuple that is not there at its place. The first one takes the memory of one alone.
-fn put_at(tuples: &mut Vec<Tuple>, place: usize, tuple: Tuple) -> Result<bool, (Tuple, Memory)>
-    requires place { place ≤ length tuples.old.items }
-    requires between { IsBetween tuples.old.items tuple place }
+// Whether the tuple comes behind the last one of the list.
+fn comes_behind(tuples: &Vec<Tuple>, tuple: &Tuple) -> bool
+    requires { IsRepository (map fact_of tuples.now.items) }
+    ensures behind { IsTrue result → IsBehind (fact_of tuple.now) (map fact_of tuples.now.items) }
+{
+    match tuples.last() {
+        Some(last) => match last.cmp(tuple) {
+            Ordering::Less => true,
+            Ordering::Equal => false,
+            Ordering::Greater => false,
+        },
+        None => true,
+    }
+}
+
+// Adds a tuple that comes behind the list. The first one takes the memory of one alone.
+fn add(tuples: &mut Vec<Tuple>, tuple: Tuple) -> Result<bool, (Tuple, Memory)>
+    requires behind { IsBehind (fact_of tuple) (map fact_of tuples.old.items) }
     requires in_order { IsRepository (map fact_of tuples.old.items) }
     ensures changed { IfOk result
         (λ changed. changed ≡ not (has (map fact_of tuples.old.items) (fact_of tuple))) }
@@ -190,6 +243,25 @@ fn put_at(tuples: &mut Vec<Tuple>, place: usize, tuple: Tuple) -> Result<bool, (
             Err(_) => return Err((tuple, Memory)),
         }
     }
+    match tuples.push(tuple) {
+        Ok(()) => Ok(true),
+        Err(refused) => Err((refused.value, Memory)),
+    }
+}
+
+// Puts a tuple that is not there at its place.
+fn put_at(tuples: &mut Vec<Tuple>, place: usize, tuple: Tuple) -> Result<bool, (Tuple, Memory)>
+    requires place { place ≤ length tuples.old.items }
+    requires between { IsBetween tuples.old.items tuple place }
+    requires in_order { IsRepository (map fact_of tuples.old.items) }
+    ensures changed { IfOk result
+        (λ changed. changed ≡ not (has (map fact_of tuples.old.items) (fact_of tuple))) }
+    ensures ok { OnOk result (map fact_of tuples.new.items ≡
+        change (map fact_of tuples.old.items) (Insert (fact_of tuple))) }
+    ensures in_order { IsRepository (map fact_of tuples.new.items) }
+    ensures given_back { IfErr result (λ refused. refused.0 ≡ tuple) }
+    ensures err { OnErr result (tuples.new.items ≡ tuples.old.items) }
+{
     match tuples.insert(place, tuple) {
         Ok(()) => Ok(true),
         Err(refused) => Err((refused.value, Memory)),

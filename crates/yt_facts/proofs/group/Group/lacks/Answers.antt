@@ -1,7 +1,7 @@
 use Rattle.std.proofs.Common.{◌∙◌, ap, sym}
 use Rattle.std.specs.List.{list_any}
 use Rattle.yt_model.specs.Cursors.{is_of}
-use Rattle.yt_facts.specs.Grouped.{tuples_in}
+use Rattle.yt_facts.specs.Rising.{tuples_held}
 use Rattle.std.specs.Option.{option_map}
 use Rattle.yt_base.specs.Candidates.{column_of}
 use Rattle.yt_facts.proofs.AtHand.{none_found, none_of_relation}
@@ -14,7 +14,7 @@ returns-in-Listed c = record {
 
 pub returns-in-Tree : goal.returns-in-Tree
 returns-in-Tree c =
-    let same = ap tuples_in (sym c.in-Tree.is) ∙ c.self.view_is in
+    let same = ap tuples_held (sym c.in-Tree.is) ∙ c.self.view_is in
     record {
       none = λ h. none_of_relation c.args.relation (option_map column_of c.args.column) c.args.self.now (ap (list_any (is_of c.args.relation)) (sym same) ∙ c.lacks.ensures.none h);
     }
