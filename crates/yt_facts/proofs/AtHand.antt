@@ -13,7 +13,7 @@ use Rattle.std.proofs.lemmas.Bool.{eq-eqb, ne_eqb, cases_eq}
 use Rattle.std.proofs.lemmas.Cmp.{ranked}
 use Rattle.yt_model.specs.Values.{Datum, Fact, datum_cmp, fact_cmp, same_fact}
 use Rattle.yt_model.specs.Repository.{IsRepository, has}
-use Rattle.yt_model.specs.Cursors.{is_of, first_of}
+use Rattle.yt_model.specs.Cursors.{is_of}
 use Rattle.yt_model.proofs.Bools.{differ, and-true}
 use Rattle.yt_model.proofs.Members.{has-filter}
 use Rattle.yt_model.proofs.Ranges.{least, from_least, from_least_of, relation_le}
@@ -99,10 +99,6 @@ none_of_relation r c (u ∷ D) e = by (is_of r u) refl (is_candidate r c u) refl
     by false f true g rest h = differ (sym f ∙ candidate_of r c u g)
     by false f false g rest h = rest h
 
--- So where the relation has no first one.
-pub none_first : (r : ℕ) (c : Option (ℕ × Datum)) (D : List Fact) → first_of D r ≡ None → list_any (is_candidate r c) D ≡ false
-none_first r c D e = none_of_relation r c D (sym (found_any (is_of r) D) ∙ ap is_some e)
-
 -- ---- the tuples with a value in a column
 
 -- What the index keeps at a column's value is all that the set has with it.
@@ -145,7 +141,8 @@ unwritten p D gone added s a g =
     by u true e = (λ i. ((has D u && not (lacking p gone u g e i)) || lacking p added u a e i) && true) ∙ left (has D u)
     by u false e = off ((has D u && not (has gone u)) || has added u) (has D u)
 
-told_too : (x : Candidates) (D E all these : List Fact) → IsRepository E → these ≡ all → AreAll x D all → AreAll x E these
+-- What is told of these tuples of one set is true of the same ones of another.
+pub told_too : (x : Candidates) (D E all these : List Fact) → IsRepository E → these ≡ all → AreAll x D all → AreAll x E these
 told_too Apart D E all these s e h = tt
 told_too Absent D E all these s e h = (s, e ∙ h.1)
 told_too (Together range) D E all these s e h = (s, e ∙ h.1)

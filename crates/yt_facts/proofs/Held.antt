@@ -52,7 +52,7 @@ remove_mapped t (k ∷ ks) = by (is_eq (tuple_cmp t k)) (remove_mapped t ks)
     by false h = ap (λ l. fact_of k ∷ l) h
 
 -- What is above t is not t.
-kept_above : (t : Fact) (D : List Fact) → AllByRecursion (λ y. fact_cmp t y ≡ Less) D → filter (λ s. not (same_fact t s)) D ≡ D
+pub kept_above : (t : Fact) (D : List Fact) → AllByRecursion (λ y. fact_cmp t y ≡ Less) D → filter (λ s. not (same_fact t s)) D ≡ D
 kept_above t [] a = refl
 kept_above t (u ∷ D) a = ap (λ o. cond (not (is_eq o)) (u ∷ filter (λ s. not (same_fact t s)) D) (filter (λ s. not (same_fact t s)) D)) a.0 ∙ ap (λ l. u ∷ l) (kept_above t D a.1)
 

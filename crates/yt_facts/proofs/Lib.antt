@@ -11,5 +11,5 @@ pub mod Changing
 pub mod Related
 pub mod Beginning
 pub mod AtHand
-pub mod Few
 pub mod Behind
+pub mod Sought

@@ -1,15 +1,14 @@
--- What a set that is mostly filled in order holds.
-use Rattle.std.specs.Prelude.{◌≡◌, List, map}
+-- What a set of tuples holds that is a list or a tree.
+use Rattle.std.specs.Prelude.{◌≡◌, List}
 use Rattle.std.specs.List.{AllByRecursion}
 use Rattle.std.specs.declared.cmp.Ordering.TheVariants.{Greater}
 use Rattle.yt_model.specs.Values.{Fact, fact_cmp}
-use Rattle.yt_base.specs.Meanings.{fact_of}
-use Rattle.yt_facts.specs.declared.rising.Held.{Held}
-use Rattle.yt_facts.specs.declared.rising.Held.TheVariants.{InOrder, Tree}
+use Rattle.yt_facts.specs.declared.listed.Held.{Held}
+use Rattle.yt_facts.specs.declared.listed.Held.TheVariants.{Listed, Tree}
 
 -- Its tuples, as a list or as a tree.
 abbrev pub tuples_held : Held → List Fact
-tuples_held (InOrder tuples) = map fact_of tuples.items
+tuples_held (Listed tuples) = tuples
 tuples_held (Tree facts) = facts
 
 -- The tuple comes behind each of these.

@@ -7,16 +7,16 @@ ghost use Rattle.yt_model.specs.Repository.{has, change, Insert};
 ghost use Rattle.yt_base.specs.Meanings.{fact_of, datum_of};
 ghost use Rattle.yt_facts.specs.Indexes.{group_in, group_at, AreSame, AddsAtMost, Adds, AddsAll, Drops, DropsAll};
 
-use crate::plain::PlainFacts;
+use crate::group::Group;
 use std::alloc::Global;
 use std::collections::BTreeMap;
 use yt_base::{Facts, Memory, TryCopy, Tuple, Value};
 
 /// The tuples by their value in one column.
-pub type Groups = BTreeMap<Value, PlainFacts>;
+pub type Groups = BTreeMap<Value, Group>;
 
 /// The tuples that the column keeps at the value, if there is such a column and such a value in it.
-pub fn group<'a>(columns: &'a Vec<Groups>, column: usize, value: &Value) -> Option<&'a PlainFacts>
+pub fn group<'a>(columns: &'a Vec<Groups>, column: usize, value: &Value) -> Option<&'a Group>
     ensures group { unwrap_or (option_copied result) [] ≡
         group_at columns.now.items column (datum_of value.now) }
 {
@@ -88,13 +88,13 @@ fn add(groups: &mut Groups, alloc: Global, value: &Value, tuple: &Tuple) -> Resu
     ensures err { OnErr result ((d : Datum) → group_in groups.new d ≡ group_in groups.old d) }
 {
     match groups.entry(value.copy(alloc)?) {
-        Ok(entry) => put(entry.or_insert(PlainFacts::new(alloc)), alloc, tuple),
+        Ok(entry) => put(entry.or_insert(Group::new(alloc)), alloc, tuple),
         Err(_) => Err(Memory),
     }
 }
 
 // Puts a copy of the tuple into the group.
-fn put(group: &mut PlainFacts, alloc: Global, tuple: &Tuple) -> Result<(), Memory>
+fn put(group: &mut Group, alloc: Global, tuple: &Tuple) -> Result<(), Memory>
     ensures ok { OnOk result (group.new ≡ change group.old (Insert (fact_of tuple.now))) }
     ensures err { OnErr result (group.new ≡ group.old) }
 {
@@ -141,7 +141,7 @@ fn remove_from(groups: &mut Groups, value: &Value, tuple: &Tuple)
 }
 
 // Whether there is a group, without a tuple.
-fn is_vacant(group: Option<&PlainFacts>) -> bool
+fn is_vacant(group: Option<&Group>) -> bool
     ensures vacant { IsTrue result ↔ (option_copied group.entry ≡ Some []) }
 {
     match group {

@@ -195,7 +195,7 @@ impl IndexedFacts {
     {
         match column {
             Some(column) => match kept(&self.relations, relation, column.number, column.value) {
-                Some(group) => Candidates::Together(group.range()),
+                Some(group) => group.at_hand(),
                 None => Candidates::Absent,
             },
             None => self.all.relation(relation),

@@ -3,7 +3,9 @@
 #![tactic(auto)]
 
 mod columns;
+mod group;
 mod indexed;
+mod listed;
 mod overlay;
 mod plain;
 mod relations;

@@ -8,7 +8,7 @@ ghost use Rattle.yt_facts.specs.Courses.{comes_after, ahead};
 ghost use Rattle.yt_facts.specs.Overlaid.{lesser};
 ghost use Rattle.yt_facts.specs.Begun.{HoldsOfFirst};
 
-use crate::plain::PlainFacts;
+use crate::group::Group;
 use std::alloc::Global;
 use std::marker::Model;
 use yt_base::{Candidates, Column, Facts, Memory, TryCopy, Tuple, Value, Write};
@@ -18,8 +18,8 @@ use yt_base::{Candidates, Column, Facts, Memory, TryCopy, Tuple, Value, Write};
 #[derive(Drop)]
 pub struct Overlay<'a, F: Facts> {
     facts: &'a F,
-    gone: PlainFacts,
-    added: PlainFacts,
+    gone: Group,
+    added: Group,
 }
 
 impl<'a, F: Facts> Model for Overlay<'a, F> {
@@ -46,8 +46,8 @@ impl<'a, F: Facts> Overlay<'a, F> {
         let _ = facts.beyond(None);
         Overlay {
             facts,
-            gone: PlainFacts::new(alloc),
-            added: PlainFacts::new(alloc),
+            gone: Group::new(alloc),
+            added: Group::new(alloc),
         }
     }
 
@@ -169,7 +169,7 @@ impl<'a, F: Facts> Overlay<'a, F> {
 }
 
 // Whether the tuple is in the set and not gone.
-fn is_left<F: Facts>(facts: &F, gone: &PlainFacts, tuple: &Tuple) -> bool
+fn is_left<F: Facts>(facts: &F, gone: &Group, tuple: &Tuple) -> bool
     ensures left { result ≡ (has (F.tuples facts.now) (fact_of tuple.now) &&
         not (has gone.now (fact_of tuple.now))) }
     ensures in_order { IsRepository (F.tuples facts.now) }
@@ -188,7 +188,7 @@ enum Course<'v> {
 // The first tuple from the cursor on that is not gone.
 fn remaining<'a, F: Facts>(
     facts: &'a F,
-    gone: &PlainFacts,
+    gone: &Group,
     course: &Course<'_>,
     from: Option<&'a Tuple>,
 ) -> Option<&'a Tuple>

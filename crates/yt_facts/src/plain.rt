@@ -12,9 +12,8 @@ use std::cmp::Ordering;
 use std::collections::BTreeSet;
 use std::marker::Model;
 use std::ops::Bound;
-use yt_base::{Facts, List, Memory, TryCopy, Tuple, Value};
+use yt_base::{Facts, Memory, TryCopy, Tuple, Value};
 
-mod few;
 mod listed;
 mod ranges;
 
@@ -77,6 +76,7 @@ impl PlainFacts {
     pub fn remove(&mut self, tuple: &Tuple) -> bool
         ensures changed { result ≡ has self.old (fact_of tuple.now) }
         ensures after { self.new ≡ change self.old (Delete (fact_of tuple.now)) }
+        ensures in_order { IsRepository self.new }
     {
         self.tuples.remove(tuple)
     }
@@ -144,9 +144,6 @@ impl Facts for PlainFacts {
     }
 
     fn first(&self, relation: u16) -> Option<&Tuple> {
-        if self.has_few() {
-            return self.first_of_few(relation);
-        }
         if self.ends_before(relation) {
             return None;
         }
@@ -169,9 +166,6 @@ impl Facts for PlainFacts {
         value: &Value,
         past: Option<&Tuple>,
     ) -> Option<&Tuple> {
-        if self.has_few() {
-            return self.scan_of_few(relation, column, value, past);
-        }
         let mut cursor = self.next(relation, past);
         while let Some(found) = cursor {
             if is_scanned(found, relation, column, value, past) {

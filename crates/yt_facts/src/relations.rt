@@ -6,7 +6,7 @@ ghost use Rattle.yt_base.specs.Meanings.{fact_of, datum_of};
 ghost use Rattle.yt_facts.specs.Indexes.{columns_of, kept_at, AddsAtMost, AddsAll, DropsAll, AddsAtMostOne, AddsOne, DropsOne};
 
 use crate::columns::{Groups, group, index, sweep};
-use crate::plain::PlainFacts;
+use crate::group::Group;
 use std::alloc::Global;
 use yt_base::{Facts, Memory, Tuple, Value};
 
@@ -19,7 +19,7 @@ pub fn kept<'a>(
     relation: u16,
     column: u16,
     value: &Value,
-) -> Option<&'a PlainFacts>
+) -> Option<&'a Group>
     ensures kept { unwrap_or (option_copied result) [] ≡
         kept_at relations.now.items relation column (datum_of value.now) }
 {

@@ -1,29 +1,21 @@
 //! A set of tuples that is mostly filled in order.
-ghost use Rattle.std.specs.Prelude.{◌≡◌, [], not, length, map, IfOk, OnOk, OnErr, IfErr, IsTrue};
+ghost use Rattle.std.specs.Prelude.{◌≡◌, [], not, length, map, IfOk, OnOk, OnErr, IfErr};
 ghost use Rattle.yt_model.specs.Repository.{has, change, Insert, IsRepository};
 ghost use Rattle.yt_base.specs.Meanings.{fact_of};
-ghost use Rattle.yt_facts.specs.Rising.{IsBehind};
 
+use crate::listed::{Held, ListedFacts};
 use crate::plain::PlainFacts;
 use std::alloc::Global;
-use std::cmp::Ordering;
 use std::marker::Model;
 use yt_base::{Facts, Memory, Tuple, TupleList};
 
-/// A set of tuples, put in one by one. As long as each comes behind all before it they are a list, which costs one comparison a
-/// tuple and is given back as it is; from the first one on that does not, they are a balanced tree. Contracts see the list of its
-/// tuples, in order.
+/// A set of tuples, put in one by one. As long as each belongs near the end they are a list, which is given back as it is, and
+/// costs one comparison for a tuple behind all before it; from the first one on that does not, they are a balanced tree. Contracts
+/// see the list of its tuples, in order.
 #[derive(Drop)]
 pub struct RisingFacts {
     held: Held,
     alloc: Global,
-}
-
-// The tuples as a list, in order, or as a tree.
-#[derive(Drop)]
-pub(crate) enum Held {
-    InOrder(TupleList),
-    Tree(PlainFacts),
 }
 
 impl Model for RisingFacts {
@@ -46,7 +38,7 @@ impl RisingFacts {
         ensures empty { result ≡ [] }
     {
         RisingFacts {
-            held: Held::InOrder(TupleList::new(alloc)),
+            held: Held::Listed(ListedFacts::new(alloc)),
             alloc,
         }
     }
@@ -56,7 +48,7 @@ impl RisingFacts {
         ensures length { result ≡ length self.now }
     {
         match &self.held {
-            Held::InOrder(tuples) => tuples.len(),
+            Held::Listed(tuples) => tuples.len(),
             Held::Tree(facts) => facts.len(),
         }
     }
@@ -71,11 +63,11 @@ impl RisingFacts {
     {
         match &mut self.held {
             Held::Tree(facts) => facts.insert(tuple),
-            Held::InOrder(tuples) => {
-                if comes_behind(tuples, &tuple) {
-                    return add(tuples, tuple);
+            Held::Listed(tuples) => {
+                if tuples.ends_near(&tuple) {
+                    return tuples.insert(tuple);
                 }
-                let Ok(facts) = PlainFacts::of_list(self.alloc, tuples) else {
+                let Ok(facts) = tuples.tree(self.alloc) else {
                     return Err((tuple, Memory));
                 };
                 self.insert_into(facts, tuple)
@@ -97,23 +89,14 @@ impl RisingFacts {
         Ok(added)
     }
 
-    /// Whether the tuple is there. The set is a tree from then on, unless the tuple comes behind all of it. It is refused only for
-    /// want of memory; the set stays as it is.
+    /// Whether the tuple is there. It is refused only for want of memory; the set stays as it is.
     pub fn find(&mut self, tuple: &Tuple) -> Result<bool, Memory>
         ensures answer { IfOk result (λ there. there ≡ has self.old (fact_of tuple.now)) }
         ensures same { self.new ≡ self.old }
     {
         match &self.held {
+            Held::Listed(tuples) => Ok(tuples.contains(tuple)),
             Held::Tree(facts) => Ok(facts.contains(tuple)),
-            Held::InOrder(tuples) => {
-                if comes_behind(tuples, tuple) {
-                    return Ok(false);
-                }
-                let facts = PlainFacts::of_list(self.alloc, tuples)?;
-                let there = facts.contains(tuple);
-                self.held = Held::Tree(facts);
-                Ok(there)
-            }
         }
     }
 
@@ -122,39 +105,8 @@ impl RisingFacts {
         ensures tuples { IfOk result (λ list. map fact_of list.items ≡ self) }
     {
         match self.held {
-            Held::InOrder(tuples) => Ok(tuples),
+            Held::Listed(tuples) => Ok(tuples.into_list()),
             Held::Tree(facts) => facts.into_list(alloc),
         }
     }
-}
-
-// Whether the tuple comes behind the last one of the list.
-fn comes_behind(tuples: &TupleList, tuple: &Tuple) -> bool
-    requires { IsRepository (map fact_of tuples.now.items) }
-    ensures behind { IsTrue result → IsBehind (fact_of tuple.now) (map fact_of tuples.now.items) }
-{
-    match tuples.as_slice().last() {
-        Some(last) => match last.cmp(tuple) {
-            Ordering::Less => true,
-            Ordering::Equal => false,
-            Ordering::Greater => false,
-        },
-        None => true,
-    }
-}
-
-// Adds a tuple that comes behind the list.
-fn add(tuples: &mut TupleList, tuple: Tuple) -> Result<bool, (Tuple, Memory)>
-    requires behind { IsBehind (fact_of tuple) (map fact_of tuples.old.items) }
-    requires in_order { IsRepository (map fact_of tuples.old.items) }
-    ensures changed { IfOk result
-        (λ changed. changed ≡ not (has (map fact_of tuples.old.items) (fact_of tuple))) }
-    ensures ok { OnOk result (map fact_of tuples.new.items ≡
-        change (map fact_of tuples.old.items) (Insert (fact_of tuple))) }
-    ensures in_order { IsRepository (map fact_of tuples.new.items) }
-    ensures given_back { IfErr result (λ refused. refused.0 ≡ tuple) }
-    ensures err { OnErr result (tuples.new.items ≡ tuples.old.items) }
-{
-    tuples.push(tuple)?;
-    Ok(true)
 }

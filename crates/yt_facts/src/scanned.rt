@@ -17,11 +17,11 @@ pub fn is_scanned(
     ensures answer { result ≡ is_scanned_tuple relation column (datum_of value.now)
         (option_map fact_of (option_copied past.entry)) (fact_of tuple.now) }
 {
-    tuple.relation == relation && is_beyond(past, tuple) && has_at(tuple, column, value)
+    tuple.relation == relation && has_at(tuple, column, value) && is_beyond(past, tuple)
 }
 
-// Whether the tuple comes after `past`, where that is given.
-fn is_beyond(past: Option<&Tuple>, tuple: &Tuple) -> bool
+/// Whether the tuple comes after `past`, where that is given.
+pub fn is_beyond(past: Option<&Tuple>, tuple: &Tuple) -> bool
     ensures answer { result ≡ is_beyond_tuple (option_map fact_of (option_copied past.entry))
         (fact_of tuple.now) }
 {

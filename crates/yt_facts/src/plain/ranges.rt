@@ -1,16 +1,15 @@
 //! The tuples of a set as ranges of its tree.
 ghost use Rattle.std.specs.List.{list_any};
-ghost use Rattle.std.specs.Option.{option_map};
 ghost use Rattle.std.specs.Prelude.{◌≡◌, [], ◌+◌, false, map, None, IsTrue};
 ghost use Rattle.yt_model.specs.Cursors.{is_of};
 ghost use Rattle.yt_model.specs.Repository.{IsRepository};
-ghost use Rattle.yt_base.specs.Candidates.{column_of, is_candidate, all_candidates, AreAll};
+ghost use Rattle.yt_base.specs.Candidates.{all_candidates, AreAll};
 ghost use Rattle.yt_base.specs.Meanings.{fact_of};
 
 use super::PlainFacts;
 use std::collections::btree_set::Range;
 use std::ops::Bound;
-use yt_base::{Candidates, Column, List, Tuple, next_candidate};
+use yt_base::{Candidates, Tuple};
 
 impl PlainFacts {
     /// All its tuples, in order.
@@ -43,22 +42,14 @@ impl PlainFacts {
             .range((Bound::Included(&first), Bound::Excluded(&end)))
     }
 
-    /// Whether it is plain that it has no tuple of the relation with the column's value, where a column is given. Only a
-    /// set of few tuples is searched for one; of a larger one the first and the last tell.
-    pub(crate) fn lacks(&self, relation: u16, column: Option<Column<'_>>) -> bool
-        ensures none { IsTrue result →
-            list_any (is_candidate relation (option_map column_of column.entry)) self.now ≡ false }
+    /// Whether it is plain that it has no tuple of the relation: it begins behind it, or ends before it.
+    pub(crate) fn lacks(&self, relation: u16) -> bool
+        ensures none { IsTrue result → list_any (is_of relation) self.now ≡ false }
     {
         if self.begins_behind(relation) {
             return true;
         }
-        if self.ends_before(relation) {
-            return true;
-        }
-        if !self.has_few() {
-            return false;
-        }
-        next_candidate(self, relation, column, None).is_none()
+        self.ends_before(relation)
     }
 
     // Whether the set begins behind the relation: it is empty, or its first tuple is of a greater one.

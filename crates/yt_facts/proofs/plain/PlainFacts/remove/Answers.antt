@@ -15,3 +15,6 @@ returns-clause-after c =
 
 pub invariant_of-self : goal.invariant_of-self
 invariant_of-self c = sorted_mapped _ c.remove.ensures.ordered
+
+pub returns-clause-in_order : goal.returns-clause-in_order
+returns-clause-in_order c = sorted_mapped _ c.remove.ensures.ordered

@@ -1,0 +1,175 @@
+//! Sets that mostly have few tuples.
+ghost use Rattle.std.specs.List.{list_any};
+ghost use Rattle.std.specs.Option.{option_map};
+ghost use Rattle.std.specs.Prelude.{◌≡◌, [], false, not, length, IsTrue, IfOk, OnOk, OnErr, IfErr};
+ghost use Rattle.yt_model.specs.Repository.{has, change, Insert, Delete, IsRepository};
+ghost use Rattle.yt_base.specs.Candidates.{column_of, is_candidate, AreAll};
+ghost use Rattle.yt_base.specs.Meanings.{fact_of};
+
+use crate::listed::{Held, ListedFacts};
+use crate::plain::PlainFacts;
+use std::alloc::Global;
+use std::marker::Model;
+use yt_base::{Candidates, Column, Facts, Memory, Tuple, Value, next_candidate};
+
+// So many tuples are few: a list of them takes less memory than a node of a tree.
+const FEW: usize = 16;
+
+/// A set of tuples, mostly few of them, as those that a column keeps at a value or an update has written. Few are a list; from
+/// the first insertion into more on they are a balanced tree. Contracts see the list of its tuples, in order.
+#[derive(Debug, Drop)]
+pub struct Group {
+    held: Held,
+    alloc: Global,
+}
+
+impl Model for Group {
+    ghost use Rattle.std.specs.Prelude.{List};
+    ghost use Rattle.yt_model.specs.Values.{Fact};
+
+    ghost Value = { List Fact };
+
+    ghost use Rattle.yt_model.specs.Repository.{IsRepository};
+    ghost use Rattle.yt_facts.specs.Rising.{tuples_held};
+
+    ghost view = { λ g. tuples_held g.held };
+
+    ghost invariant = { λ g. IsRepository (tuples_held g.held) };
+}
+
+impl Group {
+    /// The empty set. It takes no memory.
+    pub fn new(alloc: Global) -> Group
+        ensures empty { result ≡ [] }
+    {
+        Group {
+            held: Held::Listed(ListedFacts::new(alloc)),
+            alloc,
+        }
+    }
+
+    /// How many tuples there are.
+    pub fn len(&self) -> usize
+        ensures length { result ≡ length self.now }
+    {
+        match &self.held {
+            Held::Listed(tuples) => tuples.len(),
+            Held::Tree(facts) => facts.len(),
+        }
+    }
+
+    /// Puts a tuple in, and tells whether it is new. It is refused only for want of memory; it then hands the tuple
+    /// back, and the set is unchanged.
+    pub fn insert(&mut self, tuple: Tuple) -> Result<bool, (Tuple, Memory)>
+        ensures changed { IfOk result (λ changed. changed ≡ not (has self.old (fact_of tuple))) }
+        ensures ok { OnOk result (self.new ≡ change self.old (Insert (fact_of tuple))) }
+        ensures given_back { IfErr result (λ refused. refused.0 ≡ tuple) }
+        ensures err { OnErr result (self.new ≡ self.old) }
+    {
+        match &mut self.held {
+            Held::Tree(facts) => facts.insert(tuple),
+            Held::Listed(tuples) => {
+                if tuples.len() < FEW {
+                    return tuples.insert(tuple);
+                }
+                let Ok(facts) = tuples.tree(self.alloc) else {
+                    return Err((tuple, Memory));
+                };
+                self.insert_into(facts, tuple)
+            }
+        }
+    }
+
+    // Puts a tuple into the set, which is a tree from now on.
+    fn insert_into(&mut self, facts: PlainFacts, tuple: Tuple) -> Result<bool, (Tuple, Memory)>
+        requires same { facts ≡ self.old }
+        ensures changed { IfOk result (λ changed. changed ≡ not (has self.old (fact_of tuple))) }
+        ensures ok { OnOk result (self.new ≡ change self.old (Insert (fact_of tuple))) }
+        ensures given_back { IfErr result (λ refused. refused.0 ≡ tuple) }
+        ensures err { OnErr result (self.new ≡ self.old) }
+    {
+        let mut facts = facts;
+        let added = facts.insert(tuple)?;
+        self.held = Held::Tree(facts);
+        Ok(added)
+    }
+
+    /// Takes a tuple away, and tells whether it was there. It takes no memory.
+    pub fn remove(&mut self, tuple: &Tuple) -> bool
+        ensures changed { result ≡ has self.old (fact_of tuple.now) }
+        ensures after { self.new ≡ change self.old (Delete (fact_of tuple.now)) }
+    {
+        match &mut self.held {
+            Held::Listed(tuples) => tuples.remove(tuple),
+            Held::Tree(facts) => facts.remove(tuple),
+        }
+    }
+
+    /// Whether it is plain that it has no tuple of the relation with the column's value, where a column is given. Only a
+    /// list is searched for one; of a tree the first and the last tuple tell.
+    pub(crate) fn lacks(&self, relation: u16, column: Option<Column<'_>>) -> bool
+        ensures none { IsTrue result →
+            list_any (is_candidate relation (option_map column_of column.entry)) self.now ≡ false }
+    {
+        match &self.held {
+            Held::Listed(_) => next_candidate(self, relation, column, None).is_none(),
+            Held::Tree(facts) => facts.lacks(relation),
+        }
+    }
+
+    /// All its tuples, at hand.
+    pub fn at_hand(&self) -> Candidates<'_>
+        ensures all { AreAll result self.now self.now }
+        ensures in_order { IsRepository self.now }
+    {
+        match &self.held {
+            Held::Listed(tuples) => Candidates::Listed(tuples.as_slice()),
+            Held::Tree(facts) => Candidates::Together(facts.range()),
+        }
+    }
+}
+
+impl Facts for Group {
+    ghost tuples = { λ D. D };
+
+    fn contains(&self, tuple: &Tuple) -> bool {
+        match &self.held {
+            Held::Listed(tuples) => tuples.contains(tuple),
+            Held::Tree(facts) => facts.contains(tuple),
+        }
+    }
+
+    fn beyond(&self, past: Option<&Tuple>) -> Option<&Tuple> {
+        match &self.held {
+            Held::Listed(tuples) => tuples.beyond(past),
+            Held::Tree(facts) => facts.beyond(past),
+        }
+    }
+
+    fn first(&self, relation: u16) -> Option<&Tuple> {
+        match &self.held {
+            Held::Listed(tuples) => tuples.first(relation),
+            Held::Tree(facts) => facts.first(relation),
+        }
+    }
+
+    fn after(&self, tuple: &Tuple) -> Option<&Tuple> {
+        match &self.held {
+            Held::Listed(tuples) => tuples.after(tuple),
+            Held::Tree(facts) => facts.after(tuple),
+        }
+    }
+
+    fn scan(
+        &self,
+        relation: u16,
+        column: u16,
+        value: &Value,
+        past: Option<&Tuple>,
+    ) -> Option<&Tuple> {
+        match &self.held {
+            Held::Listed(tuples) => tuples.scan(relation, column, value, past),
+            Held::Tree(facts) => facts.scan(relation, column, value, past),
+        }
+    }
+}
