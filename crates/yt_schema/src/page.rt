@@ -1,15 +1,18 @@
 //! Text to which words are added, laid out as on a line.
 
 ghost use Rattle.std.specs.Prelude.{◌≡◌, ◌++◌, OnOk, IfOk};
-ghost use Rattle.yt_base.specs.Meanings.{datum_of};
+ghost use Rattle.yt_base.specs.Meanings.{datum_of, fact_of};
 ghost use Rattle.yt_grammar.specs.Words.{name, number, opens, closes, comma, colon, arrow};
-ghost use Rattle.yt_grammar.specs.Grammar.{value_word};
-ghost use Rattle.yt_schema.specs.Pages.{blank, space, with_word, with_line_feed};
+ghost use Rattle.yt_grammar.specs.Grammar.{fact_words, value_word};
+ghost use Rattle.yt_grammar.specs.Printing.{written_fact};
+ghost use Rattle.yt_schema.specs.Pages.{blank, space, with_word, with_words, with_line_feed};
 
+use crate::printing::push_fact;
+use crate::schema::Schema;
 use crate::spelling::{push_null, push_number, push_text};
 use std::alloc::{AllocError, Global};
 use std::marker::Model;
-use yt_base::{Memory, Value};
+use yt_base::{Memory, Tuple, Value};
 
 /// Text that grows word by word. A space comes between two words, but none behind `(` and none before
 /// `(`, `)`, `,` and `:`. A call that wants memory takes the page with it.
@@ -80,6 +83,37 @@ impl Page {
         }
         self.apart = true;
         Ok(self)
+    }
+
+    fn add_tuple(&mut self, schema: &Schema, tuple: &Tuple) -> Result<(), Memory>
+        ensures words { OnOk result (self.new ≡
+            with_words self.old (fact_words (written_fact schema.now (fact_of tuple.now)))) }
+    {
+        let name = schema.name(tuple.relation);
+        push_space(&mut self.text, self.apart)?;
+        push_fact(&mut self.text, false, name, tuple.values.as_slice())?;
+        self.apart = true;
+        Ok(())
+    }
+
+    /// Adds a tuple: the name of its relation, and its values in parentheses with commas between.
+    pub fn tuple(mut self, schema: &Schema, tuple: &Tuple) -> Result<Page, Memory>
+        ensures words { IfOk result (λ page. page ≡
+            with_words self (fact_words (written_fact schema.now (fact_of tuple.now)))) }
+    {
+        self.add_tuple(schema, tuple)?;
+        Ok(self)
+    }
+
+    /// Adds a tuple and ends the line. Where it wants memory, some of the tuple may have been added.
+    pub fn tuple_line(&mut self, schema: &Schema, tuple: &Tuple) -> Result<(), Memory>
+        ensures line { OnOk result (self.new ≡ with_line_feed
+            (with_words self.old (fact_words (written_fact schema.now (fact_of tuple.now))))) }
+    {
+        self.add_tuple(schema, tuple)?;
+        self.text.push(b'\n')?;
+        self.apart = false;
+        Ok(())
     }
 
     /// Adds `(`.
