@@ -11,7 +11,7 @@ ghost use Rattle.yt_program.specs.Results.{lack_of, stop_of};
 ghost use Rattle.yt_report.specs.Results.{candidate_lines, lack_name, question_lines, stop_lines, stop_lines_in, negative_lines, tuple_words};
 ghost use Rattle.yt_report.specs.Pages.{HasLines};
 
-use crate::named::{mapping_name, with_update};
+use crate::named::{add_update, mapping_name};
 use yt_base::{Memory, Tuple};
 use yt_frontier::Question;
 use yt_print::Worded;
@@ -105,9 +105,9 @@ fn lack_name(lack: Lack) -> &'static [u8]
 pub(crate) fn with_stop(page: Page, session: &Session, stop: &Stop) -> Result<Page, Memory>
     ensures { IfOk result (HasLines page (stop_lines (session_of session.now) (stop_of stop.now))) }
 {
-    let stuck = page.name(b"stuck")?;
-    let named = with_update(stuck, &session.updates, stop.update as usize)?;
-    let told = named.name(lack_name(stop.lack))?.end_line()?;
+    let mut stuck = page.name(b"stuck")?;
+    add_update(&mut stuck, &session.updates, stop.update as usize)?;
+    let told = stuck.name(lack_name(stop.lack))?.end_line()?;
     with_question(told, session, &stop.question)
 }
 

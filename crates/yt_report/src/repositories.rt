@@ -19,7 +19,8 @@ fn with_tuples(mut page: Page, schema: &Schema, tuples: &[Tuple]) -> Result<Page
     ensures { IfOk result (HasLines page (map (tuple_words schema.now) (map fact_of tuples.now))) }
 {
     for tuple in tuples {
-        page.tuple_line(schema, tuple)?;
+        page.add_tuple(schema, tuple)?;
+        page.add_line_feed()?;
     }
     Ok(page)
 }
