@@ -14,7 +14,6 @@ ghost use Rattle.yt_report.specs.Pages.{HasLines};
 use crate::named::{add_update, mapping_name};
 use yt_base::{Memory, Tuple};
 use yt_frontier::Question;
-use yt_print::Worded;
 use yt_program::{Lack, Stop};
 use yt_schema::{Page, Schema};
 use yt_session::Session;
@@ -24,7 +23,9 @@ fn with_candidates(mut page: Page, schema: &Schema, tuples: &[Tuple]) -> Result<
     ensures { IfOk result (HasLines page (candidate_lines schema.now (map fact_of tuples.now))) }
 {
     for tuple in tuples {
-        page = tuple.write(page.name(b"candidate")?, schema)?.end_line()?;
+        page.add_name(b"candidate")?;
+        page.add_tuple(schema, tuple)?;
+        page.add_line_feed()?;
     }
     Ok(page)
 }
@@ -44,7 +45,7 @@ fn with_positive(
         ∷ candidate_lines schema.now (map fact_of candidates.now))) }
 {
     let named = page.name(b"question")?.name(b"positive")?.name(called)?;
-    let told = tuple.write(named, schema)?.end_line()?;
+    let told = named.tuple(schema, tuple)?.end_line()?;
     with_candidates(told, schema, candidates)
 }
 
