@@ -2,7 +2,7 @@
 
 ghost use Rattle.std.specs.Prelude.{◌≡◌, ◌∷◌, [], List, IfOk, flat_map, map};
 ghost use Rattle.yt_grammar.specs.Words.{Word, comma};
-ghost use Rattle.yt_grammar.specs.Grammar.{fact_words, one_word, separated, value_word};
+ghost use Rattle.yt_grammar.specs.Grammar.{fact_words, separated, value_word};
 ghost use Rattle.yt_grammar.specs.Printing.{written_fact};
 ghost use Rattle.yt_grammar.specs.Sessions.{RelationSchema};
 ghost use Rattle.yt_base.specs.Meanings.{datum_of, fact_of};
@@ -32,8 +32,7 @@ impl Worded for Tuple {
     ghost words = { λ relations t. fact_words (written_fact relations (fact_of t)) };
 
     fn write(&self, page: Page, schema: &Schema) -> Result<Page, Memory> {
-        let inside = page.name(schema.name(self.relation))?.open()?;
-        with_values(inside, schema, self.values.as_slice())?.close()
+        page.tuple(schema, self)
     }
 }
 
@@ -71,11 +70,4 @@ pub fn with_separated<T: Worded>(page: Page, schema: &Schema, items: &[T]) -> Re
         [] => Ok(page),
         [first, others @ ..] => with_some(page, schema, first, others),
     }
-}
-
-fn with_values(page: Page, schema: &Schema, values: &[Value]) -> Result<Page, Memory>
-    ensures { IfOk result (λ p. p ≡ with_words page
-        (separated (one_word value_word) (map datum_of values.now))) }
-{
-    with_separated(page, schema, values)
 }

@@ -1,71 +1,74 @@
 //! The lines of updates that came to their ends.
 
-ghost use Rattle.std.specs.Prelude.{◌≡◌, ◌+◌, ◌<◌, ◌^◌, Some, length, map, slice_get, IfOk};
+ghost use Rattle.std.specs.Prelude.{◌≡◌, ◌+◌, ◌<◌, ◌^◌, Some, length, map, slice_get, IfOk, OnOk};
 ghost use Rattle.yt_program.specs.Results.{finish_of};
 ghost use Rattle.yt_program.specs.declared.results.Finish.{Finish};
 ghost use Rattle.yt_report.specs.Results.{end_words, finish_lines, finish_words};
 ghost use Rattle.yt_report.specs.Pages.{HasLine, HasLines, HasWords, updates_of};
 
-use crate::named::with_update;
+use crate::named::add_update;
 use yt_base::{Memory, Null, Value};
 use yt_program::{Finish, Outcome};
 use yt_schema::Page;
 use yt_session::SessionUpdates;
 
 // How the update ended.
-fn with_end(page: Page, finish: &Finish) -> Result<Page, Memory>
-    ensures { IfOk result (HasWords page (end_words (finish_of finish.now).outcome)) }
+fn add_end(page: &mut Page, finish: &Finish) -> Result<(), Memory>
+    ensures { OnOk result (HasWords page.old
+        (end_words (finish_of finish.now).outcome) page.new) }
 {
     match finish.outcome {
-        Outcome::Done => page.name(b"done"),
-        Outcome::Spent => page.name(b"spent"),
+        Outcome::Done => page.add_name(b"done"),
+        Outcome::Spent => page.add_name(b"spent"),
         Outcome::Refused { update, place } => {
             let null = Null {
                 update,
                 attempt: 0,
                 place,
             };
-            page.name(b"refused")?.value(&Value::Null(null))
+            page.add_name(b"refused")?;
+            page.add_value(&Value::Null(null))
         }
     }
 }
 
 // The update of a number.
-fn with_finish(
-    page: Page,
+fn add_finish(
+    page: &mut Page,
     updates: &SessionUpdates,
     number: usize,
     finish: &Finish,
-) -> Result<Page, Memory>
+) -> Result<(), Memory>
     requires { number < 2 ^ 63 }
-    ensures { IfOk result (HasLine page
-        (finish_words (updates_of updates.now) number (finish_of finish.now))) }
+    ensures { OnOk result (HasLine page.old
+        (finish_words (updates_of updates.now) number (finish_of finish.now)) page.new) }
 {
-    let named = with_update(page.name(b"update")?, updates, number)?;
-    with_end(named, finish)?
-        .name(b"steps")?
-        .number(finish.steps as i64)?
-        .name(b"nulls")?
-        .number(finish.nulls as i64)?
-        .end_line()
+    page.add_name(b"update")?;
+    add_update(page, updates, number)?;
+    add_end(page, finish)?;
+    page.add_name(b"steps")?;
+    page.add_number(finish.steps as i64)?;
+    page.add_name(b"nulls")?;
+    page.add_number(finish.nulls as i64)?;
+    page.add_line_feed()
 }
 
 // The update that came to its end at a place, counted from 0.
-fn with_finish_at(
-    page: Page,
+fn add_finish_at(
+    page: &mut Page,
     updates: &SessionUpdates,
     finishes: &[Finish],
     place: usize,
-) -> Result<Page, Memory>
+) -> Result<(), Memory>
     requires { place < length finishes.now }
     ensures { (f : Finish) → slice_get finishes.now place ≡ Some f →
-        IfOk result (HasLine page (finish_words (updates_of updates.now) (place + 1)
-        (finish_of f))) }
+        OnOk result (HasLine page.old (finish_words (updates_of updates.now) (place + 1)
+        (finish_of f)) page.new) }
 {
     let Some(finish) = finishes.get(place) else {
         unreachable!()
     };
-    with_finish(page, updates, place + 1, finish)
+    add_finish(page, updates, place + 1, finish)
 }
 
 /// Adds the updates that came to their ends, the first of them number 1.
@@ -78,7 +81,7 @@ pub(crate) fn with_finishes(
         (finish_lines (updates_of updates.now) 1 (map finish_of finishes.now))) }
 {
     for place in 0..finishes.len() {
-        page = with_finish_at(page, updates, finishes, place)?;
+        add_finish_at(&mut page, updates, finishes, place)?;
     }
     Ok(page)
 }

@@ -1,6 +1,6 @@
 //! Updates and mappings by their names.
 
-ghost use Rattle.std.specs.Prelude.{◌≡◌, ◌<◌, ◌^◌, pos, [], ◌∷◌, IfOk};
+ghost use Rattle.std.specs.Prelude.{◌≡◌, ◌<◌, ◌^◌, pos, [], ◌∷◌, OnOk};
 ghost use Rattle.yt_grammar.specs.Words as word_of;
 ghost use Rattle.yt_grammar.specs.Printing.{name_of};
 ghost use Rattle.yt_grammar.specs.Sessions.{mapping_names};
@@ -12,34 +12,37 @@ use yt_schema::Page;
 use yt_session::SessionUpdates;
 
 // A number and two names.
-fn with_names(page: Page, number: usize, label: &[u8], curator: &[u8]) -> Result<Page, Memory>
+fn add_names(page: &mut Page, number: usize, label: &[u8], curator: &[u8]) -> Result<(), Memory>
     requires { number < 2 ^ 63 }
-    ensures { IfOk result (HasWords page (word_of.number (pos number) ∷ word_of.name label.now ∷
-        word_of.name curator.now ∷ [])) }
+    ensures { OnOk result (HasWords page.old (word_of.number (pos number) ∷ word_of.name label.now ∷
+        word_of.name curator.now ∷ []) page.new) }
 {
-    page.number(number as i64)?.name(label)?.name(curator)
+    page.add_number(number as i64)?;
+    page.add_name(label)?;
+    page.add_name(curator)
 }
 
 /// Adds an update by its number, label and curator.
-pub(crate) fn with_update(
-    page: Page,
+pub(crate) fn add_update(
+    page: &mut Page,
     updates: &SessionUpdates,
     number: usize,
-) -> Result<Page, Memory>
+) -> Result<(), Memory>
     requires { number < 2 ^ 63 }
-    ensures { IfOk result (HasWords page (update_words (updates_of updates.now) number)) }
+    ensures { OnOk result (HasWords page.old
+        (update_words (updates_of updates.now) number) page.new) }
 {
     match updates.get(number.saturating_sub(1)) {
         Some(named) => {
             let update = &named.update;
-            with_names(
+            add_names(
                 page,
                 number,
                 update.label.as_slice(),
                 update.curator.as_slice(),
             )
         }
-        None => with_names(page, number, &[], &[]),
+        None => add_names(page, number, &[], &[]),
     }
 }
 

@@ -11,10 +11,9 @@ ghost use Rattle.yt_program.specs.Results.{lack_of, stop_of};
 ghost use Rattle.yt_report.specs.Results.{candidate_lines, lack_name, question_lines, stop_lines, stop_lines_in, negative_lines, tuple_words};
 ghost use Rattle.yt_report.specs.Pages.{HasLines};
 
-use crate::named::{mapping_name, with_update};
+use crate::named::{add_update, mapping_name};
 use yt_base::{Memory, Tuple};
 use yt_frontier::Question;
-use yt_print::Worded;
 use yt_program::{Lack, Stop};
 use yt_schema::{Page, Schema};
 use yt_session::Session;
@@ -24,7 +23,9 @@ fn with_candidates(mut page: Page, schema: &Schema, tuples: &[Tuple]) -> Result<
     ensures { IfOk result (HasLines page (candidate_lines schema.now (map fact_of tuples.now))) }
 {
     for tuple in tuples {
-        page = tuple.write(page.name(b"candidate")?, schema)?.end_line()?;
+        page.add_name(b"candidate")?;
+        page.add_tuple(schema, tuple)?;
+        page.add_line_feed()?;
     }
     Ok(page)
 }
@@ -44,7 +45,7 @@ fn with_positive(
         ∷ candidate_lines schema.now (map fact_of candidates.now))) }
 {
     let named = page.name(b"question")?.name(b"positive")?.name(called)?;
-    let told = tuple.write(named, schema)?.end_line()?;
+    let told = named.tuple(schema, tuple)?.end_line()?;
     with_candidates(told, schema, candidates)
 }
 
@@ -105,9 +106,9 @@ fn lack_name(lack: Lack) -> &'static [u8]
 pub(crate) fn with_stop(page: Page, session: &Session, stop: &Stop) -> Result<Page, Memory>
     ensures { IfOk result (HasLines page (stop_lines (session_of session.now) (stop_of stop.now))) }
 {
-    let stuck = page.name(b"stuck")?;
-    let named = with_update(stuck, &session.updates, stop.update as usize)?;
-    let told = named.name(lack_name(stop.lack))?.end_line()?;
+    let mut stuck = page.name(b"stuck")?;
+    add_update(&mut stuck, &session.updates, stop.update as usize)?;
+    let told = stuck.name(lack_name(stop.lack))?.end_line()?;
     with_question(told, session, &stop.question)
 }
 

@@ -10,7 +10,6 @@ ghost use Rattle.yt_report.specs.Results.{repository_lines, tuple_words};
 ghost use Rattle.yt_report.specs.Pages.{HasLines};
 
 use yt_base::{Memory, Tuple};
-use yt_print::Worded;
 use yt_program::Finish;
 use yt_schema::{Page, Schema};
 use yt_session::SessionUpdate;
@@ -20,7 +19,8 @@ fn with_tuples(mut page: Page, schema: &Schema, tuples: &[Tuple]) -> Result<Page
     ensures { IfOk result (HasLines page (map (tuple_words schema.now) (map fact_of tuples.now))) }
 {
     for tuple in tuples {
-        page = tuple.write(page, schema)?.end_line()?;
+        page.add_tuple(schema, tuple)?;
+        page.add_line_feed()?;
     }
     Ok(page)
 }

@@ -1,6 +1,6 @@
 //! The saved session, and why it is refused.
 
-ghost use Rattle.std.specs.Prelude.{◌≡◌, false, ◌||◌, nat_lt, [], ◌∷◌, ◌++◌, map, IfOk, IfErr, IfSome, IfNone, OnOk};
+ghost use Rattle.std.specs.Prelude.{◌≡◌, false, ◌||◌, nat_lt, [], ◌∷◌, ◌++◌, map, IfOk, IfErr, IfSome, IfNone, OnOk, OnErr};
 ghost use Rattle.std.specs.Option.{option_map, option_copied};
 ghost use Rattle.yt_schema.specs.Meanings.{session_mapping_of};
 ghost use Rattle.yt_session.specs.Meanings.{session_of};
@@ -105,20 +105,19 @@ fn saved_mappings(
     Ok(kept)
 }
 
-// The saved session, of any size.
-fn saved_session(alloc: Global, session: Session, told: &SessionResult) -> Result<Session, Memory>
-    ensures { IfOk result (λ s. session_of s ≡ saved (session_of session) (result_of told.now)) }
+// Makes the session the saved one, of any size. It is refused only for want of memory, and is then as it was.
+fn begin_anew(alloc: Global, session: &mut Session, told: &SessionResult) -> Result<(), Memory>
+    ensures anew { OnOk result (session_of session.new ≡
+        saved (session_of session.old) (result_of told.now)) }
+    ensures err { OnErr result (session_of session.new ≡ session_of session.old) }
 {
     let finishes = told.finishes.as_slice();
     let mappings = saved_mappings(alloc, finishes, session.mappings.as_slice())?;
-    let base = saved_base(alloc, told.repository.as_slice())?;
-    Ok(Session {
-        format: 2,
-        schema: session.schema,
-        mappings,
-        base,
-        updates: List::new(alloc),
-    })
+    session.base = saved_base(alloc, told.repository.as_slice())?;
+    session.mappings = mappings;
+    session.format = 2;
+    session.updates = List::new(alloc);
+    Ok(())
 }
 
 // Whether so many tuples or so many bytes are too many.
@@ -147,16 +146,20 @@ fn too_large(alloc: Global, session: &Session) -> Result<Option<SaveRefusal>, Me
 /// The session that begins with what a run left: of format 2, with the relations of the session that ran, the mappings
 /// in force in the end, the repository as its base, and no updates. It is refused as too large exactly where it has
 /// more than 100,000 tuples or its printed form more than 16,777,216 bytes; both numbers are told.
-pub fn saved(alloc: Global, session: Session, told: &SessionResult) -> Result<Session, SaveRefusal>
+pub fn saved(
+    alloc: Global,
+    mut session: Session,
+    told: &SessionResult,
+) -> Result<Session, SaveRefusal>
     ensures same { IfOk result (λ s. session_of s ≡
         saved (session_of session) (result_of told.now)) }
     ensures fits { IfOk result (λ s. is_too_large (session_of s) ≡ false) }
     ensures refused { IfErr result (λ refusal.
         Refuses refusal (saved (session_of session) (result_of told.now))) }
 {
-    let begun = saved_session(alloc, session, told)?;
-    match too_large(alloc, &begun)? {
+    begin_anew(alloc, &mut session, told)?;
+    match too_large(alloc, &session)? {
         Some(refusal) => Err(refusal),
-        None => Ok(begun),
+        None => Ok(session),
     }
 }

@@ -5,3 +5,4 @@ pub mod Eached
 pub mod Fitted
 pub mod Lined
 mod Starting
+mod Tupled

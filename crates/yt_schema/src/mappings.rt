@@ -1,9 +1,10 @@
 //! The checks of a mapping against the relations.
 
-ghost use Rattle.std.specs.Prelude.{◌≡◌, map};
+ghost use Rattle.std.specs.Prelude.{◌≡◌, [], length, map, IfOk, OnOk};
 ghost use Rattle.yt_base.specs.Meanings.{pattern_of as pattern_meant};
 ghost use Rattle.yt_grammar.specs.Reading.{each};
-ghost use Rattle.yt_grammar.specs.Meaning.{few_atoms, mapping_of, pattern_of, some_atoms};
+ghost use Rattle.yt_grammar.specs.Names.{firsts, same_name};
+ghost use Rattle.yt_grammar.specs.Meaning.{few_atoms, mapping_of, pattern_of, some_atoms, variables_in, variables_of};
 ghost use Rattle.yt_schema.specs.Answers.{Gives};
 ghost use Rattle.yt_schema.specs.Meanings.{atom_of, mapping_written, session_mapping_of};
 ghost use Rattle.yt_schema.specs.Relations.{atoms_fit, mapping_over, numbered_atoms, sides_fit};
@@ -104,8 +105,59 @@ pub fn numbered_atoms(
     Ok((found, variables.into_names()))
 }
 
-// A mapping whose sides have been found to fit.
+// Notes the variables of both sides, and gives how many are universal.
+fn note_sides(
+    alloc: Global,
+    variables: &mut Variables,
+    left: &RawAtoms,
+    right: &RawAtoms,
+) -> Result<u16, Memory>
+    requires none { variables.old ≡ [] }
+    ensures noted { OnOk result (variables.new ≡
+        variables_of (mapping_written left.now right.now)) }
+    ensures universal { IfOk result (λ n. n ≡
+        length (firsts same_name (variables_in (map atom_of left.now.atoms.items)))) }
+{
+    variables.note_atoms(alloc, left.atoms.as_slice())?;
+    let Ok(universal) = u16::try_from(variables.len()) else {
+        return Err(Memory);
+    };
+    variables.note_atoms(alloc, right.atoms.as_slice())?;
+    Ok(universal)
+}
+
+// A mapping over its variables, whose sides have been found to fit.
 #[tactic(auto, unfolding(crate::specs::Relations::mapping_over))]
+fn mapping_with(
+    alloc: Global,
+    schema: &Schema,
+    variables: &Variables,
+    universal: u16,
+    since: u32,
+    left: &RawAtoms,
+    right: &RawAtoms,
+) -> Result<Mapping, SchemaRefusal>
+    requires noted { variables.now ≡ variables_of (mapping_written left.now right.now) }
+    requires universal { universal ≡
+        length (firsts same_name (variables_in (map atom_of left.now.atoms.items))) }
+    ensures { Gives session_mapping_of result
+        (mapping_over schema.now since (mapping_written left.now right.now)) }
+{
+    let name = left.name.copy(alloc)?;
+    let names = variables.list(alloc)?;
+    let left_atoms = atoms_of(alloc, schema, variables, left.atoms.as_slice())?;
+    let right_atoms = atoms_of(alloc, schema, variables, right.atoms.as_slice())?;
+    Ok(Mapping {
+        name,
+        names,
+        universal,
+        since,
+        left: left_atoms,
+        right: right_atoms,
+    })
+}
+
+// A mapping whose sides have been found to fit.
 fn mapping_over(
     alloc: Global,
     schema: &Schema,
@@ -117,23 +169,8 @@ fn mapping_over(
         (mapping_over schema.now since (mapping_written left.now right.now)) }
 {
     let mut variables = Variables::new(alloc);
-    variables.note_atoms(alloc, left.atoms.as_slice())?;
-    let Ok(universal) = u16::try_from(variables.len()) else {
-        return Err(SchemaRefusal::Memory);
-    };
-    variables.note_atoms(alloc, right.atoms.as_slice())?;
-    let left_atoms = atoms_of(alloc, schema, &variables, left.atoms.as_slice())?;
-    let right_atoms = atoms_of(alloc, schema, &variables, right.atoms.as_slice())?;
-    let name = left.name.copy(alloc)?;
-    let names = variables.list(alloc)?;
-    Ok(Mapping {
-        name,
-        names,
-        universal,
-        since,
-        left: left_atoms,
-        right: right_atoms,
-    })
+    let universal = note_sides(alloc, &mut variables, left, right)?;
+    mapping_with(alloc, schema, &variables, universal, since, left, right)
 }
 
 /// Checks a mapping that the update of the given number puts in force, or that is in force from the

@@ -1,18 +1,22 @@
 //! Text to which words are added, laid out as on a line.
 
 ghost use Rattle.std.specs.Prelude.{◌≡◌, ◌++◌, OnOk, IfOk};
-ghost use Rattle.yt_base.specs.Meanings.{datum_of};
+ghost use Rattle.yt_base.specs.Meanings.{datum_of, fact_of};
 ghost use Rattle.yt_grammar.specs.Words.{name, number, opens, closes, comma, colon, arrow};
-ghost use Rattle.yt_grammar.specs.Grammar.{value_word};
-ghost use Rattle.yt_schema.specs.Pages.{blank, space, with_word, with_line_feed};
+ghost use Rattle.yt_grammar.specs.Grammar.{fact_words, value_word};
+ghost use Rattle.yt_grammar.specs.Printing.{written_fact};
+ghost use Rattle.yt_schema.specs.Pages.{blank, space, with_word, with_words, with_line_feed};
 
-use crate::spelling::{push_null, push_number, push_text};
+use crate::printing::push_fact;
+use crate::schema::Schema;
+use crate::spelling::{push_number, push_value};
 use std::alloc::{AllocError, Global};
 use std::marker::Model;
-use yt_base::{Memory, Value};
+use yt_base::{Memory, Tuple, Value};
 
 /// Text that grows word by word. A space comes between two words, but none behind `(` and none before
-/// `(`, `)`, `,` and `:`. A call that wants memory takes the page with it.
+/// `(`, `)`, `,` and `:`. A call that wants memory takes the page with it, or leaves some of its word on a page that it
+/// was lent.
 #[derive(Drop)]
 pub struct Page {
     text: Vec<u8>,
@@ -48,37 +52,88 @@ impl Page {
     }
 
     /// Adds a name.
-    pub fn name(mut self, bytes: &[u8]) -> Result<Page, Memory>
-        ensures word { IfOk result (λ page. page ≡ with_word self (name bytes.now)) }
+    pub fn add_name(&mut self, bytes: &[u8]) -> Result<(), Memory>
+        ensures word { OnOk result (self.new ≡ with_word self.old (name bytes.now)) }
     {
         push_space(&mut self.text, self.apart)?;
         self.text.extend_from_slice(bytes)?;
         self.apart = true;
-        Ok(self)
+        Ok(())
     }
 
     /// Adds a number.
-    pub fn number(mut self, integer: i64) -> Result<Page, Memory>
-        ensures word { IfOk result (λ page. page ≡ with_word self (number integer)) }
+    pub fn add_number(&mut self, integer: i64) -> Result<(), Memory>
+        ensures word { OnOk result (self.new ≡ with_word self.old (number integer)) }
     {
         push_space(&mut self.text, self.apart)?;
         push_number(&mut self.text, integer)?;
         self.apart = true;
-        Ok(self)
+        Ok(())
     }
 
     /// Adds a value, a null by its outer name.
+    pub fn add_value(&mut self, value: &Value) -> Result<(), Memory>
+        ensures word { OnOk result (self.new ≡
+            with_word self.old (value_word (datum_of value.now))) }
+    {
+        push_space(&mut self.text, self.apart)?;
+        push_value(&mut self.text, false, value)?;
+        self.apart = true;
+        Ok(())
+    }
+
+    /// Ends the line with a line feed.
+    pub fn add_line_feed(&mut self) -> Result<(), Memory>
+        ensures ended { OnOk result (self.new ≡ with_line_feed self.old) }
+    {
+        self.text.push(b'\n')?;
+        self.apart = false;
+        Ok(())
+    }
+
+    /// Adds a tuple: the name of its relation, and its values in parentheses with commas between.
+    pub fn add_tuple(&mut self, schema: &Schema, tuple: &Tuple) -> Result<(), Memory>
+        ensures words { OnOk result (self.new ≡
+            with_words self.old (fact_words (written_fact schema.now (fact_of tuple.now)))) }
+    {
+        let name = schema.name(tuple.relation);
+        push_space(&mut self.text, self.apart)?;
+        push_fact(&mut self.text, false, name, tuple.values.as_slice())?;
+        self.apart = true;
+        Ok(())
+    }
+
+    /// Adds a name, as `add_name` does.
+    pub fn name(mut self, bytes: &[u8]) -> Result<Page, Memory>
+        ensures word { IfOk result (λ page. page ≡ with_word self (name bytes.now)) }
+    {
+        self.add_name(bytes)?;
+        Ok(self)
+    }
+
+    /// Adds a number, as `add_number` does.
+    pub fn number(mut self, integer: i64) -> Result<Page, Memory>
+        ensures word { IfOk result (λ page. page ≡ with_word self (number integer)) }
+    {
+        self.add_number(integer)?;
+        Ok(self)
+    }
+
+    /// Adds a value, as `add_value` does.
     pub fn value(mut self, value: &Value) -> Result<Page, Memory>
         ensures word { IfOk result (λ page. page ≡
             with_word self (value_word (datum_of value.now))) }
     {
-        push_space(&mut self.text, self.apart)?;
-        match value {
-            Value::Int(number) => push_number(&mut self.text, *number)?,
-            Value::Word(text) => push_text(&mut self.text, text.as_slice())?,
-            Value::Null(null) => push_null(&mut self.text, null.update, null.place)?,
-        }
-        self.apart = true;
+        self.add_value(value)?;
+        Ok(self)
+    }
+
+    /// Adds a tuple, as `add_tuple` does.
+    pub fn tuple(mut self, schema: &Schema, tuple: &Tuple) -> Result<Page, Memory>
+        ensures words { IfOk result (λ page. page ≡
+            with_words self (fact_words (written_fact schema.now (fact_of tuple.now)))) }
+    {
+        self.add_tuple(schema, tuple)?;
         Ok(self)
     }
 
@@ -128,12 +183,11 @@ impl Page {
         Ok(self)
     }
 
-    /// Ends the line with a line feed.
+    /// Ends the line, as `add_line_feed` does.
     pub fn end_line(mut self) -> Result<Page, Memory>
         ensures ended { IfOk result (λ page. page ≡ with_line_feed self) }
     {
-        self.text.push(b'\n')?;
-        self.apart = false;
+        self.add_line_feed()?;
         Ok(self)
     }
 

@@ -15,7 +15,8 @@ fn push_other(out: &mut Vec<u8>, inner: bool, value: &Value) -> Result<(), Alloc
         out.old.items ++ 44 ∷ 32 ∷ value_text inner (datum_of value.now)) }
     ensures err { OnErr result (StartsWith out.old.items out.new.items) }
 {
-    out.extend_from_slice(b", ")?;
+    out.push(b',')?;
+    out.push(b' ')?;
     push_value(out, inner, value)
 }
 
@@ -60,6 +61,23 @@ pub fn push_values(out: &mut Vec<u8>, inner: bool, values: &[Value]) -> Result<(
     added
 }
 
+/// Adds a tuple of a relation of this name: the name, and the values in parentheses.
+pub(crate) fn push_fact(
+    out: &mut Vec<u8>,
+    inner: bool,
+    name: &[u8],
+    values: &[Value],
+) -> Result<(), AllocError>
+    ensures { OnOk result (out.new.items ≡ out.old.items ++ (name.now
+        ++ (40 ∷ (joined_text (value_text inner) (map datum_of values.now) ++ 41 ∷ [])))) }
+{
+    out.extend_from_slice(name)?;
+    out.push(b'(')?;
+    push_all(out, inner, values)?;
+    out.push(b')')?;
+    Ok(())
+}
+
 fn push_tuple(
     out: &mut Vec<u8>,
     schema: &Schema,
@@ -74,11 +92,7 @@ fn push_tuple(
         out.push(b'*')?;
         return push_values(out, inner, values);
     }
-    out.extend_from_slice(schema.name(tuple.relation))?;
-    out.push(b'(')?;
-    push_values(out, inner, values)?;
-    out.push(b')')?;
-    Ok(())
+    push_fact(out, inner, schema.name(tuple.relation), values)
 }
 
 /// The printed form of a tuple: the name of its relation and its values, as a session spells them.

@@ -2,10 +2,11 @@
 
 ghost use Rattle.std.specs.Prelude.{◌≡◌, ◌++◌, ◌∷◌, [], OnOk, OnErr, flat_map};
 ghost use Rattle.std.specs.Fmt.{decimal, signed_decimal};
+ghost use Rattle.std.specs.List.{list_all};
 ghost use Rattle.yt_grammar.specs.Layout.{null_text, quoted, written_byte};
 ghost use Rattle.yt_grammar.specs.Printing.{null_name_text, value_text};
 ghost use Rattle.yt_base.specs.Meanings.{datum_of, null_of};
-ghost use Rattle.yt_schema.specs.Pages.{StartsWith};
+ghost use Rattle.yt_schema.specs.Pages.{StartsWith, is_plain};
 
 use itoa::Buffer;
 use std::alloc::AllocError;
@@ -72,6 +73,7 @@ fn push_byte(out: &mut Vec<u8>, byte: u8) -> Result<(), AllocError>
     Ok(())
 }
 
+// The bytes of a text one by one.
 fn push_bytes(out: &mut Vec<u8>, text: &[u8]) -> Result<(), AllocError>
     ensures ok { OnOk result (out.new.items ≡ out.old.items ++ flat_map written_byte text.now) }
     ensures err { OnErr result (StartsWith out.old.items out.new.items) }
@@ -82,13 +84,38 @@ fn push_bytes(out: &mut Vec<u8>, text: &[u8]) -> Result<(), AllocError>
     Ok(())
 }
 
+// Whether the byte is written as it is.
+fn is_plain(byte: u8) -> bool
+    ensures { result ≡ is_plain byte }
+{
+    byte != b'"' && byte != b'\\' && byte != b'\n'
+}
+
+// Whether each byte of the text is.
+fn is_plain_text(text: &[u8]) -> bool
+    ensures { result ≡ list_all is_plain text.now }
+{
+    text.iter().all(|byte| is_plain(*byte))
+}
+
+// A text without its quotes.
+fn push_inside(out: &mut Vec<u8>, text: &[u8]) -> Result<(), AllocError>
+    ensures ok { OnOk result (out.new.items ≡ out.old.items ++ flat_map written_byte text.now) }
+    ensures err { OnErr result (StartsWith out.old.items out.new.items) }
+{
+    if is_plain_text(text) {
+        return out.extend_from_slice(text);
+    }
+    push_bytes(out, text)
+}
+
 /// A text in its quotes.
 pub(crate) fn push_text(out: &mut Vec<u8>, text: &[u8]) -> Result<(), AllocError>
     ensures ok { OnOk result (out.new.items ≡ out.old.items ++ quoted text.now) }
     ensures err { OnErr result (StartsWith out.old.items out.new.items) }
 {
     out.push(b'"')?;
-    push_bytes(out, text)?;
+    push_inside(out, text)?;
     out.push(b'"')?;
     Ok(())
 }

@@ -59,18 +59,14 @@ fn make_one(facts: &mut IndexedFacts, write: Write) -> Result<(), Memory>
 pub fn told(alloc: Global, facts: IndexedFacts) -> Result<TupleList, Memory>
     ensures told { IfOk result (λ tuples. facts_of tuples ≡ answered facts) }
 {
-    without_force(alloc, facts.into_list(alloc)?)
+    Ok(without_force(facts.into_list(alloc)?))
 }
 
 // The tuples but for those that say which mappings are in force.
-fn without_force(alloc: Global, tuples: TupleList) -> Result<TupleList, Memory>
-    ensures others { IfOk result (λ others. facts_of others ≡ answered (facts_of tuples)) }
+fn without_force(tuples: TupleList) -> TupleList
+    ensures others { facts_of result ≡ answered (facts_of tuples) }
 {
-    let mut others = TupleList::new(alloc);
-    for tuple in tuples.into_vec() {
-        if tuple.relation != FORCE_RELATION {
-            others.push(tuple)?;
-        }
-    }
-    Ok(others)
+    let mut others = tuples.into_vec();
+    others.retain(|tuple| tuple.relation != FORCE_RELATION);
+    TupleList::from_vec(others)
 }

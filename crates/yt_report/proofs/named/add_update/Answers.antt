@@ -1,4 +1,4 @@
-use Rattle.std.proofs.Common.{◌≡◌, ◌∙◌, ◌-◌, [], ◌∷◌, ap, sym, subst, IfOk}
+use Rattle.std.proofs.Common.{◌≡◌, ◌∙◌, ◌-◌, [], ◌∷◌, ap, sym, subst, OnOk}
 use Rattle.std.specs.Prelude.{pos, slice_get}
 use Rattle.yt_grammar.specs.Words.{name, number}
 use Rattle.yt_grammar.specs.Sessions.{SessionUpdate}
@@ -6,9 +6,9 @@ use Rattle.yt_schema.specs.Pages.{with_words}
 use Rattle.yt_session.specs.Meanings.{update_of}
 use Rattle.yt_print.proofs.Onward.{no_image_at}
 use Rattle.yt_report.specs.Results.{no_update}
-use Rattle.yt_report.proofs.named.with_update.Goals as goal
+use Rattle.yt_report.proofs.named.add_update.Goals as goal
 
 pub returns-in-None : goal.returns-in-None
-returns-in-None c = subst (λ (u : SessionUpdate). IfOk c.with_names-in-None.result (λ p. p ≡ with_words c.args.page (number (pos c.args.number) ∷ name u.label ∷ name u.curator ∷ [])))
+returns-in-None c = subst (λ (u : SessionUpdate). OnOk c.add_names-in-None.result (c.add_names-in-None.new.page ≡ with_words c.args.page.now (number (pos c.args.number) ∷ name u.label ∷ name u.curator ∷ [])))
     (sym (no_image_at update_of c.args.updates.now.items (c.args.number - 1) no_update (ap (slice_get c.args.updates.now.items) (sym c.saturating_sub.ensures) ∙ sym c.in-None.ensures.item)))
-    c.with_names-in-None.ensures
+    c.add_names-in-None.ensures
