@@ -59,8 +59,8 @@ united_same n p q e h = is_united n p (subst (UnitedBy n) (sym e) (unites n q h)
 sound_by : (g h : Generation) (s : Stage) → g.mapping ≡ h.mapping → IsSound g s → IsSound h s
 sound_by g h Generating e a = tt
 sound_by g h (Querying q) e a = a
-sound_by g h (Waiting q) e a = subst (λ n. IsWaited n q) e a
-sound_by g h (Unifying q u) e a = subst (λ n. IsUnified n q) e a
+sound_by g h (Waiting q) e a = subst (λ n. IsWaited n q.value) e a
+sound_by g h (Unifying q u) e a = subst (λ n. IsUnified n q.value) e a
 sound_by g h Repaired e a = tt
 
 pub copy_sound : (g h : Generation) (s k : Stage) → repair_of h ≡ repair_of g → ((x : Generation) → IsSound x s → IsSound x k) → IsSound g s → IsSound h k

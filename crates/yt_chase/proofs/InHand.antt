@@ -9,13 +9,12 @@ use Rattle.yt_frontier.specs.declared.questions.Question.TheVariants.{Positive}
 use Rattle.yt_steps.specs.Questions.{candidate}
 use Rattle.yt_chase.specs.declared.stages.Generation.{Generation}
 use Rattle.yt_chase.specs.declared.stages.Stage.{Stage}
-use Rattle.yt_chase.specs.declared.stages.Stage.TheVariants.{Waiting}
-use Rattle.yt_chase.specs.Repairs.{phase_of}
-use Rattle.yt_chase.specs.Stages.{repairing_of}
+use Rattle.yt_chase.specs.Repairs.{Repairing, phase_of}
+use Rattle.yt_chase.specs.Stages.{repair_of, repairing_of, waiting}
 use Rattle.yt_chase.specs.Bound.{unifier_in}
 use Rattle.std.specs.Prelude.{ℕ}
 
 pub unifier_is : (g : Generation) (s : Stage) (n : ℕ) (t : Tuple) (cs : Listed Tuple) (o : Fact) (f : Datum → Datum)
-    → s ≡ Waiting (Positive n t cs) → f ≡ unifier (fact_of t) (candidate (fact_of t) (map fact_of cs.items) o)
+    → repairing_of g s ≡ waiting (repair_of g) (Positive n t cs) → f ≡ unifier (fact_of t) (candidate (fact_of t) (map fact_of cs.items) o)
     → f ≡ unifier_in (phase_of (repairing_of g s)) o
-unifier_is g s n t cs o f a e = e ∙ sym (ap (λ (x : Stage). unifier_in (phase_of (repairing_of g x)) o) a)
+unifier_is g s n t cs o f a e = e ∙ sym (ap (λ (x : Repairing). unifier_in (phase_of x) o) a)

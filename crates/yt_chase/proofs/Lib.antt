@@ -5,4 +5,5 @@ pub mod Asking
 pub mod Chosen
 pub mod Unified
 pub mod Copied
+pub mod Sent
 mod InHand

@@ -17,13 +17,12 @@ use Rattle.yt_steps.specs.Attempts.{Repair, Phase, Asked, Attempt, Positive as P
 use Rattle.yt_steps.specs.Questions.{candidate}
 use Rattle.yt_steps.specs.Rewriting.{in_order, rewrite, moved_nulls, next_atom}
 use Rattle.yt_steps.specs.Steps.{makes, gather, unify, step_in}
-use Rattle.yt_chase.specs.Repairs.{Gathering, Unifying as UnifyingMeant, phase_of, tree_in, unified, moved_repair}
+use Rattle.yt_chase.specs.Repairs.{Repairing, Gathering, Unifying as UnifyingMeant, phase_of, tree_in, unified, moved_repair}
 use Rattle.yt_chase.specs.Stands.{Stand, Within, Moved, settled}
-use Rattle.yt_chase.specs.Stages.{gathering_of, repair_of, repairing_of, AsksFirst}
+use Rattle.yt_chase.specs.Stages.{gathering_of, repair_of, repairing_of, unifying, waiting, AsksFirst}
 use Rattle.yt_chase.specs.declared.stages.Gathering.{Gathering as Collected}
 use Rattle.yt_chase.specs.declared.stages.Generation.{Generation}
 use Rattle.yt_chase.specs.declared.stages.Stage.{Stage}
-use Rattle.yt_chase.specs.declared.stages.Stage.TheVariants.{Waiting, Unifying}
 
 -- The step by a function that is the unifier, and by the nulls that it moves.
 by_unifier : (ms : List Rule) (r : Repair) (t c : Fact) (f : Datum → Datum) (ns : List NullName) → f ≡ unifier t c → ns ≡ moved_nulls t c
@@ -34,17 +33,17 @@ by_unifier ms r t c f ns e h = λ i. gather (h i) (λ ts. makes (rewrite (e i) (
 abbrev pub said : List Rule → List Change → Generation → Stage → Choice → Attempt → Stand
 said ms own g stage c P = settled own (phase_of (repairing_of g stage)) (step_in ms P (Some c) (phase_of (repairing_of g stage)))
 
-at_question : (ms : List Rule) (own : List Change) (g : Generation) (stage : Stage) (m : ℕ) (t : Tuple) (cs : Listed Tuple) (c : Choice) (o : Fact) (P : Attempt) → stage ≡ Waiting (Positive m t cs) → c ≡ Unify o
+at_question : (ms : List Rule) (own : List Change) (g : Generation) (stage : Stage) (m : ℕ) (t : Tuple) (cs : Listed Tuple) (c : Choice) (o : Fact) (P : Attempt) → repairing_of g stage ≡ waiting (repair_of g) (Positive m t cs) → c ≡ Unify o
     → said ms own g stage c P
     ≡ settled own (Asked (PositiveMeant (repair_of g) (fact_of t) (map fact_of cs.items))) (unify ms (repair_of g) (fact_of t) (candidate (fact_of t) (map fact_of cs.items) o))
-at_question ms own g stage m t cs c o P is e = λ i. said ms own g (is i) (e i) P
+at_question ms own g stage m t cs c o P is e = λ i. settled own (phase_of (is i)) (step_in ms P (Some (e i)) (phase_of (is i)))
 
 no_nulls : (ns : List Null) → length ns ≡ 0 → map null_of ns ≡ []
 no_nulls [] e = refl
 no_nulls (n ∷ ns) e = absurd (omega arith)
 
 -- Where no null moves the step ends at once.
-pub ends_at_once : (ms : List Rule) (own own' : List Change) (g : Generation) (stage : Stage) (m : ℕ) (t : Tuple) (cs : Listed Tuple) (c : Choice) (o : Fact) (f : Datum → Datum) (ns : List Null) (es : List Tuple) (ph : Phase) → stage ≡ Waiting (Positive m t cs) → c ≡ Unify o
+pub ends_at_once : (ms : List Rule) (own own' : List Change) (g : Generation) (stage : Stage) (m : ℕ) (t : Tuple) (cs : Listed Tuple) (c : Choice) (o : Fact) (f : Datum → Datum) (ns : List Null) (es : List Tuple) (ph : Phase) → repairing_of g stage ≡ waiting (repair_of g) (Positive m t cs) → c ≡ Unify o
     → f ≡ unifier (fact_of t) (candidate (fact_of t) (map fact_of cs.items) o) → map null_of ns ≡ moved_nulls (fact_of t) (candidate (fact_of t) (map fact_of cs.items) o) → length ns ≡ 0 → es ≡ []
     → own' ≡ own ++ rewrite f (map fact_of es) → ph ≡ next_atom ms (moved_repair f (repair_of g)) → (P : Attempt) → Moved own' ph 0 ≡ said ms own g stage c P
 ends_at_once ms own own' g stage m t cs c o f ns es ph is chosen e h none empty w p P =
@@ -68,13 +67,13 @@ asked_first own p ms r t cs images [] G b = absurd b
 asked_first own p ms r t cs images (n ∷ ns) G b = ap (λ (K : Gathering). Within own p (tree_in ms (UnifyingMeant r t cs K))) b
 
 -- So the step of the answer is within its first query.
-pub asks_first : (ms : List Rule) (own : List Change) (g : Generation) (stage after : Stage) (m : ℕ) (t : Tuple) (cs : Listed Tuple) (c : Choice) (o : Fact) (images : List (NullName × Datum)) (ns : List Null) (G : Collected) → stage ≡ Waiting (Positive m t cs) → c ≡ Unify o
+pub asks_first : (ms : List Rule) (own : List Change) (g : Generation) (stage after : Stage) (m : ℕ) (t : Tuple) (cs : Listed Tuple) (c : Choice) (o : Fact) (images : List (NullName × Datum)) (ns : List Null) (G : Collected) → repairing_of g stage ≡ waiting (repair_of g) (Positive m t cs) → c ≡ Unify o
     → moved_by (images_of images) ≡ unifier (fact_of t) (candidate (fact_of t) (map fact_of cs.items) o) → map null_of ns ≡ moved_nulls (fact_of t) (candidate (fact_of t) (map fact_of cs.items) o)
-    → AsksFirst images (map null_of ns) (gathering_of G) → after ≡ Unifying (Positive m t cs) G → (P : Attempt) → Within own (phase_of (repairing_of g after)) (tree_in ms (repairing_of g after)) ≡ said ms own g stage c P
+    → AsksFirst images (map null_of ns) (gathering_of G) → repairing_of g after ≡ unifying (repair_of g) (Positive m t cs) (gathering_of G) → (P : Attempt) → Within own (phase_of (repairing_of g after)) (tree_in ms (repairing_of g after)) ≡ said ms own g stage c P
 asks_first ms own g stage after m t cs c o images ns G is chosen e h first on P =
     let tf : Fact = fact_of t in
     let p : Phase = Asked (PositiveMeant (repair_of g) tf (map fact_of cs.items)) in
-    ap (λ k. Within own (phase_of (repairing_of g k)) (tree_in ms (repairing_of g k))) on
+    ap (λ (k : Repairing). Within own (phase_of k) (tree_in ms k)) on
     ∙ asked_first own p ms (repair_of g) tf (map fact_of cs.items) images (map null_of ns) (gathering_of G) first
     ∙ ap (settled own p) (by_unifier ms (repair_of g) tf (candidate tf (map fact_of cs.items) o) (moved_by (images_of images)) (map null_of ns) e h)
     ∙ sym (at_question ms own g stage m t cs c o P is chosen)

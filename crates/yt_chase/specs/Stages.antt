@@ -68,8 +68,8 @@ unifying r (Negative n ts) g = meant.Repaired
 abbrev pub repairing_of : Generation → Stage → meant.Repairing
 repairing_of g Generating = meant.Generating (repair_of g)
 repairing_of g (Querying q) = querying (repair_of g) q
-repairing_of g (Waiting q) = waiting (repair_of g) q
-repairing_of g (Unifying q u) = unifying (repair_of g) q (gathering_of u)
+repairing_of g (Waiting q) = waiting (repair_of g) q.value
+repairing_of g (Unifying q u) = unifying (repair_of g) q.value (gathering_of u.value)
 repairing_of g Repaired = meant.Repaired
 
 -- The repair stands where it stood.
@@ -105,6 +105,6 @@ IsUnified n (Negative m ts) = ⊥
 abbrev pub IsSound : Generation → Stage → Type 0
 IsSound g Generating = Unit {0}
 IsSound g (Querying q) = IsOfGeneration q
-IsSound g (Waiting q) = IsWaited g.mapping q
-IsSound g (Unifying q u) = IsUnified g.mapping q
+IsSound g (Waiting q) = IsWaited g.mapping q.value
+IsSound g (Unifying q u) = IsUnified g.mapping q.value
 IsSound g Repaired = Unit {0}

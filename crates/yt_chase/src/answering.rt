@@ -54,11 +54,11 @@ pub(crate) fn answered(
         Stage::Unifying(_, gathering) => {
             let tuples = tuples_of(answer);
             if gathering.later.is_empty() {
-                let all = all_found(alloc, gathering, tuples)?;
+                let all = all_found(alloc, &**gathering, tuples)?;
                 *stage = unify(alloc, generation, own, &gathering.sub, &all, mappings)?;
                 Ok(Progress::Ends)
             } else {
-                ask_next(alloc, gathering, tuples)?;
+                ask_next(alloc, &mut **gathering, tuples)?;
                 Ok(Progress::Asks)
             }
         }

@@ -1,5 +1,6 @@
 //! The step of the answer to a question.
-ghost use Rattle.std.specs.Prelude.{◌≡◌, ◌<◌, ◌++◌, length, map, IfOk, OnOk, OnErr};
+ghost use Rattle.std.specs.Prelude.{◌≡◌, ◌<◌, ◌++◌, length, map, Box, IfOk, OnOk, OnErr};
+ghost use Rattle.std.specs.Global.{Global};
 ghost use Rattle.yt_model.specs.Repository.{Delete};
 ghost use Rattle.yt_base.specs.Contents.{changes_of, facts_of};
 ghost use Rattle.yt_base.specs.Meanings.{choice_of, null_of};
@@ -9,6 +10,7 @@ ghost use Rattle.yt_chase.specs.Stands.{wanted, TakesChoice};
 ghost use Rattle.yt_chase.specs.Stages.{gathering_of, repairing_of, AsksFirst, IsSound, SameRepair};
 ghost use Rattle.yt_chase.specs.Transitions.{AsksAs, HasChosen};
 
+use crate::boxing::boxed;
 use crate::generating::go_on;
 use crate::planning::plan;
 use crate::rewriting::deletions;
@@ -45,38 +47,39 @@ pub(crate) fn chosen(
     ensures err { OnErr result (SameRepair generation.old stage.old generation.new stage.new) }
     ensures own { OnErr result (own.new.items ≡ own.old.items) }
 {
-    match (&*stage, choice) {
-        (Stage::Waiting(Question::Positive { tuple, .. }), Choice::Expand) => {
-            insert(alloc, own, tuple)?;
-            *stage = go_on(generation, mappings);
-            Ok(Progress::Ends)
-        }
-        (
-            Stage::Waiting(
+    match &*stage {
+        Stage::Waiting(question) => match (&**question, choice) {
+            (Question::Positive { tuple, .. }, Choice::Expand) => {
+                insert(alloc, own, tuple)?;
+                *stage = go_on(generation, mappings);
+                Ok(Progress::Ends)
+            }
+            (
                 Question::Positive {
                     tuple,
                     candidates,
                     ..
                 },
-            ),
-            Choice::Unify(form),
-        ) => {
-            let (sub, nulls) = plan(alloc, tuple, candidates, form)?;
-            if nulls.is_empty() {
-                let found = TupleList::new(alloc);
-                *stage = unify(alloc, generation, own, &sub, &found, mappings)?;
-                Ok(Progress::Ends)
-            } else {
-                let gathering = first_asked(alloc, sub, nulls);
-                *stage = unifying(mem::replace(stage, Stage::Repaired), gathering);
-                Ok(Progress::Asks)
+                Choice::Unify(form),
+            ) => {
+                let (sub, nulls) = plan(alloc, tuple, candidates, form)?;
+                if nulls.is_empty() {
+                    let found = TupleList::new(alloc);
+                    *stage = unify(alloc, generation, own, &sub, &found, mappings)?;
+                    Ok(Progress::Ends)
+                } else {
+                    let gathering = boxed(alloc, first_asked(alloc, sub, nulls))?;
+                    *stage = unifying(mem::replace(stage, Stage::Repaired), gathering);
+                    Ok(Progress::Asks)
+                }
             }
-        }
-        (Stage::Waiting(Question::Negative { tuples, .. }), Choice::Delete(forms)) => {
-            delete(alloc, own, tuples, forms)?;
-            *stage = Stage::Repaired;
-            Ok(Progress::Ends)
-        }
+            (Question::Negative { tuples, .. }, Choice::Delete(forms)) => {
+                delete(alloc, own, tuples, forms)?;
+                *stage = Stage::Repaired;
+                Ok(Progress::Ends)
+            }
+            _ => unreachable!(),
+        },
         _ => unreachable!(),
     }
 }
@@ -97,8 +100,8 @@ fn first_asked(alloc: Global, sub: Sub, nulls: Vec<Null>) -> Gathering
 }
 
 // The stage within the step of `Unify`, after the one that waits at the question.
-fn unifying(stage: Stage, gathering: Gathering) -> Stage
-    ensures { (q : QuestionOfProgram) → stage ≡ Stage.Waiting q →
+fn unifying(stage: Stage, gathering: Box<Gathering>) -> Stage
+    ensures { (q : Box QuestionOfProgram Global) → stage ≡ Stage.Waiting q →
         result ≡ Stage.Unifying q gathering }
 {
     match stage {

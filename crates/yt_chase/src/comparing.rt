@@ -7,17 +7,18 @@ ghost use Rattle.yt_chase.specs.Repairs.{is_asking};
 ghost use Rattle.yt_chase.specs.Stages.{repairing_of, HasCompared, IsSound};
 
 use crate::answers::copies;
+use crate::boxing::boxed;
 use crate::generating::go_on;
 use crate::stages::{Generation, Stage};
 use std::alloc::Global;
 use std::mem;
-use yt_base::{Memory, Tuple, Write, WriteList};
+use yt_base::{Memory, TryCopy, Tuple, Write, WriteList};
 use yt_frontier::Question;
 use yt_limits::Mappings;
 
 /// The stage at the end of the step, by the tuples that are more specific than the generated one: with none of them the
-/// generated tuple is inserted, else a person is asked. Either way it is taken out of where it is. It is refused only for
-/// want of memory; everything is then unchanged.
+/// generated tuple is taken out of where it is and inserted, else a person is asked. It is refused only for want of memory;
+/// everything is then unchanged.
 pub(crate) fn compared(
     alloc: Global,
     generation: &mut Generation,
@@ -43,11 +44,12 @@ pub(crate) fn compared(
         Ok(go_on(generation, mappings))
     } else {
         let candidates = copies(alloc, candidates)?;
-        Ok(Stage::Waiting(Question::Positive {
+        let question = Question::Positive {
             mapping: generation.mapping,
-            tuple: taken(tuple),
+            tuple: tuple.copy(alloc)?,
             candidates,
-        }))
+        };
+        Ok(Stage::Waiting(boxed(alloc, question)?))
     }
 }
 

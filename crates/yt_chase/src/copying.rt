@@ -5,6 +5,7 @@ ghost use Rattle.yt_chase.specs.Repairs.{Gathering as GatheringMeant};
 ghost use Rattle.yt_chase.specs.Stages.{repair_of, gathering_of, repairing_of, IsSound};
 ghost use Rattle.yt_chase.specs.declared.stages.Generation.{Generation as GenerationOfProgram};
 
+use crate::boxing::boxed;
 use crate::stages::{Gathering, Generation, Stage};
 use std::alloc::Global;
 use yt_base::{Memory, TryCopy};
@@ -52,9 +53,11 @@ pub(crate) fn copy_stage(alloc: Global, stage: &Stage) -> Result<Stage, Memory>
     match stage {
         Stage::Generating => Ok(Stage::Generating),
         Stage::Querying(query) => Ok(Stage::Querying(query.copy(alloc)?)),
-        Stage::Waiting(question) => Ok(Stage::Waiting(question.copy(alloc)?)),
+        Stage::Waiting(question) => Ok(Stage::Waiting(boxed(alloc, question.copy(alloc)?)?)),
         Stage::Unifying(question, gathering) => {
-            Ok(Stage::Unifying(question.copy(alloc)?, gathering.copy(alloc)?))
+            let asked = boxed(alloc, question.copy(alloc)?)?;
+            let gathered = boxed(alloc, gathering.copy(alloc)?)?;
+            Ok(Stage::Unifying(asked, gathered))
         }
         Stage::Repaired => Ok(Stage::Repaired),
     }

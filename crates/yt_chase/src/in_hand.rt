@@ -35,7 +35,7 @@ impl Repair {
         match &self.stage {
             Stage::Generating => Some(bound_by(&self.generation)),
             Stage::Querying(_) => Some(bound_by(&self.generation)),
-            Stage::Waiting(question) => match question {
+            Stage::Waiting(question) => match &**question {
                 Question::Positive { .. } => Some(bound_by(&self.generation)),
                 Question::Negative { .. } => None,
             },
@@ -70,16 +70,17 @@ fn unifier_at(
         unifier_in (phase_of (repairing_of generation.now stage.now)) (fact_of form.now)) }
 {
     match stage {
-        Stage::Waiting(
+        Stage::Waiting(question) => match &**question {
             Question::Positive {
                 tuple,
                 candidates,
                 ..
-            },
-        ) => {
-            let (sub, _) = plan(alloc, tuple, candidates, form)?;
-            Ok(sub)
-        }
+            } => {
+                let (sub, _) = plan(alloc, tuple, candidates, form)?;
+                Ok(sub)
+            }
+            _ => unreachable!(),
+        },
         _ => unreachable!(),
     }
 }

@@ -11,6 +11,7 @@
 
 mod answering;
 mod answers;
+mod boxing;
 mod choosing;
 mod comparing;
 mod copying;
@@ -28,6 +29,7 @@ mod unifying;
 mod wants;
 mod writes;
 
+pub use crate::boxing::boxed;
 pub use crate::fresh::{Fresh, existential};
 pub use crate::in_hand::{Bound, image};
 pub use crate::nulls::nulls_in;

@@ -6,6 +6,7 @@ ghost use Rattle.yt_chase.specs.Repairs.{phase_of, is_asking};
 ghost use Rattle.yt_chase.specs.Stages.{repairing_of, IsSound};
 ghost use Rattle.yt_chase.specs.declared.stages.Generation.{Generation};
 
+use crate::boxing::boxed;
 use crate::rewriting::deletions;
 use crate::stages::Stage;
 use std::alloc::Global;
@@ -31,7 +32,7 @@ pub(crate) fn look_back(
             mapping: number,
             tuples,
         };
-        Ok((Stage::Waiting(question), List::new(alloc)))
+        Ok((Stage::Waiting(boxed(alloc, question)?), List::new(alloc)))
     } else {
         Ok((Stage::Repaired, deletions(alloc, tuples)?))
     }

@@ -166,7 +166,7 @@ impl Repair {
         match &self.stage {
             Stage::Generating => RepairWant::NextStep,
             Stage::Querying(query) => RepairWant::Query(query),
-            Stage::Waiting(question) => RepairWant::Question(question),
+            Stage::Waiting(question) => RepairWant::Question(&**question),
             Stage::Unifying(_, gathering) => RepairWant::Query(&gathering.query),
             Stage::Repaired => RepairWant::Finished,
         }

@@ -23,12 +23,12 @@ pub(crate) struct Gathering {
 }
 
 // The stage of a repair: before the step of a right atom; within it, with this query; at a question; within the step of
-// an answer `Unify` to it; or at its end.
+// an answer `Unify` to it; or at its end. What is rare and large is behind a pointer.
 #[derive(Debug, Drop)]
 pub(crate) enum Stage {
     Generating,
     Querying(Query),
-    Waiting(Question),
-    Unifying(Question, Gathering),
+    Waiting(Box<Question>),
+    Unifying(Box<Question>, Box<Gathering>),
     Repaired,
 }
