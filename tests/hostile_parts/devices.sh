@@ -1,5 +1,15 @@
 # Devices: each call of the input, of out and of err fails in turn, with pieces of 1, 7 and 20 bytes or with none. A failed read is
 # status 5 and nothing on out, a failed write status 6 and a prefix of the text; where err fails the status stays.
+# each_write ROW PIECE: attacks each write to out. Each is handed all bytes that are left, so there is one for each piece of them.
+each_write() {
+  local before=$((passed + failed)) size
+  size=$(stat -c %s "$1/out")
+  attack "$1" FAULTS=write "FAULTS_PIECE=$2"
+  if [ $((passed + failed - before)) != $(((size + $2 - 1) / $2)) ]; then
+    tally "$1, $((passed + failed - before)) writes of $2 bytes" '0 passed, 1 failed'
+  fi
+}
+
 rows=(one-repair conflict-abort travel travel-save ask-travel journal-travel recover-travel travel-format stuck-missing
   base-violates refused-no-number recover-cut explain one-repair-trace)
 if [ -n "$cheap" ]; then
@@ -7,7 +17,8 @@ if [ -n "$cheap" ]; then
 fi
 for row in "${rows[@]}"; do
   for piece in 1 7 20 1000000; do
-    for kind in read write told; do
+    each_write "tests/rows/$row" "$piece"
+    for kind in read told; do
       attack "tests/rows/$row" FAULTS=$kind FAULTS_PIECE=$piece
     done
   done
@@ -20,5 +31,5 @@ for row in "${rows[@]}"; do
 done
 # drill reads nothing.
 for piece in 1 7 20 1000000; do
-  attack tests/rows/drill-one FAULTS=write FAULTS_PIECE=$piece
+  each_write tests/rows/drill-one "$piece"
 done

@@ -82,6 +82,12 @@ class Tally:
         print(f"FAILED {name}: status {told[0]}, {short(told[1])}, {short(told[2])}")
         print(f"  in the place of status {wanted[0]}, {short(wanted[1])}, {short(wanted[2])}")
 
+    def holds(self, name, is_so):
+        self.passed += is_so
+        self.failed += not is_so
+        if not is_so:
+            print(f"FAILED {name}")
+
     def end(self):
         print(f"{self.passed} passed, {self.failed} failed")
         sys.exit(self.failed > 0)

@@ -3,7 +3,8 @@
 
 Each run has to give the bytes of the serial run, and with --trace a history behind them of which the reference's auditor says that
 it is legal and ends quiet. The runs with a trace and half of the others are shaken by faults.c, so that the workers meet in other
-orders. A program whose runs have no trace yet is left alone. The last line is 'N passed, M failed'.
+orders. That two workers meet and one does not shows by conflicts. A program whose runs have no trace yet is left alone. The last line
+is 'N passed, M failed'.
 """
 import random
 import subprocess
@@ -47,6 +48,15 @@ def judged(settings, data, wanted, told):
     return (status, result, err) if legal else (status, result + trace, err + verdict)
 
 
+def meetings(program, shim, workers):
+    """How many of ten shaken histories of so many workers have a conflict, which updates taken one after the other never have."""
+    words, found = ["run", "--workers", str(workers), "--trace"], 0
+    for seed in range(10):
+        told = told_by(program, words, crowded(random.Random(seed), seed), LD_PRELOAD=shim, FAULTS_SHAKE=str(seed))
+        found += b'"kind":"conflict"' in told[1]
+    return found
+
+
 def settings_of(rng, steps):
     return ["--steps", str(steps), "--deps", rng.choice(["coarse", "precise"]), "--retries", str(rng.randrange(5))]
 
@@ -71,6 +81,8 @@ def main():
                 conflicts += b'"kind":"conflict"' in told[1]
                 tally.compare(f"session {seed}, {' '.join(words)}", wanted, judged(settings, data, wanted, told) if trace else told)
     print(f"{conflicts} histories have a conflict")
+    tally.holds("two workers meet", 0 < meetings(program, shim, 2))
+    tally.holds("one worker meets nobody", meetings(program, shim, 1) == 0)
     tally.end()
 
 

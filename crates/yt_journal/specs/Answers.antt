@@ -1,6 +1,8 @@
 -- When each answer of a call of a journal comes, and what it leaves.
 use Rattle.std.specs.Prelude.{◌≡◌, ◌⊎◌, ℕ, ◌<◌, ◌≤◌, List, map, Result, Ok, Err, length}
 use Rattle.yt_disk.specs.States.{State, HasFailed, IsLeft}
+use Rattle.yt_grammar.specs.Sessions.{SessionData}
+use Rattle.yt_model.specs.Values.{Fact}
 use Rattle.yt_model.specs.Repository.{Change}
 use Rattle.yt_base.specs.Meanings.{change_of, fact_of}
 use Rattle.yt_session.specs.Meanings.{session_of}
@@ -38,6 +40,20 @@ AppendTold journal size old new before now (Err appending.DiskFault) = (size ≤
 AppendTold journal size old new before now (Err appending.DiskMemory) = (size ≤ PAYLOAD_LIMIT) × IsLeft now now.bytes
 AppendTold journal size old new before now (Err (appending.Memory same)) = (same ≡ journal) × (new ≡ old)
 
+-- what is held is the journal that the bytes are, and D the repository of the session with its commits
+pub record IsHeld (bytes : List ℕ) (s : SessionData) (hold : Hold) (D : List Fact) : Type 0 where
+  pub commits : List (List Change)
+  pub journal : IsJournal s commits bytes
+  pub gate : hold.gate ≡ gate_of s commits
+  pub count : hold.commits ≡ length commits
+  pub repository : D ≡ repository_of s commits
+
+-- why bytes were not read
+abbrev pub FaultTold : List ℕ → RecoverFault → Type 0
+FaultTold bytes recovering.DiskFault = ⊥
+FaultTold bytes (recovering.Damaged place) = IsDamagedAt bytes place
+FaultTold bytes recovering.Memory = Unit {0}
+
 -- what was recovered is what the bytes stand for
 pub record IsRecovered (bytes : List ℕ) (r : Recovered) : Type 0 where
   pub commits : List (List Change)
@@ -50,9 +66,7 @@ pub record IsRecovered (bytes : List ℕ) (r : Recovered) : Type 0 where
 -- bytes are damaged exactly where they do not begin with a journal
 abbrev pub ReadTold : List ℕ → Result Recovered RecoverFault → Type 0
 ReadTold bytes (Ok r) = IsRecovered bytes r
-ReadTold bytes (Err recovering.DiskFault) = ⊥
-ReadTold bytes (Err (recovering.Damaged place)) = IsDamagedAt bytes place
-ReadTold bytes (Err recovering.Memory) = Unit {0}
+ReadTold bytes (Err fault) = FaultTold bytes fault
 
 -- and a fault comes only where the disk has failed
 abbrev pub RecoverTold : State → State → Result Recovered RecoverFault → Type 0

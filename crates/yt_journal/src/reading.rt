@@ -1,5 +1,5 @@
 // What bytes stand for, read from the front.
-ghost use Rattle.std.specs.Prelude.{◌≡◌, ◌+◌, ◌<◌, ◌≤◌, ◌^◌, ◌++◌, ◌∷◌, [], false, ℕ, List, map, length, IfOk, IfSome, IfNone, OnOk};
+ghost use Rattle.std.specs.Prelude.{◌≡◌, ◌+◌, ◌<◌, ◌≤◌, ◌^◌, ◌++◌, ◌∷◌, [], false, true, ℕ, List, map, length, IfOk, IfErr, IfSome, IfNone, OnOk};
 ghost use Rattle.std.specs.List.{AllByRecursion};
 ghost use Rattle.yt_model.specs.Values.{Fact};
 ghost use Rattle.yt_model.specs.Repository.{Change, apply, change};
@@ -14,7 +14,7 @@ ghost use Rattle.yt_session.specs.Meanings.{session_of};
 ghost use Rattle.yt_journal.specs.Format.{IsCommit, IsOpening, IsWrite, commit_text, framed, write_lines, write_text};
 ghost use Rattle.yt_journal.specs.Journals.{BeginsWith};
 ghost use Rattle.yt_journal.specs.Damage.{HasNoCommit};
-ghost use Rattle.yt_journal.specs.Answers.{ReadTold};
+ghost use Rattle.yt_journal.specs.Answers.{FaultTold, IsHeld, ReadTold};
 ghost use Rattle.yt_journal.specs.Taken.{TakesCommit, begins_header};
 
 use crate::framing::split_frame;
@@ -22,7 +22,7 @@ use crate::printing::commit_line;
 use crate::{Journal, RecoverFault, Recovered};
 use memchr::memchr;
 use std::alloc::Global;
-use yt_base::{Memory, Tuple, Write, WriteList};
+use yt_base::{Memory, Tuple, TupleList, Write, WriteList};
 use yt_facts::PlainFacts;
 use yt_grammar::{
     every_input_has_one_answer, lines_say_tuples, sessions_are_read_again, tuples_are_read_again,
@@ -240,6 +240,23 @@ fn take_commit<'a>(
     Ok(Some(rest))
 }
 
+// Whether the payload is the printed form of the session, and it has no updates.
+fn is_opening(alloc: Global, session: &Session, payload: &[u8]) -> Result<bool, Memory>
+    ensures yes { IfOk result (λ yes. yes ≡ true →
+        ((session_of session.now).updates ≡ []) × (payload.now ≡ printed (session_of session.now))) }
+    ensures no { IfOk result (λ yes. yes ≡ false → (session_of session.now).updates ≡ [] →
+        payload.now ≡ printed (session_of session.now) → ⊥) }
+{
+    if session.updates.len() != 0 {
+        return Ok(false);
+    }
+    let form = print_session(alloc, session)?;
+    if form.as_slice() == payload {
+        return Ok(true);
+    }
+    Ok(false)
+}
+
 // The session, where the payload is its printed form and it has no updates.
 fn if_opening(alloc: Global, session: Session, payload: &[u8]) -> Result<Option<Session>, Memory>
     ensures some { IfOk result (λ found.
@@ -250,14 +267,11 @@ fn if_opening(alloc: Global, session: Session, payload: &[u8]) -> Result<Option<
         IfNone found
         ((session_of session).updates ≡ [] → payload.now ≡ printed (session_of session) → ⊥)) }
 {
-    if session.updates.len() != 0 {
-        return Ok(None);
+    if is_opening(alloc, &session, payload)? {
+        Ok(Some(session))
+    } else {
+        Ok(None)
     }
-    let form = print_session(alloc, &session)?;
-    if form.as_slice() == payload {
-        return Ok(Some(session));
-    }
-    Ok(None)
 }
 
 // Whether the first byte is that of a header.
@@ -290,17 +304,20 @@ fn read_opening(alloc: Global, payload: &[u8]) -> Result<Option<Session>, Memory
     }
 }
 
-// What stands behind the session of a journal, up to the gate that is not open.
-fn read_records(
+// What is held of the journal whose commits the records are, up to the gate that is not open; they are made in the base.
+fn read_commits(
     alloc: Global,
-    session: Session,
+    session: &Session,
+    facts: &mut PlainFacts,
     bytes: &[u8],
     records: &[u8],
-) -> Result<Recovered, RecoverFault>
-    requires begins { BeginsWith bytes.now (session_of session) [] records.now }
-    ensures told { ReadTold bytes.now result }
+) -> Result<Journal, RecoverFault>
+    requires begins { BeginsWith bytes.now (session_of session.now) [] records.now }
+    requires base { facts.old ≡ (session_of session.now).base }
+    ensures held { IfOk result (λ journal.
+        IsHeld bytes.now (session_of session.now) journal facts.new) }
+    ensures fault { IfErr result (λ fault. FaultTold bytes.now fault) }
 {
-    let mut facts = PlainFacts::of_list(alloc, &session.base)?;
     let mut commits = 0u32;
     let mut rest = records;
     'records: loop {
@@ -309,22 +326,53 @@ fn read_records(
             return Err(RecoverFault::Damaged(gate as u64));
         };
         if *byte != 1 {
-            return Ok(Recovered {
-                session,
-                commits,
-                repository: facts.into_list(alloc)?,
-                journal: Journal { gate, commits },
-            });
+            return Ok(Journal { gate, commits });
         }
         let Some(number) = commits.checked_add(1) else {
             return Err(RecoverFault::Damaged(gate as u64));
         };
-        let Some(more) = take_commit(alloc, &session, &mut facts, number, behind)? else {
+        let Some(more) = take_commit(alloc, session, facts, number, behind)? else {
             return Err(RecoverFault::Damaged(gate as u64));
         };
         commits = number;
         rest = more;
     }
+}
+
+// What is held of the journal, and the repository that its commits make of the session's base.
+fn read_records(
+    alloc: Global,
+    session: &Session,
+    bytes: &[u8],
+    records: &[u8],
+) -> Result<(Journal, TupleList), RecoverFault>
+    requires begins { BeginsWith bytes.now (session_of session.now) [] records.now }
+    ensures held { IfOk result (λ found. IsHeld bytes.now (session_of session.now) found.0
+        (map fact_of found.1.items)) }
+    ensures fault { IfErr result (λ fault. FaultTold bytes.now fault) }
+{
+    let mut facts = PlainFacts::of_list(alloc, &session.base)?;
+    let journal = read_commits(alloc, session, &mut facts, bytes, records)?;
+    Ok((journal, facts.into_list(alloc)?))
+}
+
+// What the session and the records behind it stand for.
+fn recovered(
+    alloc: Global,
+    session: Session,
+    bytes: &[u8],
+    records: &[u8],
+) -> Result<Recovered, RecoverFault>
+    requires begins { BeginsWith bytes.now (session_of session) [] records.now }
+    ensures told { ReadTold bytes.now result }
+{
+    let (journal, repository) = read_records(alloc, &session, bytes, records)?;
+    Ok(Recovered {
+        session,
+        commits: journal.commits,
+        repository,
+        journal,
+    })
 }
 
 /// What the bytes of a journal stand for, or where they are damaged.
@@ -337,5 +385,5 @@ pub(crate) fn read_journal(alloc: Global, bytes: &[u8]) -> Result<Recovered, Rec
     let Some(session) = read_opening(alloc, payload)? else {
         return Err(RecoverFault::Damaged(0));
     };
-    read_records(alloc, session, bytes, records)
+    recovered(alloc, session, bytes, records)
 }

@@ -25,12 +25,13 @@ impl Record {
         ensures admitted { IfOk result (IsAdmitted number update.now answers.now) }
         ensures place { IfOk result (StandsAt number) }
     {
+        let inbox = queued(alloc, answers)?;
         Ok(Record {
             program: Program::start(alloc, update, number, 0)?,
             log: ReadLog::new(alloc),
             withdrawn: false,
             answers: ChoiceList::new(alloc),
-            inbox: queued(alloc, answers)?,
+            inbox,
         })
     }
 
@@ -59,7 +60,7 @@ impl Record {
         ensures place { KeepsPlaceBy plan self.old self.new }
     {
         let Plan { program, reads } = plan;
-        self.program = program;
+        renew(&mut self.program, program);
         take_over(&mut self.log, reads);
     }
 
@@ -98,6 +99,13 @@ impl Record {
         self.log.clear();
         self.withdrawn = true;
     }
+}
+
+// Puts the attempt in the place of another one, which is let go. It takes no memory.
+pub(crate) fn renew(place: &mut Program, fresh: Program)
+    ensures fresh { place.new ≡ fresh }
+{
+    drop(mem::replace(place, fresh));
 }
 
 // Copies of the answers as a queue. It is refused only for want of memory.

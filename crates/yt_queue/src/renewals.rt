@@ -4,6 +4,7 @@ ghost use Rattle.yt_queue.specs.Queues.{AreFrom};
 ghost use Rattle.yt_queue.specs.Events.{KeepsPlace};
 ghost use Rattle.yt_queue.specs.Renewals.{HasOneMore, AllHaveOneMore, IsFresh, AreFresh, AreThere, HasRestarted, HasRestartedIf, HaveRestarted, IsFreshIf};
 
+use crate::events::renew;
 use crate::records::Record;
 use std::alloc::Global;
 use yt_base::Memory;
@@ -25,7 +26,7 @@ impl Record {
         ensures restarted { HasRestarted self.old self.new }
         ensures place { KeepsPlace self.old self.new }
     {
-        self.program = fresh;
+        renew(&mut self.program, fresh);
         self.log.clear();
     }
 

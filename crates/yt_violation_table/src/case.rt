@@ -34,8 +34,8 @@ impl Case {
     }
 }
 
-/// Makes the write in the plain set. It is refused only for want of memory; the set is then as it was.
-pub fn write_plain(alloc: Global, facts: &mut PlainFacts, write: &Write) -> Result<(), Memory>
+// Makes the write in the plain set. It is refused only for want of memory; the set is then as it was.
+fn write_plain(alloc: Global, facts: &mut PlainFacts, write: &Write) -> Result<(), Memory>
     ensures ok { OnOk result (facts.new ≡ change facts.old (change_of write.now)) }
     ensures err { OnErr result (facts.new ≡ facts.old) }
 {
@@ -50,8 +50,8 @@ pub fn write_plain(alloc: Global, facts: &mut PlainFacts, write: &Write) -> Resu
     Ok(())
 }
 
-/// Makes the write in the indexed set. It is refused only for want of memory; the set is then as it was.
-pub fn write_indexed(alloc: Global, facts: &mut IndexedFacts, write: &Write) -> Result<(), Memory>
+// Makes the write in the indexed set. It is refused only for want of memory; the set is then as it was.
+fn write_indexed(alloc: Global, facts: &mut IndexedFacts, write: &Write) -> Result<(), Memory>
     ensures ok { OnOk result (facts.new ≡ change facts.old (change_of write.now)) }
     ensures err { OnErr result (facts.new ≡ facts.old) }
 {
@@ -64,4 +64,46 @@ pub fn write_indexed(alloc: Global, facts: &mut IndexedFacts, write: &Write) -> 
         }
     }
     Ok(())
+}
+
+// Makes the writes in the plain set, in turn.
+fn write_all_plain(alloc: Global, facts: &mut PlainFacts, writes: &[Write]) -> Result<(), Memory> {
+    for write in writes {
+        write_plain(alloc, facts, write)?;
+    }
+    Ok(())
+}
+
+// Makes the writes in the indexed set, in turn.
+fn write_all_indexed(
+    alloc: Global,
+    facts: &mut IndexedFacts,
+    writes: &[Write],
+) -> Result<(), Memory> {
+    for write in writes {
+        write_indexed(alloc, facts, write)?;
+    }
+    Ok(())
+}
+
+/// The plain set after the writes.
+pub fn plain_after(
+    alloc: Global,
+    base: &PlainFacts,
+    writes: &[Write],
+) -> Result<PlainFacts, Memory> {
+    let mut facts = base.copy(alloc)?;
+    write_all_plain(alloc, &mut facts, writes)?;
+    Ok(facts)
+}
+
+/// The indexed set after the writes.
+pub fn indexed_after(
+    alloc: Global,
+    base: &PlainFacts,
+    writes: &[Write],
+) -> Result<IndexedFacts, Memory> {
+    let mut facts = IndexedFacts::of(alloc, base.copy(alloc)?)?;
+    write_all_indexed(alloc, &mut facts, writes)?;
+    Ok(facts)
 }

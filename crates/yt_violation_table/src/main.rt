@@ -16,35 +16,57 @@ mod reading;
 mod refusals;
 
 use crate::answers::Answers;
-use crate::case::Case;
+use crate::case::{Case, indexed_after, plain_after};
+use crate::reading::read_case;
 use crate::refusals::CaseRefusal;
 use std::alloc::Global;
-use yt_base::TryCopy;
-use yt_facts::IndexedFacts;
+use yt_base::Memory;
 
-// The answers over the plain set, and those over the indexed set that took the same writes.
-fn ask(alloc: Global, case: &Case) -> Result<(Answers, Answers), CaseRefusal> {
-    let mut plain = case.base.copy(alloc)?;
-    let mut indexed = IndexedFacts::of(alloc, case.base.copy(alloc)?)?;
-    for write in case.own.as_slice() {
-        case::write_plain(alloc, &mut plain, write)?;
-        case::write_indexed(alloc, &mut indexed, write)?;
-    }
-    let over_plain = Answers::over(alloc, &case.mapping, &case.own, &plain)?;
-    let over_indexed = Answers::over(alloc, &case.mapping, &case.own, &indexed)?;
-    Ok((over_plain, over_indexed))
+// The answers over the plain set that took the own writes.
+fn over_plain(alloc: Global, case: &Case) -> Result<Answers, Memory> {
+    let facts = plain_after(alloc, &case.base, case.own.as_slice())?;
+    Answers::over(alloc, &case.mapping, &case.own, &facts)
+}
+
+// The answers over the indexed set that took the same writes.
+fn over_indexed(alloc: Global, case: &Case) -> Result<Answers, Memory> {
+    let facts = indexed_after(alloc, &case.base, case.own.as_slice())?;
+    Answers::over(alloc, &case.mapping, &case.own, &facts)
+}
+
+// The answers that are the same, or both.
+fn compared(alloc: Global, plain: &Answers, indexed: &Answers) -> Result<String, CaseRefusal> {
+    let text = if plain == indexed {
+        format!(in alloc; "same {plain}")?
+    } else {
+        format!(in alloc; "plain {plain}; indexed {indexed}")?
+    };
+    Ok(text)
+}
+
+// What is told of the case, and of the plain set.
+fn beside_plain(alloc: Global, case: &Case, plain: &Answers) -> Result<String, CaseRefusal> {
+    let indexed = over_indexed(alloc, case)?;
+    compared(alloc, plain, &indexed)
+}
+
+// What is told of the case.
+fn told_of(alloc: Global, case: &Case) -> Result<String, CaseRefusal> {
+    let plain = over_plain(alloc, case)?;
+    beside_plain(alloc, case, &plain)
+}
+
+// What is told of the case that a line spells.
+fn told(alloc: Global, line: &str) -> Result<String, CaseRefusal> {
+    let case = read_case(alloc, line)?;
+    told_of(alloc, &case)
 }
 
 fn main(rt: HostRuntime) -> anyhow::Result<()> {
     let alloc = rt.alloc();
     for line in rt.lines(alloc) {
-        let case = reading::read_case(alloc, line?.as_str())?;
-        let (plain, indexed) = ask(alloc, &case)?;
-        if plain == indexed {
-            println!(rt; "same {plain}")?;
-        } else {
-            println!(rt; "plain {plain}; indexed {indexed}")?;
-        }
+        let text = told(alloc, line?.as_str())?;
+        println!(rt; "{text}")?;
     }
     Ok(())
 }

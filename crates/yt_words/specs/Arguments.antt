@@ -50,9 +50,17 @@ rules =
     command_rule ∷ workers_rule ∷ deps_rule ∷ steps_rule ∷ retries_rule ∷ text_rule (codes "tuple") ∷ count_rule ∷ seed_rule ∷ trace_rule
     ∷ text_rule (codes "query") ∷ []
 
+-- those up to the ones by which workers take updates
+abbrev pub work_rules : List Rule
+work_rules = command_rule ∷ workers_rule ∷ deps_rule ∷ steps_rule ∷ retries_rule ∷ []
+
 -- the command before its arguments: the words begin after the program's name, and it has a version
 abbrev pub bare_app : App
 bare_app = record { top = record (new_app (codes "youtopia")).top { no_binary_name = true; has_version = true }; subs = [] }
+
+-- the command with these
+abbrev pub work_app : App
+work_app = record bare_app { top = record bare_app.top { rules = work_rules } }
 
 -- the one simple command
 abbrev pub youtopia_app : App

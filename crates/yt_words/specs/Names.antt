@@ -1,5 +1,5 @@
 -- The names of commands and of kinds of dependencies.
-use Rattle.std.specs.Prelude.{Bool, List, [], ◌∷◌, codes}
+use Rattle.std.specs.Prelude.{Bool, List, [], ◌∷◌, ◌++◌, codes}
 use Rattle.std.specs.List.{list_any}
 use Rattle.std.specs.Str.{bytes_eq}
 use Rattle.clap.specs.Words.{Text}
@@ -23,13 +23,24 @@ command_text Drill = codes "drill"
 command_text Journal = codes "journal"
 command_text Recover = codes "recover"
 
+-- the commands that run, read or keep a session, and the others
+abbrev pub first_commands : List CommandName
+first_commands = Run ∷ Serial ∷ Format ∷ Check ∷ Save ∷ Upgrade ∷ []
+
+abbrev pub later_commands : List CommandName
+later_commands = Ask ∷ Explain ∷ Audit ∷ Drill ∷ Journal ∷ Recover ∷ []
+
 -- the commands that there are
 abbrev pub commands : List CommandName
-commands = Run ∷ Serial ∷ Format ∷ Check ∷ Save ∷ Upgrade ∷ Ask ∷ Explain ∷ Audit ∷ Drill ∷ Journal ∷ Recover ∷ []
+commands = first_commands ++ later_commands
+
+-- whether the text is the word of one of these
+abbrev pub is_one_of : List CommandName → Text → Bool
+is_one_of these text = list_any (λ command. bytes_eq text (command_text command)) these
 
 -- whether the text is the word of a command
 abbrev pub is_command : Text → Bool
-is_command text = list_any (λ command. bytes_eq text (command_text command)) commands
+is_command text = is_one_of commands text
 
 -- the word of each kind of dependencies
 abbrev pub deps_text : Deps → Text

@@ -2,7 +2,7 @@
 
 ghost use Rattle.std.specs.Prelude.{◌≡◌, IfOk, false};
 ghost use Rattle.clap.specs.Words.{app_of, rule_of};
-ghost use Rattle.yt_words.specs.Arguments.{bare_app, command_rule, deps_rule, number_rule, text_rule, trace_rule, youtopia_app};
+ghost use Rattle.yt_words.specs.Arguments.{bare_app, command_rule, deps_rule, number_rule, text_rule, trace_rule, work_app, youtopia_app};
 
 use crate::help::VERSION;
 use clap::builder::ValueParser;
@@ -58,16 +58,23 @@ fn bare<'a>(alloc: Global) -> Command<'a>
         .no_binary_name(true)
 }
 
-/// The command with its arguments.
-pub(crate) fn command_line<'a>(alloc: Global) -> Result<Command<'a>, AllocError>
-    ensures { IfOk result (λ command. app_of command ≡ youtopia_app) }
+// The command with the arguments up to those by which workers take updates.
+fn work_line<'a>(alloc: Global) -> Result<Command<'a>, AllocError>
+    ensures { IfOk result (λ command. app_of command ≡ work_app) }
 {
     bare(alloc)
         .arg(command_arg(alloc))?
         .arg(number(alloc, "workers", 1, 16, "4"))?
         .arg(deps_arg(alloc))?
         .arg(number(alloc, "steps", 1, 300, "100"))?
-        .arg(number(alloc, "retries", 0, 4, "3"))?
+        .arg(number(alloc, "retries", 0, 4, "3"))
+}
+
+/// The command with its arguments.
+pub(crate) fn command_line<'a>(alloc: Global) -> Result<Command<'a>, AllocError>
+    ensures { IfOk result (λ command. app_of command ≡ youtopia_app) }
+{
+    work_line(alloc)?
         .arg(text(alloc, "tuple"))?
         .arg(number(alloc, "count", 1, 1000, "60"))?
         .arg(number(alloc, "seed", 0, 4294967295, "1"))?

@@ -1,10 +1,10 @@
 //! The commands and the kinds of dependencies, by name.
 
 ghost use Rattle.std.specs.Prelude.{◌≡◌, None, Some, false};
-ghost use Rattle.yt_words.specs.Names.{command_text, deps_text, is_command, is_deps};
+ghost use Rattle.yt_words.specs.Names.{command_text, deps_text, first_commands, is_command, is_deps, is_one_of, later_commands};
 
-/// The commands that there are. Each stands in the tables `command_text` and `commands` of specs/
-/// and in `command_named`.
+/// The commands that there are. Each stands in the table `command_text` and in one of the lists
+/// of specs/, and in `first_named` or `later_named`.
 #[derive(Clone, Copy, Debug, PartialEq, Eq)]
 pub enum CommandName {
     /// Runs a session's updates.
@@ -42,11 +42,11 @@ pub enum Deps {
     Precise,
 }
 
-/// The command of a name.
-pub(crate) fn command_named(text: &str) -> Option<CommandName>
+// The command of a name, among those that run, read or keep a session.
+fn first_named(text: &str) -> Option<CommandName>
     ensures some { (command : CommandName) → result ≡ Some command →
         text.now ≡ command_text command }
-    ensures none { result ≡ None → is_command text.now ≡ false }
+    ensures none { result ≡ None → is_one_of first_commands text.now ≡ false }
 {
     if text == "run" {
         return Some(CommandName::Run);
@@ -66,6 +66,15 @@ pub(crate) fn command_named(text: &str) -> Option<CommandName>
     if text == "upgrade" {
         return Some(CommandName::Upgrade);
     }
+    None
+}
+
+// The command of a name, among the others.
+fn later_named(text: &str) -> Option<CommandName>
+    ensures some { (command : CommandName) → result ≡ Some command →
+        text.now ≡ command_text command }
+    ensures none { result ≡ None → is_one_of later_commands text.now ≡ false }
+{
     if text == "ask" {
         return Some(CommandName::Ask);
     }
@@ -85,6 +94,18 @@ pub(crate) fn command_named(text: &str) -> Option<CommandName>
         return Some(CommandName::Recover);
     }
     None
+}
+
+/// The command of a name.
+pub(crate) fn command_named(text: &str) -> Option<CommandName>
+    ensures some { (command : CommandName) → result ≡ Some command →
+        text.now ≡ command_text command }
+    ensures none { result ≡ None → is_command text.now ≡ false }
+{
+    match first_named(text) {
+        Some(command) => Some(command),
+        None => later_named(text),
+    }
 }
 
 /// The kind of dependencies of a name.

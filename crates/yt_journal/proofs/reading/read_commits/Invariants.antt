@@ -1,7 +1,7 @@
 use Rattle.std.proofs.Common.{length}
 use Rattle.yt_session.specs.Meanings.{session_of}
 use Rattle.yt_journal.proofs.SoFar.{HasRead}
-use Rattle.yt_journal.proofs.reading.read_records.Given as goal
+use Rattle.yt_journal.proofs.reading.read_commits.Given as goal
 
 abbrev pub invariant-records : goal.invariant-records
 invariant-records l = HasRead l.bytes (session_of l.session) l.commits l.rest l.facts
