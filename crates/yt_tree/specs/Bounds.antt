@@ -1,5 +1,5 @@
 -- What is known of where keys lie, before they are looked at.
-use Rattle.std.specs.Prelude.{◌≡◌, Bool, true, false, List}
+use Rattle.std.specs.Prelude.{◌≡◌, true, false, List}
 use Rattle.std.specs.List.{AllByRecursion}
 use Rattle.std.specs.Ordering.{is_lt, is_gt}
 use Rattle.std.specs.declared.cmp.Ordering.{Ordering}

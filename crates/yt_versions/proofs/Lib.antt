@@ -10,5 +10,5 @@ pub mod Scanning
 pub mod Writing
 pub mod Holding
 pub mod Sent
-pub mod Walking
 pub mod Basing
+pub mod Gathering

@@ -1,5 +1,5 @@
 -- The first cell that is sought is at the least tuple that is scanned.
-use Rattle.std.proofs.Common.{◌≡◌, ℕ, zero, suc, ◌<◌, ap, refl, sym, ◌∙◌, subst, List, [], ◌∷◌, Bool, true, false, ◌&&◌, cond, find, Option, Some, None, length, unwrap_or, arith}
+use Rattle.std.proofs.Common.{◌≡◌, ℕ, zero, suc, ◌<◌, ap, refl, sym, ◌∙◌, subst, List, [], ◌∷◌, Bool, true, false, ◌&&◌, ◌||◌, cond, find, filter, map, Option, Some, None, length, unwrap_or, arith}
 use Rattle.std.proofs.lemmas.Bool.{lt-ltb, eqb-true, eq-eqb, true≢false}
 use Rattle.std.specs.Prelude.{nat_lt, ◌==◌, slice_get}
 use Rattle.std.specs.Cmp.{IsTotalOrder, tied_itself, on_total, nat_cmp_total}
@@ -13,14 +13,16 @@ use Rattle.std.specs.declared.cmp.Ordering.TheVariants.{Less, Equal, Greater}
 use Rattle.yt_base.specs.Meanings.{fact_of}
 use Rattle.yt_base.specs.declared.tuples.Tuple.{Tuple}
 use Rattle.yt_model.specs.Cursors.{is_of, is_beyond, has_at, is_datum, is_scanned, scan_of}
-use Rattle.yt_model.specs.Repository.{has}
-use Rattle.yt_model.specs.Values.{Datum, Fact, fact_cmp}
-use Rattle.yt_model.proofs.Bools.{differ, both}
+use Rattle.yt_model.specs.Repository.{has, IsRepository}
+use Rattle.yt_model.specs.Values.{Datum, Fact, fact_cmp, same_fact}
+use Rattle.yt_model.proofs.Bools.{differ, both, and-true}
+use Rattle.yt_model.proofs.Sets.{filter_in_order, same_exact, same_itself, same_repository}
 use Rattle.yt_model.proofs.Learning.{same_datum_exact}
-use Rattle.yt_model.proofs.Members.{least_found, none_found}
+use Rattle.yt_model.proofs.Members.{least_found, none_found, has-filter}
 use Rattle.yt_model.proofs.Order.{datum_total}
 use Rattle.yt_tree.specs.Orders.{IsOrdered, is_sought}
-use Rattle.yt_tree.proofs.Sides.{sides}
+use Rattle.yt_tree.proofs.Sides.{sides, all_weaker}
+use Rattle.yt_tree.proofs.Changes.{find_none}
 use Rattle.yt_versions.specs.Cells.{value_in, values_cmp, cell_cmp, same_cell, cell_total}
 use Rattle.yt_versions.specs.Chains.{AreRows}
 use Rattle.yt_versions.specs.Indexed.{cell_of, cell_marks, is_further, IsIndex}
@@ -165,6 +167,89 @@ module _ (n r c : ℕ) (d : Datum) (past : Option Fact) where
       (ap (λ x. is_eq (place_in r c d past x)) (sym is) ∙ cell_is_in r c d past (c, u) ∙ both (c == c) _ (eq-eqb c c refl) (both (has_at c d u) _ at (both (is_of r u) (is_beyond past u) of beyond)))
       k
 
+  sought_value : (e : Cell × Marks) → sought e ≡ true → value_in (c, fact_of e.0.tuple) ≡ Some d
+  sought_value e h =
+      let t = fact_of e.0.tuple in
+      datum_there d (value_in (c, t)) (second (is_beyond past t) (has_at c d t) (second (is_of r t) (is_beyond past t && has_at c d t) (sought_tuple e h)))
+
+  -- ---- the tuples of all cells that are sought
+
+  abbrev facts_in : List (Cell × Marks) → List Fact
+  facts_in es = map (λ (t : Tuple). fact_of t) (map (λ (e : Cell × Marks). e.0.tuple) (filter sought es))
+
+  -- Cells that are sought are in the order of their tuples.
+  sought_cmp : (e f : Cell × Marks) → sought e ≡ true → sought f ≡ true → cell_cmp (cell_of e.0) (cell_of f.0) ≡ fact_cmp (fact_of e.0.tuple) (fact_of f.0.tuple)
+  sought_cmp e f h k =
+      let t = fact_of e.0.tuple in
+      let u = fact_of f.0.tuple in
+      ap (λ x. cell_cmp (x, t) (cell_of f.0)) (sought_column e h) ∙ ap (λ x. cell_cmp (c, t) (x, u)) (sought_column f k)
+      ∙ ap (λ a. ordering_then a (ordering_then (values_cmp (value_in (c, t)) (value_in (c, u))) (fact_cmp t u))) (tied_itself nat_cmp_total c)
+      ∙ ap (λ x. ordering_then (values_cmp x (value_in (c, u))) (fact_cmp t u)) (sought_value e h)
+      ∙ ap (λ x. ordering_then (values_cmp (Some d) x) (fact_cmp t u)) (sought_value f k)
+      ∙ ap (λ a. ordering_then a (fact_cmp t u)) (tied_itself (options_total datum_total) (Some d))
+
+  facts_below : (x : Cell × Marks) → sought x ≡ true → (es : List (Cell × Marks)) → AllByRecursion (λ (y : Cell × Marks). cell_cmp (cell_of x.0) (cell_of y.0) ≡ Less) es → AllByRecursion (λ t. fact_cmp (fact_of x.0.tuple) t ≡ Less) (facts_in es)
+  facts_below x h [] a = tt
+  facts_below x h (y ∷ es) a = by (sought y) refl (facts_below x h es a.1)
+    where
+      by : (b : Bool) → sought y ≡ b → AllByRecursion (λ t. fact_cmp (fact_of x.0.tuple) t ≡ Less) (facts_in es)
+          → AllByRecursion (λ t. fact_cmp (fact_of x.0.tuple) t ≡ Less) (map (λ (t : Tuple). fact_of t) (map (λ (e : Cell × Marks). e.0.tuple) (cond b (y ∷ filter sought es) (filter sought es))))
+      by true k rest = (sym (sought_cmp x y h k) ∙ a.0, rest)
+      by false k rest = rest
+
+  facts_in_order : (es : List (Cell × Marks)) → IsOrdered (on cell_of cell_cmp) es → IsRepository (facts_in es)
+  unfolding IsStrictlySortedBy
+  facts_in_order [] s = tt
+  facts_in_order (x ∷ es) s = by (sought x) refl (behind (on_total cell_of cell_total) x es s) (facts_in_order es s.1)
+    where
+      by : (b : Bool) → sought x ≡ b → AllByRecursion (λ (y : Cell × Marks). cell_cmp (cell_of x.0) (cell_of y.0) ≡ Less) es → IsRepository (facts_in es)
+          → IsStrictlySortedBy fact_cmp (map (λ (t : Tuple). fact_of t) (map (λ (e : Cell × Marks). e.0.tuple) (cond b (x ∷ filter sought es) (filter sought es))))
+      by true k a rest = (facts_below x k es a, rest)
+      by false k a rest = rest
+
+  never : (b : Bool) → (b && false) ≡ false
+  never true = refl
+  never false = refl
+
+  -- Behind a cell there is no other at its column and tuple.
+  none_later : (u : Fact) (x : Cell × Marks) (es : List (Cell × Marks)) → (c, u) ≡ cell_of x.0 → AllByRecursion (λ (y : Cell × Marks). cell_cmp (cell_of x.0) (cell_of y.0) ≡ Less) es → find (λ (e : Cell × Marks). same_cell (c, u) (cell_of e.0)) es ≡ None
+  none_later u x es is a =
+      find_none (λ (e : Cell × Marks). same_cell (c, u) (cell_of e.0)) es (all_weaker _ _ (λ (y : Cell × Marks) b. ap is_eq (ap (λ z. cell_cmp z (cell_of y.0)) is ∙ b)) es a)
+
+  -- The tuple is among them just where it is scanned and stands by the marks at its cell.
+  facts_have : (u : Fact) (es : List (Cell × Marks)) → IsOrdered (on cell_of cell_cmp) es → has (facts_in es) u ≡ (scanned u && stands n (cell_marks es c u))
+  unfolding IsStrictlySortedBy
+  facts_have u [] s = sym (never (scanned u))
+  facts_have u (x ∷ es) s = by (sought x) refl (same_cell (c, u) (cell_of x.0)) refl (behind (on_total cell_of cell_total) x es s) (facts_have u es s.1)
+    where
+      here : sought x ≡ true → (c, u) ≡ cell_of x.0 → (scanned u && stands n x.1) ≡ true
+      here h is = both (scanned u) (stands n x.1) (ap (λ (z : ℕ × Fact). scanned z.1) is ∙ sought_tuple x h) (sought_stands x h)
+
+      off : sought x ≡ false → (c, u) ≡ cell_of x.0 → (a : Bool) → scanned u ≡ a → (b : Bool) → stands n x.1 ≡ b → (a && b) ≡ false
+      off h is true i true j = absurd (true≢false (sym (scanned_sought u x is i j) ∙ h))
+      off h is true i false j = refl
+      off h is false i b j = refl
+
+      other : sought x ≡ true → same_cell (c, u) (cell_of x.0) ≡ false → (b : Bool) → same_fact u (fact_of x.0.tuple) ≡ b → (b || has (facts_in es) u) ≡ has (facts_in es) u
+      other h different true k =
+          let at : cell_of x.0 ≡ (c, u) = λ i. (sought_column x h i, sym (same_exact u (fact_of x.0.tuple) k) i) in
+          absurd (true≢false (sym (ap is_eq (tied_itself cell_total (c, u))) ∙ ap (same_cell (c, u)) (sym at) ∙ different))
+      other h different false k = refl
+
+      by : (a : Bool) → sought x ≡ a → (b : Bool) → same_cell (c, u) (cell_of x.0) ≡ b → AllByRecursion (λ (y : Cell × Marks). cell_cmp (cell_of x.0) (cell_of y.0) ≡ Less) es
+          → has (facts_in es) u ≡ (scanned u && stands n (cell_marks es c u))
+          → has (map (λ (t : Tuple). fact_of t) (map (λ (e : Cell × Marks). e.0.tuple) (cond a (x ∷ filter sought es) (filter sought es)))) u
+          ≡ (scanned u && stands n (unwrap_or (option_map (λ (e : Cell × Marks). e.1) (cond b (Some x) (find (λ e. same_cell (c, u) (cell_of e.0)) es))) no_marks))
+      by true h true k below rest =
+          let is = cell_exact (c, u) (cell_of x.0) k in
+          ap (λ t. same_fact u t || has (facts_in es) u) (sym (ap (λ (z : ℕ × Fact). z.1) is)) ∙ ap (λ b. b || has (facts_in es) u) (same_itself u) ∙ sym (here h is)
+      by true h false k below rest = other h k (same_fact u (fact_of x.0.tuple)) refl ∙ rest
+      by false h true k below rest =
+          let is = cell_exact (c, u) (cell_of x.0) k in
+          rest ∙ ap (λ o. scanned u && stands n (unwrap_or (option_map (λ (e : Cell × Marks). e.1) o) no_marks)) (none_later u x es is below) ∙ never (scanned u)
+          ∙ sym (off h is (scanned u) refl (stands n x.1) refl)
+      by false h false k below rest = rest
+
   -- ---- the index
 
   module _ (rows : List (Tuple × Marks)) (cells : List (Cell × Marks)) (order : AreRows rows) (sorted : IsOrdered (on cell_of cell_cmp) cells) (index : IsIndex rows cells) (later : nat_lt 0 c ≡ true) where
@@ -220,3 +305,14 @@ module _ (n r c : ℕ) (d : Datum) (past : Option Fact) where
         let h = found_passes sought cells f in
         least_found scanned (visible n rows) (fact_of e.0.tuple) (visible_in_order n rows order.order) (stood f) (sought_tuple e h)
         (λ u a k low. let x = held u a k in found_least (on_total cell_of cell_total) sought (λ e. same_cell (c, u) (cell_of e.0)) cells sorted f x.found x.passes (lower u e x.cell x.is h k low))
+
+    -- The tuples of all cells that are sought are all that are scanned.
+    pub scan_all : map fact_of (map (λ (e : Cell × Marks). e.0.tuple) (filter sought cells)) ≡ filter scanned (visible n rows)
+    scan_all =
+        same_repository (facts_in cells) (filter scanned (visible n rows)) (facts_in_order cells sorted) (filter_in_order scanned (visible n rows) (visible_in_order n rows order.order))
+        (λ u. facts_have u cells sorted ∙ by u (scanned u) refl ∙ sym (has-filter scanned (visible n rows) u))
+      where
+        by : (u : Fact) (b : Bool) → scanned u ≡ b → (b && stands n (cell_marks cells c u)) ≡ (has (visible n rows) u && b)
+        by u true h =
+            ap (stands n) (index c u ∙ ap (λ b. cond b (marks_at rows u) no_marks) (further u h later)) ∙ sym (seen_stands n rows order.order u) ∙ sym (and-true (has (visible n rows) u))
+        by u false h = sym (never (has (visible n rows) u))

@@ -78,7 +78,7 @@ swap false false = refl
 pub beyond_same : (n : ℕ) (past : Option Fact) (e : Tuple × Marks) → is_sought (λ k. place_beyond past (fact_of k)) (λ f. stands n f.1) e ≡ (stands n e.1 && is_beyond past (fact_of e.0))
 beyond_same n past e = ap (λ b. b && stands n e.1) (beyond_is past (fact_of e.0)) ∙ swap (is_beyond past (fact_of e.0)) (stands n e.1)
 
-zone_same : (n r : ℕ) (past : Option Fact) (e : Tuple × Marks) → is_sought (λ k. place_of r past (fact_of k)) (λ f. stands n f.1) e ≡ (stands n e.1 && (is_of r (fact_of e.0) && is_beyond past (fact_of e.0)))
+pub zone_same : (n r : ℕ) (past : Option Fact) (e : Tuple × Marks) → is_sought (λ k. place_of r past (fact_of k)) (λ f. stands n f.1) e ≡ (stands n e.1 && (is_of r (fact_of e.0) && is_beyond past (fact_of e.0)))
 zone_same n r past e = ap (λ b. b && stands n e.1) (zone_is r past (fact_of e.0)) ∙ swap (is_of r (fact_of e.0) && is_beyond past (fact_of e.0)) (stands n e.1)
 
 pub first_same : (n r : ℕ) (e : Tuple × Marks) → is_sought (λ k. place_of r None (fact_of k)) (λ f. stands n f.1) e ≡ (stands n e.1 && is_of r (fact_of e.0))
@@ -100,3 +100,31 @@ seen_in_order n {inside} {es} e s = subst (λ d. IsRepository (visible n d)) e (
 pub all_reached : {X : Type 0} (xs : List X) → filter (λ _. true) xs ≡ xs
 all_reached [] = refl
 all_reached (x ∷ xs) = ap (λ t. x ∷ t) (all_reached xs)
+
+-- ---- all that is shown
+
+module _ (n : ℕ) (q : Fact → Bool) where
+  filter_visible : (es : List (Tuple × Marks)) → filter q (visible n es) ≡ map (λ (e : Tuple × Marks). fact_of e.0) (filter (λ e. stands n e.1 && q (fact_of e.0)) es)
+  filter_visible [] = refl
+  filter_visible (e ∷ es) = by (stands n e.1) (q (fact_of e.0)) refl (filter_visible es)
+    where
+      by : (a b : Bool) → q (fact_of e.0) ≡ b → filter q (visible n es) ≡ map (λ (f : Tuple × Marks). fact_of f.0) (filter (λ f. stands n f.1 && q (fact_of f.0)) es)
+          → filter q (map (λ f. fact_of f.0) (cond a (e ∷ filter (λ f. stands n f.1) es) (filter (λ f. stands n f.1) es)))
+          ≡ map (λ (f : Tuple × Marks). fact_of f.0) (cond (a && b) (e ∷ filter (λ f. stands n f.1 && q (fact_of f.0)) es) (filter (λ f. stands n f.1 && q (fact_of f.0)) es))
+      by true true k h = rw k (ap (λ l. fact_of e.0 ∷ l) h)
+      by true false k h = rw k h
+      by false b k h = h
+
+filter_same : {X : Type 0} (p q : X → Bool) → ((x : X) → p x ≡ q x) → (xs : List X) → filter p xs ≡ filter q xs
+filter_same p q h [] = refl
+filter_same p q h (x ∷ xs) = rw (h x) (ap (λ l. cond (q x) (x ∷ l) l) (filter_same p q h xs))
+
+-- The tuples of all that is sought, by place and test, are all that pass q among those that are seen.
+pub shown_by : (n : ℕ) (q : Fact → Bool) (place : Tuple → Ordering) (passes : Tuple × Marks → Bool) → ((e : Tuple × Marks) → is_sought place passes e ≡ (stands n e.1 && q (fact_of e.0)))
+    → (es : List (Tuple × Marks)) → map fact_of (map (λ (e : Tuple × Marks). e.0) (filter (is_sought place passes) es)) ≡ filter q (visible n es)
+shown_by n q place passes same es =
+    both (filter (is_sought place passes) es) ∙ ap (map (λ (e : Tuple × Marks). fact_of e.0)) (filter_same (is_sought place passes) (λ e. stands n e.1 && q (fact_of e.0)) same es) ∙ sym (filter_visible n q es)
+  where
+    both : (xs : List (Tuple × Marks)) → map fact_of (map (λ (e : Tuple × Marks). e.0) xs) ≡ map (λ (e : Tuple × Marks). fact_of e.0) xs
+    both [] = refl
+    both (x ∷ xs) = ap (λ l. fact_of x.0 ∷ l) (both xs)

@@ -1,10 +1,8 @@
 -- What versions stand for, after writes are published, taken back, or put into the base.
 use Rattle.std.proofs.Common.{◌≡◌, ℕ, ◌<◌, ◌⊎◌, ap, refl, sym, ◌∙◌, subst, List, [], ◌∷◌, ◌++◌, Bool, true, false, not, ◌&&◌, ◌||◌, cond, find, Option, Some, None, inl, inr}
-use Rattle.std.proofs.lemmas.Bool.{cases_eq, eq-eqb, ne_eqb}
+use Rattle.std.proofs.lemmas.Bool.{cases_eq}
 use Rattle.std.proofs.lemmas.Cmp.{ranked}
-use Rattle.std.specs.Prelude.{◌==◌}
 use Rattle.std.specs.Cmp.{IsTotalOrder, Equal-is, on_total, back_total, nat_cmp_total, tied_itself}
-use Rattle.std.specs.List.{list_any}
 use Rattle.std.specs.Option.{option_map, option_or}
 use Rattle.std.specs.Ordering.{is_eq, nat_cmp, MatchOrdering}
 use Rattle.std.specs.declared.cmp.Ordering.{Ordering}
@@ -19,7 +17,7 @@ use Rattle.yt_versions.specs.Chains.{newest_cmp, AreRows}
 use Rattle.yt_versions.specs.Marked.{marks_at, no_marks}
 use Rattle.yt_versions.specs.Standing.{Kept, StandFor, Published, Retracted, Folded, mark_in, written, last_written}
 use Rattle.yt_versions.specs.Based.{base_marks, based_at}
-use Rattle.yt_versions.specs.Touches.{touched, touched_at, written_at, unwritten_at, published_at, retracted_at, settled_at, folded_at}
+use Rattle.yt_versions.specs.Touches.{touched, written_at, unwritten_at, published_at, retracted_at, settled_at, folded_at}
 use Rattle.yt_versions.specs.Trails.{SameBut, no_trails}
 use Rattle.yt_versions.specs.declared.marks.Marks.{Marks}
 use Rattle.yt_versions.specs.declared.marks.Touch.TheVariants.{Mark, Unmark, Settle}

@@ -9,4 +9,3 @@ pub mod Zones
 pub mod ZoneLaws
 pub mod Indexed
 pub mod Standing
-pub mod Walks

@@ -1,11 +1,8 @@
 -- What lies before what is looked for, or past it, stays so on the way down or up.
-use Rattle.std.proofs.Common.{◌≡◌, ℕ, ◌≤◌, arith, ap, refl, sym, ◌∙◌, Bool, true, false, cond, Option, Some, None, List, [], ◌∷◌, slice_get}
+use Rattle.std.proofs.Common.{◌≡◌, ℕ, ap, refl, sym, ◌∙◌, Bool, true, false, cond, Option, Some, None, List, [], ◌∷◌, slice_get}
 use Rattle.std.specs.Cmp.{IsTotalOrder, nat_cmp_total}
 use Rattle.std.specs.Cmp.Lexicographic.{options_total, slice_cmp}
-use Rattle.std.proofs.lemmas.Bool.{leb-true, le-leb}
-use Rattle.std.specs.Ordering.{is_le, nat_cmp, ordering_reverse, ordering_then}
-use Rattle.std.specs.Prelude.{nat_le}
-use Rattle.yt_model.proofs.Ranges.{relation_le}
+use Rattle.std.specs.Ordering.{nat_cmp, ordering_reverse, ordering_then}
 use Rattle.std.specs.declared.cmp.Ordering.{Ordering}
 use Rattle.std.specs.declared.cmp.Ordering.TheVariants.{Less, Equal, Greater}
 use Rattle.yt_model.specs.Values.{Datum, Fact, datum_cmp, fact_cmp}
@@ -152,11 +149,3 @@ pub lead_before : (r : ℕ) (d : Datum) (past : Option Fact) (x y : Fact) → fa
 lead_before r d past x y h =
     then_before nat_cmp_total (λ (t : Fact). t.relation) r (by_lead d past) x y (first_up (nat_cmp x.relation y.relation) _ h)
     (λ e. then_before (options_total datum_total) (λ (t : Fact). value_in (0, t)) (Some d) (place_beyond past) x y (first_value x y (then_second (nat_cmp x.relation y.relation) _ h e)) (λ _. beyond_before past x y h))
-
--- ---- from a relation on
-
-pub from_rises : (r : ℕ) (x y : Fact) → fact_cmp x y ≡ Less → nat_le r x.relation ≡ true → nat_le r y.relation ≡ true
-from_rises r x y h e =
-    let a : r ≤ x.relation = leb-true r x.relation e in
-    let b : x.relation ≤ y.relation = relation_le x y (ap is_le h) in
-    le-leb r y.relation (omega arith)

@@ -11,9 +11,7 @@ mod marks;
 mod searches;
 mod tables;
 mod versions;
-mod walks;
 
 pub use crate::below::Below;
 pub use crate::laws::{below_is_seen, seen_is_applied};
 pub use crate::versions::Versions;
-pub use crate::walks::Walk;

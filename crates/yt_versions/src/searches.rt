@@ -6,15 +6,14 @@ ghost use Rattle.yt_base.specs.Meanings.{fact_of, datum_of};
 ghost use Rattle.yt_versions.specs.Indexed.{cell_of};
 ghost use Rattle.yt_versions.specs.Marked.{is_marked, stands};
 ghost use Rattle.yt_versions.specs.Zones.{place_beyond, place_of, place_in, place_lead};
-ghost use Rattle.yt_versions.specs.ZoneLaws.{at_before, at_past, beyond_before, beyond_past, of_before, of_past, in_before, in_past, lead_before, lead_past, from_rises};
-ghost use Rattle.yt_versions.specs.Walks.{is_from};
+ghost use Rattle.yt_versions.specs.ZoneLaws.{at_before, at_past, beyond_before, beyond_past, of_before, of_past, in_before, in_past, lead_before, lead_past};
 
 use crate::cells::{Cell, values_order};
 use crate::handles::Handle;
 use crate::marks::Marks;
 use std::cmp::Ordering;
 use yt_base::{Tuple, Value};
-use yt_tree::{Cut, Search, Show};
+use yt_tree::{Search, Show};
 
 /// The tuple itself, whether or not it is there for an update.
 #[derive(Drop)]
@@ -92,7 +91,11 @@ impl<'c> Search<Handle, Marks> for Zone<'c> {
 }
 
 impl<'c> Show<Handle, Marks, Tuple> for Zone<'c> {
-    fn show(entry: &(Handle, Marks)) -> &Tuple {
+    ghost shown = { λ e. e.0 };
+
+    fn show(entry: &(Handle, Marks)) -> &Tuple
+        ensures { result.now ≡ entry.now.0 }
+    {
         entry.0.get()
     }
 }
@@ -160,7 +163,11 @@ impl<'c> Search<Handle, Marks> for Lead<'c> {
 }
 
 impl<'c> Show<Handle, Marks, Tuple> for Lead<'c> {
-    fn show(entry: &(Handle, Marks)) -> &Tuple {
+    ghost shown = { λ e. e.0 };
+
+    fn show(entry: &(Handle, Marks)) -> &Tuple
+        ensures { result.now ≡ entry.now.0 }
+    {
         entry.0.get()
     }
 }
@@ -203,24 +210,12 @@ impl<'c> Search<Cell, Marks> for Scan<'c> {
 }
 
 impl<'c> Show<Cell, Marks, Tuple> for Scan<'c> {
-    fn show(entry: &(Cell, Marks)) -> &Tuple {
+    ghost shown = { λ e. e.0.tuple };
+
+    fn show(entry: &(Cell, Marks)) -> &Tuple
+        ensures { result.now ≡ entry.now.0.tuple }
+    {
         entry.0.tuple.get()
-    }
-}
-
-/// The tuples of the relation, and of those above it.
-#[derive(Drop)]
-pub struct From {
-    pub relation: u16,
-}
-
-impl Cut<Handle> for From {
-    ghost reaches = { λ c k. is_from c.relation k };
-
-    ghost rises = { λ c x y. from_rises c.relation (fact_of x) (fact_of y) };
-
-    fn reaches(&self, key: &Handle) -> bool {
-        self.relation <= key.get().relation
     }
 }
 

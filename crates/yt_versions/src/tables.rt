@@ -11,12 +11,12 @@ ghost use Rattle.std.specs.Option.{option_map, option_copied};
 use crate::cells::Cell;
 use crate::handles::Handle;
 use crate::marks::{Marks, Touch};
-use crate::searches::{Beyond, From, Held, Lead, Scan, Written, Zone};
+use crate::searches::{Beyond, Held, Lead, Scan, Written, Zone};
 use std::alloc::{AllocError, Global};
 use std::marker::Model;
 use yt_base::{Column, List, Tuple, TupleList, Value};
 use yt_memory::Memory;
-use yt_tree::{Cursor, Few, Share, Start, TreeMap};
+use yt_tree::{Few, Share, Start, TreeMap};
 
 /// Tuples with their marks, in order, and an index of them by cells. Contracts see the tuples with their marks.
 #[derive(Drop)]
@@ -100,9 +100,7 @@ impl Table {
     ghost use Rattle.yt_base.specs.Meanings.{datum_of};
     ghost use Rattle.std.specs.Ordering.{on};
     ghost use Rattle.yt_model.specs.Values.{fact_cmp};
-    ghost use Rattle.yt_tree.specs.Orders.{reached};
     ghost use Rattle.yt_versions.specs.Marked.{visible};
-    ghost use Rattle.yt_versions.specs.Walks.{is_from};
 
     /// The tuples that it sees, in order, copied. It is refused only for want of memory.
     pub fn list(&self, alloc: Global, number: u32) -> Result<TupleList, Memory>
@@ -116,22 +114,6 @@ impl Table {
             }
         }
         Ok(list)
-    }
-
-    /// A cursor before the tuples of the relation.
-    pub fn from_relation(&self, relation: u16) -> Cursor<'_, Handle, Marks>
-        ensures rest { result ≡ reached (is_from relation) self.now }
-        ensures in_order { IsOrdered (on fact_of fact_cmp) self.now }
-    {
-        self.rows.cursor(&From { relation })
-    }
-
-    /// Puts the cursor before the tuples of the relation. It costs less than another cursor.
-    pub fn place<'t>(&'t self, cursor: &mut Cursor<'t, Handle, Marks>, relation: u16)
-        ensures rest { cursor.new ≡ reached (is_from relation) self.now }
-        ensures in_order { IsOrdered (on fact_of fact_cmp) self.now }
-    {
-        self.rows.place(cursor, &From { relation });
     }
 
     /// Whether the update sees the tuple.
@@ -233,8 +215,14 @@ impl Table {
     }
 }
 
-// The candidates that an update sees, a few at a time.
+// The candidates that an update sees, a few at a time. No call takes memory.
 impl Table {
+    ghost use Rattle.std.specs.Prelude.{Some};
+    ghost use Rattle.yt_base.specs.Candidates.{column_of, further_candidates, AreFirst};
+    ghost use Rattle.yt_base.specs.Meanings.{datum_of};
+    ghost use Rattle.yt_model.specs.Repository.{IsRepository};
+    ghost use Rattle.yt_versions.specs.Marked.{visible};
+
     /// The first tuples of the relation that it sees, with the column's value where a column is given, and above `past` where
     /// that is given: all of them, or as many as there is room for.
     pub fn candidates(
@@ -243,15 +231,35 @@ impl Table {
         relation: u16,
         column: Option<Column<'_>>,
         past: Option<&Tuple>,
-    ) -> Few<'_, Tuple> {
-        let Some(Column { number: at, value }) = column else {
-            return self.rows.gather(&Zone {
+    ) -> Few<'_, Tuple>
+        ensures first { AreFirst result (further_candidates (visible number self.now) relation
+            (option_map column_of column.entry) (option_map fact_of (option_copied past.entry))) }
+        ensures in_order { IsRepository (visible number self.now) }
+    {
+        match column {
+            Some(column) => self.few_at(number, relation, column, past),
+            None => self.rows.gather(&Zone {
                 number,
                 relation,
                 past,
-            });
-        };
-        if at == 0 {
+            }),
+        }
+    }
+
+    // Those of them with the value in the column.
+    fn few_at(
+        &self,
+        number: u32,
+        relation: u16,
+        column: Column<'_>,
+        past: Option<&Tuple>,
+    ) -> Few<'_, Tuple>
+        ensures first { AreFirst result (further_candidates (visible number self.now) relation
+            (Some (column_of column.entry)) (option_map fact_of (option_copied past.entry))) }
+        ensures in_order { IsRepository (visible number self.now) }
+    {
+        let value = column.value;
+        if column.number == 0 {
             return self.rows.gather(&Lead {
                 number,
                 relation,
@@ -262,7 +270,7 @@ impl Table {
         self.cells.gather(&Scan {
             number,
             relation,
-            column: at as usize,
+            column: column.number as usize,
             value,
             past,
         })

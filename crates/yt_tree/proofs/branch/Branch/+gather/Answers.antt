@@ -1,4 +1,4 @@
-use Rattle.std.proofs.Common.{◌≡◌, arith, sym, ◌∙◌, ap, refl, rules, [], ◌∷◌, ◌++◌, map, filter, true}
+use Rattle.std.proofs.Common.{arith, sym, ◌∙◌, ap, rules, [], ◌∷◌, ◌++◌, map, filter}
 use Rattle.yt_tree.specs.Few.{Batch, with_first, all_shown}
 use Rattle.yt_tree.proofs.Changes.{at_node, left_shorter, right_shorter}
 use Rattle.yt_tree.proofs.Gathering.{no_room, some_room, with_both, with_full, shown_left, shown_right, shown_here, within_left, within_here, within_right, within_below, within_above}

@@ -1,4 +1,4 @@
-use Rattle.std.proofs.Common.{◌≤◌, ap, sym, subst, ◌∙◌, ◌∷◌, [], ℕ}
+use Rattle.std.proofs.Common.{◌≤◌, ap, sym, subst, ◌∙◌, ◌∷◌, []}
 use Rattle.yt_tree.specs.Few.{Batch, with_first}
 use Rattle.yt_tree.proofs.Places.{one_more}
 use Rattle.yt_tree.proofs.few.Few.push.Goals as goal
