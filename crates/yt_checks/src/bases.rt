@@ -10,7 +10,7 @@ use std::marker::Model;
 use yt_base::{List, Memory, Tuple, TupleList};
 use yt_facts::RisingFacts;
 
-/// A set of tuples, put in one by one: a set for each relation, each a list as long as its own tuples come in order.
+/// A set of tuples, put in one by one: a set for each relation, each a list as long as its own tuples come nearly in order.
 /// Contracts see the list of all tuples, in order.
 #[derive(Drop)]
 pub(crate) struct Base {
