@@ -1,13 +1,13 @@
 //! Lines, one after the other, up to the first fault.
 
-ghost use Rattle.std.specs.Prelude.{◌≡◌, ◌+◌, ◌^◌, ◌<◌, Err, length};
+ghost use Rattle.std.specs.Prelude.{◌≡◌, ◌+◌, ◌^◌, ◌<◌, Err, length, IfErr, IfOk};
 ghost use Rattle.std.specs.List.{count_by};
 ghost use Rattle.yt_forms.specs.Statements.{section_meant, statement_of};
 ghost use Rattle.yt_forms.specs.Views.{words_of as words_meant};
 ghost use Rattle.yt_grammar.specs.Forms.{section_of};
 ghost use Rattle.yt_grammar.specs.Lines.{begun, closed, line_at, line_in, line_with, lines_from, lines_of, numbered, open_line};
 ghost use Rattle.yt_lex.specs.Bytes.{is_line_feed};
-ghost use Rattle.yt_reader.specs.Answers.{Gives, GivesWhole};
+ghost use Rattle.yt_reader.specs.Answers.{Fails, Gives, GivesWhole};
 ghost use Rattle.yt_reader.specs.States.{state_of};
 
 use crate::faults::{FaultKind, LineRefusal, ReadFailure, SessionFault};
@@ -123,12 +123,15 @@ fn closed(number: u32, reader: Reader) -> Result<Draft, ReadFailure>
     Err(ReadFailure::Fault(SessionFault { line: number, kind }))
 }
 
-/// The session of the lines of a text, or the first fault.
-pub(crate) fn read_lines(alloc: Global, bytes: &[u8]) -> Result<Draft, ReadFailure>
+// Takes the lines of a text, up to the first fault. It gives how many there are.
+fn take_lines(alloc: Global, reader: &mut Reader, bytes: &[u8]) -> Result<u32, ReadFailure>
     requires few_lines { count_by is_line_feed bytes.now < 4294967295 }
-    ensures { GivesWhole (λ draft. draft) result (lines_from 0 0 begun (lines_of bytes.now)) }
+    ensures taken { IfOk result (λ number.
+        numbered number (closed (section_meant reader.new.section) reader.new.draft) ≡
+        lines_from 0 0 (state_of reader.old) (lines_of bytes.now)) }
+    ensures failed { IfErr result (λ failure.
+        Fails failure (lines_from 0 0 (state_of reader.old) (lines_of bytes.now))) }
 {
-    let mut reader = Reader::new(alloc);
     let mut number = 0;
     let mut start = 0;
     let mut rest = Some(bytes);
@@ -139,5 +142,15 @@ pub(crate) fn read_lines(alloc: Global, bytes: &[u8]) -> Result<Draft, ReadFailu
         start += line.len() + 1;
         rest = behind;
     }
+    Ok(number)
+}
+
+/// The session of the lines of a text, or the first fault.
+pub(crate) fn read_lines(alloc: Global, bytes: &[u8]) -> Result<Draft, ReadFailure>
+    requires few_lines { count_by is_line_feed bytes.now < 4294967295 }
+    ensures { GivesWhole (λ draft. draft) result (lines_from 0 0 begun (lines_of bytes.now)) }
+{
+    let mut reader = Reader::new(alloc);
+    let number = take_lines(alloc, &mut reader, bytes)?;
     closed(number, reader)
 }

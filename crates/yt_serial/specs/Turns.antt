@@ -8,7 +8,7 @@ use Rattle.yt_model.specs.Mappings.{Rule}
 use Rattle.yt_model.specs.Queries.{Query, Reply, value}
 use Rattle.yt_model.specs.Repository.{Change}
 use Rattle.yt_model.specs.Violations.{Caused}
-use Rattle.yt_model.specs.Updates.{Choice}
+use Rattle.yt_model.specs.Updates.{Choice, direction_of}
 use Rattle.yt_frontier.specs.Inquiries.{Inquiry, fits_inquiry}
 use Rattle.yt_steps.specs.Attempts.{Attempt}
 use Rattle.yt_steps.specs.Steps.{step, moved}
@@ -47,6 +47,10 @@ answer_in ms v q = value ms q v.below v.own (Caused v.heading)
 -- The program at the end of its step in hand, whose queries are answered in the view.
 abbrev pub ended_in : List Rule → Watched → State → State
 ended_in ms v s = between (result_of (answer_in ms v) (course ms s))
+
+-- What an attempt sees of a repository: these mappings, in its direction, with its own writes.
+abbrev pub view_of : List Rule → List Fact → Attempt → Watched
+view_of ms D P = record { rules = ms; heading = direction_of P.operation; below = D; own = P.own }
 
 -- What is seen with these own writes in place of those before.
 abbrev pub seen_with : Watched → List Change → Watched

@@ -118,6 +118,8 @@ fn answer_all(
             return Ok(());
         };
         let answer = view.eval(query, alloc)?;
-        program.take(alloc, &answer, mappings)?;
+        let taken = program.take(alloc, &answer, mappings);
+        drop(answer);
+        taken?;
     }
 }

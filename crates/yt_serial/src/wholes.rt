@@ -4,6 +4,7 @@ ghost use Rattle.yt_base.specs.Contents.{choices_of};
 ghost use Rattle.yt_model.specs.Repository.{IsRepository};
 ghost use Rattle.yt_steps.specs.Attempts.{question_in, outcome_in};
 ghost use Rattle.yt_serial.specs.Meanings.{RestsFrom, RestsWhole};
+ghost use Rattle.yt_serial.specs.Turns.{view_of};
 
 use crate::stepping::step;
 use crate::turns::{Next, what_next};
@@ -80,10 +81,34 @@ fn go_on(
         is_none lack) }
 {
     let mut view = WatchedView::new(alloc, facts, mappings.list(), program.direction())?;
+    go_with(alloc, program, &mut view, answers, mappings, budget)
+}
+
+// The same with a view of the repository, which is of these mappings, in the update's direction, and sees its writes.
+fn go_with(
+    alloc: Global,
+    program: &mut Program,
+    view: &mut WatchedView<'_, IndexedFacts>,
+    answers: &ChoiceList,
+    mappings: &Mappings<'_>,
+    budget: Budget,
+) -> Result<Option<Lack>, Memory>
+    requires sorted { IsRepository view.old.below }
+    requires between { program.old.reading ≡ None }
+    requires seen { view.old ≡ view_of mappings.now view.old.below program.old.attempt }
+    requires left { program.old.attempt.steps < budget }
+    ensures rests { IfOk result (RestsFrom mappings.now budget view.old.below
+        (choices_of answers.now) program.old.attempt program.new.attempt) }
+    ensures between { OnOk result (program.new.reading ≡ None) }
+    ensures asked { IfOk result (λ lack. is_some (question_in program.new.attempt.phase) ≡
+        is_some lack) }
+    ensures ended { IfOk result (λ lack. is_some (outcome_in program.new.attempt.phase) ≡
+        is_none lack) }
+{
     'turns: loop {
         match what_next(program, answers) {
             Next::Step(choice) => {
-                step(alloc, program, &mut view, choice, mappings, budget)?;
+                step(alloc, program, view, choice, mappings, budget)?;
             }
             Next::Rest(lack) => return Ok(lack),
         }

@@ -9,8 +9,8 @@ use Rattle.yt_program.specs.Wishes.{wish}
 use Rattle.yt_serial.proofs.Answered.{answers_there, answered_same, answered_fewer, settled_there, takes}
 use Rattle.yt_serial.proofs.stepping.answer_all.Goals as goal
 
-pub take-requires : goal.take-requires
-take-requires c =
+pub take-taken-requires : goal.take-taken-requires
+take-taken-requires c =
     let ms = c.args.mappings.now in
     let q = query_of c.in-Read.query.now in
     record {
@@ -19,60 +19,14 @@ take-requires c =
           (values_are_of_kind ms q c.args.view.now.below c.args.view.now.own (Caused c.args.view.now.heading) c.requires.sorted));
     }
 
-pub queries-smaller-in_ok-take : goal.queries-smaller-in_ok-take
-queries-smaller-in_ok-take c =
-    let ms = c.args.mappings.now in
-    let val : Query → Reply = λ q. value ms q c.args.view.now.below c.args.view.now.own (Caused c.args.view.now.heading) in
-    answered_fewer val (course ms c.queries.program) (course ms c.pass.new.self) (course ms c.take.new.self) (query_of c.in-Read.query.now) (reply_of c.in_ok-answer.answer)
-    (c.pass.ensures.passed val (settled_there ms c.settled.result.now c.queries.view c.args.view.now c.queries.invariant.same c.requires.rules c.settled.ensures.nothing))
-    (c.in-Read.ensures.first ms)
-    (answers_there ms (query_of c.in-Read.query.now) (reply_of c.in_ok-answer.answer) c.queries.view c.args.view.now c.queries.invariant.same c.requires.rules c.in_ok-answer.ensures.value) c.in_ok-take.ensures.step
-
-pub queries-preserved-in_ok-take : goal.queries-preserved-in_ok-take
-queries-preserved-in_ok-take c =
-    let ms = c.args.mappings.now in
-    let val : Query → Reply = λ q. value ms q c.args.view.now.below c.args.view.now.own (Caused c.args.view.now.heading) in
-    record {
-      same = cc;
-      together =
-          answered_same val (course ms c.queries.program) (course ms c.pass.new.self) (course ms c.take.new.self) (query_of c.in-Read.query.now) (reply_of c.in_ok-answer.answer)
-          (c.pass.ensures.passed val (settled_there ms c.settled.result.now c.queries.view c.args.view.now c.queries.invariant.same c.requires.rules c.settled.ensures.nothing))
-          (c.in-Read.ensures.first ms)
-          (answers_there ms (query_of c.in-Read.query.now) (reply_of c.in_ok-answer.answer) c.queries.view c.args.view.now c.queries.invariant.same c.requires.rules c.in_ok-answer.ensures.value) c.in_ok-take.ensures.step
-          ∙ c.queries.invariant.together;
-    }
-
-pub queries-smaller-in_ok-take-2 : goal.queries-smaller-in_ok-take-2
-queries-smaller-in_ok-take-2 c =
-    let ms = c.args.mappings.now in
-    let val : Query → Reply = λ q. value ms q c.args.view.now.below c.args.view.now.own (Caused c.args.view.now.heading) in
-    answered_fewer val (course ms c.queries.program) (course ms c.pass.new.self) (course ms c.take.new.self) (query_of c.in-Read.query.now) (reply_of c.in_ok-answer.answer)
-    (c.pass.ensures.passed val (settled_there ms c.settled.result.now c.queries.view c.args.view.now c.queries.invariant.same c.requires.rules c.settled.ensures.nothing))
-    (c.in-Read.ensures.first ms)
-    (answers_there ms (query_of c.in-Read.query.now) (reply_of c.in_ok-answer.answer) c.queries.view c.args.view.now c.queries.invariant.same c.requires.rules c.in_ok-answer.ensures.value) c.in_ok-take.ensures.step
-
-pub queries-preserved-in_ok-take-2 : goal.queries-preserved-in_ok-take-2
-queries-preserved-in_ok-take-2 c =
-    let ms = c.args.mappings.now in
-    let val : Query → Reply = λ q. value ms q c.args.view.now.below c.args.view.now.own (Caused c.args.view.now.heading) in
-    record {
-      same = cc;
-      together =
-          answered_same val (course ms c.queries.program) (course ms c.pass.new.self) (course ms c.take.new.self) (query_of c.in-Read.query.now) (reply_of c.in_ok-answer.answer)
-          (c.pass.ensures.passed val (settled_there ms c.settled.result.now c.queries.view c.args.view.now c.queries.invariant.same c.requires.rules c.settled.ensures.nothing))
-          (c.in-Read.ensures.first ms)
-          (answers_there ms (query_of c.in-Read.query.now) (reply_of c.in_ok-answer.answer) c.queries.view c.args.view.now c.queries.invariant.same c.requires.rules c.in_ok-answer.ensures.value) c.in_ok-take.ensures.step
-          ∙ c.queries.invariant.together;
-    }
-
 pub queries-smaller : goal.queries-smaller
 queries-smaller c =
     let ms = c.args.mappings.now in
     let val : Query → Reply = λ q. value ms q c.args.view.now.below c.args.view.now.own (Caused c.args.view.now.heading) in
-    answered_fewer val (course ms c.queries.program) (course ms c.pass.new.self) (course ms c.take.new.self) (query_of c.in-Read.query.now) (reply_of c.in_ok-answer.answer)
+    answered_fewer val (course ms c.queries.program) (course ms c.pass.new.self) (course ms c.take-taken.new.self) (query_of c.in-Read.query.now) (reply_of c.in_ok-answer.answer)
     (c.pass.ensures.passed val (settled_there ms c.settled.result.now c.queries.view c.args.view.now c.queries.invariant.same c.requires.rules c.settled.ensures.nothing))
     (c.in-Read.ensures.first ms)
-    (answers_there ms (query_of c.in-Read.query.now) (reply_of c.in_ok-answer.answer) c.queries.view c.args.view.now c.queries.invariant.same c.requires.rules c.in_ok-answer.ensures.value) c.in_ok-take.ensures.step
+    (answers_there ms (query_of c.in-Read.query.now) (reply_of c.in_ok-answer.answer) c.queries.view c.args.view.now c.queries.invariant.same c.requires.rules c.in_ok-answer.ensures.value) c.in_ok-taken.ensures.step
 
 pub queries-preserved : goal.queries-preserved
 queries-preserved c =
@@ -81,9 +35,9 @@ queries-preserved c =
     record {
       same = cc;
       together =
-          answered_same val (course ms c.queries.program) (course ms c.pass.new.self) (course ms c.take.new.self) (query_of c.in-Read.query.now) (reply_of c.in_ok-answer.answer)
+          answered_same val (course ms c.queries.program) (course ms c.pass.new.self) (course ms c.take-taken.new.self) (query_of c.in-Read.query.now) (reply_of c.in_ok-answer.answer)
           (c.pass.ensures.passed val (settled_there ms c.settled.result.now c.queries.view c.args.view.now c.queries.invariant.same c.requires.rules c.settled.ensures.nothing))
           (c.in-Read.ensures.first ms)
-          (answers_there ms (query_of c.in-Read.query.now) (reply_of c.in_ok-answer.answer) c.queries.view c.args.view.now c.queries.invariant.same c.requires.rules c.in_ok-answer.ensures.value) c.in_ok-take.ensures.step
+          (answers_there ms (query_of c.in-Read.query.now) (reply_of c.in_ok-answer.answer) c.queries.view c.args.view.now c.queries.invariant.same c.requires.rules c.in_ok-answer.ensures.value) c.in_ok-taken.ensures.step
           ∙ c.queries.invariant.together;
     }

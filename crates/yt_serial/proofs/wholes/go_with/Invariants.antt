@@ -1,19 +1,18 @@
 use Rattle.std.proofs.Common.{◌≡◌, ◌-◌, ◌<◌, false, None, is_some, map}
 use Rattle.yt_base.specs.Meanings.{choice_of}
-use Rattle.yt_model.specs.Updates.{direction_of}
 use Rattle.yt_steps.specs.Attempts.{outcome_in}
-use Rattle.yt_serial.specs.Turns.{rest_from}
-use Rattle.yt_serial.proofs.wholes.go_on.Given as goal
+use Rattle.yt_serial.specs.Turns.{rest_from, view_of}
+use Rattle.yt_serial.proofs.wholes.go_with.Given as goal
 
 -- Between two steps; the view is of these mappings, in the update's direction, and sees the own writes; from where the attempt comes to the same rest; some steps are left unless it has ended.
 abbrev pub invariant-turns : goal.invariant-turns
 invariant-turns l = record {
   between : l.program.reading ≡ None;
-  seen : l.view ≡ record { rules = l.mappings; heading = direction_of l.program.attempt.operation; below = l.facts; own = l.program.attempt.own };
+  seen : l.view ≡ view_of l.mappings l.fn.view.below l.program.attempt;
   left : is_some (outcome_in l.program.attempt.phase) ≡ false → l.program.attempt.steps < l.budget;
   together :
-      rest_from l.mappings l.budget l.facts (map choice_of l.answers.items) (l.budget - l.fn.program.attempt.steps) l.fn.program.attempt
-      ≡ rest_from l.mappings l.budget l.facts (map choice_of l.answers.items) (l.budget - l.program.attempt.steps) l.program.attempt;
+      rest_from l.mappings l.budget l.fn.view.below (map choice_of l.answers.items) (l.budget - l.fn.program.attempt.steps) l.fn.program.attempt
+      ≡ rest_from l.mappings l.budget l.fn.view.below (map choice_of l.answers.items) (l.budget - l.program.attempt.steps) l.program.attempt;
 }
 
 -- How many steps are left.

@@ -1,13 +1,13 @@
 use Rattle.std.proofs.Common.{◌≡◌, ◌+◌, length}
 use Rattle.std.specs.Prelude.{IfSome}
 use Rattle.std.specs.Option.{option_copied}
-use Rattle.yt_grammar.specs.Lines.{begun, lines_from, lines_of}
+use Rattle.yt_grammar.specs.Lines.{lines_from, lines_of}
 use Rattle.yt_reader.specs.States.{state_of, lines_left}
-use Rattle.yt_reader.proofs.lines.read_lines.Given as goal
+use Rattle.yt_reader.proofs.lines.take_lines.Given as goal
 
 abbrev pub invariant-lines : goal.invariant-lines
 invariant-lines l = record {
-  same : lines_from l.number l.start (state_of l.reader) (lines_left (option_copied l.rest)) ≡ lines_from 0 0 begun (lines_of l.bytes);
+  same : lines_from l.number l.start (state_of l.reader) (lines_left (option_copied l.rest)) ≡ lines_from 0 0 (state_of l.initial.reader) (lines_of l.bytes);
   number : l.number + length (lines_left (option_copied l.rest)) ≡ length (lines_of l.bytes);
   place : IfSome l.rest (λ text. l.start + length text.now ≡ length l.bytes);
 }
