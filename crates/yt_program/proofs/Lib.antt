@@ -7,3 +7,4 @@ pub mod Landing
 pub mod Repairs
 pub mod Shorter
 pub mod Passed
+pub mod Sent

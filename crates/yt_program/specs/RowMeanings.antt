@@ -2,16 +2,14 @@
 use Rattle.std.specs.Prelude.{[], ◌∷◌, ◌++◌, map, drop}
 use Rattle.yt_model.specs.Values.{NullName, Datum, Unknown, Fact}
 use Rattle.yt_model.specs.Queries.{Query, Present, Violation, Specific, Occurs}
-use Rattle.yt_base.specs.Listed.{Listed}
-use Rattle.yt_base.specs.declared.nulls.Null.{Null}
-use Rattle.yt_base.specs.declared.tuples.Tuple.{Tuple}
 use Rattle.yt_base.specs.Meanings.{null_of, datum_of, fact_of}
 use Rattle.yt_program.specs.Found.{Found}
 use Rattle.yt_program.specs.Rows as rows
 use Rattle.yt_program.specs.declared.found.Standing.{Standing}
 use Rattle.yt_program.specs.declared.rows.Naming.{Naming}
+use Rattle.yt_program.specs.declared.rows.Renaming.{Renaming}
 use Rattle.yt_program.specs.declared.rows.Row.{Row}
-use Rattle.yt_program.specs.declared.rows.Row.TheVariants.{Naming as NamingRow, Writing, Replacing, Renaming, Forcing, Violating}
+use Rattle.yt_program.specs.declared.rows.Row.TheVariants.{Naming as NamingRow, Writing, Replacing, Renaming as RenamingRow, Forcing, Violating}
 
 -- The named null and the value that a `Standing` pairs.
 abbrev pub standing_of : Standing → NullName × Datum
@@ -33,14 +31,14 @@ tuple_asked (Specific t) = t
 tuple_asked (Occurs u k) = record { relation = 0; values = [] }
 
 -- Where a step stands that looks up the null which replaces another one in these tuples.
-abbrev pub renaming : Null → Null → Listed Tuple → rows.Row
-renaming name null ts = rows.Renaming (null_of name) (Unknown (null_of null)) (map fact_of ts.items)
+abbrev pub renaming_of : Renaming → rows.Row
+renaming_of r = rows.Renaming (null_of r.name) (Unknown (null_of r.null)) (map fact_of r.tuples.items)
 
 -- Where a step stands that asks this query.
 abbrev pub row_of : Row → Query → rows.Row
-row_of (NamingRow n) q = naming_of n
+row_of (NamingRow n) q = naming_of n.value
 row_of Writing q = rows.Writing (tuple_asked q)
 row_of (Replacing n) q = rows.Replacing (null_of n)
-row_of (Renaming n m ts) q = renaming n m ts
+row_of (RenamingRow r) q = renaming_of r.value
 row_of (Forcing n) q = rows.Forcing n
 row_of (Violating n) q = rows.Violating n

@@ -7,7 +7,7 @@ use Rattle.yt_base.specs.declared.updates.Choice.{Choice}
 use Rattle.yt_base.specs.Meanings.{choice_of}
 use Rattle.yt_query.specs.declared.answers.Answer.{Answer}
 use Rattle.yt_query.specs.Meanings.{reply_of}
-use Rattle.yt_steps.specs.Attempts.{Attempt, begun}
+use Rattle.yt_steps.specs.Attempts.{begun}
 use Rattle.yt_steps.specs.Steps.{step, look_from}
 use Rattle.yt_program.specs.Courses.{State, between, coming_to, course, by_reply}
 use Rattle.yt_program.specs.Settled.{FindsNone, IsShorter}

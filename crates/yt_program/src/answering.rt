@@ -39,11 +39,9 @@ pub(crate) fn answered(
 {
     let turn = match &reading.row {
         Row::Writing => return Ok(None),
-        Row::Naming(naming) => found_name(alloc, operation, naming, answer)?,
+        Row::Naming(naming) => found_name(alloc, operation, &**naming, answer)?,
         Row::Replacing(name) => found_replaced(alloc, operation, *name, answer)?,
-        Row::Renaming { name, null, tuples } => {
-            found_replacement(alloc, *name, *null, tuples, answer)?
-        }
+        Row::Renaming(renaming) => found_replacement(alloc, &**renaming, answer)?,
         Row::Forcing(place) => found_force(alloc, fresh.update, *place, answer, mappings)?,
         Row::Violating(place) => {
             found_violation(alloc, operation, fresh, *place, answer, mappings)?

@@ -174,10 +174,16 @@ impl Own {
         ensures err { OnErr result (repair.new ≡ repair.old) }
         ensures own { OnErr result (changes_of self.new ≡ changes_of self.old) }
     {
-        let mut own = self.take(alloc)?;
-        let progress = repair.answer(alloc, &mut own, answer, mappings);
-        self.held = Held::Alone(own);
-        progress
+        match &mut self.held {
+            Held::Alone(own) => repair.answer(alloc, own, answer, mappings),
+            Held::Shared(shared) => {
+                let shared: &WriteList = shared;
+                let mut own = shared.copy(alloc)?;
+                let progress = repair.answer(alloc, &mut own, answer, mappings);
+                self.held = Held::Alone(own);
+                progress
+            }
+        }
     }
 
     /// The repair takes the answer to its question, as `Repair::choose` says, and puts its writes at the end.

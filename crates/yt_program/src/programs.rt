@@ -18,7 +18,7 @@ use crate::ends::Want;
 use crate::looking::look;
 use crate::moves::Move;
 use crate::own::Own;
-use crate::passing::looks_on;
+use crate::passing::{looks_on, next_from_start, violation_asked};
 use crate::points::Point;
 use crate::repairing::{generates, want_of_repair};
 use crate::starting::{is_yes, start};
@@ -153,8 +153,17 @@ impl Program {
         ensures attempt { StaysWhileAsking self.old self.new }
         ensures err { OnErr result (self.new ≡ self.old) }
     {
-        let turn = look(alloc, self.number, 0, mappings)?;
-        self.follow(alloc, turn, hand)
+        match next_from_start(self.number, 0, mappings) {
+            Some(place) => {
+                self.point = Point::Reading(violation_asked(place));
+                self.hand = hand;
+                Ok(())
+            }
+            None => {
+                let turn = look(alloc, self.number, 0, mappings)?;
+                self.follow(alloc, turn, hand)
+            }
+        }
     }
 
     /// Takes the answer to the query that is asked, and goes on by it up to the next query or the end of the step. While

@@ -8,17 +8,17 @@ ghost use Rattle.yt_base.specs.Meanings.{null_of, datum_of, operation_of};
 ghost use Rattle.yt_query.specs.Meanings.{reply_of};
 ghost use Rattle.yt_query.specs.Kinds.{IsOfKind};
 ghost use Rattle.yt_steps.specs.Attempts.{Start};
-ghost use Rattle.yt_program.specs.RowMeanings.{renaming};
+ghost use Rattle.yt_program.specs.RowMeanings.{renaming_of};
 ghost use Rattle.yt_program.specs.Rows.{Replacing, rewriting};
 ghost use Rattle.yt_program.specs.TurnMeanings.{AlwaysComesTo, HasGoneOn, HasGoneOnFor, IsTurnOf, Replaces};
 
 use crate::found::{holders, standing_for};
 use crate::readings::Reading;
-use crate::rows::Row;
+use crate::rows::{Renaming, Row};
 use crate::turns::Turn;
 use std::alloc::Global;
 use yt_base::{Memory, Null, Operation, Sub, TryCopy, TupleList, Value, WriteList};
-use yt_chase::rewrite;
+use yt_chase::{boxed, rewrite};
 use yt_query::{Answer, Query};
 
 /// Goes on by the answer to the look-up of the null that is to be replaced. It is refused only for want of memory.
@@ -59,14 +59,17 @@ fn replaced(
         Operation::Insert(_) => Ok(Turn::looks(WriteList::new(alloc))),
         Operation::Delete(_) => Ok(Turn::looks(WriteList::new(alloc))),
         Operation::Replace(_, value) => match value {
-            Value::Null(name) => Ok(Turn::Asks(Reading {
-                query: Query::Occurs(name.update, name.place),
-                row: Row::Renaming {
+            Value::Null(name) => {
+                let renaming = Renaming {
                     name: *name,
                     null,
                     tuples: tuples.copy(alloc)?,
-                },
-            })),
+                };
+                Ok(Turn::Asks(Reading {
+                    query: Query::Occurs(name.update, name.place),
+                    row: Row::Renaming(boxed(alloc, renaming)?),
+                }))
+            }
             Value::Int(_) => rewritten(alloc, null, value.copy(alloc)?, tuples),
             Value::Word(_) => rewritten(alloc, null, value.copy(alloc)?, tuples),
         },
@@ -78,21 +81,19 @@ fn replaced(
 /// want of memory.
 pub(crate) fn found_replacement(
     alloc: Global,
-    name: Null,
-    null: Null,
-    tuples: &TupleList,
+    renaming: &Renaming,
     answer: &Answer,
 ) -> Result<Turn, Memory>
     ensures value { IfOk result
-        (HasGoneOn (renaming name null tuples.now) (reply_of answer.now)) }
+        (HasGoneOn (renaming_of renaming.now) (reply_of answer.now)) }
     ensures turn { IfOk result (IsTurnOf Start) }
 {
     match holders(answer) {
         Some(holding) => {
-            let value = standing_for(alloc, name, holding)?;
-            rewritten(alloc, null, value, tuples)
+            let value = standing_for(alloc, renaming.name, holding)?;
+            rewritten(alloc, renaming.null, value, &renaming.tuples)
         }
-        None => Ok(Turn::refuses(alloc, name)),
+        None => Ok(Turn::refuses(alloc, renaming.name)),
     }
 }
 

@@ -1,10 +1,11 @@
 //! Where a step in hand stands.
 ghost use Rattle.std.specs.Prelude.{◌≡◌, IfOk};
-ghost use Rattle.yt_program.specs.RowMeanings.{naming_of, row_of};
+ghost use Rattle.yt_program.specs.RowMeanings.{naming_of, renaming_of, row_of};
 
 use crate::found::StandingList;
 use std::alloc::Global;
 use yt_base::{List, Memory, Null, TryCopy, TupleList};
+use yt_chase::boxed;
 
 /// The named nulls of an operation, in order of first position.
 pub(crate) type NullList = List<Null>;
@@ -19,19 +20,23 @@ pub(crate) struct Naming {
     pub(crate) next: usize,
 }
 
+/// The named null that is looked up, and the null that it replaces in these tuples.
+#[derive(Debug, Drop)]
+pub(crate) struct Renaming {
+    pub(crate) name: Null,
+    pub(crate) null: Null,
+    pub(crate) tuples: TupleList,
+}
+
 /// What a step in hand asks for: a named null of an operation; whether the operation's tuple is there; the null that is
-/// to be replaced; the null that replaces another one in these tuples; whether a mapping is in force; or its first
-/// violation.
+/// to be replaced; the null that replaces another one in tuples; whether a mapping is in force; or its first violation.
+/// What is rare and large is behind a pointer.
 #[derive(Debug, Drop)]
 pub(crate) enum Row {
-    Naming(Naming),
+    Naming(Box<Naming>),
     Writing,
     Replacing(Null),
-    Renaming {
-        name: Null,
-        null: Null,
-        tuples: TupleList,
-    },
+    Renaming(Box<Renaming>),
     Forcing(u16),
     Violating(u16),
 }
@@ -56,6 +61,25 @@ impl TryCopy for Naming {
     }
 }
 
+impl TryCopy for Renaming {
+    ghost use Rattle.yt_program.specs.Rows.{Row as RowMeant};
+    ghost use Rattle.yt_program.specs.RowMeanings.{renaming_of};
+
+    ghost Meaning = { RowMeant };
+
+    ghost meaning = { renaming_of };
+
+    fn copy(&self, alloc: Global) -> Result<Renaming, Memory>
+        ensures same { IfOk result (λ copy. renaming_of copy ≡ renaming_of self.now) }
+    {
+        Ok(Renaming {
+            name: self.name,
+            null: self.null,
+            tuples: self.tuples.copy(alloc)?,
+        })
+    }
+}
+
 impl TryCopy for Row {
     ghost use Rattle.yt_model.specs.Queries.{Query as QueryMeant};
     ghost use Rattle.yt_program.specs.Rows.{Row as RowMeant};
@@ -69,14 +93,10 @@ impl TryCopy for Row {
         ensures same { IfOk result (λ copy. row_of copy ≡ row_of self.now) }
     {
         match self {
-            Row::Naming(naming) => Ok(Row::Naming(naming.copy(alloc)?)),
+            Row::Naming(naming) => Ok(Row::Naming(boxed(alloc, naming.copy(alloc)?)?)),
             Row::Writing => Ok(Row::Writing),
             Row::Replacing(name) => Ok(Row::Replacing(*name)),
-            Row::Renaming { name, null, tuples } => Ok(Row::Renaming {
-                name: *name,
-                null: *null,
-                tuples: tuples.copy(alloc)?,
-            }),
+            Row::Renaming(renaming) => Ok(Row::Renaming(boxed(alloc, renaming.copy(alloc)?)?)),
             Row::Forcing(mapping) => Ok(Row::Forcing(*mapping)),
             Row::Violating(mapping) => Ok(Row::Violating(*mapping)),
         }

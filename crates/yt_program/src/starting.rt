@@ -17,7 +17,7 @@ use crate::turns::Turn;
 use crate::writes::one;
 use std::alloc::Global;
 use yt_base::{Memory, Operation, TryCopy, Tuple, Value, ValueList, Write, WriteList};
-use yt_chase::nulls_in;
+use yt_chase::{boxed, nulls_in};
 use yt_query::{Answer, Query};
 
 /// Begins the step of the operation. It is refused only for want of memory.
@@ -76,14 +76,15 @@ fn next_name(
     match names.get(next) {
         Some(name) => {
             let name = *name;
+            let naming = Naming {
+                found,
+                name,
+                names,
+                next: next + 1,
+            };
             Ok(Turn::Asks(Reading {
                 query: Query::Occurs(name.update, name.place),
-                row: Row::Naming(Naming {
-                    found,
-                    name,
-                    names,
-                    next: next + 1,
-                }),
+                row: Row::Naming(boxed(alloc, naming)?),
             }))
         }
         None => present(alloc, operation, found.as_slice()),

@@ -1,18 +1,11 @@
 -- A core may go to other threads.
-use denote.Param.Send.{IsSend, IsSync, sendable, view_send}
-use denote.Param.SendFields.{declared_send}
+use denote.Param.Send.{IsSend, IsSync, sendable}
 use denote.Ref.{NamedLft}
 use Rattle.std.proofs.Crossing.{crosses}
 use Rattle.yt_versions.proofs.Sent.{versions_send}
 use Rattle.yt_base.proofs.Sent.{tuple_send, tuple_sync}
-use Rattle.yt_base.specs.contracts.updates.Operation as operations
+use Rattle.yt_program.proofs.Sent.{program_send}
 use Rattle.yt_query.specs.contracts.log.LoggedRead as reads
-use Rattle.yt_chase.specs.contracts.repairs.Repair as repairs
-use Rattle.yt_program.specs.contracts.own.Own as own
-use Rattle.yt_program.specs.contracts.own.Own.TheInside as own_inside
-use Rattle.yt_program.specs.contracts.points.Point as points
-use Rattle.yt_program.specs.contracts.programs.Program as programs
-use Rattle.yt_program.specs.contracts.programs.Program.TheInside as inside
 use Rattle.yt_queue.specs.contracts.records.Record as records
 use Rattle.yt_entries.specs.contracts.entries.Entry as entries
 use Rattle.yt_core.specs.contracts.cores.Core as core
@@ -20,29 +13,6 @@ use Rattle.yt_base.specs.contracts.updates.Update as updates
 use Rattle.yt_base.specs.contracts.updates.Choice as choices
 use Rattle.yt_session.specs.contracts.sessions.SessionUpdate as session_updates
 use Rattle.yt_seated.specs.contracts.seated.Seated as seated
-
-operation_send : IsSend operations.the_row
-operation_send = search (sendable, crosses) depth 60 fits 6000
-
-repair_send : IsSend repairs.the_row
-repair_send = search (sendable, crosses, tuple_send) depth 60 fits 6000
-
-point_send : IsSend points.the_row
-point_send = search (sendable, crosses, tuple_send, repair_send) depth 60 fits 6000
-
--- The writes, which copies of a program share.
-own_inside_send : IsSend own_inside.the_row
-own_inside_send = search (sendable, crosses) depth 60 fits 6000
-
-own_send : IsSend own.the_row
-own_send = view_send _ _ _ _ _ own_inside_send
-
--- A program by its fields: their number is above what the search takes at once.
-inside_send : IsSend inside.the_row
-inside_send = search (sendable, crosses, operation_send, point_send, own_send, declared_send) depth 60 fits 6000
-
-program_send : IsSend programs.the_row
-program_send = view_send _ _ _ _ _ inside_send
 
 read_send : IsSend reads.the_row
 read_send = search (sendable, crosses, tuple_send) depth 60 fits 6000

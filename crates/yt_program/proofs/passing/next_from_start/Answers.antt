@@ -1,4 +1,4 @@
-use Rattle.std.proofs.Common.{◌∙◌, suc, arith, ap, map}
+use Rattle.std.proofs.Common.{◌∙◌, suc, arith, ap}
 use Rattle.yt_base.specs.Meanings.{rule_of}
 use Rattle.yt_steps.specs.Steps.{look_from}
 use Rattle.yt_program.proofs.PassedBy.{here, looks_at}

@@ -1,5 +1,4 @@
-use Rattle.std.proofs.Common.{◌≡◌, map, drop}
-use Rattle.yt_base.specs.Meanings.{rule_of}
+use Rattle.std.proofs.Common.{◌≡◌, drop}
 use Rattle.yt_steps.specs.Attempts.{Attempt}
 use Rattle.yt_steps.specs.Steps.{look_from}
 use Rattle.yt_program.proofs.passing.next_in_play.Given as goal

@@ -1,8 +1,8 @@
-use Rattle.std.proofs.Common.{◌≡◌, ◌∙◌, ap, sym}
+use Rattle.std.proofs.Common.{◌∙◌, ap, sym}
 use Rattle.std.proofs.lemmas.Result.{IfOk-weaker}
 use Rattle.yt_model.specs.Values.{Datum, Unknown}
 use Rattle.yt_base.specs.Contents.{facts_of}
-use Rattle.yt_base.specs.Meanings.{null_of, datum_of}
+use Rattle.yt_base.specs.Meanings.{null_of}
 use Rattle.yt_query.specs.Meanings.{reply_of}
 use Rattle.yt_steps.specs.Rewriting.{standing_for}
 use Rattle.yt_steps.specs.Steps.{tuples_of}
@@ -12,10 +12,10 @@ use Rattle.yt_program.proofs.replacing.found_replacement.Goals as goal
 
 pub returns-in_ok-value-in-Some-clause-value : goal.returns-in_ok-value-in-Some-clause-value
 returns-in_ok-value-in-Some-clause-value c =
-    let n = null_of c.args.name in
-    let old = Unknown (null_of c.args.null) in
+    let n = null_of c.args.renaming.now.name in
+    let old = Unknown (null_of c.args.renaming.now.null) in
     let all = tuples_of (reply_of c.args.answer.now) in
-    let ts = facts_of c.args.tuples.now in
+    let ts = facts_of c.args.renaming.now.tuples in
     let holding = facts_of c.in-Some.holding.now in
     let value = c.in_ok-value-in-Some.ensures.value ∙ ap (standing_for n) (sym (goes all holding c.in-Some.ensures.found)) in
     IfOk-weaker c.rewritten.result _ _

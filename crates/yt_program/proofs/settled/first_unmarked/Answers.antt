@@ -1,5 +1,4 @@
-use Rattle.std.proofs.Common.{◌∙◌, ◌+◌, arith, sym, map}
-use Rattle.yt_base.specs.Meanings.{rule_of}
+use Rattle.std.proofs.Common.{◌∙◌, ◌+◌, arith, sym}
 use Rattle.yt_program.specs.Rows.{Violating, row_tree}
 use Rattle.yt_program.proofs.Shorter.{passes_settled, shorter_on}
 use Rattle.yt_program.proofs.settled.first_unmarked.Goals as goal

@@ -1,6 +1,5 @@
-use Rattle.std.proofs.Common.{◌≡◌, ◌-◌, map}
+use Rattle.std.proofs.Common.{◌≡◌, ◌-◌}
 use Rattle.yt_model.specs.Queries.{Query, Reply}
-use Rattle.yt_base.specs.Meanings.{rule_of}
 use Rattle.yt_steps.specs.Attempts.{Attempt}
 use Rattle.yt_program.specs.Rows.{Violating, row_tree}
 use Rattle.yt_program.specs.Settled.{FindsNone, IsShorter}

@@ -1,5 +1,5 @@
 use Rattle.std.proofs.Common.{◌≡◌, ◌∙◌, ◌<◌, ap, sym, map, is_some, arith}
-use Rattle.yt_base.specs.Meanings.{change_of, choice_of, rule_of}
+use Rattle.yt_base.specs.Meanings.{change_of, choice_of}
 use Rattle.yt_steps.specs.Attempts.{Phase, question_in}
 use Rattle.yt_chase.specs.Meanings.{asks_on}
 use Rattle.yt_program.specs.Courses.{State}

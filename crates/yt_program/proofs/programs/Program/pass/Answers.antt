@@ -1,5 +1,3 @@
-use Rattle.std.proofs.Common.{map}
-use Rattle.yt_base.specs.Meanings.{rule_of}
 use Rattle.yt_program.proofs.Passed.{passes_on, stays_there}
 use Rattle.yt_program.proofs.programs.Program.pass.Goals as goal
 use Rattle.yt_program.proofs.programs.Program.pass.Goals.{in-Reading, in_default}
