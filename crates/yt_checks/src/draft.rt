@@ -15,6 +15,7 @@ use crate::refusals::TakeRefusal;
 use crate::updates::Updates;
 use std::alloc::Global;
 use std::marker::Model;
+use std::mem;
 use yt_base::{List, MappingList, Memory};
 use yt_forms::RawStatement;
 use yt_schema::Schema;
@@ -74,13 +75,19 @@ impl Draft {
             base,
             updates,
         } = self;
-        Ok(Session {
-            format,
-            schema,
-            mappings,
-            base: base.into_list(alloc)?,
-            updates: updates.into_list(),
-        })
+        match base.into_list(alloc) {
+            Ok(base) => Ok(Session {
+                format,
+                schema,
+                mappings,
+                base,
+                updates: updates.into_list(),
+            }),
+            Err(memory) => {
+                drop((schema, mappings, updates));
+                Err(memory)
+            }
+        }
     }
 
     /// Takes one more statement, in the place where it may stand. A header begins the session anew. It is
@@ -91,16 +98,18 @@ impl Draft {
         ensures err { OnErr result (self.new ≡ self.old) }
     {
         match statement {
-            RawStatement::Header(format) => *self = Draft::new(alloc, format),
-            RawStatement::Relation(name, columns) => self.add_relation(name, columns)?,
-            RawStatement::Mapping(mapping) => self.add_mapping(alloc, mapping)?,
-            RawStatement::Base(fact) => self.add_tuple(alloc, fact)?,
-            RawStatement::Update(label, curator, operation) => {
-                self.add_update(alloc, label, curator, operation)?
+            RawStatement::Header(format) => {
+                drop(mem::replace(self, Draft::new(alloc, format)));
+                Ok(())
             }
-            RawStatement::Answer(label, choice) => self.add_answer(alloc, label, choice)?,
-            RawStatement::End => {}
+            RawStatement::Relation(name, columns) => self.add_relation(name, columns),
+            RawStatement::Mapping(mapping) => self.add_mapping(alloc, mapping),
+            RawStatement::Base(fact) => self.add_tuple(alloc, fact),
+            RawStatement::Update(label, curator, operation) => {
+                self.add_update(alloc, label, curator, operation)
+            }
+            RawStatement::Answer(label, choice) => self.add_answer(alloc, label, choice),
+            RawStatement::End => Ok(()),
         }
-        Ok(())
     }
 }

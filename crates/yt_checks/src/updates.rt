@@ -2,7 +2,7 @@
 
 ghost use Rattle.std.specs.Prelude.{◌≡◌, ◌<◌, ◌++◌, ◌∷◌, [], Some, None, false, length, map, slice_get, IfSome, IfNone, slice_set, OnOk, OnErr};
 ghost use Rattle.yt_base.specs.Meanings.{choice_of};
-ghost use Rattle.yt_grammar.specs.Names.{is_one_of, place_of};
+ghost use Rattle.yt_grammar.specs.Names.{is_one_of, place_of, same_name, with_new};
 ghost use Rattle.yt_grammar.specs.Sessions.{SessionUpdate as UpdateMeant, answer_count, labels};
 ghost use Rattle.yt_grammar.specs.Checks.{curators_full, with_answer};
 ghost use Rattle.yt_session.specs.Meanings.{update_of};
@@ -98,12 +98,20 @@ impl Updates {
         ensures ok { OnOk result (self.new ≡ self.old ++ unanswered update ∷ []) }
         ensures err { OnErr result (self.new ≡ self.old) }
     {
-        self.updates.reserve(1)?;
-        self.label_names.reserve()?;
-        let label = Vec::from_slice(alloc, update.label.as_slice())?;
-        let curator = Vec::from_slice(alloc, update.curator.as_slice())?;
-        self.curator_names.note(curator)?;
-        self.label_names.note(label)?;
+        if let Err(memory) = self.updates.reserve(1) {
+            drop(update);
+            return Err(memory.into());
+        }
+        let names = note(
+            alloc,
+            &mut self.label_names,
+            &mut self.curator_names,
+            &update,
+        );
+        if let Err(memory) = names {
+            drop(update);
+            return Err(memory);
+        }
         self.updates.push(SessionUpdate {
             update,
             answers: List::new(alloc),
@@ -132,4 +140,26 @@ impl Updates {
         let Updates { updates, .. } = self;
         List::from_vec(updates)
     }
+}
+
+// Notes the label and the curator of the update. It is refused only for want of memory; nothing has then changed.
+fn note(
+    alloc: Global,
+    labels: &mut Names,
+    curators: &mut Names,
+    update: &Update,
+) -> Result<(), Memory>
+    ensures label { OnOk result (labels.new.items ≡
+        with_new same_name labels.old.items update.now.label.items) }
+    ensures curator { OnOk result (curators.new.items ≡
+        with_new same_name curators.old.items update.now.curator.items) }
+    ensures no_label { OnErr result (labels.new.items ≡ labels.old.items) }
+    ensures no_curator { OnErr result (curators.new.items ≡ curators.old.items) }
+{
+    labels.reserve()?;
+    let label = Vec::from_slice(alloc, update.label.as_slice())?;
+    let curator = Vec::from_slice(alloc, update.curator.as_slice())?;
+    curators.note(curator)?;
+    labels.note(label)?;
+    Ok(())
 }

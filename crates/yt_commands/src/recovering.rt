@@ -60,6 +60,14 @@ fn recovered_text(alloc: Global, recovered: &Recovered) -> Result<Vec<u8>, Memor
     Ok(text)
 }
 
+// The same of a journal that is then let go.
+fn whole_text(alloc: Global, recovered: Recovered) -> Result<Vec<u8>, Memory>
+    ensures { IfOk result (λ text. text.items ≡ recovered_text recovered.commits
+        recovered.session.schema (facts_of recovered.repository)) }
+{
+    recovered_text(alloc, &recovered)
+}
+
 // The line that tells where the bytes are damaged.
 fn damaged_line(alloc: Global, place: u64) -> Result<Vec<u8>, Memory>
     ensures { IfOk result (λ line. line.items ≡ damaged_line place) }
@@ -74,7 +82,7 @@ impl Command for Recover {
     fn run(&self, alloc: Global, input: &[u8]) -> Result<Output, Memory> {
         let mut disk = MemDisk::of(alloc, input.to_vec(alloc)?, Vec::new(alloc))?;
         match recover(alloc, &mut disk) {
-            Ok(recovered) => Ok(Output::Text(Ending::Ended, recovered_text(alloc, &recovered)?)),
+            Ok(recovered) => Ok(Output::Text(Ending::Ended, whole_text(alloc, recovered)?)),
             Err(RecoverFault::Damaged(place)) => Ok(Output::Refused(
                 Refusal::Damaged,
                 damaged_line(alloc, place)?,

@@ -243,7 +243,8 @@ fn take_commit<'a>(
 // Whether the payload is the printed form of the session, and it has no updates.
 fn is_opening(alloc: Global, session: &Session, payload: &[u8]) -> Result<bool, Memory>
     ensures yes { IfOk result (λ yes. yes ≡ true →
-        ((session_of session.now).updates ≡ []) × (payload.now ≡ printed (session_of session.now))) }
+        ((session_of session.now).updates ≡ [])
+        × (payload.now ≡ printed (session_of session.now))) }
     ensures no { IfOk result (λ yes. yes ≡ false → (session_of session.now).updates ≡ [] →
         payload.now ≡ printed (session_of session.now) → ⊥) }
 {

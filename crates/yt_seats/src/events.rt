@@ -25,12 +25,13 @@ impl Seat {
         ensures admitted { IfOk result (IsAdmitted number update.now answers.now) }
         ensures place { IfOk result (StandsAt number) }
     {
+        let inbox = queued(alloc, answers)?;
         Ok(Seat {
             program: Program::start(alloc, update, number, 0)?,
             log: ReadLog::new(alloc),
             withdrawn: false,
             answers: ChoiceList::new(alloc),
-            inbox: queued(alloc, answers)?,
+            inbox,
         })
     }
 
@@ -58,7 +59,7 @@ impl Seat {
         ensures place { KeepsPlaceBy plan self.old self.new }
     {
         let Plan { program, reads } = plan;
-        self.program = program;
+        renew(&mut self.program, program);
         take_over(&mut self.log, reads)
     }
 
@@ -96,6 +97,13 @@ impl Seat {
         self.log.clear();
         self.withdrawn = true;
     }
+}
+
+// Puts the attempt in the place of another one, which is let go. It takes no memory.
+pub(crate) fn renew(place: &mut Program, fresh: Program)
+    ensures fresh { place.new ≡ fresh }
+{
+    drop(mem::replace(place, fresh));
 }
 
 // Copies of the answers as a queue. It is refused only for want of memory.

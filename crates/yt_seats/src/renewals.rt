@@ -3,6 +3,7 @@ ghost use Rattle.std.specs.Prelude.{OnOk, OnErr};
 ghost use Rattle.yt_seats.specs.Events.{IsSame, KeepsPlace};
 ghost use Rattle.yt_seats.specs.Renewals.{HasOneMore, HasRestarted};
 
+use crate::events::renew;
 use crate::seats::Seat;
 use std::alloc::Global;
 use yt_base::Memory;
@@ -16,7 +17,8 @@ impl Seat {
         ensures place { OnOk result (KeepsPlace self.old self.new) }
         ensures err { OnErr result (IsSame self.old self.new) }
     {
-        self.program = self.program.anew(alloc)?;
+        let fresh = self.program.anew(alloc)?;
+        renew(&mut self.program, fresh);
         self.log.clear();
         Ok(())
     }

@@ -65,8 +65,14 @@ impl Draft {
             with_update (with_added self.old mapping) (unanswered update)) }
         ensures err { OnErr result (self.new ≡ self.old) }
     {
-        self.mappings.reserve(1)?;
-        self.updates.add(alloc, update)?;
+        if let Err(memory) = self.mappings.reserve(1) {
+            drop((update, mapping));
+            return Err(memory.into());
+        }
+        if let Err(memory) = self.updates.add(alloc, update) {
+            drop(mapping);
+            return Err(memory);
+        }
         if let Some(mapping) = mapping {
             self.mappings.push(mapping)?;
         }
@@ -87,22 +93,32 @@ impl Draft {
         ensures err { OnErr result (self.new ≡ self.old) }
     {
         if self.updates.has(&label) {
+            drop((curator, operation));
             return Err(TakeRefusal::Schema(SchemaRefusal::DuplicateName(label)));
         }
         if 1000 <= self.updates.len() {
+            drop((label, curator, operation));
             return Err(limit(Which::Updates));
         }
         if self.updates.curators_full(&curator) {
+            drop((label, curator, operation));
             return Err(limit(Which::Curators));
         }
-        let (operation, mapping) = self.performed(alloc, operation)?;
-        let update = Update {
-            label,
-            curator,
-            operation,
-        };
-        self.keep(alloc, update, mapping)?;
-        Ok(())
+        match self.performed(alloc, operation) {
+            Ok((operation, mapping)) => {
+                let update = Update {
+                    label,
+                    curator,
+                    operation,
+                };
+                self.keep(alloc, update, mapping)?;
+                Ok(())
+            }
+            Err(refusal) => {
+                drop((label, curator));
+                Err(refusal)
+            }
+        }
     }
 
     // An answer to a question of the update of the label.
