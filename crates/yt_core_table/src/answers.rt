@@ -1,6 +1,7 @@
 //! What is told of the answers of calls, in lines.
 use crate::events::{Refusal, Stands};
 use std::alloc::Global;
+use yt_base::Memory;
 use yt_cases::{CaseRefusal, with_entries, with_line};
 use yt_core::Core;
 use yt_entries::{Entry, Standing};
@@ -73,7 +74,12 @@ pub fn with_result(
     session: &Session,
     core: &Core<'_>,
 ) -> Result<Vec<u8>, CaseRefusal> {
-    let told = core.result(alloc)?;
-    text.extend_from_slice(result_text(alloc, session, &told)?.as_slice())?;
+    text.extend_from_slice(result_of(alloc, session, core)?.as_slice())?;
     Ok(text)
+}
+
+// What the core came to, as text.
+fn result_of(alloc: Global, session: &Session, core: &Core<'_>) -> Result<Vec<u8>, Memory> {
+    let told = core.result(alloc)?;
+    result_text(alloc, session, &told)
 }

@@ -8,13 +8,19 @@ use yt_schema::Schema;
 /// A call on a core.
 #[derive(Drop)]
 pub enum Call {
+    Make(Event),
+    Drain,
+    Ask(Asked),
+}
+
+/// A call that makes an event, or is refused.
+#[derive(Drop)]
+pub enum Event {
     Step(u32),
     Deliver(u32),
     Answer(u32, Choice),
     Withdraw(u32),
     Admit(Update),
-    Drain,
-    Ask(Asked),
 }
 
 /// What is asked of a core: how an update stands, its question, how many updates there are and how many of them are committed, and
@@ -36,9 +42,9 @@ pub fn read_call(alloc: Global, schema: &Schema, line: &str) -> Result<Call, Cas
         _ => {}
     }
     match line.split_once(' ') {
-        Some(("step", name)) => Ok(Call::Step(number_of(name, 'u')?)),
-        Some(("deliver", name)) => Ok(Call::Deliver(number_of(name, 'u')?)),
-        Some(("withdraw", name)) => Ok(Call::Withdraw(number_of(name, 'u')?)),
+        Some(("step", name)) => Ok(Call::Make(Event::Step(number_of(name, 'u')?))),
+        Some(("deliver", name)) => Ok(Call::Make(Event::Deliver(number_of(name, 'u')?))),
+        Some(("withdraw", name)) => Ok(Call::Make(Event::Withdraw(number_of(name, 'u')?))),
         Some(("standing", name)) => Ok(Call::Ask(Asked::Standing(number_of(name, 'u')?))),
         Some(("question", name)) => Ok(Call::Ask(Asked::Question(number_of(name, 'u')?))),
         _ => stated(alloc, schema, line),
@@ -50,8 +56,8 @@ fn stated(alloc: Global, schema: &Schema, line: &str) -> Result<Call, CaseRefusa
     match read_statement(alloc, schema, line)? {
         Said::Answer(label, choice) => {
             let name = std::str::from_utf8(label.as_slice())?;
-            Ok(Call::Answer(number_of(name, 'u')?, choice))
+            Ok(Call::Make(Event::Answer(number_of(name, 'u')?, choice)))
         }
-        Said::Update(update) => Ok(Call::Admit(update)),
+        Said::Update(update) => Ok(Call::Make(Event::Admit(update))),
     }
 }

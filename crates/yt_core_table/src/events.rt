@@ -1,4 +1,5 @@
 //! The calls that may make an event, and why they are refused. For want of memory the core is as it was, and its program ends.
+use crate::calls::Event;
 use std::alloc::Global;
 use std::fmt;
 use yt_base::{Choice, Update};
@@ -20,12 +21,8 @@ pub enum Refusal {
     Full,
 }
 
-/// Makes a step; None where it was made.
-pub fn step(
-    alloc: Global,
-    core: &mut Core<'_>,
-    update: u32,
-) -> Result<Option<Refusal>, CaseRefusal> {
+// Makes a step; None where it was made.
+fn step(alloc: Global, core: &mut Core<'_>, update: u32) -> Result<Option<Refusal>, CaseRefusal> {
     match core.step(alloc, update) {
         Ok(_) => Ok(None),
         Err(StepRefusal::NoSuchUpdate) => Ok(Some(Refusal::NoSuchUpdate)),
@@ -34,8 +31,8 @@ pub fn step(
     }
 }
 
-/// Delivers an answer; None where it was delivered.
-pub fn deliver(core: &mut Core<'_>, update: u32) -> Result<Option<Refusal>, CaseRefusal> {
+// Delivers an answer; None where it was delivered.
+fn deliver(core: &mut Core<'_>, update: u32) -> Result<Option<Refusal>, CaseRefusal> {
     match core.deliver(update) {
         Ok(_) => Ok(None),
         Err(DeliverRefusal::NoSuchUpdate) => Ok(Some(Refusal::NoSuchUpdate)),
@@ -45,8 +42,8 @@ pub fn deliver(core: &mut Core<'_>, update: u32) -> Result<Option<Refusal>, Case
     }
 }
 
-/// Answers a question; None where it was answered.
-pub fn answer(
+// Answers a question; None where it was answered.
+fn answer(
     alloc: Global,
     core: &mut Core<'_>,
     update: u32,
@@ -54,15 +51,22 @@ pub fn answer(
 ) -> Result<Option<Refusal>, CaseRefusal> {
     match core.answer(alloc, update, choice) {
         Ok(_) => Ok(None),
-        Err((AnswerRefusal::NoSuchUpdate, _)) => Ok(Some(Refusal::NoSuchUpdate)),
-        Err((AnswerRefusal::NotPaused(standing), _)) => Ok(Some(Refusal::NotPaused(standing))),
-        Err((AnswerRefusal::Misfit, _)) => Ok(Some(Refusal::Misfit)),
-        Err((AnswerRefusal::Memory, _)) => Err(CaseRefusal::Memory),
+        Err((refusal, _)) => not_answered(refusal),
     }
 }
 
-/// Withdraws an update; None where it was withdrawn.
-pub fn withdraw(
+// Why a question was not answered.
+fn not_answered(refusal: AnswerRefusal) -> Result<Option<Refusal>, CaseRefusal> {
+    match refusal {
+        AnswerRefusal::NoSuchUpdate => Ok(Some(Refusal::NoSuchUpdate)),
+        AnswerRefusal::NotPaused(standing) => Ok(Some(Refusal::NotPaused(standing))),
+        AnswerRefusal::Misfit => Ok(Some(Refusal::Misfit)),
+        AnswerRefusal::Memory => Err(CaseRefusal::Memory),
+    }
+}
+
+// Withdraws an update; None where it was withdrawn.
+fn withdraw(
     alloc: Global,
     core: &mut Core<'_>,
     update: u32,
@@ -76,16 +80,38 @@ pub fn withdraw(
     }
 }
 
-/// Admits an update; None where it was admitted.
-pub fn admit(
+// Admits an update; None where it was admitted.
+fn admit(
     alloc: Global,
     core: &mut Core<'_>,
     update: Update,
 ) -> Result<Option<Refusal>, CaseRefusal> {
     match core.admit(alloc, update) {
         Ok(_) => Ok(None),
-        Err((AdmitRefusal::Full, _)) => Ok(Some(Refusal::Full)),
-        Err((AdmitRefusal::Memory, _)) => Err(CaseRefusal::Memory),
+        Err((refusal, _)) => not_admitted(refusal),
+    }
+}
+
+// Why an update was not admitted.
+fn not_admitted(refusal: AdmitRefusal) -> Result<Option<Refusal>, CaseRefusal> {
+    match refusal {
+        AdmitRefusal::Full => Ok(Some(Refusal::Full)),
+        AdmitRefusal::Memory => Err(CaseRefusal::Memory),
+    }
+}
+
+/// Makes the event; None where it was made.
+pub fn make(
+    alloc: Global,
+    core: &mut Core<'_>,
+    event: Event,
+) -> Result<Option<Refusal>, CaseRefusal> {
+    match event {
+        Event::Step(update) => step(alloc, core, update),
+        Event::Deliver(update) => deliver(core, update),
+        Event::Answer(update, choice) => answer(alloc, core, update, choice),
+        Event::Withdraw(update) => withdraw(alloc, core, update),
+        Event::Admit(update) => admit(alloc, core, update),
     }
 }
 

@@ -16,21 +16,36 @@ mod making;
 mod statements;
 
 use crate::making::told;
-use yt_cases::{Case, tell};
-use yt_text::StdSink;
+use std::alloc::Global;
+use yt_cases::{Case, CaseRefusal, tell};
+use yt_text::{Sink, StdSink};
+
+// Tells what the calls of the case answer, and begins the next case.
+fn finish<O: Sink>(alloc: Global, out: &mut O, case: &mut Case) -> Result<(), CaseRefusal> {
+    let text = told(alloc, case)?;
+    *case = Case::new(alloc);
+    tell(out, text.as_slice())
+}
+
+// Takes a line of the input.
+fn take<O: Sink>(
+    alloc: Global,
+    out: &mut O,
+    case: &mut Case,
+    line: String,
+) -> Result<(), CaseRefusal> {
+    if line.as_str() == "done" {
+        return finish(alloc, out, case);
+    }
+    case.take(line)
+}
 
 fn main(rt: HostRuntime) -> anyhow::Result<()> {
     let alloc = rt.alloc();
     let mut out = StdSink::new(rt.stdout());
     let mut case = Case::new(alloc);
     for line in rt.lines(alloc) {
-        let line = line?;
-        if line.as_str() == "done" {
-            tell(&mut out, told(alloc, &case)?.as_slice())?;
-            case = Case::new(alloc);
-        } else {
-            case.take(line)?;
-        }
+        take(alloc, &mut out, &mut case, line?)?;
     }
     Ok(())
 }

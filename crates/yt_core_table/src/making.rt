@@ -1,12 +1,18 @@
 //! The calls of a case, made on a core.
+ghost use Rattle.std.specs.Prelude.{◌≤◌};
+ghost use Rattle.yt_grammar.specs.Validity.{IsSession};
+ghost use Rattle.yt_session.specs.Meanings.{session_of};
+
 use crate::answers::{
     with_counts, with_last, with_question, with_refusal, with_result, with_standing,
 };
-use crate::calls::{Asked, Call, read_call};
-use crate::events::{admit, answer, deliver, step, withdraw};
+use crate::calls::{Asked, Call, Event, read_call};
+use crate::events::make;
 use std::alloc::Global;
 use yt_cases::{Case, CaseRefusal, with_entries, with_line};
 use yt_core::Core;
+use yt_limits::Budget;
+use yt_queue::Settings;
 use yt_session::Session;
 
 /// What the calls of the case answer, in lines. It is refused where the case is not spelled as it should be, and for want of
@@ -14,10 +20,34 @@ use yt_session::Session;
 pub fn told(alloc: Global, case: &Case) -> Result<Vec<u8>, CaseRefusal> {
     let (budget, settings) = case.settings()?;
     let session = case.session(alloc)?;
-    let mut core = Core::open(alloc, &session, settings, budget)?;
+    told_over(alloc, &session, settings, budget, case.calls())
+}
+
+// What the calls on the core of the session answer.
+fn told_over(
+    alloc: Global,
+    session: &Session,
+    settings: Settings,
+    budget: Budget,
+    calls: &[String],
+) -> Result<Vec<u8>, CaseRefusal>
+    requires valid { IsSession (session_of session.now) }
+    requires retries { settings.retries ≤ 4 }
+{
+    let mut core = Core::open(alloc, session, settings, budget)?;
+    told_by(alloc, session, &mut core, calls)
+}
+
+// What the calls on the core answer.
+fn told_by(
+    alloc: Global,
+    session: &Session,
+    core: &mut Core<'_>,
+    calls: &[String],
+) -> Result<Vec<u8>, CaseRefusal> {
     let mut text = Vec::new(alloc);
-    for line in case.calls() {
-        text = with_told(alloc, text, &session, &mut core, line.as_str())?;
+    for line in calls {
+        text = with_told(alloc, text, session, core, line.as_str())?;
     }
     Ok(text)
 }
@@ -45,16 +75,22 @@ fn with_answer(
     core: &mut Core<'_>,
     call: Call,
 ) -> Result<Vec<u8>, CaseRefusal> {
-    let refused = match call {
-        Call::Step(update) => step(alloc, core, update)?,
-        Call::Deliver(update) => deliver(core, update)?,
-        Call::Answer(update, choice) => answer(alloc, core, update, choice)?,
-        Call::Withdraw(update) => withdraw(alloc, core, update)?,
-        Call::Admit(update) => admit(alloc, core, update)?,
-        Call::Drain => return drained(alloc, text, session, core),
-        Call::Ask(question) => return told_of(alloc, text, session, core, question),
-    };
-    match refused {
+    match call {
+        Call::Make(event) => with_event(alloc, text, session, core, event),
+        Call::Drain => drained(alloc, text, session, core),
+        Call::Ask(question) => told_of(alloc, text, session, core, question),
+    }
+}
+
+// Makes the event, and adds its line, or why it is refused.
+fn with_event(
+    alloc: Global,
+    text: Vec<u8>,
+    session: &Session,
+    core: &mut Core<'_>,
+    event: Event,
+) -> Result<Vec<u8>, CaseRefusal> {
+    match make(alloc, core, event)? {
         Some(refusal) => with_refusal(alloc, text, refusal),
         None => with_last(alloc, text, &session.schema, core.history()),
     }
