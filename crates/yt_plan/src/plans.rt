@@ -14,7 +14,7 @@ ghost use Rattle.yt_program.specs.Wishes.{wish};
 ghost use Rattle.yt_plan.specs.Planned.{at_rest, HasSettled, WantsStep, next_attempt, next_reads, read_after};
 
 use std::alloc::Global;
-use yt_base::{Choice, Direction, Facts, Memory, TryCopy};
+use yt_base::{Choice, Direction, FORCE_RELATION, Facts, Memory, TryCopy};
 use yt_eval::{AppliedView, Settled};
 use yt_limits::{Budget, Mappings};
 use yt_program::{Program, Want};
@@ -96,7 +96,7 @@ fn take_step<F: Facts>(
         (option_map choice_of (option_copied choice.entry))) }
 {
     // The set tells that it is in order.
-    let _ = below.beyond(None);
+    let _ = below.first(FORCE_RELATION);
     let own = program.own();
     let view = AppliedView::new(below, with, own);
     begin(alloc, after, choice, mappings, budget)?;

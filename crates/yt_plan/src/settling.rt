@@ -15,8 +15,8 @@ use yt_eval::Settled;
 use yt_program::Program;
 use yt_query::{Answer, LoggedRead};
 
-/// The mappings of which the last reads of the attempt tell that its writes have caused no violation, but for those to
-/// which a write since then may have given one. That is so over any tuples over which its reads are valid, as they are
+/// The mappings of which the last reads of the attempt tell that its writes have caused no violation, and before its first write
+/// all of them, but for those to which a write since then may have given one. That is so over any tuples over which its reads are valid, as they are
 /// over what lies below an update at any moment of a history. It is refused only for want of memory.
 pub fn settled_by(
     alloc: Global,
@@ -28,12 +28,32 @@ pub fn settled_by(
         AreValidOver (rules_in mappings.now) D program.now.attempt (map read_of log.now) →
         HasSettled (rules_in mappings.now) D program.now.attempt settled) }
 {
-    let mut settled = Settled::none(alloc, mappings.len())?;
-    let Some(last) = log.last() else {
+    let made = made_before(log);
+    let mut settled = begun(alloc, mappings, made)?;
+    learn_last(&mut settled, log, made);
+    settled.stir_all(mappings, since(program.own().as_slice(), made));
+    Ok(settled)
+}
+
+// How many writes had been made before the last reads; none where nothing was read.
+fn made_before(log: &[LoggedRead]) -> u64 {
+    match log.last() {
+        Some(last) => last.own,
+        None => 0,
+    }
+}
+
+// The marks to begin with, where so many writes had been made: before the first of them no mapping has a violation that they
+// caused, and of later ones nothing is known. It is refused only for want of memory.
+fn begun(alloc: Global, mappings: &MappingList, made: u64) -> Result<Settled, Memory>
+    ensures begun { IfOk result (λ settled. (D : List Fact) (P : Attempt) →
+        HasSettledBy made (rules_in mappings.now) D P settled) }
+{
+    if made == 0 {
+        let settled = Settled::all(alloc, mappings.len())?;
         return Ok(settled);
-    };
-    learn_last(&mut settled, log, last.own);
-    settled.stir_all(mappings, since(program.own().as_slice(), last.own));
+    }
+    let settled = Settled::none(alloc, mappings.len())?;
     Ok(settled)
 }
 
