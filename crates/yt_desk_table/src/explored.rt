@@ -4,7 +4,7 @@ ghost use Rattle.yt_grammar.specs.Validity.{IsSession};
 ghost use Rattle.yt_session.specs.Meanings.{session_of};
 
 use crate::paths::Path;
-use crate::played::{end_text, ended};
+use crate::played::end_of;
 use std::alloc::Global;
 use std::collections::BTreeSet;
 use std::sync::Wait;
@@ -56,8 +56,7 @@ pub fn explored<R: Wait>(
     let mut ends = BTreeSet::new(alloc);
     let mut made = 0;
     for number in 0..extent.most {
-        let core = ended(rt, alloc, session, settings, budget, &mut path)?;
-        ends.insert(end_text(alloc, session, &core)?)?;
+        ends.insert(end_of(rt, alloc, session, settings, budget, &mut path)?)?;
         made = number;
         if !path.advance()? {
             break;

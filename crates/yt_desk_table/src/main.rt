@@ -15,21 +15,43 @@ mod played;
 mod scripts;
 
 use crate::played::told;
-use yt_cases::{Case, tell};
-use yt_text::StdSink;
+use std::alloc::Global;
+use std::sync::Wait;
+use yt_cases::{Case, CaseRefusal, tell};
+use yt_text::{Sink, StdSink};
+
+// Tells what the case tells, and begins the next one.
+fn finish<R: Wait, O: Sink>(
+    rt: &R,
+    alloc: Global,
+    out: &mut O,
+    case: &mut Case,
+) -> Result<(), CaseRefusal> {
+    let text = told(rt, alloc, case)?;
+    *case = Case::new(alloc);
+    tell(out, text.as_slice())
+}
+
+// Takes a line of the input.
+fn take<R: Wait, O: Sink>(
+    rt: &R,
+    alloc: Global,
+    out: &mut O,
+    case: &mut Case,
+    line: String,
+) -> Result<(), CaseRefusal> {
+    if line.as_str() == "done" {
+        return finish(rt, alloc, out, case);
+    }
+    case.take(line)
+}
 
 fn main(rt: HostRuntime) -> anyhow::Result<()> {
     let alloc = rt.alloc();
     let mut out = StdSink::new(rt.stdout());
     let mut case = Case::new(alloc);
     for line in rt.lines(alloc) {
-        let line = line?;
-        if line.as_str() == "done" {
-            tell(&mut out, told(&rt, alloc, &case)?.as_slice())?;
-            case = Case::new(alloc);
-        } else {
-            case.take(line)?;
-        }
+        take(&rt, alloc, &mut out, &mut case, line?)?;
     }
     Ok(())
 }

@@ -7,6 +7,7 @@ use crate::explored::{Extent, explored};
 use crate::scripts::{Script, read_script};
 use std::alloc::Global;
 use std::sync::Wait;
+use yt_base::Memory;
 use yt_cases::{Case, CaseRefusal};
 use yt_core::Core;
 use yt_limits::Budget;
@@ -20,20 +21,56 @@ use yt_trace::trace_text;
 
 /// What the case tells, in lines. It is refused where the case is not spelled as it should be, and for want of memory.
 pub fn told<R: Wait>(rt: &R, alloc: Global, case: &Case) -> Result<Vec<u8>, CaseRefusal> {
-    let session = case.session(alloc)?;
     let (budget, settings) = case.settings()?;
-    if let [call] = case.calls() {
-        if let Some(extent) = Extent::read(call.as_str())? {
-            return explored(rt, alloc, &session, settings, budget, extent);
-        }
+    let session = case.session(alloc)?;
+    told_over(rt, alloc, &session, settings, budget, case.calls())
+}
+
+// What the lines tell of a desk over the session.
+fn told_over<R: Wait>(
+    rt: &R,
+    alloc: Global,
+    session: &Session,
+    settings: Settings,
+    budget: Budget,
+    lines: &[String],
+) -> Result<Vec<u8>, CaseRefusal>
+    requires valid { IsSession (session_of session.now) }
+    requires retries { settings.retries ≤ 4 }
+{
+    match extent_in(lines)? {
+        Some(extent) => explored(rt, alloc, session, settings, budget, extent),
+        None => scripted(rt, alloc, session, settings, budget, lines),
     }
-    let mut script = read_script(alloc, case.calls())?;
-    let core = ended(rt, alloc, &session, settings, budget, &mut script)?;
+}
+
+// The extent, where the one line says that the desk is to be explored.
+fn extent_in(lines: &[String]) -> Result<Option<Extent>, CaseRefusal> {
+    match lines {
+        [line] => Extent::read(line.as_str()),
+        _ => Ok(None),
+    }
+}
+
+// What the seats are told that come as the lines say.
+fn scripted<R: Wait>(
+    rt: &R,
+    alloc: Global,
+    session: &Session,
+    settings: Settings,
+    budget: Budget,
+    lines: &[String],
+) -> Result<Vec<u8>, CaseRefusal>
+    requires valid { IsSession (session_of session.now) }
+    requires retries { settings.retries ≤ 4 }
+{
+    let mut script = read_script(alloc, lines)?;
+    let core = ended(rt, alloc, session, settings, budget, &mut script)?;
     script.told(alloc, &session.schema, core.history())
 }
 
-/// The core of the session, as the desk over it gives it back once its seats came as the lead says.
-pub fn ended<'s, R: Wait, L: Lead>(
+// The core of the session, as the desk over it gives it back once its seats came as the lead says.
+fn ended<'s, R: Wait, L: Lead>(
     rt: &R,
     alloc: Global,
     session: &'s Session,
@@ -51,14 +88,39 @@ pub fn ended<'s, R: Wait, L: Lead>(
     let core = seated.into_core();
     match result {
         Ok(()) => Ok(core),
-        Err(refusal) => Err(refusal),
+        Err(refusal) => {
+            drop(core);
+            Err(refusal)
+        }
     }
 }
 
-/// What the core came to, and its trace.
-pub fn end_text(alloc: Global, session: &Session, core: &Core<'_>) -> Result<Vec<u8>, CaseRefusal> {
-    let mut text = result_text(alloc, session, &core.result(alloc)?)?;
+/// What the core of the session came to once its seats came as the lead says, and its trace.
+pub fn end_of<R: Wait, L: Lead>(
+    rt: &R,
+    alloc: Global,
+    session: &Session,
+    settings: Settings,
+    budget: Budget,
+    lead: &mut L,
+) -> Result<Vec<u8>, CaseRefusal>
+    requires valid { IsSession (session_of session.now) }
+    requires retries { settings.retries ≤ 4 }
+{
+    let core = ended(rt, alloc, session, settings, budget, lead)?;
+    end_text(alloc, session, &core)
+}
+
+// What the core came to, and its trace.
+fn end_text(alloc: Global, session: &Session, core: &Core<'_>) -> Result<Vec<u8>, CaseRefusal> {
+    let mut text = result_of(alloc, session, core)?;
     let trace = trace_text(alloc, &session.schema, core.history())?;
     text.extend_from_slice(trace.as_slice())?;
     Ok(text)
+}
+
+// What the core came to.
+fn result_of(alloc: Global, session: &Session, core: &Core<'_>) -> Result<Vec<u8>, Memory> {
+    let told = core.result(alloc)?;
+    result_text(alloc, session, &told)
 }
