@@ -1,5 +1,4 @@
 pub mod Adapters
 pub mod Faults
-pub mod InMemory
 pub mod Reading
 pub mod Writing

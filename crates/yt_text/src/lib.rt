@@ -6,13 +6,9 @@
 
 mod adapters;
 mod devices;
-mod mem_sink;
-mod mem_source;
 mod whole;
 
 pub use adapters::{StdSink, StdSource};
 pub use devices::{Failed, Sink, Source};
-pub use mem_sink::MemSink;
-pub use mem_source::MemSource;
 pub use whole::{ReadRefusal, WriteFault, read_all, write_all};
 pub use yt_memory::Memory;
