@@ -1,4 +1,5 @@
-//! The columns of one relation: for each, the tuples by their value in it. Each column holds its own copies.
+//! The columns of one relation: for each, the tuples by their value in it, which is found by its hash. Each column holds its own
+//! copies.
 ghost use Rattle.std.specs.Map.{lookup};
 ghost use Rattle.std.specs.Prelude.{◌≡◌, ◌↔◌, ℕ, not, ◌&&◌, ◌||◌, ◌<◌, length, unwrap_or, [], Some, IsTrue, IfSome, OnOk, OnErr};
 ghost use Rattle.std.specs.Option.{option_copied};
@@ -9,11 +10,11 @@ ghost use Rattle.yt_facts.specs.Indexes.{group_in, group_at, AreSame, AddsAtMost
 
 use crate::group::Group;
 use std::alloc::Global;
-use std::collections::BTreeMap;
+use std::collections::HashMap;
 use yt_base::{Facts, Memory, TryCopy, Tuple, Value};
 
 /// The tuples by their value in one column.
-pub type Groups = BTreeMap<Value, Group>;
+pub type Groups = HashMap<Value, Group>;
 
 /// The tuples that the column keeps at the value, if there is such a column and such a value in it.
 pub fn group<'a>(columns: &'a Vec<Groups>, column: usize, value: &Value) -> Option<&'a Group>
@@ -77,7 +78,7 @@ fn reach(columns: &mut Vec<Groups>, alloc: Global, column: usize) -> Result<(), 
     ensures there { OnOk result (column < length columns.new.items) }
 {
     while columns.len() <= column {
-        columns.push(BTreeMap::new(alloc))?;
+        columns.push(HashMap::new(alloc))?;
     }
     Ok(())
 }

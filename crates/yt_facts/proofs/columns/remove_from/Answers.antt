@@ -1,9 +1,8 @@
 use Rattle.std.proofs.Common.{Some, List, rules, subst, sym}
-use Rattle.std.specs.BTreeMap.{BTreeMap}
 use Rattle.yt_model.specs.Values.{Fact}
 use Rattle.yt_base.specs.Meanings.{fact_of, datum_of}
 use Rattle.yt_base.specs.declared.values.Value.{Value}
-use Rattle.yt_facts.specs.Indexes.{Drops}
+use Rattle.yt_facts.specs.Indexes.{Kept, Drops}
 use Rattle.yt_facts.proofs.Groups.{group_drops, left_in_group, nothing_drops}
 use Rattle.yt_facts.proofs.columns.remove_from.Goals as goal
 
@@ -19,6 +18,6 @@ returns-in-Some c =
 
 pub returns-in-None : goal.returns-in-None
 returns-in-None c = record {
-  dropped = subst (λ (n : BTreeMap Value (List Fact)). Drops (datum_of c.args.value.now) (fact_of c.args.tuple.now) c.args.groups.now n) (sym c.get_mut.follows.holds-at-none)
+  dropped = subst (λ (n : Kept). Drops (datum_of c.args.value.now) (fact_of c.args.tuple.now) c.args.groups.now n) (sym c.get_mut.follows.holds-at-none)
       (nothing_drops c.args.groups.now c.args.value.now (fact_of c.args.tuple.now) c.in-None.ensures.value);
 }
