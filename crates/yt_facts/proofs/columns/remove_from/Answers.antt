@@ -1,7 +1,5 @@
-use Rattle.std.proofs.Common.{Some, List, rules, subst, sym}
-use Rattle.yt_model.specs.Values.{Fact}
+use Rattle.std.proofs.Common.{Some, rules, subst, sym}
 use Rattle.yt_base.specs.Meanings.{fact_of, datum_of}
-use Rattle.yt_base.specs.declared.values.Value.{Value}
 use Rattle.yt_facts.specs.Indexes.{Kept, Drops}
 use Rattle.yt_facts.proofs.Groups.{group_drops, left_in_group, nothing_drops}
 use Rattle.yt_facts.proofs.columns.remove_from.Goals as goal
