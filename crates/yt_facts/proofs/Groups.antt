@@ -1,11 +1,12 @@
 -- What a write of one group makes of its column.
-use Rattle.std.proofs.Common.{◌≡◌, ap, refl, sym, ◌∙◌, subst, List, [], Bool, true, false, ◌&&◌, ◌||◌, not, cond, Option, Some, None}
+use Rattle.std.proofs.Common.{◌≡◌, ℕ, ap, refl, sym, ◌∙◌, subst, List, [], ◌∷◌, length, suc-ne-zero, Bool, true, false, ◌&&◌, ◌||◌, not, cond, Option, Some, None}
 use Rattle.std.specs.HashMap.{get}
 use Rattle.std.specs.Cmp.{Equal-is}
-use Rattle.std.specs.Prelude.{unwrap_or, Result, Ok, Err, OnOk, OnErr}
+use Rattle.std.specs.Prelude.{◌↔◌, ◌==◌, IsTrue, unwrap_or, Result, Ok, Err, OnOk, OnErr}
+use Rattle.std.proofs.lemmas.Bool.{eqb-true}
 use Rattle.yt_model.specs.Values.{Datum, Number, Text, Unknown, Fact, same_fact, same_datum, datum_cmp}
 use Rattle.yt_model.specs.Repository.{has, change, Insert, Delete}
-use Rattle.yt_model.proofs.Bools.{and-true}
+use Rattle.yt_model.proofs.Bools.{and-true, differ, none_some, some_same}
 use Rattle.yt_model.proofs.Order.{datum_exact}
 use Rattle.yt_model.proofs.Sets.{has-insert, has-delete}
 use Rattle.yt_model.proofs.Unified.{swapped}
@@ -121,3 +122,15 @@ drops_twice v t l m n h k d u = k d u ∙ ap (λ b. b && not (same_datum d v && 
     once true true = refl
     once true false = refl
     once false b = refl
+
+-- A group has no tuple exactly where it is empty.
+pub is_emptied : (w : List Fact) (n : ℕ) (o : Option (List Fact)) → n ≡ length w → o ≡ Some w → IsTrue (n == 0) ↔ (o ≡ Some [])
+is_emptied [] n o e f = (λ h. f, λ g. ap (λ k. k == 0) e)
+is_emptied (u ∷ w) n o e f = (λ h. absurd (suc-ne-zero (length w) (sym e ∙ eqb-true n 0 h)), λ g. absurd (empty (some_same (u ∷ w) [] (sym f ∙ g))))
+  where
+    empty : u ∷ w ≡ [] → ⊥
+    empty h = suc-ne-zero (length w) (ap length h)
+
+-- Where there is no group none is empty.
+pub not_emptied : (o p : Option (List Fact)) → o ≡ p → None ≡ p → IsTrue false ↔ (o ≡ Some [])
+not_emptied o p e n = (λ h. differ h, λ g. absurd (none_some [] (n ∙ sym e ∙ g)))

@@ -123,30 +123,22 @@ fn take_out(groups: &mut Groups, value: &Value, tuple: &Tuple)
     ensures vacant { IfSome (lookup (λ k. same_datum (datum_of value.now) (datum_of k))
         groups.new.entries) (λ group. group ≡ [] → ⊥) }
 {
-    remove_from(groups, value, tuple);
-    if is_vacant(groups.get(value)) {
+    if empties(groups, value, tuple) {
         groups.remove(value);
     }
 }
 
-// Takes the tuple out of the group of the value.
-fn remove_from(groups: &mut Groups, value: &Value, tuple: &Tuple)
+// Takes the tuple out of the group of the value, and tells whether there is then a group without a tuple.
+fn empties(groups: &mut Groups, value: &Value, tuple: &Tuple) -> bool
     ensures dropped { Drops (datum_of value.now) (fact_of tuple.now) groups.old groups.new }
+    ensures vacant { IsTrue result ↔ (lookup (λ k. same_datum (datum_of value.now) (datum_of k))
+        groups.new.entries ≡ Some []) }
 {
     match groups.get_mut(value) {
         Some(group) => {
             group.remove(tuple);
+            group.len() == 0
         }
-        None => {}
-    }
-}
-
-// Whether there is a group, without a tuple.
-fn is_vacant(group: Option<&Group>) -> bool
-    ensures vacant { IsTrue result ↔ (option_copied group.entry ≡ Some []) }
-{
-    match group {
-        Some(group) => group.len() == 0,
         None => false,
     }
 }
