@@ -4,3 +4,4 @@ pub mod Maps
 pub mod Candidates
 pub mod Contents
 pub mod Held
+pub mod Hashed

@@ -1,16 +1,19 @@
-//! Values, their order, and their copies.
+//! Values, their order, their hashes, and their copies.
 ghost use Rattle.std.specs.Prelude.{◌≡◌, refl, IfOk};
+ghost use Rattle.std.proofs.Common.{ap};
 ghost use Rattle.std.specs.Ordering.{on, as_partial_cmp, eq_by_cmp};
-ghost use Rattle.std.specs.Cmp.{on_total, eq_by_cmp_equiv, partial_equiv_from_equiv, po};
+ghost use Rattle.std.specs.Cmp.{Equal-is, on_total, eq_by_cmp_equiv, partial_equiv_from_equiv, po};
 ghost use Rattle.yt_model.specs.Values.{Datum, datum_cmp};
 ghost use Rattle.yt_base.specs.Meanings.{datum_of};
-ghost use Rattle.yt_model.proofs.Order.{datum_total};
+ghost use Rattle.yt_base.specs.Hashed.{fed_of};
+ghost use Rattle.yt_model.proofs.Order.{datum_exact, datum_total};
 
 use crate::copying::TryCopy;
 use crate::lists::Word;
 use crate::nulls::Null;
 use std::alloc::Global;
 use std::cmp::Ordering;
+use std::hash::{Hash, Hasher};
 use yt_memory::Memory;
 
 /// A value: a number, a word, or a labelled null. Numbers come before words, and words, by their bytes, before
@@ -28,7 +31,12 @@ impl PartialEq for Value {
     ghost laws = { partial_equiv_from_equiv (eq_by_cmp_equiv (on_total datum_of datum_total)) };
 
     fn eq(&self, other: &Value) -> bool {
-        self.cmp(other).is_eq()
+        match (self, other) {
+            (Value::Int(i), Value::Int(j)) => i == j,
+            (Value::Word(v), Value::Word(w)) => v == w,
+            (Value::Null(m), Value::Null(n)) => m == n,
+            _ => false,
+        }
     }
 }
 
@@ -66,6 +74,23 @@ impl Ord for Value {
             (Value::Null(_), Value::Int(_)) => Ordering::Greater,
             (Value::Null(_), Value::Word(_)) => Ordering::Greater,
             (Value::Null(m), Value::Null(n)) => m.cmp(n),
+        }
+    }
+}
+
+impl Hash for Value {
+    ghost hash_input = { λ v. fed_of (datum_of v) };
+
+    ghost respects_eq = { λ v w e. ap fed_of (datum_exact (datum_of v) (datum_of w) ((Equal-is (datum_cmp (datum_of v) (datum_of w))).0 e)) };
+
+    fn hash<H: Hasher>(&self, state: &mut H) {
+        match self {
+            Value::Int(number) => state.write_i64(*number),
+            Value::Word(word) => state.write(word.as_slice()),
+            Value::Null(null) => {
+                state.write_u32(null.update);
+                state.write_u32(null.place);
+            }
         }
     }
 }

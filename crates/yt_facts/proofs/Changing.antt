@@ -1,7 +1,6 @@
 -- What a write of one column makes of all columns, and what a write of each column of a tuple makes of them.
 use Rattle.std.proofs.Common.{◌≡◌, ℕ, zero, suc, ◌+◌, ◌<◌, ◌≤◌, length, get_or, arith, ap, refl, sym, ◌∙◌, subst, List, [], ◌∷◌, ◌++◌, map, Bool, true, false, ◌&&◌, ◌||◌, not, Some, None, inl, inr}
 use Rattle.std.proofs.Math.ListN.{set}
-use Rattle.std.specs.BTreeMap.{BTreeMap}
 use Rattle.std.specs.Map.{lookup}
 use Rattle.std.specs.Prelude.{slice_get, unwrap_or}
 use Rattle.std.proofs.lemmas.Bool.{cases_eq, cases_lt}
@@ -11,10 +10,10 @@ use Rattle.yt_model.specs.Cursors.{has_at, is_datum}
 use Rattle.yt_model.proofs.Bools.{none_some, some_same}
 use Rattle.yt_base.specs.Meanings.{datum_of}
 use Rattle.yt_base.specs.declared.values.Value.{Value}
-use Rattle.yt_facts.specs.Indexes.{group_in, group_at, AreSame, AddsAtMost}
+use Rattle.yt_facts.specs.Indexes.{Kept, group_in, group_at, AreSame, AddsAtMost}
 
 -- A further column without a group keeps nothing.
-pub appended : (ms : List (BTreeMap Value (List Fact))) (n : BTreeMap Value (List Fact)) → n.entries ≡ [] → AreSame ms (ms ++ n ∷ [])
+pub appended : (ms : List Kept) (n : Kept) → n.entries ≡ [] → AreSame ms (ms ++ n ∷ [])
 appended [] n e zero d = ap (λ (es : List (Value × List Fact)). unwrap_or (lookup (λ k. same_datum d (datum_of k)) es) []) e
 appended [] n e (suc c) d = refl
 appended (m ∷ ms) n e zero d = refl
@@ -22,7 +21,7 @@ appended (m ∷ ms) n e (suc c) d = appended ms n e c d
 
 -- ---- one column
 
-pub set_other : (ms : List (BTreeMap Value (List Fact))) (i c : ℕ) (n : BTreeMap Value (List Fact)) (d : Datum) → (c ≡ i → ⊥) → group_at (set ms i n) c d ≡ group_at ms c d
+pub set_other : (ms : List Kept) (i c : ℕ) (n : Kept) (d : Datum) → (c ≡ i → ⊥) → group_at (set ms i n) c d ≡ group_at ms c d
 set_other [] i c n d h = refl
 set_other (x ∷ ms) zero zero n d h = absurd (h refl)
 set_other (x ∷ ms) zero (suc c) n d h = refl
@@ -30,23 +29,23 @@ set_other (x ∷ ms) (suc i) zero n d h = refl
 set_other (x ∷ ms) (suc i) (suc c) n d h = set_other ms i c n d (λ e. h (ap (λ (k : ℕ). suc k) e))
 
 -- A column that is put in place of one that keeps the same.
-pub set_same : (ms : List (BTreeMap Value (List Fact))) (i : ℕ) (m n : BTreeMap Value (List Fact)) → slice_get ms i ≡ Some m → ((d : Datum) → group_in n d ≡ group_in m d) → AreSame ms (set ms i n)
+pub set_same : (ms : List Kept) (i : ℕ) (m n : Kept) → slice_get ms i ≡ Some m → ((d : Datum) → group_in n d ≡ group_in m d) → AreSame ms (set ms i n)
 set_same [] i m n e k c d = refl
-set_same (x ∷ ms) zero m n e k zero d = k d ∙ ap (λ (y : BTreeMap Value (List Fact)). group_in y d) (sym (some_same x m e))
+set_same (x ∷ ms) zero m n e k zero d = k d ∙ ap (λ (y : Kept). group_in y d) (sym (some_same x m e))
 set_same (x ∷ ms) zero m n e k (suc c) d = refl
 set_same (x ∷ ms) (suc i) m n e k zero d = refl
 set_same (x ∷ ms) (suc i) m n e k (suc c) d = set_same ms i m n e k c d
 
 -- A column becomes what f makes of it and of being the tuple at the value.
-pub set_changes : (f : Bool → Bool → Bool) (ms : List (BTreeMap Value (List Fact))) (i : ℕ) (m n : BTreeMap Value (List Fact)) (v : Datum) (t : Fact) → slice_get ms i ≡ Some m
+pub set_changes : (f : Bool → Bool → Bool) (ms : List Kept) (i : ℕ) (m n : Kept) (v : Datum) (t : Fact) → slice_get ms i ≡ Some m
     → ((d : Datum) (u : Fact) → has (group_in n d) u ≡ f (has (group_in m d) u) (same_datum d v && same_fact u t))
     → (d : Datum) (u : Fact) → has (group_at (set ms i n) i d) u ≡ f (has (group_at ms i d) u) (same_datum d v && same_fact u t)
 set_changes f [] i m n v t e k d u = absurd (none_some m e)
-set_changes f (x ∷ ms) zero m n v t e k d u = k d u ∙ ap (λ (y : BTreeMap Value (List Fact)). f (has (group_in y d) u) (same_datum d v && same_fact u t)) (sym (some_same x m e))
+set_changes f (x ∷ ms) zero m n v t e k d u = k d u ∙ ap (λ (y : Kept). f (has (group_in y d) u) (same_datum d v && same_fact u t)) (sym (some_same x m e))
 set_changes f (x ∷ ms) (suc i) m n v t e k d u = set_changes f ms i m n v t e k d u
 
 -- Past the last column nothing has to go.
-pub past_drops : (ms : List (BTreeMap Value (List Fact))) (i : ℕ) (v : Datum) (t : Fact) → slice_get ms i ≡ None → (d : Datum) (u : Fact) → has (group_at ms i d) u ≡ (has (group_at ms i d) u && not (same_datum d v && same_fact u t))
+pub past_drops : (ms : List Kept) (i : ℕ) (v : Datum) (t : Fact) → slice_get ms i ≡ None → (d : Datum) (u : Fact) → has (group_at ms i d) u ≡ (has (group_at ms i d) u && not (same_datum d v && same_fact u t))
 past_drops [] i v t e d u = refl
 past_drops (x ∷ ms) zero v t e d u = absurd (none_some x (sym e))
 past_drops (x ∷ ms) (suc i) v t e d u = past_drops ms i v t e d u
@@ -66,16 +65,16 @@ none_past (x ∷ xs) zero d h = absurd (omega arith)
 none_past (x ∷ xs) (suc c) d h = none_past xs c d (omega arith)
 
 -- The columns below k are what f makes of them and of being the tuple where it has its values.
-abbrev pub ChangedBelow : (Bool → Bool → Bool) → ℕ → Fact → List (BTreeMap Value (List Fact)) → List (BTreeMap Value (List Fact)) → Type 0
+abbrev pub ChangedBelow : (Bool → Bool → Bool) → ℕ → Fact → List Kept → List Kept → Type 0
 ChangedBelow f k t ls ms = (c : ℕ) (d : Datum) (u : Fact) → c < k → has (group_at ms c d) u ≡ f (has (group_at ls c d) u) (has_at c d t && same_fact u t)
 
 -- The columns from k on are as they were.
-abbrev pub SameFrom : ℕ → List (BTreeMap Value (List Fact)) → List (BTreeMap Value (List Fact)) → Type 0
+abbrev pub SameFrom : ℕ → List Kept → List Kept → Type 0
 SameFrom k ls ms = (c : ℕ) (d : Datum) → k ≤ c → group_at ms c d ≡ group_at ls c d
 
-module _ (f : Bool → Bool → Bool) (t : Fact) (k : ℕ) (ls ms : List (BTreeMap Value (List Fact))) (before : ChangedBelow f k t ls ms) (after : SameFrom k ls ms) where
+module _ (f : Bool → Bool → Bool) (t : Fact) (k : ℕ) (ls ms : List Kept) (before : ChangedBelow f k t ls ms) (after : SameFrom k ls ms) where
   -- One column more is changed.
-  pub one_more : (ns : List (BTreeMap Value (List Fact))) (v : Datum) → ((d : Datum) → has_at k d t ≡ same_datum d v) → ((d : Datum) (u : Fact) → has (group_at ns k d) u ≡ f (has (group_at ms k d) u) (same_datum d v && same_fact u t))
+  pub one_more : (ns : List Kept) (v : Datum) → ((d : Datum) → has_at k d t ≡ same_datum d v) → ((d : Datum) (u : Fact) → has (group_at ns k d) u ≡ f (has (group_at ms k d) u) (same_datum d v && same_fact u t))
       → ((c : ℕ) (d : Datum) → (c ≡ k → ⊥) → group_at ns c d ≡ group_at ms c d) → ChangedBelow f (k + 1) t ls ns
   one_more ns v at here others c d u h =
       elim (cases_eq c k) [
@@ -83,7 +82,7 @@ module _ (f : Bool → Bool → Bool) (t : Fact) (k : ℕ) (ls ms : List (BTreeM
         | inr n ↦ ap (λ (G : List Fact). has G u) (others c d n) ∙ before c d u (omega (arith, h, n))
       ]
 
-  pub fewer_same : (ns : List (BTreeMap Value (List Fact))) → ((c : ℕ) (d : Datum) → (c ≡ k → ⊥) → group_at ns c d ≡ group_at ms c d) → SameFrom (k + 1) ls ns
+  pub fewer_same : (ns : List Kept) → ((c : ℕ) (d : Datum) → (c ≡ k → ⊥) → group_at ns c d ≡ group_at ms c d) → SameFrom (k + 1) ls ns
   fewer_same ns others c d h = others c d (λ e. absurd (omega (arith, h, e))) ∙ after c d (omega (arith, h))
 
   -- Past the last column of the tuple nothing had to change.
@@ -114,7 +113,7 @@ may_stay a b m e = subst (λ (x : Bool). x ≡ (a || (b && x))) (sym e) (by a b)
     by false false = refl
 
 -- Where the tuple is added to some of its columns, nothing else changes.
-pub some_added : (t : Fact) (k : ℕ) (ls ms ns : List (BTreeMap Value (List Fact))) → ChangedBelow (λ a b. a || b) k t ls ms → SameFrom k ls ms → AreSame ms ns → AddsAtMost t ls ns
+pub some_added : (t : Fact) (k : ℕ) (ls ms ns : List Kept) → ChangedBelow (λ a b. a || b) k t ls ms → SameFrom k ls ms → AreSame ms ns → AddsAtMost t ls ns
 some_added t k ls ms ns before after same c d u =
     let here = has_at c d t && same_fact u t in
     subst (λ (G : List Fact). has G u ≡ (has (group_at ls c d) u || (here && has G u))) (sym (same c d))

@@ -1,24 +1,23 @@
 -- What a write of one group makes of its column.
-use Rattle.std.proofs.Common.{◌≡◌, ap, refl, sym, ◌∙◌, subst, List, [], Bool, true, false, ◌&&◌, ◌||◌, not, cond, Option, Some, None}
-use Rattle.std.specs.BTreeMap.{BTreeMap, get}
+use Rattle.std.proofs.Common.{◌≡◌, ℕ, ap, refl, sym, ◌∙◌, subst, List, [], ◌∷◌, length, suc-ne-zero, Bool, true, false, ◌&&◌, ◌||◌, not, cond, Option, Some, None}
+use Rattle.std.specs.HashMap.{get}
 use Rattle.std.specs.Cmp.{Equal-is}
-use Rattle.std.specs.Ordering.{is_eq, on}
-use Rattle.std.specs.Prelude.{unwrap_or, Result, Ok, Err, OnOk, OnErr}
-use Rattle.std.specs.declared.cmp.Ordering.{Ordering}
+use Rattle.std.specs.Prelude.{◌↔◌, ◌==◌, IsTrue, unwrap_or, Result, Ok, Err, OnOk, OnErr}
+use Rattle.std.proofs.lemmas.Bool.{eqb-true}
 use Rattle.yt_model.specs.Values.{Datum, Number, Text, Unknown, Fact, same_fact, same_datum, datum_cmp}
 use Rattle.yt_model.specs.Repository.{has, change, Insert, Delete}
-use Rattle.yt_model.proofs.Bools.{and-true}
+use Rattle.yt_model.proofs.Bools.{and-true, differ, none_some, some_same}
 use Rattle.yt_model.proofs.Order.{datum_exact}
 use Rattle.yt_model.proofs.Sets.{has-insert, has-delete}
 use Rattle.yt_model.proofs.Unified.{swapped}
 use Rattle.yt_base.specs.Meanings.{datum_of}
 use Rattle.yt_base.specs.declared.values.Value.{Value}
 use Rattle.yt_base.specs.declared.values.Value.TheVariants.{Int, Word, Null}
-use Rattle.yt_facts.specs.Indexes.{group_in, Adds, Drops}
+use Rattle.yt_facts.specs.Indexes.{Kept, group_in, Adds, Drops}
 
--- The order of values, by what they mean.
-abbrev pub value_cmp : Value → Value → Ordering
-value_cmp = on datum_of datum_cmp
+-- Two values are the same where they mean the same.
+abbrev pub same_value : Value → Value → Bool
+same_value v w = same_datum (datum_of v) (datum_of w)
 
 -- A value that means d.
 pub value_for : (d : Datum) → (q : Value) × (datum_of q ≡ d)
@@ -46,26 +45,26 @@ held_err (Err x) p = p
 -- ---- the group that is written
 
 -- Where the group at one value becomes what f makes of it and of being the tuple, the column becomes what f makes of it and of being the tuple at the value.
-pub group_changes : (f : Bool → Bool → Bool) → ((a : Bool) → f a false ≡ a) → (m n : BTreeMap Value (List Fact)) (v : Value) (o : Option (List Fact)) (t : Fact) → ((q : Value) → get value_cmp n q ≡ cond (is_eq (value_cmp v q)) o (get value_cmp m q))
+pub group_changes : (f : Bool → Bool → Bool) → ((a : Bool) → f a false ≡ a) → (m n : Kept) (v : Value) (o : Option (List Fact)) (t : Fact) → ((q : Value) → get same_value n q ≡ cond (same_value v q) o (get same_value m q))
     → ((u : Fact) → has (unwrap_or o []) u ≡ f (has (group_in m (datum_of v)) u) (same_fact u t)) → (d : Datum) (u : Fact) → has (group_in n d) u ≡ f (has (group_in m d) u) (same_datum d (datum_of v) && same_fact u t)
 group_changes f idle m n v o t g k d u =
     let q = (value_for d).0 in
     let e : datum_of q ≡ d = (value_for d).1 in
     subst (λ (x : Datum). has (group_in n x) u ≡ f (has (group_in m x) u) (same_datum x (datum_of v) && same_fact u t)) e
-    (ap (λ (x : Option (List Fact)). has (unwrap_or x []) u) (g q) ∙ by q (is_eq (value_cmp v q)) refl ∙ ap (λ b. f (has (group_in m (datum_of q)) u) (b && same_fact u t)) (swapped (datum_of v) (datum_of q)))
+    (ap (λ (x : Option (List Fact)). has (unwrap_or x []) u) (g q) ∙ by q (same_value v q) refl ∙ ap (λ b. f (has (group_in m (datum_of q)) u) (b && same_fact u t)) (swapped (datum_of v) (datum_of q)))
   where
-    by : (q : Value) (b : Bool) → is_eq (value_cmp v q) ≡ b → has (unwrap_or (cond b o (get value_cmp m q)) []) u ≡ f (has (group_in m (datum_of q)) u) (b && same_fact u t)
+    by : (q : Value) (b : Bool) → same_value v q ≡ b → has (unwrap_or (cond b o (get same_value m q)) []) u ≡ f (has (group_in m (datum_of q)) u) (b && same_fact u t)
     by q true e = k u ∙ ap (λ (x : Datum). f (has (group_in m x) u) (same_fact u t)) (same_exact (datum_of v) (datum_of q) e)
     by q false e = sym (idle (has (group_in m (datum_of q)) u))
 
 -- Where the group at one value becomes what it is, the column stays the same.
-pub group_stays : (m n : BTreeMap Value (List Fact)) (v : Value) (w : List Fact) → ((q : Value) → get value_cmp n q ≡ cond (is_eq (value_cmp v q)) (Some w) (get value_cmp m q)) → w ≡ group_in m (datum_of v) → (d : Datum) → group_in n d ≡ group_in m d
+pub group_stays : (m n : Kept) (v : Value) (w : List Fact) → ((q : Value) → get same_value n q ≡ cond (same_value v q) (Some w) (get same_value m q)) → w ≡ group_in m (datum_of v) → (d : Datum) → group_in n d ≡ group_in m d
 group_stays m n v w g k d =
     let q = (value_for d).0 in
     let e : datum_of q ≡ d = (value_for d).1 in
-    subst (λ (x : Datum). group_in n x ≡ group_in m x) e (ap (λ (x : Option (List Fact)). unwrap_or x []) (g q) ∙ by q (is_eq (value_cmp v q)) refl)
+    subst (λ (x : Datum). group_in n x ≡ group_in m x) e (ap (λ (x : Option (List Fact)). unwrap_or x []) (g q) ∙ by q (same_value v q) refl)
   where
-    by : (q : Value) (b : Bool) → is_eq (value_cmp v q) ≡ b → unwrap_or (cond b (Some w) (get value_cmp m q)) [] ≡ group_in m (datum_of q)
+    by : (q : Value) (b : Bool) → same_value v q ≡ b → unwrap_or (cond b (Some w) (get same_value m q)) [] ≡ group_in m (datum_of q)
     by q true e = k ∙ ap (group_in m) (same_exact (datum_of v) (datum_of q) e)
     by q false e = refl
 
@@ -76,7 +75,7 @@ or-false true = refl
 or-false false = refl
 
 -- What the group at the value becomes where the tuple is put in.
-pub more_in_group : (m : BTreeMap Value (List Fact)) (v : Datum) (D E : List Fact) (t u : Fact) → D ≡ group_in m v → E ≡ change D (Insert t) → has E u ≡ (has (group_in m v) u || same_fact u t)
+pub more_in_group : (m : Kept) (v : Datum) (D E : List Fact) (t u : Fact) → D ≡ group_in m v → E ≡ change D (Insert t) → has E u ≡ (has (group_in m v) u || same_fact u t)
 more_in_group m v D E t u e f = ap (λ (F : List Fact). has F u) f ∙ has-insert D t u ∙ swap (same_fact u t) (has D u) ∙ ap (λ (F : List Fact). has F u || same_fact u t) e
   where
     swap : (a b : Bool) → (a || b) ≡ (b || a)
@@ -86,23 +85,23 @@ more_in_group m v D E t u e f = ap (λ (F : List Fact). has F u) f ∙ has-inser
     swap false false = refl
 
 -- A write of the group at one value that adds the tuple there adds it in the column.
-pub group_adds : (m n : BTreeMap Value (List Fact)) (v : Value) (w : List Fact) (t : Fact) → ((q : Value) → get value_cmp n q ≡ cond (is_eq (value_cmp v q)) (Some w) (get value_cmp m q))
+pub group_adds : (m n : Kept) (v : Value) (w : List Fact) (t : Fact) → ((q : Value) → get same_value n q ≡ cond (same_value v q) (Some w) (get same_value m q))
     → ((u : Fact) → has w u ≡ (has (group_in m (datum_of v)) u || same_fact u t)) → Adds (datum_of v) t m n
 group_adds m n v w t = group_changes (λ a b. a || b) or-false m n v (Some w) t
 
 -- ---- a tuple less
 
 -- A write of the group at one value that drops the tuple there drops it in the column.
-pub group_drops : (m n : BTreeMap Value (List Fact)) (v : Value) (o : Option (List Fact)) (t : Fact) → ((q : Value) → get value_cmp n q ≡ cond (is_eq (value_cmp v q)) o (get value_cmp m q))
+pub group_drops : (m n : Kept) (v : Value) (o : Option (List Fact)) (t : Fact) → ((q : Value) → get same_value n q ≡ cond (same_value v q) o (get same_value m q))
     → ((u : Fact) → has (unwrap_or o []) u ≡ (has (group_in m (datum_of v)) u && not (same_fact u t))) → Drops (datum_of v) t m n
 group_drops = group_changes (λ a b. a && not b) and-true
 
 -- What the group at the value becomes where the tuple is taken away.
-pub left_in_group : (m : BTreeMap Value (List Fact)) (v : Value) (D E : List Fact) (t u : Fact) → Some D ≡ get value_cmp m v → E ≡ change D (Delete t) → has E u ≡ (has (group_in m (datum_of v)) u && not (same_fact u t))
+pub left_in_group : (m : Kept) (v : Value) (D E : List Fact) (t u : Fact) → Some D ≡ get same_value m v → E ≡ change D (Delete t) → has E u ≡ (has (group_in m (datum_of v)) u && not (same_fact u t))
 left_in_group m v D E t u e f = ap (λ (F : List Fact). has F u) f ∙ has-delete D t u ∙ ap (λ (o : Option (List Fact)). has (unwrap_or o []) u && not (same_fact u t)) e
 
 -- Where there is no group at the value nothing has to go.
-pub nothing_drops : (m : BTreeMap Value (List Fact)) (v : Value) (t : Fact) → None ≡ get value_cmp m v → Drops (datum_of v) t m m
+pub nothing_drops : (m : Kept) (v : Value) (t : Fact) → None ≡ get same_value m v → Drops (datum_of v) t m m
 nothing_drops m v t e d u = by (same_datum d (datum_of v)) refl
   where
     nothing : same_datum d (datum_of v) ≡ true → has (group_in m d) u ≡ false
@@ -113,13 +112,25 @@ nothing_drops m v t e d u = by (same_datum d (datum_of v)) refl
     by false f = sym (and-true (has (group_in m d) u))
 
 -- Where the group at the value is empty, it may go.
-pub vacant_drops : (m n : BTreeMap Value (List Fact)) (v : Value) (t : Fact) → ((q : Value) → get value_cmp n q ≡ cond (is_eq (value_cmp v q)) None (get value_cmp m q)) → Some [] ≡ get value_cmp m v → Drops (datum_of v) t m n
+pub vacant_drops : (m n : Kept) (v : Value) (t : Fact) → ((q : Value) → get same_value n q ≡ cond (same_value v q) None (get same_value m q)) → Some [] ≡ get same_value m v → Drops (datum_of v) t m n
 vacant_drops m n v t g e = group_drops m n v None t g (λ u. ap (λ (o : Option (List Fact)). has (unwrap_or o []) u && not (same_fact u t)) e)
 
-pub drops_twice : (v : Datum) (t : Fact) (l m n : BTreeMap Value (List Fact)) → Drops v t l m → Drops v t m n → Drops v t l n
+pub drops_twice : (v : Datum) (t : Fact) (l m n : Kept) → Drops v t l m → Drops v t m n → Drops v t l n
 drops_twice v t l m n h k d u = k d u ∙ ap (λ b. b && not (same_datum d v && same_fact u t)) (h d u) ∙ once (has (group_in l d) u) (not (same_datum d v && same_fact u t))
   where
     once : (a b : Bool) → ((a && b) && b) ≡ (a && b)
     once true true = refl
     once true false = refl
     once false b = refl
+
+-- A group has no tuple exactly where it is empty.
+pub is_emptied : (w : List Fact) (n : ℕ) (o : Option (List Fact)) → n ≡ length w → o ≡ Some w → IsTrue (n == 0) ↔ (o ≡ Some [])
+is_emptied [] n o e f = (λ h. f, λ g. ap (λ k. k == 0) e)
+is_emptied (u ∷ w) n o e f = (λ h. absurd (suc-ne-zero (length w) (sym e ∙ eqb-true n 0 h)), λ g. absurd (empty (some_same (u ∷ w) [] (sym f ∙ g))))
+  where
+    empty : u ∷ w ≡ [] → ⊥
+    empty h = suc-ne-zero (length w) (ap length h)
+
+-- Where there is no group none is empty.
+pub not_emptied : (o p : Option (List Fact)) → o ≡ p → None ≡ p → IsTrue false ↔ (o ≡ Some [])
+not_emptied o p e n = (λ h. differ h, λ g. absurd (none_some [] (n ∙ sym e ∙ g)))

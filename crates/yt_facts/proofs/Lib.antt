@@ -13,3 +13,4 @@ pub mod Beginning
 pub mod AtHand
 pub mod Behind
 pub mod Sought
+mod Ahead

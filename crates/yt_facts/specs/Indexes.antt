@@ -1,5 +1,7 @@
 -- The index of a set: for each relation and column, the tuples by their value in it.
-use Rattle.std.specs.BTreeMap.{BTreeMap}
+use Rattle.std.specs.HashMap.{HashMap}
+use Rattle.std.proofs.Common.{BuildHasherDefault}
+use Rattle.std.proofs.Common.{FoldHasher}
 use Rattle.std.specs.Map.{lookup}
 use Rattle.std.specs.Prelude.{◌≡◌, ℕ, Bool, not, ◌&&◌, ◌||◌, List, [], unwrap_or, slice_get, Option, Some, None}
 use Rattle.yt_model.specs.Values.{Datum, Fact, same_datum, same_fact}
@@ -10,47 +12,47 @@ use Rattle.yt_base.specs.declared.values.Value.{Value}
 use Rattle.std.specs.declared.vec.Vec.{Vec}
 use Rattle.std.specs.declared.alloc.Global.{Global}
 
+-- What one column keeps at each value.
+abbrev pub Kept : Type 0
+Kept = HashMap Value (List Fact) (BuildHasherDefault FoldHasher)
+
 -- The tuples that one column keeps at a value.
-abbrev pub group_in : BTreeMap Value (List Fact) → Datum → List Fact
+abbrev pub group_in : Kept → Datum → List Fact
 group_in m d = unwrap_or (lookup (λ k. same_datum d (datum_of k)) m.entries) []
 
 -- The tuples that column c keeps at value d; none past the last column.
-abbrev pub group_at : List (BTreeMap Value (List Fact)) → ℕ → Datum → List Fact
+abbrev pub group_at : List Kept → ℕ → Datum → List Fact
 group_at ms c d = at (slice_get ms c)
   where
-    at : Option (BTreeMap Value (List Fact)) → List Fact
+    at : Option Kept → List Fact
     at None = []
     at (Some m) = group_in m d
 
 -- The columns keep what they kept.
-abbrev pub AreSame : List (BTreeMap Value (List Fact)) → List (BTreeMap Value (List Fact)) → Type 0
+abbrev pub AreSame : List Kept → List Kept → Type 0
 AreSame ms ns = (c : ℕ) (d : Datum) → group_at ns c d ≡ group_at ms c d
 
 -- To what the columns kept at most this tuple, where it has its values, is added.
-abbrev pub AddsAtMost : Fact → List (BTreeMap Value (List Fact)) → List (BTreeMap Value (List Fact)) → Type 0
+abbrev pub AddsAtMost : Fact → List Kept → List Kept → Type 0
 AddsAtMost t ms ns = (c : ℕ) (d : Datum) (u : Fact) → has (group_at ns c d) u ≡ (has (group_at ms c d) u || ((has_at c d t && same_fact u t) && has (group_at ns c d) u))
 
 -- To what one column kept exactly this tuple, at this value, is added.
-abbrev pub Adds : Datum → Fact → BTreeMap Value (List Fact) → BTreeMap Value (List Fact) → Type 0
+abbrev pub Adds : Datum → Fact → Kept → Kept → Type 0
 Adds v t m n = (d : Datum) (u : Fact) → has (group_in n d) u ≡ (has (group_in m d) u || (same_datum d v && same_fact u t))
 
 -- To what the columns kept exactly this tuple, where it has its values, is added.
-abbrev pub AddsAll : Fact → List (BTreeMap Value (List Fact)) → List (BTreeMap Value (List Fact)) → Type 0
+abbrev pub AddsAll : Fact → List Kept → List Kept → Type 0
 AddsAll t ms ns = (c : ℕ) (d : Datum) (u : Fact) → has (group_at ns c d) u ≡ (has (group_at ms c d) u || (has_at c d t && same_fact u t))
 
 -- Of what one column kept exactly this tuple, at this value, is gone.
-abbrev pub Drops : Datum → Fact → BTreeMap Value (List Fact) → BTreeMap Value (List Fact) → Type 0
+abbrev pub Drops : Datum → Fact → Kept → Kept → Type 0
 Drops v t m n = (d : Datum) (u : Fact) → has (group_in n d) u ≡ (has (group_in m d) u && not (same_datum d v && same_fact u t))
 
 -- Of what the columns kept exactly this tuple, where it has its values, is gone.
-abbrev pub DropsAll : Fact → List (BTreeMap Value (List Fact)) → List (BTreeMap Value (List Fact)) → Type 0
+abbrev pub DropsAll : Fact → List Kept → List Kept → Type 0
 DropsAll t ms ns = (c : ℕ) (d : Datum) (u : Fact) → has (group_at ns c d) u ≡ (has (group_at ms c d) u && not (has_at c d t && same_fact u t))
 
 -- ---- all relations
-
--- What one column keeps at each value.
-abbrev pub Kept : Type 0
-Kept = BTreeMap Value (List Fact)
 
 -- The columns of relation r; none past the last relation.
 abbrev pub columns_of : List (Vec Kept Global) → ℕ → List Kept

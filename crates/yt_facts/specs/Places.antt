@@ -1,9 +1,10 @@
 -- Places in a list of tuples in order.
-use Rattle.std.specs.Prelude.{◌≡◌, ℕ, List}
+use Rattle.std.specs.Prelude.{◌≡◌, ℕ, Bool, true, List, find}
+use Rattle.std.specs.Ordering.{is_le}
 use Rattle.std.specs.List.{HoldsAt}
 use Rattle.std.specs.List.Sorted.{IsPartitionPoint}
 use Rattle.std.specs.declared.cmp.Ordering.TheVariants.{Less, Equal, Greater}
-use Rattle.yt_model.specs.Values.{fact_cmp}
+use Rattle.yt_model.specs.Values.{Fact, fact_cmp}
 use Rattle.yt_base.specs.Meanings.{fact_of}
 use Rattle.yt_base.specs.declared.tuples.Tuple.{Tuple}
 
@@ -14,3 +15,11 @@ StandsAt D t i = HoldsAt (λ y. fact_cmp (fact_of y) (fact_of t) ≡ Equal) D i
 -- The place parts those below the tuple from those above it.
 abbrev pub IsBetween : List Tuple → Tuple → ℕ → Type 0
 IsBetween D t i = IsPartitionPoint (λ y. fact_cmp (fact_of y) (fact_of t) ≡ Less) (λ y. fact_cmp (fact_of y) (fact_of t) ≡ Greater) D i
+
+-- The tuple u is not below t.
+abbrev pub is_from : Fact → Fact → Bool
+is_from t u = is_le (fact_cmp t u)
+
+-- Of those that pass q the rest has the first one that the set has, by whatever further test.
+abbrev pub HasAllThat : (Fact → Bool) → List Fact → List Fact → Type 0
+HasAllThat q D rest = (p : Fact → Bool) → ((u : Fact) → p u ≡ true → q u ≡ true) → find p rest ≡ find p D

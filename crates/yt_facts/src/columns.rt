@@ -1,4 +1,5 @@
-//! The columns of one relation: for each, the tuples by their value in it. Each column holds its own copies.
+//! The columns of one relation: for each, the tuples by their value in it, which is found by its hash. Each column holds its own
+//! copies.
 ghost use Rattle.std.specs.Map.{lookup};
 ghost use Rattle.std.specs.Prelude.{◌≡◌, ◌↔◌, ℕ, not, ◌&&◌, ◌||◌, ◌<◌, length, unwrap_or, [], Some, IsTrue, IfSome, OnOk, OnErr};
 ghost use Rattle.std.specs.Option.{option_copied};
@@ -9,11 +10,11 @@ ghost use Rattle.yt_facts.specs.Indexes.{group_in, group_at, AreSame, AddsAtMost
 
 use crate::group::Group;
 use std::alloc::Global;
-use std::collections::BTreeMap;
+use std::collections::HashMap;
 use yt_base::{Facts, Memory, TryCopy, Tuple, Value};
 
 /// The tuples by their value in one column.
-pub type Groups = BTreeMap<Value, Group>;
+pub type Groups = HashMap<Value, Group>;
 
 /// The tuples that the column keeps at the value, if there is such a column and such a value in it.
 pub fn group<'a>(columns: &'a Vec<Groups>, column: usize, value: &Value) -> Option<&'a Group>
@@ -77,7 +78,7 @@ fn reach(columns: &mut Vec<Groups>, alloc: Global, column: usize) -> Result<(), 
     ensures there { OnOk result (column < length columns.new.items) }
 {
     while columns.len() <= column {
-        columns.push(BTreeMap::new(alloc))?;
+        columns.push(HashMap::new(alloc))?;
     }
     Ok(())
 }
@@ -122,30 +123,22 @@ fn take_out(groups: &mut Groups, value: &Value, tuple: &Tuple)
     ensures vacant { IfSome (lookup (λ k. same_datum (datum_of value.now) (datum_of k))
         groups.new.entries) (λ group. group ≡ [] → ⊥) }
 {
-    remove_from(groups, value, tuple);
-    if is_vacant(groups.get(value)) {
+    if empties(groups, value, tuple) {
         groups.remove(value);
     }
 }
 
-// Takes the tuple out of the group of the value.
-fn remove_from(groups: &mut Groups, value: &Value, tuple: &Tuple)
+// Takes the tuple out of the group of the value, and tells whether there is then a group without a tuple.
+fn empties(groups: &mut Groups, value: &Value, tuple: &Tuple) -> bool
     ensures dropped { Drops (datum_of value.now) (fact_of tuple.now) groups.old groups.new }
+    ensures vacant { IsTrue result ↔ (lookup (λ k. same_datum (datum_of value.now) (datum_of k))
+        groups.new.entries ≡ Some []) }
 {
     match groups.get_mut(value) {
         Some(group) => {
             group.remove(tuple);
+            group.len() == 0
         }
-        None => {}
-    }
-}
-
-// Whether there is a group, without a tuple.
-fn is_vacant(group: Option<&Group>) -> bool
-    ensures vacant { IsTrue result ↔ (option_copied group.entry ≡ Some []) }
-{
-    match group {
-        Some(group) => group.len() == 0,
         None => false,
     }
 }

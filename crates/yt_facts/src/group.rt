@@ -10,10 +10,10 @@ use crate::listed::{Held, ListedFacts};
 use crate::plain::PlainFacts;
 use std::alloc::Global;
 use std::marker::Model;
-use yt_base::{Candidates, Column, Facts, Memory, Tuple, Value, next_candidate};
+use yt_base::{Candidates, Column, Facts, Memory, Tuple, Value};
 
-// So many tuples are few: a list of them takes less memory than a node of a tree.
-const FEW: usize = 16;
+// So many tuples are few: to move them in a list costs less than to search a tree for the place of one.
+const FEW: usize = 256;
 
 /// A set of tuples, mostly few of them, as those that a column keeps at a value or an update has written. Few are a list; from
 /// the first insertion into more on they are a balanced tree. Contracts see the list of its tuples, in order.
@@ -112,7 +112,7 @@ impl Group {
             list_any (is_candidate relation (option_map column_of column.entry)) self.now ≡ false }
     {
         match &self.held {
-            Held::Listed(_) => next_candidate(self, relation, column, None).is_none(),
+            Held::Listed(tuples) => tuples.lacks(relation, column),
             Held::Tree(facts) => facts.lacks(relation),
         }
     }

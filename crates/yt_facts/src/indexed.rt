@@ -12,9 +12,9 @@ use std::alloc::Global;
 use std::marker::Model;
 use yt_base::{Candidates, Column, Facts, Memory, TryCopy, Tuple, TupleList, Value};
 
-/// A set of tuples with, for each relation, column and value, exactly its tuples that have the value there. So a scan
-/// by column takes steps as many as the logarithm of the set's size, as insertions, deletions and cursors do. Whether a
-/// tuple is there is asked of those with its first value, since they are mostly few. Each tuple is held once more for
+/// A set of tuples with, for each relation, column and value, exactly its tuples that have the value there, found by the
+/// value's hash. Insertions, deletions and cursors take steps as many as the logarithm of the set's size. Whether a tuple
+/// is there is asked of those with its first value, since they are mostly few. Each tuple is held once more for
 /// each of its columns, and no tuple that is not in the set. Contracts see the list of its tuples, in order.
 #[derive(Debug, Drop)]
 pub struct IndexedFacts {

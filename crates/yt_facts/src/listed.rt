@@ -1,22 +1,27 @@
 //! A set of tuples in a list.
 ghost use Rattle.std.specs.Option.{option_map, option_copied};
-ghost use Rattle.std.specs.List.{remove};
-ghost use Rattle.std.specs.Prelude.{◌≡◌, ◌<◌, ◌≤◌, [], not, length, map, find, IsTrue, IfOk, OnOk, OnErr, IfErr};
+ghost use Rattle.std.specs.List.{list_any, remove};
+ghost use Rattle.std.specs.Prelude.{◌≡◌, ◌<◌, ◌≤◌, [], false, not, length, map, filter, find, IsTrue, IfOk, OnOk, OnErr, IfErr};
 ghost use Rattle.yt_model.specs.Cursors.{is_beyond as is_beyond_tuple, first_of, next_of, scan_of};
 ghost use Rattle.yt_model.specs.Repository.{has, change, Insert, Delete, IsRepository};
+ghost use Rattle.yt_base.specs.Candidates.{column_of, is_candidate as is_candidate_tuple};
 ghost use Rattle.yt_base.specs.Meanings.{fact_of, datum_of};
-ghost use Rattle.yt_facts.specs.Places.{IsBetween};
+ghost use Rattle.yt_facts.specs.Courses.{is_ahead};
+ghost use Rattle.yt_facts.specs.Places.{IsBetween, HasAllThat, is_from};
 ghost use Rattle.yt_facts.specs.Rising.{IsBehind};
 
 use crate::plain::PlainFacts;
-use crate::scanned::{is_beyond, is_scanned, of_relation};
+use crate::scanned::{is_beyond, is_candidate, is_scanned, of_relation};
 use std::alloc::Global;
 use std::cmp::Ordering;
 use std::marker::Model;
-use yt_base::{List, Memory, TryCopy, Tuple, TupleList, Value};
+use yt_base::{Column, List, Memory, TryCopy, Tuple, TupleList, Value};
 
 // To move so many tuples costs no more than to search a tree for the place of one.
 const NEAR: usize = 1024;
+
+// So many are gone over as soon as a place among them is searched for.
+const SHORT: usize = 16;
 
 /// A set of tuples in a list, in order. A tuple is searched for by halves, and those behind its place are moved where one is put
 /// in or taken out. The first tuple takes the memory of one. Contracts see the list of its tuples, in order.
@@ -149,7 +154,7 @@ impl ListedFacts {
     }
 }
 
-// Each search goes over the tuples in turn, since they are few.
+// Where there are many tuples a search begins at a place that it finds by halves.
 impl ListedFacts {
     /// The least tuple above the given one, or of all where none is given; None exactly where there is none.
     pub(crate) fn beyond(&self, past: Option<&Tuple>) -> Option<&Tuple>
@@ -157,7 +162,7 @@ impl ListedFacts {
             find (is_beyond_tuple (option_map fact_of (option_copied past.entry))) self.now }
         ensures in_order { IsRepository self.now }
     {
-        for tuple in self.tuples.iter() {
+        for tuple in beginning(self.tuples.as_slice(), past) {
             if is_beyond(past, tuple) {
                 return Some(tuple);
             }
@@ -170,12 +175,31 @@ impl ListedFacts {
         ensures found { option_map fact_of (option_copied result) ≡ first_of self.now relation }
         ensures in_order { IsRepository self.now }
     {
-        for tuple in self.tuples.iter() {
+        for tuple in ahead(self.tuples.as_slice(), relation, None) {
+            if tuple.relation > relation {
+                return None;
+            }
             if tuple.relation == relation {
                 return Some(tuple);
             }
         }
         None
+    }
+
+    /// Whether it has no tuple of the relation with the column's value, where a column is given.
+    pub(crate) fn lacks(&self, relation: u16, column: Option<Column<'_>>) -> bool
+        ensures none { IsTrue result →
+            list_any (is_candidate_tuple relation (option_map column_of column.entry)) self.now ≡ false }
+    {
+        for tuple in ahead(self.tuples.as_slice(), relation, None) {
+            if tuple.relation > relation {
+                return true;
+            }
+            if is_candidate(tuple, relation, column) {
+                return false;
+            }
+        }
+        true
     }
 
     /// The least tuple of the same relation above the given one; None exactly where there is none.
@@ -201,12 +225,61 @@ impl ListedFacts {
             (option_map fact_of (option_copied past.entry)) }
         ensures in_order { IsRepository self.now }
     {
-        for tuple in self.tuples.iter() {
+        for tuple in ahead(self.tuples.as_slice(), relation, past) {
+            if tuple.relation > relation {
+                return None;
+            }
             if is_scanned(tuple, relation, column, value, past) {
                 return Some(tuple);
             }
         }
         None
+    }
+}
+
+// The tuples but for some below the given one, where one is given.
+fn beginning<'a>(tuples: &'a [Tuple], past: Option<&Tuple>) -> &'a [Tuple]
+    requires in_order { IsRepository (map fact_of tuples.now) }
+    ensures all { HasAllThat (is_beyond_tuple (option_map fact_of (option_copied past.entry)))
+        (map fact_of tuples.now) (map fact_of result.now) }
+{
+    if tuples.len() <= SHORT {
+        return tuples;
+    }
+    match past {
+        Some(before) => from(tuples, before),
+        None => tuples,
+    }
+}
+
+// The tuples but for some that are of a lesser relation, or not beyond `past` where that is given.
+fn ahead<'a>(tuples: &'a [Tuple], relation: u16, past: Option<&Tuple>) -> &'a [Tuple]
+    requires in_order { IsRepository (map fact_of tuples.now) }
+    ensures all { HasAllThat (is_ahead relation (option_map fact_of (option_copied past.entry)))
+        (map fact_of tuples.now) (map fact_of result.now) }
+    ensures in_order { IsRepository (map fact_of result.now) }
+{
+    if tuples.len() <= SHORT {
+        return tuples;
+    }
+    match past {
+        Some(before) => from(tuples, before),
+        None => {
+            let least = Tuple::least(relation);
+            from(tuples, &least)
+        }
+    }
+}
+
+// The tuples that are not below the given one.
+fn from<'a>(tuples: &'a [Tuple], tuple: &Tuple) -> &'a [Tuple]
+    requires in_order { IsRepository (map fact_of tuples.now) }
+    ensures rest { map fact_of result.now ≡
+        filter (is_from (fact_of tuple.now)) (map fact_of tuples.now) }
+{
+    match tuples.binary_search(tuple) {
+        Ok(place) => &tuples[place..],
+        Err(place) => &tuples[place..],
     }
 }
 

@@ -2,9 +2,10 @@
 ghost use Rattle.std.specs.Prelude.{◌≡◌};
 ghost use Rattle.std.specs.Option.{option_map, option_copied};
 ghost use Rattle.yt_model.specs.Cursors.{is_of, kept_if, is_scanned as is_scanned_tuple, is_beyond as is_beyond_tuple, has_at as has_datum_at};
+ghost use Rattle.yt_base.specs.Candidates.{column_of, is_candidate as is_candidate_tuple};
 ghost use Rattle.yt_base.specs.Meanings.{fact_of, datum_of};
 
-use yt_base::{Tuple, Value};
+use yt_base::{Column, Tuple, Value};
 
 /// Whether the tuple is of the relation, beyond `past` where that is given, and has the value in the column.
 pub fn is_scanned(
@@ -18,6 +19,20 @@ pub fn is_scanned(
         (option_map fact_of (option_copied past.entry)) (fact_of tuple.now) }
 {
     tuple.relation == relation && has_at(tuple, column, value) && is_beyond(past, tuple)
+}
+
+/// Whether the tuple is of the relation and has the column's value, where a column is given.
+pub fn is_candidate(tuple: &Tuple, relation: u16, column: Option<Column<'_>>) -> bool
+    ensures answer { result ≡ is_candidate_tuple relation (option_map column_of column.entry)
+        (fact_of tuple.now) }
+{
+    if tuple.relation != relation {
+        return false;
+    }
+    match column {
+        Some(column) => has_at(tuple, column.number, column.value),
+        None => true,
+    }
 }
 
 /// Whether the tuple comes after `past`, where that is given.

@@ -1,5 +1,5 @@
 use Rattle.std.proofs.Common.{rules, ◌≡◌, ◌∙◌, subst}
-use Rattle.std.specs.BTreeMap.Entry.{map_with_value}
+use Rattle.std.specs.HashMap.Entry.{map_with_value}
 use Rattle.std.specs.Prelude.{unwrap_or, OnOk, OnErr}
 use Rattle.yt_model.specs.Values.{Datum}
 use Rattle.yt_base.specs.Meanings.{fact_of, datum_of}

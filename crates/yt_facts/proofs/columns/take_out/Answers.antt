@@ -1,11 +1,11 @@
-use Rattle.std.proofs.Common.{◌∙◌, refl, sym}
+use Rattle.std.proofs.Common.{sym}
 use Rattle.yt_base.specs.Meanings.{fact_of, datum_of}
 use Rattle.yt_facts.proofs.Groups.{vacant_drops, drops_twice}
 use Rattle.yt_facts.proofs.columns.take_out.Goals as goal
 
-pub returns-then-is_vacant-clause-dropped : goal.returns-then-is_vacant-clause-dropped
-returns-then-is_vacant-clause-dropped c =
+pub returns-then-empties-clause-dropped : goal.returns-then-empties-clause-dropped
+returns-then-empties-clause-dropped c =
     let t = fact_of c.args.tuple.now in
-    let m = c.remove_from.new.groups in
-    drops_twice (datum_of c.args.value.now) t c.args.groups.now m c.remove.new.self c.remove_from.ensures.dropped
-    (vacant_drops m c.remove.new.self c.args.value.now t (c.remove.ensures.updates).0 (sym (c.if-is_vacant.ensures.vacant.0 refl) ∙ c.get.ensures.value))
+    let m = c.empties.new.groups in
+    drops_twice (datum_of c.args.value.now) t c.args.groups.now m c.remove.new.self c.empties.ensures.dropped
+    (vacant_drops m c.remove.new.self c.args.value.now t (c.remove.ensures.updates).0 (sym (c.empties.ensures.vacant.0 c.if-empties.true)))
