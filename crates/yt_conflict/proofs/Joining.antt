@@ -1,5 +1,5 @@
 -- A tuple that joins with no own write decides no violation that own writes caused, and makes none.
-use Rattle.std.proofs.Common.{◌≡◌, ◌∙◌, ap, refl, sym, subst, ℕ, ◌==◌, Bool, true, false, ◌||◌, ◌&&◌, not, List, [], ◌∷◌, map, length, Option, Some, None, is_some, inl, inr}
+use Rattle.std.proofs.Common.{◌≡◌, ◌∙◌, ap, refl, sym, subst, ℕ, suc, ◌==◌, Bool, true, false, ◌||◌, ◌&&◌, not, List, [], ◌∷◌, map, length, Option, Some, None, is_some, inl, inr}
 use Rattle.std.specs.List.{list_any, list_all, zip}
 use Rattle.std.specs.Prelude.{filter}
 use Rattle.std.proofs.lemmas.Bool.{false≢true, and_parts, or_cases, eqb-true, eq-eqb}
@@ -15,7 +15,7 @@ use Rattle.yt_model.proofs.Learning.{Agrees, Means, all_means, atom_means, same_
 use Rattle.yt_model.proofs.Matches.{known_or_zero, agrees_itself, extends_decides}
 use Rattle.yt_model.proofs.Searches.{find_same, found_any}
 use Rattle.yt_model.proofs.Sets.{same_exact}
-use Rattle.yt_conflict.specs.Concerns.{may_be, agree, stand_together, may_join, joins, joins_own, at_side, joins_either}
+use Rattle.yt_conflict.specs.Concerns.{may_be, agree, has_columns, stand_together, may_join, joins, joins_own, at_side, joins_either}
 
 -- ---- atoms under one binding
 
@@ -42,10 +42,17 @@ module _ (b : Binding) where
   all_agree (p ∷ ps) qs =
       both (list_all (agree (p, value_under b p)) (zip qs (map (value_under b) qs))) (list_all (λ p. list_all (agree p) (zip qs (map (value_under b) qs))) (zip ps (map (value_under b) ps))) (each_agrees p qs) (all_agree ps qs)
 
+  -- The image of an atom has its columns.
+  columns_kept : (ps : List Slot) → length ps ≡ length (map (value_under b) ps)
+  columns_kept [] = refl
+  columns_kept (p ∷ ps) = ap suc (columns_kept ps)
+
   together : (a c : Pattern) → stand_together a (fact_under b a) c (fact_under b c) ≡ true
   together a c =
-      both (c.relation == c.relation) ((a.relation == a.relation) && list_all (λ p. list_all (agree p) (zip c.terms (map (value_under b) c.terms))) (zip a.terms (map (value_under b) a.terms))) (eq-eqb c.relation c.relation refl)
-      (both (a.relation == a.relation) (list_all (λ p. list_all (agree p) (zip c.terms (map (value_under b) c.terms))) (zip a.terms (map (value_under b) a.terms))) (eq-eqb a.relation a.relation refl) (all_agree a.terms c.terms))
+      let alike = list_all (λ p. list_all (agree p) (zip c.terms (map (value_under b) c.terms))) (zip a.terms (map (value_under b) a.terms)) in
+      both (c.relation == c.relation) ((a.relation == a.relation) && (has_columns a (fact_under b a) && alike)) (eq-eqb c.relation c.relation refl)
+      (both (a.relation == a.relation) (has_columns a (fact_under b a) && alike) (eq-eqb a.relation a.relation refl)
+      (both (has_columns a (fact_under b a)) alike (eq-eqb (length a.terms) (length (map (value_under b) a.terms)) (columns_kept a.terms)) (all_agree a.terms c.terms)))
 
   joined : (as' cs : List Pattern) (a c : Pattern) → IsAmong a as' → IsAmong c cs → may_join as' cs (fact_under b a) (fact_under b c) ≡ true
   joined as' cs a c i j = i (λ x. list_any (λ y. stand_together x (fact_under b a) y (fact_under b c)) cs) (j (λ y. stand_together a (fact_under b a) y (fact_under b c)) (together a c))

@@ -5,3 +5,8 @@ pub mod Staying
 pub mod Sides
 pub mod Firsts
 pub mod Unmet
+pub mod Gathering
+pub mod Within
+pub mod Bits
+pub mod Finding
+pub mod Apart

@@ -12,7 +12,7 @@ use Rattle.yt_model.specs.Queries.{Query, Present, Violation, Specific, Occurs}
 use Rattle.yt_model.specs.Violations.{Direction}
 use Rattle.yt_model.proofs.Bools.{and-false, or_left, or_right, differ}
 use Rattle.yt_query.specs.Meanings.{Read}
-use Rattle.yt_conflict.specs.Concerns.{agree, columns, stand_together, joins, joins_own, may_cause, seats, may_make, may_violate, concerns, breaks, breaks_some, tuple_of, counts_all, asks_violation, is_nothing, found_none, meets, is_hit, is_met, is_met_apart}
+use Rattle.yt_conflict.specs.Concerns.{agree, columns, has_columns, stand_together, joins, joins_own, may_cause, seats, may_make, may_violate, concerns, breaks, breaks_some, tuple_of, counts_all, asks_violation, is_nothing, found_none, meets, is_hit, is_met, is_met_apart}
 use Rattle.yt_conflict.specs.declared.concerns.Sense.{Sense}
 use Rattle.yt_conflict.proofs.Hits.{neither, unhit}
 use Rattle.yt_conflict.specs.Changes.{Numbered, is_changed, value_now, is_met_and_changed, first_from, first_changed, meets_any, meets_any_apart}
@@ -24,7 +24,7 @@ unstood : (a : Pattern) (s t : Fact) (cs : List Pattern) → list_any (λ c. c.r
 unstood a s t [] e = refl
 unstood a s t (c ∷ cs) e =
     let parts = or_parts (c.relation == t.relation) (list_any (λ c. c.relation == t.relation) cs) e in
-    neither (stand_together a s c t) (list_any (λ c. stand_together a s c t) cs) (ap (λ b. b && ((a.relation == s.relation) && list_all (λ p. list_all (agree p) (columns c t)) (columns a s))) parts.0) (unstood a s t cs parts.1)
+    neither (stand_together a s c t) (list_any (λ c. stand_together a s c t) cs) (ap (λ b. b && ((a.relation == s.relation) && (has_columns a s && list_all (λ p. list_all (agree p) (columns c t)) (columns a s)))) parts.0) (unstood a s t cs parts.1)
 
 unstood_at : (s t : Fact) (cs as' : List Pattern) → list_any (λ c. c.relation == t.relation) cs ≡ false → list_any (λ a. list_any (λ c. stand_together a s c t) cs) as' ≡ false
 unstood_at s t cs [] e = refl
@@ -40,7 +40,7 @@ unmentioned h cs m t (w ∷ own) e =
 pub elsewhere : (a : Pattern) (s t : Fact) (cs : List Pattern) → (a.relation == s.relation) ≡ false → false ≡ list_any (λ c. stand_together a s c t) cs
 elsewhere a s t [] e = refl
 elsewhere a s t (c ∷ cs) e =
-    sym (neither (stand_together a s c t) (list_any (λ c. stand_together a s c t) cs) (ap (λ b. (c.relation == t.relation) && (b && list_all (λ p. list_all (agree p) (columns c t)) (columns a s))) e ∙ and-false (c.relation == t.relation)) (sym (elsewhere a s t cs e)))
+    sym (neither (stand_together a s c t) (list_any (λ c. stand_together a s c t) cs) (ap (λ b. (c.relation == t.relation) && (b && (has_columns a s && list_all (λ p. list_all (agree p) (columns c t)) (columns a s)))) e ∙ and-false (c.relation == t.relation)) (sym (elsewhere a s t cs e)))
 
 -- ---- violations
 

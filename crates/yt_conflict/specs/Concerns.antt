@@ -1,5 +1,5 @@
 -- Which writes may change the value of a read, and which repositories have the same tuples but for those of certain writes.
-use Rattle.std.specs.Prelude.{◌≡◌, ℕ, ◌==◌, Bool, true, false, not, ◌&&◌, ◌||◌, if◌then◌else◌, List, take, Option, Some, None}
+use Rattle.std.specs.Prelude.{◌≡◌, ℕ, ◌==◌, Bool, true, false, not, ◌&&◌, ◌||◌, if◌then◌else◌, List, take, length, Option, Some, None}
 use Rattle.std.specs.List.{list_any, list_all, zip, slice_get}
 use Rattle.yt_model.specs.Values.{Datum, Fact, same_datum, same_fact}
 use Rattle.yt_model.specs.Repository.{Change, Insert, Delete, IsRepository, has}
@@ -33,10 +33,14 @@ may_be (Const c) d q e = true
 abbrev pub agree : Slot × Datum → Slot × Datum → Bool
 agree p q = may_be p.0 p.1 q.0 q.1
 
+-- The tuple has as many columns as the atom.
+abbrev pub has_columns : Pattern → Fact → Bool
+has_columns a t = length a.terms == length t.values
+
 -- One binding may make the first atom the first tuple and the second the second.
 abbrev pub stand_together : Pattern → Fact → Pattern → Fact → Bool
 stand_together a s c t =
-    (c.relation == t.relation) && ((a.relation == s.relation) && list_all (λ p. list_all (agree p) (columns c t)) (columns a s))
+    (c.relation == t.relation) && ((a.relation == s.relation) && (has_columns a s && list_all (λ p. list_all (agree p) (columns c t)) (columns a s)))
 
 -- The atoms among which a violation that own writes caused has the tuple of one of them: forward those on the left, backward
 -- those on the right.

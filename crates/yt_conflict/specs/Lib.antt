@@ -3,3 +3,8 @@ pub mod Rows
 pub mod Trails
 pub mod Changes
 pub mod Meanings
+pub mod Signatures
+pub mod Footprints
+pub mod Impacts
+pub mod Keys
+pub mod Meetings

@@ -127,7 +127,7 @@ fn breaks(
 }
 
 // Whether the tuple of the write is there since and was not before.
-fn adds(sense: Sense, write: &Write) -> bool
+pub(crate) fn adds(sense: Sense, write: &Write) -> bool
     ensures { result ≡ adds_lem sense (change_of write.now) }
 {
     match write {
@@ -202,7 +202,7 @@ fn joins_own(
 }
 
 // Whether one of the writes may put a mapping in force.
-fn may_enact_any(own: &[Write]) -> bool
+pub(crate) fn may_enact_any(own: &[Write]) -> bool
     ensures { result ≡ list_any may_enact_lem (map change_of own.now) }
 {
     own.iter().any(|write| may_enact(write))
@@ -226,7 +226,7 @@ fn is_of(mapping: &Mapping, relation: u16) -> bool
 }
 
 // Whether one of the atoms is of the relation.
-fn stands_in(atoms: &[Atom], relation: u16) -> bool
+pub(crate) fn stands_in(atoms: &[Atom], relation: u16) -> bool
     ensures { result ≡ list_any (λ a. a.relation == relation) (map pattern_of atoms.now) }
 {
     atoms.iter().any(|atom| atom.relation == relation)
@@ -339,6 +339,9 @@ fn stand_together(atom: &Atom, own: &Tuple, other: &Atom, tuple: &Tuple) -> bool
         return false;
     }
     if atom.relation != own.relation {
+        return false;
+    }
+    if atom.terms.len() != own.values.len() {
         return false;
     }
     all_agree(atom, own, other, tuple)

@@ -6,10 +6,15 @@
 
 mod changes;
 mod concerns;
+mod footprints;
+mod impacts;
 mod joins;
 mod laws;
+mod signatures;
 mod views;
 
 pub use crate::changes::{Changed, first_changed};
 pub use crate::concerns::{Sense, Trail};
+pub use crate::footprints::Footprint;
+pub use crate::impacts::Impact;
 pub use crate::laws::{tuples_concern_queries, unmet_values_stay};

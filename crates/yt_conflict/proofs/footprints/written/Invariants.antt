@@ -1,0 +1,8 @@
+use Rattle.yt_base.specs.Meanings.{change_of}
+use Rattle.yt_conflict.specs.Footprints.{has_write_in}
+use Rattle.yt_conflict.specs.Signatures.{IsWithin}
+use Rattle.yt_conflict.proofs.Gathering.{Gathers}
+use Rattle.yt_conflict.proofs.footprints.written.Given as goal
+
+abbrev pub invariant-loop-write : goal.invariant-loop-write
+invariant-loop-write l = Gathers IsWithin has_write_in change_of l.own l.write-index l.all

@@ -1,0 +1,91 @@
+//! Signatures: sets of spots on which values fall, so that tuples whose signatures share no spot have no value in common.
+ghost use Rattle.std.specs.Prelude.{◌≡◌, ℕ, ◌<◌, ◌||◌, ◌==◌, false};
+ghost use Rattle.yt_base.specs.Meanings.{datum_of};
+ghost use Rattle.yt_conflict.specs.Signatures.{AreApart, digest as digest_lem, digest_from, has_spot, home as home_lem, spot as spot_lem};
+
+use yt_base::Value;
+
+/// A set of spots, of which there are 256.
+#[derive(Clone, Copy, Debug)]
+pub struct Signature {
+    low: u128,
+    high: u128,
+}
+
+impl Signature {
+    /// The set without spots. It takes no memory.
+    pub(crate) fn empty() -> Signature
+        ensures empty { (k : ℕ) → has_spot result k ≡ false }
+    {
+        Signature { low: 0, high: 0 }
+    }
+
+    /// The set with one more spot. It takes no memory.
+    pub(crate) fn with(self, spot: u32) -> Signature
+        requires { spot < 256 }
+        ensures with { (k : ℕ) → has_spot result k ≡ (has_spot self k || spot == k) }
+    {
+        if spot < 128 {
+            return Signature {
+                low: self.low | (1 << spot),
+                high: self.high,
+            };
+        }
+        Signature {
+            low: self.low,
+            high: self.high | (1 << (spot - 128)),
+        }
+    }
+
+    /// Whether the sets have a spot in common. It takes no memory.
+    pub(crate) fn shares(self, other: Signature) -> bool
+        ensures apart { result ≡ false → AreApart self other }
+    {
+        if self.low & other.low != 0 {
+            return true;
+        }
+        self.high & other.high != 0
+    }
+}
+
+/// The spot of the value in this column of a tuple of the relation. It takes no memory.
+pub(crate) fn spot(relation: u16, column: u64, value: &Value) -> u32
+    ensures spot { result ≡ spot_lem relation column (datum_of value.now) }
+    ensures below { result < 256 }
+{
+    let word = u64::from(relation) % 4 * 64;
+    let place = (column % 4 * 21 + digest(value) % 64) % 64;
+    (word + place) as u32
+}
+
+/// The spot of the relation. It takes no memory.
+pub(crate) fn home(relation: u16) -> u32
+    ensures home { result ≡ home_lem relation }
+    ensures below { result < 256 }
+{
+    let word = u32::from(relation) % 4 * 64;
+    let place = u32::from(relation) / 4 % 64;
+    word + place
+}
+
+// A number by which the value is told from most others.
+fn digest(value: &Value) -> u64
+    ensures digest { result ≡ digest_lem (datum_of value.now) }
+{
+    match value {
+        Value::Int(number) => number.unsigned_abs(),
+        Value::Word(word) => digest_word(word.as_slice()),
+        Value::Null(null) => u64::from(null.update) + u64::from(null.place),
+    }
+}
+
+// The same of a word's bytes.
+fn digest_word(bytes: &[u8]) -> u64
+    ensures digest { result ≡ digest_from 0 bytes.now }
+{
+    let mut sum = 0;
+    for byte in bytes {
+        sum = (sum * 7 + u64::from(*byte)) % 251;
+    }
+    sum
+}
