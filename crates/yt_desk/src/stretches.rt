@@ -95,8 +95,8 @@ impl<C: Core> Board<C> {
     }
 }
 
-// Makes the update's next step, and tells whether it was small: whether its plan was made soon. The snapshot, which shares what
-// the core holds, is let go before the plan is installed.
+// Makes the update's next step, and tells whether it was small: whether its plan was made soon. It takes no snapshot, since
+// nothing else is done meanwhile.
 fn make_step<R: Clock, C: Core>(
     rt: &R,
     core: &mut C,
@@ -109,12 +109,9 @@ fn make_step<R: Clock, C: Core>(
         (C.history core.new)) }
     ensures kept { OnErr result (C.history core.new ≡ C.history core.old) }
 {
-    let snapshot = core.snapshot(alloc, update)?;
     let watch = Watch::start(rt);
-    let planned = C::plan(alloc, &snapshot);
+    let plan = core.next_plan(alloc, update)?;
     let small = watch.shows_small(rt);
-    C::drop_snapshot(snapshot);
-    let plan = planned?;
     core.install(alloc, plan)?;
     Ok(small)
 }
