@@ -16,7 +16,7 @@ ghost use Rattle.yt_core.specs.Planned.{IsStepAt};
 
 use crate::admitting::{admissions, admitted};
 use crate::deliveries::deliver_at;
-use crate::plans::{Plan, Snapshot, planned, snapshot_at};
+use crate::plans::{Plan, Snapshot, plan_at, snapshot_at};
 use crate::putting::step_at;
 use crate::refusals::{DeliverRefusal, StepRefusal};
 use crate::standings::{has_waiting, place_of, question, standing};
@@ -201,6 +201,19 @@ impl<'s> Core<'s> {
         Ok(snapshot)
     }
 
+    /// The next step of an update that is ready, planned without a snapshot. It is refused only for want of memory.
+    pub fn next_plan(&self, alloc: Global, update: u32) -> Result<Plan, Memory>
+        requires ready { standing_at self.now update ≡ Some Ready }
+        ensures update { IfOk result (λ plan. plan.update ≡ update) }
+        ensures step { IfOk result (IsStepAt self.now) }
+    {
+        let place = place_of(update);
+        let mappings = &self.mappings;
+        let versions = &self.versions;
+        let plan = plan_at(alloc, mappings, self.budget, versions, &self.queue, place)?;
+        Ok(plan)
+    }
+
     /// Makes the step of the plan, which is the next one of its update at the present state. It gives the number of the
     /// entry. It is refused only for want of memory; the core is then unchanged.
     pub fn install(&mut self, alloc: Global, plan: Plan) -> Result<u64, Memory>
@@ -287,16 +300,6 @@ impl<'s> Core<'s> {
         let plan = self.next_plan(alloc, update)?;
         let number = self.install(alloc, plan)?;
         Ok(number)
-    }
-
-    // The plan of the next step of the update, which is ready. It is refused only for want of memory.
-    fn next_plan(&self, alloc: Global, update: u32) -> Result<Plan, Memory>
-        requires ready { standing_at self.now update ≡ Some Ready }
-        ensures update { IfOk result (λ plan. plan.update ≡ update) }
-        ensures step { IfOk result (IsStepAt self.now) }
-    {
-        let snapshot = self.snapshot(alloc, update)?;
-        planned(alloc, snapshot)
     }
 
     // Delivers the first of the answers that wait for the update, which is pending, if there is one.

@@ -118,13 +118,52 @@ impl<'s> Snapshot<'s> {
     }
 }
 
-/// The plan of the step of the snapshot, which is given up. It is refused only for want of memory.
-pub(crate) fn planned(alloc: Global, snapshot: Snapshot<'_>) -> Result<Plan, Memory>
-    ensures same { IfOk result (λ plan. plan ≡ snapshot.entry) }
+/// The plan of the next step of the update at the place, which is ready. It is refused only for want of memory.
+pub(crate) fn plan_at(
+    alloc: Global,
+    mappings: &Mappings<'_>,
+    budget: Budget,
+    versions: &Versions,
+    queue: &[Record],
+    place: usize,
+) -> Result<Plan, Memory>
+    requires place { place < length queue.now }
+    requires numbers { AreFrom 1 queue.now }
+    requires ready { AtPlace place queue.now IsReadySomewhere }
+    requires left { AtPlace place queue.now (λ r. r.program.attempt.steps < budget) }
+    requires held { AtPlace place queue.now (IsHeldBy mappings.now versions.now) }
+    ensures planned { IfOk result (λ plan. AtPlace place queue.now (λ r. IsSnapshotOf
+        mappings.now budget versions.now r plan)) }
 {
-    let plan = snapshot.plan(alloc);
-    drop(snapshot);
-    plan
+    let item = &queue[place];
+    let plan = plan_of(alloc, mappings, budget, versions, item)?;
+    Ok(plan)
+}
+
+// The plan of the next step of the record, which is ready.
+fn plan_of(
+    alloc: Global,
+    mappings: &Mappings<'_>,
+    budget: Budget,
+    versions: &Versions,
+    item: &Record,
+) -> Result<Plan, Memory>
+    requires between { IsBetween item.now.program }
+    requires ready { IsReadySomewhere item.now }
+    requires left { item.now.program.attempt.steps < budget }
+    requires held { IsHeldBy mappings.now versions.now item.now }
+    ensures planned { IfOk result (IsSnapshotOf mappings.now budget versions.now item.now) }
+{
+    let update = item.number();
+    let program = &item.program;
+    let settled = settled_by(alloc, mappings.list(), program, item.log.as_slice())?;
+    let below = versions.below(update);
+    let with = versions.below(update + 1);
+    let answer = item.next_answer();
+    let step = plan_step(
+        alloc, program, answer, mappings, budget, &below, &with, settled,
+    )?;
+    Ok(Plan { update, step })
 }
 
 /// A snapshot of the next step of the update at the place, which is ready. It is refused only for want of memory.

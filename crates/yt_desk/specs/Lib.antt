@@ -7,4 +7,5 @@ pub mod Tickets
 pub mod Stretches
 pub mod Seats
 pub mod Calls
+pub mod Offers
 pub mod Closing

@@ -1,4 +1,5 @@
 //! A desk as a bench, which workers work at.
+ghost use Rattle.std.specs.Prelude.{IfOk};
 
 use crate::board::Board;
 use crate::cores::Core;
@@ -56,19 +57,14 @@ impl<C: Core> Bench for Desk<C> {
         seat: &mut Seat<Board<C>>,
         most: u64,
     ) -> Result<Offer<Ticket<C::Snapshot>>, AllocError> {
+        if self.alone {
+            return self.offer_alone(rt, seat);
+        }
         if most > 0 {
-            return match self.stretch(rt, seat, most) {
-                Ok(Stretch { made: _, more }) => Ok(Offer::Moved { more }),
-                Err(_) => Err(AllocError),
-            };
+            let stretch = self.make(rt, seat, most)?;
+            return Ok(Offer::Moved { more: stretch.more });
         }
-        match self.next(rt, seat) {
-            Ok(Next::Ticket(ticket)) => Ok(Offer::Ticket(ticket)),
-            Ok(Next::Delivered { update: _ }) => Ok(Offer::Moved { more: true }),
-            Ok(Next::Idle { in_flight: _ }) => Ok(Offer::Idle),
-            Ok(Next::Quiet) => Ok(Offer::Quiet),
-            Err(_) => Err(AllocError),
-        }
+        self.ask(rt, seat)
     }
 
     fn number(&self, ticket: &Ticket<C::Snapshot>) -> u64 {
@@ -97,6 +93,73 @@ impl<C: Core> Bench for Desk<C> {
 
     fn give_back<R: Wait>(&self, rt: &R, seat: &mut Seat<Board<C>>, ticket: Ticket<C::Snapshot>) {
         Desk::give_back(self, rt, seat, ticket);
+    }
+}
+
+// How many steps a lone seat makes in one turn.
+const AT_ONCE: u64 = 64;
+
+impl<C: Core> Desk<C> {
+    ghost use Rattle.yt_gate.specs.Offers.{IfTicket, IfQuiet, tickets_in};
+    ghost use Rattle.yt_desk.specs.Seats.{IsSeatOf, IsResting};
+    ghost use Rattle.yt_desk.specs.Calls.{IsOutAt};
+    ghost use Rattle.yt_desk.specs.Offers.{HoldsMore};
+
+    // What there is for a lone seat. It makes its steps itself, since nobody waits for the lock meanwhile.
+    fn offer_alone<R: Wait + Clock>(
+        &self,
+        rt: &R,
+        seat: &mut Seat<Board<C>>,
+    ) -> Result<Offer<Ticket<C::Snapshot>>, AllocError>
+        requires own { IsSeatOf C.over C.history self.now seat.old }
+        ensures own { IsSeatOf C.over C.history self.now seat.new }
+        ensures holds { HoldsMore (tickets_in result) seat.old seat.new }
+        ensures ticket { IfOk result (IfTicket (IsOutAt C.over C.is_snapshot self.now seat.new)) }
+        ensures quiet { IfOk result (IfQuiet (IsResting seat.new)) }
+    {
+        let stretch = self.make(rt, seat, AT_ONCE)?;
+        if stretch.made > 0 {
+            return Ok(Offer::Moved { more: true });
+        }
+        self.ask(rt, seat)
+    }
+
+    // Makes steps in one turn, as `stretch` does.
+    fn make<R: Wait + Clock>(
+        &self,
+        rt: &R,
+        seat: &mut Seat<Board<C>>,
+        most: u64,
+    ) -> Result<Stretch, AllocError>
+        requires own { IsSeatOf C.over C.history self.now seat.old }
+        ensures own { IsSeatOf C.over C.history self.now seat.new }
+        ensures holds { HoldsMore 0 seat.old seat.new }
+    {
+        match self.stretch(rt, seat, most) {
+            Ok(stretch) => Ok(stretch),
+            Err(_) => Err(AllocError),
+        }
+    }
+
+    // The first that there is, as `next` gives it.
+    fn ask<R: Wait>(
+        &self,
+        rt: &R,
+        seat: &mut Seat<Board<C>>,
+    ) -> Result<Offer<Ticket<C::Snapshot>>, AllocError>
+        requires own { IsSeatOf C.over C.history self.now seat.old }
+        ensures own { IsSeatOf C.over C.history self.now seat.new }
+        ensures holds { HoldsMore (tickets_in result) seat.old seat.new }
+        ensures ticket { IfOk result (IfTicket (IsOutAt C.over C.is_snapshot self.now seat.new)) }
+        ensures quiet { IfOk result (IfQuiet (IsResting seat.new)) }
+    {
+        match self.next(rt, seat) {
+            Ok(Next::Ticket(ticket)) => Ok(Offer::Ticket(ticket)),
+            Ok(Next::Delivered { update: _ }) => Ok(Offer::Moved { more: true }),
+            Ok(Next::Idle { in_flight: _ }) => Ok(Offer::Idle),
+            Ok(Next::Quiet) => Ok(Offer::Quiet),
+            Err(_) => Err(AllocError),
+        }
     }
 }
 

@@ -72,6 +72,11 @@ pub trait Core {
     fn plan(alloc: Global, snapshot: &Self::Snapshot) -> Result<Self::Plan, Memory>
         ensures plan { IfOk result (IsPlanOf is_snapshot is_plan snapshot.now) };
 
+    /// The update's next step, without a snapshot. It is refused only for want of memory.
+    fn next_plan(&self, alloc: Global, update: u32) -> Result<Self::Plan, Memory>
+        requires ready { IsReady (over self.now) (history self.now) update }
+        ensures plan { IfOk result (λ p. is_plan p (over self.now) (history self.now) update) };
+
     /// The number of the first entry past so many that is in question for the plan. Where there is none the plan, made at
     /// the state before them, is the update's step still. It takes no memory.
     fn touched(&self, plan: &Self::Plan, since: u64) -> Option<u64>

@@ -17,6 +17,8 @@ pub struct Desk<C: Core> {
     lock: StampLock<Board<C>>,
     alloc: Global,
     opened: Snapshot<C>,
+    // Whether there is one seat, so that nobody else waits for the lock.
+    pub(crate) alone: bool,
 }
 
 impl<C: Core> Desk<C> {
@@ -49,6 +51,7 @@ impl<C: Core> Desk<C> {
                     lock,
                     alloc,
                     opened,
+                    alone: seats == 1,
                 },
                 dealt,
             )),
@@ -75,8 +78,8 @@ impl<C: Core> Desk<C> {
         answer
     }
 
-    /// Makes up to `most` steps in one turn, each of the lowest ready update that is not in flight, until there is none or one
-    /// was not small. For want of memory those that were made stay.
+    /// Makes up to `most` steps in one turn, each of the lowest ready update that is not in flight, until there is none or,
+    /// where there are other seats, one was not small. For want of memory those that were made stay.
     pub fn stretch<R: Wait + Clock>(
         &self,
         rt: &R,
@@ -89,7 +92,7 @@ impl<C: Core> Desk<C> {
         ensures stretch { Stretches C.over self.now seat.old seat.new result }
     {
         let (turn, mut board) = self.lock.open(rt, seat);
-        let stretch = board.stretch(rt, self.alloc, seat.number(), most);
+        let stretch = board.stretch(rt, self.alloc, seat.number(), most, self.alone);
         self.lock.close_turn(seat, turn, board);
         stretch
     }
@@ -156,6 +159,7 @@ impl<C: Core> Desk<C> {
             lock,
             alloc: _,
             opened: _,
+            alone: _,
         } = self;
         lock.into_value(seats).into_core()
     }

@@ -16,21 +16,22 @@ impl<C: Core> Board<C> {
     ghost use Rattle.yt_desk.specs.Shared.{items_of};
     ghost use Rattle.yt_desk.specs.Stretches.{MadeStepOn, MakesStepOn, StretchOn};
 
-    /// Makes up to `most` steps for the seat, each of the lowest ready update that is not in flight, until there is none or one
-    /// was not small; one alone where a ticket is out.
+    /// Makes up to `most` steps for the seat, each of the lowest ready update that is not in flight, until there is none or, where
+    /// the seat is not alone, one was not small; no more than one where a ticket is out.
     pub(crate) fn stretch<R: Clock>(
         &mut self,
         rt: &R,
         alloc: Global,
         seat: u64,
         most: u64,
+        alone: bool,
     ) -> Result<Stretch, Memory>
         ensures over { self.new.over ≡ self.old.over }
         ensures stretch { StretchOn seat self.old self.new result }
     {
         let most = self.at_once(most);
         for made in 0..most {
-            match self.step_lowest(rt, alloc, seat)? {
+            match self.step_lowest(rt, alloc, seat, alone)? {
                 Some(true) => {}
                 Some(false) => {
                     return Ok(Stretch {
@@ -56,12 +57,14 @@ impl<C: Core> Board<C> {
         }
     }
 
-    // Makes the step of the lowest ready update that is not in flight, if there is one, and tells whether it was small.
+    // Makes the step of the lowest ready update that is not in flight, if there is one, and tells whether the seat may go on: it is
+    // alone, or the step was small.
     fn step_lowest<R: Clock>(
         &mut self,
         rt: &R,
         alloc: Global,
         seat: u64,
+        alone: bool,
     ) -> Result<Option<bool>, Memory>
         ensures over { self.new.over ≡ self.old.over }
         ensures step { MakesStepOn seat self.old self.new result }
@@ -70,7 +73,7 @@ impl<C: Core> Board<C> {
             return Ok(None);
         };
         let small = self.step_whole(rt, alloc, seat, update)?;
-        Ok(Some(small))
+        Ok(Some(small || alone))
     }
 
     // Makes the step of the lowest ready update that is not in flight, with the marks of a ticket that is given and returned.
@@ -95,8 +98,8 @@ impl<C: Core> Board<C> {
     }
 }
 
-// Makes the update's next step, and tells whether it was small: whether its plan was made soon. The snapshot, which shares what
-// the core holds, is let go before the plan is installed.
+// Makes the update's next step, and tells whether it was small: whether its plan was made soon. It takes no snapshot, since
+// nothing else is done meanwhile.
 fn make_step<R: Clock, C: Core>(
     rt: &R,
     core: &mut C,
@@ -109,12 +112,9 @@ fn make_step<R: Clock, C: Core>(
         (C.history core.new)) }
     ensures kept { OnErr result (C.history core.new ≡ C.history core.old) }
 {
-    let snapshot = core.snapshot(alloc, update)?;
     let watch = Watch::start(rt);
-    let planned = C::plan(alloc, &snapshot);
+    let plan = core.next_plan(alloc, update)?;
     let small = watch.shows_small(rt);
-    C::drop_snapshot(snapshot);
-    let plan = planned?;
     core.install(alloc, plan)?;
     Ok(small)
 }

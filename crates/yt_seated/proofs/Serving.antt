@@ -23,7 +23,7 @@ module _ (a s : State) (same : a ≡ s) where
   pub ready_here : (n : ℕ) → IsReady s.over s.history n → standing_at a n ≡ Some Ready
   ready_here n r = subst (λ (x : State). standing_at x n ≡ Some Ready) (sym same) (ready_stands s n r)
 
-  -- A snapshot that was taken of a ready update is its step.
+  -- A snapshot or a plan that was made of a ready update is its step.
   pub snapshot_is : {E : Type 0} (r : Result PlanMeant E) (n : ℕ) → IsReady s.over s.history n → IfOk r (λ p. p.update ≡ n) → IfOk r (IsStepAt a) → IfOk r (λ p. IsStepOf p s.over s.history n)
   snapshot_is (Ok p) n ready number step = record { update = number; ready = ready; step = subst (λ (x : State). IsStepAt x p) same step }
   snapshot_is (Err e) n ready number step = tt

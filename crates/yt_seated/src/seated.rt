@@ -99,6 +99,10 @@ impl<'s> yt_desk::Core for Seated<'s> {
         snapshot.plan(alloc)
     }
 
+    fn next_plan(&self, alloc: Global, update: u32) -> Result<Plan, Memory> {
+        self.core.next_plan(alloc, update)
+    }
+
     fn touched(&self, plan: &Plan, since: u64) -> Option<u64> {
         self.core.is_legal();
         let history = self.core.history();

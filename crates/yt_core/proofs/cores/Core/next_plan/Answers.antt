@@ -1,13 +1,36 @@
-use Rattle.std.proofs.Common.{subst, sym, ap, ◌∙◌}
-use Rattle.yt_core.specs.Planned.{PlanMeant, IsStepAt}
-use Rattle.yt_core.proofs.Placing.{if_ok}
+use Rattle.std.proofs.Common.{refl}
+use Rattle.yt_core.proofs.Making.{some_number, ready_within, ready_numbers, ready_placed, left_placed, held_placed, snapshot_update, snapshot_step}
 use Rattle.yt_core.proofs.cores.Core.next_plan.Goals as goal
 
-pub snapshot-requires : goal.snapshot-requires
-snapshot-requires c = record { ready = c.requires.ready }
+pub place_of-place-requires : goal.place_of-place-requires
+place_of-place-requires c = some_number c.args.self.now c.args.update _ c.requires.ready
+
+pub plan_at-requires-clause-place : goal.plan_at-requires-clause-place
+plan_at-requires-clause-place c =
+    ready_within _ c.self.inside.versions c.self.inside.queue.items _ _ c.self.invariant.0 c.self.view_is c.args.update c.requires.ready c.place_of-place.result c.place_of-place.ensures c.deref.result.now c.deref.ensures.value
+
+pub plan_at-requires-clause-numbers : goal.plan_at-requires-clause-numbers
+plan_at-requires-clause-numbers c =
+    ready_numbers _ c.self.inside.versions c.self.inside.queue.items _ _ c.self.invariant.0 c.self.view_is c.args.update c.requires.ready c.place_of-place.result c.place_of-place.ensures c.deref.result.now c.deref.ensures.value
+
+pub plan_at-requires-clause-ready : goal.plan_at-requires-clause-ready
+plan_at-requires-clause-ready c =
+    ready_placed _ c.self.inside.versions c.self.inside.queue.items _ _ c.self.invariant.0 c.self.view_is c.args.update c.requires.ready c.place_of-place.result c.place_of-place.ensures c.deref.result.now c.deref.ensures.value
+
+pub plan_at-requires-clause-left : goal.plan_at-requires-clause-left
+plan_at-requires-clause-left c =
+    left_placed _ c.self.inside.versions c.self.inside.queue.items _ _ c.self.invariant.0 c.self.view_is c.args.update c.requires.ready c.place_of-place.result c.place_of-place.ensures c.deref.result.now c.deref.ensures.value
+
+pub plan_at-requires-clause-held : goal.plan_at-requires-clause-held
+plan_at-requires-clause-held c =
+    held_placed _ c.self.inside.versions c.self.inside.queue.items _ _ c.self.invariant.0 c.self.view_is c.args.update c.requires.ready c.place_of-place.result c.place_of-place.ensures c.deref.result.now c.deref.ensures.value
 
 pub returns-clause-update : goal.returns-clause-update
-returns-clause-update c = if_ok c.planned.result _ _ (λ plan same. ap (λ (p : PlanMeant). p.update) same ∙ c.in_ok-snapshot.ensures.update) c.planned.ensures.same
+returns-clause-update c =
+    snapshot_update _ c.self.inside.versions c.self.inside.queue.items _ _ c.self.invariant.0 c.self.view_is c.args.update c.requires.ready c.place_of-place.result c.place_of-place.ensures c.deref.result.now c.deref.ensures.value
+    _ refl c.in_ok-plan.plan c.in_ok-plan.ensures.planned
 
 pub returns-clause-step : goal.returns-clause-step
-returns-clause-step c = if_ok c.planned.result _ _ (λ plan same. subst (λ (p : PlanMeant). IsStepAt c.args.self.now p) (sym same) c.in_ok-snapshot.ensures.step) c.planned.ensures.same
+returns-clause-step c =
+    snapshot_step _ c.self.inside.versions c.self.inside.queue.items _ _ c.self.invariant.0 c.self.view_is c.args.update c.requires.ready c.place_of-place.result c.place_of-place.ensures c.deref.result.now c.deref.ensures.value
+    _ refl c.in_ok-plan.plan c.in_ok-plan.ensures.planned
