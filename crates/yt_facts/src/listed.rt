@@ -191,6 +191,9 @@ impl ListedFacts {
         ensures none { IsTrue result →
             list_any (is_candidate_tuple relation (option_map column_of column.entry)) self.now ≡ false }
     {
+        if self.tuples.is_empty() {
+            return true;
+        }
         for tuple in ahead(self.tuples.as_slice(), relation, None) {
             if tuple.relation > relation {
                 return true;
