@@ -28,6 +28,10 @@ pub fn settled_by(
         AreValidOver (rules_in mappings.now) D program.now.attempt (map read_of log.now) →
         HasSettled (rules_in mappings.now) D program.now.attempt settled) }
 {
+    if !program.is_looking() {
+        let none = Settled::none(alloc, 0)?;
+        return Ok(none);
+    }
     let made = made_before(log);
     let mut settled = begun(alloc, mappings, made)?;
     learn_last(&mut settled, log, made);

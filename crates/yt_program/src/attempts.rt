@@ -1,9 +1,13 @@
 //! What a program tells of its attempt, and a copy of it.
-ghost use Rattle.std.specs.Prelude.{◌≡◌, ◌≤◌, map, IfOk};
+ghost use Rattle.std.specs.Prelude.{◌≡◌, ◌≤◌, ◌↔◌, map, IfOk, IsTrue};
+ghost use Rattle.yt_steps.specs.Attempts.{Look};
 ghost use Rattle.yt_model.specs.Updates.{direction_of};
 ghost use Rattle.yt_base.specs.Meanings.{change_of, heading_of};
 
+use crate::points::Point;
 use crate::programs::Program;
+use crate::repairing::is_repaired;
+use crate::rows::Row;
 use std::alloc::Global;
 use yt_base::{Direction, Memory, TryCopy, WriteList};
 
@@ -51,6 +55,19 @@ impl Program {
         ensures most { result ≤ self.now.attempt.steps }
     {
         self.taken
+    }
+
+    /// Whether its next step, or the step in hand, is a look.
+    pub fn is_looking(&self) -> bool
+        ensures looking { IsTrue result ↔ (self.now.attempt.phase ≡ Look) }
+    {
+        match &self.point {
+            Point::Start => false,
+            Point::Look => true,
+            Point::Repair(repair) => is_repaired(repair),
+            Point::Ended(_) => false,
+            Point::Reading(reading) => matches!(reading.row, Row::Forcing(_) | Row::Violating(_)),
+        }
     }
 
     /// The direction of its repairs.

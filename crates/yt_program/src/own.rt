@@ -1,7 +1,7 @@
 //! The writes of an attempt, which copies of it share.
-ghost use Rattle.std.specs.Prelude.{◌≡◌, [], ◌++◌, IfOk, OnOk, OnErr};
+ghost use Rattle.std.specs.Prelude.{◌≡◌, [], ◌++◌, map, IfOk, OnOk, OnErr};
 ghost use Rattle.yt_base.specs.Contents.{changes_of};
-ghost use Rattle.yt_base.specs.Meanings.{choice_of, operation_of};
+ghost use Rattle.yt_base.specs.Meanings.{change_of, choice_of, operation_of};
 ghost use Rattle.yt_query.specs.Meanings.{reply_of};
 ghost use Rattle.yt_chase.specs.Stands.{wanted, TakesReply, TakesChoice};
 ghost use Rattle.yt_chase.specs.Transitions.{AsksAs, HasAnswered, HasChosen};
@@ -13,7 +13,7 @@ use std::alloc::Global;
 use std::marker::Model;
 use std::mem;
 use std::sync::Arc;
-use yt_base::{Choice, Memory, Operation, TryCopy, WriteList};
+use yt_base::{Choice, Memory, Operation, TryCopy, Write, WriteList};
 use yt_chase::{Progress, Repair};
 use yt_limits::Mappings;
 use yt_query::Answer;
@@ -117,7 +117,7 @@ impl Own {
             Held::Alone(writes) => Ok(mem::replace(writes, WriteList::new(alloc))),
             Held::Shared(writes) => {
                 let writes: &WriteList = writes;
-                let copy = writes.copy(alloc)?;
+                let copy = copied(alloc, writes.as_slice())?;
                 Ok(copy)
             }
         }
@@ -178,7 +178,7 @@ impl Own {
             Held::Alone(own) => repair.answer(alloc, own, answer, mappings),
             Held::Shared(shared) => {
                 let shared: &WriteList = shared;
-                let mut own = shared.copy(alloc)?;
+                let mut own = copied(alloc, shared.as_slice())?;
                 let progress = repair.answer(alloc, &mut own, answer, mappings);
                 self.held = Held::Alone(own);
                 progress
@@ -206,4 +206,16 @@ impl Own {
         self.held = Held::Alone(own);
         progress
     }
+}
+
+// A copy of the writes with room for one more. It is refused only for want of memory.
+fn copied(alloc: Global, writes: &[Write]) -> Result<WriteList, Memory>
+    ensures same { IfOk result (λ copy. changes_of copy ≡ map change_of writes.now) }
+{
+    let mut copy = WriteList::new(alloc);
+    copy.reserve(writes.len().saturating_add(1))?;
+    for write in writes {
+        copy.push(write.copy(alloc)?)?;
+    }
+    Ok(copy)
 }

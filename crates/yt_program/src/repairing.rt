@@ -1,5 +1,5 @@
 //! What the repair in hand wants, as its program wants it.
-ghost use Rattle.std.specs.Prelude.{◌≡◌, true, false, None};
+ghost use Rattle.std.specs.Prelude.{◌≡◌, ◌↔◌, true, false, None, IsTrue};
 ghost use Rattle.yt_steps.specs.Attempts.{Look};
 ghost use Rattle.yt_chase.specs.Repairs.{is_asking, phase_of};
 ghost use Rattle.yt_chase.specs.Stands.{wanted, WantsStep};
@@ -29,4 +29,11 @@ pub(crate) fn generates(repair: &Repair) -> bool
     ensures looks { result ≡ false → phase_of repair.now ≡ Look }
 {
     matches!(repair.wants(), RepairWant::NextStep)
+}
+
+/// Whether the repair has ended, so that a look comes next.
+pub(crate) fn is_repaired(repair: &Repair) -> bool
+    ensures repaired { IsTrue result ↔ (phase_of repair.now ≡ Look) }
+{
+    matches!(repair.wants(), RepairWant::Finished)
 }
