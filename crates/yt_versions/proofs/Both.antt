@@ -1,22 +1,25 @@
 -- What an update reads: what is left of the base and what stands in the rows, as one.
 use Rattle.std.proofs.Common.{◌≡◌, ℕ, suc, ◌-◌, ap, refl, sym, ◌∙◌, subst, List, [], ◌∷◌, length, take, Bool, true, false, ◌||◌, ◌&&◌, not, cond, filter, Option, Some, None, arith}
 use Rattle.std.proofs.lemmas.Bool.{eqb-true}
-use Rattle.std.specs.Option.{is_some}
-use Rattle.std.specs.Prelude.{◌==◌, IfNone}
+use Rattle.std.specs.Borrow.{Bor}
+use Rattle.std.specs.Option.{is_some, option_copied, option_map}
+use Rattle.std.specs.Prelude.{◌==◌, find, IfNone}
 use Rattle.yt_base.specs.Candidates.{is_candidate, further_candidates, AreFirst}
+use Rattle.yt_base.specs.Meanings.{fact_of}
 use Rattle.yt_base.specs.declared.tuples.Tuple.{Tuple}
 use Rattle.yt_facts.proofs.Overlays.{has-overlaid, overlaid_in_order}
-use Rattle.yt_model.specs.Cursors.{is_beyond}
+use Rattle.yt_model.specs.Cursors.{first_of, is_beyond, is_of, is_scanned, scan_of}
 use Rattle.yt_model.specs.Repository.{IsRepository, has}
 use Rattle.yt_model.specs.Values.{Datum, Fact}
 use Rattle.yt_model.proofs.Bools.{differ}
 use Rattle.yt_model.proofs.Members.{has-filter}
-use Rattle.yt_model.proofs.Searches.{filter_all}
+use Rattle.yt_model.proofs.Searches.{filter_all, filter_within, none_passes}
 use Rattle.yt_model.proofs.Sets.{filter_in_order}
 use Rattle.yt_tree.specs.Few.{Batch, most}
 use Rattle.yt_versions.specs.Marked.{visible}
 use Rattle.yt_versions.specs.Runs.{left_of, merged}
 use Rattle.yt_versions.specs.Standing.{AreKept, Kept, is_left, seen}
+use Rattle.yt_versions.proofs.Gathering.{scan_candidates}
 use Rattle.yt_versions.proofs.Merged.{merged_passing, room_taken, take_merged}
 use Rattle.yt_versions.proofs.Seeing.{visible_in_order}
 
@@ -115,3 +118,23 @@ none_there (u ∷ D) e = let z : suc (length D) ≡ 0 = eqb-true (suc (length D)
 pub none_came : {X : Type 0} (o : Option X) (D : List Fact) → IfNone o (D ≡ []) → (b : Bool) → b ≡ true → is_some o ≡ not b → [] ≡ D
 none_came None D end b t e = sym end
 none_came (Some x) D end b t e = differ (sym (e ∙ ap not t))
+
+-- ---- what the base lacks
+
+none_found : (o : Option (Bor Tuple)) (p : Fact → Bool) (D : List Fact) → option_map fact_of (option_copied o) ≡ find p D → (b : Bool) → b ≡ true → is_some o ≡ not b → filter p D ≡ []
+none_found None p D found b t e = none_passes p D (sym found)
+none_found (Some x) p D found b t e = differ (sym (e ∙ ap not t))
+
+pub lacks_value : (o : Option (Bor Tuple)) (D : List Fact) (r c : ℕ) (d : Datum) (past : Option Fact) → option_map fact_of (option_copied o) ≡ scan_of D r c d past → (b : Bool) → b ≡ true → is_some o ≡ not b
+    → further_candidates D r (Some (c, d)) past ≡ []
+lacks_value o D r c d past found b t e = sym (scan_candidates D r c d past) ∙ none_found o (is_scanned r c d past) D found b t e
+
+pub lacks_relation : (o : Option (Bor Tuple)) (D : List Fact) (r : ℕ) (past : Option Fact) → option_map fact_of (option_copied o) ≡ first_of D r → (b : Bool) → b ≡ true → is_some o ≡ not b → further_candidates D r None past ≡ []
+lacks_relation o D r None found b t e = none_found o (is_of r) D found b t e
+lacks_relation o D r (Some u) found b t e =
+    filter_within (λ v. is_of r v && is_beyond (Some u) v) (is_of r) (λ v h. first (is_of r v) (is_beyond (Some u) v) h) D
+    ∙ ap (filter (λ v. is_of r v && is_beyond (Some u) v)) (none_found o (is_of r) D found b t e)
+  where
+    first : (a c : Bool) → (a && c) ≡ true → a ≡ true
+    first true c h = refl
+    first false c h = h

@@ -1,5 +1,5 @@
 //! What is read of versions by an update: what is left of the base, and what stands in the table.
-ghost use Rattle.std.specs.Prelude.{◌≡◌, find, map, IfOk};
+ghost use Rattle.std.specs.Prelude.{◌≡◌, [], find, map, IfOk, IsTrue};
 ghost use Rattle.std.specs.Option.{option_map, option_copied};
 ghost use Rattle.yt_model.specs.Cursors.{is_beyond, first_of, next_of, scan_of};
 ghost use Rattle.yt_model.specs.Repository.{has, IsRepository};
@@ -112,7 +112,28 @@ impl Versions {
             Candidates::Listed(tuples) => {
                 self.with_written(number, relation, column, past, Run::Listed(tuples))
             }
-            _ => Candidates::Apart,
+            _ => {
+                if self.base_lacks(relation, column, past) {
+                    return Candidates::Few(self.table().candidates(number, relation, column, past));
+                }
+                Candidates::Apart
+            }
+        }
+    }
+
+    // Whether it is plain that the base has none of them.
+    fn base_lacks(&self, relation: u16, column: Option<Column<'_>>, past: Option<&Tuple>) -> bool
+        ensures none { IsTrue result → further_candidates self.now.base relation
+            (option_map column_of column.entry) (option_map fact_of (option_copied past.entry)) ≡
+            [] }
+    {
+        let base = self.base();
+        match column {
+            Some(column) => {
+                let found = base.scan(relation, column.number, column.value, past);
+                found.is_none()
+            }
+            None => base.first(relation).is_none(),
         }
     }
 
