@@ -291,12 +291,12 @@ module _ (g : Ground) (v : Kept) (rs : List Record) (H : List PlainEntry) (s : S
 pub few_updates : (us xs : List SessionUpdate) → xs ≡ us → length (map session_update_of us) ≤ 1000 → length xs ≤ 1000
 few_updates us xs e h = let l : length xs ≡ length us = ap (λ ys. length ys) e in omega (arith, h, l, mapped_long session_update_of us)
 
-pub opened_by : (ms : List Rule) (B : ℕ) (c : Settings) (base : Listed Tuple) (us : Listed SessionUpdate) (later : Listed UpdateOfProgram) (ts : List Tuple) (xs : List SessionUpdate) (v : Kept) (rs : List Record) (es : List Entry) → later.items ≡ [] → 1 ≤ B → c.retries ≤ 4 → AreWithin ms → IsRepository (map fact_of base.items)
-    → length xs ≤ 1000 → ts ≡ base.items → xs ≡ us.items → AreAdmitted xs rs → AreFrom 1 rs → length rs ≡ length xs → map entry_of es ≡ admissions_from 1 (length xs) → StandFor v (map fact_of ts) no_trails
+pub opened_by : (ms : List Rule) (B : ℕ) (c : Settings) (base : Listed Tuple) (us : Listed SessionUpdate) (later : Listed UpdateOfProgram) (D : List Fact) (xs : List SessionUpdate) (v : Kept) (rs : List Record) (es : List Entry) → later.items ≡ [] → 1 ≤ B → c.retries ≤ 4 → AreWithin ms → IsRepository (map fact_of base.items)
+    → length xs ≤ 1000 → D ≡ map fact_of base.items → xs ≡ us.items → AreAdmitted xs rs → AreFrom 1 rs → length rs ≡ length xs → map entry_of es ≡ admissions_from 1 (length xs) → StandFor v D no_trails
     → IsKept (ground_by ms B c base us later) v rs (map entry_of es)
-opened_by ms B c base us later ts xs v rs es none some retries within' sorted few tuples updates are numbers long entries stands =
+opened_by ms B c base us later D xs v rs es none some retries within' sorted few tuples updates are numbers long entries stands =
     opened_kept ms B c base us later v rs es (length xs) none some retries within' sorted (subst (λ (ys : List SessionUpdate). length ys ≤ 1000) updates few) (subst (λ (ys : List SessionUpdate). AreAdmitted ys rs) updates are) numbers
-    (long ∙ ap (λ ys. length ys) updates) (ap (λ ys. length ys) updates) entries (subst (λ (ys : List Tuple). StandFor v (map fact_of ys) no_trails) tuples stands)
+    (long ∙ ap (λ ys. length ys) updates) (ap (λ ys. length ys) updates) entries (subst (λ (E : List Fact). StandFor v E no_trails) tuples stands)
 
 pub opened_is : (s : SessionData) (ms : List Rule) (B : ℕ) (c : Settings) (base : Listed Tuple) (us : Listed SessionUpdate) (later : Listed UpdateOfProgram) (xs : List SessionUpdate) (es : List Entry) → later.items ≡ [] → ms ≡ rules_of s.mappings → xs ≡ us.items
     → map entry_of es ≡ admissions_from 1 (length xs) → s.base ≡ map fact_of base.items → requests_in s ≡ map request_of (map session_update_of us.items)

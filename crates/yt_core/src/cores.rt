@@ -25,13 +25,14 @@ use std::alloc::Global;
 use std::marker::Model;
 use yt_base::{Memory, TupleList, UpdateList};
 use yt_entries::{Entry, EntryList, Standing};
+use yt_facts::IndexedFacts;
 use yt_frontier::Question;
 use yt_limits::{Budget, Mappings};
 use yt_queue::{
     Record, Settings, committed_from, is_quiet, lowest_deliverable, lowest_ready,
     lowest_ready_besides, reads_at_most,
 };
-use yt_serial::mappings_of;
+use yt_serial::{base_of, mappings_of};
 use yt_session::{Session, SessionUpdates};
 use yt_versions::Versions;
 
@@ -83,8 +84,25 @@ impl<'s> Core<'s> {
         ensures opened { IfOk result (λ core. core ≡ opened (session_of session.now) budget
             (settings_of settings) (length session.now.updates.items)) }
     {
+        let base = base_of(alloc, session)?;
+        Core::open_over(alloc, session, base, settings, budget)
+    }
+
+    /// The same over its base, which is handed over as a set of tuples (`base_of`). It is refused only for want of memory.
+    pub fn open_over(
+        alloc: Global,
+        session: &'s Session,
+        base: IndexedFacts,
+        settings: Settings,
+        budget: Budget,
+    ) -> Result<Core<'s>, Memory>
+        requires valid { IsSession (session_of session.now) }
+        requires retries { settings.retries ≤ 4 }
+        requires base { base ≡ (session_of session.now).base }
+        ensures opened { IfOk result (λ core. core ≡ opened (session_of session.now) budget
+            (settings_of settings) (length session.now.updates.items)) }
+    {
         budget.is_within();
-        let base = session.base.as_slice();
         let versions = Versions::of(alloc, base)?;
         let updates = session.updates.as_slice();
         let queue = admitted(alloc, updates)?;

@@ -33,7 +33,7 @@ asked_for trace m n c d s x steps settings is =
 
 -- ---- the base
 
-pub refused : (trace : Bool) (n : ℕ) (c : Settings) (s : SessionData) (output : Output) → IsRefusal s (Some output) → running trace n c s (view_of output)
+pub refused : (trace : Bool) (n : ℕ) (c : Settings) (s : SessionData) (output : Output) → IsRefusal s output → running trace n c s (view_of output)
 refused trace n c s output is = subst (λ found. UnlessViolated s (RunsTo trace n c s) found (view_of output)) (sym is.1) is.2
 
 pub met : (trace : Bool) (n : ℕ) (c : Settings) (s : SessionData) (x : OutputView) → base_violation s ≡ None → RunsTo trace n c s x → running trace n c s x

@@ -1,5 +1,5 @@
 //! The command `run`.
-ghost use Rattle.std.specs.Prelude.{◌≡◌, ◌≤◌, ◌++◌, length, map, None, IfOk};
+ghost use Rattle.std.specs.Prelude.{◌≡◌, ◌≤◌, ◌++◌, length, map, None, IfOk, IfErr};
 ghost use Rattle.yt_command.specs.Devices.{change};
 ghost use Rattle.yt_command.specs.Outputs.{view_of};
 ghost use Rattle.yt_command.specs.Rows.{Makes, Row};
@@ -22,12 +22,13 @@ use yt_base::Memory;
 use yt_command::{Command, Failure, INPUT_LIMIT, Output, Status, deliver, fail};
 use yt_commands::{Format, OnSession, base_refusal, base_violation, ending_by};
 use yt_entries::Entry;
+use yt_facts::IndexedFacts;
 use yt_gate::Gate;
 use yt_limits::Budget;
 use yt_reader::{ReadFailure, read_session};
 use yt_report::result_text;
 use yt_schema::Schema;
-use yt_seated::{WorkedSession, worked};
+use yt_seated::{WorkedSession, worked_over};
 use yt_serial::base_of;
 use yt_session::Session;
 use yt_text::{Sink, Source, read_all};
@@ -45,15 +46,18 @@ pub struct Run {
     pub trace: bool,
 }
 
-// The refusal of a session whose base violates a mapping.
-fn refusal(alloc: Global, session: &Session) -> Result<Option<Output>, Memory>
+// The base of the session as a set of tuples, where it violates no mapping; else the refusal that tells the violation.
+fn met_base(alloc: Global, session: &Session) -> Result<Result<IndexedFacts, Output>, Memory>
     requires valid { IsSession (session_of session.now) }
-    ensures { IfOk result (IsRefusal (session_of session.now)) }
+    ensures base { IfOk result (λ found. IfOk found (λ base. base ≡ (session_of session.now).base)) }
+    ensures met { IfOk result (λ found. IfOk found (λ _.
+        base_violation (session_of session.now) ≡ None)) }
+    ensures violated { IfOk result (λ found. IfErr found (IsRefusal (session_of session.now))) }
 {
     let base = base_of(alloc, session)?;
     match base_violation(alloc, session, &base)? {
-        Some(violated) => Ok(Some(base_refusal(alloc, &session.schema, &violated)?)),
-        None => Ok(None),
+        Some(violated) => Ok(Err(base_refusal(alloc, &session.schema, &violated)?)),
+        None => Ok(Ok(base)),
     }
 }
 
@@ -99,15 +103,17 @@ impl Run {
         gate: &G,
         alloc: Global,
         session: &Session,
+        base: IndexedFacts,
     ) -> Result<Output, Memory>
         requires valid { IsSession (session_of session.now) }
         requires met { base_violation (session_of session.now) ≡ None }
+        requires base { base ≡ (session_of session.now).base }
         ensures { IfOk result (λ output. RunsTo self.trace self.budget
             (settings_of self.crew.settings) (session_of session.now) (view_of output)) }
     {
         let settings = self.crew.settings();
         let seats = self.crew.seats();
-        let run = worked(rt, gate, alloc, session, settings, self.budget, seats)?;
+        let run = worked_over(rt, gate, alloc, session, base, settings, self.budget, seats)?;
         let output = run_output(alloc, session, &run, self.trace)?;
         Ok(output)
     }
@@ -124,9 +130,9 @@ impl Run {
         ensures { IfOk result (λ output. running self.trace self.budget
             (settings_of self.crew.settings) (session_of session.now) (view_of output)) }
     {
-        match refusal(alloc, session)? {
-            Some(refused) => Ok(refused),
-            None => Ok(self.work(rt, gate, alloc, session)?),
+        match met_base(alloc, session)? {
+            Ok(base) => Ok(self.work(rt, gate, alloc, session, base)?),
+            Err(refused) => Ok(refused),
         }
     }
 

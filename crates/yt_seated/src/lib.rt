@@ -7,4 +7,4 @@ mod seated;
 mod sessions;
 
 pub use crate::seated::Seated;
-pub use crate::sessions::{WorkedSession, worked};
+pub use crate::sessions::{WorkedSession, worked, worked_over};

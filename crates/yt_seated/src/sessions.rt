@@ -17,11 +17,12 @@ use std::time::Clock;
 use yt_base::Memory;
 use yt_core::Core;
 use yt_entries::Entry;
+use yt_facts::IndexedFacts;
 use yt_gate::Gate;
 use yt_limits::Budget;
 use yt_program::SessionResult;
 use yt_queue::Settings;
-use yt_serial::mappings_of;
+use yt_serial::{base_of, mappings_of};
 use yt_session::Session;
 use yt_workers::run;
 
@@ -87,7 +88,33 @@ pub fn worked<'s, R: Threads + Wait + Clock + Sync, G: Gate + Sync>(
     ensures settings { IfOk result (λ run. run.settings ≡ settings_of settings) }
     ensures whole { IfOk result IsWholeRun }
 {
-    let core = Core::open(alloc, session, settings, budget)?;
+    let base = base_of(alloc, session)?;
+    worked_over(rt, gate, alloc, session, base, settings, budget, seats)
+}
+
+/// The same over the base of the session, which is handed over as a set of tuples (`base_of`). It is refused only for want of
+/// memory.
+pub fn worked_over<'s, R: Threads + Wait + Clock + Sync, G: Gate + Sync>(
+    rt: &R,
+    gate: &G,
+    alloc: Global,
+    session: &'s Session,
+    base: IndexedFacts,
+    settings: Settings,
+    budget: Budget,
+    seats: u64,
+) -> Result<WorkedSession<'s>, Memory>
+    requires valid { IsSession (session_of session.now) }
+    requires met { base_violation (session_of session.now) ≡ None }
+    requires base { base ≡ (session_of session.now).base }
+    requires retries { settings.retries ≤ 4 }
+    requires seats { (1 ≤ seats) × (seats ≤ 16) }
+    ensures session { IfOk result (λ run. run.session ≡ session_of session.now) }
+    ensures budget { IfOk result (λ run. run.budget ≡ budget) }
+    ensures settings { IfOk result (λ run. run.settings ≡ settings_of settings) }
+    ensures whole { IfOk result IsWholeRun }
+{
+    let core = Core::open_over(alloc, session, base, settings, budget)?;
     core.is_legal();
     let seated = Seated::new(core, mappings_of(session).list());
     match run(rt, gate, alloc, seated, seats) {

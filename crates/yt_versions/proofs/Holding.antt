@@ -18,10 +18,10 @@ use Rattle.yt_versions.proofs.Seeing.{find_same}
 use Rattle.yt_versions.proofs.Seen.{seen_stands}
 use Rattle.yt_versions.proofs.Scanning.{found_passes}
 
-abbrev is_held : Fact → Tuple × Marks → Bool
+abbrev pub is_held : {V : Type 0} → Fact → Tuple × V → Bool
 is_held t = is_sought (λ k. fact_cmp (fact_of k) t) (λ _. true)
 
-held_same : (t : Fact) (e : Tuple × Marks) → is_held t e ≡ same_fact t (fact_of e.0)
+pub held_same : {V : Type 0} (t : Fact) (e : Tuple × V) → is_held t e ≡ same_fact t (fact_of e.0)
 held_same t e = and-true (is_eq (fact_cmp (fact_of e.0) t)) ∙ (eq_by_cmp_equiv fact_total).symm (fact_of e.0) t
 
 pub held_tuple : (t : Fact) (rows : List (Tuple × Marks)) {e : Tuple × Marks} → Some e ≡ find (is_held t) rows → fact_of e.0 ≡ t

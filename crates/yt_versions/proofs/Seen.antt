@@ -13,10 +13,12 @@ use Rattle.yt_model.proofs.Sets.{same_exact, has-apply, same_repository, apply_i
 use Rattle.yt_tree.specs.Orders.{IsOrdered}
 use Rattle.yt_versions.specs.Chains.{AreMarks, AllMarked}
 use Rattle.yt_versions.specs.Marked.{stands, visible, marks_at, no_marks}
-use Rattle.yt_versions.specs.Standing.{SeenLaw}
+use Rattle.yt_facts.proofs.Overlays.{has-overlaid, overlaid_in_order}
+use Rattle.yt_versions.specs.Based.{base_marks}
+use Rattle.yt_versions.specs.Standing.{AreKept, Kept, SeenLaw, is_left, known_at, seen}
 use Rattle.yt_versions.specs.Trails.{writes_below}
 use Rattle.yt_versions.specs.declared.marks.Marks.{Marks}
-use Rattle.yt_versions.proofs.Seeing.{below_visible, visible_in_order}
+use Rattle.yt_versions.proofs.Seeing.{below_visible}
 use Rattle.yt_versions.proofs.Chained.{stands_after}
 
 none_has : (t : Fact) (D : List Fact) → AllByRecursion (λ y. fact_cmp t y ≡ Less) D → has D t ≡ false
@@ -49,10 +51,27 @@ marks_in_order (e ∷ es) t a = by (same_fact t (fact_of e.0)) (marks_in_order e
     by true i = a.0
     by false i = i
 
+-- What is known of each tuple is in order.
+known_in_order : (v : Kept) (t : Fact) → AllMarked v.rows → AreMarks (known_at v t)
+unfolding IsStrictlySortedBy
+known_in_order v t a = by (is_left v t)
+  where
+    by : (b : Bool) → AreMarks (cond b base_marks (marks_at v.rows t))
+    by true = tt
+    by false = marks_in_order v.rows t a
+
+-- A tuple is seen where it stands by what is known of it.
+pub seen_known : (n : ℕ) (v : Kept) → AreKept v → (t : Fact) → has (seen n v) t ≡ stands n (known_at v t)
+seen_known n v kept t = has-overlaid v.base v.taken (visible n v.rows) t ∙ by (is_left v t)
+  where
+    by : (b : Bool) → (b || has (visible n v.rows) t) ≡ stands n (cond b base_marks (marks_at v.rows t))
+    by true = refl
+    by false = seen_stands n v.rows kept.rows.order t
+
 pub seen_is_applied : SeenLaw
 seen_is_applied v D trails d for n =
-    same_repository (visible n v.rows) (apply D (writes_below trails n)) (visible_in_order n v.rows for.rows.order) (apply_in_order D (writes_below trails n) d)
-    (λ t. seen_stands n v.rows for.rows.order t
-    ∙ stands_after trails t (marks_at v.rows t) (marks_in_order v.rows t for.rows.marks) (λ k. for.marks k t) n
+    same_repository (seen n v) (apply D (writes_below trails n)) (overlaid_in_order v.base v.taken (visible n v.rows) for.kept.order) (apply_in_order D (writes_below trails n) d)
+    (λ t. seen_known n v for.kept t
+    ∙ stands_after trails t (known_at v t) (known_in_order v t for.kept.rows.marks) (λ k. for.marks k t) n
     ∙ ap (λ b. inserted_after b (writes_below trails n) t) (for.base t)
     ∙ sym (has-apply D (writes_below trails n) t))

@@ -143,14 +143,6 @@ pub row_set : (old new : List (Tuple × Marks)) (k : Tuple) (s : Fact) (m : Mark
 row_set old new k s m set tuple t =
     ap (λ es. marks_at es t) set ∙ marks_set (on_total fact_of fact_total) (λ x. same_fact t (fact_of x)) (one_row t) old k m ∙ ap (λ z. cond (same_fact t z) m (marks_at old t)) tuple
 
--- What is made of the marks of s is made of those of t, where t is s.
-pub at_itself : (f : Marks → Marks) (rows : List (Tuple × Marks)) (s t : Fact) → cond (same_fact t s) (f (marks_at rows s)) (marks_at rows t) ≡ cond (same_fact t s) (f (marks_at rows t)) (marks_at rows t)
-at_itself f rows s t = by (same_fact t s) refl
-  where
-    by : (b : Bool) → same_fact t s ≡ b → cond b (f (marks_at rows s)) (marks_at rows t) ≡ cond b (f (marks_at rows t)) (marks_at rows t)
-    by true e = ap (λ z. f (marks_at rows z)) (sym (same_exact t s e))
-    by false e = refl
-
 pub index_kept : (s : Fact) (m : Marks) (rows more : List (Tuple × Marks)) (cells after : List (Cell × Marks)) → IsIndex rows cells → CellsHave s (length s.values) m cells after
     → ((t : Fact) → marks_at more t ≡ cond (same_fact t s) m (marks_at rows t)) → IsIndex more after
 index_kept s m rows more cells after index have set c t = have c t ∙ by (same_fact t s) refl

@@ -9,14 +9,16 @@ use Rattle.std.specs.declared.cmp.Ordering.{Ordering}
 use Rattle.std.specs.declared.cmp.Ordering.TheVariants.{Less, Equal, Greater}
 use Rattle.std.specs.declared.cmp.Reverse.{Reverse}
 use Rattle.yt_model.specs.Values.{Fact, same_fact}
-use Rattle.yt_model.specs.Repository.{Change, Insert, Delete, has, inserted_after}
+use Rattle.yt_model.specs.Repository.{Change, Insert, Delete, IsRepository, has, inserted_after}
 use Rattle.yt_model.proofs.Bools.{and-true, and-false}
 use Rattle.yt_model.proofs.Sets.{has-apply}
 use Rattle.yt_tree.specs.Orders.{is_at, without}
 use Rattle.yt_versions.specs.Chains.{newest_cmp, AreRows}
 use Rattle.yt_versions.specs.Marked.{marks_at, no_marks}
-use Rattle.yt_versions.specs.Standing.{Kept, StandFor, Published, Retracted, Folded, mark_in, written, last_written}
-use Rattle.yt_versions.specs.Based.{base_marks, based_at}
+use Rattle.std.specs.List.Sorted.{IsStrictlySortedBy}
+use Rattle.yt_base.specs.declared.tuples.Tuple.{Tuple}
+use Rattle.yt_versions.specs.Standing.{AreKept, Kept, known_at, StandFor, Published, Retracted, Folded, mark_in, written, last_written}
+use Rattle.yt_versions.specs.Based.{base_marks}
 use Rattle.yt_versions.specs.Touches.{touched, written_at, unwritten_at, published_at, retracted_at, settled_at, folded_at}
 use Rattle.yt_versions.specs.Trails.{SameBut, no_trails}
 use Rattle.yt_versions.specs.declared.marks.Marks.{Marks}
@@ -100,22 +102,22 @@ last_both m (w ∷ ws) vs t = last_both (option_or (written w t) m) ws vs t
 
 -- ---- published
 
-module _ (n : ℕ) (ws : List Change) (old new : Kept) (rows : AreRows new.rows) (made : (t : Fact) → marks_at new.rows t ≡ published_at n ws t (marks_at old.rows t)) where
+module _ (n : ℕ) (ws : List Change) (old new : Kept) (kept : AreKept new) (made : (t : Fact) → known_at new t ≡ published_at n ws t (known_at old t)) where
   pub published_stands : Published n ws old new
   published_stands D before after stood grown others = record {
-    rows = rows;
-    base = λ t. ap (λ (m : Marks). m.in_base) (made t) ∙ published_keeps (λ (m : Marks). m.in_base) n (λ b m. refl) ws t (marks_at old.rows t) ∙ stood.base t;
+    kept = kept;
+    base = λ t. ap (λ (m : Marks). m.in_base) (made t) ∙ published_keeps (λ (m : Marks). m.in_base) n (λ b m. refl) ws t (known_at old t) ∙ stood.base t;
     marks = λ v t. marks v t (cases_eq v n);
   }
     where
-      marks : (v : ℕ) (t : Fact) → (v ≡ n) ⊎ (v ≡ n → ⊥) → mark_in (marks_at new.rows t) v ≡ last_written None (after v) t
+      marks : (v : ℕ) (t : Fact) → (v ≡ n) ⊎ (v ≡ n → ⊥) → mark_in (known_at new t) v ≡ last_written None (after v) t
       marks v t (inl e) =
-          let P : ℕ → Type 0 = λ k. mark_in (marks_at new.rows t) k ≡ last_written None (after k) t in
+          let P : ℕ → Type 0 = λ k. mark_in (known_at new t) k ≡ last_written None (after k) t in
           subst P (sym e)
-          (ap (λ m. mark_in m n) (made t) ∙ published_own n ws t (marks_at old.rows t) ∙ ap (λ o. last_written o ws t) (stood.marks n t)
+          (ap (λ m. mark_in m n) (made t) ∙ published_own n ws t (known_at old t) ∙ ap (λ o. last_written o ws t) (stood.marks n t)
           ∙ sym (last_both None (before n) ws t) ∙ ap (λ (xs : List Change). last_written None xs t) (sym grown))
       marks v t (inr h) =
-          ap (λ m. mark_in m v) (made t) ∙ published_keeps (λ m. mark_in m v) n (λ b m. marked_other n v b m h) ws t (marks_at old.rows t)
+          ap (λ m. mark_in m v) (made t) ∙ published_keeps (λ m. mark_in m v) n (λ b m. marked_other n v b m h) ws t (known_at old t)
           ∙ stood.marks v t ∙ ap (λ (xs : List Change). last_written None xs t) (sym (others v h))
 
 -- ---- writes taken back
@@ -144,24 +146,24 @@ retracted_own n (Delete s ∷ ws) t m h = by (same_fact t s) h (retracted_own n 
     by true h i = stays_none n ws t (touched (Unmark n) m) (unmarked_own n m)
     by false h i = i h
 
-module _ (n : ℕ) (ws : List Change) (old new : Kept) (made : (v : ℕ) (t : Fact) → mark_in (marks_at new.rows t) v ≡ mark_in (retracted_at n ws t (marks_at old.rows t)) v) where
+module _ (n : ℕ) (ws : List Change) (old new : Kept) (made : (v : ℕ) (t : Fact) → mark_in (known_at new t) v ≡ mark_in (retracted_at n ws t (known_at old t)) v) where
   module _ {D : List Fact} {before after : ℕ → List Change} (stood : StandFor old D before) (its : before n ≡ ws) (gone : after n ≡ []) (others : SameBut n before after) where
-    gone_marks : (v : ℕ) (t : Fact) → (v ≡ n) ⊎ (v ≡ n → ⊥) → mark_in (marks_at new.rows t) v ≡ last_written None (after v) t
+    gone_marks : (v : ℕ) (t : Fact) → (v ≡ n) ⊎ (v ≡ n → ⊥) → mark_in (known_at new t) v ≡ last_written None (after v) t
     gone_marks v t (inl e) =
-        let P : ℕ → Type 0 = λ k. mark_in (marks_at new.rows t) k ≡ last_written None (after k) t in
+        let P : ℕ → Type 0 = λ k. mark_in (known_at new t) k ≡ last_written None (after k) t in
         subst P (sym e)
         (made n t
-        ∙ retracted_own n ws t (marks_at old.rows t) (stood.marks n t ∙ ap (λ (xs : List Change). last_written None xs t) its)
+        ∙ retracted_own n ws t (known_at old t) (stood.marks n t ∙ ap (λ (xs : List Change). last_written None xs t) its)
         ∙ ap (λ (xs : List Change). last_written None xs t) (sym gone))
     gone_marks v t (inr h) =
-        made v t ∙ retracted_keeps (λ m. mark_in m v) n (λ m. unmarked_other n v m h) ws t (marks_at old.rows t)
+        made v t ∙ retracted_keeps (λ m. mark_in m v) n (λ m. unmarked_other n v m h) ws t (known_at old t)
         ∙ stood.marks v t ∙ ap (λ (xs : List Change). last_written None xs t) (sym (others v h))
 
-module _ (n : ℕ) (ws : List Change) (old new : Kept) (rows : AreRows new.rows) (made : (t : Fact) → marks_at new.rows t ≡ retracted_at n ws t (marks_at old.rows t)) where
+module _ (n : ℕ) (ws : List Change) (old new : Kept) (kept : AreKept new) (made : (t : Fact) → known_at new t ≡ retracted_at n ws t (known_at old t)) where
   pub retracted_stands : Retracted n ws old new
   retracted_stands D before after stood its gone others = record {
-    rows = rows;
-    base = λ t. ap (λ (m : Marks). m.in_base) (made t) ∙ retracted_keeps (λ (m : Marks). m.in_base) n (λ m. refl) ws t (marks_at old.rows t) ∙ stood.base t;
+    kept = kept;
+    base = λ t. ap (λ (m : Marks). m.in_base) (made t) ∙ retracted_keeps (λ (m : Marks). m.in_base) n (λ m. refl) ws t (known_at old t) ∙ stood.base t;
     marks = λ v t. gone_marks n ws old new (λ k u. ap (λ m. mark_in m k) (made u)) stood its gone others v t (cases_eq v n);
   }
 
@@ -194,33 +196,52 @@ settled_chain n (Delete s ∷ ws) t m k e = settled_chain n ws t (settled_at n (
     by true = ap (without newest_cmp (record { 0 = n })) e
     by false = e
 
-module _ (n : ℕ) (ws : List Change) (old new : Kept) (rows : AreRows new.rows) (made : (t : Fact) → marks_at new.rows t ≡ folded_at n ws t (marks_at old.rows t)) where
-  marked : (v : ℕ) (t : Fact) → mark_in (marks_at new.rows t) v ≡ mark_in (retracted_at n ws t (marks_at old.rows t)) v
+module _ (n : ℕ) (ws : List Change) (old new : Kept) (kept : AreKept new) (made : (t : Fact) → known_at new t ≡ folded_at n ws t (known_at old t)) where
+  marked : (v : ℕ) (t : Fact) → mark_in (known_at new t) v ≡ mark_in (retracted_at n ws t (known_at old t)) v
   marked v t =
       ap (λ m. mark_in m v) (made t)
-      ∙ ap (λ c. option_map (λ (e : Reverse ℕ × Bool). e.1) (find (is_at newest_cmp (record { 0 = v })) c)) (settled_chain n ws t (marks_at old.rows t) (marks_at old.rows t) refl)
+      ∙ ap (λ c. option_map (λ (e : Reverse ℕ × Bool). e.1) (find (is_at newest_cmp (record { 0 = v })) c)) (settled_chain n ws t (known_at old t) (known_at old t) refl)
 
   pub folded_stands : Folded n ws old new
   folded_stands D before after stood its gone others = record {
-    rows = rows;
+    kept = kept;
     base = λ t.
-        ap (λ (m : Marks). m.in_base) (made t) ∙ settled_base n ws t (marks_at old.rows t) ∙ ap (λ b. inserted_after b ws t) (stood.base t) ∙ sym (has-apply D ws t);
+        ap (λ (m : Marks). m.in_base) (made t) ∙ settled_base n ws t (known_at old t) ∙ ap (λ b. inserted_after b ws t) (stood.base t) ∙ sym (has-apply D ws t);
     marks = λ v t. gone_marks n ws old new marked stood its gone others v t (cases_eq v n);
   }
 
--- ---- put into the base
+-- ---- the base alone
 
-based_base : (b : Bool) → (cond b base_marks no_marks).in_base ≡ b
-based_base true = refl
-based_base false = refl
+-- What is known of a tuple before any update has written.
+abbrev unwritten : Bool → Marks
+unwritten b = cond (b && true) base_marks no_marks
 
-based_chain : (n : ℕ) (b : Bool) → mark_in (cond b base_marks no_marks) n ≡ None
-based_chain n true = refl
-based_chain n false = refl
+unwritten_base : (b : Bool) → (unwritten b).in_base ≡ b
+unwritten_base true = refl
+unwritten_base false = refl
 
-pub based_stands : (D : List Fact) (v : Kept) → AreRows v.rows → ((t : Fact) → marks_at v.rows t ≡ based_at D t) → StandFor v D no_trails
-based_stands D v rows made = record {
-  rows = rows;
-  base = λ t. ap (λ (m : Marks). m.in_base) (made t) ∙ based_base (has D t);
-  marks = λ n t. ap (λ m. mark_in m n) (made t) ∙ based_chain n (has D t);
+unwritten_chain : (n : ℕ) (b : Bool) → mark_in (unwritten b) n ≡ None
+unwritten_chain n true = refl
+unwritten_chain n false = refl
+
+empty_rows : AreRows []
+unfolding IsStrictlySortedBy
+empty_rows = record { order = tt; marks = tt }
+
+-- A base of which no row tells anything.
+pub based_kept : (base taken : List Fact) (rows : List (Tuple × Marks)) → IsRepository base → rows ≡ [] → AreKept (record { base = base; taken = taken; rows = rows })
+based_kept base taken rows order none = record {
+  order = order;
+  rows = subst AreRows (sym none) empty_rows;
+  apart = λ t _. ap (λ (es : List (Tuple × Marks)). marks_at es t) none;
 }
+
+pub based_stands : (D base taken : List Fact) (rows : List (Tuple × Marks)) → IsRepository base → base ≡ D → taken ≡ [] → rows ≡ [] → StandFor (record { base = base; taken = taken; rows = rows }) D no_trails
+based_stands D base taken rows order same free none = record {
+  kept = based_kept base taken rows order none;
+  base = λ t. ap (λ (m : Marks). m.in_base) (known t) ∙ unwritten_base (has D t);
+  marks = λ n t. ap (λ m. mark_in m n) (known t) ∙ unwritten_chain n (has D t);
+}
+  where
+    known : (t : Fact) → known_at (record { base = base; taken = taken; rows = rows }) t ≡ unwritten (has D t)
+    known t = λ i. cond (has (same i) t && not (has (free i) t)) base_marks (marks_at (none i) t)

@@ -19,7 +19,8 @@ use Rattle.yt_steps.specs.Chase.{relation_of}
 use Rattle.yt_tree.specs.Orders.{IsOrdered, is_at, is_sought}
 use Rattle.yt_versions.specs.Chains.{newest_cmp}
 use Rattle.yt_versions.specs.Marked.{is_marked, is_row_by, marks_at, no_marks}
-use Rattle.yt_versions.specs.Standing.{Kept, Wrote, last_written, written}
+use Rattle.yt_versions.specs.Based.{base_marks}
+use Rattle.yt_versions.specs.Standing.{Kept, Wrote, is_left, known_at, last_written, written}
 use Rattle.yt_versions.specs.Trails.{writes_to}
 use Rattle.yt_versions.specs.Zones.{place_of}
 use Rattle.yt_versions.specs.declared.marks.Marks.{Marks}
@@ -141,11 +142,20 @@ wrote_found n r v D trails stood =
     some_found (is_row_by n r) v.rows
     ∙ fail_together (list_any (is_row_by n r) v.rows) (writes_to r (trails n))
     (λ h. none_to r (trails n) (λ t k. sym (marked t) ∙ all_unmarked n r v.rows h t k))
-    (λ h. none_marked n r v.rows stood.rows.order (λ t k. marked t ∙ all_apart r (trails n) h t k))
+    (λ h. none_marked n r v.rows stood.kept.rows.order (λ t k. marked t ∙ all_apart r (trails n) h t k))
   where
+    -- No update wrote what the base tells of.
+    written : (t : Fact) → is_marked n (marks_at v.rows t) ≡ is_marked n (known_at v t)
+    written t = by (is_left v t) refl
+      where
+        by : (b : Bool) → is_left v t ≡ b → is_marked n (marks_at v.rows t) ≡ is_marked n (cond b base_marks (marks_at v.rows t))
+        by true e = ap (is_marked n) (stood.kept.apart t e)
+        by false e = refl
+
     marked : (t : Fact) → is_marked n (marks_at v.rows t) ≡ writes_of t (trails n)
     marked t =
-        sym (some_mapped (λ (e : Reverse ℕ × Bool). e.1) (find (is_at newest_cmp (record { 0 = n })) (marks_at v.rows t).chain))
+        written t
+        ∙ sym (some_mapped (λ (e : Reverse ℕ × Bool). e.1) (find (is_at newest_cmp (record { 0 = n })) (known_at v t).chain))
         ∙ ap is_some (stood.marks n t) ∙ some_written (trails n) None t
 
 -- A search for a row finds it by place and marker.

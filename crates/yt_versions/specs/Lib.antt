@@ -8,4 +8,6 @@ pub mod Cells
 pub mod Zones
 pub mod ZoneLaws
 pub mod Indexed
+pub mod Courses
+pub mod Runs
 pub mod Standing

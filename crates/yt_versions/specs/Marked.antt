@@ -30,7 +30,11 @@ no_marks = record { in_base = false; chain = [] }
 abbrev pub is_nowhere : Marks → Bool
 is_nowhere m = not m.in_base && (length m.chain == 0)
 
--- What is known of tuple t.
+-- The base has the tuple and no update wrote it.
+abbrev pub is_based : Marks → Bool
+is_based m = m.in_base && (length m.chain == 0)
+
+-- What rows tell of tuple t.
 abbrev pub marks_at : List (Tuple × Marks) → Fact → Marks
 marks_at rows t = unwrap_or (option_map (λ e. e.1) (find (λ e. same_fact t (fact_of e.0)) rows)) no_marks
 

@@ -1,5 +1,5 @@
 -- What versions stand for: a base, and the trail of each update.
-use Rattle.std.specs.Prelude.{◌≡◌, ℕ, suc, Bool, true, false, cond, List, [], ◌∷◌, ◌++◌, find, Option, Some, None}
+use Rattle.std.specs.Prelude.{◌≡◌, ℕ, suc, Bool, true, false, not, ◌&&◌, cond, List, [], ◌∷◌, ◌++◌, find, Option, Some, None}
 use Rattle.std.specs.Option.{option_map, option_or}
 use Rattle.yt_base.specs.declared.tuples.Tuple.{Tuple}
 use Rattle.yt_machine.specs.Updates.{Update, trail, below}
@@ -10,18 +10,36 @@ use Rattle.yt_model.specs.Values.{Fact, same_fact}
 use Rattle.yt_model.specs.Violations.{Scope}
 use Rattle.yt_steps.specs.Chase.{chase}
 use Rattle.yt_tree.specs.Orders.{is_at}
+use Rattle.yt_facts.specs.Overlaid.{overlaid}
+use Rattle.yt_versions.specs.Based.{base_marks}
 use Rattle.yt_versions.specs.Chains.{newest_cmp, AreRows}
-use Rattle.yt_versions.specs.Marked.{marks_at, visible}
+use Rattle.yt_versions.specs.Marked.{marks_at, no_marks, visible}
 use Rattle.yt_versions.specs.Trails.{SameBut, writes_below, writes_to, numbered}
 use Rattle.yt_versions.specs.declared.marks.Marks.{Marks}
 
--- What versions keep: tuples with their marks.
+-- What versions keep: a base, the tuples of it of which the rows tell in its place, and tuples with their marks.
 pub record Kept : Type 0 where
+  pub base : List Fact
+  pub taken : List Fact
   pub rows : List (Tuple × Marks)
 
--- The tuples that update n sees.
+-- The base has the tuple and tells of it.
+abbrev pub is_left : Kept → Fact → Bool
+is_left v t = has v.base t && not (has v.taken t)
+
+-- What is known of tuple t: what the base tells of it, or its row.
+abbrev pub known_at : Kept → Fact → Marks
+known_at v t = cond (is_left v t) base_marks (marks_at v.rows t)
+
+-- The base and the rows are in order, and the rows tell nothing of what the base tells of.
+pub record AreKept (v : Kept) : Type 0 where
+  pub order : IsRepository v.base
+  pub rows : AreRows v.rows
+  pub apart : (t : Fact) → is_left v t ≡ true → marks_at v.rows t ≡ no_marks
+
+-- The tuples that update n sees: what is left of the base, and what stands in the rows.
 abbrev pub seen : ℕ → Kept → List Fact
-seen n v = visible n v.rows
+seen n v = overlaid v.base v.taken (visible n v.rows)
 
 -- Whether update n's last write of the tuple was an insertion, where it wrote it.
 abbrev pub mark_in : Marks → ℕ → Option Bool
@@ -39,9 +57,9 @@ last_written m (w ∷ ws) t = last_written (option_or (written w t) m) ws t
 
 -- The versions have this base and these trails.
 pub record StandFor (v : Kept) (D : List Fact) (trails : ℕ → List Change) : Type 0 where
-  pub rows : AreRows v.rows
-  pub base : (t : Fact) → (marks_at v.rows t).in_base ≡ has D t
-  pub marks : (n : ℕ) (t : Fact) → mark_in (marks_at v.rows t) n ≡ last_written None (trails n) t
+  pub kept : AreKept v
+  pub base : (t : Fact) → (known_at v t).in_base ≡ has D t
+  pub marks : (n : ℕ) (t : Fact) → mark_in (known_at v t) n ≡ last_written None (trails n) t
 
 -- Whatever the versions stood for, update n has these writes more.
 abbrev pub Published : ℕ → List Change → Kept → Kept → Type 0

@@ -29,19 +29,19 @@ impl<'v> Facts for Below<'v> {
     ghost tuples = { λ b. seen b.number b.versions.now };
 
     fn contains(&self, tuple: &Tuple) -> bool {
-        self.versions.table().contains(self.number, tuple)
+        self.versions.contains(self.number, tuple)
     }
 
     fn beyond(&self, past: Option<&Tuple>) -> Option<&Tuple> {
-        self.versions.table().beyond(self.number, past)
+        self.versions.beyond(self.number, past)
     }
 
     fn first(&self, relation: u16) -> Option<&Tuple> {
-        self.versions.table().first(self.number, relation)
+        self.versions.first(self.number, relation)
     }
 
     fn after(&self, tuple: &Tuple) -> Option<&Tuple> {
-        self.versions.table().after(self.number, tuple)
+        self.versions.after(self.number, tuple)
     }
 
     fn scan(
@@ -52,7 +52,6 @@ impl<'v> Facts for Below<'v> {
         past: Option<&Tuple>,
     ) -> Option<&Tuple> {
         self.versions
-            .table()
             .scan(self.number, relation, column, value, past)
     }
 
@@ -62,7 +61,7 @@ impl<'v> Facts for Below<'v> {
         column: Option<Column<'_>>,
         past: Option<&Tuple>,
     ) -> Candidates<'_> {
-        let table = self.versions.table();
-        Candidates::Few(table.candidates(self.number, relation, column, past))
+        self.versions
+            .candidates(self.number, relation, column, past)
     }
 }

@@ -1,15 +1,19 @@
-//! The versions of a repository: a base, and for each tuple which updates put it in or took it out. `README.md` has the
+//! The versions of a repository: a base, and for each tuple that updates wrote which put it in or took it out. `README.md` has the
 //! contract, and `specs/Standing.antt` what versions stand for.
 #![tactic(auto)]
 
 mod below;
 mod cells;
+mod courses;
 mod crossing;
 mod handles;
 mod laws;
 mod marks;
+mod reading;
+mod runs;
 mod searches;
 mod tables;
+mod taken;
 mod versions;
 
 pub use crate::below::Below;

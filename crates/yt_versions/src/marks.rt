@@ -3,7 +3,7 @@ ghost use Rattle.std.specs.Prelude.{◌≡◌, OnOk, OnErr};
 ghost use Rattle.yt_versions.specs.Chains.{AreMarks};
 ghost use Rattle.yt_versions.specs.Based.{base_marks};
 ghost use Rattle.yt_versions.specs.Touches.{touched};
-ghost use Rattle.yt_versions.specs.Marked.{no_marks, is_nowhere as is_nowhere_lem, is_marked as is_marked_lem, stands as stands_lem};
+ghost use Rattle.yt_versions.specs.Marked.{no_marks, is_based as is_based_lem, is_nowhere as is_nowhere_lem, is_marked as is_marked_lem, stands as stands_lem};
 ghost use Rattle.yt_versions.specs.Unders.{is_under, under_rises};
 
 use std::alloc::{AllocError, Global};
@@ -68,6 +68,7 @@ impl Marks {
     /// The marks of a tuple that the base has and no update wrote.
     pub fn based() -> Marks
         ensures based { result ≡ base_marks }
+        ensures in_order { AreMarks result }
     {
         Marks {
             in_base: true,
@@ -105,6 +106,13 @@ impl Marks {
         ensures { result ≡ is_nowhere_lem self.now }
     {
         !self.in_base && self.chain.len() == 0
+    }
+
+    /// Whether the base has the tuple and no update wrote it.
+    pub fn is_based(&self) -> bool
+        ensures { result ≡ is_based_lem self.now }
+    {
+        self.in_base && self.chain.len() == 0
     }
 
     /// Whether the update wrote the tuple.

@@ -21,7 +21,7 @@ pub struct Held<'c> {
     pub tuple: &'c Tuple,
 }
 
-impl<'c> Search<Handle, Marks> for Held<'c> {
+impl<'c, V> Search<Handle, V> for Held<'c> {
     ghost place = { λ s k. fact_cmp (fact_of k) (fact_of s.tuple.now) };
 
     ghost passes = { λ _ _. true };
@@ -34,7 +34,7 @@ impl<'c> Search<Handle, Marks> for Held<'c> {
         key.get().cmp(self.tuple)
     }
 
-    fn passes(&self, _entry: &(Handle, Marks)) -> bool {
+    fn passes(&self, _entry: &(Handle, V)) -> bool {
         true
     }
 }

@@ -4,13 +4,12 @@ ghost use Rattle.yt_base.specs.Meanings.{fact_of};
 ghost use Rattle.yt_tree.specs.Orders.{IsOrdered};
 ghost use Rattle.yt_versions.specs.Chains.{AreMarks, AreRows};
 ghost use Rattle.yt_versions.specs.Indexed.{CellHas, CellsHave, IsIndex, set_entry};
-ghost use Rattle.yt_versions.specs.Based.{base_marks, AreBased};
 ghost use Rattle.yt_versions.specs.Marked.{marks_at};
 ghost use Rattle.std.specs.Option.{option_map, option_copied};
 
 use crate::cells::Cell;
 use crate::handles::Handle;
-use crate::marks::{Marks, Touch};
+use crate::marks::Marks;
 use crate::searches::{Beyond, Held, Lead, Scan, Written, Zone};
 use std::alloc::{AllocError, Global};
 use std::marker::Model;
@@ -41,23 +40,17 @@ impl Model for Table {
 }
 
 impl Table {
-    ghost use Rattle.yt_model.specs.Repository.{IsRepository};
-    ghost use Rattle.yt_model.specs.Values.{Fact};
-    ghost use Rattle.yt_versions.specs.Based.{based_at};
-    ghost use Rattle.yt_versions.specs.Touches.{touched_at};
+    ghost use Rattle.std.specs.Prelude.{cond};
+    ghost use Rattle.yt_model.specs.Values.{Fact, same_fact};
 
-    /// The table of these tuples, all of them in the base, made in as many steps as there are rows. It is refused only for want
-    /// of memory.
-    pub fn of(alloc: Global, base: &[Tuple]) -> Result<Table, Memory>
-        requires sorted { IsRepository (map fact_of base.now) }
-        ensures marks { IfOk result (λ table.
-            (t : Fact) → marks_at table t ≡ based_at (map fact_of base.now) t) }
-        ensures in_order { IfOk result AreRows }
+    /// The table of no tuple. It takes no memory.
+    pub fn none() -> Table
+        ensures none { result ≡ [] }
     {
-        let mut cells = TreeMap::new();
-        let entries = all_based(&mut cells, alloc, base)?;
-        let rows = TreeMap::from_sorted(alloc, entries)?;
-        Ok(Table { rows, cells })
+        Table {
+            rows: TreeMap::new(),
+            cells: TreeMap::new(),
+        }
     }
 
     /// Another handle to the same table.
@@ -71,26 +64,40 @@ impl Table {
         })
     }
 
-    /// The table with the tuple's marks touched. It is refused only for want of memory.
-    pub fn touched(self, alloc: Global, tuple: &Tuple, touch: Touch) -> Result<Table, Memory>
+    /// A handle of the tuple, with what the table tells of it.
+    pub fn entry(&self, tuple: &Tuple) -> Result<(Handle, Marks), Memory>
+        ensures tuple { IfOk result (λ e. fact_of e.0 ≡ fact_of tuple.now) }
+        ensures marks { IfOk result (λ e. e.1 ≡ marks_at self.now (fact_of tuple.now)) }
+        ensures in_order { IfOk result (λ e. AreMarks e.1) }
+    {
+        match self.rows.find_in(&Held { tuple }) {
+            Some(entry) => {
+                let key = entry.0.share()?;
+                let marks = entry.1.share()?;
+                return Ok((key, marks));
+            }
+            None => return Ok((Handle::new(tuple.share()?), Marks::new())),
+        }
+    }
+
+    /// The table with these marks of the tuple. It is refused only for want of memory.
+    pub fn with(self, alloc: Global, key: Handle, marks: Marks) -> Result<Table, Memory>
+        requires in_order { AreMarks marks }
         ensures marks { IfOk result (λ table.
-            (t : Fact)
-            → marks_at table t ≡ touched_at touch (fact_of tuple.now) t (marks_at self t)) }
+            (t : Fact) → marks_at table t ≡ cond (same_fact t (fact_of key)) marks (marks_at self t)) }
         ensures in_order { IfOk result AreRows }
     {
         let Table {
             mut rows,
             mut cells,
         } = self;
-        let (key, mut marks) = entry_of(&rows, tuple)?;
-        marks.touch(alloc, touch)?;
         set_cells(&mut cells, alloc, &key, &marks)?;
         set(&mut rows, alloc, key, marks)?;
         Ok(Table { rows, cells })
     }
 }
 
-// The tuples that an update sees. Only `list` takes memory.
+// The tuples of the table that an update sees. Only `list` takes memory.
 impl Table {
     ghost use Rattle.std.specs.Prelude.{find};
     ghost use Rattle.std.specs.Option.{is_some};
@@ -105,6 +112,7 @@ impl Table {
     /// The tuples that it sees, in order, copied. It is refused only for want of memory.
     pub fn list(&self, alloc: Global, number: u32) -> Result<TupleList, Memory>
         ensures tuples { IfOk result (λ list. map fact_of list.items ≡ visible number self.now) }
+        ensures in_order { IfOk result (λ _. IsRepository (visible number self.now)) }
     {
         let mut list = List::new(alloc);
         let mut cursor = self.rows.cursor(&Start);
@@ -277,23 +285,6 @@ impl Table {
     }
 }
 
-// A handle of the tuple, with what is known of it.
-fn entry_of(rows: &TreeMap<Handle, Marks>, tuple: &Tuple) -> Result<(Handle, Marks), Memory>
-    requires { AreRows rows.now }
-    ensures tuple { IfOk result (λ e. fact_of e.0 ≡ fact_of tuple.now) }
-    ensures marks { IfOk result (λ e. e.1 ≡ marks_at rows.now (fact_of tuple.now)) }
-    ensures in_order { IfOk result (λ e. AreMarks e.1) }
-{
-    match rows.find_in(&Held { tuple }) {
-        Some(entry) => {
-            let key = entry.0.share()?;
-            let marks = entry.1.share()?;
-            return Ok((key, marks));
-        }
-        None => return Ok((Handle::new(tuple.share()?), Marks::new())),
-    }
-}
-
 // Puts the marks at the key; takes the key out where they say that the tuple is nowhere.
 fn set<K: Ord + Share>(
     map: &mut TreeMap<K, Marks>,
@@ -350,41 +341,6 @@ fn set_cell(
     };
     set(cells, alloc, cell, marks.share()?)?;
     Ok(())
-}
-
-// The entry of a tuple of the base, with its cells. It is refused only for want of memory.
-fn based(
-    cells: &mut TreeMap<Cell, Marks>,
-    alloc: Global,
-    tuple: &Tuple,
-) -> Result<(Handle, Marks), Memory>
-    ensures tuple { IfOk result (λ e. fact_of e.0 ≡ fact_of tuple.now) }
-    ensures marks { IfOk result (λ e. e.1 ≡ base_marks) }
-    ensures cells { OnOk result (CellsHave (fact_of tuple.now) (length (fact_of tuple.now).values)
-        base_marks cells.old cells.new) }
-{
-    let marks = Marks::based();
-    let key = Handle::new(tuple.share()?);
-    set_cells(cells, alloc, &key, &marks)?;
-    Ok((key, marks))
-}
-
-// The entries of the tuples of the base, with their cells. It is refused only for want of memory.
-fn all_based(
-    cells: &mut TreeMap<Cell, Marks>,
-    alloc: Global,
-    base: &[Tuple],
-) -> Result<Vec<(Handle, Marks)>, Memory>
-    requires empty { cells.old ≡ [] }
-    ensures entries { IfOk result (λ es. AreBased (map fact_of base.now) es.items) }
-    ensures index { IfOk result (λ es. IsIndex es.items cells.new) }
-{
-    let mut entries = Vec::new(alloc);
-    for tuple in base {
-        let entry = based(cells, alloc, tuple)?;
-        entries.push(entry)?;
-    }
-    Ok(entries)
 }
 
 // The tuple of a row.

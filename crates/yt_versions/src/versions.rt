@@ -1,54 +1,72 @@
 //! The versions themselves.
-ghost use Rattle.std.specs.Prelude.{◌≡◌, map, IfOk, OnOk, OnErr};
+ghost use Rattle.std.specs.Prelude.{◌≡◌, ◌&&◌, cond, not, map, IfOk, OnOk, OnErr};
 ghost use Rattle.yt_base.specs.Meanings.{fact_of, change_of};
-ghost use Rattle.yt_model.specs.Repository.{IsRepository};
-ghost use Rattle.yt_versions.specs.Chains.{AreRows};
-ghost use Rattle.yt_versions.specs.Marked.{marks_at};
-ghost use Rattle.yt_versions.specs.Standing.{StandFor, Published, Retracted, Folded, Wrote, seen};
-ghost use Rattle.yt_model.specs.Values.{Fact};
-ghost use Rattle.yt_versions.specs.Touches.{written_at, published_at, unwritten_at, retracted_at, settled_at, folded_at};
+ghost use Rattle.yt_versions.specs.Chains.{AreMarks};
+ghost use Rattle.yt_versions.specs.Marked.{is_based, no_marks};
+ghost use Rattle.yt_versions.specs.Standing.{AreKept, StandFor, Published, Retracted, Folded, Wrote, is_left, known_at};
+ghost use Rattle.yt_model.specs.Values.{Fact, same_fact};
+ghost use Rattle.yt_versions.specs.Touches.{touched_at, written_at, published_at, unwritten_at, retracted_at, settled_at, folded_at};
 ghost use Rattle.yt_versions.specs.Trails.{no_trails};
 
 use crate::below::Below;
-use crate::marks::Touch;
+use crate::handles::Handle;
+use crate::marks::{Marks, Touch};
 use crate::tables::Table;
+use crate::taken::Taken;
 use std::alloc::Global;
 use std::marker::Model;
-use yt_base::{Tuple, TupleList, Write};
+use std::sync::Arc;
+use yt_base::{Facts, Tuple, Write};
+use yt_facts::IndexedFacts;
 use yt_memory::Memory;
+use yt_tree::Share;
 
-/// A base, and the writes of updates by number. What contracts see of them is a `Kept`, and what they stand for is said
-/// by `StandFor`.
+/// A base, and the writes of updates by number. The base is never changed and never copied: a table tells of the tuples that
+/// updates wrote, in place of the base where that has them. What contracts see of them is a `Kept`, and what they stand for
+/// is said by `StandFor`.
 #[derive(Drop)]
 pub struct Versions {
+    base: Arc<IndexedFacts>,
+    taken: Taken,
     table: Table,
 }
 
 impl Model for Versions {
-    ghost use Rattle.yt_versions.specs.Standing.{Kept};
+    ghost use Rattle.yt_versions.specs.Standing.{AreKept, Kept};
 
     ghost Value = { Kept };
 
-    ghost view = { λ v. record { rows = v.table } };
+    ghost view = { λ v. record { base = v.base.value; taken = v.taken; rows = v.table } };
+
+    ghost invariant = { λ v. AreKept (record { base = v.base.value; taken = v.taken; rows = v.table }) };
 }
 
 impl Versions {
     /// The versions of a base that no update has written to. It is refused only for want of memory.
-    pub fn of(alloc: Global, base: &[Tuple]) -> Result<Versions, Memory>
-        requires sorted { IsRepository (map fact_of base.now) }
-        ensures base { IfOk result (λ versions.
-            StandFor versions (map fact_of base.now) no_trails) }
+    pub fn of(alloc: Global, base: IndexedFacts) -> Result<Versions, Memory>
+        ensures base { IfOk result (λ versions. StandFor versions base no_trails) }
     {
-        let table = Table::of(alloc, base)?;
-        Ok(Versions { table })
+        // The set tells that it is in order.
+        let _ = base.beyond(None);
+        match Arc::new(alloc, base) {
+            Ok(base) => Ok(Versions {
+                base,
+                taken: Taken::none(),
+                table: Table::none(),
+            }),
+            Err(_) => Err(Memory),
+        }
     }
 
     /// Another handle to the same versions, in constant time. It is refused only for want of memory.
     pub fn share(&self) -> Result<Versions, Memory>
         ensures same { IfOk result (λ copy. copy ≡ self.now) }
     {
-        let table = self.table.share()?;
-        Ok(Versions { table })
+        Ok(Versions {
+            base: Arc::try_clone(&self.base)?,
+            taken: self.taken.share()?,
+            table: self.table.share()?,
+        })
     }
 
     /// Adds writes behind those of the update. It is refused only for want of memory; nothing is then changed.
@@ -56,8 +74,8 @@ impl Versions {
         ensures ok { OnOk result (Published number (map change_of writes.now) self.old self.new) }
         ensures err { OnErr result (self.new ≡ self.old) }
     {
-        let table = with_writes(self.table.share()?, alloc, number, writes)?;
-        self.table = table;
+        let new = with_writes(self.share()?, alloc, number, writes)?;
+        *self = new;
         Ok(())
     }
 
@@ -67,8 +85,8 @@ impl Versions {
         ensures ok { OnOk result (Retracted number (map change_of writes.now) self.old self.new) }
         ensures err { OnErr result (self.new ≡ self.old) }
     {
-        let table = without_writes(self.table.share()?, alloc, number, writes)?;
-        self.table = table;
+        let new = without_writes(self.share()?, alloc, number, writes)?;
+        *self = new;
         Ok(())
     }
 
@@ -79,8 +97,8 @@ impl Versions {
         ensures ok { OnOk result (Folded number (map change_of writes.now) self.old self.new) }
         ensures err { OnErr result (self.new ≡ self.old) }
     {
-        let table = with_settled(self.table.share()?, alloc, number, writes)?;
-        self.table = table;
+        let new = with_settled(self.share()?, alloc, number, writes)?;
+        *self = new;
         Ok(())
     }
 
@@ -102,113 +120,201 @@ impl Versions {
         }
     }
 
-    // The tuples with their marks.
+    // The base.
+    pub(crate) fn base(&self) -> &IndexedFacts
+        ensures base { result.now ≡ self.now.base }
+        ensures kept { AreKept self.now }
+    {
+        &self.base
+    }
+
+    // The tuples of the base of which the table tells in its place.
+    pub(crate) fn taken(&self) -> &Taken
+        ensures taken { result.now ≡ self.now.taken }
+        ensures kept { AreKept self.now }
+    {
+        &self.taken
+    }
+
+    // The tuples that updates wrote, with their marks.
     pub(crate) fn table(&self) -> &Table
         ensures rows { result.now ≡ self.now.rows }
     {
         &self.table
     }
 
-    // The tuples that the update sees, in order, copied.
-    pub(crate) fn list(&self, alloc: Global, number: u32) -> Result<TupleList, Memory>
-        ensures tuples { IfOk result (λ list. map fact_of list.items ≡ seen number self.now) }
+    // Whether the base has the tuple and tells of it.
+    pub(crate) fn has_left(&self, tuple: &Tuple) -> bool
+        ensures left { result ≡ is_left self.now (fact_of tuple.now) }
+        ensures kept { AreKept self.now }
     {
-        self.table.list(alloc, number)
+        self.base.contains(tuple) && !self.taken.contains(tuple)
+    }
+
+    // What is known of the tuple, with a handle of it.
+    fn known(&self, tuple: &Tuple) -> Result<(Handle, Marks), Memory>
+        ensures tuple { IfOk result (λ e. fact_of e.0 ≡ fact_of tuple.now) }
+        ensures marks { IfOk result (λ e. e.1 ≡ known_at self.now (fact_of tuple.now)) }
+        ensures in_order { IfOk result (λ e. AreMarks e.1) }
+    {
+        if self.has_left(tuple) {
+            return Ok((Handle::new(tuple.share()?), Marks::based()));
+        }
+        self.table.entry(tuple)
+    }
+
+    // The versions where these marks are known of the tuple.
+    fn with(self, alloc: Global, key: Handle, marks: Marks) -> Result<Versions, Memory>
+        requires in_order { AreMarks marks }
+        ensures known { IfOk result (λ new. (t : Fact)
+            → known_at new t ≡ cond (same_fact t (fact_of key)) marks (known_at self t)) }
+        ensures kept { IfOk result AreKept }
+    {
+        let Versions { base, taken, table } = self;
+        let in_base = base.contains(key.get());
+        let (takes, told) = told_of(in_base, marks);
+        let taken = taken.set(alloc, &key, takes)?;
+        let table = table.with(alloc, key, told)?;
+        Ok(Versions { base, taken, table })
+    }
+
+    // The versions with what is known of the tuple touched.
+    fn touched(self, alloc: Global, tuple: &Tuple, touch: Touch) -> Result<Versions, Memory>
+        ensures known { IfOk result (λ new. (t : Fact)
+            → known_at new t ≡ touched_at touch (fact_of tuple.now) t (known_at self t)) }
+        ensures kept { IfOk result AreKept }
+    {
+        let (key, mut marks) = self.known(tuple)?;
+        marks.touch(alloc, touch)?;
+        let new = self.with(alloc, key, marks)?;
+        Ok(new)
     }
 }
 
-// The table with these writes of the update.
+// Whether the table is to tell of a tuple in the base's place, and what it then tells: nothing where its marks say no more than
+// that the base has it.
+fn told_of(in_base: bool, marks: Marks) -> (bool, Marks)
+    requires in_order { AreMarks marks }
+    ensures takes { result.0 ≡ (in_base && not (in_base && is_based marks)) }
+    ensures tells { result.1 ≡ cond (in_base && is_based marks) no_marks marks }
+    ensures in_order { AreMarks result.1 }
+{
+    if !in_base {
+        return (false, marks);
+    }
+    if marks.is_based() {
+        return (false, Marks::new());
+    }
+    (true, marks)
+}
+
+// The versions with these writes of the update.
 fn with_writes(
-    mut table: Table,
+    mut versions: Versions,
     alloc: Global,
     number: u32,
     writes: &[Write],
-) -> Result<Table, Memory>
-    requires { AreRows table }
-    ensures marks { IfOk result (λ new.
+) -> Result<Versions, Memory>
+    requires kept { AreKept versions }
+    ensures known { IfOk result (λ new.
         (t : Fact)
-        → marks_at new t ≡ published_at number (map change_of writes.now) t (marks_at table t)) }
-    ensures in_order { IfOk result AreRows }
+        → known_at new t ≡ published_at number (map change_of writes.now) t (known_at versions t)) }
+    ensures kept { IfOk result AreKept }
 {
     for write in writes {
-        table = with_write(table, alloc, number, write)?;
+        versions = with_write(versions, alloc, number, write)?;
     }
-    Ok(table)
+    Ok(versions)
 }
 
-// The table with this write of the update.
-fn with_write(table: Table, alloc: Global, number: u32, write: &Write) -> Result<Table, Memory>
-    ensures marks { IfOk result (λ new.
+// The versions with this write of the update.
+fn with_write(
+    versions: Versions,
+    alloc: Global,
+    number: u32,
+    write: &Write,
+) -> Result<Versions, Memory>
+    ensures known { IfOk result (λ new.
         (t : Fact)
-        → marks_at new t ≡ written_at number (change_of write.now) t (marks_at table t)) }
-    ensures in_order { IfOk result AreRows }
+        → known_at new t ≡ written_at number (change_of write.now) t (known_at versions t)) }
+    ensures kept { IfOk result AreKept }
 {
     match write {
-        Write::Insert(tuple) => table.touched(alloc, tuple, Touch::Mark(number, true)),
-        Write::Delete(tuple) => table.touched(alloc, tuple, Touch::Mark(number, false)),
+        Write::Insert(tuple) => versions.touched(alloc, tuple, Touch::Mark(number, true)),
+        Write::Delete(tuple) => versions.touched(alloc, tuple, Touch::Mark(number, false)),
     }
 }
 
-// The table without these writes of the update.
+// The versions without these writes of the update.
 fn without_writes(
-    mut table: Table,
+    mut versions: Versions,
     alloc: Global,
     number: u32,
     writes: &[Write],
-) -> Result<Table, Memory>
-    requires { AreRows table }
-    ensures marks { IfOk result (λ new.
+) -> Result<Versions, Memory>
+    requires kept { AreKept versions }
+    ensures known { IfOk result (λ new.
         (t : Fact)
-        → marks_at new t ≡ retracted_at number (map change_of writes.now) t (marks_at table t)) }
-    ensures in_order { IfOk result AreRows }
+        → known_at new t ≡ retracted_at number (map change_of writes.now) t (known_at versions t)) }
+    ensures kept { IfOk result AreKept }
 {
     for write in writes {
-        table = without_write(table, alloc, number, write)?;
+        versions = without_write(versions, alloc, number, write)?;
     }
-    Ok(table)
+    Ok(versions)
 }
 
-// The table without this write of the update.
-fn without_write(table: Table, alloc: Global, number: u32, write: &Write) -> Result<Table, Memory>
-    ensures marks { IfOk result (λ new.
+// The versions without this write of the update.
+fn without_write(
+    versions: Versions,
+    alloc: Global,
+    number: u32,
+    write: &Write,
+) -> Result<Versions, Memory>
+    ensures known { IfOk result (λ new.
         (t : Fact)
-        → marks_at new t ≡ unwritten_at number (change_of write.now) t (marks_at table t)) }
-    ensures in_order { IfOk result AreRows }
+        → known_at new t ≡ unwritten_at number (change_of write.now) t (known_at versions t)) }
+    ensures kept { IfOk result AreKept }
 {
     match write {
-        Write::Insert(tuple) => table.touched(alloc, tuple, Touch::Unmark(number)),
-        Write::Delete(tuple) => table.touched(alloc, tuple, Touch::Unmark(number)),
+        Write::Insert(tuple) => versions.touched(alloc, tuple, Touch::Unmark(number)),
+        Write::Delete(tuple) => versions.touched(alloc, tuple, Touch::Unmark(number)),
     }
 }
 
-// The table with these writes of the update in the base.
+// The versions with these writes of the update in the base.
 fn with_settled(
-    mut table: Table,
+    mut versions: Versions,
     alloc: Global,
     number: u32,
     writes: &[Write],
-) -> Result<Table, Memory>
-    requires { AreRows table }
-    ensures marks { IfOk result (λ new.
+) -> Result<Versions, Memory>
+    requires kept { AreKept versions }
+    ensures known { IfOk result (λ new.
         (t : Fact)
-        → marks_at new t ≡ folded_at number (map change_of writes.now) t (marks_at table t)) }
-    ensures in_order { IfOk result AreRows }
+        → known_at new t ≡ folded_at number (map change_of writes.now) t (known_at versions t)) }
+    ensures kept { IfOk result AreKept }
 {
     for write in writes {
-        table = settled(table, alloc, number, write)?;
+        versions = settled(versions, alloc, number, write)?;
     }
-    Ok(table)
+    Ok(versions)
 }
 
-// The table with this write of the update in the base.
-fn settled(table: Table, alloc: Global, number: u32, write: &Write) -> Result<Table, Memory>
-    ensures marks { IfOk result (λ new.
+// The versions with this write of the update in the base.
+fn settled(
+    versions: Versions,
+    alloc: Global,
+    number: u32,
+    write: &Write,
+) -> Result<Versions, Memory>
+    ensures known { IfOk result (λ new.
         (t : Fact)
-        → marks_at new t ≡ settled_at number (change_of write.now) t (marks_at table t)) }
-    ensures in_order { IfOk result AreRows }
+        → known_at new t ≡ settled_at number (change_of write.now) t (known_at versions t)) }
+    ensures kept { IfOk result AreKept }
 {
     match write {
-        Write::Insert(tuple) => table.touched(alloc, tuple, Touch::Settle(number, true)),
-        Write::Delete(tuple) => table.touched(alloc, tuple, Touch::Settle(number, false)),
+        Write::Insert(tuple) => versions.touched(alloc, tuple, Touch::Settle(number, true)),
+        Write::Delete(tuple) => versions.touched(alloc, tuple, Touch::Settle(number, false)),
     }
 }

@@ -1,13 +1,12 @@
 use Rattle.std.proofs.Common.{◌≡◌, map, drop}
 use Rattle.yt_base.specs.Meanings.{change_of}
 use Rattle.yt_model.specs.Values.{Fact}
-use Rattle.yt_versions.specs.Chains.{AreRows}
-use Rattle.yt_versions.specs.Marked.{marks_at}
+use Rattle.yt_versions.specs.Standing.{AreKept, known_at}
 use Rattle.yt_versions.specs.Touches.{published_at}
 use Rattle.yt_versions.proofs.versions.with_writes.Given as goal
 
 -- The writes that are left make what all writes make.
 abbrev pub invariant-loop-write : goal.invariant-loop-write
 invariant-loop-write l =
-    AreRows l.table
-    × ((t : Fact) → published_at l.number (map change_of (drop l.write-index l.writes)) t (marks_at l.table t) ≡ published_at l.number (map change_of l.writes) t (marks_at l.initial.table t))
+    AreKept l.versions
+    × ((t : Fact) → published_at l.number (map change_of (drop l.write-index l.writes)) t (known_at l.versions t) ≡ published_at l.number (map change_of l.writes) t (known_at l.initial.versions t))

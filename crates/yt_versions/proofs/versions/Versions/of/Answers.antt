@@ -1,9 +1,12 @@
-use Rattle.std.proofs.Common.{map}
-use Rattle.yt_base.specs.Meanings.{fact_of}
-use Rattle.yt_versions.proofs.Standings.{based_stands}
+use Rattle.std.proofs.Common.{sym, subst}
+use Rattle.yt_model.specs.Repository.{IsRepository}
+use Rattle.yt_versions.proofs.Standings.{based_kept, based_stands}
 use Rattle.yt_versions.proofs.versions.Versions.of.Goals as goal
 
-pub returns : goal.returns
-returns c = record {
-  base = based_stands (map fact_of c.args.base.now) (record { rows = c.in_ok-table.table }) c.in_ok-table.ensures.in_order c.in_ok-table.ensures.marks;
+pub invariant_of-result : goal.invariant_of-result
+invariant_of-result c = based_kept c.in-Ok.base.value c.none.result c.none-in-Ok.result (subst IsRepository (sym c.in-Ok.ensures.ok) c.beyond.ensures.in_order) c.none-in-Ok.ensures.none
+
+pub returns-in-Ok : goal.returns-in-Ok
+returns-in-Ok c = record {
+  base = based_stands c.args.base c.in-Ok.base.value c.none.result c.none-in-Ok.result (subst IsRepository (sym c.in-Ok.ensures.ok) c.beyond.ensures.in_order) c.in-Ok.ensures.ok c.none.ensures.none c.none-in-Ok.ensures.none;
 }

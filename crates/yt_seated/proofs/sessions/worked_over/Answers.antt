@@ -5,7 +5,7 @@ use Rattle.yt_queue.specs.Settings.{settings_of}
 use Rattle.yt_session.specs.Meanings.{session_of, update_of}
 use Rattle.yt_seated.proofs.Running.{has_worked}
 use Rattle.yt_seated.proofs.Sent.{seated_send}
-use Rattle.yt_seated.proofs.sessions.worked.Goals as goal
+use Rattle.yt_seated.proofs.sessions.worked_over.Goals as goal
 
 pub run-requires-send-C : goal.run-requires-send-C
 run-requires-send-C g c κs within = search (sendable, seated_send)

@@ -5,7 +5,7 @@ use Rattle.yt_serial.proofs.Limits.{session_within}
 use Rattle.yt_session.specs.Meanings.{session_of}
 use Rattle.yt_core.proofs.Making.{opened_by, opened_is, few_updates}
 use Rattle.yt_core.proofs.Unread.{with_nothing_noted}
-use Rattle.yt_core.proofs.cores.Core.open.Goals as goal
+use Rattle.yt_core.proofs.cores.Core.open_over.Goals as goal
 
 pub admitted-requires : goal.admitted-requires
 admitted-requires c = record { few = few_updates c.args.session.now.updates.items c.as_slice-updates.result.now c.as_slice-updates.ensures.items c.requires.valid.update_count }
@@ -16,10 +16,10 @@ admissions-requires c = record { few = few_updates c.args.session.now.updates.it
 pub invariant_of-result : goal.invariant_of-result
 invariant_of-result c =
     with_nothing_noted _ _ _ _
-    (opened_by c.mappings_of-mappings.result c.args.budget (settings_of c.args.settings) c.args.session.now.base c.args.session.now.updates c.new-later.result c.as_slice-base.result.now c.as_slice-updates.result.now c.in_ok-versions.versions c.in_ok-queue.queue.items
+    (opened_by c.mappings_of-mappings.result c.args.budget (settings_of c.args.settings) c.args.session.now.base c.args.session.now.updates c.new-later.result c.args.base c.as_slice-updates.result.now c.in_ok-versions.versions c.in_ok-queue.queue.items
     c.in_ok-history.history.items c.new-later.ensures.empty c.is_within.ensures.some c.requires.retries
     (subst AreWithin (sym c.mappings_of-mappings.ensures.rules) (session_within (session_of c.args.session.now) c.requires.valid)) c.requires.valid.base_order
-    (few_updates c.args.session.now.updates.items c.as_slice-updates.result.now c.as_slice-updates.ensures.items c.requires.valid.update_count) c.as_slice-base.ensures.items c.as_slice-updates.ensures.items c.in_ok-queue.ensures.admitted c.in_ok-queue.ensures.numbers
+    (few_updates c.args.session.now.updates.items c.as_slice-updates.result.now c.as_slice-updates.ensures.items c.requires.valid.update_count) c.requires.base c.as_slice-updates.ensures.items c.in_ok-queue.ensures.admitted c.in_ok-queue.ensures.numbers
     c.in_ok-queue.ensures.long c.in_ok-history.ensures.entries c.in_ok-versions.ensures.base)
 
 pub returns : goal.returns

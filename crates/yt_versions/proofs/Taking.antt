@@ -1,0 +1,63 @@
+-- The tuples that are taken, after one is put in or taken out.
+use Rattle.std.proofs.Common.{◌≡◌, ap, refl, sym, ◌∙◌, List, [], ◌∷◌, Bool, true, false, ◌||◌, cond, find, map, Option, Some, None}
+use Rattle.std.specs.BTreeMap.{insert_entry}
+use Rattle.std.specs.Cmp.{on_total}
+use Rattle.std.specs.Option.{is_some, option_map}
+use Rattle.std.specs.Ordering.{is_eq, on}
+use Rattle.yt_base.specs.Meanings.{fact_of}
+use Rattle.yt_base.specs.declared.tuples.Tuple.{Tuple}
+use Rattle.yt_model.specs.Repository.{has}
+use Rattle.yt_model.specs.Values.{Fact, fact_cmp, same_fact}
+use Rattle.yt_model.proofs.Order.{fact_total}
+use Rattle.yt_model.proofs.Sets.{same_exact}
+use Rattle.yt_tree.specs.Orders.{without}
+use Rattle.yt_versions.proofs.Holding.{held_same, is_held}
+use Rattle.yt_versions.proofs.Looking.{look, look_insert, look_without}
+use Rattle.yt_versions.proofs.Seeing.{find_same}
+
+some_mapped : {A B : Type 0} (f : A → B) (o : Option A) → is_some (option_map f o) ≡ is_some o
+some_mapped f None = refl
+some_mapped f (Some a) = refl
+
+one : (t : Fact) (y z : Tuple) → same_fact t (fact_of y) ≡ true → same_fact t (fact_of z) ≡ is_eq (on fact_of fact_cmp y z)
+one t y z h = ap (λ u. same_fact u (fact_of z)) (same_exact t (fact_of y) h)
+
+module _ {V : Type 0} where
+  abbrev tuples : List (Tuple × V) → List Fact
+  tuples es = map (λ e. fact_of e.0) es
+
+  -- A tuple is among them where its entry is found.
+  has_looked : (t : Fact) (es : List (Tuple × V)) → has (tuples es) t ≡ is_some (look (λ k. same_fact t (fact_of k)) es)
+  has_looked t [] = refl
+  has_looked t (e ∷ es) = by (same_fact t (fact_of e.0)) (has_looked t es)
+    where
+      by : (b : Bool) → has (tuples es) t ≡ is_some (look (λ k. same_fact t (fact_of k)) es) → (b || has (tuples es) t) ≡ is_some (option_map (λ (f : Tuple × V). f.1) (cond b (Some e) (find (λ f. same_fact t (fact_of f.0)) es)))
+      by true i = refl
+      by false i = i
+
+  pub held_has : (t : Fact) (es : List (Tuple × V)) (D : List Fact) (o : Option (Tuple × V)) → tuples es ≡ D → o ≡ find (is_held t) es → is_some o ≡ has D t
+  held_has t es D o view f =
+      ap is_some (f ∙ find_same (is_held t) (λ e. same_fact t (fact_of e.0)) (held_same t) es)
+      ∙ sym (some_mapped (λ (e : Tuple × V). e.1) (find (λ e. same_fact t (fact_of e.0)) es)) ∙ sym (has_looked t es) ∙ ap (λ (E : List Fact). has E t) view
+
+  pub put_in : (es new : List (Tuple × V)) (k s : Tuple) (D : List Fact) (b : Bool) (v : V) → k ≡ s → tuples es ≡ D → new ≡ insert_entry (on fact_of fact_cmp) es k v → b ≡ true → (t : Fact) → has (tuples new) t ≡ cond (same_fact t (fact_of s)) b (has D t)
+  put_in es new k s D b v key view put is t =
+      has_looked t new ∙ ap (λ l. is_some (look (λ x. same_fact t (fact_of x)) l)) put
+      ∙ ap is_some (look_insert (on_total fact_of fact_total) (λ x. same_fact t (fact_of x)) (one t) es k v)
+      ∙ by (same_fact t (fact_of k))
+      ∙ (λ i. cond (same_fact t (fact_of (key i))) (sym is i) (has (view i) t))
+    where
+      by : (c : Bool) → is_some (cond c (Some v) (look (λ x. same_fact t (fact_of x)) es)) ≡ cond c true (has (tuples es) t)
+      by true = refl
+      by false = sym (has_looked t es)
+
+  pub taken_out : (es new : List (Tuple × V)) (s : Tuple) (D : List Fact) (b : Bool) → tuples es ≡ D → new ≡ without (on fact_of fact_cmp) s es → b ≡ false → (t : Fact) → has (tuples new) t ≡ cond (same_fact t (fact_of s)) b (has D t)
+  taken_out es new s D b view out is t =
+      has_looked t new ∙ ap (λ l. is_some (look (λ x. same_fact t (fact_of x)) l)) out
+      ∙ ap is_some (look_without (on_total fact_of fact_total) (λ x. same_fact t (fact_of x)) (one t) es s)
+      ∙ by (same_fact t (fact_of s))
+      ∙ (λ i. cond (same_fact t (fact_of s)) (sym is i) (has (view i) t))
+    where
+      by : (c : Bool) → is_some (cond c None (look (λ x. same_fact t (fact_of x)) es)) ≡ cond c false (has (tuples es) t)
+      by true = refl
+      by false = sym (has_looked t es)

@@ -1,0 +1,31 @@
+use Rattle.std.proofs.Common.{ap, sym, not, arith, Option, Bor}
+use Rattle.std.specs.Option.{option_map, option_copied}
+use Rattle.std.specs.Prelude.{find}
+use Rattle.yt_model.specs.Repository.{has}
+use Rattle.yt_model.specs.Values.{Fact}
+use Rattle.yt_base.specs.Meanings.{fact_of}
+use Rattle.yt_base.specs.declared.tuples.Tuple.{Tuple}
+use Rattle.yt_facts.specs.Courses.{ahead}
+use Rattle.yt_facts.proofs.Courses.{miss, fewer}
+use Rattle.yt_versions.specs.Courses.{comes_after}
+use Rattle.yt_versions.proofs.Coursing.{course_follows}
+use Rattle.yt_versions.proofs.courses.remaining.Goals as goal
+
+pub loop-cursor-smaller : goal.loop-cursor-smaller
+loop-cursor-smaller c =
+    let D = c.args.base.now in
+    let q = comes_after c.args.course.now in
+    let t = fact_of c.in-Some.tuple.now in
+    let at = ap (λ (o : Option (Bor Tuple)). option_map fact_of (option_copied o)) c.in-Some.is in
+    let e = fewer q D (option_map fact_of (option_copied c.loop-cursor.cursor)) t (option_map fact_of (option_copied c.next-cursor.result)) c.next-cursor.ensures.in_order (course_follows c.args.course.now t) at c.next-cursor.ensures.found in
+    omega (arith, e)
+
+pub loop-cursor-preserved : goal.loop-cursor-preserved
+loop-cursor-preserved c =
+    let D = c.args.base.now in
+    let q = comes_after c.args.course.now in
+    let t = fact_of c.in-Some.tuple.now in
+    let test = λ (u : Fact). not (has c.args.taken.now u) in
+    let at = ap (λ (o : Option (Bor Tuple)). option_map fact_of (option_copied o)) c.in-Some.is in
+    miss test q D (option_map fact_of (option_copied c.loop-cursor.cursor)) (find test (ahead q D (option_map fact_of (option_copied c.args.from)))) t (option_map fact_of (option_copied c.next-cursor.result))
+    c.next-cursor.ensures.in_order (course_follows c.args.course.now t) at c.next-cursor.ensures.found (ap not (sym c.if-not-contains.ensures.answer)) c.loop-cursor.invariant

@@ -1,0 +1,21 @@
+use Rattle.std.proofs.Common.{ap, refl, ◌∙◌, cond}
+use Rattle.yt_base.specs.Meanings.{fact_of}
+use Rattle.yt_model.specs.Values.{same_fact}
+use Rattle.yt_versions.specs.Marked.{marks_at}
+use Rattle.yt_versions.proofs.Setting.{row_set, rows_set, index_kept}
+use Rattle.yt_versions.proofs.tables.Table.with.Goals as goal
+
+pub invariant_of-result : goal.invariant_of-result
+invariant_of-result c = (
+  rows_set c.self.inside.rows c.args.key c.args.marks c.in_ok-set.ensures.ok c.in_ok-set.ensures.in_order c.self.invariant.0.marks c.requires.in_order,
+  index_kept (fact_of c.args.key) c.args.marks c.self.inside.rows c.set.new.map c.self.inside.cells c.set_cells.new.cells c.self.invariant.1 c.in_ok-set_cells.ensures.ok
+      (row_set c.self.inside.rows c.set.new.map c.args.key (fact_of c.args.key) c.args.marks c.in_ok-set.ensures.ok refl),
+)
+
+pub returns-clause-marks : goal.returns-clause-marks
+returns-clause-marks c t =
+    row_set c.self.inside.rows c.set.new.map c.args.key (fact_of c.args.key) c.args.marks c.in_ok-set.ensures.ok refl t
+    ∙ ap (λ es. cond (same_fact t (fact_of c.args.key)) c.args.marks (marks_at es t)) c.self.view_is
+
+pub returns-clause-in_order : goal.returns-clause-in_order
+returns-clause-in_order c = rows_set c.self.inside.rows c.args.key c.args.marks c.in_ok-set.ensures.ok c.in_ok-set.ensures.in_order c.self.invariant.0.marks c.requires.in_order

@@ -1,0 +1,9 @@
+use Rattle.yt_base.specs.Meanings.{fact_of}
+use Rattle.yt_versions.proofs.Taking.{held_has}
+use Rattle.yt_versions.proofs.taken.Taken.contains.Goals as goal
+
+pub returns-in-Some : goal.returns-in-Some
+returns-in-Some c = record { answer = held_has (fact_of c.args.tuple.now) c.self.inside.tuples c.args.self.now _ c.self.view_is c.in-Some.ensures.found }
+
+pub returns-in-None : goal.returns-in-None
+returns-in-None c = record { answer = held_has (fact_of c.args.tuple.now) c.self.inside.tuples c.args.self.now _ c.self.view_is c.in-None.ensures.found }

@@ -1,0 +1,178 @@
+//! What is read of versions by an update: what is left of the base, and what stands in the table.
+ghost use Rattle.std.specs.Prelude.{◌≡◌, [], find, map, IfOk, IsTrue};
+ghost use Rattle.std.specs.Option.{option_map, option_copied};
+ghost use Rattle.yt_model.specs.Cursors.{is_beyond, first_of, next_of, scan_of};
+ghost use Rattle.yt_model.specs.Repository.{has, IsRepository};
+ghost use Rattle.yt_base.specs.Candidates.{column_of, further_candidates, AreAll};
+ghost use Rattle.yt_base.specs.Meanings.{fact_of, datum_of};
+ghost use Rattle.yt_versions.specs.Runs.{run_of};
+ghost use Rattle.yt_versions.specs.Standing.{seen};
+
+use crate::courses::{Course, least, remaining};
+use crate::runs::{Merging, Run};
+use crate::versions::Versions;
+use std::alloc::Global;
+use yt_base::{Candidates, Column, Facts, Tuple, TupleList, Value};
+use yt_memory::Memory;
+
+// Each call also tells that what the update sees is in order. Only `list` takes memory.
+impl Versions {
+    // Whether the update sees the tuple.
+    pub(crate) fn contains(&self, number: u32, tuple: &Tuple) -> bool
+        ensures answer { result ≡ has (seen number self.now) (fact_of tuple.now) }
+        ensures in_order { IsRepository (seen number self.now) }
+    {
+        if self.has_left(tuple) {
+            return true;
+        }
+        self.table().contains(number, tuple)
+    }
+
+    // The least tuple of any relation that it sees above the given one, or of all where none is given.
+    pub(crate) fn beyond(&self, number: u32, past: Option<&Tuple>) -> Option<&Tuple>
+        ensures found { option_map fact_of (option_copied result)
+            ≡ find (is_beyond (option_map fact_of (option_copied past.entry)))
+            (seen number self.now) }
+        ensures in_order { IsRepository (seen number self.now) }
+    {
+        let base = self.base();
+        let below = base.beyond(past);
+        let left = remaining(base, self.taken(), &Course::All, below);
+        least(left, self.table().beyond(number, past))
+    }
+
+    // The least tuple of the relation that it sees.
+    pub(crate) fn first(&self, number: u32, relation: u16) -> Option<&Tuple>
+        ensures found { option_map fact_of (option_copied result)
+            ≡ first_of (seen number self.now) relation }
+        ensures in_order { IsRepository (seen number self.now) }
+    {
+        let base = self.base();
+        let below = base.first(relation);
+        let left = remaining(base, self.taken(), &Course::Relation, below);
+        least(left, self.table().first(number, relation))
+    }
+
+    // The least tuple of the same relation that it sees above the given one.
+    pub(crate) fn after(&self, number: u32, tuple: &Tuple) -> Option<&Tuple>
+        ensures found { option_map fact_of (option_copied result)
+            ≡ next_of (seen number self.now) (fact_of tuple.now) }
+        ensures in_order { IsRepository (seen number self.now) }
+    {
+        let base = self.base();
+        let below = base.after(tuple);
+        let left = remaining(base, self.taken(), &Course::Relation, below);
+        least(left, self.table().after(number, tuple))
+    }
+
+    // The least tuple of the relation that it sees with the value in the column, above `past` where that is given.
+    pub(crate) fn scan(
+        &self,
+        number: u32,
+        relation: u16,
+        column: u16,
+        value: &Value,
+        past: Option<&Tuple>,
+    ) -> Option<&Tuple>
+        ensures found { option_map fact_of (option_copied result)
+            ≡ scan_of (seen number self.now) relation column (datum_of value.now)
+            (option_map fact_of (option_copied past.entry)) }
+        ensures in_order { IsRepository (seen number self.now) }
+    {
+        let base = self.base();
+        let below = base.scan(relation, column, value, past);
+        let course = Course::Column(relation, column, value);
+        let left = remaining(base, self.taken(), &course, below);
+        least(
+            left,
+            self.table().scan(number, relation, column, value, past),
+        )
+    }
+
+    // What it sees of the relation, with the column's value where a column is given, and above `past` where that is given, as far as
+    // it is at hand: what the base has, where nothing of it is taken or written, and else a few of both.
+    pub(crate) fn candidates(
+        &self,
+        number: u32,
+        relation: u16,
+        column: Option<Column<'_>>,
+        past: Option<&Tuple>,
+    ) -> Candidates<'_>
+        ensures all { AreAll result (seen number self.now)
+            (further_candidates (seen number self.now) relation (option_map column_of column.entry)
+            (option_map fact_of (option_copied past.entry))) }
+    {
+        match self.base().candidates(relation, column, past) {
+            Candidates::Absent => {
+                Candidates::Few(self.table().candidates(number, relation, column, past))
+            }
+            Candidates::Together(range) => {
+                self.with_written(number, relation, column, past, Run::Together(range))
+            }
+            Candidates::Listed(tuples) => {
+                self.with_written(number, relation, column, past, Run::Listed(tuples))
+            }
+            _ => {
+                if self.base_lacks(relation, column, past) {
+                    return Candidates::Few(self.table().candidates(number, relation, column, past));
+                }
+                Candidates::Apart
+            }
+        }
+    }
+
+    // Whether it is plain that the base has none of them.
+    fn base_lacks(&self, relation: u16, column: Option<Column<'_>>, past: Option<&Tuple>) -> bool
+        ensures none { IsTrue result → further_candidates self.now.base relation
+            (option_map column_of column.entry) (option_map fact_of (option_copied past.entry)) ≡
+            [] }
+    {
+        let base = self.base();
+        match column {
+            Some(column) => {
+                let found = base.scan(relation, column.number, column.value, past);
+                found.is_none()
+            }
+            None => base.first(relation).is_none(),
+        }
+    }
+
+    // The same, where the base has this run of them.
+    fn with_written<'a>(
+        &'a self,
+        number: u32,
+        relation: u16,
+        column: Option<Column<'_>>,
+        past: Option<&Tuple>,
+        base: Run<'a>,
+    ) -> Candidates<'a>
+        requires base { run_of base ≡ further_candidates self.now.base relation
+            (option_map column_of column) (option_map fact_of (option_copied past)) }
+        ensures all { AreAll result (seen number self.now)
+            (further_candidates (seen number self.now) relation (option_map column_of column.entry)
+            (option_map fact_of (option_copied past.entry))) }
+    {
+        let table = self.table();
+        let mut written = Run::Few(table.candidates(number, relation, column, past));
+        let put = written.next();
+        if put.is_none() && self.taken().is_empty() {
+            return base.at_hand();
+        }
+        let mut both = Merging::new(base, self.taken(), put, written);
+        Candidates::Few(both.few())
+    }
+
+    // The tuples that it sees, in order, copied. It is refused only for want of memory.
+    pub(crate) fn list(&self, alloc: Global, number: u32) -> Result<TupleList, Memory>
+        ensures tuples { IfOk result (λ list. map fact_of list.items ≡ seen number self.now) }
+    {
+        let base = self.base().list(alloc)?;
+        let written = self.table().list(alloc, number)?;
+        let base = Run::Listed(base.as_slice());
+        let mut written = Run::Listed(written.as_slice());
+        let put = written.next();
+        let mut both = Merging::new(base, self.taken(), put, written);
+        let list = both.list(alloc)?;
+        Ok(list)
+    }
+}

@@ -1,0 +1,82 @@
+//! The tuples of the base of which the table tells in the base's place.
+ghost use Rattle.std.specs.Prelude.{◌≡◌, [], cond, length, ◌==◌, IfOk, OnOk};
+ghost use Rattle.yt_model.specs.Repository.{has};
+ghost use Rattle.yt_model.specs.Values.{Fact, same_fact};
+ghost use Rattle.yt_base.specs.Meanings.{fact_of};
+
+use crate::handles::Handle;
+use crate::searches::Held;
+use std::alloc::{AllocError, Global};
+use std::marker::Model;
+use yt_base::Tuple;
+use yt_memory::Memory;
+use yt_tree::{Share, TreeMap};
+
+/// Some tuples, mostly very few. Contracts see the list of them.
+#[derive(Drop)]
+pub struct Taken {
+    tuples: TreeMap<Handle, ()>,
+}
+
+impl Model for Taken {
+    ghost use Rattle.std.specs.Prelude.{List, map};
+    ghost use Rattle.yt_model.specs.Values.{Fact};
+    ghost use Rattle.yt_base.specs.Meanings.{fact_of};
+
+    ghost Value = { List Fact };
+
+    ghost view = { λ t. map (λ e. fact_of e.0) t.tuples };
+}
+
+impl Taken {
+    /// No tuple.
+    pub fn none() -> Taken
+        ensures none { result ≡ [] }
+    {
+        Taken {
+            tuples: TreeMap::new(),
+        }
+    }
+
+    /// Another handle to the same.
+    pub fn share(&self) -> Result<Taken, AllocError>
+        ensures same { IfOk result (λ copy. copy ≡ self.now) }
+    {
+        Ok(Taken {
+            tuples: self.tuples.share()?,
+        })
+    }
+
+    /// Whether there is none.
+    pub fn is_empty(&self) -> bool
+        ensures empty { result ≡ (length self.now == 0) }
+    {
+        self.tuples.len() == 0
+    }
+
+    /// Whether the tuple is among them.
+    pub fn contains(&self, tuple: &Tuple) -> bool
+        ensures answer { result ≡ has self.now (fact_of tuple.now) }
+    {
+        match self.tuples.find_in(&Held { tuple }) {
+            Some(_) => return true,
+            None => return false,
+        }
+    }
+
+    /// The same with the tuple, or without it.
+    pub fn set(self, alloc: Global, tuple: &Handle, taken: bool) -> Result<Taken, Memory>
+        ensures set { IfOk result (λ new. (t : Fact)
+            → has new t ≡ cond (same_fact t (fact_of tuple.now)) taken (has self t)) }
+    {
+        let Taken { mut tuples } = self;
+        if taken {
+            match tuples.put(alloc, tuple.share()?, ()) {
+                Ok(_) => return Ok(Taken { tuples }),
+                Err(_) => return Err(Memory),
+            }
+        }
+        tuples.remove(tuple)?;
+        Ok(Taken { tuples })
+    }
+}
