@@ -16,7 +16,9 @@ use Rattle.yt_steps.specs.Attempts.{Attempt}
 use Rattle.yt_steps.specs.Steps.{Asking, step, moved}
 use Rattle.yt_program.specs.Courses.{Course, Reading, State, coming_to, by_reply, first_asked, course, course_by}
 use Rattle.yt_program.specs.Wishes.{Wish, WishesReply, TakesAnswer}
-use Rattle.yt_plan.specs.Planned.{at_rest, answers_over, next_attempt, next_reads, read_after}
+use Rattle.yt_program.specs.Settled.{IsShorter}
+use Rattle.yt_program.specs.Logged.{read_after}
+use Rattle.yt_plan.specs.Planned.{at_rest, answers_over, next_attempt, next_reads}
 
 -- What a course asks first, answered so, and what is left of it.
 pub record IsOn (val : Query → Reply) (t : Course) (q : Query) (a : Reply) : Type 0 where
@@ -94,9 +96,10 @@ reads_on val n t u q a rs made r all on f e same h =
     ∙ ap (λ es. map read_of rs ++ map (read_after n) es) (sym on.log)
     ∙ h
 
--- Fewer queries are left.
-pub fewer : (val : Query → Reply) (t u : Course) (q : Query) (a : Reply) → IsOn val t q a → u ≡ by_reply t a → length (log_of val u) < length (log_of val t)
-fewer val t u q a on f =
+-- Fewer queries are left, of those that are asked after some were passed.
+pub fewer : (val : Query → Reply) (s t u : Course) (q : Query) (a : Reply) → IsShorter val s t → IsOn val t q a → u ≡ by_reply t a → length (log_of val u) < length (log_of val s)
+fewer val s t u q a passed on f =
+    let few = passed.fewer in
     let same : length (log_of val u) ≡ length (log_of val (by_reply t a)) = ap (λ v. length (log_of val v)) f in
     let more : length (log_of val t) ≡ suc (length (log_of val (by_reply t a))) = ap length on.log in
-    omega (arith, same, more)
+    omega (arith, same, more, few)

@@ -11,6 +11,7 @@ use Rattle.yt_query.specs.Meanings.{Read}
 use Rattle.yt_steps.specs.Attempts.{Attempt}
 use Rattle.yt_steps.specs.Steps.{step, moved}
 use Rattle.yt_program.specs.Courses.{State}
+use Rattle.yt_program.specs.Logged.{read_after}
 use Rattle.yt_program.specs.Wishes.{Wish, WishesStep, Fits}
 
 -- An attempt between two steps.
@@ -33,10 +34,6 @@ HasSettled ms D P marks = AreSettled (record { rules = ms; heading = direction_o
 -- The attempt after its next step over D, with this answer if it is at a question.
 abbrev pub next_attempt : List Rule → ℕ → List Fact → Attempt → Option Choice → Attempt
 next_attempt ms B D P c = moved B P (result_of (answers_over ms D P) (step ms P c))
-
--- A query with its answer, as a read by an attempt that had made so many own writes.
-abbrev pub read_after : ℕ → Query × Reply → Read
-read_after n r = record { query = r.0; reply = r.1; own = n }
 
 -- The reads of that step.
 abbrev pub next_reads : List Rule → List Fact → Attempt → Option Choice → List Read

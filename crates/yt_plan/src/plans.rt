@@ -1,5 +1,5 @@
 //! One step of an attempt over a set of tuples, with its reads.
-ghost use Rattle.std.specs.Prelude.{◌≡◌, ◌<◌, map, IfOk, OnOk};
+ghost use Rattle.std.specs.Prelude.{◌≡◌, ◌<◌, [], map, IfOk, OnOk};
 ghost use Rattle.std.specs.Option.{option_map, option_copied};
 ghost use Rattle.yt_machine.specs.Trees.{result_of, log_of};
 ghost use Rattle.yt_model.specs.Queries.{value};
@@ -11,7 +11,8 @@ ghost use Rattle.yt_query.specs.Meanings.{read_of};
 ghost use Rattle.yt_steps.specs.Steps.{step};
 ghost use Rattle.yt_program.specs.Courses.{coming_to, course};
 ghost use Rattle.yt_program.specs.Wishes.{wish};
-ghost use Rattle.yt_plan.specs.Planned.{at_rest, HasSettled, WantsStep, next_attempt, next_reads, read_after};
+ghost use Rattle.yt_program.specs.Logged.{read_after};
+ghost use Rattle.yt_plan.specs.Planned.{at_rest, HasSettled, WantsStep, next_attempt, next_reads};
 
 use std::alloc::Global;
 use yt_base::{Choice, Direction, FORCE_RELATION, Facts, Memory, TryCopy};
@@ -19,6 +20,9 @@ use yt_eval::{AppliedView, Settled};
 use yt_limits::{Budget, Mappings};
 use yt_program::{Program, Want};
 use yt_query::{LoggedRead, ReadLog};
+
+// Room for so many reads at most is made before the first of them.
+const AT_ONCE: usize = 64;
 
 /// The next step of an attempt: the attempt after it, and the reads of the step in order.
 #[derive(Drop)]
@@ -157,8 +161,9 @@ fn answer_all<F: Facts>(
         (λ q. value mappings.now q view.now.below view.now.own (Caused (heading_of direction)))
         (course mappings.now program.old))) }
 {
-    let mut reads = ReadLog::new(alloc);
+    let mut reads = log_for(alloc, settled)?;
     'queries: loop {
+        program.pass_logged(settled.marks(), mappings, made, &mut reads)?;
         let Want::Read(query) = program.wants() else {
             return Ok(reads);
         };
@@ -171,4 +176,13 @@ fn answer_all<F: Facts>(
             own: made,
         })?;
     }
+}
+
+// An empty log, with room for a read of each mapping, if there are not too many.
+fn log_for(alloc: Global, settled: &Settled) -> Result<ReadLog, Memory>
+    ensures empty { IfOk result (λ log. log.items ≡ []) }
+{
+    let mut log = ReadLog::new(alloc);
+    log.reserve(settled.marks().len().min(AT_ONCE) + 1)?;
+    Ok(log)
 }

@@ -7,4 +7,5 @@ pub mod Landing
 pub mod Repairs
 pub mod Shorter
 pub mod Passed
+pub mod Logging
 pub mod Sent

@@ -1,12 +1,12 @@
 -- Programs that come to the same with no more queries: a look that passes a mapping without a violation, and the step and the course that it is in.
-use Rattle.std.proofs.Common.{◌≡◌, ◌∙◌, ℕ, suc, arith, ap, sym, refl, subst, List, drop, length, Option, Some, None}
+use Rattle.std.proofs.Common.{◌≡◌, ◌∙◌, ℕ, suc, arith, ap, sym, refl, List, drop, length, Option, Some, None}
 use Rattle.std.specs.Prelude.{slice_get}
 use Rattle.yt_machine.specs.Trees.{Tree, Leaf, Node, result_of, log_of}
 use Rattle.yt_model.specs.Mappings.{Rule}
 use Rattle.yt_model.specs.Queries.{Query, Reply, Violation, Nothing}
 use Rattle.yt_steps.specs.Attempts.{Attempt}
 use Rattle.yt_steps.specs.Steps.{Asking, moved, image_in, repair_or, look_from}
-use Rattle.yt_program.specs.Rows.{Row, Violating, repaired, look_on, goes_on, row_tree}
+use Rattle.yt_program.specs.Rows.{Violating, repaired, look_on, goes_on, row_tree}
 use Rattle.yt_program.specs.Courses.{coming_to}
 use Rattle.yt_program.specs.Settled.{IsShorter}
 
@@ -21,7 +21,7 @@ shorter_on val t u w a b =
     let then = b.fewer in
     record { same = b.same ∙ a.same; fewer = omega (arith, first, then) }
 
-none_found : (P : Attempt) (n : ℕ) (o : Option Rule) (a : Reply) (rest : Asking) → a ≡ Nothing → repaired P n o (image_in a) rest ≡ rest
+pub none_found : (P : Attempt) (n : ℕ) (o : Option Rule) (a : Reply) (rest : Asking) → a ≡ Nothing → repaired P n o (image_in a) rest ≡ rest
 none_found P n None a rest e = refl
 none_found P n (Some m) a rest e = ap (λ b. repair_or P n m (image_in b) rest) e
 
@@ -49,8 +49,3 @@ shorter_step val B P t u s =
     let new = asks_alike val B P u in
     let fewer = s.fewer in
     record { same = comes_to val B P u ∙ (ap (moved B P) s.same ∙ sym (comes_to val B P t)); fewer = omega (arith, old, new, fewer) }
-
--- And that of a program, whose attempt stays.
-pub shorter_course : (val : Query → Reply) (ms : List Rule) (B : ℕ) (P Q : Attempt) (r s : Row) → Q ≡ P → IsShorter val (row_tree ms P r) (row_tree ms P s)
-    → IsShorter val (coming_to B P (row_tree ms P r)) (coming_to B Q (row_tree ms Q s))
-shorter_course val ms B P Q r s e h = subst (λ (R : Attempt). IsShorter val (coming_to B P (row_tree ms P r)) (coming_to B R (row_tree ms R s))) (sym e) (shorter_step val B P _ _ h)

@@ -9,6 +9,7 @@ pub mod Owning
 pub mod Views
 pub mod Results
 pub mod Settled
+pub mod Logged
 pub mod Starting
 pub mod Looks
 pub mod Transitions

@@ -6,6 +6,8 @@ use Rattle.yt_steps.specs.Attempts.{Attempt, Ended, Done}
 use Rattle.yt_steps.specs.Steps.{makes, look_from}
 use Rattle.yt_program.specs.Rows.{Row, Violating, goes_on, row_tree}
 use Rattle.yt_program.specs.Settled.{FindsNone, IsShorter}
+use Rattle.yt_program.specs.Logged.{IsLogged}
+use Rattle.yt_query.specs.Meanings.{Read}
 
 -- For an update of this number the look from i on is the look from j on.
 abbrev pub SameLook : List Rule → ℕ → ℕ → ℕ → Type 0
@@ -27,3 +29,8 @@ LooksOn ms number r a r' = (P : Attempt) → P.number ≡ number → row_tree ms
 abbrev pub Passes : List Rule → List Bool → ℕ → Row → Row → Type 0
 Passes ms marks number r r' =
     (val : Query → Reply) (P : Attempt) → FindsNone val marks → P.number ≡ number → IsShorter val (row_tree ms P r) (row_tree ms P r')
+
+-- So it may pass, and these are the reads then, by an attempt that had made n writes: the reads before with those of the look from r are those after with those of the look from r'.
+abbrev pub PassesLogged : List Rule → List Bool → ℕ → ℕ → Row → List Read → Row → List Read → Type 0
+PassesLogged ms marks number n r before r' after =
+    (val : Query → Reply) (P : Attempt) → FindsNone val marks → P.number ≡ number → IsLogged val n (row_tree ms P r) before (row_tree ms P r') after

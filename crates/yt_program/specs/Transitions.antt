@@ -11,6 +11,8 @@ use Rattle.yt_steps.specs.Attempts.{begun}
 use Rattle.yt_steps.specs.Steps.{step, look_from}
 use Rattle.yt_program.specs.Courses.{State, between, coming_to, course, by_reply}
 use Rattle.yt_program.specs.Settled.{FindsNone, IsShorter}
+use Rattle.yt_program.specs.Logged.{IsLogged}
+use Rattle.yt_query.specs.Meanings.{Read}
 
 -- The attempt of this number at an update, at its start.
 abbrev pub IsAtStart : ℕ → ℕ → Operation → State → Type 0
@@ -39,3 +41,7 @@ StaysWhileAsking s s' = is_some s'.reading ≡ true → s'.attempt ≡ s.attempt
 -- The look has passed over mappings with a mark: wherever those have no violation, it comes to the same, and asks no more.
 abbrev pub HasPassed : List Rule → List Bool → State → State → Type 0
 HasPassed ms marks s s' = (val : Query → Reply) → FindsNone val marks → IsShorter val (course ms s) (course ms s')
+
+-- The same, with a read of each mapping that it has passed by an attempt that had made n writes: the reads before with those of the step are those after with those that it still makes.
+abbrev pub HasPassedLogged : List Rule → List Bool → ℕ → State → List Read → State → List Read → Type 0
+HasPassedLogged ms marks n s before s' after = (val : Query → Reply) → FindsNone val marks → IsLogged val n (course ms s) before (course ms s') after

@@ -1,16 +1,20 @@
 //! A look that passes over mappings that are settled.
-ghost use Rattle.std.specs.Prelude.{◌≡◌, false, slice_index_or};
-ghost use Rattle.yt_program.specs.Looks.{Passes};
+ghost use Rattle.std.specs.Prelude.{◌≡◌, false, slice_index_or, map, IfOk, OnOk, OnErr};
+ghost use Rattle.yt_query.specs.Meanings.{read_of};
+ghost use Rattle.yt_program.specs.Looks.{Passes, PassesLogged};
 ghost use Rattle.yt_program.specs.Rows.{Violating, begun_in};
 ghost use Rattle.yt_program.specs.PointMeanings.{reading_of};
-ghost use Rattle.yt_program.specs.Transitions.{HasPassed};
+ghost use Rattle.yt_program.specs.Logged.{finds_none as finds_none_lem};
+ghost use Rattle.yt_program.specs.Transitions.{HasPassed, HasPassedLogged};
 
 use crate::passing::{next_from_start, violation_asked};
 use crate::points::Point;
 use crate::programs::Program;
 use crate::readings::Reading;
 use crate::rows::Row;
+use yt_base::Memory;
 use yt_limits::Mappings;
+use yt_query::{Answer, LoggedRead, Query, ReadLog};
 
 impl Program {
     /// Passes, in a look, over mappings that are settled: `settled[n]` says that the mapping of number n has no violation
@@ -24,6 +28,27 @@ impl Program {
         if let Point::Reading(reading) = &mut self.point {
             pass(reading, self.number, settled, mappings);
         }
+    }
+
+    /// Passes as `pass` does, and puts a read of each mapping that it passes at the end of the log: that it has no
+    /// violation, by an attempt that had made so many writes. It is refused only for want of memory; the program then stays
+    /// as it is, and some of the reads may be in the log.
+    pub fn pass_logged(
+        &mut self,
+        settled: &[bool],
+        mappings: &Mappings<'_>,
+        made: u64,
+        log: &mut ReadLog,
+    ) -> Result<(), Memory>
+        ensures passed { OnOk result (HasPassedLogged mappings.now settled.now made self.old
+            (map read_of log.old.items) self.new (map read_of log.new.items)) }
+        ensures attempt { self.new.attempt ≡ self.old.attempt }
+        ensures err { OnErr result (self.new ≡ self.old) }
+    {
+        if let Point::Reading(reading) = &mut self.point {
+            pass_logged(reading, self.number, settled, mappings, made, log)?;
+        }
+        Ok(())
     }
 }
 
@@ -53,6 +78,65 @@ fn first_unmarked(from: u16, number: u32, marks: &[bool], mappings: &Mappings<'_
         }
     }
     place
+}
+
+// Passes as `pass` does, with a read of each mapping that it passes.
+fn pass_logged(
+    reading: &mut Reading,
+    number: u32,
+    marks: &[bool],
+    mappings: &Mappings<'_>,
+    made: u64,
+    log: &mut ReadLog,
+) -> Result<(), Memory>
+    ensures passed { OnOk result (PassesLogged mappings.now marks.now number made
+        (reading_of reading.old) (map read_of log.old.items)
+        (reading_of reading.new) (map read_of log.new.items)) }
+    ensures phase { begun_in (reading_of reading.new) ≡ begun_in (reading_of reading.old) }
+    ensures err { OnErr result (reading.new ≡ reading.old) }
+{
+    if let Row::Violating(place) = &reading.row {
+        let unmarked = log_marked(*place, number, marks, mappings, made, log)?;
+        *reading = violation_asked(unmarked);
+    }
+    Ok(())
+}
+
+// The place that `first_unmarked` gives, with a read of each mapping before it.
+fn log_marked(
+    from: u16,
+    number: u32,
+    marks: &[bool],
+    mappings: &Mappings<'_>,
+    made: u64,
+    log: &mut ReadLog,
+) -> Result<u16, Memory>
+    ensures passed { IfOk result (λ place. PassesLogged mappings.now marks.now number made
+        (Violating from) (map read_of log.old.items)
+        (Violating place) (map read_of log.new.items)) }
+{
+    let mut place = from;
+    'places: while is_marked(marks, place) {
+        match next_from_start(number, place as usize + 1, mappings) {
+            Some(next) => {
+                log.push(finds_none(place, made))?;
+                place = next;
+            }
+            None => return Ok(place),
+        }
+    }
+    Ok(place)
+}
+
+// The read that the mapping at the place has no violation, by an attempt that had made so many writes.
+fn finds_none(place: u16, made: u64) -> LoggedRead
+    ensures read { read_of result ≡ finds_none_lem place made }
+{
+    LoggedRead {
+        query: Query::Violation(place),
+        answer: Answer::Nothing,
+        own: made,
+    }
 }
 
 // Whether there is a mark at the place.

@@ -20,7 +20,8 @@ use Rattle.yt_steps.specs.Steps.{step, moved}
 use Rattle.yt_machine.specs.Trees.{log_of}
 use Rattle.yt_steps.proofs.ChaseLaws.{chase_laws}
 use Rattle.yt_query.specs.Meanings as query
-use Rattle.yt_plan.specs.Planned.{at_rest, answers_over, next_attempt, next_reads, read_after}
+use Rattle.yt_program.specs.Logged.{read_after}
+use Rattle.yt_plan.specs.Planned.{at_rest, answers_over, next_attempt, next_reads}
 use Rattle.yt_history.specs.Cores.{Ground, machine, session_over, entries_over, updates_after, IsLegalOver}
 use Rattle.yt_history.specs.PlainEntries.{PlainEntry, entry_kept}
 use Rattle.yt_history.proofs.Keeping.{left_by}

@@ -13,7 +13,8 @@ use Rattle.yt_machine.specs.Updates.{Update, hides, shown}
 use Rattle.yt_model.specs.Values.{Fact}
 use Rattle.yt_model.specs.Mappings.{Rule}
 use Rattle.yt_model.specs.Repository.{Change}
-use Rattle.yt_plan.specs.Planned.{answers_over, next_attempt, read_after}
+use Rattle.yt_program.specs.Logged.{read_after}
+use Rattle.yt_plan.specs.Planned.{answers_over, next_attempt}
 use Rattle.yt_plan.specs.declared.plans.Plan.{Plan}
 use Rattle.yt_query.specs.Meanings.{Read, read_of}
 use Rattle.yt_program.specs.Courses.{State}

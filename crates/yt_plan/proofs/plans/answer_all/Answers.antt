@@ -9,6 +9,7 @@ use Rattle.yt_eval.specs.Watched.{AreSettled, seen_over}
 use Rattle.yt_query.specs.Meanings.{query_of, reply_of}
 use Rattle.yt_query.proofs.OfKind.{values_are_of_kind}
 use Rattle.yt_program.specs.Courses.{course}
+use Rattle.yt_program.specs.Settled.{FindsNone}
 use Rattle.yt_program.specs.Wishes.{wish}
 use Rattle.yt_plan.proofs.Answering.{goes_on, takes, reads_on, fewer}
 use Rattle.yt_plan.proofs.plans.answer_all.Goals as goal
@@ -20,7 +21,7 @@ take-requires g c =
     let val : Query → Reply = λ p. value ms p c.args.view.now.below c.args.view.now.own (Caused (heading_of c.args.direction)) in
     let answer : reply_of c.in_ok-answer.answer ≡ val q = c.in_ok-answer.ensures.value ∙ ap (λ rules. value rules (query_of c.in_ok-query.query) c.args.view.now.below c.args.view.now.own (Caused (heading_of c.args.direction))) c.list.ensures.rules ∙ ap val c.in_ok-query.ensures.same in
     record {
-      kind = takes ms (wish c.queries.program) q (reply_of c.in_ok-answer.answer) c.in-Read.ensures.want
+      kind = takes ms (wish c.pass_logged.new.self) q (reply_of c.in_ok-answer.answer) c.in-Read.ensures.want
           (subst (IsOfKind ms q) (sym answer) (values_are_of_kind ms q c.args.view.now.below c.args.view.now.own (Caused (heading_of c.args.direction)) c.requires.sorted));
     }
 
@@ -30,8 +31,9 @@ queries-smaller g c =
     let q = query_of c.in-Read.query.now in
     let val : Query → Reply = λ p. value ms p c.args.view.now.below c.args.view.now.own (Caused (heading_of c.args.direction)) in
     let answer : reply_of c.in_ok-answer.answer ≡ val q = c.in_ok-answer.ensures.value ∙ ap (λ rules. value rules (query_of c.in_ok-query.query) c.args.view.now.below c.args.view.now.own (Caused (heading_of c.args.direction))) c.list.ensures.rules ∙ ap val c.in_ok-query.ensures.same in
-    fewer val (course ms c.queries.program) (course ms c.take.new.self) q (reply_of c.in_ok-answer.answer)
-    (goes_on val (course ms c.queries.program) q (reply_of c.in_ok-answer.answer) (c.in-Read.ensures.first ms) answer) c.in_ok-take.ensures.step
+    let passed = c.in_ok-pass_logged.ensures.passed val (subst (FindsNone val) (sym c.marks.ensures.marks) c.queries.invariant.settled) in
+    fewer val (course ms c.queries.program) (course ms c.pass_logged.new.self) (course ms c.take.new.self) q (reply_of c.in_ok-answer.answer)
+    passed.shorter (goes_on val (course ms c.pass_logged.new.self) q (reply_of c.in_ok-answer.answer) (c.in-Read.ensures.first ms) answer) c.in_ok-take.ensures.step
 
 pub queries-preserved : goal.queries-preserved
 queries-preserved g c =
@@ -40,11 +42,12 @@ queries-preserved g c =
     let a = reply_of c.in_ok-answer.answer in
     let val : Query → Reply = λ p. value ms p c.args.view.now.below c.args.view.now.own (Caused (heading_of c.args.direction)) in
     let answer : a ≡ val q = c.in_ok-answer.ensures.value ∙ ap (λ rules. value rules (query_of c.in_ok-query.query) c.args.view.now.below c.args.view.now.own (Caused (heading_of c.args.direction))) c.list.ensures.rules ∙ ap val c.in_ok-query.ensures.same in
-    let on = goes_on val (course ms c.queries.program) q a (c.in-Read.ensures.first ms) answer in
+    let passed = c.in_ok-pass_logged.ensures.passed val (subst (FindsNone val) (sym c.marks.ensures.marks) c.queries.invariant.settled) in
+    let on = goes_on val (course ms c.pass_logged.new.self) q a (c.in-Read.ensures.first ms) answer in
     record {
-      together = ap (result_of val) c.in_ok-take.ensures.step ∙ on.same ∙ c.queries.invariant.together;
+      together = ap (result_of val) c.in_ok-take.ensures.step ∙ on.same ∙ passed.shorter.same ∙ c.queries.invariant.together;
       read =
-          reads_on val c.args.made (course ms c.queries.program) (course ms c.take.new.self) q a c.queries.reads.items _ _ _ on
-          c.in_ok-take.ensures.step c.in_ok-push.ensures.ok (λ i. record { query = c.in_ok-query.ensures.same i; reply = a; own = c.args.made }) c.queries.invariant.read;
+          reads_on val c.args.made (course ms c.pass_logged.new.self) (course ms c.take.new.self) q a c.pass_logged.new.log.items _ _ _ on
+          c.in_ok-take.ensures.step c.in_ok-push.ensures.ok (λ i. record { query = c.in_ok-query.ensures.same i; reply = a; own = c.args.made }) (sym passed.reads ∙ c.queries.invariant.read);
       settled = subst (λ (rules : List Rule). AreSettled (seen_over rules (heading_of c.args.direction) c.args.view.now) c.eval.new.settled) c.list.ensures.rules c.eval.ensures.settled;
     }

@@ -6,7 +6,7 @@ use Rattle.yt_base.specs.Meanings.{heading_of}
 use Rattle.yt_eval.specs.Watched.{AreSettled, seen_over}
 use Rattle.yt_query.specs.Meanings.{read_of}
 use Rattle.yt_program.specs.Courses.{course}
-use Rattle.yt_plan.specs.Planned.{read_after}
+use Rattle.yt_program.specs.Logged.{read_after}
 use Rattle.yt_plan.proofs.plans.answer_all.Given as goal
 
 -- What is still asked leads to the result of the whole; the reads made and those still to come are all; what is settled is so.

@@ -1,3 +1,8 @@
+use Rattle.yt_program.specs.Settled.{IsShorter}
+use Rattle.yt_program.specs.PointMeanings.{reading_of}
+use Rattle.yt_program.specs.Rows.{row_tree}
+use Rattle.yt_program.specs.Courses.{course}
+use Rattle.yt_program.proofs.Shorter.{as_it_is, shorter_step}
 use Rattle.yt_program.proofs.Passed.{passes_on, stays_there}
 use Rattle.yt_program.proofs.programs.Program.pass.Goals as goal
 use Rattle.yt_program.proofs.programs.Program.pass.Goals.{in-Reading, in_default}
@@ -7,7 +12,9 @@ returns-clause-passed c = λ val finds.
     let ms = c.args.mappings.now in
     elim c.match-self.branch [
       | in-Reading w ↦
-          passes_on ms c.args.settled.now c.self.inside c.match-self.self-inside c.args.self.now w.in-Reading.reading w.pass.new.reading
-          c.self.view_is w.in-Reading.is w.self-inside-is w.pass.ensures.passed w.pass.ensures.phase val finds
-      | in_default w ↦ stays_there ms c.self.inside c.match-self.self-inside c.args.self.now c.self.view_is w.self-inside-is val
+          passes_on ms (IsShorter val) c.self.inside c.match-self.self-inside c.args.self.now w.in-Reading.reading w.pass.new.reading
+          c.self.view_is w.in-Reading.is w.self-inside-is
+          (λ P number. shorter_step val c.self.inside.hand.budget P (row_tree ms P (reading_of w.in-Reading.reading)) (row_tree ms P (reading_of w.pass.new.reading)) (w.pass.ensures.passed val P finds number))
+          w.pass.ensures.phase
+      | in_default w ↦ stays_there ms (IsShorter val) c.self.inside c.match-self.self-inside c.args.self.now c.self.view_is w.self-inside-is (as_it_is val (course ms c.args.self.now))
     ]

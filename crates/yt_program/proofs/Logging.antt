@@ -1,0 +1,58 @@
+-- A look that passes mappings without a violation, with a read of each.
+use Rattle.std.proofs.Common.{◌≡◌, ◌∙◌, ℕ, suc, ap, sym, refl, List, [], ◌∷◌, ◌++◌, append_assoc, drop, map}
+use Rattle.std.specs.Prelude.{slice_get}
+use Rattle.yt_machine.specs.Trees.{Tree, Leaf, Node, log_of}
+use Rattle.yt_model.specs.Mappings.{Rule}
+use Rattle.yt_model.specs.Queries.{Query, Reply, Violation, Nothing}
+use Rattle.yt_query.specs.Meanings.{Read, read_of}
+use Rattle.yt_query.specs.declared.log.LoggedRead.{LoggedRead}
+use Rattle.yt_steps.specs.Attempts.{Attempt}
+use Rattle.yt_steps.specs.Steps.{Asking, look_from}
+use Rattle.yt_program.specs.Rows.{Violating, look_on, goes_on, row_tree}
+use Rattle.yt_program.specs.Courses.{coming_to}
+use Rattle.yt_program.specs.Logged.{read_after, finds_none, IsLogged}
+use Rattle.yt_program.proofs.Shorter.{as_it_is, shorter_on, none_found, passes_settled, shorter_step}
+
+-- Nothing was passed.
+pub logged_none : {A : Type 0} (val : Query → Reply) (n : ℕ) (t : Tree Query Reply A) (reads : List Read) → IsLogged val n t reads t reads
+logged_none val n t reads = record { shorter = as_it_is val t; reads = refl }
+
+-- One after the other.
+pub logged_on : {A : Type 0} (val : Query → Reply) (n : ℕ) (t u w : Tree Query Reply A) (before mid after : List Read) → IsLogged val n t before u mid → IsLogged val n u mid w after → IsLogged val n t before w after
+logged_on val n t u w before mid after a b = record { shorter = shorter_on val t u w a.shorter b.shorter; reads = a.reads ∙ b.reads }
+
+-- One mapping was passed, with its read.
+pub logs_settled : (val : Query → Reply) (ms : List Rule) (P : Attempt) (n made j next : ℕ) (before after : List Read) → j ≡ suc n → val (Violation n) ≡ Nothing
+    → row_tree ms P (Violating next) ≡ look_from P j (drop j ms) → after ≡ before ++ finds_none n made ∷ []
+    → IsLogged val made (row_tree ms P (Violating n)) before (row_tree ms P (Violating next)) after
+logs_settled val ms P n made j next before after e nothing h f =
+    let on : goes_on ms P (Violating n) (val (Violation n)) ≡ row_tree ms P (Violating next) =
+    none_found P n (slice_get ms n) (val (Violation n)) (look_on ms P n) nothing ∙ (sym (ap (λ k. look_from P k (drop k ms)) e) ∙ sym h) in
+    record {
+      shorter = passes_settled val ms P n j next e nothing h;
+      reads =
+          (λ i. before ++ read_after made (Violation n, nothing i) ∷ map (read_after made) (log_of val (on i)))
+          ∙ sym (append_assoc before (finds_none n made ∷ []) (map (read_after made) (log_of val (row_tree ms P (Violating next)))))
+          ∙ ap (λ rs. rs ++ map (read_after made) (log_of val (row_tree ms P (Violating next)))) (sym f);
+    }
+
+asks_so : (val : Query → Reply) (B : ℕ) (P : Attempt) (t : Asking) → log_of val (coming_to B P t) ≡ log_of val t
+asks_so val B P (Leaf m) = refl
+asks_so val B P (Node q k) = ap (λ es. (q, val q) ∷ es) (asks_so val B P (k (val q)))
+
+-- So it is in the course of a step.
+pub logged_step : (val : Query → Reply) (n B : ℕ) (P : Attempt) (t u : Asking) (before after : List Read) → IsLogged val n t before u after → IsLogged val n (coming_to B P t) before (coming_to B P u) after
+logged_step val n B P t u before after l = record {
+  shorter = shorter_step val B P t u l.shorter;
+  reads =
+      ap (λ es. before ++ map (read_after n) es) (asks_so val B P t) ∙ l.reads
+      ∙ ap (λ es. after ++ map (read_after n) es) (sym (asks_so val B P u));
+}
+
+-- One read more is at the end of what the reads mean.
+pub one_more : (rs made : List LoggedRead) (r : LoggedRead) (s : Read) → made ≡ rs ++ r ∷ [] → read_of r ≡ s → map read_of made ≡ map read_of rs ++ s ∷ []
+one_more rs made r s e f = ap (map read_of) e ∙ map_more rs ∙ ap (λ x. map read_of rs ++ x ∷ []) f
+  where
+    map_more : (qs : List LoggedRead) → map read_of (qs ++ r ∷ []) ≡ map read_of qs ++ read_of r ∷ []
+    map_more [] = refl
+    map_more (q ∷ qs) = ap (λ xs. read_of q ∷ xs) (map_more qs)

@@ -1,0 +1,18 @@
+use Rattle.std.proofs.Common.{◌≡◌, ◌-◌, map}
+use Rattle.yt_model.specs.Queries.{Query, Reply}
+use Rattle.yt_query.specs.Meanings.{read_of}
+use Rattle.yt_steps.specs.Attempts.{Attempt}
+use Rattle.yt_program.specs.Rows.{Violating, row_tree}
+use Rattle.yt_program.specs.Settled.{FindsNone}
+use Rattle.yt_program.specs.Logged.{IsLogged}
+use Rattle.yt_program.proofs.settled.log_marked.Given as goal
+
+-- The look comes from here to what it came to from the start on, and its reads up to here are in the log.
+abbrev pub invariant-places : goal.invariant-places
+invariant-places l =
+    (val : Query → Reply) (P : Attempt) → FindsNone val l.marks → P.number ≡ l.number
+    → IsLogged val l.made (row_tree l.mappings P (Violating l.from)) (map read_of l.fn.log.items) (row_tree l.mappings P (Violating l.place)) (map read_of l.log.items)
+
+-- How many places come after it.
+abbrev pub decreases-places : goal.decreases-places
+decreases-places l = 65536 - l.place
