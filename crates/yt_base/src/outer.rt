@@ -48,7 +48,19 @@ impl Value {
 
 impl Tuple {
     /// The outer form: the same tuple, with attempt 0 in each null. It is refused only for want of memory.
+    /// A tuple that is its own outer form is shared.
     pub fn outer(&self, alloc: Global) -> Result<Tuple, Memory>
+        ensures same { IfOk result (λ form. fact_of form ≡ outer (fact_of self.now)) }
+    {
+        if are_outer(self.values.as_slice()) {
+            let same = self.share()?;
+            return Ok(same);
+        }
+        self.renamed(alloc)
+    }
+
+    // The outer form, with values of its own.
+    fn renamed(&self, alloc: Global) -> Result<Tuple, Memory>
         ensures same { IfOk result (λ form. fact_of form ≡ outer (fact_of self.now)) }
     {
         let mut values = List::new(alloc);
@@ -67,6 +79,30 @@ impl Tuple {
             return false;
         }
         are_outer_eq(self.values.as_slice(), other.values.as_slice())
+    }
+}
+
+// Whether each value is its own outer form.
+fn are_outer(values: &[Value]) -> bool
+    ensures outer { IsTrue result →
+        (map outer_datum (map datum_of values.now) ≡ map datum_of values.now) }
+{
+    for value in values {
+        if !is_outer(value) {
+            return false;
+        }
+    }
+    true
+}
+
+// Whether the value is its own outer form.
+fn is_outer(value: &Value) -> bool
+    ensures outer { IsTrue result → (outer_datum (datum_of value.now) ≡ datum_of value.now) }
+{
+    match value {
+        Value::Null(null) => null.attempt == 0,
+        Value::Int(_) => true,
+        Value::Word(_) => true,
     }
 }
 

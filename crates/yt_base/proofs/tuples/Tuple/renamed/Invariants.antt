@@ -1,7 +1,7 @@
 use Rattle.std.proofs.Common.{◌≡◌, map, take}
 use Rattle.yt_model.specs.Values.{outer_datum}
 use Rattle.yt_base.specs.Meanings.{datum_of}
-use Rattle.yt_base.proofs.tuples.Tuple.outer.Given as goal
+use Rattle.yt_base.proofs.tuples.Tuple.renamed.Given as goal
 
 -- The outer forms so far are those of the values that were gone over.
 abbrev pub invariant-loop-value : goal.invariant-loop-value
