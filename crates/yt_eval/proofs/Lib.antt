@@ -3,3 +3,4 @@ pub mod Written
 pub mod OtherRelations
 pub mod Settling
 pub mod Forces
+mod Touched

@@ -1,3 +1,4 @@
 pub mod Seen
 pub mod Counted
 pub mod Watched
+pub mod Touching

@@ -11,12 +11,14 @@ mod applied;
 mod occurrences;
 mod scopes;
 mod settled;
+mod touching;
 mod values;
 mod view;
 mod watched;
 
 pub use crate::applied::AppliedView;
 pub use crate::settled::Settled;
+pub use crate::touching::Touching;
 pub use crate::values::{eval, eval_all};
 pub use crate::view::View;
 pub use crate::watched::WatchedView;

@@ -1,12 +1,14 @@
 //! Which mappings are settled: nothing that was written since they were last looked at can have given them a violation.
-ghost use Rattle.std.specs.Prelude.{◌≡◌, ◌==◌, ℕ, true, false, Some, slice_index_or, slice_set, replicate, map, IfOk};
+ghost use Rattle.std.specs.Prelude.{◌≡◌, ◌==◌, ◌&&◌, ℕ, true, false, not, Some, slice_index_or, slice_set, replicate, map, IfOk};
 ghost use Rattle.std.specs.List.{list_any};
 ghost use Rattle.yt_base.specs.Meanings.{change_of, pattern_of, rule_of};
+ghost use Rattle.yt_eval.specs.Touching.{is_among, IsTouchingIf};
 ghost use Rattle.yt_eval.specs.Watched.{asks_settled, with_settled, stirs, touches as touches_lem, LoseMarks, LoseMarksTo, LosesMark};
 ghost use Rattle.yt_base.specs.Contents.{rules_in};
 ghost use Rattle.yt_query.specs.Meanings.{query_of};
 
 use crate::scopes::relation_of;
+use crate::touching::Touching;
 use std::alloc::Global;
 use std::marker::Model;
 use yt_base::{Atom, FORCE_RELATION, Mapping, MappingList, Memory, Write};
@@ -126,6 +128,40 @@ impl Settled {
         }
     }
 
+    /// The same, with what the mappings touch where that is given.
+    pub(crate) fn stir_by(
+        &mut self,
+        touching: Option<&Touching>,
+        mappings: &MappingList,
+        write: &Write,
+    )
+        requires touching { IsTouchingIf (rules_in mappings.now) touching }
+        ensures left { LoseMarks (stirs (change_of write.now))
+            (rules_in mappings.now) self.old self.new }
+    {
+        if relation_of(write) == FORCE_RELATION {
+            self.marks.fill(false);
+            return;
+        }
+        match touching {
+            Some(touching) => match touching.numbers(write) {
+                Some(numbers) => self.unsettle_all(numbers.as_slice()),
+                None => self.stir_touched(mappings, write),
+            },
+            None => self.stir_touched(mappings, write),
+        }
+    }
+
+    // Takes the marks of these mappings away.
+    fn unsettle_all(&mut self, numbers: &[usize])
+        ensures set { (n : ℕ) → slice_index_or self.new n false ≡
+            (slice_index_or self.old n false && not (is_among numbers.now n)) }
+    {
+        for number in numbers {
+            self.unsettle(*number);
+        }
+    }
+
     // Stirs the mappings that the write touches.
     fn stir_touched(&mut self, mappings: &MappingList, write: &Write)
         ensures left { LoseMarks (touches_lem (change_of write.now))
@@ -168,8 +204,8 @@ fn touches(mapping: &Mapping, write: &Write) -> bool
     }
 }
 
-// Whether one of the atoms is of the relation.
-fn stands_in(atoms: &[Atom], relation: u16) -> bool
+/// Whether one of the atoms is of the relation.
+pub(crate) fn stands_in(atoms: &[Atom], relation: u16) -> bool
     ensures answer { result ≡ list_any (λ a. a.relation == relation) (map pattern_of atoms.now) }
 {
     atoms.iter().any(|atom| atom.relation == relation)

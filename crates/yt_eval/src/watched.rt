@@ -5,9 +5,11 @@ ghost use Rattle.yt_base.specs.Meanings.{rule_of, change_of, heading_of};
 ghost use Rattle.yt_query.specs.Meanings.{query_of, reply_of};
 ghost use Rattle.yt_eval.specs.Watched.{watched_on, AreSettled, value_in, watched_from};
 ghost use Rattle.yt_base.specs.Contents.{rules_in};
+ghost use Rattle.yt_eval.specs.Touching.{IsTouching};
 ghost use Rattle.yt_facts.specs.Begun.{HoldsOfFirst};
 
 use crate::settled::Settled;
+use crate::touching::Touching;
 use crate::view::View;
 use std::alloc::Global;
 use std::marker::Model;
@@ -23,18 +25,20 @@ pub struct WatchedView<'a, F: Facts> {
     mappings: &'a MappingList,
     direction: Direction,
     settled: Settled,
+    touching: Option<&'a Touching>,
 }
 
 impl<'a, F: Facts> Model for WatchedView<'a, F> {
     ghost use Rattle.std.specs.Prelude.{map};
     ghost use Rattle.yt_base.specs.Meanings.{rule_of, heading_of};
     ghost use Rattle.yt_eval.specs.Watched.{Watched, AreSettled};
+    ghost use Rattle.yt_eval.specs.Touching.{IsTouchingIf};
 
     ghost Value = { Watched };
 
     ghost view = { λ v. record { rules = map rule_of v.mappings.now.items; heading = heading_of v.direction; below = v.view.below; own = v.view.own } };
 
-    ghost invariant = { λ v. AreSettled (record { rules = map rule_of v.mappings.now.items; heading = heading_of v.direction; below = v.view.below; own = v.view.own }) v.settled };
+    ghost invariant = { λ v. AreSettled (record { rules = map rule_of v.mappings.now.items; heading = heading_of v.direction; below = v.view.below; own = v.view.own }) v.settled × IsTouchingIf (map rule_of v.mappings.now.items) v.touching };
 }
 
 impl<'a, F: Facts> WatchedView<'a, F> {
@@ -54,6 +58,29 @@ impl<'a, F: Facts> WatchedView<'a, F> {
             mappings,
             direction,
             settled,
+            touching: None,
+        })
+    }
+
+    /// The same with what the mappings touch, which spares looking at each of them at every write.
+    pub fn with(
+        alloc: Global,
+        below: &'a F,
+        mappings: &'a MappingList,
+        direction: Direction,
+        touching: &'a Touching,
+    ) -> Result<WatchedView<'a, F>, Memory>
+        requires touching { IsTouching (rules_in mappings.now) touching.now }
+        ensures before { IfOk result (λ view. view ≡
+            watched_from (rules_in mappings.now) (heading_of direction) (F.tuples below.now)) }
+    {
+        let settled = Settled::all(alloc, mappings.len())?;
+        Ok(WatchedView {
+            view: View::new(alloc, below),
+            mappings,
+            direction,
+            settled,
+            touching: Some(touching),
         })
     }
 
@@ -62,7 +89,7 @@ impl<'a, F: Facts> WatchedView<'a, F> {
         ensures ok { OnOk result (self.new ≡ watched_on self.old (change_of write.now ∷ [])) }
         ensures err { OnErr result (self.new ≡ self.old) }
     {
-        self.settled.stir(self.mappings, write);
+        self.settled.stir_by(self.touching, self.mappings, write);
         self.view.write(alloc, write)?;
         Ok(())
     }

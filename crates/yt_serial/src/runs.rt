@@ -1,6 +1,7 @@
 //! The serial run of a session: its updates taken whole in turn, up to the first that stops.
 ghost use Rattle.std.specs.Prelude.{◌≡◌, ◌≤◌, ◌+◌, length, None, IfOk, OnOk};
 ghost use Rattle.yt_grammar.specs.Checks.{rules_of};
+ghost use Rattle.yt_eval.specs.Touching.{IsTouching};
 ghost use Rattle.yt_grammar.specs.Validity.{IsSession};
 ghost use Rattle.yt_model.specs.Repository.{IsRepository};
 ghost use Rattle.yt_program.specs.Results.{result_of};
@@ -14,6 +15,7 @@ use crate::repositories::told;
 use crate::wholes::take_whole;
 use std::alloc::Global;
 use yt_base::Memory;
+use yt_eval::Touching;
 use yt_facts::{IndexedFacts, PlainFacts};
 use yt_limits::{Budget, Mappings};
 use yt_program::{FinishList, SessionResult, Stop};
@@ -85,7 +87,16 @@ fn run(
 {
     let mut finishes = FinishList::new(alloc);
     let mut facts = base;
-    let stop = take_all(alloc, &mut finishes, &mut facts, updates, mappings, budget)?;
+    let touching = Touching::of(alloc, mappings.list())?;
+    let stop = take_all(
+        alloc,
+        &mut finishes,
+        &mut facts,
+        updates,
+        mappings,
+        &touching,
+        budget,
+    )?;
     let repository = told(alloc, facts)?;
     Ok(SessionResult {
         finishes,
@@ -102,16 +113,20 @@ fn take_all(
     facts: &mut IndexedFacts,
     updates: &[SessionUpdate],
     mappings: &Mappings<'_>,
+    touching: &Touching,
     budget: Budget,
 ) -> Result<Option<Stop>, Memory>
     requires sorted { IsRepository facts.old }
+    requires touching { IsTouching mappings.now touching.now }
     requires few { length updates.now ≤ 1000 }
     ensures told { IfOk result (HasTakenAll mappings.now budget updates.now
         finishes.old facts.old finishes.new facts.new) }
 {
     let mut number = 1;
     for update in updates {
-        if let Some(stop) = turn(alloc, finishes, facts, number, update, mappings, budget)? {
+        if let Some(stop) = turn(
+            alloc, finishes, facts, number, update, mappings, touching, budget,
+        )? {
             return Ok(Some(stop));
         }
         number += 1;
@@ -128,14 +143,16 @@ fn turn(
     number: u32,
     update: &SessionUpdate,
     mappings: &Mappings<'_>,
+    touching: &Touching,
     budget: Budget,
 ) -> Result<Option<Stop>, Memory>
     requires sorted { IsRepository facts.old }
+    requires touching { IsTouching mappings.now touching.now }
     ensures sorted { OnOk result (IsRepository facts.new) }
     ensures told { IfOk result (HasTaken mappings.now budget number update.now
         finishes.old facts.old finishes.new facts.new) }
 {
-    let rest = take_whole(alloc, number, update, facts, mappings, budget)?;
+    let rest = take_whole(alloc, number, update, facts, mappings, touching, budget)?;
     match rest.lack {
         Some(lack) => Ok(Some(stop(alloc, rest.program, number, lack)?)),
         None => {

@@ -1,6 +1,7 @@
 //! The trail of each update of the serial run: the writes that it leaves, in their order.
 ghost use Rattle.std.specs.Prelude.{◌≡◌, ◌≤◌, length, map, true, is_some, None, Some, IfOk, OnOk};
 ghost use Rattle.std.specs.Option.{option_map};
+ghost use Rattle.yt_eval.specs.Touching.{IsTouching};
 ghost use Rattle.yt_grammar.specs.Validity.{IsSession};
 ghost use Rattle.yt_model.specs.Repository.{IsRepository};
 ghost use Rattle.yt_session.specs.Base.{base_violation};
@@ -15,6 +16,7 @@ use crate::runs::mappings_of;
 use crate::wholes::take_whole;
 use std::alloc::Global;
 use yt_base::{List, Memory, TryCopy, WriteList};
+use yt_eval::Touching;
 use yt_facts::IndexedFacts;
 use yt_limits::{Budget, Mappings};
 use yt_program::{Outcome, Program, Stop};
@@ -68,7 +70,16 @@ fn run(
 {
     let mut trails = TrailList::new(alloc);
     let mut facts = base;
-    let stop = take_all(alloc, &mut trails, &mut facts, updates, mappings, budget)?;
+    let touching = Touching::of(alloc, mappings.list())?;
+    let stop = take_all(
+        alloc,
+        &mut trails,
+        &mut facts,
+        updates,
+        mappings,
+        &touching,
+        budget,
+    )?;
     Ok(Trailed { trails, stop })
 }
 
@@ -79,16 +90,20 @@ fn take_all(
     facts: &mut IndexedFacts,
     updates: &[SessionUpdate],
     mappings: &Mappings<'_>,
+    touching: &Touching,
     budget: Budget,
 ) -> Result<Option<Stop>, Memory>
     requires sorted { IsRepository facts.old }
+    requires touching { IsTouching mappings.now touching.now }
     requires few { length updates.now ≤ 1000 }
     ensures left { IfOk result (HasTrailedAll mappings.now budget updates.now
         trails.old facts.old trails.new) }
 {
     let mut number = 1;
     for update in updates {
-        if let Some(stop) = turn(alloc, trails, facts, number, update, mappings, budget)? {
+        if let Some(stop) = turn(
+            alloc, trails, facts, number, update, mappings, touching, budget,
+        )? {
             return Ok(Some(stop));
         }
         number += 1;
@@ -104,14 +119,16 @@ fn turn(
     number: u32,
     update: &SessionUpdate,
     mappings: &Mappings<'_>,
+    touching: &Touching,
     budget: Budget,
 ) -> Result<Option<Stop>, Memory>
     requires sorted { IsRepository facts.old }
+    requires touching { IsTouching mappings.now touching.now }
     ensures sorted { OnOk result (IsRepository facts.new) }
     ensures left { IfOk result (HasTrailed mappings.now budget number update.now
         trails.old facts.old trails.new facts.new) }
 {
-    let rest = take_whole(alloc, number, update, facts, mappings, budget)?;
+    let rest = take_whole(alloc, number, update, facts, mappings, touching, budget)?;
     match rest.lack {
         Some(lack) => Ok(Some(stop(alloc, rest.program, number, lack)?)),
         None => {

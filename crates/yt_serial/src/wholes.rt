@@ -1,6 +1,7 @@
 //! An update taken whole: steps up to its end, or to a question where something is lacking.
 ghost use Rattle.std.specs.Prelude.{◌≡◌, ◌<◌, [], IfOk, OnOk, None, is_some, is_none};
 ghost use Rattle.yt_base.specs.Contents.{choices_of};
+ghost use Rattle.yt_eval.specs.Touching.{IsTouching};
 ghost use Rattle.yt_model.specs.Repository.{IsRepository};
 ghost use Rattle.yt_steps.specs.Attempts.{question_in, outcome_in};
 ghost use Rattle.yt_serial.specs.Meanings.{RestsFrom, RestsWhole};
@@ -10,7 +11,7 @@ use crate::stepping::step;
 use crate::turns::{Next, what_next};
 use std::alloc::Global;
 use yt_base::{ChoiceList, Memory};
-use yt_eval::WatchedView;
+use yt_eval::{Touching, WatchedView};
 use yt_facts::IndexedFacts;
 use yt_limits::{Budget, Mappings};
 use yt_program::{Lack, Program};
@@ -30,9 +31,11 @@ pub(crate) fn take_whole(
     update: &SessionUpdate,
     facts: &IndexedFacts,
     mappings: &Mappings<'_>,
+    touching: &Touching,
     budget: Budget,
 ) -> Result<Rest, Memory>
     requires sorted { IsRepository facts.now }
+    requires touching { IsTouching mappings.now touching.now }
     ensures rest { IfOk result (RestsWhole mappings.now budget facts.now number update.now) }
     ensures between { IfOk result (λ rest. rest.program.reading ≡ None) }
     ensures asked { IfOk result (λ r. is_some (question_in r.program.attempt.phase) ≡
@@ -48,6 +51,7 @@ pub(crate) fn take_whole(
         &update.answers,
         facts,
         mappings,
+        touching,
         budget,
     ) {
         Ok(lack) => Ok(Rest { program, lack }),
@@ -66,9 +70,11 @@ fn go_on(
     answers: &ChoiceList,
     facts: &IndexedFacts,
     mappings: &Mappings<'_>,
+    touching: &Touching,
     budget: Budget,
 ) -> Result<Option<Lack>, Memory>
     requires sorted { IsRepository facts.now }
+    requires touching { IsTouching mappings.now touching.now }
     requires between { program.old.reading ≡ None }
     requires fresh { program.old.attempt.own ≡ [] }
     requires left { program.old.attempt.steps < budget }
@@ -80,7 +86,7 @@ fn go_on(
     ensures ended { IfOk result (λ lack. is_some (outcome_in program.new.attempt.phase) ≡
         is_none lack) }
 {
-    let mut view = WatchedView::new(alloc, facts, mappings.list(), program.direction())?;
+    let mut view = WatchedView::with(alloc, facts, mappings.list(), program.direction(), touching)?;
     go_with(alloc, program, &mut view, answers, mappings, budget)
 }
 

@@ -2,3 +2,4 @@ pub mod Moving
 pub mod Ends
 pub mod Graphs
 pub mod Going
+mod Walked

@@ -6,7 +6,8 @@ ghost use Rattle.yt_base.specs.Meanings.{fact_of};
 use crate::columns::constant_column;
 use crate::specific::is_more_specific;
 use std::alloc::Global;
-use yt_base::{Facts, List, Memory, TryCopy, Tuple, TupleList, next_candidate};
+use yt_base::{Facts, List, Memory, TryCopy, Tuple, TupleList};
+use yt_match::Walk;
 
 /// All tuples of the set that are more specific than the tuple, in order. It is refused only for want of memory.
 /// Where the tuple has a constant only the tuples with that constant in its column are looked at, else those of the
@@ -17,12 +18,11 @@ pub fn candidates<F: Facts>(alloc: Global, tuple: &Tuple, facts: &F) -> Result<T
 {
     let column = constant_column(tuple);
     let mut found = List::new(alloc);
-    let mut candidate = next_candidate(facts, tuple.relation, column, None);
-    while let Some(held) = candidate {
+    let mut walk = Walk::new(facts, tuple.relation, column);
+    while let Some(held) = walk.next() {
         if is_more_specific(tuple, held) {
             found.push(held.copy(alloc)?)?;
         }
-        candidate = next_candidate(facts, tuple.relation, column, Some(held));
     }
     Ok(found)
 }

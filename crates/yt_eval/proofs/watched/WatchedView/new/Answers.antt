@@ -5,5 +5,5 @@ use Rattle.yt_eval.proofs.Settling.{nothing_caused}
 use Rattle.yt_eval.proofs.watched.WatchedView.new.Goals as goal
 
 pub invariant_of-result : goal.invariant_of-result
-invariant_of-result g c n e =
-    nothing_caused (map rule_of c.args.mappings.now.items) (heading_of c.args.direction) c.new.result.below c.new.result.own n (ap (λ (s : Seen). s.own) c.new.ensures.before)
+invariant_of-result g c =
+    (λ n e. nothing_caused (map rule_of c.args.mappings.now.items) (heading_of c.args.direction) c.new.result.below c.new.result.own n (ap (λ (s : Seen). s.own) c.new.ensures.before), tt)
