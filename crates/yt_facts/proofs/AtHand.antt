@@ -1,12 +1,11 @@
 -- What a set has at hand of the candidates of a relation, or of a relation and a column's value.
-use Rattle.std.proofs.Common.{◌≡◌, ℕ, ◌+◌, ◌<◌, ◌≤◌, arith, ap, refl, sym, ◌∙◌, subst, List, [], ◌∷◌, map, Bool, true, false, ◌||◌, ◌&&◌, not, cond, Option, Some, None, Bor, inl, inr}
+use Rattle.std.proofs.Common.{◌≡◌, ℕ, ◌+◌, ◌<◌, ◌≤◌, arith, ap, refl, sym, ◌∙◌, subst, List, [], ◌∷◌, map, Bool, true, false, ◌||◌, ◌&&◌, not, cond, Option, inl, inr}
 use Rattle.std.specs.declared.vec.Vec.{Vec}
 use Rattle.std.specs.declared.alloc.Global.{Global}
 use Rattle.std.specs.Cmp.Lexicographic.{slice_cmp}
 use Rattle.std.specs.List.{list_any}
 use Rattle.std.specs.Ordering.{is_le, nat_cmp, ordering_then, MatchOrdering}
-use Rattle.std.specs.Option.{option_map, option_copied}
-use Rattle.std.specs.Prelude.{filter, is_some}
+use Rattle.std.specs.Prelude.{filter}
 use Rattle.std.specs.declared.cmp.Ordering.{Ordering}
 use Rattle.std.specs.declared.cmp.Ordering.TheVariants.{Less, Equal, Greater}
 use Rattle.std.proofs.lemmas.Bool.{eq-eqb, ne_eqb, cases_eq}
@@ -17,10 +16,9 @@ use Rattle.yt_model.specs.Cursors.{is_of}
 use Rattle.yt_model.proofs.Bools.{differ, and-true}
 use Rattle.yt_model.proofs.Members.{has-filter}
 use Rattle.yt_model.proofs.Ranges.{least, from_least, from_least_of, relation_le}
-use Rattle.yt_model.proofs.Searches.{found_any}
 use Rattle.yt_model.proofs.Sets.{filter_in_order, same_exact, same_repository}
-use Rattle.yt_base.specs.Candidates.{is_candidate, next_candidate, AreAll, AreFirst}
-use Rattle.yt_base.proofs.NextCandidates.{begins_at, candidate_of}
+use Rattle.yt_base.specs.Candidates.{is_candidate, AreAll, AreFirst}
+use Rattle.yt_base.proofs.NextCandidates.{candidate_of}
 use Rattle.yt_base.specs.Meanings.{fact_of}
 use Rattle.yt_base.specs.declared.candidates.Candidates.{Candidates}
 use Rattle.yt_base.specs.declared.candidates.Candidates.TheVariants.{Apart, Absent, Together, Listed, Few}
@@ -80,14 +78,6 @@ in_relation p r h (k ∷ ks) =
     by false = refl
 
 -- ---- whether there is one
-
-some_as : (o : Option (Bor Tuple)) → is_some o ≡ is_some (option_map fact_of (option_copied o))
-some_as None = refl
-some_as (Some t) = refl
-
--- Where none is found there is none.
-pub none_found : (o : Option (Bor Tuple)) (b : Bool) (D : List Fact) (r : ℕ) (c : Option (ℕ × Datum)) → option_map fact_of (option_copied o) ≡ next_candidate D r c None → is_some o ≡ not b → b ≡ true → list_any (is_candidate r c) D ≡ false
-none_found o b D r c e h t = sym (sym (h ∙ ap not t) ∙ some_as o ∙ ap is_some (e ∙ begins_at D r c) ∙ found_any (is_candidate r c) D)
 
 -- Where no tuple is of the relation none is a candidate.
 pub none_of_relation : (r : ℕ) (c : Option (ℕ × Datum)) (D : List Fact) → list_any (is_of r) D ≡ false → list_any (is_candidate r c) D ≡ false
