@@ -89,7 +89,8 @@ pub fn worked<'s, R: Threads + Wait + Clock + Sync, G: Gate + Sync>(
     ensures whole { IfOk result IsWholeRun }
 {
     let base = base_of(alloc, session)?;
-    worked_over(rt, gate, alloc, session, base, settings, budget, seats)
+    let run = worked_over(rt, gate, alloc, session, base, settings, budget, seats)?;
+    Ok(run)
 }
 
 /// The same over the base of the session, which is handed over as a set of tuples (`base_of`). It is refused only for want of
