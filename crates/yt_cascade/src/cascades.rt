@@ -5,7 +5,7 @@ ghost use Rattle.yt_queue.specs.Queues.{AreFrom};
 ghost use Rattle.yt_queue.specs.Walks.{ReadsAtMost};
 ghost use Rattle.yt_cascade.specs.Causes.{AreCausesOfWrites, AreCausesOfLoss};
 ghost use Rattle.yt_cascade.specs.Meanings.{above_of};
-ghost use Rattle.yt_cascade.specs.Walks.{AreFound, HasImpact, HasLostImpact, padded};
+ghost use Rattle.yt_cascade.specs.Walks.{AreFound, HasLostImpact, padded};
 
 use crate::lost::Lost;
 use std::alloc::Global;
@@ -50,8 +50,7 @@ impl<'a> Cascade<'a> {
             causes.items) }
     {
         let lost = Lost::none(alloc, self.whole)?;
-        let impact = Impact::none().with(self.mappings.list(), self.sense, written);
-        let found = self.walk(alloc, written, &impact, lost, upper, readers)?;
+        let found = self.walk(alloc, written, lost, upper, readers)?;
         Ok(found)
     }
 
@@ -74,8 +73,7 @@ impl<'a> Cascade<'a> {
     {
         let mut lost = Lost::none(alloc, self.whole)?;
         lost.lose(alloc, self.mappings.list(), self.update, trail)?;
-        let impact = Impact::none();
-        let found = self.walk(alloc, &[], &impact, lost, upper, readers)?;
+        let found = self.walk(alloc, &[], lost, upper, readers)?;
         Ok(found)
     }
 
@@ -85,7 +83,6 @@ impl<'a> Cascade<'a> {
         &self,
         alloc: Global,
         written: &[Write],
-        impact: &Impact,
         mut lost: Lost<'r>,
         upper: &'r [Record],
         readers: usize,
@@ -93,7 +90,6 @@ impl<'a> Cascade<'a> {
         requires from { AreFrom (suc self.now.update) upper.now }
         requires read { ReadsAtMost upper.now readers }
         requires within { readers ≤ length upper.now }
-        requires impact { HasImpact (above_of self.now) (map change_of written.now) impact.now }
         requires lost { HasLostImpact self.now.mappings.now lost }
         ensures long { IfOk result (λ found. length found.items ≤ readers) }
         ensures found { IfOk result (λ found.
@@ -102,12 +98,16 @@ impl<'a> Cascade<'a> {
     {
         let mappings = self.mappings.list();
         let mut found = Vec::new(alloc);
+        if readers == 0 {
+            return Ok(found);
+        }
         if leaves_all(written, &lost) {
             return Ok(found);
         }
+        let impact = Impact::none().with(mappings, self.sense, written);
         for i in 0..readers {
             let reader = &upper[i];
-            let cause = self.cause_for(alloc, written, impact, &lost, reader)?;
+            let cause = self.cause_for(alloc, written, &impact, &lost, reader)?;
             lost.lose_where(alloc, mappings, cause.is_some(), reader)?;
             put_where(&mut found, i, cause)?;
         }

@@ -1,5 +1,8 @@
-use Rattle.std.proofs.Common.{ap, map, subst, sym, ◌∙◌, ◌+◌, ℕ, suc, ◌<◌, ◌≤◌, ◌≡◌, refl, List, [], add-one, length, arith}
+use Rattle.std.proofs.Common.{ap, map, subst, sym, ◌∙◌, ◌+◌, ℕ, suc, ◌<◌, ◌≤◌, ◌≡◌, refl, true, List, [], add-one, length, arith}
 use Rattle.yt_base.specs.Meanings.{change_of}
+use Rattle.std.specs.List.{list_all}
+use Rattle.yt_conflict.specs.Impacts.{has_change}
+use Rattle.yt_model.proofs.Bools.{both}
 use Rattle.yt_model.specs.Mappings.{Rule}
 use Rattle.yt_queue.specs.Walks.{ReadsAtMost}
 use Rattle.yt_cascade.specs.Walks.{HasLostImpact, padded}
@@ -7,6 +10,15 @@ use Rattle.yt_cascade.proofs.Padding.{found_padded, padded_full, padded_long}
 use Rattle.yt_cascade.specs.Meanings.{above_of, found_for}
 use Rattle.yt_cascade.proofs.Turns.{all_of, none_found, at_start, next_in, at_end, later_from}
 use Rattle.yt_cascade.proofs.cascades.Cascade.walk.Goals as goal
+
+pub returns-then-readers-eq0-clause-found : goal.returns-then-readers-eq0-clause-found
+returns-then-readers-eq0-clause-found c =
+    let none : c.args.readers ≡ 0 = cc in
+    λ B conflicting few looks s.
+    (λ i. found_for (above_of c.args.self.now).rules B c.args.upper.now (c.new-found.ensures.items i))
+    ∙ at_end (above_of c.args.self.now) conflicting B (map change_of c.args.written.now) (all_of (above_of c.args.self.now) conflicting B c.args.lost c.args.upper.now) c.args.lost 0 c.args.upper.now [] refl
+    (subst (λ (k : ℕ). ReadsAtMost c.args.upper.now k) none c.requires.read)
+    (at_start (above_of c.args.self.now) conflicting B (map change_of c.args.written.now) c.args.lost c.args.upper.now [] refl c.requires.from s)
 
 pub returns-then-leaves_all-clause-found : goal.returns-then-leaves_all-clause-found
 returns-then-leaves_all-clause-found c =
@@ -40,7 +52,7 @@ cause_for-requires c =
     let l : c.loop-i.i < length c.args.upper.now = omega arith in
     record {
       covers = (later_from c.loop-i.invariant.from.0 c.loop-i.i c.args.upper.now c.index-upper-i.result l c.index-upper-i.is c.loop-i.invariant.from.1).0.covers;
-      impact = c.requires.impact;
+      impact = both (list_all (has_change c.with-impact.result (above_of c.args.self.now).rules c.args.self.now.sense) (map change_of c.args.written.now)) true (subst (λ (ms : List Rule). list_all (has_change c.with-impact.result ms c.args.self.now.sense) (map change_of c.args.written.now) ≡ true) c.list-mappings.ensures.rules c.with-impact.ensures.has) refl;
       lost = c.loop-i.invariant.lost;
     }
 
