@@ -2,3 +2,4 @@ pub mod Firsts
 pub mod Reasons
 pub mod Holding
 pub mod Turns
+pub mod Padding

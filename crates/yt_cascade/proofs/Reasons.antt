@@ -7,10 +7,13 @@ use Rattle.std.specs.List.{list_all, AllByRecursion}
 use Rattle.std.specs.Option.{option_map}
 use Rattle.yt_conflict.specs.Changes.{Numbered, Changed, first_from, is_changed, is_met_and_changed, value_now}
 use Rattle.yt_conflict.specs.Concerns.{AgreeBut, is_met}
+use Rattle.yt_conflict.specs.Meetings.{IsNoneMet}
 use Rattle.yt_conflict.specs.Trails.{trails_of}
 use Rattle.yt_conflict.specs.declared.concerns.Sense.{Sense}
 use Rattle.yt_conflict.specs.declared.concerns.Sense.TheVariants.{Went}
 use Rattle.yt_conflict.specs.declared.concerns.Trail.{Trail}
+use Rattle.yt_conflict.specs.declared.impacts.Impact.{Impact}
+use Rattle.yt_conflict.proofs.Unmet.{none_changed}
 use Rattle.yt_conflict.proofs.Staying.{unmet_values_stay}
 use Rattle.yt_entries.specs.Meanings.{cause_of as plain_of}
 use Rattle.yt_entries.specs.declared.causes.Cause.{Cause as CauseOfProgram}
@@ -38,8 +41,8 @@ use Rattle.yt_steps.specs.Chase.{caused_chase, caused}
 use Rattle.yt_versions.specs.Standing.{Kept, seen}
 use Rattle.yt_cascade.specs.declared.lost.Lost.{Lost}
 use Rattle.yt_cascade.specs.Meanings.{Above, found_of, members_of}
-use Rattle.yt_cascade.specs.Reached.{any_reached, first_changed_in, first_by}
-use Rattle.yt_cascade.specs.Walks.{number_of, is_live_in, may_have_cause, conflict_meant, dependence_meant, IsConflictFor, IsDependenceFor, IsCauseFor, LooksFor, RanBelow}
+use Rattle.yt_cascade.specs.Reached.{any_reached, first_changed_in, first_by, first_dependent}
+use Rattle.yt_cascade.specs.Walks.{number_of, is_live_in, may_have_cause, conflict_meant, dependence_meant, HasFootprint, HasImpact, HasLostImpact, IsConflictFor, IsDependenceFor, IsCauseFor, LooksFor, RanBelow}
 use Rattle.yt_cascade.proofs.Firsts.{paired, first_is, reached_is, writer_is}
 
 -- ---- where a cause is looked for
@@ -319,3 +322,39 @@ dependence_then a ws lost r x l f h B conflicting few looks q =
     by_dependence conflicting (is_live_in a.committed r) (not (is_nil (members_of a.rules B lost.members.items))) (conflict_in a.rules B a.update a.whole r) (dependence_in a.rules B a.deps lost r) (found_of a.rules B x) (live_is a r l)
     (λ e. conflict_found a ws lost r l B few q None f)
     (ap (option_map (cause_kept a.rules B)) h ∙ dependence_is a.rules B a.deps (seen (number_of r) a.whole) lost r q.lost (valid_still a ws lost r l B few q f))
+
+-- Where nothing was written and nothing is lost there is neither.
+pub nothing_for : (a : Above) (ws : List Change) (lost : Lost) (r : Record) → ws ≡ [] → lost.members.items ≡ [] → IsCauseFor a ws lost r None
+nothing_for a ws lost r e k = by (may_have_cause a.committed r) refl
+  where
+    by : (b : Bool) → may_have_cause a.committed r ≡ b → IsCauseFor a ws lost r None
+    by true h =
+        dependence_then a ws lost r None h (no_conflict a ws r e)
+        (ap (λ (ks : List Trail). if is_nil ks then None else option_map (dependence_meant a.rules lost.members.items (number_of r)) (first_dependent a lost r)) (sym k))
+    by false h = none_for a ws lost r h
+
+-- ---- where no write meets a read
+
+-- A reader that has nothing to do with the writes has no conflict.
+pub unmet_conflict : (a : Above) (ws : List Change) (r : Record) (v : Impact) → HasFootprint r → HasImpact a ws v → IsNoneMet (direction_of r.program.attempt.operation) r.footprint v → IsConflictFor a ws r None
+unmet_conflict a ws r v f i n =
+    ap (option_map (conflict_meant a.update (number_of r)))
+    (none_changed a.rules (direction_of r.program.attempt.operation) (seen (number_of r) a.whole) r.program.attempt.own a.sense (ws ∷ []) (map read_of r.log.items)
+    (n a.rules a.sense r.program.attempt.own (ws ∷ []) (map read_of r.log.items) f i))
+
+-- One that has nothing to do with what is lost has no dependence.
+pub unmet_dependence : (a : Above) (lost : Lost) (r : Record) → a.deps ≡ Precise → HasFootprint r → HasLostImpact a.rules lost → IsNoneMet (direction_of r.program.attempt.operation) r.footprint lost.impact → first_dependent a lost r ≡ None
+unmet_dependence a lost r e f i n =
+    let t : List (List Change) = trails_of lost.members.items in
+    ap (λ d. first_by d a.rules lost r) e
+    ∙ sym (ap (option_map (λ (c : Changed). record { number = c.number; read = c.read }))
+    (none_changed a.rules (direction_of r.program.attempt.operation) (seen (number_of r) lost.without) r.program.attempt.own Went t (map read_of r.log.items)
+    (n a.rules Went r.program.attempt.own t (map read_of r.log.items) f i)))
+
+-- Without such a read there is none.
+pub no_dependence : (a : Above) (lost : Lost) (r : Record) → first_dependent a lost r ≡ None → IsDependenceFor a lost r None
+no_dependence a lost r e = by (is_nil lost.members.items)
+  where
+    by : (b : Bool) → None ≡ (if b then None else option_map (dependence_meant a.rules lost.members.items (number_of r)) (first_dependent a lost r))
+    by true = refl
+    by false = sym (ap (option_map (dependence_meant a.rules lost.members.items (number_of r))) e)

@@ -32,8 +32,8 @@ use Rattle.yt_cascade.specs.Held.{HoldFrom, AreVersions, laid, above}
 use Rattle.yt_cascade.specs.Meanings.{Above, found_of, all_found, no_cause, found_for, members_of}
 use Rattle.yt_cascade.specs.Causes.{AreCausesOfWrites, AreCausesOfLoss}
 use Rattle.yt_cascade.specs.Walks.{IsCauseFor, Loses, LosesWhere, LeavesLost, LooksFor, RanBelow, StandAbove, AreFound, number_of}
-use Rattle.yt_cascade.proofs.Reasons.{idle}
-use Rattle.yt_cascade.proofs.Holding.{below_next, hold_next, hold_without, below_without, trails_held}
+use Rattle.yt_cascade.proofs.Reasons.{idle, nothing_for}
+use Rattle.yt_cascade.proofs.Holding.{below_next, hold_next, kept_where, hold_without, below_without, trails_held}
 
 -- Once some of the readers have their say: what is found so far and what the walk finds of those that are left are all.
 pub record Turn (a : Above) (conflicting : Bool) (B : ℕ) (ws : List Change) (all : List (Option (Cause (caused_chase a.rules B)))) (lost : Lost) (rs : List Record) (xs : List (Option CauseOfProgram)) : Type 0 where
@@ -171,6 +171,14 @@ module _ (a : Above) (conflicting : Bool) (B : ℕ) (ws : List Change) where
       let none : x ≡ None = unread_has_none (caused_chase a.rules B) a.deps conflicting a.committed a.update E N ks n u h.0 in
       λ i. sym none i
       ∷ none_of (apply E (trail (caused_chase a.rules B) u)) (without_member (caused_chase a.rules B) (is_some x) N u) (with_member (caused_chase a.rules B) (is_some x) ks n u) (suc n) rs h.1 i
+
+  -- Where nothing was written and nothing is lost none has.
+  pub none_found : 1 ≤ B → LooksFor conflicting ws → (all : List (Option (Cause (caused_chase a.rules B)))) (lost : Lost) (rs : List Record) (xs : List (Option CauseOfProgram)) → ws ≡ [] → lost.members.items ≡ []
+      → Turn a conflicting B ws all lost rs xs → all_found a.rules B xs ++ map (no_cause a.rules B) rs ≡ all
+  none_found few looks all lost [] xs e k t = t.rest
+  none_found few looks all lost (r ∷ rs) xs e k t =
+      sym (ap (λ zs. zs ++ map (no_cause a.rules B) rs) (map-append (found_of a.rules B) xs (None ∷ [])) ∙ append_assoc (all_found a.rules B xs) (None ∷ []) (map (no_cause a.rules B) rs))
+      ∙ none_found few looks all lost rs (xs ++ None ∷ []) e k (next few looks all lost lost r rs xs None t (nothing_for a ws lost r e k) (kept_where r false lost refl))
 
   -- Once all have that may have read something.
   pub at_end : (all : List (Option (Cause (caused_chase a.rules B)))) (lost : Lost) (i : ℕ) (rs : List Record) (xs : List (Option CauseOfProgram)) → length xs ≡ i → ReadsAtMost rs i → Turn a conflicting B ws all lost (drop i rs) xs → found_for a.rules B rs xs ≡ all

@@ -1,9 +1,12 @@
 -- What each part of the walk finds and leaves.
-use Rattle.std.specs.Prelude.{◌≡◌, ◌≤◌, ℕ, suc, nat_lt, Bool, true, false, not, ◌&&◌, List, [], ◌∷◌, ◌++◌, Option, None, if◌then◌else◌}
+use Rattle.std.specs.Prelude.{◌≡◌, ◌≤◌, ℕ, zero, suc, ◌-◌, nat_lt, Bool, true, false, not, ◌&&◌, List, [], ◌∷◌, ◌++◌, length, map, Option, None, if◌then◌else◌}
 use Rattle.std.specs.Option.{option_map}
 use Rattle.yt_conflict.specs.Changes.{Changed, Numbered}
 use Rattle.yt_conflict.specs.Concerns.{AgreeBut}
+use Rattle.yt_conflict.specs.Footprints.{Covers}
+use Rattle.yt_conflict.specs.Impacts.{has_trails}
 use Rattle.yt_conflict.specs.Trails.{trails_of}
+use Rattle.yt_conflict.specs.declared.impacts.Impact.{Impact}
 use Rattle.yt_conflict.specs.declared.concerns.Sense.{Sense}
 use Rattle.yt_conflict.specs.declared.concerns.Sense.TheVariants.{Went}
 use Rattle.yt_conflict.specs.declared.concerns.Trail.{Trail}
@@ -20,6 +23,7 @@ use Rattle.yt_machine.specs.Updates.{Update}
 use Rattle.yt_model.specs.Mappings.{Rule}
 use Rattle.yt_model.specs.Repository.{Change}
 use Rattle.yt_model.specs.Values.{Fact}
+use Rattle.yt_query.specs.Meanings.{read_of}
 use Rattle.yt_queue.specs.Queues.{update_of, updates_of}
 use Rattle.yt_queue.specs.declared.records.Record.{Record}
 use Rattle.yt_steps.specs.Chase.{caused_chase}
@@ -52,6 +56,27 @@ IsConflict j n c x = option_map plain_of x ≡ option_map (conflict_meant j n) (
 -- It is the conflict of the reader with these writes, if that is live.
 abbrev pub IsConflictFor : Above → List Change → Record → Option Cause → Type 0
 IsConflictFor a ws r x = option_map plain_of x ≡ option_map (conflict_meant a.update (number_of r)) (first_changed_in a.rules a.whole a.sense (ws ∷ []) r)
+
+-- The reader's footprint is that of its own writes and its reads.
+abbrev pub HasFootprint : Record → Type 0
+HasFootprint r = Covers r.footprint r.program.attempt.own (map read_of r.log.items)
+
+-- The impact has what these writes may meet, as they came or went.
+abbrev pub HasImpact : Above → List Change → Impact → Type 0
+HasImpact a ws v = has_trails v a.rules a.sense (ws ∷ []) ≡ true
+
+-- What is lost has that of the trails of its members, which went.
+abbrev pub HasLostImpact : List Rule → Lost → Type 0
+HasLostImpact ms lost = has_trails lost.impact ms Went (trails_of lost.members.items) ≡ true
+
+-- So many times no cause.
+abbrev pub nones : ℕ → List (Option Cause)
+nones zero = []
+nones (suc n) = None ∷ nones n
+
+-- The causes of the first readers, filled up to so many of them with none.
+abbrev pub padded : ℕ → List (Option Cause) → List (Option Cause)
+padded k xs = xs ++ nones (k - length xs)
 
 -- The dependence of the reader of this number, by its read.
 abbrev pub dependence_meant : List Rule → List Trail → ℕ → Numbered → PlainCause

@@ -1,16 +1,16 @@
 //! The walk upwards from the update of an event.
-ghost use Rattle.std.specs.Prelude.{◌≡◌, ◌≤◌, suc, length, map, IfOk};
+ghost use Rattle.std.specs.Prelude.{◌≡◌, ◌≤◌, true, suc, [], ◌∷◌, ◌++◌, length, map, IfOk, OnOk};
 ghost use Rattle.yt_base.specs.Meanings.{change_of};
 ghost use Rattle.yt_queue.specs.Queues.{AreFrom};
 ghost use Rattle.yt_queue.specs.Walks.{ReadsAtMost};
 ghost use Rattle.yt_cascade.specs.Causes.{AreCausesOfWrites, AreCausesOfLoss};
 ghost use Rattle.yt_cascade.specs.Meanings.{above_of};
-ghost use Rattle.yt_cascade.specs.Walks.{AreFound};
+ghost use Rattle.yt_cascade.specs.Walks.{AreFound, HasLostImpact, padded};
 
 use crate::lost::Lost;
 use std::alloc::Global;
 use yt_base::{Memory, Write};
-use yt_conflict::Sense;
+use yt_conflict::{Impact, Sense};
 use yt_entries::Cause;
 use yt_limits::Mappings;
 use yt_queue::{Deps, Record};
@@ -32,7 +32,8 @@ pub struct Cascade<'a> {
 impl<'a> Cascade<'a> {
     /// Why each of the updates above is restarted, if it is, where the event's update wrote: a conflict with its writes, or
     /// else a dependence on a lower one that is restarted. Handed in are the writes that came or went by the event. There is
-    /// one answer for each of the first, in order, as many as may have read something. It is refused only for want of memory.
+    /// one answer for each of the first, in order, up to the last that is restarted; of those behind them none is. It is refused
+    /// only for want of memory.
     pub fn causes_of_writes(
         &self,
         alloc: Global,
@@ -43,7 +44,7 @@ impl<'a> Cascade<'a> {
         requires from { AreFrom (suc self.now.update) upper.now }
         requires read { ReadsAtMost upper.now readers }
         requires within { readers ≤ length upper.now }
-        ensures long { IfOk result (λ causes. length causes.items ≡ readers) }
+        ensures long { IfOk result (λ causes. length causes.items ≤ readers) }
         ensures causes { IfOk result (λ causes.
             AreCausesOfWrites (above_of self.now) (map change_of written.now) upper.now
             causes.items) }
@@ -54,8 +55,8 @@ impl<'a> Cascade<'a> {
     }
 
     /// Why each of the updates above is restarted, if it is, where the event's update loses its trail, which is handed in:
-    /// a dependence on it or on a lower one that is restarted. There is one answer for each of the first, in order, as many
-    /// as may have read something. It is refused only for want of memory.
+    /// a dependence on it or on a lower one that is restarted. There is one answer for each of the first, in order, up to the
+    /// last that is restarted; of those behind them none is. It is refused only for want of memory.
     pub fn causes_of_loss(
         &self,
         alloc: Global,
@@ -66,12 +67,12 @@ impl<'a> Cascade<'a> {
         requires from { AreFrom (suc self.now.update) upper.now }
         requires read { ReadsAtMost upper.now readers }
         requires within { readers ≤ length upper.now }
-        ensures long { IfOk result (λ causes. length causes.items ≡ readers) }
+        ensures long { IfOk result (λ causes. length causes.items ≤ readers) }
         ensures causes { IfOk result (λ causes.
             AreCausesOfLoss (above_of self.now) (map change_of trail.now) upper.now causes.items) }
     {
         let mut lost = Lost::none(alloc, self.whole)?;
-        lost.lose(alloc, self.update, trail)?;
+        lost.lose(alloc, self.mappings.list(), self.update, trail)?;
         let found = self.walk(alloc, &[], lost, upper, readers)?;
         Ok(found)
     }
@@ -89,18 +90,68 @@ impl<'a> Cascade<'a> {
         requires from { AreFrom (suc self.now.update) upper.now }
         requires read { ReadsAtMost upper.now readers }
         requires within { readers ≤ length upper.now }
-        ensures long { IfOk result (λ found. length found.items ≡ readers) }
+        requires lost { HasLostImpact self.now.mappings.now lost }
+        ensures long { IfOk result (λ found. length found.items ≤ readers) }
         ensures found { IfOk result (λ found.
             AreFound (above_of self.now) (map change_of written.now) lost.entry upper.now
             found.items) }
     {
-        let mut found = Vec::with_capacity(alloc, readers)?;
+        let mappings = self.mappings.list();
+        let mut found = Vec::new(alloc);
+        if readers == 0 {
+            return Ok(found);
+        }
+        if leaves_all(written, &lost) {
+            return Ok(found);
+        }
+        let impact = Impact::none().with(mappings, self.sense, written);
         for i in 0..readers {
             let reader = &upper[i];
-            let cause = self.cause_for(alloc, written, &lost, reader)?;
-            lost.lose_where(alloc, cause.is_some(), reader)?;
-            found.push(cause)?;
+            let cause = self.cause_for(alloc, written, &impact, &lost, reader)?;
+            lost.lose_where(alloc, mappings, cause.is_some(), reader)?;
+            put_where(&mut found, i, cause)?;
         }
         Ok(found)
     }
+}
+
+// Whether nothing was written and nothing is lost, so that nothing is changed.
+fn leaves_all(written: &[Write], lost: &Lost<'_>) -> bool
+    ensures written { result ≡ true → map change_of written.now ≡ [] }
+    ensures lost { result ≡ true → lost.now.members.items ≡ [] }
+{
+    if !written.is_empty() {
+        return false;
+    }
+    lost.members.is_empty()
+}
+
+// Puts the cause, if there is one, in its place behind those that were found; between them there is none.
+fn put_where(
+    found: &mut Vec<Option<Cause>>,
+    place: usize,
+    cause: Option<Cause>,
+) -> Result<(), Memory>
+    requires few { length found.old.items ≤ place }
+    ensures few { OnOk result (length found.new.items ≤ suc place) }
+    ensures put { OnOk result (padded (suc place) found.new.items ≡
+        padded place found.old.items ++ cause ∷ []) }
+{
+    if cause.is_some() {
+        pad(found, place)?;
+        found.push(cause)?;
+        return Ok(());
+    }
+    Ok(())
+}
+
+// Fills up to the place where there are causes, with none.
+fn pad(found: &mut Vec<Option<Cause>>, place: usize) -> Result<(), Memory>
+    requires few { length found.old.items ≤ place }
+    ensures padded { OnOk result (found.new.items ≡ padded place found.old.items) }
+{
+    'gaps: while found.len() < place {
+        found.push(None)?;
+    }
+    Ok(())
 }

@@ -1,16 +1,17 @@
 //! Why one update is restarted.
-ghost use Rattle.std.specs.Prelude.{◌≡◌, map, IfOk};
+ghost use Rattle.std.specs.Prelude.{◌≡◌, false, map, None, IfOk};
 ghost use Rattle.yt_base.specs.Meanings.{change_of};
 ghost use Rattle.yt_cascade.specs.Meanings.{above_of};
-ghost use Rattle.yt_cascade.specs.Walks.{IsCauseFor, IsConflict, IsConflictFor, IsDependenceFor, may_have_cause as may_have_cause_lem};
+ghost use Rattle.yt_cascade.specs.Reached.{first_dependent};
+ghost use Rattle.yt_cascade.specs.Walks.{HasFootprint, HasImpact, HasLostImpact, IsCauseFor, IsConflict, IsConflictFor, IsDependenceFor, may_have_cause as may_have_cause_lem};
 
 use crate::cascades::Cascade;
 use crate::lost::Lost;
 use std::alloc::Global;
 use yt_base::{Memory, TryCopy, Write};
-use yt_conflict::{Changed, Trail, first_changed};
+use yt_conflict::{Changed, Impact, Trail, first_changed};
 use yt_entries::Cause;
-use yt_queue::Record;
+use yt_queue::{Deps, Record};
 
 impl<'a> Cascade<'a> {
     /// Why the reader is restarted, if it is: for its conflict with the writes, or else for a dependence on the trails that
@@ -19,16 +20,20 @@ impl<'a> Cascade<'a> {
         &self,
         alloc: Global,
         written: &[Write],
+        impact: &Impact,
         lost: &Lost<'_>,
         reader: &Record,
     ) -> Result<Option<Cause>, Memory>
+        requires covers { HasFootprint reader.now }
+        requires impact { HasImpact (above_of self.now) (map change_of written.now) impact.now }
+        requires lost { HasLostImpact self.now.mappings.now lost.now }
         ensures cause { IfOk result
             (IsCauseFor (above_of self.now) (map change_of written.now) lost.now reader.now) }
     {
         if !self.may_have_cause(reader) {
             return Ok(None);
         }
-        if let Some(cause) = self.conflict_where(alloc, written, reader)? {
+        if let Some(cause) = self.conflict_where(alloc, written, impact, reader)? {
             return Ok(Some(cause));
         }
         let cause = self.dependence_for(alloc, lost, reader)?;
@@ -45,17 +50,26 @@ impl<'a> Cascade<'a> {
         !reader.log.is_empty()
     }
 
-    // The conflict of the live reader with the writes, if there are any.
+    // The conflict of the live reader with the writes, if there are any and they may meet a read of it.
     fn conflict_where(
         &self,
         alloc: Global,
         written: &[Write],
+        impact: &Impact,
         reader: &Record,
     ) -> Result<Option<Cause>, Memory>
+        requires covers { HasFootprint reader.now }
+        requires impact { HasImpact (above_of self.now) (map change_of written.now) impact.now }
         ensures conflict { IfOk result
             (IsConflictFor (above_of self.now) (map change_of written.now) reader.now) }
     {
         if written.is_empty() {
+            return Ok(None);
+        }
+        if !reader
+            .footprint
+            .may_be_met(reader.program.direction(), impact)
+        {
             return Ok(None);
         }
         let cause = self.conflict_for(alloc, written, reader)?;
@@ -122,10 +136,15 @@ impl<'a> Cascade<'a> {
         lost: &Lost<'_>,
         reader: &Record,
     ) -> Result<Option<Cause>, Memory>
+        requires covers { HasFootprint reader.now }
+        requires lost { HasLostImpact self.now.mappings.now lost.now }
         ensures dependence { IfOk result
             (IsDependenceFor (above_of self.now) lost.now reader.now) }
     {
         if lost.members.is_empty() {
+            return Ok(None);
+        }
+        if !self.may_depend(lost, reader) {
             return Ok(None);
         }
         match self.first_dependent(alloc, lost, reader)? {
@@ -135,6 +154,20 @@ impl<'a> Cascade<'a> {
                 on: lost.writer_for(self.mappings.list(), found.read),
             })),
             None => Ok(None),
+        }
+    }
+    // Whether the reader may depend on the trails that are lost below it.
+    fn may_depend(&self, lost: &Lost<'_>, reader: &Record) -> bool
+        requires covers { HasFootprint reader.now }
+        requires lost { HasLostImpact self.now.mappings.now lost.now }
+        ensures none { result ≡ false → first_dependent (above_of self.now) lost.now reader.now ≡
+            None }
+    {
+        match self.deps {
+            Deps::Precise => reader
+                .footprint
+                .may_be_met(reader.program.direction(), &lost.impact),
+            Deps::Coarse => true,
         }
     }
 }

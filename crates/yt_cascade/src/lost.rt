@@ -1,28 +1,31 @@
 //! What is lost below an update: the trails of the updates that are restarted.
-ghost use Rattle.std.specs.Prelude.{◌≡◌, [], map, IfOk, OnOk};
+ghost use Rattle.std.specs.Prelude.{◌≡◌, [], List, map, IfOk, OnOk};
 ghost use Rattle.std.specs.Option.{option_map};
 ghost use Rattle.yt_base.specs.Contents.{rules_in};
 ghost use Rattle.yt_base.specs.Meanings.{change_of};
+ghost use Rattle.yt_model.specs.Mappings.{Rule};
 ghost use Rattle.yt_queue.specs.Programs.{IsBetween};
 ghost use Rattle.yt_query.specs.Meanings.{read_of};
 ghost use Rattle.yt_steps.specs.Chase.{relation_of};
 ghost use Rattle.yt_cascade.specs.Reached.{is_reached, any_reached, least_writer, numbered_of, first_reached as first_reached_lem};
 ghost use Rattle.yt_conflict.specs.Trails.{trails_of};
-ghost use Rattle.yt_cascade.specs.Walks.{Loses, LosesWhere};
+ghost use Rattle.yt_cascade.specs.Walks.{HasLostImpact, Loses, LosesWhere};
 
 use crate::reads::Numbered;
 use std::alloc::Global;
 use yt_base::{MappingList, Memory, Write};
-use yt_conflict::Trail;
+use yt_conflict::{Impact, Sense, Trail};
 use yt_query::{LoggedRead, mentions};
 use yt_queue::Record;
 use yt_versions::Versions;
 
-/// The versions without the trails that are lost, and the updates whose trails these were, in number order.
+/// The versions without the trails that are lost, and the updates whose trails these were, in number order; and what an attempt
+/// must have to do with these to depend on them.
 #[derive(Drop)]
 pub(crate) struct Lost<'r> {
     pub(crate) without: Versions,
     pub(crate) members: Vec<Trail<'r>>,
+    pub(crate) impact: Impact,
 }
 
 impl<'r> Lost<'r> {
@@ -30,10 +33,12 @@ impl<'r> Lost<'r> {
     pub(crate) fn none(alloc: Global, whole: &Versions) -> Result<Lost<'r>, Memory>
         ensures without { IfOk result (λ lost. lost.without ≡ whole.now) }
         ensures members { IfOk result (λ lost. lost.members.items ≡ []) }
+        ensures impact { IfOk result (λ lost. (ms : List Rule) → HasLostImpact ms lost) }
     {
         Ok(Lost {
             without: whole.share()?,
             members: Vec::new(alloc),
+            impact: Impact::none(),
         })
     }
 
@@ -41,16 +46,20 @@ impl<'r> Lost<'r> {
     pub(crate) fn lose(
         &mut self,
         alloc: Global,
+        mappings: &MappingList,
         number: u32,
         trail: &'r [Write],
     ) -> Result<(), Memory>
+        requires impact { HasLostImpact (rules_in mappings.now) self.old }
         ensures lost { OnOk result (Loses number (map change_of trail.now) self.old self.new) }
+        ensures impact { OnOk result (HasLostImpact (rules_in mappings.now) self.new) }
     {
         self.without.retract(alloc, number, trail)?;
         self.members.push(Trail {
             update: number,
             writes: trail,
         })?;
+        self.impact = self.impact.with(mappings, Sense::Went, trail);
         Ok(())
     }
 
@@ -58,16 +67,19 @@ impl<'r> Lost<'r> {
     pub(crate) fn lose_where(
         &mut self,
         alloc: Global,
+        mappings: &MappingList,
         restarts: bool,
         reader: &'r Record,
     ) -> Result<(), Memory>
         requires between { IsBetween reader.now.program }
+        requires impact { HasLostImpact (rules_in mappings.now) self.old }
         ensures lost { OnOk result (LosesWhere restarts reader.now self.old self.new) }
+        ensures impact { OnOk result (HasLostImpact (rules_in mappings.now) self.new) }
     {
         if !restarts {
             return Ok(());
         }
-        self.lose(alloc, reader.number(), reader.trail())?;
+        self.lose(alloc, mappings, reader.number(), reader.trail())?;
         Ok(())
     }
 

@@ -83,7 +83,7 @@ fn found<'a>(
     ensures found { IfOk result (λ found. WereFound mappings.now
         (settings_of settings) committed versions.now after.now item.now upper.now plan.now
         found.items) }
-    ensures long { IfOk result (λ found. length found.items ≡ readers) }
+    ensures long { IfOk result (λ found. length found.items ≤ readers) }
 {
     let (sense, written) = turned(item, plan);
     let mut walk = Cascade {

@@ -136,7 +136,7 @@ fn found_lost<'a>(
     requires numbers { AreFrom (suc item.now.program.attempt.number) upper.now }
     ensures found { IfOk result (λ found. WereLost mappings.now (settings_of settings) committed
         versions.now item.now upper.now found.items) }
-    ensures long { IfOk result (λ found. length found.items ≡ length upper.now) }
+    ensures long { IfOk result (λ found. length found.items ≤ length upper.now) }
 {
     let walk = Cascade {
         mappings,

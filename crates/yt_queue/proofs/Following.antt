@@ -1,10 +1,12 @@
 -- The step of a plan is the step of the update.
-use Rattle.std.proofs.Common.{◌≡◌, ◌∙◌, ap, sym, refl, ℕ, suc, zero, ◌<◌, ◌-◌, ◌+◌, Bool, true, false, List, [], ◌++◌, map, length, take, drop, arith}
+use Rattle.std.proofs.Common.{◌≡◌, ◌∙◌, ap, subst, sym, refl, ℕ, suc, zero, ◌<◌, ◌-◌, ◌+◌, Bool, true, false, List, [], ◌++◌, map, length, take, drop, arith}
 use Rattle.std.specs.Prelude.{if◌then◌else◌}
 use Rattle.std.proofs.lemmas.List.{map-append, drop-map, drop_at, length-map, length-append, take_rest}
 use Rattle.std.proofs.lemmas.Simd.{map-map}
 use Rattle.yt_base.specs.Meanings.{change_of, choice_of}
 use Rattle.yt_base.specs.declared.updates.Write.{Write}
+use Rattle.yt_conflict.specs.Footprints.{Covers}
+use Rattle.yt_conflict.specs.declared.footprints.Footprint.{Footprint}
 use Rattle.yt_machine.specs.Trees.{result_of, log_of}
 use Rattle.yt_machine.specs.Steps.{stepped, step_log, step_writes}
 use Rattle.yt_machine.specs.Standings.{next_answer}
@@ -97,3 +99,9 @@ unwritten ms B D r plan ws n p h e l =
     let c = next_answer (caused_chase ms B) (map choice_of r.answers.items) P in
     let m = result_of (answers_over ms D P) (step ms P c) in
     none_behind (hides (option_map ending (outcome_in (next_attempt ms B D P c).phase))) P.own m.writes ws n e (h ∙ ap (λ (t : State). shown (caused_chase ms B) t.attempt) p.program) l
+
+-- The footprint is that of the attempt that was taken over, and of all its reads.
+pub covers_by : (e : Footprint) (own own' : List Change) (before reads log : List LoggedRead) → Covers e own (map read_of before ++ map read_of reads) → own ≡ own' → log ≡ before ++ reads → Covers e own' (map read_of log)
+covers_by e own own' before reads log c o l =
+    subst (λ (ws : List Change). Covers e ws (map read_of log)) o
+    (subst (λ (rs : List Read). Covers e own rs) (sym (ap (map read_of) l ∙ map-append read_of before reads)) c)

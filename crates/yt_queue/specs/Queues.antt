@@ -1,6 +1,7 @@
 -- What records and queues mean: the updates of a history of the chase.
 use Rattle.std.specs.Prelude.{◌≡◌, ℕ, suc, List, [], ◌∷◌, map, None}
 use Rattle.yt_base.specs.Meanings.{choice_of}
+use Rattle.yt_conflict.specs.Footprints.{Covers}
 use Rattle.yt_machine.specs.Updates.{Read, Update}
 use Rattle.yt_model.specs.Mappings.{Rule}
 use Rattle.yt_query.specs.Meanings.{Read as ReadMeant, read_of}
@@ -29,10 +30,11 @@ module _ (ms : List Rule) (B : ℕ) where
   abbrev pub updates_of : List Record → List (Update (caused_chase ms B))
   updates_of rs = map update_of rs
 
--- The record is that of update n, and between two steps.
+-- The record is that of update n, and between two steps; its footprint is that of its own writes and its reads.
 pub record StandsAt (n : ℕ) (r : Record) : Type 0 where
   pub number : r.program.attempt.number ≡ n
   pub between : r.program.reading ≡ None
+  pub covers : Covers r.footprint r.program.attempt.own (map read_of r.log.items)
 
 -- The records are those of the updates from number n on.
 abbrev pub AreFrom : ℕ → List Record → Type 0

@@ -9,6 +9,7 @@ use std::alloc::Global;
 use std::collections::VecDeque;
 use std::mem;
 use yt_base::{Choice, ChoiceList, List, Memory, TryCopy, Update};
+use yt_conflict::Footprint;
 use yt_plan::Plan;
 use yt_program::Program;
 use yt_query::ReadLog;
@@ -32,6 +33,7 @@ impl Record {
             withdrawn: false,
             answers: ChoiceList::new(alloc),
             inbox,
+            footprint: Footprint::empty(),
         })
     }
 
@@ -59,6 +61,8 @@ impl Record {
         ensures stepped { HasStepped plan self.old self.new }
         ensures place { KeepsPlaceBy plan self.old self.new }
     {
+        let own = plan.program.own().as_slice();
+        self.footprint = self.footprint.after(own, plan.reads.as_slice());
         let Plan { program, reads } = plan;
         renew(&mut self.program, program);
         take_over(&mut self.log, reads);

@@ -6,12 +6,13 @@ ghost use Rattle.yt_queue.specs.Records.{HasTrail, IsOver, IsLive};
 use crate::outcomes::{outcome, shown};
 use std::collections::VecDeque;
 use yt_base::{Choice, ChoiceList, Write};
+use yt_conflict::Footprint;
 use yt_plan::Plan;
 use yt_program::Program;
 use yt_query::ReadLog;
 
 /// An update with its present attempt, between two steps: the reads of that attempt, whether the update was withdrawn,
-/// the answers delivered, and those that are recorded and not delivered yet.
+/// the answers delivered, and those that are recorded and not delivered yet; and what its attempt has to do with writes.
 #[derive(Debug, Drop)]
 pub struct Record {
     pub program: Program,
@@ -19,6 +20,7 @@ pub struct Record {
     pub withdrawn: bool,
     pub answers: ChoiceList,
     pub inbox: VecDeque<Choice>,
+    pub footprint: Footprint,
 }
 
 impl Record {

@@ -8,6 +8,7 @@ use crate::events::renew;
 use crate::records::Record;
 use std::alloc::Global;
 use yt_base::Memory;
+use yt_conflict::Footprint;
 use yt_entries::Cause;
 use yt_program::Program;
 
@@ -28,6 +29,7 @@ impl Record {
     {
         renew(&mut self.program, fresh);
         self.log.clear();
+        self.footprint = Footprint::empty();
     }
 
     // Begins the next attempt, if there is one.

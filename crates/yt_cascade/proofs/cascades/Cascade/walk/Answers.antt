@@ -1,38 +1,80 @@
-use Rattle.std.proofs.Common.{ap, map, subst, sym, ◌∙◌, ◌+◌, ℕ, suc, ◌<◌, ◌≡◌, length, arith}
-use Rattle.std.proofs.lemmas.List.{length_push}
+use Rattle.std.proofs.Common.{ap, map, subst, sym, ◌∙◌, ◌+◌, ℕ, suc, ◌<◌, ◌≤◌, ◌≡◌, refl, true, List, [], add-one, length, arith}
 use Rattle.yt_base.specs.Meanings.{change_of}
+use Rattle.std.specs.List.{list_all}
+use Rattle.yt_conflict.specs.Impacts.{has_change}
+use Rattle.yt_model.proofs.Bools.{both}
+use Rattle.yt_model.specs.Mappings.{Rule}
 use Rattle.yt_queue.specs.Walks.{ReadsAtMost}
-use Rattle.yt_cascade.specs.Meanings.{above_of}
-use Rattle.yt_cascade.proofs.Turns.{all_of, at_start, next_in, at_end, later_from}
+use Rattle.yt_cascade.specs.Walks.{HasLostImpact, padded}
+use Rattle.yt_cascade.proofs.Padding.{found_padded, padded_full, padded_long}
+use Rattle.yt_cascade.specs.Meanings.{above_of, found_for}
+use Rattle.yt_cascade.proofs.Turns.{all_of, none_found, at_start, next_in, at_end, later_from}
 use Rattle.yt_cascade.proofs.cascades.Cascade.walk.Goals as goal
 
+pub returns-then-readers-eq0-clause-found : goal.returns-then-readers-eq0-clause-found
+returns-then-readers-eq0-clause-found c =
+    let none : c.args.readers ≡ 0 = cc in
+    λ B conflicting few looks s.
+    (λ i. found_for (above_of c.args.self.now).rules B c.args.upper.now (c.new-found.ensures.items i))
+    ∙ at_end (above_of c.args.self.now) conflicting B (map change_of c.args.written.now) (all_of (above_of c.args.self.now) conflicting B c.args.lost c.args.upper.now) c.args.lost 0 c.args.upper.now [] refl
+    (subst (λ (k : ℕ). ReadsAtMost c.args.upper.now k) none c.requires.read)
+    (at_start (above_of c.args.self.now) conflicting B (map change_of c.args.written.now) c.args.lost c.args.upper.now [] refl c.requires.from s)
+
+pub returns-then-leaves_all-clause-found : goal.returns-then-leaves_all-clause-found
+returns-then-leaves_all-clause-found c =
+    let none : length c.new-found.result.items ≡ 0 = ap length c.new-found.ensures.items in
+    let e = c.leaves_all.ensures.written c.if-leaves_all.true in
+    let k = c.leaves_all.ensures.lost c.if-leaves_all.true in
+    λ B conflicting few looks s.
+    (λ i. found_for (above_of c.args.self.now).rules B c.args.upper.now (c.new-found.ensures.items i))
+    ∙ none_found (above_of c.args.self.now) conflicting B (map change_of c.args.written.now) few looks (all_of (above_of c.args.self.now) conflicting B c.args.lost c.args.upper.now) c.args.lost c.args.upper.now [] e k
+    (at_start (above_of c.args.self.now) conflicting B (map change_of c.args.written.now) c.args.lost c.args.upper.now [] refl c.requires.from s)
+
 pub loop-i-init : goal.loop-i-init
-loop-i-init c = record {
-  long = ap length c.in_ok-found.ensures.items;
-  from = (suc c.args.self.now.update, c.requires.from);
-  turns = λ B conflicting few looks s. at_start (above_of c.args.self.now) conflicting B (map change_of c.args.written.now) c.args.lost c.args.upper.now c.in_ok-found.found.items c.in_ok-found.ensures.items c.requires.from s;
-}
+loop-i-init c =
+    let none : length c.new-found.result.items ≡ 0 = ap length c.new-found.ensures.items in record {
+      long = omega (arith, none);
+      from = (suc c.args.self.now.update, c.requires.from);
+      lost = c.requires.lost;
+      turns = λ B conflicting few looks s. at_start (above_of c.args.self.now) conflicting B (map change_of c.args.written.now) c.args.lost c.args.upper.now (padded 0 c.new-found.result.items) (padded_full 0 c.new-found.result.items none ∙ c.new-found.ensures.items) c.requires.from s;
+    }
 
 pub lose_where-requires : goal.lose_where-requires
 lose_where-requires c =
     let l : c.loop-i.i < length c.args.upper.now = omega arith in
-    record { between = (later_from c.loop-i.invariant.from.0 c.loop-i.i c.args.upper.now c.index-upper-i.result l c.index-upper-i.is c.loop-i.invariant.from.1).0.between }
+    record {
+      between = (later_from c.loop-i.invariant.from.0 c.loop-i.i c.args.upper.now c.index-upper-i.result l c.index-upper-i.is c.loop-i.invariant.from.1).0.between;
+      impact = subst (λ (ms : List Rule). HasLostImpact ms c.loop-i.lost) (sym c.list-mappings.ensures.rules) c.loop-i.invariant.lost;
+    }
+
+pub cause_for-requires : goal.cause_for-requires
+cause_for-requires c =
+    let l : c.loop-i.i < length c.args.upper.now = omega arith in
+    record {
+      covers = (later_from c.loop-i.invariant.from.0 c.loop-i.i c.args.upper.now c.index-upper-i.result l c.index-upper-i.is c.loop-i.invariant.from.1).0.covers;
+      impact = both (list_all (has_change c.with-impact.result (above_of c.args.self.now).rules c.args.self.now.sense) (map change_of c.args.written.now)) true (subst (λ (ms : List Rule). list_all (has_change c.with-impact.result ms c.args.self.now.sense) (map change_of c.args.written.now) ≡ true) c.list-mappings.ensures.rules c.with-impact.ensures.has) refl;
+      lost = c.loop-i.invariant.lost;
+    }
 
 pub loop-i-preserved : goal.loop-i-preserved
 loop-i-preserved c =
     let l : c.loop-i.i < length c.args.upper.now = omega arith in record {
-      long = ap length c.in_ok-push.ensures.items ∙ length_push c.loop-i.found.items c.in_ok-cause.cause ∙ ap (λ n. n + 1) c.loop-i.invariant.long;
+      long = subst (λ (n : ℕ). length c.put_where.new.found.items ≤ n) (sym (add-one c.loop-i.i)) c.in_ok-put_where.ensures.few;
       from = (suc c.loop-i.invariant.from.0, (later_from c.loop-i.invariant.from.0 c.loop-i.i c.args.upper.now c.index-upper-i.result l c.index-upper-i.is c.loop-i.invariant.from.1).1);
+      lost = subst (λ (ms : List Rule). HasLostImpact ms c.lose_where.new.self) c.list-mappings.ensures.rules c.in_ok-lose_where.ensures.impact;
       turns =
           λ B conflicting few looks s.
           next_in (above_of c.args.self.now) conflicting B (map change_of c.args.written.now) few looks (all_of (above_of c.args.self.now) conflicting B c.args.lost c.args.upper.now) c.loop-i.lost c.lose_where.new.self c.loop-i.i c.args.upper.now c.index-upper-i.result
-          c.loop-i.found.items c.push.new.self.items c.in_ok-cause.cause c.is_some.result l c.index-upper-i.is c.in_ok-push.ensures.items c.is_some.ensures c.in_ok-cause.ensures.cause c.in_ok-lose_where.ensures.lost (c.loop-i.invariant.turns B conflicting few looks s);
+          (padded c.loop-i.i c.loop-i.found.items) (padded (c.loop-i.i + 1) c.put_where.new.found.items) c.in_ok-cause.cause c.is_some.result l c.index-upper-i.is
+          (ap (λ (n : ℕ). padded n c.put_where.new.found.items) (add-one c.loop-i.i) ∙ c.in_ok-put_where.ensures.put) c.is_some.ensures c.in_ok-cause.ensures.cause c.in_ok-lose_where.ensures.lost (c.loop-i.invariant.turns B conflicting few looks s);
     }
 
 pub returns-clause-found : goal.returns-clause-found
 returns-clause-found c =
     let all : c.args.readers ≡ c.loop-i.i = omega arith in
+    let within : c.loop-i.i ≤ length c.args.upper.now = omega (arith, all, c.requires.within) in
     λ B conflicting few looks s.
-    at_end (above_of c.args.self.now) conflicting B (map change_of c.args.written.now) (all_of (above_of c.args.self.now) conflicting B c.args.lost c.args.upper.now) c.loop-i.lost c.loop-i.i c.args.upper.now c.loop-i.found.items c.loop-i.invariant.long
+    sym (found_padded (above_of c.args.self.now).rules B c.loop-i.i c.args.upper.now c.loop-i.found.items c.loop-i.invariant.long within)
+    ∙ at_end (above_of c.args.self.now) conflicting B (map change_of c.args.written.now) (all_of (above_of c.args.self.now) conflicting B c.args.lost c.args.upper.now) c.loop-i.lost c.loop-i.i c.args.upper.now (padded c.loop-i.i c.loop-i.found.items) (padded_long c.loop-i.i c.loop-i.found.items c.loop-i.invariant.long)
     (subst (λ (k : ℕ). ReadsAtMost c.args.upper.now k) all c.requires.read)
     (c.loop-i.invariant.turns B conflicting few looks s)
