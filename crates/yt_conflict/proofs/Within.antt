@@ -85,11 +85,20 @@ all_with : {K : Type 0} (p : K → Bool) (xs ys : List K) → list_all p xs ≡ 
 all_with p [] ys e h = h
 all_with p (x ∷ xs) ys e h = let parts = and_parts (p x) (list_all p xs) e in both (p x) (list_all p (xs ++ ys)) parts.0 (all_with p xs ys parts.1 h)
 
--- Once the attempt has these own writes and has made these reads more.
-pub covers_after : (f e d : Footprint) (own : List Change) (rs : List Read) → ReadsMore f e → list_all (has_read e) rs ≡ true → ReadsMore e d → (list_any may_enact own ≡ true → d.exposed ≡ true) → list_all (has_write d) own ≡ true → CoversMore f own rs d
-covers_after f e d own rs more has on enacts written vs qs c = record {
-  enacts = enacts;
-  writes = written;
+any_with : {K : Type 0} (p : K → Bool) (b : Bool) (xs ys : List K) → (list_any p xs ≡ true → b ≡ true) → (list_any p ys ≡ true → b ≡ true) → list_any p (xs ++ ys) ≡ true → b ≡ true
+any_with p b [] ys f g e = g e
+any_with p b (x ∷ xs) ys f g e =
+    elim (or_cases (p x) (list_any p (xs ++ ys)) e) [
+      | inl h ↦ f (or_left (p x) (list_any p xs) h)
+      | inr h ↦ any_with p b xs ys (λ i. f (or_right (p x) (list_any p xs) i)) g h
+    ]
+
+-- Once the attempt has made these own writes and these reads more.
+pub covers_after : (f e d : Footprint) (ws : List Change) (rs : List Read) → ReadsMore f e → list_all (has_read e) rs ≡ true → ReadsMore e d → IsWithin f.own d.own → (list_any may_enact ws ≡ true → d.exposed ≡ true) → list_all (has_write d) ws ≡ true
+    → CoversMore f ws rs d
+covers_after f e d ws rs more has on own enacts written vs qs c = record {
+  enacts = any_with may_enact d.exposed vs ws (λ h. on.exposed (more.exposed (c.enacts h))) enacts;
+  writes = all_with (has_write d) vs ws (all_still (has_write f) (has_write d) (λ w. write_still f.own d.own w own) vs c.writes) written;
   reads = all_with (has_read d) qs rs (all_still (has_read f) (has_read d) (λ r. read_still f d r (reads_more f e d more on)) qs c.reads) (all_still (has_read e) (has_read d) (λ r. read_still e d r on) rs has);
 }
 

@@ -42,6 +42,6 @@ pub record ReadsMore (f e : Footprint) : Type 0 where
   pub found : f.found ≡ true → e.found ≡ true
   pub exposed : f.exposed ≡ true → e.exposed ≡ true
 
--- Once the attempt has these own writes and has made these reads more, the second is one of it.
+-- Once the attempt has made these own writes and these reads more, the second is one of it.
 abbrev pub CoversMore : Footprint → List Change → List Read → Footprint → Type 0
-CoversMore f own rs e = (vs : List Change) (qs : List Read) → Covers f vs qs → Covers e own (qs ++ rs)
+CoversMore f ws rs e = (vs : List Change) (qs : List Read) → Covers f vs qs → Covers e (vs ++ ws) (qs ++ rs)

@@ -39,15 +39,16 @@ impl Footprint {
         }
     }
 
-    /// That of the attempt once it has these own writes, and has made these reads more. It takes no memory.
-    pub fn after(self, own: &[Write], reads: &[LoggedRead]) -> Footprint
-        ensures covers { CoversMore self (map change_of own.now) (map read_of reads.now) result }
+    /// That of the attempt once it has made these own writes and these reads more. It takes no memory.
+    pub fn after(self, writes: &[Write], reads: &[LoggedRead]) -> Footprint
+        ensures covers { CoversMore self (map change_of writes.now) (map read_of reads.now)
+            result }
     {
         let asked = self.asking(reads);
         Footprint {
-            exposed: either(asked.exposed, may_enact_any(own)),
+            exposed: either(asked.exposed, may_enact_any(writes)),
             found: asked.found,
-            own: written(own),
+            own: with_writes(self.own, writes),
             asked: asked.asked,
         }
     }
@@ -146,12 +147,13 @@ impl Footprint {
     }
 }
 
-// Where the values of the writes lie.
-fn written(own: &[Write]) -> Signature
-    ensures has { list_all (has_write_in result) (map change_of own.now) ≡ true }
+// The signature with the values of the writes.
+fn with_writes(signature: Signature, writes: &[Write]) -> Signature
+    ensures more { IsWithin signature result }
+    ensures has { list_all (has_write_in result) (map change_of writes.now) ≡ true }
 {
-    let mut all = Signature::empty();
-    for write in own {
+    let mut all = signature;
+    for write in writes {
         all = with_values(all, tuple_of(write));
     }
     all

@@ -86,8 +86,8 @@ fn note(settled: &mut Settled, read: &LoggedRead)
     }
 }
 
-// The writes behind the first so many.
-fn since(own: &[Write], made: u64) -> &[Write]
+/// The writes behind the first so many. It takes no memory.
+pub fn since(own: &[Write], made: u64) -> &[Write]
     ensures since { map change_of result.now ≡ drop made (map change_of own.now) }
 {
     let first = made as usize;

@@ -100,6 +100,16 @@ unwritten ms B D r plan ws n p h e l =
     let m = result_of (answers_over ms D P) (step ms P c) in
     none_behind (hides (option_map ending (outcome_in (next_attempt ms B D P c).phase))) P.own m.writes ws n e (h ∙ ap (λ (t : State). shown (caused_chase ms B) t.attempt) p.program) l
 
+-- The own writes of a plan are those that were made before and those behind them.
+pub own_by : (ms : List Rule) (B : ℕ) (D : List Fact) (r : Record) (plan : Plan) (ws : List Change) (n : ℕ) → IsPlanOf ms B D r plan → n ≡ length r.program.attempt.own → ws ≡ drop n plan.program.attempt.own
+    → r.program.attempt.own ++ ws ≡ plan.program.attempt.own
+own_by ms B D r plan ws n p e f =
+    let P = r.program.attempt in
+    let c = next_answer (caused_chase ms B) (map choice_of r.answers.items) P in
+    let m = result_of (answers_over ms D P) (step ms P c) in
+    let own = ap (λ (t : State). t.attempt.own) p.program in
+    ap (λ (vs : List Change). P.own ++ vs) (f ∙ (ap (drop n) own ∙ drop_at P.own m.writes n (sym e))) ∙ sym own
+
 -- The footprint is that of the attempt that was taken over, and of all its reads.
 pub covers_by : (e : Footprint) (own own' : List Change) (before reads log : List LoggedRead) → Covers e own (map read_of before ++ map read_of reads) → own ≡ own' → log ≡ before ++ reads → Covers e own' (map read_of log)
 covers_by e own own' before reads log c o l =

@@ -10,7 +10,7 @@ use std::collections::VecDeque;
 use std::mem;
 use yt_base::{Choice, ChoiceList, List, Memory, TryCopy, Update};
 use yt_conflict::Footprint;
-use yt_plan::Plan;
+use yt_plan::{Plan, since};
 use yt_program::Program;
 use yt_query::ReadLog;
 
@@ -61,8 +61,9 @@ impl Record {
         ensures stepped { HasStepped plan self.old self.new }
         ensures place { KeepsPlaceBy plan self.old self.new }
     {
-        let own = plan.program.own().as_slice();
-        self.footprint = self.footprint.after(own, plan.reads.as_slice());
+        let made = self.program.own().len() as u64;
+        let writes = since(plan.program.own().as_slice(), made);
+        self.footprint = self.footprint.after(writes, plan.reads.as_slice());
         let Plan { program, reads } = plan;
         renew(&mut self.program, program);
         take_over(&mut self.log, reads);

@@ -8,8 +8,9 @@ use Rattle.yt_conflict.proofs.footprints.Footprint.after.Goals as goal
 pub returns : goal.returns
 returns c = record {
   covers =
-      covers_after c.args.self c.asking-asked.result _ (map change_of c.args.own.now) (map read_of c.args.reads.now) c.asking-asked.ensures.more c.asking-asked.ensures.has
+      covers_after c.args.self c.asking-asked.result _ (map change_of c.args.writes.now) (map read_of c.args.reads.now) c.asking-asked.ensures.more c.asking-asked.ensures.has
       (record { asked = λ k e. e; found = λ e. e; exposed = λ e. c.either.ensures ∙ or_left c.asking-asked.result.exposed c.may_enact_any.result e })
+      c.with_writes.ensures.more
       (λ e. c.either.ensures ∙ or_right c.asking-asked.result.exposed c.may_enact_any.result (c.may_enact_any.ensures ∙ e))
-      c.written.ensures.has;
+      c.with_writes.ensures.has;
 }

@@ -1,11 +1,14 @@
-use Rattle.std.proofs.Common.{◌∙◌, ◌++◌, ap, map, sym, subst, List, rules}
+use Rattle.std.proofs.Common.{◌∙◌, ◌++◌, ap, map, sym, subst, length, drop, List, rules}
+use Rattle.std.proofs.lemmas.List.{length-map}
 use Rattle.yt_base.specs.Meanings.{change_of}
+use Rattle.yt_base.specs.declared.updates.Write.{Write}
 use Rattle.yt_conflict.specs.Footprints.{Covers}
+use Rattle.yt_model.specs.Repository.{Change}
 use Rattle.yt_query.specs.Meanings.{read_of}
 use Rattle.yt_query.specs.declared.log.LoggedRead.{LoggedRead}
 use Rattle.yt_queue.specs.Queues.{update_of}
 use Rattle.yt_queue.specs.declared.records.Record.{Record}
-use Rattle.yt_queue.proofs.Following.{covers_by, stepped_by}
+use Rattle.yt_queue.proofs.Following.{covers_by, own_by, stepped_by}
 use Rattle.yt_queue.proofs.records.Record.follow.Goals as goal
 
 pub returns-clause-stepped : goal.returns-clause-stepped
@@ -15,13 +18,19 @@ returns-clause-stepped c = λ ms B D p.
     ∙ stepped_by ms B D old c.args.plan _ p c.take_over.ensures.all
 
 pub returns-clause-place : goal.returns-clause-place
-returns-clause-place c = λ ms B D n p s. record {
-  number = search (rules, p);
-  between = search (rules, p);
-  covers =
-      covers_by c.after-self.result (map change_of c.as_slice-own.result.now) c.renew.new.place.attempt.own c.args.self.now.log.items c.args.plan.reads.items c.take_over.new.log.items
-      (subst (λ (ls : List LoggedRead). Covers c.after-self.result (map change_of c.as_slice-own.result.now) (map read_of c.args.self.now.log.items ++ map read_of ls)) c.as_slice.ensures.items
-      (c.after-self.ensures.covers c.args.self.now.program.attempt.own (map read_of c.args.self.now.log.items) s.covers))
-      (ap (map change_of) c.as_slice-own.ensures.items ∙ c.own.ensures.own ∙ ap (λ q. q.attempt.own) (sym c.renew.ensures.fresh))
-      c.take_over.ensures.all;
-}
+returns-clause-place c = λ ms B D n p s.
+    let old : Record = c.args.self.now in
+    let writes : List Change = map change_of c.since-writes.result.now in
+    record {
+      number = search (rules, p);
+      between = search (rules, p);
+      covers =
+          covers_by c.after-self.result (old.program.attempt.own ++ writes) c.renew.new.place.attempt.own old.log.items c.args.plan.reads.items c.take_over.new.log.items
+          (subst (λ (ls : List LoggedRead). Covers c.after-self.result (old.program.attempt.own ++ writes) (map read_of old.log.items ++ map read_of ls)) c.as_slice-2.ensures.items
+          (c.after-self.ensures.covers old.program.attempt.own (map read_of old.log.items) s.covers))
+          (own_by ms B D old c.args.plan writes c.len-made.result p
+          (c.len-made.ensures.length ∙ (sym (length-map c.own.result.now.items change_of) ∙ ap length c.own.ensures.own))
+          (c.since-writes.ensures.since ∙ (ap (λ (ws : List Write). drop c.len-made.result (map change_of ws)) c.as_slice.ensures.items ∙ ap (drop c.len-made.result) c.own-2.ensures.own))
+          ∙ ap (λ q. q.attempt.own) (sym c.renew.ensures.fresh))
+          c.take_over.ensures.all;
+    }

@@ -2,7 +2,10 @@ use Rattle.yt_base.specs.Meanings.{change_of}
 use Rattle.yt_conflict.specs.Footprints.{has_write_in}
 use Rattle.yt_conflict.specs.Signatures.{IsWithin}
 use Rattle.yt_conflict.proofs.Gathering.{Gathers}
-use Rattle.yt_conflict.proofs.footprints.written.Given as goal
+use Rattle.yt_conflict.proofs.footprints.with_writes.Given as goal
 
 abbrev pub invariant-loop-write : goal.invariant-loop-write
-invariant-loop-write l = Gathers IsWithin has_write_in change_of l.own l.write-index l.all
+invariant-loop-write l = record {
+  more : IsWithin l.fn.signature l.all;
+  has : Gathers IsWithin has_write_in change_of l.writes l.write-index l.all;
+}
