@@ -1,4 +1,4 @@
--- What is committed stays so, below the update of an event.
+-- What is committed stays so below the update of an event, and so does what is unready.
 use Rattle.std.proofs.Common.{◌≡◌, ◌∙◌, ap, refl, sym, subst, ℕ, zero, suc, ◌≤◌, ◌+◌, Bool, true, false, Option, List, [], ◌∷◌, ◌++◌, map, length, take, drop, arith, add-one}
 use Rattle.std.specs.Prelude.{if◌then◌else◌}
 use Rattle.std.proofs.Math.ListN.{set}
@@ -9,10 +9,10 @@ use Rattle.yt_machine.specs.Updates.{Update, committed, is_over}
 use Rattle.yt_program.specs.Courses.{State as ProgramState}
 use Rattle.yt_queue.specs.Queues.{update_of, updates_of}
 use Rattle.yt_queue.specs.Renewals.{HaveRestarted}
-use Rattle.yt_queue.specs.Walks.{CommitsAtLeast}
+use Rattle.yt_queue.specs.Walks.{AreUnready, CommitsAtLeast, UnreadyUpTo}
 use Rattle.yt_queue.specs.declared.records.Record.{Record}
 use Rattle.yt_steps.specs.Chase.{caused_chase}
-use Rattle.yt_core.specs.Follows.{AreSame, KeepsCommitted}
+use Rattle.yt_core.specs.Follows.{AreSame, KeepsCommitted, KeepsUnready}
 use Rattle.yt_core.proofs.Following.{marks_for, marked_so}
 use Rattle.yt_core.proofs.Making.{front}
 
@@ -36,6 +36,34 @@ committed_kept rs rs' k r' fs restarts c l least ms B =
     restarts ms B xs (marked_so ms B fs) ∙ (λ i. take (add-one k i) (map-set (update_of ms B) rs k r' i) ++ ws) in
     subst (λ (us : List (Update M)). c ≤ committed M us) (sym is) (placed M (updates_of ms B rs) k c (update_of ms B r') ws l (least ms B))
 
+-- The same of what is unready.
+unready_placed : (M : Machine) (us : List (Update M)) (k n : ℕ) (v : Update M) (ws : List (Update M)) → n ≤ k → AreUnready M n us → AreUnready M n (take (suc k) (set us k v) ++ ws)
+unready_placed M us k zero v ws l h = tt
+unready_placed M [] k (suc n) v ws l h = absurd h
+unready_placed M (u ∷ us) zero (suc n) v ws l h = absurd (omega (arith, l))
+unready_placed M (u ∷ us) (suc k) (suc n) v ws l h = (h.0, unready_placed M us k n v ws (omega (arith, l)) h.1)
+
+pub unready_kept : (rs rs' : List Record) (k : ℕ) (r' : Record) (fs : List (Option ProgramState)) → HaveRestarted (k + 1) fs (set rs k r') rs' → KeepsUnready k rs rs'
+unready_kept rs rs' k r' fs restarts n l h ms B =
+    let M = caused_chase ms B in
+    let xs = marks_for ms B fs in
+    let ws = restart M (suc (k + 1)) xs (drop (k + 1) (updates_of ms B (set rs k r'))) in
+    let is : updates_of ms B rs' ≡ take (suc k) (set (updates_of ms B rs) k (update_of ms B r')) ++ ws =
+    restarts ms B xs (marked_so ms B fs) ∙ (λ i. take (add-one k i) (map-set (update_of ms B) rs k r' i) ++ ws) in
+    subst (λ (us : List (Update M)). AreUnready M n us) (sym is) (unready_placed M (updates_of ms B rs) k n (update_of ms B r') ws l (h ms B))
+
+fewer : (M : Machine) (us : List (Update M)) (n m : ℕ) → m ≤ n → AreUnready M n us → AreUnready M m us
+fewer M us n zero l h = tt
+fewer M us zero (suc m) l h = absurd (omega (arith, l))
+fewer M [] (suc n) (suc m) l h = absurd h
+fewer M (u ∷ us) (suc n) (suc m) l h = (h.0, fewer M us n m (omega (arith, l)) h.1)
+
+pub fewer_unready : (rs : List Record) (n m : ℕ) → m ≤ n → UnreadyUpTo rs n → UnreadyUpTo rs m
+fewer_unready rs n m l h ms B = fewer (caused_chase ms B) (updates_of ms B rs) n m l (h ms B)
+
+pub same_unready : (rs rs' : List Record) (n : ℕ) → AreSame rs rs' → UnreadyUpTo rs n → UnreadyUpTo rs' n
+same_unready rs rs' n same h ms B = subst (λ (us : List (Update (caused_chase ms B))). AreUnready (caused_chase ms B) n us) (sym (same.updates ms B)) (h ms B)
+
 pub fewer_committed : (rs : List Record) (c d : ℕ) → d ≤ c → CommitsAtLeast rs c → CommitsAtLeast rs d
 fewer_committed rs c d l least ms B = let h = least ms B in omega (arith, l, h)
 
@@ -44,3 +72,6 @@ same_committed rs rs' c same least ms B = subst (λ (us : List (Update (caused_c
 
 pub least_ok : (qs ys : List Record) (n c : ℕ) → length qs ≡ n → CommitsAtLeast qs c → CommitsAtLeast (take n (qs ++ ys)) c
 least_ok qs ys n c l h = subst (λ (xs : List Record). CommitsAtLeast xs c) (sym (front qs ys n l)) h
+
+pub unready_ok : (qs ys : List Record) (n k : ℕ) → length qs ≡ n → UnreadyUpTo qs k → UnreadyUpTo (take n (qs ++ ys)) k
+unready_ok qs ys n k l h = subst (λ (xs : List Record). UnreadyUpTo xs k) (sym (front qs ys n l)) h

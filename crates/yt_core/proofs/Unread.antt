@@ -10,11 +10,12 @@ use Rattle.yt_machine.specs.Machine.{Machine}
 use Rattle.yt_machine.specs.Settle.{restart}
 use Rattle.yt_machine.specs.Updates.{Update}
 use Rattle.yt_program.specs.Courses.{State as ProgramState}
+use Rattle.yt_queue.proofs.Skipping.{none_unready}
 use Rattle.yt_queue.proofs.Unread.{all_may_read}
 use Rattle.yt_queue.proofs.Walking.{none_committed}
 use Rattle.yt_queue.specs.Queues.{update_of, updates_of}
 use Rattle.yt_queue.specs.Renewals.{HaveRestarted}
-use Rattle.yt_queue.specs.Walks.{AreUnread, CommitsAtLeast, ReadsAtMost}
+use Rattle.yt_queue.specs.Walks.{AreUnread, CommitsAtLeast, ReadsAtMost, UnreadyUpTo}
 use Rattle.yt_queue.specs.declared.records.Record.{Record}
 use Rattle.yt_steps.specs.Chase.{caused_chase}
 use Rattle.yt_versions.specs.Standing.{Kept}
@@ -83,6 +84,6 @@ readers_within rs k n m l e = let long = length-drop (suc k) rs in omega (arith,
 pub most_ok : (qs ys : List Record) (n c : ℕ) → length qs ≡ n → ReadsAtMost qs c → ReadsAtMost (take n (qs ++ ys)) c
 most_ok qs ys n c l h = subst (λ (xs : List Record). ReadsAtMost xs c) (sym (front qs ys n l)) h
 
--- Where nothing is noted of what is committed and what has read something.
-pub with_nothing_noted : (g : Ground) (v : Kept) (rs : List Record) (H : List PlainEntry) → IsKept g v rs H → IsKept g v rs H × CommitsAtLeast rs 0 × ReadsAtMost rs (2 ^ 32 - 1)
-with_nothing_noted g v rs H k = (k, none_committed rs, all_may_read rs (2 ^ 32 - 1) (let l = k.few in omega (arith, l)))
+-- Where nothing is noted of what is committed, what has read something, and what is unready.
+pub with_nothing_noted : (g : Ground) (v : Kept) (rs : List Record) (H : List PlainEntry) → IsKept g v rs H → IsKept g v rs H × CommitsAtLeast rs 0 × ReadsAtMost rs (2 ^ 32 - 1) × UnreadyUpTo rs 0
+with_nothing_noted g v rs H k = (k, none_committed rs, all_may_read rs (2 ^ 32 - 1) (let l = k.few in omega (arith, l)), none_unready rs)

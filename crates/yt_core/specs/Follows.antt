@@ -24,7 +24,7 @@ use Rattle.yt_query.specs.Meanings.{read_of}
 use Rattle.yt_queue.specs.Events.{HasRoom, HasRoomFor}
 use Rattle.yt_queue.specs.Programs.{IsPlanOf}
 use Rattle.yt_queue.specs.Queues.{update_of, updates_of, AreFrom}
-use Rattle.yt_queue.specs.Walks.{CommitsAtLeast, ReadsAtMost}
+use Rattle.yt_queue.specs.Walks.{CommitsAtLeast, ReadsAtMost, UnreadyUpTo}
 use Rattle.yt_queue.specs.declared.records.Record.{Record}
 use Rattle.yt_steps.specs.Chase.{caused_chase}
 use Rattle.yt_steps.specs.Serial.{Request}
@@ -86,6 +86,10 @@ KeepsCommitted k rs rs' = (c : ℕ) → c ≤ k → CommitsAtLeast rs c → Comm
 -- Those that had read nothing before still have not, as far as they stand above the place.
 abbrev pub KeepsUnread : ℕ → List Record → List Record → Type 0
 KeepsUnread k rs rs' = (n : ℕ) → suc k ≤ n → ReadsAtMost rs n → ReadsAtMost rs' n
+
+-- Those that were unready before are so still, as far as they stand below the place.
+abbrev pub KeepsUnready : ℕ → List Record → List Record → Type 0
+KeepsUnready k rs rs' = (n : ℕ) → n ≤ k → UnreadyUpTo rs n → UnreadyUpTo rs' n
 
 -- The update at the place has made the step of the plan, and those above it have restarted for which there is an attempt.
 abbrev pub IsInstalled : ℕ → Plan → List (Option ProgramState) → List Record → List Record → Type 0

@@ -85,6 +85,7 @@ impl<'s> Core<'s> {
         let place = place_of(update);
         self.least = 0;
         self.most = u32::MAX;
+        self.unready = 0;
         answer_at(
             alloc,
             self.settings,

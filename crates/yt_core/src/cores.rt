@@ -20,7 +20,7 @@ use crate::plans::{Plan, Snapshot, plan_at, snapshot_at};
 use crate::putting::step_at;
 use crate::refusals::{DeliverRefusal, StepRefusal};
 use crate::standings::{has_waiting, place_of, question, standing};
-use crate::stepping::raised;
+use crate::stepping::{lesser, raised};
 use std::alloc::Global;
 use std::marker::Model;
 use yt_base::{Memory, TupleList, UpdateList};
@@ -30,7 +30,7 @@ use yt_frontier::Question;
 use yt_limits::{Budget, Mappings};
 use yt_queue::{
     Record, Settings, committed_from, is_quiet, lowest_deliverable, lowest_ready,
-    lowest_ready_besides, reads_at_most,
+    lowest_ready_besides, reads_at_most, unready_from,
 };
 use yt_serial::{base_of, mappings_of};
 use yt_session::{Session, SessionUpdates};
@@ -53,6 +53,8 @@ pub struct Core<'s> {
     pub(crate) least: u32,
     // At most the first so many have read something; the walks upwards from an event end with them.
     pub(crate) most: u32,
+    // The first so many are unready; the search for a ready one begins behind them.
+    pub(crate) unready: usize,
 }
 
 impl<'s> Model for Core<'s> {
@@ -60,14 +62,14 @@ impl<'s> Model for Core<'s> {
     ghost use Rattle.yt_entries.specs.Meanings.{entry_of};
     ghost use Rattle.yt_queue.specs.Settings.{settings_of};
     ghost use Rattle.yt_core.specs.States.{State};
-    ghost use Rattle.yt_queue.specs.Walks.{CommitsAtLeast, ReadsAtMost};
+    ghost use Rattle.yt_queue.specs.Walks.{CommitsAtLeast, ReadsAtMost, UnreadyUpTo};
     ghost use Rattle.yt_core.specs.Kept.{ground_by, IsKept};
 
     ghost Value = { State };
 
     ghost view = { λ c. record { over = ground_by c.mappings c.budget (settings_of c.settings) c.base.now c.updates.now c.later; history = map entry_of c.history.items } };
 
-    ghost invariant = { λ c. IsKept (ground_by c.mappings c.budget (settings_of c.settings) c.base.now c.updates.now c.later) c.versions c.queue.items (map entry_of c.history.items) × CommitsAtLeast c.queue.items c.least × ReadsAtMost c.queue.items c.most };
+    ghost invariant = { λ c. IsKept (ground_by c.mappings c.budget (settings_of c.settings) c.base.now c.updates.now c.later) c.versions c.queue.items (map entry_of c.history.items) × CommitsAtLeast c.queue.items c.least × ReadsAtMost c.queue.items c.most × UnreadyUpTo c.queue.items c.unready };
 }
 
 impl<'s> Core<'s> {
@@ -121,6 +123,7 @@ impl<'s> Core<'s> {
             history,
             least: 0,
             most: u32::MAX,
+            unready: 0,
         })
     }
 
@@ -172,7 +175,13 @@ impl<'s> Core<'s> {
     pub fn lowest_ready_besides(&self, numbers: &[u32]) -> Option<u32>
         ensures lowest { result ≡ lowest_ready_besides_at self.now numbers.now }
     {
-        lowest_ready_besides(&self.queue, self.settings, self.least, numbers)
+        lowest_ready_besides(
+            &self.queue,
+            self.settings,
+            self.least,
+            self.unready,
+            numbers,
+        )
     }
 
     /// The lowest update to which a recorded answer can be delivered, if there is one. It takes no memory.
@@ -245,8 +254,10 @@ impl<'s> Core<'s> {
         let place = place_of(update);
         let least = self.least;
         let most = reads_at_most(&self.queue, self.most);
+        let below = lesser(self.unready, place);
         self.least = 0;
         self.most = u32::MAX;
+        self.unready = 0;
         let committed = step_at(
             alloc,
             &self.mappings,
@@ -261,6 +272,7 @@ impl<'s> Core<'s> {
         )?;
         self.least = committed;
         self.most = raised(most, update);
+        self.unready = unready_from(&self.queue, below);
         Ok(self.history.len() as u64)
     }
 
@@ -349,6 +361,7 @@ impl<'s> Core<'s> {
         let place = place_of(update);
         self.least = 0;
         self.most = u32::MAX;
+        self.unready = 0;
         deliver_at(self.settings, &mut self.queue, &mut self.history, place)?;
         Ok(self.history.len() as u64)
     }

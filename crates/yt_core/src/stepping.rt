@@ -7,7 +7,7 @@ ghost use Rattle.yt_queue.specs.Renewals.{AllHaveOneMore, AreFresh};
 ghost use Rattle.yt_queue.specs.Settings.{settings_of};
 ghost use Rattle.yt_queue.specs.Walks.{CommitsAtLeast, ReadsAtMost};
 ghost use Rattle.yt_core.specs.Aftermaths.{AllBetween};
-ghost use Rattle.yt_core.specs.Follows.{AreSame, HasRoomAt, IsPlanAt, IsPreparedAt, IsInstalled, KeepsCommitted, KeepsUnread};
+ghost use Rattle.yt_core.specs.Follows.{AreSame, HasRoomAt, IsPlanAt, IsPreparedAt, IsInstalled, KeepsCommitted, KeepsUnread, KeepsUnready};
 ghost use Rattle.yt_core.specs.Steps.{HasHidden, HasTurned, ShowsStep, WereFound, IsPrepared};
 
 use crate::aftermaths::{Aftermath, settled};
@@ -219,6 +219,7 @@ pub(crate) fn install(queue: &mut [Record], place: usize, plan: Plan, fresh: Vec
     ensures installed { IsInstalled place plan fresh.items queue.old queue.new }
     ensures least { KeepsCommitted place queue.old queue.new }
     ensures most { KeepsUnread place queue.old queue.new }
+    ensures unready { KeepsUnready place queue.old queue.new }
     ensures numbers { AreFrom 1 queue.new }
     ensures long { length queue.new ≡ length queue.old }
 {
@@ -232,6 +233,14 @@ pub(crate) fn raised(most: u32, update: u32) -> u32
     ensures update { update ≤ result }
 {
     if most < update { update } else { most }
+}
+
+/// The lesser of both.
+pub(crate) fn lesser(one: usize, other: usize) -> usize
+    ensures one { result ≤ one }
+    ensures other { result ≤ other }
+{
+    if one <= other { one } else { other }
 }
 
 /// Puts the entry at the end of the history, which has room for it.

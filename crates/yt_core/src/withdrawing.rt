@@ -70,6 +70,7 @@ impl<'s> Core<'s> {
         let place = place_of(update);
         self.least = 0;
         self.most = u32::MAX;
+        self.unready = 0;
         withdraw_at(
             alloc,
             &self.mappings,

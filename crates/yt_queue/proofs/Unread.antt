@@ -1,7 +1,7 @@
 -- How far up the updates have read something.
-use Rattle.std.proofs.Common.{◌≡◌, ◌∙◌, ap, refl, sym, subst, ℕ, suc, ◌<◌, ◌≤◌, ◌+◌, List, [], ◌∷◌, map, length, get_or, drop, arith, drop-cons}
+use Rattle.std.proofs.Common.{◌≡◌, ◌∙◌, ap, sym, subst, ℕ, suc, ◌<◌, ◌≤◌, List, [], ◌∷◌, map, length, get_or, drop, drop-cons}
 use Rattle.std.proofs.lemmas.List.{drop_all, get_or-map, length-map}
-use Rattle.yt_machine.specs.Updates.{Update, Read}
+use Rattle.yt_machine.specs.Updates.{Update}
 use Rattle.yt_query.specs.Meanings.{read_of}
 use Rattle.yt_query.specs.declared.log.LoggedRead.{LoggedRead}
 use Rattle.yt_steps.specs.Chase.{caused_chase}

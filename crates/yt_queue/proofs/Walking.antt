@@ -101,7 +101,7 @@ all_over ms B rs i c all h g =
 
 -- ---- behind those that are committed
 
-dropped : {X Y : Type 0} (f : X → Y) (xs : List X) (k : ℕ) → map f (drop k xs) ≡ drop k (map f xs)
+pub dropped : {X Y : Type 0} (f : X → Y) (xs : List X) (k : ℕ) → map f (drop k xs) ≡ drop k (map f xs)
 dropped f [] zero = refl
 dropped f [] (suc k) = refl
 dropped f (x ∷ xs) zero = refl
@@ -215,10 +215,6 @@ ready_behind s rs rest c o h e first = first_behind (ready_test s c) (λ ms B n 
 
 pub deliverable_behind : (s : Settings) (rs rest : List Record) (c : ℕ) (o : Option ℕ) → HasCommitted rs c → rest ≡ drop c rs → IsFirst (deliverable_test s c) (suc c) rest o → IsFirst (deliverable_test s c) 1 rs o
 deliverable_behind s rs rest c o h e first = first_behind (deliverable_test s c) (λ ms B n u. deliverable_fails (caused_chase ms B) s c n u) rs rest c o (commits_so rs c h) e first
-
-pub besides_behind : (ns : List ℕ) (s : Settings) (rs rest : List Record) (c : ℕ) (o : Option ℕ) → HasCommitted rs c → rest ≡ drop c rs → IsFirst (besides_test ns s c) (suc c) rest o → IsFirst (besides_test ns s c) 1 rs o
-besides_behind ns s rs rest c o h e first =
-    first_behind (besides_test ns s c) (λ ms B n u over. ap (λ (b : Bool). b && not (has_number ns n)) (ready_fails (caused_chase ms B) s c n u over)) rs rest c o (commits_so rs c h) e first
 
 -- The next place and the next number.
 pub next_number : (i c : ℕ) → i + 1 + suc c ≡ suc (i + suc c)

@@ -1,5 +1,5 @@
 -- What is told of one record, for the machine of any mappings and any budget: c updates are committed, and the record has number n.
-use Rattle.std.specs.Prelude.{◌≡◌, ℕ, Bool, List, map, Option}
+use Rattle.std.specs.Prelude.{◌≡◌, ℕ, Bool, false, List, map, Option}
 use Rattle.std.specs.Option.{option_map}
 use Rattle.yt_base.specs.declared.updates.Write.{Write}
 use Rattle.yt_base.specs.Meanings.{change_of}
@@ -8,7 +8,8 @@ use Rattle.yt_entries.specs.Meanings.{standing_of}
 use Rattle.yt_frontier.specs.Inquiries.{Inquiry, inquiry_in}
 use Rattle.yt_machine.specs.Cascade.{is_live}
 use Rattle.yt_machine.specs.Standings.{standing, is_ready, is_deliverable, question_of}
-use Rattle.yt_machine.specs.Updates.{Settings, trail, is_over}
+use Rattle.yt_machine.specs.Machine.{Machine}
+use Rattle.yt_machine.specs.Updates.{Settings, Update, trail, is_over}
 use Rattle.yt_model.specs.Mappings.{Rule}
 use Rattle.yt_steps.specs.Chase.{caused_chase}
 use Rattle.yt_queue.specs.Queues.{update_of}
@@ -33,6 +34,14 @@ HasStanding s c n r st = (ms : List Rule) (B : ℕ) → standing_of st ≡ stand
 -- Whether it may make a step.
 abbrev pub IsReady : Settings → ℕ → ℕ → Record → Bool → Type 0
 IsReady s c n r b = (ms : List Rule) (B : ℕ) → b ≡ is_ready (standing (caused_chase ms B) s c n (update_of ms B r))
+
+-- The update is not ready, whatever the settings, its number, and how many are committed.
+abbrev pub CannotStep : (M : Machine) → Update M → Type 0
+CannotStep M u = (s : Settings) (c n : ℕ) → is_ready (standing M s c n u) ≡ false
+
+-- It is unready.
+abbrev pub IsUnready : Record → Type 0
+IsUnready r = (ms : List Rule) (B : ℕ) → CannotStep (caused_chase ms B) (update_of ms B r)
 
 -- Whether a recorded answer may be delivered to it.
 abbrev pub IsDeliverable : Settings → ℕ → ℕ → Record → Bool → Type 0

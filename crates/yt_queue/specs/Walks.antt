@@ -1,5 +1,5 @@
 -- What is told of a queue, for the machine of any mappings and any budget.
-use Rattle.std.specs.Prelude.{◌≡◌, ◌+◌, ◌≤◌, ℕ, Bool, not, ◌&&◌, List, [], ◌∷◌, drop, Option}
+use Rattle.std.specs.Prelude.{◌≡◌, ◌+◌, ◌≤◌, ℕ, zero, suc, Bool, not, ◌&&◌, List, [], ◌∷◌, drop, Option}
 use Rattle.yt_machine.specs.Cascade.{has_number}
 use Rattle.yt_machine.specs.Machine.{Machine}
 use Rattle.yt_machine.specs.Standings.{standing, is_ready, is_deliverable, lowest_that, lowest_ready, lowest_deliverable, is_quiet}
@@ -7,6 +7,7 @@ use Rattle.yt_machine.specs.Updates.{Settings, Update, committed}
 use Rattle.yt_model.specs.Mappings.{Rule}
 use Rattle.yt_steps.specs.Chase.{caused_chase}
 use Rattle.yt_queue.specs.Queues.{update_of, updates_of}
+use Rattle.yt_queue.specs.Records.{CannotStep}
 use Rattle.yt_queue.specs.declared.records.Record.{Record}
 
 -- So many updates are committed.
@@ -25,6 +26,16 @@ AreUnread M (u ∷ us) = (u.log ≡ []) × AreUnread M us
 -- At most the first so many have.
 abbrev pub ReadsAtMost : List Record → ℕ → Type 0
 ReadsAtMost rs n = (ms : List Rule) (B : ℕ) → AreUnread (caused_chase ms B) (drop n (updates_of ms B rs))
+
+-- The first so many of these updates are there, and none is ready, whatever the settings and however many are committed.
+abbrev pub AreUnready : (M : Machine) → ℕ → List (Update M) → Type 0
+AreUnready M zero us = Unit {0}
+AreUnready M (suc n) [] = ⊥
+AreUnready M (suc n) (u ∷ us) = CannotStep M u × AreUnready M n us
+
+-- The first so many are unready.
+abbrev pub UnreadyUpTo : List Record → ℕ → Type 0
+UnreadyUpTo rs n = (ms : List Rule) (B : ℕ) → AreUnready (caused_chase ms B) n (updates_of ms B rs)
 
 -- So many are, where c updates are committed and these come behind them.
 abbrev pub CommitsOn : ℕ → List Record → ℕ → Type 0

@@ -14,6 +14,7 @@ mod records;
 mod renewals;
 mod settings;
 mod standings;
+mod unready;
 mod walks;
 
 pub use crate::outcomes::{asked, has_spent, outcome, shown};
@@ -21,6 +22,7 @@ pub use crate::reading::reads_at_most;
 pub use crate::records::Record;
 pub use crate::renewals::{fresh_programs, restart_marked};
 pub use crate::settings::{Deps, Settings};
+pub use crate::unready::unready_from;
 pub use crate::walks::{
     committed, committed_from, is_quiet, lowest_deliverable, lowest_ready, lowest_ready_besides,
 };

@@ -9,7 +9,7 @@ ghost use Rattle.yt_program.specs.PointMeanings.{end_of};
 ghost use Rattle.yt_program.specs.Results.{lack_of};
 ghost use Rattle.yt_queue.specs.Settings.{settings_of};
 ghost use Rattle.yt_queue.specs.Programs.{IsBetween, HasNext};
-ghost use Rattle.yt_queue.specs.Records.{HasStanding, IsReady, IsDeliverable, HasQuestion};
+ghost use Rattle.yt_queue.specs.Records.{HasStanding, IsReady, IsUnready, IsDeliverable, HasQuestion};
 ghost use Rattle.yt_queue.specs.Wants.{unless_fits as unless_fits_lem, HasLack, IsHeld, WantsNext, StandsEnded, StandsGoing};
 
 use crate::outcomes::{asked, outcome};
@@ -55,6 +55,15 @@ impl Record {
         ensures ready { IsReady (settings_of settings) committed number self.now result }
     {
         is_ready(self.standing(settings, committed, number))
+    }
+
+    /// Whether the update is unready, whatever the settings and however many are committed: it was withdrawn, its attempt
+    /// has ended, or something is lacking at its question. It takes no memory.
+    pub fn is_unready(&self) -> bool
+        requires between { IsBetween self.now.program }
+        ensures unready { result ≡ true → IsUnready self.now }
+    {
+        self.is_over() || self.lack().is_some()
     }
 
     /// Whether a recorded answer may be delivered to the update: it is pending, and has one. It takes no memory.

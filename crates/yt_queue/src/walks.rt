@@ -1,10 +1,10 @@
 //! Which of the updates come first.
-ghost use Rattle.std.specs.Prelude.{◌≡◌, suc, drop, is_none as is_none_lem};
+ghost use Rattle.std.specs.Prelude.{◌≡◌, ◌≤◌, suc, drop, length, is_none as is_none_lem};
 ghost use Rattle.yt_machine.specs.Cascade.{has_number};
 ghost use Rattle.yt_queue.specs.Settings.{settings_of};
 ghost use Rattle.yt_queue.specs.Queues.{AreFrom};
 ghost use Rattle.yt_queue.specs.Programs.{IsBetween};
-ghost use Rattle.yt_queue.specs.Walks.{HasCommitted, CommitsAtLeast, CommitsOn, IsFirstReady, IsFirstDeliverable, IsFirstBesides, IsReadyBesides, IsLowestReady, IsLowestDeliverable, IsLowestBesides, IsQuiet};
+ghost use Rattle.yt_queue.specs.Walks.{HasCommitted, CommitsAtLeast, CommitsOn, IsFirstReady, IsFirstDeliverable, IsFirstBesides, IsReadyBesides, IsLowestReady, IsLowestDeliverable, IsLowestBesides, IsQuiet, UnreadyUpTo};
 
 use crate::records::Record;
 use crate::settings::Settings;
@@ -47,20 +47,22 @@ pub fn lowest_deliverable(queue: &[Record], settings: Settings, least: u32) -> O
     first_deliverable(behind(queue, committed), settings, committed)
 }
 
-/// The least number of a ready update that is none of these, if there is one, where at least so many are committed. It
-/// takes no memory.
+/// The least number of a ready update that is none of these, if there is one, where at least so many are committed, and
+/// the first are unready, so many; those are not looked at. It takes no memory.
 pub fn lowest_ready_besides(
     queue: &[Record],
     settings: Settings,
     least: u32,
+    unready: usize,
     numbers: &[u32],
 ) -> Option<u32>
     requires from { AreFrom 1 queue.now }
     requires least { CommitsAtLeast queue.now least }
+    requires unready { UnreadyUpTo queue.now unready }
     ensures lowest { IsLowestBesides numbers.now (settings_of settings) queue.now result }
 {
     let committed = committed_from(queue, least);
-    first_besides(behind(queue, committed), settings, committed, numbers)
+    first_besides(queue, unready, settings, committed, numbers)
 }
 
 /// Whether nothing is ready, and nothing is deliverable, where at least so many are committed. It takes no memory.
@@ -82,7 +84,15 @@ fn behind(queue: &[Record], first: u32) -> &[Record]
     requires first { CommitsAtLeast queue.now first }
     ensures rest { result.now ≡ drop first queue.now }
 {
-    &queue[first as usize..]
+    past(queue, first as usize)
+}
+
+// The updates past the first, so many.
+fn past(queue: &[Record], first: usize) -> &[Record]
+    requires there { first ≤ length queue.now }
+    ensures rest { result.now ≡ drop first queue.now }
+{
+    &queue[first..]
 }
 
 // How many updates are committed, where so many are, and these come behind them.
@@ -129,17 +139,20 @@ fn first_deliverable(rest: &[Record], settings: Settings, committed: u32) -> Opt
     None
 }
 
-// The least number of a ready update that is none of these, where so many are committed, and those come behind them.
+// The least number of a ready update past the first, so many, that is none of these, where so many are committed.
 fn first_besides(
-    rest: &[Record],
+    queue: &[Record],
+    first: usize,
     settings: Settings,
     committed: u32,
     numbers: &[u32],
 ) -> Option<u32>
-    requires from { AreFrom (suc committed) rest.now }
-    ensures first { IsFirstBesides numbers.now (settings_of settings) committed (suc committed)
-        rest.now result }
+    requires from { AreFrom 1 queue.now }
+    requires there { first ≤ length queue.now }
+    ensures first { IsFirstBesides numbers.now (settings_of settings) committed (suc first)
+        (drop first queue.now) result }
 {
+    let rest = past(queue, first);
     for record in rest {
         let number = record.number();
         if is_ready_besides(record, settings, committed, number, numbers) {

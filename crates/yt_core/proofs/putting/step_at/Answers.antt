@@ -1,6 +1,6 @@
 use Rattle.yt_queue.specs.Settings.{settings_of}
 use Rattle.yt_core.proofs.Delivering.{same_plan, steps_from}
-use Rattle.yt_core.proofs.Committing.{same_committed}
+use Rattle.yt_core.proofs.Committing.{same_committed, same_unready}
 use Rattle.yt_core.proofs.Unread.{same_unread}
 use Rattle.yt_core.proofs.putting.step_at.Goals as goal
 
@@ -17,3 +17,6 @@ returns-in-Ok-clause-made c =
 
 pub returns-in-Ok-clause-most : goal.returns-in-Ok-clause-most
 returns-in-Ok-clause-most c = λ n l h. c.put_step.ensures.most n l (same_unread c.args.queue.now c.ready_step.new.queue n c.ready_step.ensures.same h)
+
+pub returns-in-Ok-clause-unready : goal.returns-in-Ok-clause-unready
+returns-in-Ok-clause-unready c = λ n l h. c.put_step.ensures.unready n l (same_unready c.args.queue.now c.ready_step.new.queue n c.ready_step.ensures.same h)

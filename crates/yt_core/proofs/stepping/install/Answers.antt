@@ -1,5 +1,5 @@
 use Rattle.yt_core.proofs.Placing.{numbers_put, fresh_above, installed_is}
-use Rattle.yt_core.proofs.Committing.{committed_kept}
+use Rattle.yt_core.proofs.Committing.{committed_kept, unready_kept}
 use Rattle.yt_core.proofs.Unread.{unread_kept}
 use Rattle.yt_core.proofs.stepping.install.Goals as goal
 
@@ -20,3 +20,6 @@ returns-clause-least c = committed_kept c.args.queue.now c.restart_marked.new.qu
 
 pub returns-clause-most : goal.returns-clause-most
 returns-clause-most c = unread_kept c.args.queue.now c.restart_marked.new.queue c.args.place c.follow.new.self c.args.fresh.items c.restart_marked.ensures.restarted
+
+pub returns-clause-unready : goal.returns-clause-unready
+returns-clause-unready c = unready_kept c.args.queue.now c.restart_marked.new.queue c.args.place c.follow.new.self c.args.fresh.items c.restart_marked.ensures.restarted

@@ -1,4 +1,4 @@
-use Rattle.std.proofs.Common.{◌≡◌, ◌<◌, ◌≤◌, ◌-◌, sym, subst, ℕ, suc, length, arith}
+use Rattle.std.proofs.Common.{◌≡◌, ◌<◌, ◌-◌, sym, subst, ℕ, suc, length, arith}
 use Rattle.yt_queue.proofs.Unread.{one_fewer}
 use Rattle.yt_queue.specs.Walks.{ReadsAtMost}
 use Rattle.yt_queue.proofs.reading.reads_at_most.Goals as goal

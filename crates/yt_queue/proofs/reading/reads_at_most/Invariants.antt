@@ -1,4 +1,4 @@
-use Rattle.std.proofs.Common.{ℕ, ◌≤◌, length}
+use Rattle.std.proofs.Common.{◌≤◌, length}
 use Rattle.yt_queue.specs.Walks.{ReadsAtMost}
 use Rattle.yt_queue.proofs.reading.reads_at_most.Given as goal
 

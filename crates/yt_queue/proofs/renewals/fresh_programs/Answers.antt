@@ -1,4 +1,4 @@
-use Rattle.std.proofs.Common.{◌∙◌, ap, sym, subst, [], List, map}
+use Rattle.std.proofs.Common.{◌∙◌, ap, sym, subst, [], map}
 use Rattle.std.specs.Prelude.{is_some}
 use Rattle.std.proofs.lemmas.List.{append-nil, drop_all}
 use Rattle.yt_queue.specs.Renewals.{AreFresh}

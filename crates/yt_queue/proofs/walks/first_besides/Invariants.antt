@@ -6,6 +6,6 @@ use Rattle.yt_queue.proofs.walks.first_besides.Given as goal
 
 abbrev pub invariant-loop-record : goal.invariant-loop-record
 invariant-loop-record l = record {
-  from : AreFrom (l.record-index + suc l.committed) (drop l.record-index l.rest);
-  left : (o : Option ℕ) → IsFirstBesides l.numbers (settings_of l.settings) l.committed (l.record-index + suc l.committed) (drop l.record-index l.rest) o → IsFirstBesides l.numbers (settings_of l.settings) l.committed (suc l.committed) l.rest o;
+  from : AreFrom (l.record-index + suc l.first) (drop l.record-index l.rest);
+  left : (o : Option ℕ) → IsFirstBesides l.numbers (settings_of l.settings) l.committed (l.record-index + suc l.first) (drop l.record-index l.rest) o → IsFirstBesides l.numbers (settings_of l.settings) l.committed (suc l.first) l.rest o;
 }

@@ -5,16 +5,14 @@ use Rattle.yt_machine.specs.Standings.{standing, is_ready, lowest_that}
 use Rattle.yt_steps.specs.Chase.{caused_chase}
 use Rattle.yt_queue.specs.Settings.{settings_of}
 use Rattle.yt_queue.specs.Queues.{updates_of}
-use Rattle.yt_queue.proofs.Walking.{behind_from, commits_so, besides_behind}
+use Rattle.yt_queue.proofs.Skipping.{besides_past, unready_there}
 use Rattle.yt_queue.proofs.walks.lowest_ready_besides.Goals as goal
 
-pub behind-requires : goal.behind-requires
-behind-requires c = record { first = commits_so c.args.queue.now c.committed_from-committed.result c.committed_from-committed.ensures.committed }
-
-pub first_besides-requires : goal.first_besides-requires
-first_besides-requires c = record { from = behind_from c.args.queue.now c.behind.result.now c.committed_from-committed.result (commits_so c.args.queue.now c.committed_from-committed.result c.committed_from-committed.ensures.committed) c.requires.from c.behind.ensures.rest }
+pub first_besides-requires-clause-there : goal.first_besides-requires-clause-there
+first_besides-requires-clause-there c = unready_there c.args.queue.now c.args.unready c.requires.unready
 
 pub returns : goal.returns
 returns c = record {
-  lowest = λ ms B. besides_behind c.args.numbers.now (settings_of c.args.settings) c.args.queue.now c.behind.result.now c.committed_from-committed.result c.first_besides.result c.committed_from-committed.ensures.committed c.behind.ensures.rest c.first_besides.ensures.first ms B ∙ ap (λ (k : ℕ). lowest_that {M = caused_chase ms B} (λ i u. is_ready (standing (caused_chase ms B) (settings_of c.args.settings) k i u) && not (has_number c.args.numbers.now i)) 1 (updates_of ms B c.args.queue.now)) (c.committed_from-committed.ensures.committed ms B);
+  lowest = λ ms B. besides_past c.args.numbers.now (settings_of c.args.settings) c.committed_from-committed.result c.args.queue.now c.args.unready c.first_besides.result c.requires.unready c.first_besides.ensures.first ms B
+      ∙ ap (λ (k : ℕ). lowest_that {M = caused_chase ms B} (λ i u. is_ready (standing (caused_chase ms B) (settings_of c.args.settings) k i u) && not (has_number c.args.numbers.now i)) 1 (updates_of ms B c.args.queue.now)) (c.committed_from-committed.ensures.committed ms B);
 }

@@ -3,11 +3,11 @@ use Rattle.yt_entries.specs.Meanings.{entry_of}
 use Rattle.yt_query.specs.Meanings.{read_of}
 use Rattle.yt_queue.specs.Queues.{AreFrom}
 use Rattle.yt_queue.specs.Renewals.{AllHaveOneMore}
-use Rattle.yt_queue.specs.Walks.{CommitsAtLeast, ReadsAtMost}
+use Rattle.yt_queue.specs.Walks.{CommitsAtLeast, ReadsAtMost, UnreadyUpTo}
 use Rattle.yt_queue.specs.declared.records.Record.{Record}
 use Rattle.yt_core.specs.Planned.{PlanMeant}
 use Rattle.yt_core.proofs.Making.{some_number, ready_within, all_one_more, plan_ready, plan_between, core_steps, kept_ok, kept_err, has_stepped}
-use Rattle.yt_core.proofs.Committing.{least_ok}
+use Rattle.yt_core.proofs.Committing.{least_ok, fewer_unready}
 use Rattle.yt_core.proofs.Unread.{with_nothing_noted, most_ok, more_read}
 use Rattle.yt_core.proofs.cores.Core.install.Goals as goal
 
@@ -69,6 +69,8 @@ invariant_of-self-2 c = (
       (c.in_ok-committed.ensures.most c.raised-self-inside.result (let u = c.raised-self-inside.ensures.update in let p = c.place_of-place.ensures in omega (arith, u, p))
       (more_read c.deref_mut.result.now c.reads_at_most-most.result c.raised-self-inside.result c.raised-self-inside.ensures.most
       (subst (λ (rs : List Record). ReadsAtMost rs c.reads_at_most-most.result) (c.deref.ensures.value ∙ sym c.deref_mut.ensures.value) c.reads_at_most-most.ensures.most))),
+  unready_ok c.step_at.new.queue (drop (length c.step_at.new.queue) c.self.inside.queue.items) c.self.inside.queue.len c.unready_from-self-inside.result (omega arith)
+      (subst (λ (rs : List Record). UnreadyUpTo rs c.unready_from-self-inside.result) (front c.step_at.new.queue (drop (length c.step_at.new.queue) c.self.inside.queue.items) c.self.inside.queue.len (omega arith)) c.unready_from-self-inside.ensures.unready),
 )
 
 pub returns-clause-made : goal.returns-clause-made

@@ -3,7 +3,7 @@ use Rattle.yt_queue.specs.Settings.{settings_of}
 use Rattle.yt_queue.specs.declared.records.Record.{Record}
 use Rattle.yt_queue.specs.Walks.{IsLowestBesides}
 use Rattle.yt_core.proofs.Telling.{besides_told}
-use Rattle.yt_queue.specs.Walks.{CommitsAtLeast}
+use Rattle.yt_queue.specs.Walks.{CommitsAtLeast, UnreadyUpTo}
 use Rattle.yt_core.proofs.cores.Core.lowest_ready_besides.Goals as goal
 
 pub returns : goal.returns
@@ -16,3 +16,6 @@ returns c =
 
 pub lowest_ready_besides-requires-clause-least : goal.lowest_ready_besides-requires-clause-least
 lowest_ready_besides-requires-clause-least c = subst (λ (rs : List Record). CommitsAtLeast rs c.self.inside.least) (sym c.deref.ensures.value) c.self.invariant.1
+
+pub lowest_ready_besides-requires-clause-unready : goal.lowest_ready_besides-requires-clause-unready
+lowest_ready_besides-requires-clause-unready c = subst (λ (rs : List Record). UnreadyUpTo rs c.self.inside.unready) (sym c.deref.ensures.value) c.self.invariant.3
