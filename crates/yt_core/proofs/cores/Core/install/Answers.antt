@@ -7,7 +7,7 @@ use Rattle.yt_queue.specs.Walks.{CommitsAtLeast, ReadsAtMost, UnreadyUpTo}
 use Rattle.yt_queue.specs.declared.records.Record.{Record}
 use Rattle.yt_core.specs.Planned.{PlanMeant}
 use Rattle.yt_core.proofs.Making.{some_number, ready_within, all_one_more, plan_ready, plan_between, core_steps, kept_ok, kept_err, has_stepped}
-use Rattle.yt_core.proofs.Committing.{least_ok, fewer_unready}
+use Rattle.yt_core.proofs.Committing.{least_ok, fewer_unready, unready_ok}
 use Rattle.yt_core.proofs.Unread.{with_nothing_noted, most_ok, more_read}
 use Rattle.yt_core.proofs.cores.Core.install.Goals as goal
 
@@ -69,8 +69,7 @@ invariant_of-self-2 c = (
       (c.in_ok-committed.ensures.most c.raised-self-inside.result (let u = c.raised-self-inside.ensures.update in let p = c.place_of-place.ensures in omega (arith, u, p))
       (more_read c.deref_mut.result.now c.reads_at_most-most.result c.raised-self-inside.result c.raised-self-inside.ensures.most
       (subst (λ (rs : List Record). ReadsAtMost rs c.reads_at_most-most.result) (c.deref.ensures.value ∙ sym c.deref_mut.ensures.value) c.reads_at_most-most.ensures.most))),
-  unready_ok c.step_at.new.queue (drop (length c.step_at.new.queue) c.self.inside.queue.items) c.self.inside.queue.len c.unready_from-self-inside.result (omega arith)
-      (subst (λ (rs : List Record). UnreadyUpTo rs c.unready_from-self-inside.result) (front c.step_at.new.queue (drop (length c.step_at.new.queue) c.self.inside.queue.items) c.self.inside.queue.len (omega arith)) c.unready_from-self-inside.ensures.unready),
+  subst (λ (rs : List Record). UnreadyUpTo rs c.unready_from-self-inside.result) c.deref-2.ensures.value c.unready_from-self-inside.ensures.unready,
 )
 
 pub returns-clause-made : goal.returns-clause-made
@@ -80,3 +79,18 @@ returns-clause-made c =
     (c.place_of-place.ensures ∙ ap (λ (p : PlanMeant). p.update) c.plan.view_is) c.deref_mut.result.now c.deref_mut.ensures.value c.plan.inside.step c.args.plan
     (ap (λ (n : ℕ). record { update = n; program = c.plan.inside.step.program; reads = map read_of c.plan.inside.step.reads.items }) (sym (ap (λ (p : PlanMeant). p.update) c.plan.view_is)) ∙ c.plan.view_is) c.requires.step
     c.step_at.new.versions c.step_at.new.queue c.step_at.new.history.items c.in_ok-committed.ensures.made)
+
+pub unready_from-self-inside-requires-clause-from : goal.unready_from-self-inside-requires-clause-from
+unready_from-self-inside-requires-clause-from c =
+    subst (λ (rs : List Record). AreFrom 1 rs) (sym c.deref-2.ensures.value) (kept_ok _ c.step_at.new.versions c.step_at.new.queue (drop (length c.step_at.new.queue) c.self.inside.queue.items) c.self.inside.queue.len (map entry_of c.step_at.new.history.items) (omega arith)
+      (core_steps _ c.self.inside.versions c.self.inside.queue.items c.self.inside.history.items _ c.self.invariant.0 c.self.view_is c.args.plan.update c.requires.ready c.place_of-place.result
+      (c.place_of-place.ensures ∙ ap (λ (p : PlanMeant). p.update) c.plan.view_is) c.deref_mut.result.now c.deref_mut.ensures.value c.plan.inside.step c.args.plan
+      (ap (λ (n : ℕ). record { update = n; program = c.plan.inside.step.program; reads = map read_of c.plan.inside.step.reads.items }) (sym (ap (λ (p : PlanMeant). p.update) c.plan.view_is)) ∙ c.plan.view_is) c.requires.step
+      c.step_at.new.versions c.step_at.new.queue c.step_at.new.history.items c.in_ok-committed.ensures.made).kept).numbers
+
+pub unready_from-self-inside-requires-clause-first : goal.unready_from-self-inside-requires-clause-first
+unready_from-self-inside-requires-clause-first c =
+    subst (λ (rs : List Record). UnreadyUpTo rs c.lesser-below.result) (sym c.deref-2.ensures.value)
+    (unready_ok c.step_at.new.queue (drop (length c.step_at.new.queue) c.self.inside.queue.items) c.self.inside.queue.len c.lesser-below.result (omega arith)
+    (c.in_ok-committed.ensures.unready c.lesser-below.result c.lesser-below.ensures.other
+    (fewer_unready c.deref_mut.result.now c.self.inside.unready c.lesser-below.result c.lesser-below.ensures.one (subst (λ (rs : List Record). UnreadyUpTo rs c.self.inside.unready) (sym c.deref_mut.ensures.value) c.self.invariant.3))))
