@@ -1,8 +1,10 @@
 -- Which reads depend on what is lost, in the terms of the program.
-use Rattle.std.specs.Prelude.{ℕ, List, [], ◌∷◌, map, Bool, if◌then◌else◌, Option}
+use Rattle.std.specs.Prelude.{◌≡◌, ℕ, List, [], ◌∷◌, map, Bool, if◌then◌else◌, Option}
 use Rattle.std.specs.List.{list_any}
 use Rattle.std.specs.Option.{option_map}
 use Rattle.yt_conflict.specs.Changes.{Changed, Numbered, first_from, first_changed}
+use Rattle.yt_conflict.specs.Concerns.{is_met}
+use Rattle.yt_model.specs.Violations.{Direction}
 use Rattle.yt_conflict.specs.Trails.{writes_of, trails_of}
 use Rattle.yt_conflict.specs.declared.concerns.Sense.{Sense}
 use Rattle.yt_conflict.specs.declared.concerns.Sense.TheVariants.{Went}
@@ -42,6 +44,15 @@ numbered_of x = record { number = x.number; read = read_of x.read.now }
 abbrev pub first_changed_in : List Rule → Kept → Sense → List (List Change) → Record → Option Changed
 first_changed_in ms v g trails r =
     first_changed ms (direction_of r.program.attempt.operation) (seen r.program.attempt.number v) r.program.attempt.own g trails (map read_of r.log.items)
+
+-- A write of the ones meets a read of the list exactly where a write of the others does, which all went.
+abbrev pub AreMetAlike : List Rule → Direction → List Change → List (List Change) → List (List Change) → List Read → Type 0
+AreMetAlike ms h own ts us [] = Unit {0}
+AreMetAlike ms h own ts us (q ∷ qs) = (is_met ms h own Went ts q ≡ is_met ms h own Went us q) × AreMetAlike ms h own ts us qs
+
+-- The same of the reads of a record.
+abbrev pub MeetAlike : List Rule → List (List Change) → List (List Change) → Record → Type 0
+MeetAlike ms ts us r = AreMetAlike ms (direction_of r.program.attempt.operation) r.program.attempt.own ts us (map read_of r.log.items)
 
 -- The same without its value there, where these trails are lost.
 abbrev pub first_invalid : List Rule → Kept → List Trail → Record → Option Numbered
