@@ -4,7 +4,6 @@ use Rattle.std.specs.List.{list_any}
 use Rattle.std.specs.Option.{option_map}
 use Rattle.yt_conflict.specs.Changes.{Changed, Numbered, first_from, first_changed}
 use Rattle.yt_conflict.specs.Concerns.{is_met}
-use Rattle.yt_model.specs.Violations.{Direction}
 use Rattle.yt_conflict.specs.Trails.{writes_of, trails_of}
 use Rattle.yt_conflict.specs.declared.concerns.Sense.{Sense}
 use Rattle.yt_conflict.specs.declared.concerns.Sense.TheVariants.{Went}
@@ -14,6 +13,7 @@ use Rattle.yt_model.specs.Mappings.{Rule}
 use Rattle.yt_model.specs.Mentions.{mentions}
 use Rattle.yt_model.specs.Repository.{Change}
 use Rattle.yt_model.specs.Updates.{direction_of}
+use Rattle.yt_model.specs.Violations.{Direction}
 use Rattle.yt_query.specs.Meanings.{Read, read_of}
 use Rattle.yt_queue.specs.declared.records.Record.{Record}
 use Rattle.yt_steps.specs.Chase.{relation_of}
@@ -35,6 +35,15 @@ abbrev pub least_writer : List Rule → Read → List Trail → ℕ
 least_writer ms r [] = 0
 least_writer ms r (t ∷ ts) = if is_reached ms r (writes_of t) then t.update else least_writer ms r ts
 
+-- A write of the first trails meets a read of the list exactly where one of the second does; all of them went.
+abbrev pub AreMetAlike : List Rule → Direction → List Change → List (List Change) → List (List Change) → List Read → Type 0
+AreMetAlike ms h own ts us [] = Unit {0}
+AreMetAlike ms h own ts us (q ∷ qs) = (is_met ms h own Went ts q ≡ is_met ms h own Went us q) × AreMetAlike ms h own ts us qs
+
+-- The same of the reads of a record.
+abbrev pub MeetAlike : List Rule → List (List Change) → List (List Change) → Record → Type 0
+MeetAlike ms ts us r = AreMetAlike ms (direction_of r.program.attempt.operation) r.program.attempt.own ts us (map read_of r.log.items)
+
 -- The numbered read that a `Numbered` stands for.
 abbrev pub numbered_of : NumberedOfProgram → Numbered
 numbered_of x = record { number = x.number; read = read_of x.read.now }
@@ -44,15 +53,6 @@ numbered_of x = record { number = x.number; read = read_of x.read.now }
 abbrev pub first_changed_in : List Rule → Kept → Sense → List (List Change) → Record → Option Changed
 first_changed_in ms v g trails r =
     first_changed ms (direction_of r.program.attempt.operation) (seen r.program.attempt.number v) r.program.attempt.own g trails (map read_of r.log.items)
-
--- A write of the ones meets a read of the list exactly where a write of the others does, which all went.
-abbrev pub AreMetAlike : List Rule → Direction → List Change → List (List Change) → List (List Change) → List Read → Type 0
-AreMetAlike ms h own ts us [] = Unit {0}
-AreMetAlike ms h own ts us (q ∷ qs) = (is_met ms h own Went ts q ≡ is_met ms h own Went us q) × AreMetAlike ms h own ts us qs
-
--- The same of the reads of a record.
-abbrev pub MeetAlike : List Rule → List (List Change) → List (List Change) → Record → Type 0
-MeetAlike ms ts us r = AreMetAlike ms (direction_of r.program.attempt.operation) r.program.attempt.own ts us (map read_of r.log.items)
 
 -- The same without its value there, where these trails are lost.
 abbrev pub first_invalid : List Rule → Kept → List Trail → Record → Option Numbered
