@@ -3,3 +3,4 @@ pub mod Reasons
 pub mod Holding
 pub mod Turns
 pub mod Padding
+pub mod Meeting

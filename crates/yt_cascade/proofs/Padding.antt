@@ -2,11 +2,9 @@
 use Rattle.std.proofs.Common.{◌≡◌, ◌∙◌, ap, refl, sym, ℕ, zero, suc, ◌+◌, ◌-◌, ◌≤◌, List, [], ◌∷◌, ◌++◌, Option, Some, None, is_some, false, subst, append_assoc, append-nil, length, drop, map, add-one, arith}
 use Rattle.std.proofs.lemmas.List.{length-append, length-drop, map-append}
 use Rattle.yt_entries.specs.declared.causes.Cause.{Cause as CauseOfProgram}
-use Rattle.yt_machine.specs.Cascade.{Cause}
 use Rattle.yt_model.proofs.Bools.{differ}
 use Rattle.yt_model.specs.Mappings.{Rule}
 use Rattle.yt_queue.specs.declared.records.Record.{Record}
-use Rattle.yt_steps.specs.Chase.{caused_chase}
 use Rattle.yt_cascade.specs.Meanings.{all_found, found_of, no_cause, found_for}
 use Rattle.yt_cascade.specs.Walks.{nones, padded}
 

@@ -1,5 +1,5 @@
 -- What is found for one reader is its cause in a history.
-use Rattle.std.proofs.Common.{◌≡◌, ◌∙◌, ap, refl, sym, subst, ℕ, suc, ◌≤◌, Bool, true, false, not, ◌&&◌, ◌↔◌, List, [], ◌∷◌, map, take, Option, Some, None, nat_lt}
+use Rattle.std.proofs.Common.{◌≡◌, ◌∙◌, ap, refl, sym, ℕ, suc, ◌≤◌, Bool, true, false, not, ◌&&◌, ◌↔◌, List, [], ◌∷◌, map, take, Option, Some, None, nat_lt}
 use Rattle.std.proofs.lemmas.Bool.{and_parts, and_from}
 use Rattle.std.proofs.lemmas.Option.{none-some}
 use Rattle.std.specs.Prelude.{if◌then◌else◌}
@@ -42,7 +42,7 @@ use Rattle.yt_versions.specs.Standing.{Kept, seen}
 use Rattle.yt_cascade.specs.declared.lost.Lost.{Lost}
 use Rattle.yt_cascade.specs.Meanings.{Above, found_of, members_of}
 use Rattle.yt_cascade.specs.Reached.{any_reached, first_changed_in, first_by, first_dependent}
-use Rattle.yt_cascade.specs.Walks.{number_of, is_live_in, may_have_cause, conflict_meant, dependence_meant, HasFootprint, HasImpact, HasLostImpact, IsConflictFor, IsDependenceFor, IsCauseFor, LooksFor, RanBelow}
+use Rattle.yt_cascade.specs.Walks.{number_of, is_live_in, may_have_cause, conflict_meant, dependence_meant, HasFootprint, HasImpact, IsConflictFor, IsDependenceFor, IsCauseFor, RanBelow}
 use Rattle.yt_cascade.proofs.Firsts.{paired, first_is, reached_is, writer_is}
 
 -- ---- where a cause is looked for
@@ -341,20 +341,3 @@ unmet_conflict a ws r v f i n =
     ap (option_map (conflict_meant a.update (number_of r)))
     (none_changed a.rules (direction_of r.program.attempt.operation) (seen (number_of r) a.whole) r.program.attempt.own a.sense (ws ∷ []) (map read_of r.log.items)
     (n a.rules a.sense r.program.attempt.own (ws ∷ []) (map read_of r.log.items) f i))
-
--- One that has nothing to do with what is lost has no dependence.
-pub unmet_dependence : (a : Above) (lost : Lost) (r : Record) → a.deps ≡ Precise → HasFootprint r → HasLostImpact a.rules lost → IsNoneMet (direction_of r.program.attempt.operation) r.footprint lost.impact → first_dependent a lost r ≡ None
-unmet_dependence a lost r e f i n =
-    let t : List (List Change) = trails_of lost.members.items in
-    ap (λ d. first_by d a.rules lost r) e
-    ∙ sym (ap (option_map (λ (c : Changed). record { number = c.number; read = c.read }))
-    (none_changed a.rules (direction_of r.program.attempt.operation) (seen (number_of r) lost.without) r.program.attempt.own Went t (map read_of r.log.items)
-    (n a.rules Went r.program.attempt.own t (map read_of r.log.items) f i)))
-
--- Without such a read there is none.
-pub no_dependence : (a : Above) (lost : Lost) (r : Record) → first_dependent a lost r ≡ None → IsDependenceFor a lost r None
-no_dependence a lost r e = by (is_nil lost.members.items)
-  where
-    by : (b : Bool) → None ≡ (if b then None else option_map (dependence_meant a.rules lost.members.items (number_of r)) (first_dependent a lost r))
-    by true = refl
-    by false = sym (ap (option_map (dependence_meant a.rules lost.members.items (number_of r))) e)

@@ -1,5 +1,5 @@
 -- One turn of the walk upwards.
-use Rattle.std.proofs.Common.{◌≡◌, ◌∙◌, ap, refl, sym, subst, ℕ, suc, ◌+◌, ◌<◌, ◌≤◌, Bool, true, false, List, [], ◌∷◌, ◌++◌, Option, Some, None, is_some, append_assoc, append-nil, length, drop, get_or, map}
+use Rattle.std.proofs.Common.{◌≡◌, ◌∙◌, ap, refl, sym, subst, ℕ, suc, ◌+◌, ◌<◌, ◌≤◌, Bool, true, false, List, [], ◌∷◌, ◌++◌, Option, Some, None, is_some, append_assoc, length, drop, get_or, map}
 use Rattle.std.proofs.lemmas.Bool.{both_ways}
 use Rattle.std.proofs.lemmas.List.{drop_more, map-append, drop-map}
 use Rattle.yt_conflict.specs.Concerns.{AgreeBut}
@@ -13,7 +13,6 @@ use Rattle.std.specs.Option.{option_map}
 use Rattle.yt_machine.specs.Cascade.{Cause, Conflict, Depends, Member, is_live, read_depends, writer_for, with_member, without_member}
 use Rattle.yt_machine.specs.Machine.{Machine}
 use Rattle.yt_machine.specs.Reads.{Changed, first_that, is_valid, value_now}
-use Rattle.yt_machine.specs.Runs.{AreRuns}
 use Rattle.yt_machine.specs.Settle.{cause_of, settle}
 use Rattle.yt_machine.specs.Standings.{is_nil}
 use Rattle.yt_machine.specs.Updates.{Read, Update, Deps, trail}
@@ -28,7 +27,7 @@ use Rattle.yt_queue.specs.declared.records.Record.{Record}
 use Rattle.yt_steps.specs.Chase.{caused_chase}
 use Rattle.yt_versions.specs.Standing.{Kept, seen, Retracted}
 use Rattle.yt_cascade.specs.declared.lost.Lost.{Lost}
-use Rattle.yt_cascade.specs.Held.{HoldFrom, AreVersions, laid, above}
+use Rattle.yt_cascade.specs.Held.{HoldFrom, laid, above}
 use Rattle.yt_cascade.specs.Meanings.{Above, found_of, all_found, no_cause, found_for, members_of}
 use Rattle.yt_cascade.specs.Causes.{AreCausesOfWrites, AreCausesOfLoss}
 use Rattle.yt_cascade.specs.Walks.{IsCauseFor, Loses, LosesWhere, LeavesLost, LooksFor, RanBelow, StandAbove, AreFound, number_of}

@@ -1,8 +1,9 @@
 -- Which reads depend on what is lost, in the terms of the program.
-use Rattle.std.specs.Prelude.{ℕ, List, [], ◌∷◌, map, Bool, if◌then◌else◌, Option}
+use Rattle.std.specs.Prelude.{◌≡◌, ℕ, List, [], ◌∷◌, map, Bool, if◌then◌else◌, Option}
 use Rattle.std.specs.List.{list_any}
 use Rattle.std.specs.Option.{option_map}
 use Rattle.yt_conflict.specs.Changes.{Changed, Numbered, first_from, first_changed}
+use Rattle.yt_conflict.specs.Concerns.{is_met}
 use Rattle.yt_conflict.specs.Trails.{writes_of, trails_of}
 use Rattle.yt_conflict.specs.declared.concerns.Sense.{Sense}
 use Rattle.yt_conflict.specs.declared.concerns.Sense.TheVariants.{Went}
@@ -12,6 +13,7 @@ use Rattle.yt_model.specs.Mappings.{Rule}
 use Rattle.yt_model.specs.Mentions.{mentions}
 use Rattle.yt_model.specs.Repository.{Change}
 use Rattle.yt_model.specs.Updates.{direction_of}
+use Rattle.yt_model.specs.Violations.{Direction}
 use Rattle.yt_query.specs.Meanings.{Read, read_of}
 use Rattle.yt_queue.specs.declared.records.Record.{Record}
 use Rattle.yt_steps.specs.Chase.{relation_of}
@@ -32,6 +34,15 @@ any_reached ms trails r = list_any (λ ws. is_reached ms r ws) trails
 abbrev pub least_writer : List Rule → Read → List Trail → ℕ
 least_writer ms r [] = 0
 least_writer ms r (t ∷ ts) = if is_reached ms r (writes_of t) then t.update else least_writer ms r ts
+
+-- A write of the first trails meets a read of the list exactly where one of the second does; all of them went.
+abbrev pub AreMetAlike : List Rule → Direction → List Change → List (List Change) → List (List Change) → List Read → Type 0
+AreMetAlike ms h own ts us [] = Unit {0}
+AreMetAlike ms h own ts us (q ∷ qs) = (is_met ms h own Went ts q ≡ is_met ms h own Went us q) × AreMetAlike ms h own ts us qs
+
+-- The same of the reads of a record.
+abbrev pub MeetAlike : List Rule → List (List Change) → List (List Change) → Record → Type 0
+MeetAlike ms ts us r = AreMetAlike ms (direction_of r.program.attempt.operation) r.program.attempt.own ts us (map read_of r.log.items)
 
 -- The numbered read that a `Numbered` stands for.
 abbrev pub numbered_of : NumberedOfProgram → Numbered

@@ -1,11 +1,12 @@
 -- What each part of the walk finds and leaves.
 use Rattle.std.specs.Prelude.{◌≡◌, ◌≤◌, ℕ, zero, suc, ◌-◌, nat_lt, Bool, true, false, not, ◌&&◌, List, [], ◌∷◌, ◌++◌, length, map, Option, None, if◌then◌else◌}
+use Rattle.std.specs.List.{list_all}
 use Rattle.std.specs.Option.{option_map}
 use Rattle.yt_conflict.specs.Changes.{Changed, Numbered}
 use Rattle.yt_conflict.specs.Concerns.{AgreeBut}
 use Rattle.yt_conflict.specs.Footprints.{Covers}
 use Rattle.yt_conflict.specs.Impacts.{has_trails}
-use Rattle.yt_conflict.specs.Trails.{trails_of}
+use Rattle.yt_conflict.specs.Trails.{writes_of, trails_of}
 use Rattle.yt_conflict.specs.declared.impacts.Impact.{Impact}
 use Rattle.yt_conflict.specs.declared.concerns.Sense.{Sense}
 use Rattle.yt_conflict.specs.declared.concerns.Sense.TheVariants.{Went}
@@ -65,9 +66,13 @@ HasFootprint r = Covers r.footprint r.program.attempt.own (map read_of r.log.ite
 abbrev pub HasImpact : Above → List Change → Impact → Type 0
 HasImpact a ws v = has_trails v a.rules a.sense (ws ∷ []) ≡ true
 
--- What is lost has that of the trails of its members, which went.
+-- The trail has that of its writes, which went.
+abbrev pub has_own_impact : List Rule → Trail → Bool
+has_own_impact ms t = has_trails t.impact ms Went (writes_of t ∷ [])
+
+-- The trails of the members have theirs.
 abbrev pub HasLostImpact : List Rule → Lost → Type 0
-HasLostImpact ms lost = has_trails lost.impact ms Went (trails_of lost.members.items) ≡ true
+HasLostImpact ms lost = list_all (has_own_impact ms) lost.members.items ≡ true
 
 -- So many times no cause.
 abbrev pub nones : ℕ → List (Option Cause)

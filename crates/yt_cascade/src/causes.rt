@@ -1,8 +1,7 @@
 //! Why one update is restarted.
-ghost use Rattle.std.specs.Prelude.{◌≡◌, false, map, None, IfOk};
+ghost use Rattle.std.specs.Prelude.{◌≡◌, map, IfOk};
 ghost use Rattle.yt_base.specs.Meanings.{change_of};
 ghost use Rattle.yt_cascade.specs.Meanings.{above_of};
-ghost use Rattle.yt_cascade.specs.Reached.{first_dependent};
 ghost use Rattle.yt_cascade.specs.Walks.{HasFootprint, HasImpact, HasLostImpact, IsCauseFor, IsConflict, IsConflictFor, IsDependenceFor, may_have_cause as may_have_cause_lem};
 
 use crate::cascades::Cascade;
@@ -11,7 +10,7 @@ use std::alloc::Global;
 use yt_base::{Memory, TryCopy, Write};
 use yt_conflict::{Changed, Impact, Trail, first_changed};
 use yt_entries::Cause;
-use yt_queue::{Deps, Record};
+use yt_queue::Record;
 
 impl<'a> Cascade<'a> {
     /// Why the reader is restarted, if it is: for its conflict with the writes, or else for a dependence on the trails that
@@ -72,7 +71,7 @@ impl<'a> Cascade<'a> {
         {
             return Ok(None);
         }
-        let cause = self.conflict_for(alloc, written, reader)?;
+        let cause = self.conflict_for(alloc, written, impact, reader)?;
         Ok(cause)
     }
 
@@ -82,6 +81,7 @@ impl<'a> Cascade<'a> {
         &self,
         alloc: Global,
         written: &[Write],
+        impact: &Impact,
         reader: &Record,
     ) -> Result<Option<Cause>, Memory>
         ensures conflict { IfOk result
@@ -94,6 +94,7 @@ impl<'a> Cascade<'a> {
         let trails = [Trail {
             update: self.update,
             writes: written,
+            impact: *impact,
         }];
         let changed = first_changed(
             alloc,
@@ -144,9 +145,6 @@ impl<'a> Cascade<'a> {
         if lost.members.is_empty() {
             return Ok(None);
         }
-        if !self.may_depend(lost, reader) {
-            return Ok(None);
-        }
         match self.first_dependent(alloc, lost, reader)? {
             Some(found) => Ok(Some(Cause::Depends {
                 reader: reader.number(),
@@ -154,20 +152,6 @@ impl<'a> Cascade<'a> {
                 on: lost.writer_for(self.mappings.list(), found.read),
             })),
             None => Ok(None),
-        }
-    }
-    // Whether the reader may depend on the trails that are lost below it.
-    fn may_depend(&self, lost: &Lost<'_>, reader: &Record) -> bool
-        requires covers { HasFootprint reader.now }
-        requires lost { HasLostImpact self.now.mappings.now lost.now }
-        ensures none { result ≡ false → first_dependent (above_of self.now) lost.now reader.now ≡
-            None }
-    {
-        match self.deps {
-            Deps::Precise => reader
-                .footprint
-                .may_be_met(reader.program.direction(), &lost.impact),
-            Deps::Coarse => true,
         }
     }
 }

@@ -19,13 +19,11 @@ use yt_query::{LoggedRead, mentions};
 use yt_queue::Record;
 use yt_versions::Versions;
 
-/// The versions without the trails that are lost, and the updates whose trails these were, in number order; and what an attempt
-/// must have to do with these to depend on them.
+/// The versions without the trails that are lost, and the updates whose trails these were, in number order.
 #[derive(Drop)]
 pub(crate) struct Lost<'r> {
     pub(crate) without: Versions,
     pub(crate) members: Vec<Trail<'r>>,
-    pub(crate) impact: Impact,
 }
 
 impl<'r> Lost<'r> {
@@ -38,7 +36,6 @@ impl<'r> Lost<'r> {
         Ok(Lost {
             without: whole.share()?,
             members: Vec::new(alloc),
-            impact: Impact::none(),
         })
     }
 
@@ -54,12 +51,13 @@ impl<'r> Lost<'r> {
         ensures lost { OnOk result (Loses number (map change_of trail.now) self.old self.new) }
         ensures impact { OnOk result (HasLostImpact (rules_in mappings.now) self.new) }
     {
+        let impact = Impact::none().with(mappings, Sense::Went, trail);
         self.without.retract(alloc, number, trail)?;
         self.members.push(Trail {
             update: number,
             writes: trail,
+            impact,
         })?;
-        self.impact = self.impact.with(mappings, Sense::Went, trail);
         Ok(())
     }
 

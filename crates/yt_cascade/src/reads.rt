@@ -2,15 +2,18 @@
 ghost use Rattle.std.specs.Prelude.{◌≡◌, IfOk};
 ghost use Rattle.std.specs.Option.{option_map};
 ghost use Rattle.yt_cascade.specs.Meanings.{above_of};
-ghost use Rattle.yt_cascade.specs.Reached.{numbered_of, first_dependent as first_dependent_lem, first_invalid as first_invalid_lem};
+ghost use Rattle.yt_conflict.specs.Trails.{trails_of};
+ghost use Rattle.yt_cascade.specs.Walks.{HasFootprint, HasLostImpact};
+ghost use Rattle.yt_cascade.specs.Reached.{MeetAlike, numbered_of, first_dependent as first_dependent_lem, first_invalid as first_invalid_lem};
 
 use crate::cascades::Cascade;
 use crate::lost::Lost;
 use std::alloc::Global;
 use yt_base::Memory;
-use yt_conflict::{Sense, first_changed};
+use yt_conflict::{Sense, Trail, first_changed};
 use yt_query::LoggedRead;
 use yt_queue::{Deps, Record};
+use yt_versions::Versions;
 
 /// A logged read with its number in the log, from 1.
 #[derive(Drop)]
@@ -28,6 +31,8 @@ impl<'a> Cascade<'a> {
         lost: &Lost<'_>,
         reader: &'l Record,
     ) -> Result<Option<Numbered<'l>>, Memory>
+        requires covers { HasFootprint reader.now }
+        requires lost { HasLostImpact self.now.mappings.now lost.now }
         ensures first { IfOk result (λ found. option_map numbered_of found ≡
             first_dependent_lem (above_of self.now) lost.now reader.now) }
     {
@@ -44,15 +49,35 @@ impl<'a> Cascade<'a> {
         lost: &Lost<'_>,
         reader: &'l Record,
     ) -> Result<Option<Numbered<'l>>, Memory>
+        requires covers { HasFootprint reader.now }
+        requires lost { HasLostImpact self.now.mappings.now lost.now }
         ensures first { IfOk result (λ found. option_map numbered_of found ≡
             first_invalid_lem self.now.mappings.now lost.now.without lost.now.members.items
             reader.now) }
     {
-        let below = lost.without.below(reader.number());
+        let met = self.trails_met(alloc, lost, reader)?;
+        if met.is_empty() {
+            return Ok(None);
+        }
+        self.first_met(alloc, &lost.without, &met, reader)
+    }
+
+    // The first read of the reader that a write of these trails meets and that has another value over these versions, which
+    // are without them.
+    fn first_met<'l>(
+        &self,
+        alloc: Global,
+        without: &Versions,
+        trails: &[Trail<'_>],
+        reader: &'l Record,
+    ) -> Result<Option<Numbered<'l>>, Memory>
+        ensures first { IfOk result (λ found. option_map numbered_of found ≡
+            first_invalid_lem self.now.mappings.now without.now trails.now reader.now) }
+    {
+        let below = without.below(reader.number());
         let own = reader.program.own();
         let mappings = self.mappings.list();
         let direction = reader.program.direction();
-        let members = lost.members.as_slice();
         let changed = first_changed(
             alloc,
             &reader.log,
@@ -61,7 +86,7 @@ impl<'a> Cascade<'a> {
             own,
             direction,
             Sense::Went,
-            members,
+            trails,
         )?;
         match changed {
             Some(changed) => Ok(Some(Numbered {
@@ -70,5 +95,32 @@ impl<'a> Cascade<'a> {
             })),
             None => Ok(None),
         }
+    }
+
+    // The trails that are lost of which a write may meet a read of the reader.
+    fn trails_met<'m>(
+        &self,
+        alloc: Global,
+        lost: &Lost<'m>,
+        reader: &Record,
+    ) -> Result<Vec<Trail<'m>>, Memory>
+        requires covers { HasFootprint reader.now }
+        requires lost { HasLostImpact self.now.mappings.now lost.now }
+        ensures alike { IfOk result (λ met. MeetAlike self.now.mappings.now (trails_of met.items)
+            (trails_of lost.now.members.items) reader.now) }
+    {
+        let direction = reader.program.direction();
+        let mut met = Vec::new(alloc);
+        for member in &lost.members {
+            if !reader.footprint.may_be_met(direction, &member.impact) {
+                continue;
+            }
+            met.push(Trail {
+                update: member.update,
+                writes: member.writes,
+                impact: member.impact,
+            })?;
+        }
+        Ok(met)
     }
 }

@@ -9,16 +9,18 @@ ghost use Rattle.yt_conflict.specs.Changes.{meets_any, meets_any_apart};
 ghost use Rattle.yt_conflict.specs.Concerns.{breaks_some as breaks_some_lem, concerns as concerns_lem, found_none as found_none_lem, is_hit, is_met as is_met_lem, is_met_apart, may_violate as may_violate_lem, meets as meets_lem, tuple_of as tuple_of_lem};
 ghost use Rattle.yt_conflict.specs.Trails.{trails_of};
 
+use crate::impacts::Impact;
 use crate::joins::{breaks_some, counts_all, may_decide, may_make};
 use yt_base::{Direction, MappingList, Tuple, Value, Write};
 use yt_query::{Answer, LoggedRead, Query};
 use yt_unifier::is_more_specific;
 
-/// Writes of one update, with its number.
+/// Writes of one update, with its number, and what an attempt must have to do with them for one to meet a read of it.
 #[derive(Drop)]
 pub struct Trail<'r> {
     pub update: u32,
     pub writes: &'r [Write],
+    pub impact: Impact,
 }
 
 /// How the writes of a trail turned what lies below a reader: they came since it asked, or were there then and went.

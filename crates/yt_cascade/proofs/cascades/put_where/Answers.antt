@@ -1,4 +1,4 @@
-use Rattle.std.proofs.Common.{◌≡◌, ◌∙◌, ◌++◌, ◌∷◌, [], sym, ap, arith}
+use Rattle.std.proofs.Common.{◌∙◌, ◌++◌, ◌∷◌, [], sym, ap, arith}
 use Rattle.yt_cascade.proofs.Padding.{padded_still, padded_put, put_long}
 use Rattle.yt_cascade.proofs.cascades.put_where.Goals as goal
 

@@ -1,4 +1,4 @@
-use Rattle.std.proofs.Common.{◌≡◌, ◌≤◌, ℕ, suc, Bool, length, drop, map}
+use Rattle.std.proofs.Common.{◌≤◌, ℕ, suc, Bool, length, drop, map}
 use Rattle.yt_base.specs.Meanings.{change_of}
 use Rattle.yt_queue.specs.Queues.{AreFrom}
 use Rattle.yt_cascade.specs.Meanings.{above_of}
