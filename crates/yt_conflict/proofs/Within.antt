@@ -12,7 +12,7 @@ use Rattle.yt_model.proofs.Bools.{both, or_left, or_right}
 use Rattle.yt_query.specs.Meanings.{Read}
 use Rattle.yt_conflict.specs.Concerns.{is_nothing, may_enact, adds, columns, tuple_of}
 use Rattle.yt_conflict.specs.Footprints.{CoversMore, ReadsMore, has_query, has_read, has_write, has_write_in}
-use Rattle.yt_conflict.specs.Impacts.{IsReachWithin, IsImpactWithin, key_from, has_key, has_seat, has_seats, has_joins, has_right, has_rule, has_tuple_asked, has_change, has_trails}
+use Rattle.yt_conflict.specs.Impacts.{IsReachWithin, IsImpactWithin, key_from, has_key, has_seat, has_seats, has_joins, has_right, has_rule, has_tuple_asked, has_change}
 use Rattle.yt_conflict.specs.Signatures.{IsWithin, has_spot, has_values, has_tuple, spot, home, spot_asked}
 use Rattle.yt_conflict.specs.declared.concerns.Sense.{Sense}
 use Rattle.yt_conflict.specs.declared.footprints.Footprint.{Footprint}
@@ -174,11 +174,3 @@ change_still ms g v w c i e =
     let parts = and_parts (has_tuple_asked v (tuple_of c)) (list_all (has_rule v (adds g c) (tuple_of c)) ms) e in
     both (has_tuple_asked w (tuple_of c)) (list_all (has_rule w (adds g c) (tuple_of c)) ms) (asked_still v w (tuple_of c) i parts.0)
     (all_still (has_rule v (adds g c) (tuple_of c)) (has_rule w (adds g c) (tuple_of c)) (λ m. rule_still (adds g c) (tuple_of c) v w m i) ms parts.1)
-
--- Of the trails of an impact that grows by one more.
-pub trails_more : (ms : List Rule) (g : Sense) (v w : Impact) (trails : List (List Change)) (ws : List Change) → IsImpactWithin v w → has_trails v ms g trails ≡ true → list_all (has_change w ms g) ws ≡ true
-    → has_trails w ms g (trails ++ ws ∷ []) ≡ true
-trails_more ms g v w [] ws i e h = both (list_all (has_change w ms g) ws) true h refl
-trails_more ms g v w (vs ∷ trails) ws i e h =
-    let parts = and_parts (list_all (has_change v ms g) vs) (has_trails v ms g trails) e in
-    both (list_all (has_change w ms g) vs) (has_trails w ms g (trails ++ ws ∷ [])) (all_still (has_change v ms g) (has_change w ms g) (λ c. change_still ms g v w c i) vs parts.0) (trails_more ms g v w trails ws i parts.1 h)

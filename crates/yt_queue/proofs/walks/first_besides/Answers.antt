@@ -32,5 +32,7 @@ loop-record-preserved c =
 
 pub returns : goal.returns
 returns c =
-    record { first = subst (λ (xs : List Record). IsFirstBesides c.args.numbers.now (settings_of c.args.settings) c.args.committed (suc c.args.first) xs None) c.past-rest.ensures.rest
-          (c.loop-record.invariant.left _ (ended (besides_test c.args.numbers.now (settings_of c.args.settings) c.args.committed) c.past-rest.result.now c.loop-record.record-index _ c.loop-record-test.false)) }
+    record {
+      first = subst (λ (xs : List Record). IsFirstBesides c.args.numbers.now (settings_of c.args.settings) c.args.committed (suc c.args.first) xs None) c.past-rest.ensures.rest
+          (c.loop-record.invariant.left _ (ended (besides_test c.args.numbers.now (settings_of c.args.settings) c.args.committed) c.past-rest.result.now c.loop-record.record-index _ c.loop-record-test.false));
+    }
