@@ -16,6 +16,10 @@ use crate::values::Value;
 pub trait Facts {
     ghost tuples: { Self → List Fact };
 
+    /// What is always true of a set: its tuples are in order. It does nothing but say so.
+    fn is_in_order(&self)
+        ensures in_order { IsRepository (tuples self.now) };
+
     /// Whether the tuple is in the set.
     fn contains(&self, tuple: &Tuple) -> bool
         ensures answer { result ≡ has (tuples self.now) (fact_of tuple.now) }

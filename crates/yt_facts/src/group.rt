@@ -132,6 +132,10 @@ impl Group {
 impl Facts for Group {
     ghost tuples = { λ D. D };
 
+    fn is_in_order(&self) {
+        let _ = &self.held;
+    }
+
     fn contains(&self, tuple: &Tuple) -> bool {
         match &self.held {
             Held::Listed(tuples) => tuples.contains(tuple),

@@ -142,6 +142,10 @@ impl TryCopy for IndexedFacts {
 impl Facts for IndexedFacts {
     ghost tuples = { λ D. D };
 
+    fn is_in_order(&self) {
+        let _ = &self.all;
+    }
+
     fn contains(&self, tuple: &Tuple) -> bool {
         match tuple.values.get(0) {
             Some(value) => keeps(&self.relations, 0, value, tuple),

@@ -43,7 +43,7 @@ impl<'a, F: Facts> Overlay<'a, F> {
         ensures same { result ≡ F.tuples facts.now }
     {
         // The set tells that it is in order.
-        let _ = facts.beyond(None);
+        facts.is_in_order();
         Overlay {
             facts,
             gone: Group::new(alloc),
@@ -102,6 +102,10 @@ impl<'a, F: Facts> Overlay<'a, F> {
 
 impl<'a, F: Facts> Facts for Overlay<'a, F> {
     ghost tuples = { λ D. D };
+
+    fn is_in_order(&self) {
+        let _ = &self.facts;
+    }
 
     fn contains(&self, tuple: &Tuple) -> bool {
         is_left(self.facts, &self.gone, tuple) || self.added.contains(tuple)

@@ -129,6 +129,10 @@ impl TryCopy for PlainFacts {
 impl Facts for PlainFacts {
     ghost tuples = { λ D. D };
 
+    fn is_in_order(&self) {
+        let _ = &self.tuples;
+    }
+
     fn contains(&self, tuple: &Tuple) -> bool {
         self.tuples.contains(tuple)
     }

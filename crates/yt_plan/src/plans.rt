@@ -15,7 +15,7 @@ ghost use Rattle.yt_program.specs.Logged.{read_after};
 ghost use Rattle.yt_plan.specs.Planned.{at_rest, HasSettled, WantsStep, next_attempt, next_reads};
 
 use std::alloc::Global;
-use yt_base::{Choice, Direction, FORCE_RELATION, Facts, Memory, TryCopy};
+use yt_base::{Choice, Direction, Facts, Memory, TryCopy};
 use yt_eval::{AppliedView, Settled};
 use yt_limits::{Budget, Mappings};
 use yt_program::{Program, Want};
@@ -100,7 +100,7 @@ fn take_step<F: Facts>(
         (option_map choice_of (option_copied choice.entry))) }
 {
     // The set tells that it is in order.
-    let _ = below.first(FORCE_RELATION);
+    below.is_in_order();
     let own = program.own();
     let view = AppliedView::new(below, with, own);
     begin(alloc, after, choice, mappings, budget)?;

@@ -131,7 +131,7 @@ fn make(
     ensures back { OnOk result (LeadsBack facts.old back.old.items facts.new back.new.items) }
 {
     // The set tells that it is in order.
-    let _ = facts.beyond(None);
+    facts.is_in_order();
     match write {
         Write::Insert(tuple) => {
             if facts.insert(tuple.copy(alloc)?)? {

@@ -28,6 +28,10 @@ impl<'v> Below<'v> {
 impl<'v> Facts for Below<'v> {
     ghost tuples = { λ b. seen b.number b.versions.now };
 
+    fn is_in_order(&self) {
+        self.versions.is_in_order(self.number);
+    }
+
     fn contains(&self, tuple: &Tuple) -> bool {
         self.versions.contains(self.number, tuple)
     }

@@ -17,6 +17,13 @@ use yt_memory::Memory;
 
 // Each call also tells that what the update sees is in order. Only `list` takes memory.
 impl Versions {
+    // What is always true of them: what the update sees is in order. It does nothing but say so.
+    pub(crate) fn is_in_order(&self, number: u32)
+        ensures in_order { IsRepository (seen number self.now) }
+    {
+        let _ = self.base();
+    }
+
     // Whether the update sees the tuple.
     pub(crate) fn contains(&self, number: u32, tuple: &Tuple) -> bool
         ensures answer { result ≡ has (seen number self.now) (fact_of tuple.now) }

@@ -47,7 +47,7 @@ impl Versions {
         ensures base { IfOk result (λ versions. StandFor versions base no_trails) }
     {
         // The set tells that it is in order.
-        let _ = base.beyond(None);
+        base.is_in_order();
         match Arc::new(alloc, base) {
             Ok(base) => Ok(Versions {
                 base,
