@@ -1,5 +1,5 @@
 //! Tuples with their marks, and the same by each column.
-ghost use Rattle.std.specs.Prelude.{◌≡◌, [], length, map, IfOk, OnOk};
+ghost use Rattle.std.specs.Prelude.{◌≡◌, [], length, map, IfOk, OnOk, OnErr};
 ghost use Rattle.yt_base.specs.Meanings.{fact_of};
 ghost use Rattle.yt_tree.specs.Orders.{IsOrdered};
 ghost use Rattle.yt_versions.specs.Chains.{AreMarks, AreRows};
@@ -80,20 +80,20 @@ impl Table {
         }
     }
 
-    /// The table with these marks of the tuple. It is refused only for want of memory.
-    pub fn with(self, alloc: Global, key: Handle, marks: Marks) -> Result<Table, Memory>
+    /// Puts these marks of the tuple in, among the tuples in place where no other handle shares them. It is refused only for
+    /// want of memory; the table is then as it was.
+    pub fn put(&mut self, alloc: Global, key: Handle, marks: Marks) -> Result<(), Memory>
         requires in_order { AreMarks marks }
-        ensures marks { IfOk result (λ table.
-            (t : Fact) → marks_at table t ≡ cond (same_fact t (fact_of key)) marks (marks_at self t)) }
-        ensures in_order { IfOk result AreRows }
+        ensures marks { OnOk result ((t : Fact) → marks_at self.new t ≡
+            cond (same_fact t (fact_of key)) marks (marks_at self.old t)) }
+        ensures in_order { OnOk result (AreRows self.new) }
+        ensures err { OnErr result (self.new ≡ self.old) }
     {
-        let Table {
-            mut rows,
-            mut cells,
-        } = self;
+        let mut cells = self.cells.share()?;
         set_cells(&mut cells, alloc, &key, &marks)?;
-        set(&mut rows, alloc, key, marks)?;
-        Ok(Table { rows, cells })
+        set(&mut self.rows, alloc, key, marks)?;
+        self.cells = cells;
+        Ok(())
     }
 }
 
@@ -285,7 +285,8 @@ impl Table {
     }
 }
 
-// Puts the marks at the key; takes the key out where they say that the tuple is nowhere.
+// Puts the marks at the key; takes the key out where they say that the tuple is nowhere. For want of memory nothing is
+// changed.
 fn set<K: Ord + Share>(
     map: &mut TreeMap<K, Marks>,
     alloc: Global,
@@ -293,6 +294,7 @@ fn set<K: Ord + Share>(
     marks: Marks,
 ) -> Result<(), Memory>
     ensures ok { OnOk result (map.new ≡ set_entry K.cmp map.old key marks) }
+    ensures err { OnErr result (map.new ≡ map.old) }
     ensures in_order { IsOrdered K.cmp map.new }
 {
     if marks.is_nowhere() {

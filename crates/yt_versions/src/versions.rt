@@ -1,5 +1,5 @@
 //! The versions themselves.
-ghost use Rattle.std.specs.Prelude.{◌≡◌, ◌&&◌, cond, not, map, IfOk, OnOk, OnErr};
+ghost use Rattle.std.specs.Prelude.{◌≡◌, ◌&&◌, cond, not, [], ◌∷◌, map, IfSome, IfOk, OnOk, OnErr};
 ghost use Rattle.yt_base.specs.Meanings.{fact_of, change_of};
 ghost use Rattle.yt_versions.specs.Chains.{AreMarks};
 ghost use Rattle.yt_versions.specs.Marked.{is_based, no_marks};
@@ -74,6 +74,10 @@ impl Versions {
         ensures ok { OnOk result (Published number (map change_of writes.now) self.old self.new) }
         ensures err { OnErr result (self.new ≡ self.old) }
     {
+        if let Some(write) = alone(writes) {
+            self.write(alloc, number, write)?;
+            return Ok(());
+        }
         let new = with_writes(self.share()?, alloc, number, writes)?;
         *self = new;
         Ok(())
@@ -163,31 +167,46 @@ impl Versions {
         self.table.entry(tuple)
     }
 
-    // The versions where these marks are known of the tuple.
-    fn with(self, alloc: Global, key: Handle, marks: Marks) -> Result<Versions, Memory>
+    // Makes these marks known of the tuple. For want of memory nothing is changed.
+    fn put(&mut self, alloc: Global, key: Handle, marks: Marks) -> Result<(), Memory>
         requires in_order { AreMarks marks }
-        ensures known { IfOk result (λ new. (t : Fact)
-            → known_at new t ≡ cond (same_fact t (fact_of key)) marks (known_at self t)) }
-        ensures kept { IfOk result AreKept }
+        ensures known { OnOk result ((t : Fact)
+            → known_at self.new t ≡ cond (same_fact t (fact_of key)) marks (known_at self.old t)) }
+        ensures kept { OnOk result (AreKept self.new) }
+        ensures err { OnErr result (self.new ≡ self.old) }
     {
-        let Versions { base, taken, table } = self;
-        let in_base = base.contains(key.get());
+        let in_base = self.base.contains(key.get());
         let (takes, told) = told_of(in_base, marks);
-        let taken = taken.set(alloc, &key, takes)?;
-        let table = table.with(alloc, key, told)?;
-        Ok(Versions { base, taken, table })
+        let taken = self.taken.share()?.set(alloc, &key, takes)?;
+        self.table.put(alloc, key, told)?;
+        self.taken = taken;
+        Ok(())
     }
 
-    // The versions with what is known of the tuple touched.
-    fn touched(self, alloc: Global, tuple: &Tuple, touch: Touch) -> Result<Versions, Memory>
-        ensures known { IfOk result (λ new. (t : Fact)
-            → known_at new t ≡ touched_at touch (fact_of tuple.now) t (known_at self t)) }
-        ensures kept { IfOk result AreKept }
+    // Touches what is known of the tuple. For want of memory nothing is changed.
+    fn touch(&mut self, alloc: Global, tuple: &Tuple, touch: Touch) -> Result<(), Memory>
+        ensures known { OnOk result ((t : Fact)
+            → known_at self.new t ≡ touched_at touch (fact_of tuple.now) t (known_at self.old t)) }
+        ensures kept { OnOk result (AreKept self.new) }
+        ensures err { OnErr result (self.new ≡ self.old) }
     {
         let (key, mut marks) = self.known(tuple)?;
         marks.touch(alloc, touch)?;
-        let new = self.with(alloc, key, marks)?;
-        Ok(new)
+        self.put(alloc, key, marks)?;
+        Ok(())
+    }
+
+    // Adds this write of the update. For want of memory nothing is changed.
+    fn write(&mut self, alloc: Global, number: u32, write: &Write) -> Result<(), Memory>
+        ensures known { OnOk result ((t : Fact) → known_at self.new t ≡
+            written_at number (change_of write.now) t (known_at self.old t)) }
+        ensures kept { OnOk result (AreKept self.new) }
+        ensures err { OnErr result (self.new ≡ self.old) }
+    {
+        match write {
+            Write::Insert(tuple) => self.touch(alloc, tuple, Touch::Mark(number, true)),
+            Write::Delete(tuple) => self.touch(alloc, tuple, Touch::Mark(number, false)),
+        }
     }
 }
 
@@ -208,6 +227,14 @@ fn told_of(in_base: bool, marks: Marks) -> (bool, Marks)
     (true, marks)
 }
 
+// The write, where there is just one.
+fn alone(writes: &[Write]) -> Option<&Write>
+    ensures alone { IfSome result (λ w. map change_of writes.now ≡ change_of w.now ∷ []) }
+{
+    let (write, rest) = writes.split_first()?;
+    if rest.is_empty() { Some(write) } else { None }
+}
+
 // The versions with these writes of the update.
 fn with_writes(
     mut versions: Versions,
@@ -222,27 +249,9 @@ fn with_writes(
     ensures kept { IfOk result AreKept }
 {
     for write in writes {
-        versions = with_write(versions, alloc, number, write)?;
+        versions.write(alloc, number, write)?;
     }
     Ok(versions)
-}
-
-// The versions with this write of the update.
-fn with_write(
-    versions: Versions,
-    alloc: Global,
-    number: u32,
-    write: &Write,
-) -> Result<Versions, Memory>
-    ensures known { IfOk result (λ new.
-        (t : Fact)
-        → known_at new t ≡ written_at number (change_of write.now) t (known_at versions t)) }
-    ensures kept { IfOk result AreKept }
-{
-    match write {
-        Write::Insert(tuple) => versions.touched(alloc, tuple, Touch::Mark(number, true)),
-        Write::Delete(tuple) => versions.touched(alloc, tuple, Touch::Mark(number, false)),
-    }
 }
 
 // The versions without these writes of the update.
@@ -259,26 +268,25 @@ fn without_writes(
     ensures kept { IfOk result AreKept }
 {
     for write in writes {
-        versions = without_write(versions, alloc, number, write)?;
+        take_back(&mut versions, alloc, number, write)?;
     }
     Ok(versions)
 }
 
-// The versions without this write of the update.
-fn without_write(
-    versions: Versions,
+// Takes this write of the update back.
+fn take_back(
+    versions: &mut Versions,
     alloc: Global,
     number: u32,
     write: &Write,
-) -> Result<Versions, Memory>
-    ensures known { IfOk result (λ new.
-        (t : Fact)
-        → known_at new t ≡ unwritten_at number (change_of write.now) t (known_at versions t)) }
-    ensures kept { IfOk result AreKept }
+) -> Result<(), Memory>
+    ensures known { OnOk result ((t : Fact) → known_at versions.new t ≡
+        unwritten_at number (change_of write.now) t (known_at versions.old t)) }
+    ensures kept { OnOk result (AreKept versions.new) }
 {
     match write {
-        Write::Insert(tuple) => versions.touched(alloc, tuple, Touch::Unmark(number)),
-        Write::Delete(tuple) => versions.touched(alloc, tuple, Touch::Unmark(number)),
+        Write::Insert(tuple) => versions.touch(alloc, tuple, Touch::Unmark(number)),
+        Write::Delete(tuple) => versions.touch(alloc, tuple, Touch::Unmark(number)),
     }
 }
 
@@ -296,25 +304,19 @@ fn with_settled(
     ensures kept { IfOk result AreKept }
 {
     for write in writes {
-        versions = settled(versions, alloc, number, write)?;
+        settle(&mut versions, alloc, number, write)?;
     }
     Ok(versions)
 }
 
-// The versions with this write of the update in the base.
-fn settled(
-    versions: Versions,
-    alloc: Global,
-    number: u32,
-    write: &Write,
-) -> Result<Versions, Memory>
-    ensures known { IfOk result (λ new.
-        (t : Fact)
-        → known_at new t ≡ settled_at number (change_of write.now) t (known_at versions t)) }
-    ensures kept { IfOk result AreKept }
+// Puts this write of the update into the base.
+fn settle(versions: &mut Versions, alloc: Global, number: u32, write: &Write) -> Result<(), Memory>
+    ensures known { OnOk result ((t : Fact) → known_at versions.new t ≡
+        settled_at number (change_of write.now) t (known_at versions.old t)) }
+    ensures kept { OnOk result (AreKept versions.new) }
 {
     match write {
-        Write::Insert(tuple) => versions.touched(alloc, tuple, Touch::Settle(number, true)),
-        Write::Delete(tuple) => versions.touched(alloc, tuple, Touch::Settle(number, false)),
+        Write::Insert(tuple) => versions.touch(alloc, tuple, Touch::Settle(number, true)),
+        Write::Delete(tuple) => versions.touch(alloc, tuple, Touch::Settle(number, false)),
     }
 }

@@ -1,4 +1,4 @@
-use Rattle.std.proofs.Common.{ap, ◌∙◌, map}
+use Rattle.std.proofs.Common.{ap, sym, ◌∙◌, map}
 use Rattle.yt_base.specs.Meanings.{change_of}
 use Rattle.yt_versions.specs.Standing.{Kept, known_at}
 use Rattle.yt_versions.specs.Touches.{published_at}
@@ -10,3 +10,9 @@ returns-clause-ok c =
     let ws = map change_of c.args.writes.now in
     published_stands c.args.number ws c.args.self.now c.in_ok-new.new c.in_ok-new.ensures.kept
     (λ t. c.in_ok-new.ensures.known t ∙ ap (λ (v : Kept). published_at c.args.number ws t (known_at v t)) c.in_ok-share.ensures.same)
+
+pub returns-in-Some-clause-ok : goal.returns-in-Some-clause-ok
+returns-in-Some-clause-ok c =
+    let ws = map change_of c.args.writes.now in
+    published_stands c.args.number ws c.args.self.now c.write.new.self c.in_ok-write.ensures.kept
+    (λ t. c.in_ok-write.ensures.known t ∙ ap (λ cs. published_at c.args.number cs t (known_at c.args.self.now t)) (sym c.in-Some.ensures.alone))
