@@ -67,3 +67,7 @@ looks_at P ms k m e h =
     let rest = look_from P (suc k) (drop (suc k) ms) in
     (λ i. Node (Violation k) (λ a. repaired P k (h i) (image_in a) rest))
     ∙ sym (ap (λ n. cond (n == 0) (look_at P k m rest) (cond (nat_lt P.number m.since) rest (Node (Present (force k)) (λ a. cond (is_yes a) (look_at P k m rest) rest)))) e)
+
+-- So the look from there on asks for its first violation.
+pub asks_there : (P : Attempt) (ms : List Rule) (k : ℕ) (m : Rule) → m.since ≡ 0 → slice_get ms k ≡ Some m → row_tree ms P (Violating k) ≡ look_from P k (drop k ms)
+asks_there P ms k m e h = looks_at P ms k m e h ∙ ap (look_from P k) (here ms k (suc k) m refl h)

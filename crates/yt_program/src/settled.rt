@@ -1,7 +1,8 @@
 //! A look that passes over mappings that are settled.
-ghost use Rattle.std.specs.Prelude.{◌≡◌, false, slice_index_or, map, IfOk, OnOk, OnErr};
+ghost use Rattle.std.specs.Prelude.{◌≡◌, ◌<◌, ◌≤◌, ◌+◌, ◌-◌, ℕ, true, false, length, slice_index_or, map, IfOk, OnOk, OnErr};
+ghost use Rattle.yt_base.specs.Meanings.{rule_of};
 ghost use Rattle.yt_query.specs.Meanings.{read_of};
-ghost use Rattle.yt_program.specs.Looks.{Passes, PassesLogged};
+ghost use Rattle.yt_program.specs.Looks.{AsksNext, Passes, PassesLogged};
 ghost use Rattle.yt_program.specs.Rows.{Violating, begun_in};
 ghost use Rattle.yt_program.specs.PointMeanings.{reading_of};
 ghost use Rattle.yt_program.specs.Logged.{finds_none as finds_none_lem};
@@ -12,7 +13,7 @@ use crate::points::Point;
 use crate::programs::Program;
 use crate::readings::Reading;
 use crate::rows::Row;
-use yt_base::Memory;
+use yt_base::{Mapping, Memory};
 use yt_limits::Mappings;
 use yt_query::{Answer, LoggedRead, Query, ReadLog};
 
@@ -70,14 +71,46 @@ fn pass(reading: &mut Reading, number: u32, marks: &[bool], mappings: &Mappings<
 fn first_unmarked(from: u16, number: u32, marks: &[bool], mappings: &Mappings<'_>) -> u16
     ensures passed { Passes mappings.now marks.now number (Violating from) (Violating result) }
 {
-    let mut place = from;
+    let mut place = end_of_run(from, marks, mappings);
     'places: while is_marked(marks, place) {
         match next_from_start(number, place as usize + 1, mappings) {
-            Some(next) => place = next,
+            Some(next) => place = end_of_run(next, marks, mappings),
             None => return place,
         }
     }
     place
+}
+
+// The last place of the run from `from` on: each but the last has a mark, and the next one's mapping is in force from the
+// start.
+fn end_of_run(from: u16, marks: &[bool], mappings: &Mappings<'_>) -> u16
+    ensures passed { (number : ℕ) →
+        Passes mappings.now marks.now number (Violating from) (Violating result) }
+    ensures after { from ≤ result }
+{
+    let all = mappings.list().as_slice();
+    let last = marks.len().min(mappings.len().saturating_sub(1));
+    let mut place = from as usize;
+    'run: while leads_on(place, last, marks, all) {
+        place += 1;
+    }
+    place as u16
+}
+
+// Whether the place, which has one behind it, has a mark, and the mapping behind it is in force from the start.
+fn leads_on(place: usize, last: usize, marks: &[bool], all: &[Mapping]) -> bool
+    requires marked { last ≤ length marks.now }
+    requires behind { last ≤ length all.now - 1 }
+    ensures mark { result ≡ true → slice_index_or marks.now place false ≡ true }
+    ensures next { result ≡ true → (number : ℕ) →
+        AsksNext (map rule_of all.now) number (place + 1) (place + 1) }
+    ensures below { result ≡ true → place < last }
+{
+    if place < last && marks[place] {
+        all[place + 1].since == 0
+    } else {
+        false
+    }
 }
 
 // Passes as `pass` does, with a read of each mapping that it passes.

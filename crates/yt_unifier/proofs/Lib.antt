@@ -3,3 +3,4 @@ pub mod Ends
 pub mod Graphs
 pub mod Going
 mod Walked
+mod Ground

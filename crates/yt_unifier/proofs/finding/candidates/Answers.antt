@@ -1,15 +1,17 @@
 use Rattle.std.proofs.Common.{◌≡◌, ◌∙◌, ◌++◌, ap, sym, map, [], List, Option, Bor, arith}
+use Rattle.std.specs.List.{list_all}
 use Rattle.std.specs.Option.{option_map, option_copied}
 use Rattle.std.specs.Prelude.{filter}
-use Rattle.yt_model.specs.Values.{Fact}
-use Rattle.yt_model.specs.Specific.{more_specific}
-use Rattle.yt_model.proofs.Searches.{filter_within}
+use Rattle.yt_model.specs.Values.{Fact, same_fact}
+use Rattle.yt_model.specs.Specific.{is_constant, more_specific}
+use Rattle.yt_model.proofs.Searches.{filter_as, filter_within}
 use Rattle.yt_base.specs.Candidates.{column_of, is_candidate}
-use Rattle.yt_base.specs.Meanings.{fact_of}
+use Rattle.yt_base.specs.Meanings.{datum_of, fact_of}
 use Rattle.yt_base.specs.declared.tuples.Tuple.{Tuple}
 use Rattle.yt_base.proofs.Gathering.{none_left}
 use Rattle.yt_match.proofs.Walking.{walk_shorter, nothing_left}
 use Rattle.yt_unifier.proofs.Going.{is_among}
+use Rattle.yt_unifier.proofs.Ground.{alone}
 use Rattle.yt_unifier.proofs.Walked.{all_kept}
 use Rattle.yt_unifier.proofs.finding.candidates.Goals as goal
 
@@ -34,3 +36,10 @@ returns g c =
     let q = λ (s : Fact). more_specific s (fact_of c.args.tuple.now) in
     let ended : c.loop-held.walk.left ≡ [] = nothing_left c.next.result (c.loop-held.walk.left ≡ []) (none_left c.next.result c.in_default.not-Some) c.next.ensures.end in
     record { value = all_kept q (map fact_of c.loop-held.found.items) c.loop-held.walk.left (filter q D) ended c.loop-held.invariant }
+
+pub returns-then-is_ground : goal.returns-then-is_ground
+returns-then-is_ground g c =
+    let D = g.F.Facts.tuples c.args.facts.now in
+    let t = fact_of c.args.tuple.now in
+    let ground = ap (λ vs. list_all is_constant (map datum_of vs)) (sym c.as_slice.ensures.items) ∙ (sym c.is_ground.ensures.ground ∙ c.if-is_ground.true) in
+    record { value = c.in_ok-same.ensures.same ∙ filter_as (same_fact t) (λ s. more_specific s t) (alone t ground) D }

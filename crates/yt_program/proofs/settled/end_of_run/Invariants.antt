@@ -1,0 +1,18 @@
+use Rattle.std.proofs.Common.{◌≡◌, ◌<◌, ◌≤◌, ◌-◌, ℕ}
+use Rattle.yt_model.specs.Queries.{Query, Reply}
+use Rattle.yt_steps.specs.Attempts.{Attempt}
+use Rattle.yt_program.specs.Rows.{Violating, row_tree}
+use Rattle.yt_program.specs.Settled.{FindsNone, IsShorter}
+use Rattle.yt_program.proofs.settled.end_of_run.Given as goal
+
+-- The look comes from here to what it came to from the start on, and here is a place of a mapping.
+abbrev pub invariant-run : goal.invariant-run
+invariant-run l = record {
+  passed : (val : Query → Reply) (P : Attempt) → FindsNone val l.marks → IsShorter val (row_tree l.mappings P (Violating l.from)) (row_tree l.mappings P (Violating l.place));
+  after : l.from ≤ l.place;
+  small : l.place < 65536;
+}
+
+-- How many places come after it.
+abbrev pub decreases-run : goal.decreases-run
+decreases-run l = 65536 - l.place
