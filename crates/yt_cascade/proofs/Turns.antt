@@ -161,7 +161,7 @@ module _ (a : Above) (conflicting : Bool) (B : ℕ) (ws : List Change) where
       (next few looks all lost left r (drop (i + 1) rs) xs x (subst (λ zs. Turn a conflicting B ws all lost zs xs) (next_drop rs i r l e) t) cause (subst (λ z. LosesWhere z r lost left) g loses))
 
   -- Those that have read nothing have none.
-  none_of : (E N : List Fact) (ks : List (Member (caused_chase a.rules B))) (n : ℕ) (rs : List Record) → AreUnread (caused_chase a.rules B) (updates_of a.rules B rs)
+  pub none_of : (E N : List Fact) (ks : List (Member (caused_chase a.rules B))) (n : ℕ) (rs : List Record) → AreUnread (caused_chase a.rules B) (updates_of a.rules B rs)
       → map (no_cause a.rules B) rs ≡ settle (caused_chase a.rules B) a.deps conflicting a.committed a.update E N ks n (updates_of a.rules B rs)
   none_of E N ks n [] h = refl
   none_of E N ks n (r ∷ rs) h =
@@ -238,3 +238,8 @@ of_loss a none lost ws rs xs w k l f B D lower u few e eu h runs =
           (subst (λ X. AgreeBut Went (tr ∷ []) X (seen (suc a.update) lost.without)) (sym with_it) (subst (λ X. AgreeBut Went (tr ∷ []) (apply base tr) X) (sym without_it) (agree_more [] base base tr (agree_alone Went [] base sorted))));
     })
     ∙ (λ i. settle (caused_chase a.rules B) a.deps false a.committed a.update (with_it i) (without_it i) (members i) (suc a.update) us)
+
+-- Where none of those above has read anything, none is restarted.
+pub none_read : (a : Above) (ws : List Change) (rs : List Record) → ReadsAtMost rs 0 → AreCausesOfWrites a ws rs []
+none_read a ws rs unread B D lower u v few e held runs agree =
+    none_of a true B ws (above a.rules B D lower v) (above a.rules B D lower v) [] (suc a.update) rs (unread a.rules B)

@@ -29,17 +29,19 @@ use Rattle.yt_queue.specs.Programs.{IsPlanOf, HasSpent, HasWritten}
 use Rattle.yt_queue.specs.Records.{HasTrail}
 use Rattle.yt_queue.specs.Queues.{update_of, updates_of, AreFrom}
 use Rattle.yt_queue.specs.Renewals.{AreThere}
+use Rattle.yt_queue.specs.Walks.{ReadsAtMost}
 use Rattle.yt_queue.specs.declared.records.Record.{Record}
 use Rattle.yt_queue.proofs.Restarting.{restart_by, restart_is}
 use Rattle.yt_steps.proofs.Steady.{apply_join}
 use Rattle.yt_steps.specs.Attempts.{outcome_in}
 use Rattle.yt_steps.specs.Chase.{caused_chase, ending}
+use Rattle.yt_cascade.proofs.Turns.{none_read}
 use Rattle.yt_cascade.specs.Causes.{AreCausesOfWrites, AreCausesOfLoss}
 use Rattle.yt_cascade.specs.Held.{AreVersions, laid, above}
 use Rattle.yt_cascade.specs.Meanings.{Above, all_found, found_for}
 use Rattle.yt_versions.specs.Standing.{Kept, Published, Retracted}
 use Rattle.yt_core.specs.Aftermaths.{Cleared, in_order}
-use Rattle.yt_core.specs.Steps.{HasHidden, HasTurned, IsFound, RanAbove, after_step, causes_above, IsStepLeft, ShowsStep, WereFound, IsPrepared}
+use Rattle.yt_core.specs.Steps.{HasHidden, HasTurned, IsFound, RanAbove, after_step, causes_above, IsStepLeft, ShowsStep, WereFound, IsPrepared, IsPreparedAlone}
 use Rattle.yt_core.specs.Withdrawals.{IsLeft, WereLost}
 use Rattle.yt_core.specs.declared.aftermaths.Aftermath.{Aftermath}
 use Rattle.yt_core.specs.declared.stepping.Prepared.{Prepared}
@@ -238,3 +240,17 @@ pub shows_more_by : (r : Record) (plan : Plan) (ws : List Write) (b : Bool) (n :
     → Published n (map change_of ws) copy new → ShowsStep r plan old new
 shows_more_by r plan ws b n old copy new hidden t written e same put =
     shows_more r plan ws b old new hidden t written (subst (λ (v : Kept). Published r.program.attempt.number (map change_of ws) v new) same (subst (λ (m : ℕ). Published m (map change_of ws) copy new) e put))
+
+-- ---- where none of the updates above has read anything
+
+cleared_none : (upper : List Record) (v w : Kept) → v ≡ w → Cleared upper [] v w
+cleared_none [] v w e = e
+cleared_none (r ∷ rs) v w e = e
+
+pub step_alone : (old after : Kept) (r : Record) (plan : Plan) (ws : List Write) (hidden spent : Bool) (p : Prepared) → HasHidden plan.program hidden → hidden ≡ false → HasSpent plan.program spent → spent ≡ false
+    → HasWritten r plan ws → ShowsStep r plan old after → p.left.versions ≡ after → p.left.fresh.items ≡ [] → p.left.causes.items ≡ [] → map change_of p.writes.items ≡ map change_of ws → IsPreparedAlone old r plan p
+step_alone old after r plan ws hidden spent p hides shown spends unspent written shows versions fresh causes same ms s c upper from unread =
+    let a : Above = record { rules = ms; deps = s.deps; committed = c; update = r.program.attempt.number; sense = Came; whole = after } in
+    step_prepared ms s c old after r upper plan [] ws p from shows
+    (found_in_writes a s old r upper plan ws [] spent refl refl spends unspent (turned_more r plan ws hidden hides shown written) (none_read a (map change_of ws) upper unread))
+    (cleared_none upper after p.left.versions (sym versions)) (ap (map is_some) fresh) causes written same

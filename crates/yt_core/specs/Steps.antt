@@ -21,7 +21,8 @@ use Rattle.yt_model.specs.Values.{Fact}
 use Rattle.yt_plan.specs.declared.plans.Plan.{Plan}
 use Rattle.yt_program.specs.Courses.{State}
 use Rattle.yt_queue.specs.Programs.{IsPlanOf}
-use Rattle.yt_queue.specs.Queues.{update_of, updates_of}
+use Rattle.yt_queue.specs.Queues.{update_of, updates_of, AreFrom}
+use Rattle.yt_queue.specs.Walks.{ReadsAtMost}
 use Rattle.yt_queue.specs.declared.records.Record.{Record}
 use Rattle.yt_steps.specs.Attempts.{outcome_in}
 use Rattle.yt_steps.specs.Chase.{caused_chase, ending}
@@ -106,3 +107,8 @@ IsPrepared ms s c v r upper plan p =
     → RanAbove ms B E lower (update_of ms B r) (updates_of ms B upper)
     → AreVersions ms B E (lower ++ update_of ms B r ∷ updates_of ms B upper) v → MayStep ms B s k n r
     → IsPlanOf ms B (laid ms B E lower) r plan → IsStepLeft ms B s c r.program.attempt.number E lower (update_of ms B r) (updates_of ms B upper) p
+
+-- The same whichever updates stand above, of which none has read anything.
+abbrev pub IsPreparedAlone : Kept → Record → Plan → Prepared → Type 0
+IsPreparedAlone v r plan p =
+    (ms : List Rule) (s : Settings) (c : ℕ) (upper : List Record) → AreFrom (suc r.program.attempt.number) upper → ReadsAtMost upper 0 → IsPrepared ms s c v r upper plan p

@@ -8,6 +8,7 @@ mod admissions;
 mod admitting;
 mod admitting_later;
 mod aftermaths;
+mod alone;
 mod answering;
 mod answers;
 mod cores;

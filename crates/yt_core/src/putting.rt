@@ -6,6 +6,7 @@ ghost use Rattle.yt_queue.specs.Queues.{AreFrom};
 ghost use Rattle.yt_queue.specs.Renewals.{AllHaveOneMore, AreFresh};
 ghost use Rattle.yt_queue.specs.Settings.{settings_of};
 ghost use Rattle.yt_queue.specs.Walks.{CommitsAtLeast, HasCommitted, ReadsAtMost};
+ghost use Rattle.yt_versions.specs.Standing.{Kept};
 ghost use Rattle.yt_core.specs.Follows.{AreSame, HasRoomAt, IsPlanAt, IsPreparedAt, KeepsUnread, KeepsUnready, TellsStep, StepsTo};
 
 use crate::stepping::{Prepared, install, prepare_at, put_last, reserve_step};
@@ -64,14 +65,15 @@ pub(crate) fn step_at(
 }
 
 // Makes room for the step of the plan, and prepares what it leaves, where at least so many are committed and at most so many
-// have read something. It is refused only for want of memory. What queue and history mean stays.
+// have read something. The versions may be handed over with it. It is refused only for want of memory; the versions are then
+// as they were. What queue and history mean stays.
 fn ready_step(
     alloc: Global,
     mappings: &Mappings<'_>,
     settings: Settings,
     least: u32,
     most: u32,
-    versions: &Versions,
+    versions: &mut Versions,
     queue: &mut [Record],
     history: &mut EntryList,
     place: usize,
@@ -87,8 +89,9 @@ fn ready_step(
     ensures room { OnOk result (HasRoomAt place plan.now queue.new) }
     ensures spare { OnOk result (1 ≤ history.new.spare) }
     ensures prepared { IfOk result (IsPreparedAt mappings.now
-        (settings_of settings) place plan.now versions.now queue.new) }
+        (settings_of settings) place plan.now versions.old queue.new) }
     ensures fresh { IfOk result (λ p. AreFresh (drop (suc place) queue.new) p.left.fresh.items) }
+    ensures versions { OnErr result (versions.new ≡ versions.old) }
     ensures same { AreSame queue.old queue.new }
     ensures long { length queue.new ≡ length queue.old }
     ensures history { history.new.items ≡ history.old.items }
@@ -118,9 +121,9 @@ fn put_step(
     requires plan { IsPlanAt place plan queue.old }
     requires spare { 1 ≤ history.old.spare }
     requires fresh { AreFresh (drop (suc place) queue.old) prepared.left.fresh.items }
-    ensures made { (ms : List Rule) → IsPreparedAt ms (settings_of settings) place plan versions.old
-        queue.old prepared → StepsTo ms (settings_of settings) place plan versions.old queue.old
-        history.old.items versions.new queue.new history.new.items }
+    ensures made { (ms : List Rule) (before : Kept) → IsPreparedAt ms (settings_of settings) place
+        plan before queue.old prepared → StepsTo ms (settings_of settings) place plan before
+        queue.old history.old.items versions.new queue.new history.new.items }
     ensures committed { CommitsAtLeast queue.new result }
     ensures most { KeepsUnread place queue.old queue.new }
     ensures unready { KeepsUnready place queue.old queue.new }

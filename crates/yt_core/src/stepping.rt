@@ -1,5 +1,5 @@
 //! A step: it is prepared while nothing is changed, and then put in place, which cannot fail.
-ghost use Rattle.std.specs.Prelude.{◌≡◌, ◌<◌, ◌≤◌, suc, [], ◌∷◌, ◌++◌, drop, length, map, IfOk, OnOk};
+ghost use Rattle.std.specs.Prelude.{◌≡◌, ◌<◌, ◌≤◌, suc, [], ◌∷◌, ◌++◌, drop, length, map, IfOk, OnOk, OnErr};
 ghost use Rattle.yt_base.specs.Meanings.{change_of};
 ghost use Rattle.yt_queue.specs.Programs.{IsBetween};
 ghost use Rattle.yt_queue.specs.Queues.{AreFrom};
@@ -11,6 +11,7 @@ ghost use Rattle.yt_core.specs.Follows.{AreSame, HasRoomAt, IsPlanAt, IsPrepared
 ghost use Rattle.yt_core.specs.Steps.{HasHidden, HasTurned, ShowsStep, WereFound, IsPrepared};
 
 use crate::aftermaths::{Aftermath, settled};
+use crate::alone::{prepare_alone, stays};
 use std::alloc::Global;
 use yt_base::{Memory, TryCopy, Write, WriteList};
 use yt_cascade::Cascade;
@@ -133,8 +134,8 @@ fn versions_after(
     Ok(after)
 }
 
-// Whether the attempt ended spent or refused.
-fn hides(program: &Program) -> bool
+/// Whether the attempt ended spent or refused.
+pub(crate) fn hides(program: &Program) -> bool
     requires between { IsBetween program.now }
     ensures hidden { HasHidden program.now result }
 {
@@ -144,8 +145,8 @@ fn hides(program: &Program) -> bool
     )
 }
 
-// Copies of the writes.
-fn copied(alloc: Global, writes: &[Write]) -> Result<WriteList, Memory>
+/// Copies of the writes. It is refused only for want of memory.
+pub(crate) fn copied(alloc: Global, writes: &[Write]) -> Result<WriteList, Memory>
     ensures same { IfOk result (λ copies. map change_of copies.items ≡ map change_of writes.now) }
 {
     let mut copies = WriteList::new(alloc);
@@ -156,14 +157,15 @@ fn copied(alloc: Global, writes: &[Write]) -> Result<WriteList, Memory>
 }
 
 /// What the step of the plan leaves, which is one of the update at the place, where at least so many are committed and at
-/// most so many have read something. It is refused only for want of memory.
+/// most so many have read something. The versions may be handed over with it. It is refused only for want of memory; the versions
+/// are then as they were.
 pub(crate) fn prepare_at(
     alloc: Global,
     mappings: &Mappings<'_>,
     settings: Settings,
     least: u32,
     most: u32,
-    versions: &Versions,
+    versions: &mut Versions,
     queue: &[Record],
     place: usize,
     plan: &Plan,
@@ -176,13 +178,18 @@ pub(crate) fn prepare_at(
     requires more { AllHaveOneMore queue.now }
     requires after { IsBetween plan.now.program }
     ensures prepared { IfOk result (IsPreparedAt mappings.now
-        (settings_of settings) place plan.now versions.now queue.now) }
+        (settings_of settings) place plan.now versions.old queue.now) }
     ensures fresh { IfOk result (λ p. AreFresh (drop (suc place) queue.now) p.left.fresh.items) }
+    ensures err { OnErr result (versions.new ≡ versions.old) }
 {
     let committed = committed_from(queue, least);
     let item = &queue[place];
     let upper = above(queue, place);
     let readers = readers_above(queue, place, most);
+    if readers == 0 && stays(&plan.program) {
+        let prepared = prepare_alone(alloc, versions, item, plan)?;
+        return Ok(prepared);
+    }
     let prepared = prepare(
         alloc, mappings, settings, committed, versions, item, upper, readers, plan,
     )?;

@@ -15,6 +15,7 @@ use crate::tables::Table;
 use crate::taken::Taken;
 use std::alloc::Global;
 use std::marker::Model;
+use std::mem;
 use std::sync::Arc;
 use yt_base::{Facts, Tuple, Write};
 use yt_facts::IndexedFacts;
@@ -58,6 +59,20 @@ impl Versions {
         }
     }
 
+    /// The versions, handed over: what is left are those of the base that no update has written to. No other handle is made, so that a write
+    /// may go in place. It is refused only for want of memory; nothing is then changed.
+    pub fn hand_over(&mut self) -> Result<Versions, Memory>
+        ensures same { IfOk result (λ versions. versions ≡ self.old) }
+        ensures err { OnErr result (self.new ≡ self.old) }
+    {
+        let bare = Versions {
+            base: Arc::try_clone(&self.base)?,
+            taken: Taken::none(),
+            table: Table::none(),
+        };
+        Ok(mem::replace(self, bare))
+    }
+
     /// Another handle to the same versions, in constant time. It is refused only for want of memory.
     pub fn share(&self) -> Result<Versions, Memory>
         ensures same { IfOk result (λ copy. copy ≡ self.now) }
@@ -74,6 +89,9 @@ impl Versions {
         ensures ok { OnOk result (Published number (map change_of writes.now) self.old self.new) }
         ensures err { OnErr result (self.new ≡ self.old) }
     {
+        if writes.is_empty() {
+            return Ok(());
+        }
         if let Some(write) = alone(writes) {
             self.write(alloc, number, write)?;
             return Ok(());

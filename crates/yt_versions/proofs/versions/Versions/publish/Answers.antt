@@ -1,4 +1,6 @@
-use Rattle.std.proofs.Common.{ap, sym, ◌∙◌, map}
+use Rattle.std.proofs.Common.{◌≡◌, ap, sym, ◌∙◌, [], map, length, arith}
+use Rattle.std.proofs.lemmas.Grind.{common_steps}
+use Rattle.std.proofs.lemmas.List.{nil_from_length}
 use Rattle.yt_base.specs.Meanings.{change_of}
 use Rattle.yt_versions.specs.Standing.{Kept, known_at}
 use Rattle.yt_versions.specs.Touches.{published_at}
@@ -16,3 +18,10 @@ returns-in-Some-clause-ok c =
     let ws = map change_of c.args.writes.now in
     published_stands c.args.number ws c.args.self.now c.write.new.self c.in_ok-write.ensures.kept
     (λ t. c.in_ok-write.ensures.known t ∙ ap (λ cs. published_at c.args.number cs t (known_at c.args.self.now t)) (sym c.in-Some.ensures.alone))
+
+pub returns-then-is_empty-clause-ok : goal.returns-then-is_empty-clause-ok
+returns-then-is_empty-clause-ok c D before after stood =
+    let none : length c.args.writes.now ≡ 0 = grind (arith, common_steps) in
+    let nil : map change_of c.args.writes.now ≡ [] = ap (map change_of) (nil_from_length c.args.writes.now none) in
+    published_stands c.args.number (map change_of c.args.writes.now) c.args.self.now c.args.self.now stood.kept
+    (λ t. ap (λ cs. published_at c.args.number cs t (known_at c.args.self.now t)) (sym nil)) D before after stood

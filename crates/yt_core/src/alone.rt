@@ -1,0 +1,77 @@
+//! A step above which nobody has read anything: its writes go in place, and no update restarts.
+ghost use Rattle.std.specs.Prelude.{◌≡◌, [], false, IsTrue, IfOk, OnErr};
+ghost use Rattle.yt_queue.specs.Programs.{HasSpent, IsBetween};
+ghost use Rattle.yt_core.specs.Steps.{HasHidden, IsPreparedAlone, ShowsStep};
+
+use crate::aftermaths::Aftermath;
+use crate::stepping::{Prepared, copied, hides};
+use std::alloc::Global;
+use yt_base::Memory;
+use yt_entries::CauseList;
+use yt_plan::Plan;
+use yt_program::Program;
+use yt_queue::{Record, has_spent};
+use yt_versions::Versions;
+
+/// Whether the attempt goes on, or has ended by being done: its writes stay.
+pub(crate) fn stays(program: &Program) -> bool
+    requires between { IsBetween program.now }
+    ensures shown { IsTrue result → HasHidden program.now false }
+    ensures unspent { IsTrue result → HasSpent program.now false }
+{
+    if hides(program) {
+        return false;
+    }
+    !has_spent(program)
+}
+
+/// What the step of the plan leaves, where none of the updates above has read anything. The versions are handed over, with its
+/// writes in place. It is refused only for want of memory; the versions are then as they were.
+pub(crate) fn prepare_alone(
+    alloc: Global,
+    versions: &mut Versions,
+    item: &Record,
+    plan: &Plan,
+) -> Result<Prepared, Memory>
+    requires between { IsBetween item.now.program }
+    requires after { IsBetween plan.now.program }
+    requires shown { HasHidden plan.now.program false }
+    requires unspent { HasSpent plan.now.program false }
+    ensures prepared { IfOk result (IsPreparedAlone versions.old item.now plan.now) }
+    ensures fresh { IfOk result (λ p. p.left.fresh.items ≡ []) }
+    ensures err { OnErr result (versions.new ≡ versions.old) }
+{
+    let writes = copied(alloc, item.written(plan))?;
+    let after = published(alloc, versions, item, plan)?;
+    Ok(Prepared {
+        writes,
+        left: Aftermath {
+            versions: after,
+            fresh: Vec::new(alloc),
+            causes: CauseList::new(alloc),
+        },
+    })
+}
+
+// The versions, handed over, with the writes that the step shows.
+fn published(
+    alloc: Global,
+    versions: &mut Versions,
+    item: &Record,
+    plan: &Plan,
+) -> Result<Versions, Memory>
+    requires between { IsBetween item.now.program }
+    requires after { IsBetween plan.now.program }
+    requires shown { HasHidden plan.now.program false }
+    ensures shows { IfOk result (ShowsStep item.now plan.now versions.old) }
+    ensures err { OnErr result (versions.new ≡ versions.old) }
+{
+    let mut after = versions.hand_over()?;
+    match after.publish(alloc, item.number(), item.written(plan)) {
+        Ok(()) => Ok(after),
+        Err(refusal) => {
+            *versions = after;
+            Err(refusal)
+        }
+    }
+}
