@@ -7,6 +7,7 @@ ghost use Rattle.yt_model.specs.Repository.{has, change, Insert, Delete, IsRepos
 ghost use Rattle.yt_base.specs.Candidates.{column_of, is_candidate, AreAll};
 ghost use Rattle.yt_base.specs.Meanings.{fact_of};
 
+use crate::course::Hides;
 use crate::listed::{Held, ListedFacts};
 use crate::plain::PlainFacts;
 use std::alloc::Global;
@@ -173,5 +174,13 @@ impl Facts for Group {
             Held::Listed(tuples) => tuples.scan(relation, column, value, past),
             Held::Tree(facts) => facts.scan(relation, column, value, past),
         }
+    }
+}
+
+impl Hides for Group {
+    ghost hidden = { λ D. D };
+
+    fn hides(&self, tuple: &Tuple) -> bool {
+        self.contains(tuple)
     }
 }
