@@ -4,6 +4,7 @@ use Rattle.std.specs.List.{AllByRecursion, list_any}
 use Rattle.std.specs.List.Sorted.{IsStrictlySortedBy}
 use Rattle.std.specs.Ordering.{is_lt, is_le, ordering_reverse}
 use Rattle.std.specs.Prelude.{filter, find, is_some}
+use Rattle.std.specs.Cmp.{tied_itself}
 use Rattle.std.specs.declared.cmp.Ordering.{Ordering}
 use Rattle.std.specs.declared.cmp.Ordering.TheVariants.{Less, Equal, Greater}
 use Rattle.std.proofs.Math.Seq.{take-length}
@@ -62,6 +63,39 @@ from_between (u ∷ D) t zero h b =
 from_between (u ∷ D) t (suc i) h b =
     rw (turned (fact_of u) (fact_of t) Less (b.0 0 t (omega arith) (omega arith)))
     (from_between D t i (omega arith) (λ k d x y. b.0 (suc k) d (omega arith) (omega arith), λ k d x y. b.1 (suc k) d (omega arith) (omega arith)))
+
+-- ---- above a tuple
+
+-- What is above a tuple is beyond it.
+kept_above_it : (t : Fact) (D : List Fact) → AllByRecursion (λ y. fact_cmp t y ≡ Less) D → D ≡ filter (is_beyond (Some t)) D
+kept_above_it t [] a = refl
+kept_above_it t (u ∷ D) a = rw a.0 (ap (λ l. u ∷ l) (kept_above_it t D a.1))
+
+not_above_itself : (t : Fact) → is_beyond (Some t) t ≡ false
+not_above_itself t = ap is_lt (tied_itself fact_total t)
+
+pub above_there : (D : List Tuple) (t : Tuple) (i j : ℕ) → j ≡ suc i → IsRepository (map fact_of D) → i < length D → StandsAt D t i → map fact_of (drop j D) ≡ filter (is_beyond (Some (fact_of t))) (map fact_of D)
+unfolding IsStrictlySortedBy
+above_there [] t i j next s h e = absurd (omega arith)
+above_there (u ∷ D) t zero j next s h e =
+    let same : fact_of u ≡ fact_of t = fact_exact (fact_of u) (fact_of t) (e t) in
+    let left : is_beyond (Some (fact_of t)) (fact_of u) ≡ false = ap (is_beyond (Some (fact_of t))) same ∙ not_above_itself (fact_of t) in
+    ap (λ (k : ℕ). map fact_of (drop k (u ∷ D))) next
+    ∙ rw left (kept_above_it (fact_of t) (map fact_of D) (subst (λ (v : Fact). AllByRecursion (λ y. fact_cmp v y ≡ Less) (map fact_of D)) same s.0))
+above_there (u ∷ D) t (suc i) j next s h e =
+    let below : fact_cmp (fact_of u) (fact_of t) ≡ Less = above_all (fact_of u) (fact_of t) (map fact_of D) s.0 (there D t i (omega arith) e) in
+    ap (λ (k : ℕ). map fact_of (drop k (u ∷ D))) next
+    ∙ rw (turned (fact_of u) (fact_of t) Less below) (above_there D t i (suc i) refl s.1 (omega arith) e)
+
+pub above_between : (D : List Tuple) (t : Tuple) (i : ℕ) → i ≤ length D → IsBetween D t i → map fact_of (drop i D) ≡ filter (is_beyond (Some (fact_of t))) (map fact_of D)
+above_between [] t zero h b = refl
+above_between [] t (suc i) h b = absurd (omega arith)
+above_between (u ∷ D) t zero h b =
+    rw (turned (fact_of u) (fact_of t) Greater (b.1 0 t (omega arith) (omega arith)))
+    (ap (λ l. fact_of u ∷ l) (above_between D t zero (omega arith) (λ k d x y. absurd (omega arith), λ k d x y. b.1 (suc k) d (omega arith) (omega arith))))
+above_between (u ∷ D) t (suc i) h b =
+    rw (turned (fact_of u) (fact_of t) Less (b.0 0 t (omega arith) (omega arith)))
+    (above_between D t i (omega arith) (λ k d x y. b.0 (suc k) d (omega arith) (omega arith), λ k d x y. b.1 (suc k) d (omega arith) (omega arith)))
 
 -- The rest of a list, as a slice from a place on gives it.
 pub slice_from : {A : Type 0} (D : List A) (i : ℕ) → take (length D - i) (drop i D) ≡ drop i D

@@ -1,5 +1,5 @@
 -- What a set has at hand of the candidates of a relation, or of a relation and a column's value.
-use Rattle.std.proofs.Common.{◌≡◌, ℕ, ◌+◌, ◌<◌, ◌≤◌, arith, ap, refl, sym, ◌∙◌, subst, List, [], ◌∷◌, map, Bool, true, false, ◌||◌, ◌&&◌, not, cond, Option, inl, inr}
+use Rattle.std.proofs.Common.{◌≡◌, ℕ, ◌+◌, ◌<◌, ◌≤◌, arith, ap, refl, sym, ◌∙◌, subst, List, [], ◌∷◌, map, Bool, true, false, ◌||◌, ◌&&◌, not, cond, Option, Some, None, inl, inr}
 use Rattle.std.specs.declared.vec.Vec.{Vec}
 use Rattle.std.specs.declared.alloc.Global.{Global}
 use Rattle.std.specs.Cmp.Lexicographic.{slice_cmp}
@@ -12,12 +12,13 @@ use Rattle.std.proofs.lemmas.Bool.{eq-eqb, ne_eqb, cases_eq}
 use Rattle.std.proofs.lemmas.Cmp.{ranked}
 use Rattle.yt_model.specs.Values.{Datum, Fact, datum_cmp, fact_cmp, same_fact}
 use Rattle.yt_model.specs.Repository.{IsRepository, has}
-use Rattle.yt_model.specs.Cursors.{is_of}
+use Rattle.yt_model.specs.Cursors.{is_of, is_past, is_beyond}
 use Rattle.yt_model.proofs.Bools.{differ, and-true}
 use Rattle.yt_model.proofs.Members.{has-filter}
 use Rattle.yt_model.proofs.Ranges.{least, from_least, from_least_of, relation_le}
+use Rattle.yt_model.proofs.Searches.{filter_all}
 use Rattle.yt_model.proofs.Sets.{filter_in_order, same_exact, same_repository}
-use Rattle.yt_base.specs.Candidates.{is_candidate, AreAll, AreFirst}
+use Rattle.yt_base.specs.Candidates.{is_candidate, all_candidates, further_candidates, AreAll, AreFirst}
 use Rattle.yt_base.proofs.NextCandidates.{candidate_of}
 use Rattle.yt_base.specs.Meanings.{fact_of}
 use Rattle.yt_base.specs.declared.candidates.Candidates.{Candidates}
@@ -25,6 +26,7 @@ use Rattle.yt_base.specs.declared.candidates.Candidates.TheVariants.{Apart, Abse
 use Rattle.yt_base.specs.declared.tuples.Tuple.{Tuple}
 use Rattle.yt_facts.specs.Indexes.{Kept, kept_at, is_in, IsIndex}
 use Rattle.yt_facts.specs.Overlaid.{overlaid}
+use Rattle.yt_facts.proofs.Ahead.{beyond_from}
 use Rattle.yt_facts.proofs.Overlays.{has-overlaid, overlaid_in_order}
 
 -- ---- the tuples of one relation
@@ -77,6 +79,35 @@ in_relation p r h (k ∷ ks) =
     by true = refl
     by false = refl
 
+-- Up to the least tuple of the next relation those above a tuple are of its relation.
+past_within : (t u : Fact) → (is_beyond (Some t) u && not (is_le (fact_cmp (least (t.relation + 1)) u))) ≡ is_past t u
+past_within t u = elim (cases_eq u.relation t.relation) [
+  | inl e ↦
+      (λ i. is_beyond (Some t) u && not (below_next t.relation u (omega (arith, e)) i))
+      ∙ and-true (is_beyond (Some t) u)
+      ∙ sym (ap (λ b. b && is_beyond (Some t) u) (eq-eqb u.relation t.relation e))
+  | inr n ↦ by (is_beyond (Some t) u) refl n ∙ sym (ap (λ b. b && is_beyond (Some t) u) (ne_eqb u.relation t.relation n))
+]
+  where
+    by : (b : Bool) → is_beyond (Some t) u ≡ b → (u.relation ≡ t.relation → ⊥) → (b && not (is_le (fact_cmp (least (t.relation + 1)) u))) ≡ false
+    by true e n =
+        let from : t.relation ≤ u.relation = relation_le t u (beyond_from t u e) in
+        ap not (from_next t.relation u (omega (arith, from, n)))
+    by false e n = refl
+
+-- What a range of the set holds means what passes in it.
+pub filter_mapped : (p : Tuple → Bool) (q : Fact → Bool) → ((k : Tuple) → p k ≡ q (fact_of k)) → (ks : List Tuple) → map fact_of (filter p ks) ≡ filter q (map fact_of ks)
+filter_mapped p q same [] = refl
+filter_mapped p q same (k ∷ ks) = by (p k) (filter_mapped p q same ks) ∙ ap (λ b. cond b (fact_of k ∷ filter q (map fact_of ks)) (filter q (map fact_of ks))) (same k)
+  where
+    by : (b : Bool) → map fact_of (filter p ks) ≡ filter q (map fact_of ks) → map fact_of (cond b (k ∷ filter p ks) (filter p ks)) ≡ cond b (fact_of k ∷ filter q (map fact_of ks)) (filter q (map fact_of ks))
+    by true h = ap (λ l. fact_of k ∷ l) h
+    by false h = h
+
+-- So the range from behind a tuple up to the next relation.
+pub past_in_range : (p : Tuple → Bool) (t : Fact) → ((k : Tuple) → p k ≡ (is_beyond (Some t) (fact_of k) && not (is_le (fact_cmp (least (t.relation + 1)) (fact_of k))))) → (ks : List Tuple) → map fact_of (filter p ks) ≡ filter (is_past t) (map fact_of ks)
+past_in_range p t h = filter_mapped p (is_past t) (λ k. h k ∙ past_within t (fact_of k))
+
 -- ---- whether there is one
 
 -- Where no tuple is of the relation none is a candidate.
@@ -92,9 +123,26 @@ none_of_relation r c (u ∷ D) e = by (is_of r u) refl (is_candidate r c u) refl
 -- ---- the tuples with a value in a column
 
 -- What the index keeps at a column's value is all that the set has with it.
-pub group_all : (D : List Fact) (ms : List (Vec Kept Global)) (r c : ℕ) (d : Datum) (G : List Fact) → IsRepository D → IsIndex D ms → G ≡ kept_at ms r c d → IsRepository G → filter (is_in r c d) D ≡ G
+group_all : (D : List Fact) (ms : List (Vec Kept Global)) (r c : ℕ) (d : Datum) (G : List Fact) → IsRepository D → IsIndex D ms → G ≡ kept_at ms r c d → IsRepository G → filter (is_in r c d) D ≡ G
 group_all D ms r c d G s x e t =
     sym (same_repository G (filter (is_in r c d) D) t (filter_in_order (is_in r c d) D s) (λ u. ap (λ (l : List Fact). has l u) e ∙ x r c d u ∙ sym (has-filter (is_in r c d) D u)))
+
+-- What passes p among what passes q.
+filter_among : (p q : Fact → Bool) (D : List Fact) → filter (λ u. p u && q u) D ≡ filter q (filter p D)
+filter_among p q [] = refl
+filter_among p q (u ∷ D) = by (p u) (filter_among p q D)
+  where
+    by : (b : Bool) → filter (λ v. p v && q v) D ≡ filter q (filter p D) → cond (b && q u) (u ∷ filter (λ v. p v && q v) D) (filter (λ v. p v && q v) D) ≡ filter q (cond b (u ∷ filter p D) (filter p D))
+    by true h = λ i. cond (q u) (u ∷ h i) (h i)
+    by false h = h
+
+further_among : (D : List Fact) (r : ℕ) (c : Option (ℕ × Datum)) (past : Option Fact) → further_candidates D r c past ≡ filter (is_beyond past) (all_candidates D r c)
+further_among D r c None = sym (filter_all (all_candidates D r c))
+further_among D r c (Some t) = filter_among (is_candidate r c) (is_beyond (Some t)) D
+
+-- So of those beyond a tuple.
+pub group_further : (D : List Fact) (ms : List (Vec Kept Global)) (r c : ℕ) (d : Datum) (past : Option Fact) (G : List Fact) → IsRepository D → IsIndex D ms → G ≡ kept_at ms r c d → IsRepository G → further_candidates D r (Some (c, d)) past ≡ filter (is_beyond past) G
+group_further D ms r c d past G s x e t = further_among D r (Some (c, d)) past ∙ ap (filter (is_beyond past)) (group_all D ms r c d G s x e t)
 
 -- ---- through writes
 

@@ -16,8 +16,8 @@ use Rattle.yt_model.proofs.Order.{fact_total}
 use Rattle.yt_model.proofs.Searches.{find_filter, find_same, filter_as, none_passes, found_passes}
 use Rattle.yt_base.specs.Meanings.{datum_of}
 use Rattle.yt_facts.specs.Courses.{ahead, is_ahead, comes_after}
-use Rattle.yt_facts.specs.declared.overlay.Course.{Course}
-use Rattle.yt_facts.specs.declared.overlay.Course.TheVariants.{All, Relation, Column}
+use Rattle.yt_facts.specs.declared.course.Course.{Course}
+use Rattle.yt_facts.specs.declared.course.Course.TheVariants.{All, Relation, Column}
 use Rattle.yt_facts.proofs.Unions.{lt_less}
 
 -- What passes p and is above a tuple that passes p is what comes after it by q.

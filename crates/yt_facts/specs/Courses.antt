@@ -3,8 +3,8 @@ use Rattle.std.specs.Prelude.{ℕ, Bool, ◌&&◌, List, [], ◌∷◌, filter, 
 use Rattle.yt_model.specs.Values.{Fact}
 use Rattle.yt_model.specs.Cursors.{is_of, is_past, is_beyond, is_scanned}
 use Rattle.yt_base.specs.Meanings.{datum_of}
-use Rattle.yt_facts.specs.declared.overlay.Course.{Course}
-use Rattle.yt_facts.specs.declared.overlay.Course.TheVariants.{All, Relation, Column}
+use Rattle.yt_facts.specs.declared.course.Course.{Course}
+use Rattle.yt_facts.specs.declared.course.Course.TheVariants.{All, Relation, Column}
 
 -- The tuple is of the relation, beyond the given one.
 abbrev pub is_ahead : ℕ → Option Fact → Fact → Bool

@@ -1,11 +1,13 @@
 //! Sets that mostly have few tuples.
 ghost use Rattle.std.specs.List.{list_any};
-ghost use Rattle.std.specs.Option.{option_map};
-ghost use Rattle.std.specs.Prelude.{◌≡◌, [], false, not, length, IsTrue, IfOk, OnOk, OnErr, IfErr};
+ghost use Rattle.std.specs.Option.{option_map, option_copied};
+ghost use Rattle.std.specs.Prelude.{◌≡◌, [], false, not, length, filter, IsTrue, IfOk, OnOk, OnErr, IfErr};
+ghost use Rattle.yt_model.specs.Cursors.{is_beyond};
 ghost use Rattle.yt_model.specs.Repository.{has, change, Insert, Delete, IsRepository};
 ghost use Rattle.yt_base.specs.Candidates.{column_of, is_candidate, AreAll};
 ghost use Rattle.yt_base.specs.Meanings.{fact_of};
 
+use crate::course::Hides;
 use crate::listed::{Held, ListedFacts};
 use crate::plain::PlainFacts;
 use std::alloc::Global;
@@ -117,14 +119,15 @@ impl Group {
         }
     }
 
-    /// All its tuples, at hand.
-    pub fn at_hand(&self) -> Candidates<'_>
-        ensures all { AreAll result self.now self.now }
+    /// All its tuples above the given one, or all where none is given, at hand.
+    pub fn at_hand(&self, past: Option<&Tuple>) -> Candidates<'_>
+        ensures all { AreAll result self.now
+            (filter (is_beyond (option_map fact_of (option_copied past.entry))) self.now) }
         ensures in_order { IsRepository self.now }
     {
         match &self.held {
-            Held::Listed(tuples) => Candidates::Listed(tuples.as_slice()),
-            Held::Tree(facts) => Candidates::Together(facts.range()),
+            Held::Listed(tuples) => Candidates::Listed(tuples.behind(past)),
+            Held::Tree(facts) => Candidates::Together(facts.range(past)),
         }
     }
 }
@@ -175,5 +178,13 @@ impl Facts for Group {
             Held::Listed(tuples) => tuples.scan(relation, column, value, past),
             Held::Tree(facts) => facts.scan(relation, column, value, past),
         }
+    }
+}
+
+impl Hides for Group {
+    ghost hidden = { λ D. D };
+
+    fn hides(&self, tuple: &Tuple) -> bool {
+        self.contains(tuple)
     }
 }

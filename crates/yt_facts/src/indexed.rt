@@ -1,8 +1,6 @@
 //! An ordered set of tuples with an index on each column.
 ghost use Rattle.std.specs.Prelude.{◌≡◌, [], not, length, map, IfOk, OnOk, OnErr, IfErr};
 ghost use Rattle.yt_model.specs.Repository.{has, change, Insert, Delete, IsRepository};
-ghost use Rattle.std.specs.Option.{option_map};
-ghost use Rattle.yt_base.specs.Candidates.{column_of, all_candidates, AreAll};
 ghost use Rattle.yt_base.specs.Meanings.{fact_of};
 ghost use Rattle.yt_facts.specs.Indexes.{IsIndex, IsIndexBut};
 
@@ -184,25 +182,12 @@ impl Facts for IndexedFacts {
         column: Option<Column<'_>>,
         past: Option<&Tuple>,
     ) -> Candidates<'_> {
-        match past {
-            Some(_) => Candidates::Apart,
-            None => self.all_candidates(relation, column),
-        }
-    }
-}
-
-impl IndexedFacts {
-    // All candidates.
-    fn all_candidates(&self, relation: u16, column: Option<Column<'_>>) -> Candidates<'_>
-        ensures all { AreAll result self.now
-            (all_candidates self.now relation (option_map column_of column.entry)) }
-    {
         match column {
             Some(column) => match kept(&self.relations, relation, column.number, column.value) {
-                Some(group) => group.at_hand(),
+                Some(group) => group.at_hand(past),
                 None => Candidates::Absent,
             },
-            None => self.all.relation(relation),
+            None => self.all.relation(relation, past),
         }
     }
 }

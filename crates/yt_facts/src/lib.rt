@@ -3,6 +3,7 @@
 #![tactic(auto)]
 
 mod columns;
+mod course;
 mod group;
 mod indexed;
 mod listed;
@@ -12,6 +13,7 @@ mod relations;
 mod rising;
 mod scanned;
 
+pub use crate::course::{Course, Hides, least, remaining};
 pub use crate::indexed::IndexedFacts;
 pub use crate::overlay::Overlay;
 pub use crate::plain::PlainFacts;

@@ -1,7 +1,7 @@
 //! A set of tuples in a list.
 ghost use Rattle.std.specs.Option.{option_map, option_copied};
 ghost use Rattle.std.specs.List.{list_any, remove};
-ghost use Rattle.std.specs.Prelude.{◌≡◌, ◌<◌, ◌≤◌, [], false, not, length, map, filter, find, IsTrue, IfOk, OnOk, OnErr, IfErr};
+ghost use Rattle.std.specs.Prelude.{◌≡◌, ◌<◌, ◌≤◌, [], false, not, length, map, filter, find, Some, IsTrue, IfOk, OnOk, OnErr, IfErr};
 ghost use Rattle.yt_model.specs.Cursors.{is_beyond as is_beyond_tuple, first_of, next_of, scan_of};
 ghost use Rattle.yt_model.specs.Repository.{has, change, Insert, Delete, IsRepository};
 ghost use Rattle.yt_base.specs.Candidates.{column_of, is_candidate as is_candidate_tuple};
@@ -68,12 +68,17 @@ impl ListedFacts {
         self.tuples.len()
     }
 
-    /// All its tuples, in order.
-    pub(crate) fn as_slice(&self) -> &[Tuple]
-        ensures tuples { map fact_of result.now ≡ self.now }
+    /// All its tuples above the given one, or all where none is given, in order.
+    pub(crate) fn behind(&self, past: Option<&Tuple>) -> &[Tuple]
+        ensures tuples { map fact_of result.now ≡
+            filter (is_beyond_tuple (option_map fact_of (option_copied past.entry))) self.now }
         ensures in_order { IsRepository self.now }
     {
-        self.tuples.as_slice()
+        let tuples = self.tuples.as_slice();
+        match past {
+            Some(before) => above(tuples, before),
+            None => tuples,
+        }
     }
 
     /// The tuples as a list. It is refused only for want of memory.
@@ -282,6 +287,18 @@ fn from<'a>(tuples: &'a [Tuple], tuple: &Tuple) -> &'a [Tuple]
 {
     match tuples.binary_search(tuple) {
         Ok(place) => &tuples[place..],
+        Err(place) => &tuples[place..],
+    }
+}
+
+// The tuples that are above the given one.
+fn above<'a>(tuples: &'a [Tuple], tuple: &Tuple) -> &'a [Tuple]
+    requires in_order { IsRepository (map fact_of tuples.now) }
+    ensures rest { map fact_of result.now ≡
+        filter (is_beyond_tuple (Some (fact_of tuple.now))) (map fact_of tuples.now) }
+{
+    match tuples.binary_search(tuple) {
+        Ok(place) => &tuples[place + 1..],
         Err(place) => &tuples[place..],
     }
 }

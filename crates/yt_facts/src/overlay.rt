@@ -1,13 +1,12 @@
 //! A set of tuples as writes leave it, without a copy of the set.
-ghost use Rattle.std.specs.Prelude.{◌≡◌, ◌&&◌, not, find, map, OnErr, OnOk};
-ghost use Rattle.std.specs.Option.{option_map, option_copied};
+ghost use Rattle.std.specs.Prelude.{◌≡◌, ◌&&◌, not, map, OnErr, OnOk};
+ghost use Rattle.std.specs.Option.{option_map};
 ghost use Rattle.yt_model.specs.Repository.{Delete, Insert, has, change, apply, IsRepository};
 ghost use Rattle.yt_base.specs.Candidates.{column_of, all_candidates, AreAll};
 ghost use Rattle.yt_base.specs.Meanings.{fact_of, change_of};
-ghost use Rattle.yt_facts.specs.Courses.{comes_after, ahead};
-ghost use Rattle.yt_facts.specs.Overlaid.{lesser};
 ghost use Rattle.yt_facts.specs.Begun.{HoldsOfFirst};
 
+use crate::course::{Course, least, remaining};
 use crate::group::Group;
 use std::alloc::Global;
 use std::marker::Model;
@@ -179,68 +178,4 @@ fn is_left<F: Facts>(facts: &F, gone: &Group, tuple: &Tuple) -> bool
     ensures in_order { IsRepository (F.tuples facts.now) }
 {
     facts.contains(tuple) && !gone.contains(tuple)
-}
-
-// Which tuples a cursor goes over: all, those of a relation, or those of a relation with a value in a column.
-#[derive(Drop)]
-enum Course<'v> {
-    All,
-    Relation,
-    Column(u16, u16, &'v Value),
-}
-
-// The first tuple from the cursor on that is not gone.
-fn remaining<'a, F: Facts>(
-    facts: &'a F,
-    gone: &Group,
-    course: &Course<'_>,
-    from: Option<&'a Tuple>,
-) -> Option<&'a Tuple>
-    ensures found { option_map fact_of (option_copied result) ≡
-        find (λ u. not (has gone.now u))
-        (ahead (comes_after course.now) (F.tuples facts.now)
-        (option_map fact_of (option_copied from.entry))) }
-{
-    let mut cursor = from;
-    while let Some(tuple) = cursor {
-        if !gone.contains(tuple) {
-            return Some(tuple);
-        }
-        cursor = next(facts, course, tuple);
-    }
-    None
-}
-
-// The next tuple on the course.
-fn next<'a, F: Facts>(facts: &'a F, course: &Course<'_>, tuple: &Tuple) -> Option<&'a Tuple>
-    ensures found { option_map fact_of (option_copied result) ≡
-        find (comes_after course.now (fact_of tuple.now)) (F.tuples facts.now) }
-    ensures in_order { IsRepository (F.tuples facts.now) }
-{
-    match course {
-        Course::All => facts.beyond(Some(tuple)),
-        Course::Relation => facts.after(tuple),
-        Course::Column(relation, column, value) => {
-            facts.scan(*relation, *column, *value, Some(tuple))
-        }
-    }
-}
-
-// The lesser of two tuples, of those that there are.
-fn least<'a>(one: Option<&'a Tuple>, other: Option<&'a Tuple>) -> Option<&'a Tuple>
-    ensures least { option_map fact_of (option_copied result) ≡
-        lesser (option_map fact_of (option_copied one.entry))
-        (option_map fact_of (option_copied other.entry)) }
-{
-    let Some(tuple) = one else {
-        return other;
-    };
-    let Some(against) = other else {
-        return one;
-    };
-    if tuple.cmp(against).is_gt() {
-        Some(against)
-    } else {
-        Some(tuple)
-    }
 }

@@ -1,9 +1,10 @@
 //! The tuples of a set as ranges of its tree.
 ghost use Rattle.std.specs.List.{list_any};
-ghost use Rattle.std.specs.Prelude.{◌≡◌, [], ◌+◌, false, map, None, IsTrue};
-ghost use Rattle.yt_model.specs.Cursors.{is_of};
+ghost use Rattle.std.specs.Option.{option_map, option_copied};
+ghost use Rattle.std.specs.Prelude.{◌≡◌, [], ◌+◌, false, map, filter, None, IsTrue};
+ghost use Rattle.yt_model.specs.Cursors.{is_of, is_past, is_beyond};
 ghost use Rattle.yt_model.specs.Repository.{IsRepository};
-ghost use Rattle.yt_base.specs.Candidates.{all_candidates, AreAll};
+ghost use Rattle.yt_base.specs.Candidates.{all_candidates, further_candidates, AreAll};
 ghost use Rattle.yt_base.specs.Meanings.{fact_of};
 
 use super::PlainFacts;
@@ -12,21 +13,37 @@ use std::ops::Bound;
 use yt_base::{Candidates, Tuple};
 
 impl PlainFacts {
-    /// All its tuples, in order.
-    pub(crate) fn range(&self) -> Range<'_, Tuple>
-        ensures tuples { map fact_of result ≡ self.now }
+    /// All its tuples above the given one, or all where none is given, in order.
+    pub(crate) fn range(&self, past: Option<&Tuple>) -> Range<'_, Tuple>
+        ensures tuples { map fact_of result ≡
+            filter (is_beyond (option_map fact_of (option_copied past.entry))) self.now }
         ensures in_order { IsRepository self.now }
     {
-        self.tuples.range(..)
+        match past {
+            Some(tuple) => self
+                .tuples
+                .range((Bound::Excluded(tuple), Bound::Unbounded)),
+            None => self.tuples.range(..),
+        }
     }
 
-    /// All its tuples of the relation. Those of the last relation that there can be stand apart: no tuple bounds them.
-    pub(crate) fn relation(&self, relation: u16) -> Candidates<'_>
-        ensures all { AreAll result self.now (all_candidates self.now relation None) }
+    /// All its tuples of the relation that are above `past`, where that is given. They can stand apart: no tuple bounds those of
+    /// the last relation that there can be, and `past` may be of another relation.
+    pub(crate) fn relation(&self, relation: u16, past: Option<&Tuple>) -> Candidates<'_>
+        ensures all { AreAll result self.now (further_candidates self.now relation None
+            (option_map fact_of (option_copied past.entry))) }
     {
-        match relation.checked_add(1) {
-            Some(next) => Candidates::Together(self.between(relation, next)),
-            None => Candidates::Apart,
+        let Some(next) = relation.checked_add(1) else {
+            return Candidates::Apart;
+        };
+        match past {
+            Some(tuple) => {
+                if tuple.relation != relation {
+                    return Candidates::Apart;
+                }
+                Candidates::Together(self.after_it(tuple, next))
+            }
+            None => Candidates::Together(self.between(relation, next)),
         }
     }
 
@@ -40,6 +57,17 @@ impl PlainFacts {
         let end = Tuple::least(next);
         self.tuples
             .range((Bound::Included(&first), Bound::Excluded(&end)))
+    }
+
+    // All its tuples of the relation of a tuple that are above it, where the next relation is given.
+    fn after_it(&self, tuple: &Tuple, next: u16) -> Range<'_, Tuple>
+        requires next { next ≡ tuple.now.relation + 1 }
+        ensures tuples { map fact_of result ≡ filter (is_past (fact_of tuple.now)) self.now }
+        ensures in_order { IsRepository self.now }
+    {
+        let end = Tuple::least(next);
+        self.tuples
+            .range((Bound::Excluded(tuple), Bound::Excluded(&end)))
     }
 
     /// Whether it is plain that it has no tuple of the relation: it begins behind it, or ends before it.

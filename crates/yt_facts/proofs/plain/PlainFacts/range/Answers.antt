@@ -1,7 +1,21 @@
-use Rattle.std.proofs.Common.{◌∙◌, ap, map}
-use Rattle.yt_model.proofs.Searches.{filter_all}
+use Rattle.std.proofs.Common.{◌∙◌, ap, map, refl, sym, Some, None}
+use Rattle.std.specs.Option.{option_map, option_copied}
+use Rattle.std.specs.Prelude.{filter}
+use Rattle.yt_model.specs.Cursors.{is_beyond}
+use Rattle.yt_model.proofs.Bools.{and-true}
 use Rattle.yt_base.specs.Meanings.{fact_of}
+use Rattle.yt_facts.proofs.AtHand.{filter_mapped}
 use Rattle.yt_facts.proofs.plain.PlainFacts.range.Goals as goal
 
-pub returns-clause-tuples : goal.returns-clause-tuples
-returns-clause-tuples c = ap (map fact_of) (c.range.ensures.between tt ∙ filter_all c.self.inside.tuples.keys) ∙ c.self.view_is
+pub returns-in-Some-clause-tuples : goal.returns-in-Some-clause-tuples
+returns-in-Some-clause-tuples c =
+    let t = fact_of c.in-Some.tuple.now in
+    ap (map fact_of) (c.range.ensures.between tt)
+    ∙ filter_mapped _ (is_beyond (Some t)) (λ k. and-true (is_beyond (Some t) (fact_of k))) c.self.inside.tuples.keys
+    ∙ (λ i. filter (is_beyond (option_map fact_of (option_copied (sym c.in-Some.is i)))) (c.self.view_is i))
+
+pub returns-in-None-clause-tuples : goal.returns-in-None-clause-tuples
+returns-in-None-clause-tuples c =
+    ap (map fact_of) (c.range-in-None.ensures.between tt)
+    ∙ filter_mapped _ (is_beyond None) (λ k. refl) c.self.inside.tuples.keys
+    ∙ (λ i. filter (is_beyond (option_map fact_of (option_copied (sym c.in-None.is i)))) (c.self.view_is i))

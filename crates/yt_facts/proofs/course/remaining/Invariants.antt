@@ -4,13 +4,13 @@ use Rattle.std.specs.Prelude.{find}
 use Rattle.yt_model.specs.Repository.{has}
 use Rattle.yt_base.specs.Meanings.{fact_of}
 use Rattle.yt_facts.specs.Courses.{comes_after, ahead}
-use Rattle.yt_facts.proofs.overlay.remaining.Given as goal
+use Rattle.yt_facts.proofs.course.remaining.Given as goal
 
 -- What is ahead finds what was ahead at the start.
 abbrev pub invariant-loop-cursor : goal.invariant-loop-cursor
 invariant-loop-cursor g l =
-    find (λ u. not (has l.gone u)) (ahead (comes_after l.course) (g.F.Facts.tuples l.facts) (option_map fact_of (option_copied l.cursor)))
-    ≡ find (λ u. not (has l.gone u)) (ahead (comes_after l.course) (g.F.Facts.tuples l.facts) (option_map fact_of (option_copied l.from)))
+    find (λ u. not (has (g.H.Hides.hidden l.hidden) u)) (ahead (comes_after l.course) (g.F.Facts.tuples l.facts) (option_map fact_of (option_copied l.cursor)))
+    ≡ find (λ u. not (has (g.H.Hides.hidden l.hidden) u)) (ahead (comes_after l.course) (g.F.Facts.tuples l.facts) (option_map fact_of (option_copied l.from)))
 
 abbrev pub decreases-loop-cursor : goal.decreases-loop-cursor
 decreases-loop-cursor g l = length (ahead (comes_after l.course) (g.F.Facts.tuples l.facts) (option_map fact_of (option_copied l.cursor)))

@@ -7,7 +7,7 @@ use Rattle.yt_base.specs.Meanings.{fact_of}
 use Rattle.yt_base.specs.declared.tuples.Tuple.{Tuple}
 use Rattle.yt_facts.specs.Courses.{comes_after, ahead}
 use Rattle.yt_facts.proofs.Courses.{miss, fewer, course_follows}
-use Rattle.yt_facts.proofs.overlay.remaining.Goals as goal
+use Rattle.yt_facts.proofs.course.remaining.Goals as goal
 
 pub loop-cursor-smaller : goal.loop-cursor-smaller
 loop-cursor-smaller g c =
@@ -23,7 +23,7 @@ loop-cursor-preserved g c =
     let D = g.F.Facts.tuples c.args.facts.now in
     let q = comes_after c.args.course.now in
     let t = fact_of c.in-Some.tuple.now in
-    let test = λ (u : Fact). not (has c.args.gone.now u) in
+    let test = λ (u : Fact). not (has (g.H.Hides.hidden c.args.hidden.now) u) in
     let at = ap (λ (o : Option (Bor Tuple)). option_map fact_of (option_copied o)) c.in-Some.is in
     miss test q D (option_map fact_of (option_copied c.loop-cursor.cursor)) (find test (ahead q D (option_map fact_of (option_copied c.args.from)))) t (option_map fact_of (option_copied c.next-cursor.result))
-    c.next-cursor.ensures.in_order (course_follows c.args.course.now t) at c.next-cursor.ensures.found (ap not (sym c.if-not-contains.ensures.answer)) c.loop-cursor.invariant
+    c.next-cursor.ensures.in_order (course_follows c.args.course.now t) at c.next-cursor.ensures.found (ap not (sym c.if-not-hides.ensures.answer)) c.loop-cursor.invariant
