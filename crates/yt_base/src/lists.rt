@@ -120,6 +120,22 @@ impl<T> List<T> {
         }
     }
 
+    /// Moves all items of another list behind its own. It is refused only for want of memory, never where `spare` is at
+    /// least as many as they are; both lists are then unchanged.
+    pub fn append(&mut self, other: &mut List<T>) -> Result<(), Memory>
+        ensures ok { OnOk result (self.new.items ≡ self.old.items ++ other.old.items) }
+        ensures moved { OnOk result (other.new.items ≡ []) }
+        ensures err { OnErr result (self.new.items ≡ self.old.items) }
+        ensures kept { OnErr result (other.new.items ≡ other.old.items) }
+        ensures room { length other.old.items ≤ self.old.spare → IsOk result }
+        ensures spare { self.old.spare ≤ self.new.spare + length other.old.items }
+    {
+        match self.items.append(&mut other.items) {
+            Ok(()) => Ok(()),
+            Err(_) => Err(Memory),
+        }
+    }
+
     /// Takes the last item away and gives it; None exactly where the list is empty. It takes no memory.
     pub fn pop(&mut self) -> Option<T>
         ensures last { IfSome result (λ item. self.old.items ≡ self.new.items ++ item ∷ []) }
