@@ -72,17 +72,19 @@ impl<C: Core> Board<C> {
         let Some(update) = self.core.lowest_idle(self.busy.as_slice()) else {
             return Ok(None);
         };
-        let small = self.step_whole(rt, alloc, seat, update)?;
-        Ok(Some(small || alone))
+        let more = self.step_whole(rt, alloc, seat, update, alone)?;
+        Ok(Some(more))
     }
 
-    // Makes the step of the lowest ready update that is not in flight, with the marks of a ticket that is given and returned.
+    // Makes the step of the lowest ready update that is not in flight, with the marks of a ticket that is given and returned, and
+    // tells whether the seat may go on.
     fn step_whole<R: Clock>(
         &mut self,
         rt: &R,
         alloc: Global,
         seat: u64,
         update: u32,
+        alone: bool,
     ) -> Result<bool, Memory>
         requires idle { lowest_idle self.old.over self.old.history self.old.busy ≡ Some update }
         ensures over { self.new.over ≡ self.old.over }
@@ -90,21 +92,22 @@ impl<C: Core> Board<C> {
         ensures kept { OnErr result (items_of self.new ≡ items_of self.old) }
     {
         self.marks.reserve(self.busy.len() + 3)?;
-        let small = make_step(rt, &mut self.core, alloc, update)?;
+        let more = make_step(rt, &mut self.core, alloc, update, alone)?;
         let number = self.given + 1;
         mark_step(&mut self.marks, seat, number, update);
         self.given = number;
-        Ok(small)
+        Ok(more)
     }
 }
 
-// Makes the update's next step, and tells whether it was small: whether its plan was made soon. It takes no snapshot, since
-// nothing else is done meanwhile.
+// Makes the update's next step, and tells whether the seat may go on: it is alone, or the step was small, its plan made soon. It
+// takes no snapshot, since nothing else is done meanwhile.
 fn make_step<R: Clock, C: Core>(
     rt: &R,
     core: &mut C,
     alloc: Global,
     update: u32,
+    alone: bool,
 ) -> Result<bool, Memory>
     requires ready { IsReady (C.over core.old) (C.history core.old) update }
     ensures over { C.over core.new ≡ C.over core.old }
@@ -112,11 +115,24 @@ fn make_step<R: Clock, C: Core>(
         (C.history core.new)) }
     ensures kept { OnErr result (C.history core.new ≡ C.history core.old) }
 {
-    let watch = Watch::start(rt);
+    let watch = watch_unless(rt, alone);
     let plan = core.next_plan(alloc, update)?;
-    let small = watch.shows_small(rt);
+    let more = goes_on(rt, &watch);
     core.install(alloc, plan)?;
-    Ok(small)
+    Ok(more)
+}
+
+// A watch that starts now, unless the seat is alone: nobody then waits for the end of its steps.
+fn watch_unless<R: Clock>(rt: &R, alone: bool) -> Option<Watch> {
+    if alone { None } else { Some(Watch::start(rt)) }
+}
+
+// Whether a seat with this watch goes on, the time since then being that of a step.
+fn goes_on<R: Clock>(rt: &R, watch: &Option<Watch>) -> bool {
+    match watch {
+        Some(watch) => watch.shows_small(rt),
+        None => true,
+    }
 }
 
 // Marks that the seat was given a ticket of this number for the update, made its step and returned it. There is room for that.

@@ -125,13 +125,15 @@ fn queued(alloc: Global, answers: &ChoiceList) -> Result<VecDeque<Choice>, Memor
     Ok(queue)
 }
 
-// Puts the reads at the end of the log, which has room for them.
+// Moves the reads to the end of the log, which has room for them.
 fn take_over(log: &mut ReadLog, reads: ReadLog)
     requires room { length reads.items ≤ log.old.spare }
     ensures all { log.new.items ≡ log.old.items ++ reads.items }
 {
-    for read in reads.into_vec() {
-        put_last(log, read);
+    let mut moved = reads;
+    match log.append(&mut moved) {
+        Ok(()) => {}
+        Err(_) => unreachable!(),
     }
 }
 

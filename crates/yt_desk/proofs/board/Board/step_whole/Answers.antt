@@ -25,9 +25,9 @@ invariant_of-self-2 g c =
     let K = g.C.Core.history c.make_step.new.core in
     let n = i.given + 1 in
     let marks = c.mark_step.ensures.marks ∙ ap (λ l. l ++ step_marked c.args.seat n c.args.update) c.in_ok-reserve.ensures.items in
-    let same = shared_more o _ H K i.opened i.marks.items _ (step_marked c.args.seat n c.args.update) i.busy.items i.busy.items i.given n c.in_ok-small.ensures.over marks in
+    let same = shared_more o _ H K i.opened i.marks.items _ (step_marked c.args.seat n c.args.update) i.busy.items i.busy.items i.given n c.in_ok-more.ensures.over marks in
     let p = step_made (shared o H i.opened i.marks.items i.busy.items i.given) _ _ c.args.seat c.args.update n K c.self.invariant.0 c.self.view_is
-    (subst (λ (b : Shared). lowest_idle b.over b.history b.busy ≡ Some c.args.update) (sym c.self.view_is) c.requires.idle) refl c.in_ok-small.ensures.made same in
+    (subst (λ (b : Shared). lowest_idle b.over b.history b.busy ≡ Some c.args.update) (sym c.self.view_is) c.requires.idle) refl c.in_ok-more.ensures.made same in
     let long = ap length c.mark_step.ensures.marks ∙ length-append c.reserve.new.self.items (step_marked c.args.seat n c.args.update) in
     (p.0, omega (arith, long, c.mark_step.ensures.room, c.in_ok-reserve.ensures.ok, c.in_ok-reserve.ensures.len, c.len.ensures, c.self.invariant.1, i.busy.ok))
 
@@ -39,6 +39,6 @@ returns-clause-step g c =
     let K = g.C.Core.history c.make_step.new.core in
     let n = i.given + 1 in
     let marks = c.mark_step.ensures.marks ∙ ap (λ l. l ++ step_marked c.args.seat n c.args.update) c.in_ok-reserve.ensures.items in
-    let same = shared_more o _ H K i.opened i.marks.items _ (step_marked c.args.seat n c.args.update) i.busy.items i.busy.items i.given n c.in_ok-small.ensures.over marks in
+    let same = shared_more o _ H K i.opened i.marks.items _ (step_marked c.args.seat n c.args.update) i.busy.items i.busy.items i.given n c.in_ok-more.ensures.over marks in
     (step_made (shared o H i.opened i.marks.items i.busy.items i.given) _ _ c.args.seat c.args.update n K c.self.invariant.0 c.self.view_is
-    (subst (λ (b : Shared). lowest_idle b.over b.history b.busy ≡ Some c.args.update) (sym c.self.view_is) c.requires.idle) refl c.in_ok-small.ensures.made same).1
+    (subst (λ (b : Shared). lowest_idle b.over b.history b.busy ≡ Some c.args.update) (sym c.self.view_is) c.requires.idle) refl c.in_ok-more.ensures.made same).1
