@@ -1,4 +1,4 @@
-use Rattle.std.proofs.Common.{◌≡◌, ◌<◌, ◌≤◌, ◌-◌, ℕ}
+use Rattle.std.proofs.Common.{◌<◌, ◌≤◌, ◌-◌}
 use Rattle.yt_model.specs.Queries.{Query, Reply}
 use Rattle.yt_steps.specs.Attempts.{Attempt}
 use Rattle.yt_program.specs.Rows.{Violating, row_tree}
