@@ -42,7 +42,7 @@ use Rattle.yt_versions.specs.Standing.{Kept, seen}
 use Rattle.yt_cascade.specs.declared.lost.Lost.{Lost}
 use Rattle.yt_cascade.specs.Meanings.{Above, found_of, members_of}
 use Rattle.yt_cascade.specs.Reached.{any_reached, first_changed_in, first_by, first_dependent}
-use Rattle.yt_cascade.specs.Walks.{number_of, is_live_in, may_have_cause, conflict_meant, dependence_meant, HasFootprint, HasImpact, IsConflictFor, IsDependenceFor, IsCauseFor, RanBelow}
+use Rattle.yt_cascade.specs.Walks.{number_of, is_live_in, may_have_cause, conflict_meant, dependence_meant, HasFootprint, HasImpact, IsConflictFor, IsDependenceFor, IsCauseFor, HasNoCause, RanBelow}
 use Rattle.yt_cascade.proofs.Firsts.{paired, first_is, reached_is, writer_is}
 
 -- ---- where a cause is looked for
@@ -323,15 +323,19 @@ dependence_then a ws lost r x l f h B conflicting few looks q =
     (λ e. conflict_found a ws lost r l B few q None f)
     (ap (option_map (cause_kept a.rules B)) h ∙ dependence_is a.rules B a.deps (seen (number_of r) a.whole) lost r q.lost (valid_still a ws lost r l B few q f))
 
--- Where nothing was written and nothing is lost there is neither.
-pub nothing_for : (a : Above) (ws : List Change) (lost : Lost) (r : Record) → ws ≡ [] → lost.members.items ≡ [] → IsCauseFor a ws lost r None
-nothing_for a ws lost r e k = by (may_have_cause a.committed r) refl
+-- Where nothing is lost there is no other.
+pub unlost : (a : Above) (ws : List Change) (lost : Lost) (r : Record) → lost.members.items ≡ [] → IsConflictFor a ws r None → IsCauseFor a ws lost r None
+unlost a ws lost r k f = by (may_have_cause a.committed r) refl
   where
     by : (b : Bool) → may_have_cause a.committed r ≡ b → IsCauseFor a ws lost r None
     by true h =
-        dependence_then a ws lost r None h (no_conflict a ws r e)
+        dependence_then a ws lost r None h f
         (ap (λ (ks : List Trail). if is_nil ks then None else option_map (dependence_meant a.rules lost.members.items (number_of r)) (first_dependent a lost r)) (sym k))
     by false h = none_for a ws lost r h
+
+-- Where nothing was written either there is none.
+pub nothing_for : (a : Above) (ws : List Change) (lost : Lost) (r : Record) → ws ≡ [] → lost.members.items ≡ [] → IsCauseFor a ws lost r None
+nothing_for a ws lost r e k = unlost a ws lost r k (no_conflict a ws r e)
 
 -- ---- where no write meets a read
 
@@ -341,3 +345,7 @@ unmet_conflict a ws r v f i n =
     ap (option_map (conflict_meant a.update (number_of r)))
     (none_changed a.rules (direction_of r.program.attempt.operation) (seen (number_of r) a.whole) r.program.attempt.own a.sense (ws ∷ []) (map read_of r.log.items)
     (n a.rules a.sense r.program.attempt.own (ws ∷ []) (map read_of r.log.items) f i))
+
+-- Nor any cause where nothing is lost.
+pub passed : (v : Impact) (lost : Lost) (r : Record) → HasFootprint r → lost.members.items ≡ [] → IsNoneMet (direction_of r.program.attempt.operation) r.footprint v → HasNoCause v lost r
+passed v lost r f k n a ws i = unlost a ws lost r k (unmet_conflict a ws r v f i n)

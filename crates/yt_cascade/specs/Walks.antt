@@ -113,6 +113,10 @@ IsCauseFor a ws lost r x =
     → found_of a.rules B x
     ≡ cause_of (caused_chase a.rules B) a.deps conflicting a.committed a.update (seen (number_of r) a.whole) (seen (number_of r) lost.without) (members_of a.rules B lost.members.items) (number_of r) (update_of a.rules B r)
 
+-- The reader has none, whatever the writes of that impact.
+abbrev pub HasNoCause : Impact → Lost → Record → Type 0
+HasNoCause v lost r = (a : Above) (ws : List Change) → HasImpact a ws v → IsCauseFor a ws lost r None
+
 -- Update n, where these were its writes, has lost them, and is the last of the members.
 pub record Loses (n : ℕ) (ws : List Change) (old new : Lost) : Type 0 where
   pub retracted : Retracted n ws old.without new.without

@@ -5,7 +5,7 @@ ghost use Rattle.yt_queue.specs.Queues.{AreFrom};
 ghost use Rattle.yt_queue.specs.Walks.{ReadsAtMost};
 ghost use Rattle.yt_cascade.specs.Causes.{AreCausesOfWrites, AreCausesOfLoss};
 ghost use Rattle.yt_cascade.specs.Meanings.{above_of};
-ghost use Rattle.yt_cascade.specs.Walks.{AreFound, HasLostImpact, padded};
+ghost use Rattle.yt_cascade.specs.Walks.{AreFound, HasFootprint, HasLostImpact, HasNoCause, padded};
 
 use crate::lost::Lost;
 use std::alloc::Global;
@@ -107,6 +107,9 @@ impl<'a> Cascade<'a> {
         let impact = Impact::none().with(mappings, self.sense, written);
         for i in 0..readers {
             let reader = &upper[i];
+            if passes(&impact, &lost, reader) {
+                continue;
+            }
             let cause = self.cause_for(alloc, written, &impact, &lost, reader)?;
             lost.lose_where(alloc, mappings, cause.is_some(), reader)?;
             put_where(&mut found, i, cause)?;
@@ -124,6 +127,20 @@ fn leaves_all(written: &[Write], lost: &Lost<'_>) -> bool
         return false;
     }
     lost.members.is_empty()
+}
+
+// Whether nothing gives the reader a cause: no trail is lost below it, and no write of that impact may meet a read of it.
+#[inline(always)]
+fn passes(impact: &Impact, lost: &Lost<'_>, reader: &Record) -> bool
+    requires covers { HasFootprint reader.now }
+    ensures passed { result ≡ true → HasNoCause impact.now lost.now reader.now }
+{
+    if !lost.members.is_empty() {
+        return false;
+    }
+    !reader
+        .footprint
+        .may_be_met(reader.program.direction(), impact)
 }
 
 // Puts the cause, if there is one, in its place behind those that were found; between them there is none.

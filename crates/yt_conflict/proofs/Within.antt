@@ -1,7 +1,7 @@
 -- Sets of spots, footprints, reaches and impacts that grow.
 use Rattle.std.proofs.Common.{◌≡◌, ◌∙◌, ap, refl, sym, ℕ, suc, ◌==◌, Bool, true, false, not, ◌&&◌, ◌||◌, List, [], ◌∷◌, ◌++◌, ◌+◌, ◌<◌, subst, map, drop, length, get_or, add-one, Option, Some, None, inl, inr}
 use Rattle.std.specs.List.{list_any, list_all}
-use Rattle.std.proofs.lemmas.Bool.{and_parts, or_cases, eq-eqb}
+use Rattle.std.proofs.lemmas.Bool.{and_parts, or_cases}
 use Rattle.yt_base.specs.Meanings.{datum_of}
 use Rattle.yt_base.specs.declared.values.Value.{Value}
 use Rattle.yt_model.specs.Mappings.{Pattern, Rule}
@@ -29,13 +29,6 @@ within_itself s k e = e
 pub within_more : (r s t : Signature) → IsWithin r s → IsWithin s t → IsWithin r t
 within_more r s t v w k e = w k (v k e)
 
--- One more spot.
-pub with_spot : (s t : Signature) (k : ℕ) → ((i : ℕ) → has_spot t i ≡ (has_spot s i || k == i)) → IsWithin s t
-with_spot s t k h i e = h i ∙ or_left (has_spot s i) (k == i) e
-
-pub spot_there : (s t : Signature) (k : ℕ) → ((i : ℕ) → has_spot t i ≡ (has_spot s i || k == i)) → has_spot t k ≡ true
-spot_there s t k h = h k ∙ or_right (has_spot s k) (k == k) (eq-eqb k k refl)
-
 pub values_still : (s t : Signature) (r k : ℕ) (ds : List Datum) → IsWithin s t → has_values s r k ds ≡ true → has_values t r k ds ≡ true
 values_still s t r k [] w e = refl
 values_still s t r k (d ∷ ds) w e =
@@ -43,14 +36,14 @@ values_still s t r k (d ∷ ds) w e =
     both (has_spot t (spot r k d)) (has_values t r (suc k) ds) (w (spot r k d) parts.0) (values_still s t r (suc k) ds w parts.1)
 
 -- The values from the next one on.
-pub values_next : (s u : Signature) (r k i p : ℕ) (vs : List Value) (v : Value) → i < length vs → v ≡ get_or vs i v → p ≡ spot r k (datum_of v) → ((j : ℕ) → has_spot u j ≡ (has_spot s j || p == j))
+pub values_next : (s u : Signature) (r k i p : ℕ) (vs : List Value) (v : Value) → i < length vs → v ≡ get_or vs i v → p ≡ spot r k (datum_of v) → IsWithin s u → has_spot u p ≡ true
     → ((t : Signature) → IsWithin s t → has_values t r k (map datum_of (drop i vs)) ≡ true → has_values t r 0 (map datum_of vs) ≡ true)
     → (t : Signature) → IsWithin u t → has_values t r (k + 1) (map datum_of (drop (i + 1) vs)) ≡ true → has_values t r 0 (map datum_of vs) ≡ true
-values_next s u r k i p vs v l e at h whole t w rest =
-    whole t (λ j x. w j (with_spot s u p h j x))
+values_next s u r k i p vs v l e at more there whole t w rest =
+    whole t (λ j x. w j (more j x))
     (subst (λ (ys : List Value). has_values t r k (map datum_of ys) ≡ true) (sym (next_drop vs i v l e))
     (both (has_spot t (spot r k (datum_of v))) (has_values t r (suc k) (map datum_of (drop (i + 1) vs)))
-    (subst (λ (n : ℕ). has_spot t n ≡ true) at (w p (spot_there s u p h)))
+    (subst (λ (n : ℕ). has_spot t n ≡ true) at (w p there))
     (subst (λ (n : ℕ). has_values t r n (map datum_of (drop (i + 1) vs)) ≡ true) (add-one k) rest)))
 
 pub write_still : (s t : Signature) (w : Change) → IsWithin s t → has_write_in s w ≡ true → has_write_in t w ≡ true

@@ -1,13 +1,13 @@
 -- The spots on which values fall, and sets of them.
-use Rattle.std.specs.Prelude.{◌≡◌, ℕ, suc, ◌+◌, ◌-◌, ◌*◌, ◌/◌, ◌%◌, ◌==◌, nat_lt, unsigned_abs, Bool, true, false, ◌&&◌, if◌then◌else◌, List, [], ◌∷◌}
+use Rattle.std.specs.Prelude.{◌≡◌, ℕ, suc, ◌+◌, ◌*◌, ◌/◌, ◌%◌, ◌==◌, unsigned_abs, Bool, true, false, ◌&&◌, if◌then◌else◌, List, [], ◌∷◌}
 use Rattle.std.specs.Int.{bit_at}
 use Rattle.yt_model.specs.Specific.{is_constant}
 use Rattle.yt_model.specs.Values.{Datum, Number, Text, Unknown, Fact}
 use Rattle.yt_conflict.specs.declared.signatures.Signature.{Signature}
 
--- The spot is one of the set.
+-- The spot is one of the set: its low bit and its high bit are both set.
 abbrev pub has_spot : Signature → ℕ → Bool
-has_spot s k = if nat_lt k 128 then bit_at s.low k == 1 else bit_at s.high (k - 128) == 1
+has_spot s k = (bit_at s.low (k / 128) == 1) && (bit_at s.high (k % 128) == 1)
 
 -- The spots of the first are among those of the second.
 abbrev pub IsWithin : Signature → Signature → Type 0
@@ -20,7 +20,7 @@ AreApart s t = (k : ℕ) → has_spot s k ≡ true → has_spot t k ≡ false
 -- A number by which a word is told from most others, byte by byte.
 abbrev pub digest_from : ℕ → List ℕ → ℕ
 digest_from n [] = n
-digest_from n (b ∷ bs) = digest_from ((n * 7 + b) % 251) bs
+digest_from n (b ∷ bs) = digest_from ((n * 31 + b) % 65521) bs
 
 -- The same of a value.
 abbrev pub digest : Datum → ℕ
@@ -30,11 +30,11 @@ digest (Unknown n) = n.update + n.place
 
 -- The spot of a value in column k of a tuple of relation r.
 abbrev pub spot : ℕ → ℕ → Datum → ℕ
-spot r k d = r % 4 * 64 + (k % 4 * 21 + digest d % 64) % 64
+spot r k d = (r * 37 + k % 4 * 11 + digest d % 128) % 128 * 128 + (r * 30 + k % 4 * 70 + digest d % 127) % 128
 
 -- The spot of relation r.
 abbrev pub home : ℕ → ℕ
-home r = r % 4 * 64 + r / 4 % 64
+home r = (r * 37 + 77) % 128 * 128 + (r * 30 + 40) % 128
 
 -- The set has the spots of these values of a tuple of relation r, which stand in it from column k on.
 abbrev pub has_values : Signature → ℕ → ℕ → List Datum → Bool

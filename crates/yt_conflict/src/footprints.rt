@@ -80,7 +80,7 @@ impl Footprint {
 
     // With a tuple that was asked for, which has a value there.
     fn asking_at(self, spot: u32) -> Footprint
-        requires { spot < 256 }
+        requires { spot < 16384 }
         ensures more { ReadsMore self result }
         ensures has { has_spot result.asked spot ≡ true }
     {
@@ -120,6 +120,7 @@ impl Footprint {
     }
 
     /// Whether a write of that impact may meet a read of the attempt, which goes in this direction. It takes no memory.
+    #[inline(always)]
     pub fn may_be_met(&self, direction: Direction, impact: &Impact) -> bool
         ensures unmet { result ≡ false → IsNoneMet (heading_of direction) self.now impact.now }
     {
@@ -130,6 +131,7 @@ impl Footprint {
     }
 
     // Whether own writes may join with one of the writes, or a violation was found backward.
+    #[inline(always)]
     fn may_join(&self, direction: Direction, impact: &Impact) -> bool
         ensures joinless { result ≡ false → IsJoinless (heading_of direction) self.now impact.now }
     {
@@ -140,6 +142,7 @@ impl Footprint {
     }
 
     // Whether an own write may be in that reach.
+    #[inline(always)]
     fn is_in(&self, reach: &Reach) -> bool
         ensures outside { result ≡ false → IsOutside self.now.own reach.now }
     {
@@ -185,7 +188,7 @@ fn with_each(signature: Signature, relation: u16, values: &[Value]) -> Signature
 // is none.
 fn asked(tuple: &Tuple) -> u32
     ensures spot { result ≡ spot_asked tuple.now.relation 0 (fact_of tuple.now).values }
-    ensures below { result < 256 }
+    ensures below { result < 16384 }
 {
     asked_in(tuple.relation, tuple.values.as_slice())
 }
@@ -193,7 +196,7 @@ fn asked(tuple: &Tuple) -> u32
 // The same of the relation and the values of a tuple.
 fn asked_in(relation: u16, values: &[Value]) -> u32
     ensures spot { result ≡ spot_asked relation 0 (map datum_of values.now) }
-    ensures below { result < 256 }
+    ensures below { result < 16384 }
 {
     let mut column = 0;
     for value in values {

@@ -1,5 +1,5 @@
 use Rattle.std.proofs.Common.{◌≡◌, ◌<◌, length, arith}
-use Rattle.yt_conflict.proofs.Within.{within_more, with_spot, values_next}
+use Rattle.yt_conflict.proofs.Within.{within_more, values_next}
 use Rattle.yt_conflict.proofs.footprints.with_each.Goals as goal
 
 pub loop-value-preserved : goal.loop-value-preserved
@@ -7,6 +7,6 @@ loop-value-preserved c =
     let l : c.loop-value.value-index < length c.args.values.now = omega arith in
     record {
       column = omega (arith, c.loop-value.invariant.column);
-      more = within_more c.args.signature c.loop-value.all c.with-all.result c.loop-value.invariant.more (with_spot c.loop-value.all c.with-all.result c.spot.result c.with-all.ensures.with);
-      has = values_next c.loop-value.all c.with-all.result c.args.relation c.loop-value.column c.loop-value.value-index c.spot.result c.args.values.now c.value-item.result l c.value-item.is c.spot.ensures.spot c.with-all.ensures.with c.loop-value.invariant.has;
+      more = within_more c.args.signature c.loop-value.all c.with-all.result c.loop-value.invariant.more c.with-all.ensures.more;
+      has = values_next c.loop-value.all c.with-all.result c.args.relation c.loop-value.column c.loop-value.value-index c.spot.result c.args.values.now c.value-item.result l c.value-item.is c.spot.ensures.spot c.with-all.ensures.more c.with-all.ensures.there c.loop-value.invariant.has;
     }

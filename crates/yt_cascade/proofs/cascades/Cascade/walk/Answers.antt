@@ -1,4 +1,4 @@
-use Rattle.std.proofs.Common.{ap, map, subst, sym, ◌∙◌, ◌+◌, ℕ, suc, ◌<◌, ◌≤◌, ◌≡◌, refl, true, List, [], add-one, length, arith}
+use Rattle.std.proofs.Common.{ap, map, subst, sym, ◌∙◌, ◌+◌, ℕ, suc, ◌<◌, ◌≤◌, ◌≡◌, refl, true, false, List, [], None, add-one, length, arith}
 use Rattle.yt_base.specs.Meanings.{change_of}
 use Rattle.std.specs.List.{list_all}
 use Rattle.yt_conflict.specs.Impacts.{has_change}
@@ -6,8 +6,9 @@ use Rattle.yt_model.proofs.Bools.{both}
 use Rattle.yt_model.specs.Mappings.{Rule}
 use Rattle.yt_queue.specs.Walks.{ReadsAtMost}
 use Rattle.yt_cascade.specs.Walks.{HasLostImpact, padded}
-use Rattle.yt_cascade.proofs.Padding.{found_padded, padded_full, padded_long}
+use Rattle.yt_cascade.proofs.Padding.{found_padded, padded_full, padded_long, padded_none}
 use Rattle.yt_cascade.specs.Meanings.{above_of, found_for}
+use Rattle.yt_cascade.proofs.Holding.{kept_where}
 use Rattle.yt_cascade.proofs.Turns.{all_of, none_found, at_start, next_in, at_end, later_from}
 use Rattle.yt_cascade.proofs.cascades.Cascade.walk.Goals as goal
 
@@ -54,6 +55,28 @@ cause_for-requires c =
       covers = (later_from c.loop-i.invariant.from.0 c.loop-i.i c.args.upper.now c.index-upper-i.result l c.index-upper-i.is c.loop-i.invariant.from.1).0.covers;
       impact = both (list_all (has_change c.with-impact.result (above_of c.args.self.now).rules c.args.self.now.sense) (map change_of c.args.written.now)) true (subst (λ (ms : List Rule). list_all (has_change c.with-impact.result ms c.args.self.now.sense) (map change_of c.args.written.now) ≡ true) c.list-mappings.ensures.rules c.with-impact.ensures.has) refl;
       lost = c.loop-i.invariant.lost;
+    }
+
+pub passes-requires : goal.passes-requires
+passes-requires c =
+    let l : c.loop-i.i < length c.args.upper.now = omega arith in
+    record { covers = (later_from c.loop-i.invariant.from.0 c.loop-i.i c.args.upper.now c.index-upper-i.result l c.index-upper-i.is c.loop-i.invariant.from.1).0.covers }
+
+pub loop-i-preserved-then-passes : goal.loop-i-preserved-then-passes
+loop-i-preserved-then-passes c =
+    let l : c.loop-i.i < length c.args.upper.now = omega arith in
+    record {
+      long = omega (arith, c.loop-i.invariant.long);
+      from = (suc c.loop-i.invariant.from.0, (later_from c.loop-i.invariant.from.0 c.loop-i.i c.args.upper.now c.index-upper-i.result l c.index-upper-i.is c.loop-i.invariant.from.1).1);
+      lost = c.loop-i.invariant.lost;
+      turns =
+          λ B conflicting few looks s.
+          next_in (above_of c.args.self.now) conflicting B (map change_of c.args.written.now) few looks (all_of (above_of c.args.self.now) conflicting B c.args.lost c.args.upper.now) c.loop-i.lost c.loop-i.lost c.loop-i.i c.args.upper.now c.index-upper-i.result
+          (padded c.loop-i.i c.loop-i.found.items) (padded (c.loop-i.i + 1) c.loop-i.found.items) None false l c.index-upper-i.is
+          (ap (λ (n : ℕ). padded n c.loop-i.found.items) (add-one c.loop-i.i) ∙ padded_none c.loop-i.i c.loop-i.found.items c.loop-i.invariant.long) refl
+          (c.passes.ensures.passed c.if-passes.true (above_of c.args.self.now) (map change_of c.args.written.now)
+          (both (list_all (has_change c.with-impact.result (above_of c.args.self.now).rules c.args.self.now.sense) (map change_of c.args.written.now)) true (subst (λ (ms : List Rule). list_all (has_change c.with-impact.result ms c.args.self.now.sense) (map change_of c.args.written.now) ≡ true) c.list-mappings.ensures.rules c.with-impact.ensures.has) refl))
+          (kept_where c.index-upper-i.result false c.loop-i.lost refl) (c.loop-i.invariant.turns B conflicting few looks s);
     }
 
 pub loop-i-preserved : goal.loop-i-preserved

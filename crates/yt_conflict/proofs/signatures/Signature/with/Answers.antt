@@ -1,12 +1,9 @@
-use Rattle.std.proofs.Common.{◌≡◌, ◌<◌, ◌≤◌, arith}
-use Rattle.yt_conflict.proofs.Bits.{with_low, with_high}
+use Rattle.std.proofs.Common.{◌≡◌, ◌<◌, ◌/◌, ◌%◌, arith}
+use Rattle.yt_conflict.proofs.Bits.{with_more, with_there}
 use Rattle.yt_conflict.proofs.signatures.Signature.with.Goals as goal
-
-pub returns-then-spot-lt128 : goal.returns-then-spot-lt128
-returns-then-spot-lt128 c = record { with = λ k. with_low c.args.self c.args.spot k c.if-spot-lt128.true }
 
 pub returns : goal.returns
 returns c =
-    let far : 128 ≤ c.args.spot = omega arith in
-    let few : c.args.spot < 256 = omega arith in
-    record { with = λ k. with_high c.args.self c.args.spot k far few }
+    let l : c.args.spot / 128 < 128 = omega arith in
+    let m : c.args.spot % 128 < 128 = omega arith in
+    record { more = with_more c.args.self c.args.spot l m; there = with_there c.args.self c.args.spot l m }
