@@ -1,11 +1,11 @@
 //! What an attempt has written and asked, so far as a write below it must have to do with it to meet one of its reads.
-ghost use Rattle.std.specs.Prelude.{◌≡◌, ◌<◌, ◌||◌, false, true, [], map};
+ghost use Rattle.std.specs.Prelude.{◌≡◌, ◌<◌, ◌||◌, false, true, [], map, IsTrue};
 ghost use Rattle.std.specs.List.{list_all};
 ghost use Rattle.yt_base.specs.Meanings.{change_of, datum_of, fact_of, heading_of};
 ghost use Rattle.yt_model.specs.Specific.{is_constant as is_constant_lem};
 ghost use Rattle.yt_query.specs.Meanings.{read_of, reply_of};
 ghost use Rattle.yt_conflict.specs.Concerns.{is_nothing as is_nothing_lem};
-ghost use Rattle.yt_conflict.specs.Footprints.{Covers, CoversMore, ReadsMore, has_read, has_write_in};
+ghost use Rattle.yt_conflict.specs.Footprints.{Covers, CoversMore, IsFree, ReadsMore, has_read, has_write_in};
 ghost use Rattle.yt_conflict.specs.Meetings.{IsJoinless, IsNoneMet, IsOutside};
 ghost use Rattle.yt_conflict.specs.Signatures.{IsWithin, has_spot, has_tuple, has_values, spot_asked};
 
@@ -60,6 +60,9 @@ impl Footprint {
     {
         let mut more = self;
         for read in reads {
+            if is_free(read) {
+                continue;
+            }
             more = more.asking_one(read);
         }
         more
@@ -216,6 +219,18 @@ fn is_constant(value: &Value) -> bool
         Value::Int(_) => true,
         Value::Word(_) => true,
         Value::Null(_) => false,
+    }
+}
+
+// Whether every footprint has the read: that a mapping has no violation.
+fn is_free(read: &LoggedRead) -> bool
+    ensures free { IsTrue result → IsFree (read_of read.now) }
+{
+    match &read.query {
+        Query::Present(_) => false,
+        Query::Violation(_) => is_nothing(&read.answer),
+        Query::Specific(_) => false,
+        Query::Occurs(_, _) => false,
     }
 }
 

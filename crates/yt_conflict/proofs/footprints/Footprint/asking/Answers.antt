@@ -16,6 +16,14 @@ loop-read-preserved c =
       has = goes_on ReadsMore (has_read) read_of (reads_more) (read_still) c.args.reads.now c.loop-read.read-index c.read-item.result c.loop-read.more c.asking_one-more.result l c.read-item.is c.asking_one-more.ensures.more c.asking_one-more.ensures.has c.loop-read.invariant.has;
     }
 
+pub loop-read-preserved-then-is_free : goal.loop-read-preserved-then-is_free
+loop-read-preserved-then-is_free c =
+    let l : c.loop-read.read-index < length c.args.reads.now = omega arith in
+    record {
+      more = c.loop-read.invariant.more;
+      has = goes_on ReadsMore (has_read) read_of (reads_more) (read_still) c.args.reads.now c.loop-read.read-index c.read-item.result c.loop-read.more c.loop-read.more l c.read-item.is (reads_itself c.loop-read.more) (c.is_free.ensures.free c.if-is_free.true c.loop-read.more) c.loop-read.invariant.has;
+    }
+
 pub returns-clause-has : goal.returns-clause-has
 returns-clause-has c =
     let all : c.loop-read.read-index ≡ length c.args.reads.now = omega arith in
