@@ -13,12 +13,16 @@ use yt_program::Program;
 use yt_queue::{Record, has_spent};
 use yt_versions::Versions;
 
-/// Whether the attempt goes on, or has ended by being done: its writes stay.
-pub(crate) fn stays(program: &Program) -> bool
+/// Whether nobody above has read anything, of so many that may have, and the attempt is not ended spent or refused.
+pub(crate) fn is_alone(readers: usize, program: &Program) -> bool
     requires between { IsBetween program.now }
+    ensures unread { IsTrue result → readers ≡ 0 }
     ensures shown { IsTrue result → HasHidden program.now false }
     ensures unspent { IsTrue result → HasSpent program.now false }
 {
+    if readers != 0 {
+        return false;
+    }
     if hides(program) {
         return false;
     }

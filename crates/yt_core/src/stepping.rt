@@ -11,7 +11,7 @@ ghost use Rattle.yt_core.specs.Follows.{AreSame, HasRoomAt, IsPlanAt, IsPrepared
 ghost use Rattle.yt_core.specs.Steps.{HasHidden, HasTurned, ShowsStep, WereFound, IsPrepared};
 
 use crate::aftermaths::{Aftermath, settled};
-use crate::alone::{prepare_alone, stays};
+use crate::alone::{is_alone, prepare_alone};
 use std::alloc::Global;
 use yt_base::{Memory, TryCopy, Write, WriteList};
 use yt_cascade::Cascade;
@@ -186,9 +186,9 @@ pub(crate) fn prepare_at(
     let item = &queue[place];
     let upper = above(queue, place);
     let readers = readers_above(queue, place, most);
-    if readers == 0 && stays(&plan.program) {
-        let prepared = prepare_alone(alloc, versions, item, plan)?;
-        return Ok(prepared);
+    if is_alone(readers, &plan.program) {
+        let alone = prepare_alone(alloc, versions, item, plan)?;
+        return Ok(alone);
     }
     let prepared = prepare(
         alloc, mappings, settings, committed, versions, item, upper, readers, plan,

@@ -1,4 +1,6 @@
-use Rattle.std.proofs.Common.{subst, sym, ◌≤◌, List, length}
+use Rattle.std.proofs.Common.{subst, sym, ◌≤◌, ℕ, suc, List, Option, drop, length}
+use Rattle.yt_program.specs.Courses.{State}
+use Rattle.yt_queue.specs.Renewals.{AreFresh}
 use Rattle.yt_queue.specs.Settings.{settings_of}
 use Rattle.yt_queue.specs.Walks.{ReadsAtMost}
 use Rattle.yt_queue.specs.declared.records.Record.{Record}
@@ -30,3 +32,19 @@ prepare-requires-clause-read c = subst (λ (rs : List Record). ReadsAtMost rs c.
 
 pub prepare-requires-clause-within : goal.prepare-requires-clause-within
 prepare-requires-clause-within c = subst (λ (rs : List Record). c.readers_above-readers.result ≤ length rs) (sym c.above-upper.ensures.rest) c.readers_above-readers.ensures.within
+
+pub prepare_alone-requires-clause-between : goal.prepare_alone-requires-clause-between
+prepare_alone-requires-clause-between c = between_there c.args.queue.now c.args.place c.index-queue-place.result c.requires.numbers c.requires.place c.index-queue-place.is
+
+pub returns-then-is_alone-clause-prepared : goal.returns-then-is_alone-clause-prepared
+returns-then-is_alone-clause-prepared c =
+    let unread : ReadsAtMost c.above-upper.result.now 0 =
+    subst (λ (n : ℕ). ReadsAtMost c.above-upper.result.now n) (c.is_alone.ensures.unread c.if-is_alone.true)
+    (subst (λ (rs : List Record). ReadsAtMost rs c.readers_above-readers.result) (sym c.above-upper.ensures.rest) c.readers_above-readers.ensures.read) in
+    above_prepared c.args.mappings.now (settings_of c.args.settings) c.committed_from-committed.result c.args.place c.args.versions.now c.args.queue.now c.above-upper.result.now c.index-queue-place.result c.args.plan.now
+    c.in_ok-alone.alone c.requires.numbers c.requires.place c.index-queue-place.is c.above-upper.ensures.rest c.committed_from-committed.ensures.committed
+    (c.in_ok-alone.ensures.prepared c.args.mappings.now (settings_of c.args.settings) c.committed_from-committed.result c.above-upper.result.now
+    (above_numbers c.args.queue.now c.above-upper.result.now c.args.place c.index-queue-place.result c.requires.numbers c.requires.place c.index-queue-place.is c.above-upper.ensures.rest) unread)
+
+pub returns-then-is_alone-clause-fresh : goal.returns-then-is_alone-clause-fresh
+returns-then-is_alone-clause-fresh c = subst (λ (fs : List (Option State)). AreFresh (drop (suc c.args.place) c.args.queue.now) fs) (sym c.in_ok-alone.ensures.fresh) tt
