@@ -5,3 +5,7 @@ pub mod Candidates
 pub mod Contents
 pub mod Held
 pub mod Hashed
+pub mod Runs
+pub mod Changed
+pub mod Leading
+pub mod Differences

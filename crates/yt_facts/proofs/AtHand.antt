@@ -19,9 +19,11 @@ use Rattle.yt_model.proofs.Ranges.{least, from_least, from_least_of, relation_le
 use Rattle.yt_model.proofs.Sets.{filter_in_order, same_exact, same_repository}
 use Rattle.yt_base.specs.Candidates.{is_candidate, AreAll, AreFirst}
 use Rattle.yt_base.proofs.NextCandidates.{candidate_of}
+use Rattle.yt_base.specs.Differences.{leading_of}
+use Rattle.yt_base.specs.Leading.{AreLeading}
 use Rattle.yt_base.specs.Meanings.{fact_of}
 use Rattle.yt_base.specs.declared.candidates.Candidates.{Candidates}
-use Rattle.yt_base.specs.declared.candidates.Candidates.TheVariants.{Apart, Absent, Together, Listed, Few}
+use Rattle.yt_base.specs.declared.candidates.Candidates.TheVariants.{Apart, Absent, Together, Listed, Few, Merged}
 use Rattle.yt_base.specs.declared.tuples.Tuple.{Tuple}
 use Rattle.yt_facts.specs.Indexes.{Kept, kept_at, is_in, IsIndex}
 use Rattle.yt_facts.specs.Overlaid.{overlaid}
@@ -138,6 +140,7 @@ told_too Absent D E all these s e h = (s, e ∙ h.1)
 told_too (Together range) D E all these s e h = (s, e ∙ h.1)
 told_too (Listed tuples) D E all these s e h = (s, e ∙ h.1)
 told_too (Few few) D E all these s e h = (s, subst (AreFirst few) (sym e) h.1)
+told_too (Merged merged) D E all these s e h = (s, (subst (AreLeading (leading_of merged.value)) (sym e) h.1, h.2))
 
 -- So what the set tells of them is true of the overlay.
 pub passed_on : (x : Candidates) (p : Fact → Bool) (D gone added E : List Fact) → IsRepository D → overlaid D gone added ≡ E → list_any p added ≡ false → list_any p gone ≡ false → AreAll x D (filter p D) → AreAll x E (filter p E)

@@ -61,11 +61,11 @@ filter_turned p q (u ∷ D) = by (p u) refl (q u) refl (filter_turned p q D)
     by false e false f i = i
 
 -- The test that candidates pass.
-abbrev passes : ℕ → Option (ℕ × Datum) → Option Fact → Fact → Bool
+abbrev pub passes : ℕ → Option (ℕ × Datum) → Option Fact → Fact → Bool
 passes r c None u = is_candidate r c u
 passes r c (Some t) u = is_candidate r c u && is_beyond (Some t) u
 
-further_as : (r : ℕ) (c : Option (ℕ × Datum)) (past : Option Fact) (D : List Fact) → further_candidates D r c past ≡ filter (passes r c past) D
+pub further_as : (r : ℕ) (c : Option (ℕ × Datum)) (past : Option Fact) (D : List Fact) → further_candidates D r c past ≡ filter (passes r c past) D
 further_as r c None D = refl
 further_as r c (Some t) D = refl
 

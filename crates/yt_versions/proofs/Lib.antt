@@ -17,3 +17,5 @@ pub mod Both
 pub mod Running
 pub mod Sent
 pub mod Gathering
+pub mod Differing
+pub mod Further

@@ -1,18 +1,21 @@
 //! What is read of versions by an update: what is left of the base, and what stands in the table.
-ghost use Rattle.std.specs.Prelude.{◌≡◌, [], find, map, IfOk, IsTrue};
+ghost use Rattle.std.specs.Prelude.{◌≡◌, [], find, map, IfOk, IsTrue, List as Items};
+ghost use Rattle.yt_model.specs.Values.{Fact};
+ghost use Rattle.yt_base.specs.Differences.{leading_of};
+ghost use Rattle.yt_base.specs.Leading.{AreLeading};
 ghost use Rattle.std.specs.Option.{option_map, option_copied};
 ghost use Rattle.yt_model.specs.Cursors.{is_beyond, first_of, next_of, scan_of};
 ghost use Rattle.yt_model.specs.Repository.{has, IsRepository};
 ghost use Rattle.yt_base.specs.Candidates.{column_of, further_candidates, AreAll};
 ghost use Rattle.yt_base.specs.Meanings.{fact_of, datum_of};
-ghost use Rattle.yt_versions.specs.Runs.{run_of};
+ghost use Rattle.yt_base.specs.Runs.{run_of};
 ghost use Rattle.yt_versions.specs.Standing.{seen};
 
 use crate::courses::{Course, least, remaining};
-use crate::runs::{Merging, Run};
+use crate::runs::Merging;
 use crate::versions::Versions;
 use std::alloc::Global;
-use yt_base::{Candidates, Column, Facts, Tuple, TupleList, Value};
+use yt_base::{Candidates, Column, Differences, Facts, Merged, Run, Tuple, TupleList, Value};
 use yt_memory::Memory;
 
 // Each call also tells that what the update sees is in order. Only `list` takes memory.
@@ -90,8 +93,77 @@ impl Versions {
     }
 
     // What it sees of the relation, with the column's value where a column is given, and above `past` where that is given, as far as
-    // it is at hand: what the base has, where nothing of it is taken or written, and else a few of both.
+    // it is at hand.
     pub(crate) fn candidates(
+        &self,
+        number: u32,
+        relation: u16,
+        column: Option<Column<'_>>,
+        past: Option<&Tuple>,
+    ) -> Candidates<'_>
+        ensures all { AreAll result (seen number self.now)
+            (further_candidates (seen number self.now) relation (option_map column_of column.entry)
+            (option_map fact_of (option_copied past.entry))) }
+    {
+        if past.is_none() {
+            return self.few(number, relation, column, past);
+        }
+        match self.further(number, relation, column, past) {
+            Candidates::Apart => self.few(number, relation, column, past),
+            candidates => candidates,
+        }
+    }
+
+    // Where the base has a run of them: that run, with a few that differ.
+    fn further(
+        &self,
+        number: u32,
+        relation: u16,
+        column: Option<Column<'_>>,
+        past: Option<&Tuple>,
+    ) -> Candidates<'_>
+        ensures all { AreAll result (seen number self.now)
+            (further_candidates (seen number self.now) relation (option_map column_of column.entry)
+            (option_map fact_of (option_copied past.entry))) }
+    {
+        match self.base().candidates(relation, column, past) {
+            Candidates::Together(range) => {
+                self.differing(number, relation, column, past, Run::Together(range))
+            }
+            Candidates::Listed(tuples) => {
+                self.differing(number, relation, column, past, Run::Listed(tuples))
+            }
+            _ => Candidates::Apart,
+        }
+    }
+
+    // The same, where the base has this run of them.
+    fn differing<'a>(
+        &'a self,
+        number: u32,
+        relation: u16,
+        column: Option<Column<'_>>,
+        past: Option<&Tuple>,
+        base: Run<'a>,
+    ) -> Candidates<'a>
+        requires base { run_of base ≡ further_candidates self.now.base relation
+            (option_map column_of column) (option_map fact_of (option_copied past)) }
+        ensures all { AreAll result (seen number self.now)
+            (further_candidates (seen number self.now) relation (option_map column_of column.entry)
+            (option_map fact_of (option_copied past.entry))) }
+    {
+        let came = self.table().candidates(number, relation, column, past);
+        let went = self.taken().further(relation, past);
+        let differences = Differences::new(came, went);
+        if differences.is_none() {
+            return base.at_hand();
+        }
+        let merged = Merged::new(base, differences);
+        boxed(self.alloc(), merged)
+    }
+
+    // What the base has, where nothing of it is taken or written, and else a few of both.
+    fn few(
         &self,
         number: u32,
         relation: u16,
@@ -174,5 +246,20 @@ impl Versions {
         let mut both = Merging::new(base, self.taken(), put, written);
         let list = both.list(alloc)?;
         Ok(list)
+    }
+}
+
+// What is merged, as candidates, unless it gives none of them or there is no memory for it.
+fn boxed<'a>(alloc: Global, merged: Merged<'a>) -> Candidates<'a>
+    ensures all { (D all : Items Fact) → IsRepository D → AreLeading (leading_of merged.entry) all →
+        AreAll result D all }
+{
+    let mut merged = merged;
+    if merged.is_stuck() {
+        return Candidates::Apart;
+    }
+    match Box::new(alloc, merged) {
+        Ok(merged) => Candidates::Merged(merged),
+        Err(_) => Candidates::Apart,
     }
 }

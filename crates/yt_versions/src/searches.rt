@@ -100,6 +100,41 @@ impl<'c> Show<Handle, Marks, Tuple> for Zone<'c> {
     }
 }
 
+/// What is of the relation, and comes after a tuple, where one is given.
+#[derive(Drop)]
+pub struct Taking<'c> {
+    pub relation: u16,
+    pub past: Option<&'c Tuple>,
+}
+
+impl<'c> Search<Handle, ()> for Taking<'c> {
+    ghost place = { λ s k. place_of s.relation (option_map fact_of (option_copied s.past)) (fact_of k) };
+
+    ghost passes = { λ _ _. true };
+
+    ghost stays_past = { λ s x y. of_past s.relation (option_map fact_of (option_copied s.past)) (fact_of x) (fact_of y) };
+
+    ghost stays_before = { λ s x y. of_before s.relation (option_map fact_of (option_copied s.past)) (fact_of x) (fact_of y) };
+
+    fn place(&self, key: &Handle) -> Ordering {
+        place_in_relation(self.relation, self.past, key.get())
+    }
+
+    fn passes(&self, _entry: &(Handle, ())) -> bool {
+        true
+    }
+}
+
+impl<'c> Show<Handle, (), Tuple> for Taking<'c> {
+    ghost shown = { λ e. e.0 };
+
+    fn show(entry: &(Handle, ())) -> &Tuple
+        ensures { result.now ≡ entry.now.0 }
+    {
+        entry.0.get()
+    }
+}
+
 /// What is of the relation, and was written by the update.
 #[derive(Drop)]
 pub struct Written {

@@ -1,16 +1,19 @@
 //! The tuples of the base of which the table tells in the base's place.
 ghost use Rattle.std.specs.Prelude.{◌≡◌, [], cond, length, ◌==◌, IfOk, OnOk};
-ghost use Rattle.yt_model.specs.Repository.{has};
+ghost use Rattle.std.specs.Prelude.{None};
+ghost use Rattle.std.specs.Option.{option_map, option_copied};
+ghost use Rattle.yt_model.specs.Repository.{has, IsRepository};
 ghost use Rattle.yt_model.specs.Values.{Fact, same_fact};
+ghost use Rattle.yt_base.specs.Candidates.{further_candidates, AreFirst};
 ghost use Rattle.yt_base.specs.Meanings.{fact_of};
 
 use crate::handles::Handle;
-use crate::searches::Held;
+use crate::searches::{Held, Taking};
 use std::alloc::{AllocError, Global};
 use std::marker::Model;
 use yt_base::Tuple;
 use yt_memory::Memory;
-use yt_tree::{Share, TreeMap};
+use yt_tree::{Few, Share, TreeMap};
 
 /// Some tuples, mostly very few. Contracts see the list of them.
 #[derive(Drop)]
@@ -62,6 +65,15 @@ impl Taken {
             Some(_) => return true,
             None => return false,
         }
+    }
+
+    /// The first of them of the relation, and above `past` where that is given: all of them, or as many as there is room for.
+    pub fn further(&self, relation: u16, past: Option<&Tuple>) -> Few<'_, Tuple>
+        ensures first { AreFirst result (further_candidates self.now relation None
+            (option_map fact_of (option_copied past.entry))) }
+        ensures in_order { IsRepository self.now }
+    {
+        self.tuples.gather(&Taking { relation, past })
     }
 
     /// The same with the tuple, or without it.

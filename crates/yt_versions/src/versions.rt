@@ -29,6 +29,7 @@ pub struct Versions {
     base: Arc<IndexedFacts>,
     taken: Taken,
     table: Table,
+    alloc: Global,
 }
 
 impl Model for Versions {
@@ -53,6 +54,7 @@ impl Versions {
                 base,
                 taken: Taken::none(),
                 table: Table::none(),
+                alloc,
             }),
             Err(_) => Err(Memory),
         }
@@ -66,6 +68,7 @@ impl Versions {
             base: Arc::try_clone(&self.base)?,
             taken: self.taken.share()?,
             table: self.table.share()?,
+            alloc: self.alloc,
         })
     }
 
@@ -143,6 +146,11 @@ impl Versions {
         &self.table
     }
 
+    // Where memory is taken from.
+    pub(crate) fn alloc(&self) -> Global {
+        self.alloc
+    }
+
     // Whether the base has the tuple and tells of it.
     pub(crate) fn has_left(&self, tuple: &Tuple) -> bool
         ensures left { result ≡ is_left self.now (fact_of tuple.now) }
@@ -170,12 +178,19 @@ impl Versions {
             → known_at new t ≡ cond (same_fact t (fact_of key)) marks (known_at self t)) }
         ensures kept { IfOk result AreKept }
     {
-        let Versions { base, taken, table } = self;
+        let Versions {
+            base, taken, table, ..
+        } = self;
         let in_base = base.contains(key.get());
         let (takes, told) = told_of(in_base, marks);
         let taken = taken.set(alloc, &key, takes)?;
         let table = table.with(alloc, key, told)?;
-        Ok(Versions { base, taken, table })
+        Ok(Versions {
+            base,
+            taken,
+            table,
+            alloc,
+        })
     }
 
     // The versions with what is known of the tuple touched.

@@ -5,7 +5,8 @@ use Rattle.yt_base.specs.Meanings.{fact_of}
 use Rattle.yt_model.specs.Values.{Fact}
 use Rattle.yt_tree.specs.Few.{most}
 use Rattle.yt_versions.specs.Marked.{visible}
-use Rattle.yt_versions.specs.Runs.{ahead_of, left_of, merged, run_of}
+use Rattle.yt_base.specs.Runs.{ahead_of, run_of}
+use Rattle.yt_versions.specs.Runs.{left_of, merged}
 use Rattle.yt_versions.specs.Standing.{seen}
 use Rattle.yt_versions.proofs.Both.{base_alone, both_first, none_came, none_taken, none_there, seen_ordered}
 use Rattle.yt_versions.proofs.versions.Versions.with_written.Goals as goal
