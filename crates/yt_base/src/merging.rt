@@ -92,8 +92,10 @@ impl<'a> Merged<'a> {
         if !self.differences.is_whole() {
             return None;
         }
-        let left = self.left;
+        let Some(left) = self.left else {
+            return None;
+        };
         self.left = self.run.next();
-        left
+        Some(left)
     }
 }
