@@ -9,7 +9,7 @@ ghost use Rattle.yt_tree.specs.Few.{all_shown, with_first};
 use crate::bounds::{Bounds, place_within};
 use crate::cuts::Cut;
 use crate::few::Few;
-use crate::searches::{Search, Show};
+use crate::searches::{Search, Show, Sought};
 use crate::shares::Share;
 use std::alloc::{AllocError, Global};
 use std::cmp::Ordering;
@@ -164,6 +164,23 @@ impl<K: Ord + Share, V: Share> Branch<K, V> {
         while let Some(shared) = &here.node {
             let node: &Node<K, V> = shared;
             match key.cmp(&node.entry.0) {
+                Ordering::Less => here = &node.left,
+                Ordering::Equal => return Some(&node.entry),
+                Ordering::Greater => here = &node.right,
+            }
+        }
+        None
+    }
+
+    /// The entry at the key that is sought.
+    pub fn find_at<S: Sought<K>>(&self, sought: &S) -> Option<&(K, V)>
+        requires { IsOrdered K.cmp self.now }
+        ensures { option_copied result ≡ entry_at K.cmp (S.key sought.now) self.now }
+    {
+        let mut here = self;
+        while let Some(shared) = &here.node {
+            let node: &Node<K, V> = shared;
+            match sought.order(&node.entry.0) {
                 Ordering::Less => here = &node.left,
                 Ordering::Equal => return Some(&node.entry),
                 Ordering::Greater => here = &node.right,

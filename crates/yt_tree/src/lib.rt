@@ -18,6 +18,6 @@ pub use crate::cursors::Cursor;
 pub use crate::cuts::{Above, AtLeast, Cut, Start};
 pub use crate::few::Few;
 pub use crate::maps::TreeMap;
-pub use crate::searches::{Search, Show};
+pub use crate::searches::{Search, Show, Sought};
 pub use crate::sets::TreeSet;
 pub use crate::shares::Share;

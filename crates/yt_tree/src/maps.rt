@@ -10,7 +10,7 @@ use crate::branch::Branch;
 use crate::cursors::Cursor;
 use crate::cuts::Cut;
 use crate::few::Few;
-use crate::searches::{Search, Show};
+use crate::searches::{Search, Show, Sought};
 use crate::shares::Share;
 use std::alloc::{AllocError, Global};
 use std::marker::Model;
@@ -75,6 +75,14 @@ impl<K: Ord + Share, V: Share> TreeMap<K, V> {
         ensures in_order { IsOrdered K.cmp self.now }
     {
         self.entries.get(key)
+    }
+
+    /// The entry at the key that is sought.
+    pub fn find_at<S: Sought<K>>(&self, sought: &S) -> Option<&(K, V)>
+        ensures found { option_copied result ≡ entry_at K.cmp (S.key sought.now) self.now }
+        ensures in_order { IsOrdered K.cmp self.now }
+    {
+        self.entries.find_at(sought)
     }
 
     /// The first entry behind the cut.

@@ -1,16 +1,12 @@
 -- A search for one tuple finds its row, which says what is known of it.
-use Rattle.std.proofs.Common.{◌≡◌, ℕ, ap, sym, ◌∙◌, subst, List, Bool, true, find, Option, Some, unwrap_or}
-use Rattle.std.specs.Cmp.{eq_by_cmp_equiv}
+use Rattle.std.proofs.Common.{◌≡◌, ℕ, refl, ap, sym, ◌∙◌, subst, List, Bool, true, find, Option, Some, unwrap_or}
 use Rattle.std.specs.Option.{option_map}
 use Rattle.std.specs.Ordering.{is_eq}
 use Rattle.yt_base.specs.Meanings.{fact_of}
 use Rattle.yt_base.specs.declared.tuples.Tuple.{Tuple}
 use Rattle.yt_model.specs.Repository.{has}
 use Rattle.yt_model.specs.Values.{Fact, fact_cmp, same_fact}
-use Rattle.yt_model.proofs.Bools.{and-true}
-use Rattle.yt_model.proofs.Order.{fact_total}
 use Rattle.yt_model.proofs.Sets.{same_exact}
-use Rattle.yt_tree.specs.Orders.{is_sought}
 use Rattle.yt_versions.specs.Chains.{AreRows}
 use Rattle.yt_versions.specs.Marked.{marks_at, no_marks, stands, visible}
 use Rattle.yt_versions.specs.declared.marks.Marks.{Marks}
@@ -19,10 +15,10 @@ use Rattle.yt_versions.proofs.Seen.{seen_stands}
 use Rattle.yt_versions.proofs.Scanning.{found_passes}
 
 abbrev pub is_held : {V : Type 0} → Fact → Tuple × V → Bool
-is_held t = is_sought (λ k. fact_cmp (fact_of k) t) (λ _. true)
+is_held t e = is_eq (fact_cmp t (fact_of e.0))
 
 pub held_same : {V : Type 0} (t : Fact) (e : Tuple × V) → is_held t e ≡ same_fact t (fact_of e.0)
-held_same t e = and-true (is_eq (fact_cmp (fact_of e.0) t)) ∙ (eq_by_cmp_equiv fact_total).symm (fact_of e.0) t
+held_same t e = refl
 
 pub held_tuple : (t : Fact) (rows : List (Tuple × Marks)) {e : Tuple × Marks} → Some e ≡ find (is_held t) rows → fact_of e.0 ≡ t
 held_tuple t rows {e} f = sym (same_exact t (fact_of e.0) (sym (held_same t e) ∙ found_passes (is_held t) rows (sym f)))

@@ -1,19 +1,18 @@
 //! What is looked for among the marked tuples and their cells.
-ghost use Rattle.std.specs.Prelude.{◌≡◌, None, Some, true};
+ghost use Rattle.std.specs.Prelude.{◌≡◌, None, Some};
 ghost use Rattle.std.specs.Option.{option_map, option_copied};
-ghost use Rattle.yt_model.specs.Values.{fact_cmp};
 ghost use Rattle.yt_base.specs.Meanings.{fact_of, datum_of};
 ghost use Rattle.yt_versions.specs.Indexed.{cell_of};
 ghost use Rattle.yt_versions.specs.Marked.{is_marked, stands};
 ghost use Rattle.yt_versions.specs.Zones.{place_beyond, place_of, place_in, place_lead};
-ghost use Rattle.yt_versions.specs.ZoneLaws.{at_before, at_past, beyond_before, beyond_past, of_before, of_past, in_before, in_past, lead_before, lead_past};
+ghost use Rattle.yt_versions.specs.ZoneLaws.{beyond_before, beyond_past, of_before, of_past, in_before, in_past, lead_before, lead_past};
 
 use crate::cells::{Cell, values_order};
 use crate::handles::Handle;
 use crate::marks::Marks;
 use std::cmp::Ordering;
 use yt_base::{Tuple, Value};
-use yt_tree::{Search, Show};
+use yt_tree::{Search, Show, Sought};
 
 /// The tuple itself, whether or not it is there for an update.
 #[derive(Drop)]
@@ -21,21 +20,11 @@ pub struct Held<'c> {
     pub tuple: &'c Tuple,
 }
 
-impl<'c, V> Search<Handle, V> for Held<'c> {
-    ghost place = { λ s k. fact_cmp (fact_of k) (fact_of s.tuple.now) };
+impl<'c> Sought<Handle> for Held<'c> {
+    ghost key = { λ s. s.tuple.now };
 
-    ghost passes = { λ _ _. true };
-
-    ghost stays_past = { λ s x y. at_past (fact_of s.tuple.now) (fact_of x) (fact_of y) };
-
-    ghost stays_before = { λ s x y. at_before (fact_of s.tuple.now) (fact_of x) (fact_of y) };
-
-    fn place(&self, key: &Handle) -> Ordering {
-        key.get().cmp(self.tuple)
-    }
-
-    fn passes(&self, _entry: &(Handle, V)) -> bool {
-        true
+    fn order(&self, other: &Handle) -> Ordering {
+        self.tuple.cmp(other.get())
     }
 }
 

@@ -70,7 +70,7 @@ impl Table {
         ensures marks { IfOk result (λ e. e.1 ≡ marks_at self.now (fact_of tuple.now)) }
         ensures in_order { IfOk result (λ e. AreMarks e.1) }
     {
-        match self.rows.find_in(&Held { tuple }) {
+        match self.rows.find_at(&Held { tuple }) {
             Some(entry) => {
                 let key = entry.0.share()?;
                 let marks = entry.1.share()?;
@@ -129,7 +129,7 @@ impl Table {
         ensures answer { result ≡ has (visible number self.now) (fact_of tuple.now) }
         ensures in_order { IsRepository (visible number self.now) }
     {
-        match self.rows.find_in(&Held { tuple }) {
+        match self.rows.find_at(&Held { tuple }) {
             Some(entry) => return entry.1.stands(number),
             None => return false,
         }

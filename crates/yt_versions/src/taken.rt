@@ -58,7 +58,7 @@ impl Taken {
     pub fn contains(&self, tuple: &Tuple) -> bool
         ensures answer { result ≡ has self.now (fact_of tuple.now) }
     {
-        match self.tuples.find_in(&Held { tuple }) {
+        match self.tuples.find_at(&Held { tuple }) {
             Some(_) => return true,
             None => return false,
         }
