@@ -1,7 +1,6 @@
 -- The index of a set: for each relation and column, the tuples by their value in it.
 use Rattle.std.specs.HashMap.{HashMap}
 use Rattle.std.proofs.Common.{BuildHasherDefault}
-use Rattle.std.proofs.Common.{FoldHasher}
 use Rattle.std.specs.Map.{lookup}
 use Rattle.std.specs.Prelude.{◌≡◌, ℕ, Bool, not, ◌&&◌, ◌||◌, List, [], unwrap_or, slice_get, Option, Some, None}
 use Rattle.yt_model.specs.Values.{Datum, Fact, same_datum, same_fact}
@@ -9,12 +8,13 @@ use Rattle.yt_model.specs.Repository.{has}
 use Rattle.yt_model.specs.Cursors.{is_of, has_at}
 use Rattle.yt_base.specs.Meanings.{datum_of}
 use Rattle.yt_base.specs.declared.values.Value.{Value}
+use Rattle.yt_facts.specs.declared.mixing.Mixer.{Mixer}
 use Rattle.std.specs.declared.vec.Vec.{Vec}
 use Rattle.std.specs.declared.alloc.Global.{Global}
 
 -- What one column keeps at each value.
 abbrev pub Kept : Type 0
-Kept = HashMap Value (List Fact) (BuildHasherDefault FoldHasher)
+Kept = HashMap Value (List Fact) (BuildHasherDefault Mixer)
 
 -- The tuples that one column keeps at a value.
 abbrev pub group_in : Kept → Datum → List Fact

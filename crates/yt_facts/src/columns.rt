@@ -9,12 +9,14 @@ ghost use Rattle.yt_base.specs.Meanings.{fact_of, datum_of};
 ghost use Rattle.yt_facts.specs.Indexes.{group_in, group_at, AreSame, AddsAtMost, Adds, AddsAll, Drops, DropsAll};
 
 use crate::group::Group;
+use crate::mixing::Mixer;
 use std::alloc::Global;
 use std::collections::HashMap;
+use std::hash::BuildHasherDefault;
 use yt_base::{Facts, Memory, TryCopy, Tuple, Value};
 
 /// The tuples by their value in one column.
-pub type Groups = HashMap<Value, Group>;
+pub type Groups = HashMap<Value, Group, BuildHasherDefault<Mixer>>;
 
 /// The tuples that the column keeps at the value, if there is such a column and such a value in it.
 pub fn group<'a>(columns: &'a Vec<Groups>, column: usize, value: &Value) -> Option<&'a Group>
@@ -78,7 +80,7 @@ fn reach(columns: &mut Vec<Groups>, alloc: Global, column: usize) -> Result<(), 
     ensures there { OnOk result (column < length columns.new.items) }
 {
     while columns.len() <= column {
-        columns.push(HashMap::new(alloc))?;
+        columns.push(HashMap::with_hasher(alloc, BuildHasherDefault::new()))?;
     }
     Ok(())
 }

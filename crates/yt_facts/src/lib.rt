@@ -7,6 +7,7 @@ mod course;
 mod group;
 mod indexed;
 mod listed;
+mod mixing;
 mod overlay;
 mod plain;
 mod relations;
