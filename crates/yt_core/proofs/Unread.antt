@@ -2,7 +2,7 @@
 use Rattle.std.proofs.Common.{◌≡◌, ◌∙◌, ap, refl, sym, subst, ℕ, zero, suc, ◌≤◌, ◌<◌, ◌+◌, ◌-◌, ◌^◌, Bool, true, false, Option, List, [], ◌∷◌, ◌++◌, map, length, take, drop, arith}
 use Rattle.std.specs.Prelude.{if◌then◌else◌, is_some}
 use Rattle.std.proofs.Math.ListN.{set}
-use Rattle.std.proofs.lemmas.List.{map-set, drop-map, drop-drop, length-drop}
+use Rattle.std.proofs.lemmas.List.{map-set, drop-map, drop-drop, length-drop, take-append-drop}
 use Rattle.yt_history.specs.Cores.{Ground}
 use Rattle.yt_history.specs.PlainEntries.{PlainEntry}
 use Rattle.yt_machine.specs.Cascade.{Cause, anew}
@@ -55,6 +55,14 @@ unread_kept rs rs' k r' fs restarts n l h ms B =
     let put : drop n us ≡ drop n (updates_of ms B rs) = ap (drop n) (map-set (update_of ms B) rs k r') ∙ past (updates_of ms B rs) k n (update_of ms B r') l in
     subst (λ (vs : List (Update (caused_chase ms B))). AreUnread (caused_chase ms B) (drop n vs)) (sym (restarts ms B (marks_for ms B fs) (marked_so ms B fs)))
     (behind_unread M (k + 1) n (suc (k + 1)) (marks_for ms B fs) us (subst (λ (vs : List (Update (caused_chase ms B))). AreUnread (caused_chase ms B) vs) (sym put) (h ms B)))
+
+-- Where no update restarts all are as they were.
+pub none_restarted : (k : ℕ) (rs : List Record) → HaveRestarted k [] rs rs
+none_restarted k rs ms B xs none = by xs none
+  where
+    by : (xs : List (Option (Cause (caused_chase ms B)))) → map is_some xs ≡ [] → updates_of ms B rs ≡ take k (updates_of ms B rs) ++ restart (caused_chase ms B) (suc k) xs (drop k (updates_of ms B rs))
+    by [] h = sym (take-append-drop k (updates_of ms B rs))
+    by (x ∷ xs) h = absurd (cc h)
 
 pub same_unread : (rs rs' : List Record) (n : ℕ) → AreSame rs rs' → ReadsAtMost rs n → ReadsAtMost rs' n
 same_unread rs rs' n same h ms B = subst (λ (us : List (Update (caused_chase ms B))). AreUnread (caused_chase ms B) (drop n us)) (sym (same.updates ms B)) (h ms B)

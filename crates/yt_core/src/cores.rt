@@ -1,5 +1,5 @@
 //! A core, and what it is made of.
-ghost use Rattle.std.specs.Prelude.{◌≡◌, ◌≤◌, length, map, true, Some, IfOk, OnOk, OnErr};
+ghost use Rattle.std.specs.Prelude.{◌≡◌, ◌≤◌, length, map, true, Some, IfSome, IfOk, OnOk, OnErr};
 ghost use Rattle.std.specs.Option.{option_map, option_copied};
 ghost use Rattle.yt_frontier.specs.Inquiries.{inquiry_of, inquiry_in};
 ghost use Rattle.yt_history.specs.Cores.{IsLegalOver};
@@ -17,7 +17,7 @@ ghost use Rattle.yt_core.specs.Planned.{IsStepAt};
 use crate::admitting::{admissions, admitted};
 use crate::deliveries::deliver_at;
 use crate::plans::{Plan, Snapshot, plan_at, snapshot_at};
-use crate::putting::step_at;
+use crate::putting::{least_below, step_at};
 use crate::refusals::{DeliverRefusal, StepRefusal};
 use crate::standings::{has_waiting, place_of, question, standing};
 use crate::stepping::{lesser, raised};
@@ -30,7 +30,7 @@ use yt_frontier::Question;
 use yt_limits::{Budget, Mappings};
 use yt_queue::{
     Record, Settings, committed_from, is_quiet, lowest_deliverable, lowest_ready,
-    lowest_ready_besides, reads_at_most, unready_from,
+    lowest_ready_besides, next_deliverable, reads_at_most, unready_from,
 };
 use yt_serial::{base_of, mappings_of};
 use yt_session::{Session, SessionUpdates};
@@ -189,6 +189,13 @@ impl<'s> Core<'s> {
         ensures lowest { result ≡ lowest_deliverable_at self.now }
     {
         lowest_deliverable(&self.queue, self.settings, self.least)
+    }
+
+    /// The first update that is not committed, if a recorded answer can be delivered to it. It takes no memory.
+    pub fn next_deliverable(&self) -> Option<u32>
+        ensures lowest { IfSome result (λ n. lowest_deliverable_at self.now ≡ Some n) }
+    {
+        next_deliverable(&self.queue, self.settings, self.least)
     }
 
     /// Whether nothing is ready, and nothing deliverable. It takes no memory.
@@ -359,10 +366,16 @@ impl<'s> Core<'s> {
         ensures kept { OnErr result (self.new ≡ self.old) }
     {
         let place = place_of(update);
+        let least = least_below(self.least, place);
+        let most = raised(self.most, update);
+        let unready = lesser(self.unready, place);
         self.least = 0;
         self.most = u32::MAX;
         self.unready = 0;
         deliver_at(self.settings, &mut self.queue, &mut self.history, place)?;
+        self.least = least;
+        self.most = most;
+        self.unready = unready;
         Ok(self.history.len() as u64)
     }
 }

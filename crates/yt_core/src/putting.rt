@@ -175,8 +175,8 @@ fn step_entry(
     }
 }
 
-// So many, where they are all below the place.
-fn least_below(least: u32, place: usize) -> u32
+/// So many, where they are all below the place.
+pub(crate) fn least_below(least: u32, place: usize) -> u32
     ensures least { result ≤ least }
     ensures below { result ≤ place }
 {

@@ -8,7 +8,7 @@ use yt_memory::Memory;
 /// Its meaning is given by members that exist in contracts alone: what its history is over, and the entries of that
 /// history. A snapshot stands for an update at the state that some entries leave; a plan is an update's step there.
 pub trait Core {
-    ghost use Rattle.std.specs.Prelude.{◌≡◌, ◌<◌, ◌≤◌, ◌^◌, ℕ, List, Option, Some, length, IfOk, IfErr, IfNone};
+    ghost use Rattle.std.specs.Prelude.{◌≡◌, ◌<◌, ◌≤◌, ◌^◌, ℕ, List, Option, Some, length, IfOk, IfErr, IfSome, IfNone};
     ghost use Rattle.yt_history.specs.Cores.{Ground, IsLegalOver};
     ghost use Rattle.yt_history.specs.PlainEntries.{PlainEntry};
     ghost use Rattle.yt_desk.specs.Cores.{lowest_idle, lowest_waiting, IsReady, IsPlanOf, HasDelivered, HasStep, HasStayed};
@@ -54,6 +54,10 @@ pub trait Core {
     /// The lowest update that an answer can be delivered to. It takes no memory.
     fn lowest_waiting(&self) -> Option<u32>
         ensures { result ≡ lowest_waiting (over self.now) (history self.now) };
+
+    /// The lowest update that an answer can be delivered to, where that is to come before any step. It takes no memory.
+    fn first_waiting(&self) -> Option<u32>
+        ensures lowest { IfSome result (λ u. lowest_waiting (over self.now) (history self.now) ≡ Some u) };
 
     /// Delivers the first of the answers that wait for the update. It is refused only for want of memory; the history is then
     /// unchanged.

@@ -8,7 +8,7 @@ ghost use Rattle.yt_session.specs.Base.{base_violation};
 ghost use Rattle.yt_session.specs.Meanings.{session_of};
 ghost use Rattle.yt_seated.specs.Runs.{IsWholeRun};
 
-use crate::seated::Seated;
+use crate::seated::{Answers, Seated};
 use std::alloc::Global;
 use std::marker::Model;
 use std::sync::Wait;
@@ -78,6 +78,7 @@ pub fn worked<'s, R: Threads + Wait + Clock + Sync, G: Gate + Sync>(
     settings: Settings,
     budget: Budget,
     seats: u64,
+    answers: Answers,
 ) -> Result<WorkedSession<'s>, Memory>
     requires valid { IsSession (session_of session.now) }
     requires met { base_violation (session_of session.now) ≡ None }
@@ -89,7 +90,9 @@ pub fn worked<'s, R: Threads + Wait + Clock + Sync, G: Gate + Sync>(
     ensures whole { IfOk result IsWholeRun }
 {
     let base = base_of(alloc, session)?;
-    let run = worked_over(rt, gate, alloc, session, base, settings, budget, seats)?;
+    let run = worked_over(
+        rt, gate, alloc, session, base, settings, budget, seats, answers,
+    )?;
     Ok(run)
 }
 
@@ -104,6 +107,7 @@ pub fn worked_over<'s, R: Threads + Wait + Clock + Sync, G: Gate + Sync>(
     settings: Settings,
     budget: Budget,
     seats: u64,
+    answers: Answers,
 ) -> Result<WorkedSession<'s>, Memory>
     requires valid { IsSession (session_of session.now) }
     requires met { base_violation (session_of session.now) ≡ None }
@@ -117,7 +121,7 @@ pub fn worked_over<'s, R: Threads + Wait + Clock + Sync, G: Gate + Sync>(
 {
     let core = Core::open_over(alloc, session, base, settings, budget)?;
     core.is_legal();
-    let seated = Seated::new(core, mappings_of(session).list());
+    let seated = Seated::new(core, mappings_of(session).list(), answers);
     match run(rt, gate, alloc, seated, seats) {
         Ok(seated) => Ok(WorkedSession {
             session,
