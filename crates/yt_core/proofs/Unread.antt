@@ -21,8 +21,11 @@ use Rattle.yt_steps.specs.Chase.{caused_chase}
 use Rattle.yt_versions.specs.Standing.{Kept}
 use Rattle.yt_core.specs.Follows.{AreSame, KeepsUnread}
 use Rattle.yt_core.specs.Kept.{IsKept}
+use Rattle.yt_core.specs.Known.{IsKnown}
+use Rattle.yt_core.specs.declared.known.Known.{Known}
 use Rattle.yt_core.proofs.Following.{marks_for, marked_so}
 use Rattle.yt_core.proofs.Making.{front}
+use Rattle.yt_core.proofs.Marking.{none_known}
 
 -- A restart leaves nothing read.
 restarts_unread : (M : Machine) (n m : ℕ) (xs : List (Option (Cause M))) (us : List (Update M)) → AreUnread M (drop n us) → AreUnread M (drop n (restart M m xs us))
@@ -92,6 +95,7 @@ readers_within rs k n m l e = let long = length-drop (suc k) rs in omega (arith,
 pub most_ok : (qs ys : List Record) (n c : ℕ) → length qs ≡ n → ReadsAtMost qs c → ReadsAtMost (take n (qs ++ ys)) c
 most_ok qs ys n c l h = subst (λ (xs : List Record). ReadsAtMost xs c) (sym (front qs ys n l)) h
 
--- Where nothing is noted of what is committed, what has read something, and what is unready.
-pub with_nothing_noted : (g : Ground) (v : Kept) (rs : List Record) (H : List PlainEntry) → IsKept g v rs H → IsKept g v rs H × CommitsAtLeast rs 0 × ReadsAtMost rs (2 ^ 32 - 1) × UnreadyUpTo rs 0
-with_nothing_noted g v rs H k = (k, none_committed rs, all_may_read rs (2 ^ 32 - 1) (let l = k.few in omega (arith, l)), none_unready rs)
+-- Where nothing is noted of what is committed, what has read something, and what is unready, and there are marks of no update.
+pub with_nothing_noted : (g : Ground) (v : Kept) (rs : List Record) (H : List PlainEntry) (k : Known) → k.update ≡ 0 → IsKept g v rs H
+    → IsKept g v rs H × CommitsAtLeast rs 0 × ReadsAtMost rs (2 ^ 32 - 1) × UnreadyUpTo rs 0 × IsKnown g.rules v rs k
+with_nothing_noted g v rs H k e kept = (kept, none_committed rs, all_may_read rs (2 ^ 32 - 1) (let l = kept.few in omega (arith, l)), none_unready rs, none_known g.rules v rs k e)

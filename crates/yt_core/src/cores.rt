@@ -16,6 +16,7 @@ ghost use Rattle.yt_core.specs.Planned.{IsStepAt};
 
 use crate::admitting::{admissions, admitted};
 use crate::deliveries::deliver_at;
+use crate::known::Known;
 use crate::plans::{Plan, Snapshot, plan_at, snapshot_at};
 use crate::putting::{least_below, step_at};
 use crate::refusals::{DeliverRefusal, StepRefusal};
@@ -55,6 +56,8 @@ pub struct Core<'s> {
     pub(crate) most: u32,
     // The first so many are unready; the search for a ready one begins behind them.
     pub(crate) unready: usize,
+    // The marks of the update that made the last step, by which its next one is planned.
+    pub(crate) known: Known,
 }
 
 impl<'s> Model for Core<'s> {
@@ -64,12 +67,13 @@ impl<'s> Model for Core<'s> {
     ghost use Rattle.yt_core.specs.States.{State};
     ghost use Rattle.yt_queue.specs.Walks.{CommitsAtLeast, ReadsAtMost, UnreadyUpTo};
     ghost use Rattle.yt_core.specs.Kept.{ground_by, IsKept};
+    ghost use Rattle.yt_core.specs.Known.{IsKnown};
 
     ghost Value = { State };
 
     ghost view = { λ c. record { over = ground_by c.mappings c.budget (settings_of c.settings) c.base.now c.updates.now c.later; history = map entry_of c.history.items } };
 
-    ghost invariant = { λ c. IsKept (ground_by c.mappings c.budget (settings_of c.settings) c.base.now c.updates.now c.later) c.versions c.queue.items (map entry_of c.history.items) × CommitsAtLeast c.queue.items c.least × ReadsAtMost c.queue.items c.most × UnreadyUpTo c.queue.items c.unready };
+    ghost invariant = { λ c. IsKept (ground_by c.mappings c.budget (settings_of c.settings) c.base.now c.updates.now c.later) c.versions c.queue.items (map entry_of c.history.items) × CommitsAtLeast c.queue.items c.least × ReadsAtMost c.queue.items c.most × UnreadyUpTo c.queue.items c.unready × IsKnown c.mappings c.versions c.queue.items c.known };
 }
 
 impl<'s> Core<'s> {
@@ -111,6 +115,7 @@ impl<'s> Core<'s> {
         let history = admissions(alloc, updates)?;
         let mappings = mappings_of(session);
         let later = UpdateList::new(alloc);
+        let known = Known::none(alloc)?;
         Ok(Core {
             mappings,
             budget,
@@ -124,6 +129,7 @@ impl<'s> Core<'s> {
             least: 0,
             most: u32::MAX,
             unready: 0,
+            known,
         })
     }
 
@@ -235,16 +241,24 @@ impl<'s> Core<'s> {
         Ok(snapshot)
     }
 
-    /// The next step of an update that is ready, planned without a snapshot. It is refused only for want of memory.
-    pub fn next_plan(&self, alloc: Global, update: u32) -> Result<Plan, Memory>
-        requires ready { standing_at self.now update ≡ Some Ready }
+    /// The next step of an update that is ready, planned without a snapshot. The core keeps what the step tells of mappings, which
+    /// nobody sees. It is refused only for want of memory.
+    pub fn next_plan(&mut self, alloc: Global, update: u32) -> Result<Plan, Memory>
+        requires ready { standing_at self.old update ≡ Some Ready }
+        ensures same { self.new ≡ self.old }
         ensures update { IfOk result (λ plan. plan.update ≡ update) }
-        ensures step { IfOk result (IsStepAt self.now) }
+        ensures step { IfOk result (IsStepAt self.old) }
     {
         let place = place_of(update);
-        let mappings = &self.mappings;
-        let versions = &self.versions;
-        let plan = plan_at(alloc, mappings, self.budget, versions, &self.queue, place)?;
+        let plan = plan_at(
+            alloc,
+            &self.mappings,
+            self.budget,
+            &self.versions,
+            &self.queue,
+            place,
+            &mut self.known,
+        )?;
         Ok(plan)
     }
 
@@ -265,6 +279,8 @@ impl<'s> Core<'s> {
         self.least = 0;
         self.most = u32::MAX;
         self.unready = 0;
+        let known = self.known.number_of(update);
+        self.known.update = 0;
         let committed = step_at(
             alloc,
             &self.mappings,
@@ -280,6 +296,7 @@ impl<'s> Core<'s> {
         self.least = committed;
         self.most = raised(most, update);
         self.unready = unready_from(&self.queue, below);
+        self.known.update = known;
         Ok(self.history.len() as u64)
     }
 
@@ -372,6 +389,7 @@ impl<'s> Core<'s> {
         self.least = 0;
         self.most = u32::MAX;
         self.unready = 0;
+        self.known.update = 0;
         deliver_at(self.settings, &mut self.queue, &mut self.history, place)?;
         self.least = least;
         self.most = most;

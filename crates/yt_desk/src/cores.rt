@@ -76,10 +76,13 @@ pub trait Core {
     fn plan(alloc: Global, snapshot: &Self::Snapshot) -> Result<Self::Plan, Memory>
         ensures plan { IfOk result (IsPlanOf is_snapshot is_plan snapshot.now) };
 
-    /// The update's next step, without a snapshot. It is refused only for want of memory.
-    fn next_plan(&self, alloc: Global, update: u32) -> Result<Self::Plan, Memory>
-        requires ready { IsReady (over self.now) (history self.now) update }
-        ensures plan { IfOk result (λ p. is_plan p (over self.now) (history self.now) update) };
+    /// The update's next step, without a snapshot. The core may keep what planning it told, which is seen of none. It is refused
+    /// only for want of memory.
+    fn next_plan(&mut self, alloc: Global, update: u32) -> Result<Self::Plan, Memory>
+        requires ready { IsReady (over self.old) (history self.old) update }
+        ensures over { over self.new ≡ over self.old }
+        ensures history { history self.new ≡ history self.old }
+        ensures plan { IfOk result (λ p. is_plan p (over self.old) (history self.old) update) };
 
     /// The number of the first entry past so many that is in question for the plan. Where there is none the plan, made at
     /// the state before them, is the update's step still. It takes no memory.

@@ -124,8 +124,9 @@ impl<'s> yt_desk::Core for Seated<'s> {
         snapshot.plan(alloc)
     }
 
-    fn next_plan(&self, alloc: Global, update: u32) -> Result<Plan, Memory> {
-        self.core.next_plan(alloc, update)
+    fn next_plan(&mut self, alloc: Global, update: u32) -> Result<Plan, Memory> {
+        let plan = self.core.next_plan(alloc, update)?;
+        Ok(plan)
     }
 
     fn touched(&self, plan: &Plan, since: u64) -> Option<u64> {

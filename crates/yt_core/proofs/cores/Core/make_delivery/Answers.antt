@@ -19,13 +19,13 @@ deliver_at-requires-clause-numbers c =
 
 pub invariant_of-self : goal.invariant_of-self
 invariant_of-self c =
-    with_nothing_noted _ _ _ _
+    with_nothing_noted _ _ _ _ (record { update = 0; made = c.self.inside.known.made; marks = c.self.inside.known.marks }) refl
     (kept_err _ c.self.inside.versions c.self.inside.versions c.self.inside.queue.items c.deref_mut.result.now c.deliver_at.new.queue (drop (length c.deliver_at.new.queue) c.self.inside.queue.items) c.self.inside.queue.len
     c.self.inside.history.items c.deliver_at.new.history.items (omega arith) c.self.invariant.0 c.deref_mut.ensures.value refl c.in_err-deliver_at.ensures.queue c.deliver_at.ensures.long c.in_err-deliver_at.ensures.history)
 
 pub invariant_of-self-2 : goal.invariant_of-self-2
 invariant_of-self-2 c =
-    with_nothing_noted _ _ _ _
+    with_nothing_noted _ _ _ _ (record { update = 0; made = c.self.inside.known.made; marks = c.self.inside.known.marks }) refl
     (kept_ok _ c.self.inside.versions c.deliver_at.new.queue (drop (length c.deliver_at.new.queue) c.self.inside.queue.items) c.self.inside.queue.len (map entry_of c.deliver_at.new.history.items) (omega arith)
     (core_delivers _ c.self.inside.versions c.self.inside.queue.items c.self.inside.history.items _ c.self.invariant.0 c.self.view_is c.args.update c.requires.pending c.place_of-place.result c.place_of-place.ensures c.deref_mut.result.now
     c.deref_mut.ensures.value c.deliver_at.new.queue c.deliver_at.new.history.items c.requires.waits c.in_ok-deliver_at.ensures.made).kept)
