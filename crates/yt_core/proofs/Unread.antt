@@ -59,12 +59,16 @@ unread_kept rs rs' k r' fs restarts n l h ms B =
     subst (λ (vs : List (Update (caused_chase ms B))). AreUnread (caused_chase ms B) (drop n vs)) (sym (restarts ms B (marks_for ms B fs) (marked_so ms B fs)))
     (behind_unread M (k + 1) n (suc (k + 1)) (marks_for ms B fs) us (subst (λ (vs : List (Update (caused_chase ms B))). AreUnread (caused_chase ms B) vs) (sym put) (h ms B)))
 
+restart_none : (M : Machine) (n : ℕ) (us : List (Update M)) → restart M n [] us ≡ us
+restart_none M n [] = refl
+restart_none M n (u ∷ us) = refl
+
 -- Where no update restarts all are as they were.
 pub none_restarted : (k : ℕ) (rs : List Record) → HaveRestarted k [] rs rs
 none_restarted k rs ms B xs none = by xs none
   where
     by : (xs : List (Option (Cause (caused_chase ms B)))) → map is_some xs ≡ [] → updates_of ms B rs ≡ take k (updates_of ms B rs) ++ restart (caused_chase ms B) (suc k) xs (drop k (updates_of ms B rs))
-    by [] h = sym (take-append-drop k (updates_of ms B rs))
+    by [] h = sym (ap (λ (us : List (Update (caused_chase ms B))). take k (updates_of ms B rs) ++ us) (restart_none (caused_chase ms B) (suc k) (drop k (updates_of ms B rs))) ∙ take-append-drop k (updates_of ms B rs))
     by (x ∷ xs) h = absurd (cc h)
 
 pub same_unread : (rs rs' : List Record) (n : ℕ) → AreSame rs rs' → ReadsAtMost rs n → ReadsAtMost rs' n

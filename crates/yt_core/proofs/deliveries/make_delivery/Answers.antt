@@ -1,5 +1,5 @@
 use Rattle.yt_queue.specs.Settings.{settings_of}
-use Rattle.std.proofs.Common.{[]}
+use Rattle.std.proofs.Common.{[], ◌+◌}
 use Rattle.yt_core.proofs.Committing.{committed_kept, unready_kept}
 use Rattle.yt_core.proofs.Delivering.{put_with, delivers_to}
 use Rattle.yt_core.proofs.Unread.{none_restarted, unread_kept}
