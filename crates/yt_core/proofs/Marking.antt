@@ -3,8 +3,8 @@ use Rattle.std.proofs.Common.{◌≡◌, ◌∙◌, ap, refl, sym, subst, Bool, 
 use Rattle.std.specs.Option.{option_map}
 use Rattle.std.specs.List.{flat_map}
 use Rattle.std.proofs.Math.ListN.{set}
-use Rattle.std.proofs.lemmas.List.{map-set, slice_get-map, length-append, take_all}
-use Rattle.std.proofs.lemmas.Option.{same_Some, none-some}
+use Rattle.std.proofs.lemmas.List.{map-set, length-append, take_all}
+use Rattle.std.proofs.lemmas.Option.{same_Some, none-some, slice_get-map}
 use Rattle.yt_base.specs.Meanings.{choice_of}
 use Rattle.yt_eval.specs.Watched.{AreSettled, Watched}
 use Rattle.yt_history.specs.Cores.{Ground, machine}
@@ -16,7 +16,7 @@ use Rattle.yt_model.specs.Mappings.{Rule}
 use Rattle.yt_model.specs.Repository.{Change, apply}
 use Rattle.yt_model.specs.Updates.{Operation, direction_of}
 use Rattle.yt_model.specs.Values.{Fact}
-use Rattle.yt_model.specs.Violations.{caused}
+use Rattle.yt_steps.specs.Chase.{caused}
 use Rattle.yt_program.specs.Courses.{State as ProgramState}
 use Rattle.yt_steps.specs.Attempts.{Attempt}
 use Rattle.yt_steps.specs.Chase.{caused_chase}

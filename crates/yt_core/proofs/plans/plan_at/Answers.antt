@@ -37,5 +37,5 @@ returns-clause-known c =
     marks_there c.args.mappings.now c.args.versions.now c.args.queue.now c.plan_of.new.known c.args.place c.index-queue-place.result c.requires.numbers
     (there_is c.args.queue.now c.args.place c.index-queue-place.result c.requires.place c.index-queue-place.is) c.in_ok-plan.ensures.known
 
-pub returns-in_err-clause-known : goal.returns-in_err-clause-known
-returns-in_err-clause-known c = none_known c.args.mappings.now c.args.versions.now c.args.queue.now c.plan_of.new.known c.in_err-plan.ensures.none
+pub returns-in_err-plan-clause-known : goal.returns-in_err-plan-clause-known
+returns-in_err-plan-clause-known c = none_known c.args.mappings.now c.args.versions.now c.args.queue.now c.plan_of.new.known c.in_err-plan.ensures.none

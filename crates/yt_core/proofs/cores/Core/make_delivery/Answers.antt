@@ -1,4 +1,4 @@
-use Rattle.std.proofs.Common.{refl, arith, length, drop, map, subst, sym, List}
+use Rattle.std.proofs.Common.{refl, arith, length, drop, map, subst, sym, take, ◌++◌, List}
 use Rattle.yt_entries.specs.Meanings.{entry_of}
 use Rattle.yt_core.proofs.Making.{some_number, pending_within, pending_numbers, core_delivers, kept_ok, kept_err, has_delivered}
 use Rattle.yt_core.proofs.Committing.{fewer_committed, fewer_unready, least_ok, unready_ok}
@@ -41,7 +41,7 @@ invariant_of-self-2 c = (
   unready_ok c.deliver_at.new.queue (drop (length c.deliver_at.new.queue) c.self.inside.queue.items) c.self.inside.queue.len c.lesser-unready.result (omega arith)
       (c.in_ok-deliver_at.ensures.unready c.lesser-unready.result c.lesser-unready.ensures.other
       (fewer_unready c.deref_mut.result.now c.self.inside.unready c.lesser-unready.result c.lesser-unready.ensures.one (subst (λ (rs : List Record). UnreadyUpTo rs c.self.inside.unready) (sym c.deref_mut.ensures.value) c.self.invariant.3))),
-  none_known _ c.self.inside.versions _ (record { update = 0; made = c.self.inside.known.made; marks = c.self.inside.known.marks }) refl,
+  none_known _ c.self.inside.versions (take c.self.inside.queue.len (c.deliver_at.new.queue ++ drop (length c.deliver_at.new.queue) c.self.inside.queue.items)) (record { update = 0; made = c.self.inside.known.made; marks = c.self.inside.known.marks }) refl,
 )
 
 pub returns-clause-made : goal.returns-clause-made
