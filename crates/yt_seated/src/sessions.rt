@@ -69,7 +69,8 @@ impl<'s> WorkedSession<'s> {
 }
 
 /// Runs the session by as many workers as seats, from 1 to 16, each in a thread of its own, until nothing is left to do. Where
-/// no thread can be made the calling thread works in its place. It is refused only for want of memory.
+/// no thread can be made the calling thread works in its place. Recorded answers are delivered at once. It is refused only for want
+/// of memory.
 pub fn worked<'s, R: Threads + Wait + Clock + Sync, G: Gate + Sync>(
     rt: &R,
     gate: &G,
@@ -78,7 +79,6 @@ pub fn worked<'s, R: Threads + Wait + Clock + Sync, G: Gate + Sync>(
     settings: Settings,
     budget: Budget,
     seats: u64,
-    answers: Answers,
 ) -> Result<WorkedSession<'s>, Memory>
     requires valid { IsSession (session_of session.now) }
     requires met { base_violation (session_of session.now) ≡ None }
@@ -90,8 +90,9 @@ pub fn worked<'s, R: Threads + Wait + Clock + Sync, G: Gate + Sync>(
     ensures whole { IfOk result IsWholeRun }
 {
     let base = base_of(alloc, session)?;
+    let at_once = Answers::AtOnce;
     let run = worked_over(
-        rt, gate, alloc, session, base, settings, budget, seats, answers,
+        rt, gate, alloc, session, base, settings, budget, seats, at_once,
     )?;
     Ok(run)
 }
