@@ -17,3 +17,4 @@ pub mod Resting
 pub mod Resulting
 pub mod Committing
 pub mod Unread
+pub mod Marking

@@ -2,7 +2,7 @@
 use Rattle.std.proofs.Common.{◌≡◌, ◌∙◌, ap, refl, sym, subst, ℕ, zero, suc, ◌≤◌, ◌<◌, ◌+◌, ◌-◌, ◌^◌, Bool, true, false, Option, List, [], ◌∷◌, ◌++◌, map, length, take, drop, arith}
 use Rattle.std.specs.Prelude.{if◌then◌else◌, is_some}
 use Rattle.std.proofs.Math.ListN.{set}
-use Rattle.std.proofs.lemmas.List.{map-set, drop-map, drop-drop, length-drop}
+use Rattle.std.proofs.lemmas.List.{map-set, drop-map, drop-drop, length-drop, take-append-drop}
 use Rattle.yt_history.specs.Cores.{Ground}
 use Rattle.yt_history.specs.PlainEntries.{PlainEntry}
 use Rattle.yt_machine.specs.Cascade.{Cause, anew}
@@ -21,8 +21,11 @@ use Rattle.yt_steps.specs.Chase.{caused_chase}
 use Rattle.yt_versions.specs.Standing.{Kept}
 use Rattle.yt_core.specs.Follows.{AreSame, KeepsUnread}
 use Rattle.yt_core.specs.Kept.{IsKept}
+use Rattle.yt_core.specs.Known.{IsKnown}
+use Rattle.yt_core.specs.declared.known.Known.{Known}
 use Rattle.yt_core.proofs.Following.{marks_for, marked_so}
 use Rattle.yt_core.proofs.Making.{front}
+use Rattle.yt_core.proofs.Marking.{none_known}
 
 -- A restart leaves nothing read.
 restarts_unread : (M : Machine) (n m : ℕ) (xs : List (Option (Cause M))) (us : List (Update M)) → AreUnread M (drop n us) → AreUnread M (drop n (restart M m xs us))
@@ -56,6 +59,18 @@ unread_kept rs rs' k r' fs restarts n l h ms B =
     subst (λ (vs : List (Update (caused_chase ms B))). AreUnread (caused_chase ms B) (drop n vs)) (sym (restarts ms B (marks_for ms B fs) (marked_so ms B fs)))
     (behind_unread M (k + 1) n (suc (k + 1)) (marks_for ms B fs) us (subst (λ (vs : List (Update (caused_chase ms B))). AreUnread (caused_chase ms B) vs) (sym put) (h ms B)))
 
+restart_none : (M : Machine) (n : ℕ) (us : List (Update M)) → restart M n [] us ≡ us
+restart_none M n [] = refl
+restart_none M n (u ∷ us) = refl
+
+-- Where no update restarts all are as they were.
+pub none_restarted : (k : ℕ) (rs : List Record) → HaveRestarted k [] rs rs
+none_restarted k rs ms B xs none = by xs none
+  where
+    by : (xs : List (Option (Cause (caused_chase ms B)))) → map is_some xs ≡ [] → updates_of ms B rs ≡ take k (updates_of ms B rs) ++ restart (caused_chase ms B) (suc k) xs (drop k (updates_of ms B rs))
+    by [] h = sym (ap (λ (us : List (Update (caused_chase ms B))). take k (updates_of ms B rs) ++ us) (restart_none (caused_chase ms B) (suc k) (drop k (updates_of ms B rs))) ∙ take-append-drop k (updates_of ms B rs))
+    by (x ∷ xs) h = absurd (cc h)
+
 pub same_unread : (rs rs' : List Record) (n : ℕ) → AreSame rs rs' → ReadsAtMost rs n → ReadsAtMost rs' n
 same_unread rs rs' n same h ms B = subst (λ (us : List (Update (caused_chase ms B))). AreUnread (caused_chase ms B) (drop n us)) (sym (same.updates ms B)) (h ms B)
 
@@ -84,6 +99,7 @@ readers_within rs k n m l e = let long = length-drop (suc k) rs in omega (arith,
 pub most_ok : (qs ys : List Record) (n c : ℕ) → length qs ≡ n → ReadsAtMost qs c → ReadsAtMost (take n (qs ++ ys)) c
 most_ok qs ys n c l h = subst (λ (xs : List Record). ReadsAtMost xs c) (sym (front qs ys n l)) h
 
--- Where nothing is noted of what is committed, what has read something, and what is unready.
-pub with_nothing_noted : (g : Ground) (v : Kept) (rs : List Record) (H : List PlainEntry) → IsKept g v rs H → IsKept g v rs H × CommitsAtLeast rs 0 × ReadsAtMost rs (2 ^ 32 - 1) × UnreadyUpTo rs 0
-with_nothing_noted g v rs H k = (k, none_committed rs, all_may_read rs (2 ^ 32 - 1) (let l = k.few in omega (arith, l)), none_unready rs)
+-- Where nothing is noted of what is committed, what has read something, and what is unready, and there are marks of no update.
+pub with_nothing_noted : (g : Ground) (v : Kept) (rs : List Record) (H : List PlainEntry) (k : Known) → k.update ≡ 0 → IsKept g v rs H
+    → IsKept g v rs H × CommitsAtLeast rs 0 × ReadsAtMost rs (2 ^ 32 - 1) × UnreadyUpTo rs 0 × IsKnown g.rules v rs k
+with_nothing_noted g v rs H k e kept = (kept, none_committed rs, all_may_read rs (2 ^ 32 - 1) (let l = kept.few in omega (arith, l)), none_unready rs, none_known g.rules v rs k e)

@@ -9,6 +9,7 @@ pub mod Steps
 pub mod Follows
 pub mod Admitted
 pub mod Taken
+pub mod Known
 pub mod Drained
 pub mod Results
 pub mod LiveCalls

@@ -52,6 +52,7 @@ impl<'s> Core<'s> {
         self.least = 0;
         self.most = u32::MAX;
         self.unready = 0;
+        self.known.update = 0;
         let number = admit_at(
             alloc,
             &mut self.queue,

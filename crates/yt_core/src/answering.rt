@@ -86,6 +86,7 @@ impl<'s> Core<'s> {
         self.least = 0;
         self.most = u32::MAX;
         self.unready = 0;
+        self.known.update = 0;
         answer_at(
             alloc,
             self.settings,

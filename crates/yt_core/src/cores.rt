@@ -1,5 +1,5 @@
 //! A core, and what it is made of.
-ghost use Rattle.std.specs.Prelude.{◌≡◌, ◌≤◌, length, map, true, Some, IfOk, OnOk, OnErr};
+ghost use Rattle.std.specs.Prelude.{◌≡◌, ◌≤◌, length, map, true, Some, IfSome, IfOk, OnOk, OnErr};
 ghost use Rattle.std.specs.Option.{option_map, option_copied};
 ghost use Rattle.yt_frontier.specs.Inquiries.{inquiry_of, inquiry_in};
 ghost use Rattle.yt_history.specs.Cores.{IsLegalOver};
@@ -16,8 +16,9 @@ ghost use Rattle.yt_core.specs.Planned.{IsStepAt};
 
 use crate::admitting::{admissions, admitted};
 use crate::deliveries::deliver_at;
+use crate::known::Known;
 use crate::plans::{Plan, Snapshot, plan_at, snapshot_at};
-use crate::putting::step_at;
+use crate::putting::{least_below, step_at};
 use crate::refusals::{DeliverRefusal, StepRefusal};
 use crate::standings::{has_waiting, place_of, question, standing};
 use crate::stepping::{lesser, raised};
@@ -30,7 +31,7 @@ use yt_frontier::Question;
 use yt_limits::{Budget, Mappings};
 use yt_queue::{
     Record, Settings, committed_from, is_quiet, lowest_deliverable, lowest_ready,
-    lowest_ready_besides, reads_at_most, unready_from,
+    lowest_ready_besides, next_deliverable, reads_at_most, unready_from,
 };
 use yt_serial::{base_of, mappings_of};
 use yt_session::{Session, SessionUpdates};
@@ -55,6 +56,8 @@ pub struct Core<'s> {
     pub(crate) most: u32,
     // The first so many are unready; the search for a ready one begins behind them.
     pub(crate) unready: usize,
+    // The marks of the update that made the last step, by which its next one is planned.
+    pub(crate) known: Known,
 }
 
 impl<'s> Model for Core<'s> {
@@ -64,12 +67,13 @@ impl<'s> Model for Core<'s> {
     ghost use Rattle.yt_core.specs.States.{State};
     ghost use Rattle.yt_queue.specs.Walks.{CommitsAtLeast, ReadsAtMost, UnreadyUpTo};
     ghost use Rattle.yt_core.specs.Kept.{ground_by, IsKept};
+    ghost use Rattle.yt_core.specs.Known.{IsKnown};
 
     ghost Value = { State };
 
     ghost view = { λ c. record { over = ground_by c.mappings c.budget (settings_of c.settings) c.base.now c.updates.now c.later; history = map entry_of c.history.items } };
 
-    ghost invariant = { λ c. IsKept (ground_by c.mappings c.budget (settings_of c.settings) c.base.now c.updates.now c.later) c.versions c.queue.items (map entry_of c.history.items) × CommitsAtLeast c.queue.items c.least × ReadsAtMost c.queue.items c.most × UnreadyUpTo c.queue.items c.unready };
+    ghost invariant = { λ c. IsKept (ground_by c.mappings c.budget (settings_of c.settings) c.base.now c.updates.now c.later) c.versions c.queue.items (map entry_of c.history.items) × CommitsAtLeast c.queue.items c.least × ReadsAtMost c.queue.items c.most × UnreadyUpTo c.queue.items c.unready × IsKnown c.mappings c.versions c.queue.items c.known };
 }
 
 impl<'s> Core<'s> {
@@ -111,6 +115,7 @@ impl<'s> Core<'s> {
         let history = admissions(alloc, updates)?;
         let mappings = mappings_of(session);
         let later = UpdateList::new(alloc);
+        let known = Known::none(alloc)?;
         Ok(Core {
             mappings,
             budget,
@@ -124,6 +129,7 @@ impl<'s> Core<'s> {
             least: 0,
             most: u32::MAX,
             unready: 0,
+            known,
         })
     }
 
@@ -191,6 +197,13 @@ impl<'s> Core<'s> {
         lowest_deliverable(&self.queue, self.settings, self.least)
     }
 
+    /// The first update that is not committed, if a recorded answer can be delivered to it. It takes no memory.
+    pub fn next_deliverable(&self) -> Option<u32>
+        ensures lowest { IfSome result (λ n. lowest_deliverable_at self.now ≡ Some n) }
+    {
+        next_deliverable(&self.queue, self.settings, self.least)
+    }
+
     /// Whether nothing is ready, and nothing deliverable. It takes no memory.
     pub fn is_quiet(&self) -> bool
         ensures quiet { result ≡ is_quiet_at self.now }
@@ -228,16 +241,24 @@ impl<'s> Core<'s> {
         Ok(snapshot)
     }
 
-    /// The next step of an update that is ready, planned without a snapshot. It is refused only for want of memory.
-    pub fn next_plan(&self, alloc: Global, update: u32) -> Result<Plan, Memory>
-        requires ready { standing_at self.now update ≡ Some Ready }
+    /// The next step of an update that is ready, planned without a snapshot. The core keeps what the step tells of mappings, which
+    /// nobody sees. It is refused only for want of memory.
+    pub fn next_plan(&mut self, alloc: Global, update: u32) -> Result<Plan, Memory>
+        requires ready { standing_at self.old update ≡ Some Ready }
+        ensures same { self.new ≡ self.old }
         ensures update { IfOk result (λ plan. plan.update ≡ update) }
-        ensures step { IfOk result (IsStepAt self.now) }
+        ensures step { IfOk result (IsStepAt self.old) }
     {
         let place = place_of(update);
-        let mappings = &self.mappings;
-        let versions = &self.versions;
-        let plan = plan_at(alloc, mappings, self.budget, versions, &self.queue, place)?;
+        let plan = plan_at(
+            alloc,
+            &self.mappings,
+            self.budget,
+            &self.versions,
+            &self.queue,
+            place,
+            &mut self.known,
+        )?;
         Ok(plan)
     }
 
@@ -258,6 +279,8 @@ impl<'s> Core<'s> {
         self.least = 0;
         self.most = u32::MAX;
         self.unready = 0;
+        let known = self.known.number_of(update);
+        self.known.update = 0;
         let committed = step_at(
             alloc,
             &self.mappings,
@@ -273,6 +296,7 @@ impl<'s> Core<'s> {
         self.least = committed;
         self.most = raised(most, update);
         self.unready = unready_from(&self.queue, below);
+        self.known.update = known;
         Ok(self.history.len() as u64)
     }
 
@@ -359,10 +383,17 @@ impl<'s> Core<'s> {
         ensures kept { OnErr result (self.new ≡ self.old) }
     {
         let place = place_of(update);
+        let least = least_below(self.least, place);
+        let most = raised(self.most, update);
+        let unready = lesser(self.unready, place);
         self.least = 0;
         self.most = u32::MAX;
         self.unready = 0;
+        self.known.update = 0;
         deliver_at(self.settings, &mut self.queue, &mut self.history, place)?;
+        self.least = least;
+        self.most = most;
+        self.unready = unready;
         Ok(self.history.len() as u64)
     }
 }

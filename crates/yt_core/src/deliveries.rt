@@ -2,7 +2,7 @@
 ghost use Rattle.std.specs.Prelude.{◌≡◌, ◌<◌, ◌≤◌, length, OnOk, OnErr};
 ghost use Rattle.yt_queue.specs.Queues.{AreFrom};
 ghost use Rattle.yt_queue.specs.Settings.{settings_of};
-ghost use Rattle.yt_core.specs.Follows.{AreSame, HasAnswerRoomAt, DeliversTo, TellsDelivery};
+ghost use Rattle.yt_core.specs.Follows.{AreSame, HasAnswerRoomAt, DeliversTo, KeepsCommitted, KeepsUnread, KeepsUnready, TellsDelivery};
 
 use crate::stepping::put_last;
 use yt_base::Memory;
@@ -21,6 +21,9 @@ pub(crate) fn deliver_at(
     requires numbers { AreFrom 1 queue.old }
     ensures made { OnOk result (DeliversTo (settings_of settings) place queue.old history.old.items
         queue.new history.new.items) }
+    ensures least { OnOk result (KeepsCommitted place queue.old queue.new) }
+    ensures most { OnOk result (KeepsUnread place queue.old queue.new) }
+    ensures unready { OnOk result (KeepsUnready place queue.old queue.new) }
     ensures queue { OnErr result (AreSame queue.old queue.new) }
     ensures history { OnErr result (history.new.items ≡ history.old.items) }
     ensures long { length queue.new ≡ length queue.old }
@@ -56,6 +59,9 @@ fn make_delivery(settings: Settings, queue: &mut [Record], history: &mut EntryLi
     requires spare { 1 ≤ history.old.spare }
     ensures made { DeliversTo (settings_of settings) place queue.old history.old.items queue.new
         history.new.items }
+    ensures least { KeepsCommitted place queue.old queue.new }
+    ensures most { KeepsUnread place queue.old queue.new }
+    ensures unready { KeepsUnready place queue.old queue.new }
     ensures long { length queue.new ≡ length queue.old }
 {
     queue[place].deliver();

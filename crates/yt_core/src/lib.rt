@@ -14,6 +14,7 @@ mod answers;
 mod cores;
 mod deliveries;
 mod draining;
+mod known;
 mod plans;
 mod putting;
 mod refusals;

@@ -1,14 +1,17 @@
 //! The next step of an update, planned while the core goes on.
 ghost use Rattle.std.specs.Option.{option_map, option_copied};
-ghost use Rattle.std.specs.Prelude.{◌≡◌, ◌<◌, length, map, IfOk};
+ghost use Rattle.std.specs.Prelude.{◌≡◌, ◌<◌, length, map, IfOk, OnOk, OnErr};
 ghost use Rattle.yt_base.specs.Meanings.{choice_of, rule_of};
 ghost use Rattle.yt_limits.specs.Within.{AreWithin};
 ghost use Rattle.yt_query.specs.Meanings.{read_of};
 ghost use Rattle.yt_queue.specs.Queues.{AreFrom};
 ghost use Rattle.yt_queue.specs.Programs.{IsBetween, HasNext};
 ghost use Rattle.yt_queue.specs.Wants.{WantsNext};
+ghost use Rattle.yt_versions.specs.Standing.{seen};
+ghost use Rattle.yt_core.specs.Known.{AreMarksOver, AreMarksOf, IsKnown};
 ghost use Rattle.yt_core.specs.Taken.{AtPlace, IsHeldBy, IsReadySomewhere, IsSnapshotOf};
 
+use crate::known::Known;
 use std::alloc::Global;
 use std::marker::Model;
 use yt_base::{Choice, MappingList, Memory, TryCopy};
@@ -93,7 +96,7 @@ impl<'s> Snapshot<'s> {
         let with = self.versions.below(self.update + 1);
         let answer = lent(&self.answer);
         let mappings = &self.mappings;
-        let settled = self.settled.copy(alloc)?;
+        let mut settled = self.settled.copy(alloc)?;
         let step = plan_step(
             alloc,
             &self.program,
@@ -102,7 +105,7 @@ impl<'s> Snapshot<'s> {
             self.budget,
             &below,
             &with,
-            settled,
+            &mut settled,
         )?;
         Ok(Plan {
             update: self.update,
@@ -118,7 +121,8 @@ impl<'s> Snapshot<'s> {
     }
 }
 
-/// The plan of the next step of the update at the place, which is ready. It is refused only for want of memory.
+/// The plan of the next step of the update at the place, which is ready, by what is known of it; its marks are kept. It is refused
+/// only for want of memory; there are then marks of no update.
 pub(crate) fn plan_at(
     alloc: Global,
     mappings: &Mappings<'_>,
@@ -126,43 +130,53 @@ pub(crate) fn plan_at(
     versions: &Versions,
     queue: &[Record],
     place: usize,
+    known: &mut Known,
 ) -> Result<Plan, Memory>
     requires place { place < length queue.now }
     requires numbers { AreFrom 1 queue.now }
     requires ready { AtPlace place queue.now IsReadySomewhere }
     requires left { AtPlace place queue.now (λ r. r.program.attempt.steps < budget) }
     requires held { AtPlace place queue.now (IsHeldBy mappings.now versions.now) }
+    requires known { IsKnown mappings.now versions.now queue.now known.old }
     ensures planned { IfOk result (λ plan. AtPlace place queue.now (λ r. IsSnapshotOf
         mappings.now budget versions.now r plan)) }
+    ensures known { IsKnown mappings.now versions.now queue.now known.new }
 {
     let item = &queue[place];
-    let plan = plan_of(alloc, mappings, budget, versions, item)?;
+    let plan = plan_of(alloc, mappings, budget, versions, item, known)?;
     Ok(plan)
 }
 
-// The plan of the next step of the record, which is ready.
+// The plan of the next step of the record, which is ready, by what is known of it; its marks are kept.
 fn plan_of(
     alloc: Global,
     mappings: &Mappings<'_>,
     budget: Budget,
     versions: &Versions,
     item: &Record,
+    known: &mut Known,
 ) -> Result<Plan, Memory>
     requires between { IsBetween item.now.program }
     requires ready { IsReadySomewhere item.now }
     requires left { item.now.program.attempt.steps < budget }
     requires held { IsHeldBy mappings.now versions.now item.now }
+    requires known { known.old.update ≡ item.now.program.attempt.number →
+        AreMarksOver mappings.now (seen item.now.program.attempt.number versions.now) item.now
+        known.old }
     ensures planned { IfOk result (IsSnapshotOf mappings.now budget versions.now item.now) }
+    ensures known { OnOk result (AreMarksOf mappings.now versions.now item.now known.new) }
+    ensures none { OnErr result (known.new.update ≡ 0) }
 {
     let update = item.number();
     let program = &item.program;
-    let settled = settled_by(alloc, mappings.list(), program, item.log.as_slice())?;
+    let mut settled = known.take(alloc, mappings.list(), item)?;
     let below = versions.below(update);
     let with = versions.below(update + 1);
     let answer = item.next_answer();
     let step = plan_step(
-        alloc, program, answer, mappings, budget, &below, &with, settled,
+        alloc, program, answer, mappings, budget, &below, &with, &mut settled,
     )?;
+    known.keep(update, program.own().len() as u64, settled);
     Ok(Plan { update, step })
 }
 

@@ -7,6 +7,7 @@ ghost use Rattle.yt_queue.specs.Renewals.{AllHaveOneMore, AreFresh};
 ghost use Rattle.yt_queue.specs.Settings.{settings_of};
 ghost use Rattle.yt_queue.specs.Walks.{CommitsAtLeast, HasCommitted, ReadsAtMost};
 ghost use Rattle.yt_versions.specs.Standing.{Kept};
+ghost use Rattle.yt_core.specs.Known.{GrowsAt};
 ghost use Rattle.yt_core.specs.Follows.{AreSame, HasRoomAt, IsPlanAt, IsPreparedAt, KeepsUnread, KeepsUnready, TellsStep, StepsTo};
 
 use crate::stepping::{Prepared, install, prepare_at, put_last, reserve_step};
@@ -46,6 +47,7 @@ pub(crate) fn step_at(
     ensures committed { IfOk result (CommitsAtLeast queue.new) }
     ensures most { OnOk result (KeepsUnread place queue.old queue.new) }
     ensures unready { OnOk result (KeepsUnready place queue.old queue.new) }
+    ensures grows { OnOk result (GrowsAt place queue.old queue.new) }
     ensures versions { OnErr result (versions.new ≡ versions.old) }
     ensures queue { OnErr result (AreSame queue.old queue.new) }
     ensures history { OnErr result (history.new.items ≡ history.old.items) }
@@ -127,6 +129,7 @@ fn put_step(
     ensures committed { CommitsAtLeast queue.new result }
     ensures most { KeepsUnread place queue.old queue.new }
     ensures unready { KeepsUnready place queue.old queue.new }
+    ensures grows { GrowsAt place queue.old queue.new }
     ensures long { length queue.new ≡ length queue.old }
 {
     let attempt = queue[place].program.attempt();
@@ -175,8 +178,8 @@ fn step_entry(
     }
 }
 
-// So many, where they are all below the place.
-fn least_below(least: u32, place: usize) -> u32
+/// So many, where they are all below the place.
+pub(crate) fn least_below(least: u32, place: usize) -> u32
     ensures least { result ≤ least }
     ensures below { result ≤ place }
 {

@@ -8,6 +8,7 @@ ghost use Rattle.yt_queue.specs.Settings.{settings_of};
 ghost use Rattle.yt_queue.specs.Walks.{CommitsAtLeast, ReadsAtMost};
 ghost use Rattle.yt_core.specs.Aftermaths.{AllBetween};
 ghost use Rattle.yt_core.specs.Follows.{AreSame, HasRoomAt, IsPlanAt, IsPreparedAt, IsInstalled, KeepsCommitted, KeepsUnread, KeepsUnready};
+ghost use Rattle.yt_core.specs.Known.{GrowsAt};
 ghost use Rattle.yt_core.specs.Steps.{HasHidden, HasTurned, ShowsStep, WereFound, IsPrepared};
 
 use crate::aftermaths::{Aftermath, settled};
@@ -227,6 +228,7 @@ pub(crate) fn install(queue: &mut [Record], place: usize, plan: Plan, fresh: Vec
     ensures least { KeepsCommitted place queue.old queue.new }
     ensures most { KeepsUnread place queue.old queue.new }
     ensures unready { KeepsUnready place queue.old queue.new }
+    ensures grows { GrowsAt place queue.old queue.new }
     ensures numbers { AreFrom 1 queue.new }
     ensures long { length queue.new ≡ length queue.old }
 {

@@ -71,6 +71,7 @@ impl<'s> Core<'s> {
         self.least = 0;
         self.most = u32::MAX;
         self.unready = 0;
+        self.known.update = 0;
         withdraw_at(
             alloc,
             &self.mappings,

@@ -13,7 +13,7 @@ use Rattle.yt_record.specs.Tickets as record_tickets
 use Rattle.yt_record.specs.Records.{Now}
 use Rattle.yt_stamp.specs.Seats.{seen_of}
 use Rattle.yt_record.specs.Answers as answers
-use Rattle.yt_record.specs.Calls.{entry_by, items_of_answer, next_items, back_items, step_items}
+use Rattle.yt_record.specs.Calls.{delivery_items, entry_by, items_of_answer, next_items, back_items, step_items}
 use Rattle.yt_record.proofs.Answering.{quiet_answer}
 use Rattle.yt_history.specs.Cores.{Ground, machine}
 use Rattle.yt_history.specs.PlainEntries.{PlainEntry}
@@ -73,6 +73,9 @@ module _ {M : Machine} where
         sum_made_by-append gifts t.maker (entry_by t.maker x) (back_items t) ∙ (λ i. none_of_entry gifts (λ e. refl) t.maker x i + b.0 i),
         sum_made_by-append returns t.maker (entry_by t.maker x) (back_items t) ∙ (λ i. none_of_entry returns (λ e. refl) t.maker x i + b.1 i),
       )
+
+  pub no_ticket : (n : Now M) (j u : ℕ) → (sum_made_by gifts j (delivery_items n j u) ≡ 0) × (sum_made_by returns j (delivery_items n j u) ≡ 0)
+  no_ticket n j u = (let x = effect M n.settings n.session n.updates (Delivers u) in (none_of_entry gifts (λ e. refl) j x, none_of_entry returns (λ e. refl) j x))
 
   pub next_counts : (n : Now M) (j : ℕ) (a : answers.Answer) (k : ℕ) → (sum_made_by gifts j (items_of_answer n j a) ≡ k) → answers.next_answer n ≡ a → sum_made_by gifts j (next_items n j) ≡ k
   next_counts n j a k e h = ap (λ b. sum_made_by gifts j (items_of_answer n j b)) h ∙ e

@@ -26,7 +26,7 @@ use Rattle.yt_record.specs.Stays.{IsOut}
 use Rattle.yt_record.specs.Apart.{HasTickets}
 use Rattle.yt_record.specs.Given.{StandsFor}
 use Rattle.yt_record.specs.Answers.{Gives, Moves, lowest_out, first_of_these, next_answer}
-use Rattle.yt_record.specs.Calls.{entry_by, items_of_answer, next_items, back_items, step_items, AreCalls}
+use Rattle.yt_record.specs.Calls.{entry_by, delivery_items, items_of_answer, next_items, back_items, step_items, AreCalls}
 use Rattle.yt_record.proofs.Calling.{call_law, given_now, free_is}
 use Rattle.yt_record.proofs.Legality.{record_law}
 use Rattle.yt_record.proofs.Marking.{mark_law}
@@ -145,19 +145,25 @@ module _ (b : Shared) (h : IsShared b) where
       (let few = h.few in omega arith) refl (refl, tt) in
       (g.0, g.1, answer, g.2, given_now u (next_ticket here (suc b.given) u j) h.out refl (free_is (machine b.over) laws here h.stands.open_now u free))
 
+  pub delivers_at : (j u : ℕ) (H : List PlainEntry) → lowest_waiting b.over b.history ≡ Some u → IsDelivery b.over b.history u H
+      → IsShared (more b (made Next (Some j) ∷ []) H b.busy b.given) × Adds j b.over (items_of b) (items_of (more b (made Next (Some j) ∷ []) H b.busy b.given)) here (delivery_items here j u)
+  delivers_at j u H waits d =
+      let x = some_of (λ x. b.history ++ plain_entry b.over.rules b.over.budget x.entry ∷ []) (effect_after b.over b.history (Delivers u)) H d in
+      let items : delivery_items here j u ≡ made (Entered x.0.entry) (Some j) ∷ [] = ap (entry_by j) x.1 in
+      let event = (effect_records (machine b.over) laws b.over.settings here.session here.updates (Delivers u) x.0 x.1).0 in
+      let g = grows j (made Next (Some j) ∷ []) (plain_entry b.over.rules b.over.budget x.0.entry ∷ []) H b.busy b.given h.out (delivery_items here j u)
+      (sym x.2) refl (ap (λ e. made (Entered e) (Some j) ∷ []) (entry_there b.over.rules b.over.budget x.0.entry) ∙ sym items) (calls.delivers j u waits)
+      (ap (after_items here) items ∙ entered_here (Delivers u) x.0 (made Next (Some j) ∷ []) H b.busy (tickets_after j x.0.entry h.out) h.out x.1 x.2 (delivery_tickets u j x.0.entry h.out event))
+      h.busy (let few = h.few in omega arith) refl (refl, tt) in
+      (g.0, g.1)
+
   pub delivers : (j u : ℕ) (H : List PlainEntry) → lowest_idle b.over b.history b.busy ≡ None → lowest_waiting b.over b.history ≡ Some u → IsDelivery b.over b.history u H
       → IsShared (more b (made Next (Some j) ∷ []) H b.busy b.given) × Adds j b.over (items_of b) (items_of (more b (made Next (Some j) ∷ []) H b.busy b.given)) here (next_items here j) × (next_answer here ≡ Moves u)
   delivers j u H none waits d =
-      let x = some_of (λ x. b.history ++ plain_entry b.over.rules b.over.budget x.entry ∷ []) (effect_after b.over b.history (Delivers u)) H d in
       let free : lowest_free here ≡ None = idle_is ∙ none in
       let answer : next_answer here ≡ Moves u = λ k. first_of_these (free k) (waits k) (lowest_out None h.out) in
-      let items : next_items here j ≡ made (Entered x.0.entry) (Some j) ∷ [] = ap (items_of_answer here j) answer ∙ ap (entry_by j) x.1 in
-      let event = (effect_records (machine b.over) laws b.over.settings here.session here.updates (Delivers u) x.0 x.1).0 in
-      let g = grows j (made Next (Some j) ∷ []) (plain_entry b.over.rules b.over.budget x.0.entry ∷ []) H b.busy b.given h.out (next_items here j)
-      (sym x.2) refl (ap (λ e. made (Entered e) (Some j) ∷ []) (entry_there b.over.rules b.over.budget x.0.entry) ∙ sym items) (calls.next j)
-      (ap (after_items here) items ∙ entered_here (Delivers u) x.0 (made Next (Some j) ∷ []) H b.busy (tickets_after j x.0.entry h.out) h.out x.1 x.2 (delivery_tickets u j x.0.entry h.out event))
-      h.busy (let few = h.few in omega arith) refl (refl, tt) in
-      (g.0, g.1, answer)
+      let g = delivers_at j u H waits d in
+      (g.0, subst (λ (r : Record (machine b.over)). Adds j b.over (items_of b) (items_of (more b (made Next (Some j) ∷ []) H b.busy b.given)) here r) (sym (ap (items_of_answer here j) answer)) g.1, answer)
 
   pub waits_for : (j : ℕ) → lowest_idle b.over b.history b.busy ≡ None → lowest_waiting b.over b.history ≡ None → next_answer here ≡ first_of_these None None (least None b.busy)
   waits_for j none quiet = λ k. first_of_these ((idle_is ∙ none) k) (quiet k) ((least_out None h.out ∙ ap (least None) h.busy) k)

@@ -1,5 +1,5 @@
--- Steps in one turn: each makes a longer record, in which no ticket more is out.
-use Rattle.std.proofs.Common.{◌≡◌, ◌∙◌, ap, sym, refl, subst, arith, ℕ, zero, suc, ◌+◌, add-one, List, [], ◌∷◌, ◌++◌, append-nil, append_assoc, Some, None, Bool, true, false, not, ◌||◌, ◌==◌, eq-eqb, Result, Ok, Err}
+-- Moves in one turn: each makes a longer record, in which no ticket more is out.
+use Rattle.std.proofs.Common.{◌≡◌, ◌∙◌, ap, sym, refl, subst, arith, ℕ, zero, suc, ◌+◌, add-one, add-zero, List, [], ◌∷◌, ◌++◌, append-nil, append_assoc, Some, None, Bool, true, false, not, ◌||◌, ◌==◌, eq-eqb, Result, Ok, Err}
 use Rattle.std.specs.Prelude.{if◌then◌else◌, ◌&&◌, IfOk}
 use Rattle.std.proofs.lemmas.Bool.{both_ways, and_parts}
 use Rattle.std.proofs.lemmas.Option.{same_Some}
@@ -19,20 +19,20 @@ use Rattle.yt_record.specs.Tickets.{Ticket}
 use Rattle.yt_record.specs.Records.{Now, next_ticket, after_items}
 use Rattle.yt_record.specs.Stays.{IsOut}
 use Rattle.yt_record.specs.Answers.{Gives, next_answer}
-use Rattle.yt_record.specs.Calls.{items_of_answer, next_items, step_items}
+use Rattle.yt_record.specs.Calls.{delivery_items, items_of_answer, next_items, step_items}
 use Rattle.yt_record.proofs.Lowest.{lowest_passes}
 use Rattle.yt_record.proofs.Marking.{meant_join}
 use Rattle.yt_history.specs.Cores.{Ground, machine, updates_after}
 use Rattle.yt_history.specs.PlainEntries.{PlainEntry}
 use Rattle.yt_desk.specs.declared.tickets.Stretch.{Stretch}
 use Rattle.yt_desk.specs.Shared.{Items, Shared, item_over, items_of, now_at, IsShared}
-use Rattle.yt_desk.specs.Cores.{lowest_idle, IsStep}
+use Rattle.yt_desk.specs.Cores.{lowest_idle, lowest_waiting, IsDelivery, IsStep}
 use Rattle.yt_desk.specs.Flights.{left_of}
 use Rattle.yt_desk.specs.Turns.{Adds, AfterOthers, gifts, returns}
-use Rattle.yt_desk.specs.Stretches.{whole_step, HasMadeStep, HasMadeSteps, HasStretched}
+use Rattle.yt_desk.specs.Stretches.{whole_step, HasMadeStep, HasMadeDelivery, HasMoved, Stepping, Delivering, HasMadeMoves, HasStretched}
 use Rattle.yt_desk.proofs.Joining.{more}
-use Rattle.yt_desk.proofs.Growing.{here, gives, steps}
-use Rattle.yt_desk.proofs.Counting.{gifts_meant, returns_meant, sum_added, one_gift, one_step, next_counts, next_returns}
+use Rattle.yt_desk.proofs.Growing.{here, gives, delivers_at, steps}
+use Rattle.yt_desk.proofs.Counting.{gifts_meant, returns_meant, sum_added, one_gift, one_step, no_ticket, next_counts, next_returns}
 
 -- ---- two additions in a row
 
@@ -108,13 +108,29 @@ step_made b b' old j u n H h view idle number step same =
     let p : P b' = subst P (ap (λ (k : ℕ). more b (step_marks j k u) H b.busy k) (sym (number ∙ add-one b.given)) ∙ sym same) (w.0, record { now = here b h; update = u; lowest = w.2; adds = w.1 }) in
     (p.0, subst (λ (o : Shared). HasMadeStep j o.over (items_of b') (items_of o)) view p.1)
 
--- ---- steps in a row
+-- ---- one delivery
 
-pub steps_extend : (k j : ℕ) (g : Ground) (ys xs : Items) → HasMadeSteps k j g ys xs → Extends j xs ys
-steps_extend zero j g ys xs e = ([], append-nil xs ∙ sym e, tt)
-steps_extend (suc k) j g ys xs s =
-    let a = steps_extend k j g s.0 xs s.1 in
-    (a.0 ++ s.2.adds.items, sym (append_assoc xs a.0 s.2.adds.items) ∙ (ap (λ l. l ++ s.2.adds.items) a.1 ∙ sym s.2.adds.joined), made_both j a.0 s.2.adds.items a.2 s.2.adds.made)
+-- by the fields of a board
+pub delivery_made : (b b' old : Shared) (j u : ℕ) (H : List PlainEntry) → IsShared b → b ≡ old → lowest_waiting b.over b.history ≡ Some u → IsDelivery b.over b.history u H
+    → b' ≡ more b (made Next (Some j) ∷ []) H b.busy b.given → IsShared b' × HasMadeDelivery j old.over (items_of b') (items_of old)
+delivery_made b b' old j u H h view waits made_it same =
+    let P : Shared → Type 0 = λ z. IsShared z × HasMadeDelivery j b.over (items_of z) (items_of b) in
+    let g = delivers_at b h j u H waits made_it in
+    let p : P b' = subst P (sym same) (g.0, record { now = here b h; update = u; lowest = waits; adds = g.1 }) in
+    (p.0, subst (λ (o : Shared). HasMadeDelivery j o.over (items_of b') (items_of o)) view p.1)
+
+-- ---- moves in a row
+
+move_extends : (j : ℕ) (g : Ground) (ys xs : Items) → HasMoved j g ys xs → Extends j xs ys
+move_extends j g ys xs (Stepping s) = (s.adds.items, sym s.adds.joined, s.adds.made)
+move_extends j g ys xs (Delivering s) = (s.adds.items, sym s.adds.joined, s.adds.made)
+
+pub moves_extend : (k j : ℕ) (g : Ground) (ys xs : Items) → HasMadeMoves k j g ys xs → Extends j xs ys
+moves_extend zero j g ys xs e = ([], append-nil xs ∙ sym e, tt)
+moves_extend (suc k) j g ys xs s =
+    let a = moves_extend k j g s.0 xs s.1 in
+    let b = move_extends j g ys s.0 s.2 in
+    (a.0 ++ b.0, sym (append_assoc xs a.0 b.0) ∙ (ap (λ l. l ++ b.0) a.1 ∙ b.1), made_both j a.0 b.0 a.2 b.2)
 
 -- a step gives one ticket and returns one
 step_counts : (j : ℕ) (g : Ground) (ys xs : Items) → HasMadeStep j g ys xs
@@ -131,19 +147,35 @@ step_counts j g ys xs s =
       sum_added g returns returns (returns_meant g) j xs ys n (first ++ rest) s.adds ∙ ap (λ m. sum_made_by returns j xs + m) back,
     )
 
-steps_count : (k j : ℕ) (g : Ground) (ys xs : Items) → HasMadeSteps k j g ys xs → sum_made_by gifts j ys + sum_made_by returns j xs ≡ sum_made_by gifts j xs + sum_made_by returns j ys
-steps_count zero j g ys xs e = λ i. sum_made_by gifts j (e i) + sum_made_by returns j (sym e i)
-steps_count (suc k) j g ys xs s =
-    let a = steps_count k j g s.0 xs s.1 in
-    let b = step_counts j g ys s.0 s.2 in
-    omega (arith, a, b.0, b.1)
+-- a delivery does neither
+delivery_counts : (j : ℕ) (g : Ground) (ys xs : Items) → HasMadeDelivery j g ys xs
+    → (sum_made_by gifts j ys ≡ sum_made_by gifts j xs) × (sum_made_by returns j ys ≡ sum_made_by returns j xs)
+delivery_counts j g ys xs s =
+    let n = s.now in
+    let d : Record (machine g) = delivery_items n j s.update in
+    let c = no_ticket n j s.update in (
+      sum_added g gifts gifts (gifts_meant g) j xs ys n d s.adds ∙ (ap (λ m. sum_made_by gifts j xs + m) c.0 ∙ add-zero _),
+      sum_added g returns returns (returns_meant g) j xs ys n d s.adds ∙ (ap (λ m. sum_made_by returns j xs + m) c.1 ∙ add-zero _),
+    )
+
+-- a move returns as many as it gives
+move_counts : (j : ℕ) (g : Ground) (ys xs : Items) → HasMoved j g ys xs → sum_made_by gifts j ys + sum_made_by returns j xs ≡ sum_made_by gifts j xs + sum_made_by returns j ys
+move_counts j g ys xs (Stepping s) = let c = step_counts j g ys xs s in omega (arith, c.0, c.1)
+move_counts j g ys xs (Delivering s) = let c = delivery_counts j g ys xs s in omega (arith, c.0, c.1)
+
+moves_count : (k j : ℕ) (g : Ground) (ys xs : Items) → HasMadeMoves k j g ys xs → sum_made_by gifts j ys + sum_made_by returns j xs ≡ sum_made_by gifts j xs + sum_made_by returns j ys
+moves_count zero j g ys xs e = λ i. sum_made_by gifts j (e i) + sum_made_by returns j (sym e i)
+moves_count (suc k) j g ys xs s =
+    let a = moves_count k j g s.0 xs s.1 in
+    let b = move_counts j g ys s.0 s.2 in
+    omega (arith, a, b)
 
 -- a stretch returns each ticket that it gives
 pub stretch_turn : {E : Type 0} (j now : ℕ) (g : Ground) (r : Result Stretch E) (before after : Items) → now ≡ j → AfterOthers j before (HasStretched j g r after)
     → sum_made_by gifts now after + sum_made_by returns j before ≡ sum_made_by gifts j before + sum_made_by returns now after
 stretch_turn j now g r before after same a =
     let others : ((w : Item Ground PlainEntry → ℕ) → sum_made_by w j (before ++ a.others) ≡ sum_made_by w j before) = λ w. sum_made_by-follows w j before (before ++ a.others) (a.others, refl, a.unmade) in
-    let c = steps_count a.then.count j g after (before ++ a.others) a.then.steps in
+    let c = moves_count a.then.count j g after (before ++ a.others) a.then.moves in
     let given = others gifts in
     let back = others returns in
     let g' = ap (λ i. sum_made_by gifts i after) same in
@@ -153,5 +185,5 @@ stretch_turn j now g r before after same a =
 -- what was seen is a prefix of what is seen then
 pub stretch_seen : {E : Type 0} (j : ℕ) (g : Ground) (r : Result Stretch E) (before after : Items) → AfterOthers j before (HasStretched j g r after) → IsPrefix before after
 stretch_seen j g r before after a =
-    let e = steps_extend a.then.count j g after (before ++ a.others) a.then.steps in
+    let e = moves_extend a.then.count j g after (before ++ a.others) a.then.moves in
     (a.others ++ e.0, sym (append_assoc before a.others e.0) ∙ e.1)

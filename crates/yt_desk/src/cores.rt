@@ -8,7 +8,7 @@ use yt_memory::Memory;
 /// Its meaning is given by members that exist in contracts alone: what its history is over, and the entries of that
 /// history. A snapshot stands for an update at the state that some entries leave; a plan is an update's step there.
 pub trait Core {
-    ghost use Rattle.std.specs.Prelude.{◌≡◌, ◌<◌, ◌≤◌, ◌^◌, ℕ, List, Option, Some, length, IfOk, IfErr, IfNone};
+    ghost use Rattle.std.specs.Prelude.{◌≡◌, ◌<◌, ◌≤◌, ◌^◌, ℕ, List, Option, Some, length, IfOk, IfErr, IfSome, IfNone};
     ghost use Rattle.yt_history.specs.Cores.{Ground, IsLegalOver};
     ghost use Rattle.yt_history.specs.PlainEntries.{PlainEntry};
     ghost use Rattle.yt_desk.specs.Cores.{lowest_idle, lowest_waiting, IsReady, IsPlanOf, HasDelivered, HasStep, HasStayed};
@@ -55,6 +55,10 @@ pub trait Core {
     fn lowest_waiting(&self) -> Option<u32>
         ensures { result ≡ lowest_waiting (over self.now) (history self.now) };
 
+    /// The lowest update that an answer can be delivered to, where that is to come before any step. It takes no memory.
+    fn first_waiting(&self) -> Option<u32>
+        ensures lowest { IfSome result (λ u. lowest_waiting (over self.now) (history self.now) ≡ Some u) };
+
     /// Delivers the first of the answers that wait for the update. It is refused only for want of memory; the history is then
     /// unchanged.
     fn deliver(&mut self, alloc: Global, update: u32) -> Result<(), Memory>
@@ -72,10 +76,13 @@ pub trait Core {
     fn plan(alloc: Global, snapshot: &Self::Snapshot) -> Result<Self::Plan, Memory>
         ensures plan { IfOk result (IsPlanOf is_snapshot is_plan snapshot.now) };
 
-    /// The update's next step, without a snapshot. It is refused only for want of memory.
-    fn next_plan(&self, alloc: Global, update: u32) -> Result<Self::Plan, Memory>
-        requires ready { IsReady (over self.now) (history self.now) update }
-        ensures plan { IfOk result (λ p. is_plan p (over self.now) (history self.now) update) };
+    /// The update's next step, without a snapshot. The core may keep what planning it told, which is seen of none. It is refused
+    /// only for want of memory.
+    fn next_plan(&mut self, alloc: Global, update: u32) -> Result<Self::Plan, Memory>
+        requires ready { IsReady (over self.old) (history self.old) update }
+        ensures over { over self.new ≡ over self.old }
+        ensures history { history self.new ≡ history self.old }
+        ensures plan { IfOk result (λ p. is_plan p (over self.old) (history self.old) update) };
 
     /// The number of the first entry past so many that is in question for the plan. Where there is none the plan, made at
     /// the state before them, is the update's step still. It takes no memory.

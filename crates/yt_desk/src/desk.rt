@@ -78,8 +78,9 @@ impl<C: Core> Desk<C> {
         answer
     }
 
-    /// Makes up to `most` steps in one turn, each of the lowest ready update that is not in flight, until there is none or,
-    /// where there are other seats, one was not small. For want of memory those that were made stay.
+    /// Makes up to `most` moves in one turn: each delivers an answer that the core says is to come first, or else makes the step of
+    /// the lowest ready update that is not in flight; until there is none or, where there are other seats, a step was not small.
+    /// For want of memory those that were made stay.
     pub fn stretch<R: Wait + Clock>(
         &self,
         rt: &R,

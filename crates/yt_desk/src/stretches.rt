@@ -1,6 +1,6 @@
-//! Steps that a seat makes behind the lock, several in one turn.
+//! Steps and deliveries that a seat makes behind the lock, several in one turn.
 ghost use Rattle.std.specs.Prelude.{◌≡◌, ◌+◌, ◌≤◌, ◌++◌, Some, OnOk, OnErr, vec_len, vec_capacity};
-ghost use Rattle.yt_desk.specs.Cores.{lowest_idle, IsReady, IsStep};
+ghost use Rattle.yt_desk.specs.Cores.{lowest_idle, lowest_waiting, IsReady, IsStep};
 ghost use Rattle.yt_desk.specs.Marks.{step_marked};
 
 use crate::board::{Board, Marked};
@@ -14,10 +14,11 @@ use yt_record::Mark;
 
 impl<C: Core> Board<C> {
     ghost use Rattle.yt_desk.specs.Shared.{items_of};
-    ghost use Rattle.yt_desk.specs.Stretches.{MadeStepOn, MakesStepOn, StretchOn};
+    ghost use Rattle.yt_desk.specs.Stretches.{MadeDeliveryOn, MadeStepOn, MakesMoveOn, StretchOn};
 
-    /// Makes up to `most` steps for the seat, each of the lowest ready update that is not in flight, until there is none or, where
-    /// the seat is not alone, one was not small; no more than one where a ticket is out.
+    /// Makes up to `most` moves for the seat: each delivers an answer that is to come first, if there is one, and else makes the step
+    /// of the lowest ready update that is not in flight; until there is none or, where the seat is not alone, a step was not small.
+    /// It makes no more than one where a ticket is out.
     pub(crate) fn stretch<R: Clock>(
         &mut self,
         rt: &R,
@@ -31,7 +32,7 @@ impl<C: Core> Board<C> {
     {
         let most = self.at_once(most);
         for made in 0..most {
-            match self.step_lowest(rt, alloc, seat, alone)? {
+            match self.move_lowest(rt, alloc, seat, alone)? {
                 Some(true) => {}
                 Some(false) => {
                     return Ok(Stretch {
@@ -48,7 +49,7 @@ impl<C: Core> Board<C> {
         })
     }
 
-    // How many of these steps may be made now. Where a ticket is out they could run ahead of its update, and begin anew because of it.
+    // How many of these moves may be made now. Where a ticket is out they could run ahead of its update, and begin anew because of it.
     fn at_once(&self, most: u64) -> u64 {
         if self.busy.is_empty() {
             most
@@ -57,9 +58,9 @@ impl<C: Core> Board<C> {
         }
     }
 
-    // Makes the step of the lowest ready update that is not in flight, if there is one, and tells whether the seat may go on: it is
-    // alone, or the step was small.
-    fn step_lowest<R: Clock>(
+    // Delivers an answer that is to come first, or makes the step of the lowest ready update that is not in flight, if there is one, and
+    // tells whether the seat may go on: it delivered, it is alone, or the step was small.
+    fn move_lowest<R: Clock>(
         &mut self,
         rt: &R,
         alloc: Global,
@@ -67,13 +68,33 @@ impl<C: Core> Board<C> {
         alone: bool,
     ) -> Result<Option<bool>, Memory>
         ensures over { self.new.over ≡ self.old.over }
-        ensures step { MakesStepOn seat self.old self.new result }
+        ensures moved { MakesMoveOn seat self.old self.new result }
     {
+        if let Some(update) = self.core.first_waiting() {
+            self.deliver_first(alloc, seat, update)?;
+            return Ok(Some(true));
+        }
         let Some(update) = self.core.lowest_idle(self.busy.as_slice()) else {
             return Ok(None);
         };
         let more = self.step_whole(rt, alloc, seat, update, alone)?;
         Ok(Some(more))
+    }
+
+    // Delivers an answer to the lowest update that waits for one.
+    fn deliver_first(&mut self, alloc: Global, seat: u64, update: u32) -> Result<(), Memory>
+        requires waiting { lowest_waiting self.old.over self.old.history ≡ Some update }
+        ensures over { self.new.over ≡ self.old.over }
+        ensures delivered { OnOk result (MadeDeliveryOn seat self.old self.new) }
+        ensures kept { OnErr result (items_of self.new ≡ items_of self.old) }
+    {
+        self.marks.reserve(self.busy.len() + 1)?;
+        self.core.deliver(alloc, update)?;
+        self.marks.push_reserved(Marked {
+            mark: Mark::Next,
+            maker: seat,
+        });
+        Ok(())
     }
 
     // Makes the step of the lowest ready update that is not in flight, with the marks of a ticket that is given and returned, and

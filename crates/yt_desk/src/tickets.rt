@@ -54,7 +54,7 @@ pub enum Finished {
     Stale { entry: u64 },
 }
 
-/// What came of a stretch: steps that a seat made in one turn.
+/// What came of a stretch: steps and deliveries that a seat made in one turn.
 #[derive(Drop)]
 pub struct Stretch {
     /// How many were made.

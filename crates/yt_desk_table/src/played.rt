@@ -14,7 +14,7 @@ use yt_limits::Budget;
 use yt_play::{Lead, play};
 use yt_queue::Settings;
 use yt_report::result_text;
-use yt_seated::Seated;
+use yt_seated::{Answers, Seated};
 use yt_serial::mappings_of;
 use yt_session::Session;
 use yt_trace::trace_text;
@@ -83,7 +83,7 @@ fn ended<'s, R: Wait, L: Lead>(
 {
     let core = Core::open(alloc, session, settings, budget)?;
     core.is_legal();
-    let seated = Seated::new(core, mappings_of(session).list());
+    let seated = Seated::new(core, mappings_of(session).list(), Answers::Last);
     let (seated, result) = play(rt, alloc, seated, lead);
     let core = seated.into_core();
     match result {

@@ -5,4 +5,4 @@ mod plans;
 mod settling;
 
 pub use crate::plans::{Plan, plan_step};
-pub use crate::settling::{settled_by, since};
+pub use crate::settling::{settled_by, since, stir_since, told_by};

@@ -33,7 +33,8 @@ pub struct Plan {
 
 /// The next step of the attempt over what lies below it, with the answer where it is at a question. `with` is what lies
 /// below it with its own writes applied, and `settled` the mappings of which it is known that they have no violation that
-/// these caused. The attempt stays as it is. It is refused only for want of memory.
+/// these caused; those of which it is known after the step are put in their place. The attempt stays as it is. It is refused
+/// only for want of memory.
 pub fn plan_step<F: Facts>(
     alloc: Global,
     program: &Program,
@@ -42,10 +43,10 @@ pub fn plan_step<F: Facts>(
     budget: Budget,
     below: &F,
     with: &F,
-    settled: Settled,
+    settled: &mut Settled,
 ) -> Result<Plan, Memory>
     requires applied { F.tuples with.now ≡ apply (F.tuples below.now) program.now.attempt.own }
-    requires settled { HasSettled mappings.now (F.tuples below.now) program.now.attempt settled }
+    requires settled { HasSettled mappings.now (F.tuples below.now) program.now.attempt settled.old }
     requires wanted { WantsStep (wish program.now) (option_map choice_of (option_copied choice)) }
     requires left { program.now.attempt.steps < budget }
     ensures program { IfOk result (λ plan.
@@ -57,11 +58,12 @@ pub fn plan_step<F: Facts>(
         map read_of plan.reads.items
         ≡ next_reads mappings.now (F.tuples below.now) program.now.attempt
         (option_map choice_of (option_copied choice.entry))) }
+    ensures settled { OnOk result
+        (HasSettled mappings.now (F.tuples below.now) program.now.attempt settled.new) }
 {
-    let mut known = settled;
     let mut after = program.copy(alloc)?;
     match take_step(
-        alloc, program, &mut after, choice, mappings, budget, below, with, &mut known,
+        alloc, program, &mut after, choice, mappings, budget, below, with, settled,
     ) {
         Ok(reads) => Ok(Plan {
             program: after,
@@ -98,6 +100,8 @@ fn take_step<F: Facts>(
         map read_of reads.items
         ≡ next_reads mappings.now (F.tuples below.now) program.now.attempt
         (option_map choice_of (option_copied choice.entry))) }
+    ensures settled { OnOk result
+        (HasSettled mappings.now (F.tuples below.now) program.now.attempt settled.new) }
 {
     // The set tells that it is in order.
     below.is_in_order();
@@ -160,6 +164,8 @@ fn answer_all<F: Facts>(
         (log_of
         (λ q. value mappings.now q view.now.below view.now.own (Caused (heading_of direction)))
         (course mappings.now program.old))) }
+    ensures settled { OnOk result (AreSettled
+        (seen_over mappings.now (heading_of direction) view.now) settled.new) }
 {
     let mut reads = log_for(alloc, settled)?;
     'queries: loop {

@@ -16,8 +16,9 @@ use yt_program::Program;
 use yt_query::{Answer, LoggedRead};
 
 /// The mappings of which the last reads of the attempt tell that its writes have caused no violation, and before its first write
-/// all of them, but for those to which a write since then may have given one. That is so over any tuples over which its reads are valid, as they are
-/// over what lies below an update at any moment of a history. It is refused only for want of memory.
+/// all of them, but for those to which a write since then may have given one; none where the attempt is not looking for violations.
+/// That is so over any tuples over which its reads are valid, as they are over what lies below an update at any moment of a history.
+/// It is refused only for want of memory.
 pub fn settled_by(
     alloc: Global,
     mappings: &MappingList,
@@ -32,11 +33,41 @@ pub fn settled_by(
         let none = Settled::none(alloc, 0)?;
         return Ok(none);
     }
+    let settled = told_by(alloc, mappings, program, log)?;
+    Ok(settled)
+}
+
+/// The same, whether the attempt is looking for violations or not. It is refused only for want of memory.
+pub fn told_by(
+    alloc: Global,
+    mappings: &MappingList,
+    program: &Program,
+    log: &[LoggedRead],
+) -> Result<Settled, Memory>
+    ensures settled { IfOk result (λ settled. (D : List Fact) →
+        AreValidOver (rules_in mappings.now) D program.now.attempt (map read_of log.now) →
+        HasSettled (rules_in mappings.now) D program.now.attempt settled) }
+{
     let made = made_before(log);
     let mut settled = begun(alloc, mappings, made)?;
     learn_last(&mut settled, log, made);
-    settled.stir_all(mappings, since(program.own().as_slice(), made));
+    stir_since(&mut settled, mappings, program, made);
     Ok(settled)
+}
+
+/// Takes away the marks of the mappings to which one of the attempt's writes behind the first so many may have given a violation.
+/// It takes no memory.
+pub fn stir_since(
+    settled: &mut Settled,
+    mappings: &MappingList,
+    program: &Program,
+    made: u64,
+)
+    ensures settled { (D : List Fact) →
+        HasSettledBy made (rules_in mappings.now) D program.now.attempt settled.old →
+        HasSettled (rules_in mappings.now) D program.now.attempt settled.new }
+{
+    settled.stir_all(mappings, since(program.own().as_slice(), made));
 }
 
 // How many writes had been made before the last reads; none where nothing was read.

@@ -25,4 +25,5 @@ pub use crate::settings::{Deps, Settings};
 pub use crate::unready::unready_from;
 pub use crate::walks::{
     committed, committed_from, is_quiet, lowest_deliverable, lowest_ready, lowest_ready_besides,
+    next_deliverable,
 };

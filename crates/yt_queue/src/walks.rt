@@ -1,5 +1,5 @@
 //! Which of the updates come first.
-ghost use Rattle.std.specs.Prelude.{◌≡◌, ◌≤◌, suc, drop, length, is_none as is_none_lem};
+ghost use Rattle.std.specs.Prelude.{◌≡◌, ◌≤◌, suc, drop, length, Some, IfSome, is_none as is_none_lem};
 ghost use Rattle.yt_machine.specs.Cascade.{has_number};
 ghost use Rattle.yt_queue.specs.Settings.{settings_of};
 ghost use Rattle.yt_queue.specs.Queues.{AreFrom};
@@ -45,6 +45,18 @@ pub fn lowest_deliverable(queue: &[Record], settings: Settings, least: u32) -> O
 {
     let committed = committed_from(queue, least);
     first_deliverable(behind(queue, committed), settings, committed)
+}
+
+/// The first update that is not committed, where at least so many are, if a recorded answer may be delivered to it. No lower
+/// one is deliverable then. It takes no memory.
+pub fn next_deliverable(queue: &[Record], settings: Settings, least: u32) -> Option<u32>
+    requires from { AreFrom 1 queue.now }
+    requires least { CommitsAtLeast queue.now least }
+    ensures lowest { IfSome result
+        (λ n. IsLowestDeliverable (settings_of settings) queue.now (Some n)) }
+{
+    let committed = committed_from(queue, least);
+    deliverable_at_once(behind(queue, committed), settings, committed)
 }
 
 /// The least number of a ready update that is none of these, if there is one, where at least so many are committed, and
@@ -137,6 +149,24 @@ fn first_deliverable(rest: &[Record], settings: Settings, committed: u32) -> Opt
         }
     }
     None
+}
+
+// The first of these updates, if it is deliverable, where so many are committed, and these come behind them.
+fn deliverable_at_once(rest: &[Record], settings: Settings, committed: u32) -> Option<u32>
+    requires from { AreFrom (suc committed) rest.now }
+    ensures first { IfSome result
+        (λ n. IsFirstDeliverable (settings_of settings) committed (suc committed) rest.now
+        (Some n)) }
+{
+    let [record, ..] = rest else {
+        return None;
+    };
+    let number = record.number();
+    if record.is_deliverable(settings, committed, number) {
+        Some(number)
+    } else {
+        None
+    }
 }
 
 // The least number of a ready update past the first, so many, that is none of these, where so many are committed.

@@ -17,7 +17,7 @@ use Rattle.yt_record.specs.Tickets.{Ticket, ticket_of, in_flight, with_step, usi
 use Rattle.yt_record.specs.Records.{Now, IsOpen, next_ticket, after_items, lowest_free, IsNextEntry, MayEnter, AllFollow}
 use Rattle.yt_record.specs.Stays.{IsOut}
 use Rattle.yt_record.specs.Answers.{Answer, Gives, Moves, Waits, Quiet, lowest_out, first_of_these, next_answer}
-use Rattle.yt_record.specs.Calls.{entry_by, items_of_answer, next_items, back_items, step_items, AreCalls, CallLaw}
+use Rattle.yt_record.specs.Calls.{entry_by, delivery_items, items_of_answer, next_items, back_items, step_items, AreCalls, CallLaw}
 use Rattle.yt_record.proofs.Lowest.{Passes, lowest_passes}
 use Rattle.yt_record.proofs.Follows.{follow_join, open_after}
 
@@ -101,12 +101,15 @@ module _ (M : Machine) (L : Laws M) (n : Now M) (o : IsOpen n) where
       (ap (λ j. is_some (effect M n.settings n.session n.updates (Delivers j))) number ∙ ((allowed_law M n.settings n.session n.updates r.place).0 r.update r.there).delivers
       ∙ ap (λ j. is_deliverable M n.settings (committed M n.updates) j r.update) (sym number) ∙ r.passes)
 
-  next_follows : (j : ℕ) (a d w : Option ℕ) → lowest_free n ≡ a → lowest_deliverable M n.settings n.updates ≡ d → AllFollow n (items_of_answer n j (first_of_these a d w))
+  delivery_follows : (j u : ℕ) → lowest_deliverable M n.settings n.updates ≡ Some u → AllFollow n (delivery_items n j u)
   unfolding IsDelivery
-  next_follows j (Some u) d w e f = ((o, refl, e), tt)
-  next_follows j None (Some u) w e f =
+  delivery_follows j u f =
       let x = delivery u f in
       subst (λ (q : Option (Effect M)). AllFollow n (entry_by j q)) (sym x.1) ((is_next (Delivers u) x.0 x.1, o, may_deliver_by n.out j u x.0.entry (subst (λ (q : Event M). IsDelivery q) (records (Delivers u) x.0 x.1) tt)), tt)
+
+  next_follows : (j : ℕ) (a d w : Option ℕ) → lowest_free n ≡ a → lowest_deliverable M n.settings n.updates ≡ d → AllFollow n (items_of_answer n j (first_of_these a d w))
+  next_follows j (Some u) d w e f = ((o, refl, e), tt)
+  next_follows j None (Some u) w e f = delivery_follows j u f
   next_follows j None None (Some u) e f = tt
   next_follows j None None None e f = tt
 
@@ -157,6 +160,7 @@ module _ (M : Machine) (L : Laws M) (n : Now M) (o : IsOpen n) where
   are_calls = record {
     next = λ j. next_follows j (lowest_free n) (lowest_deliverable M n.settings n.updates) (lowest_out None n.out) refl refl;
     gave = gave_is;
+    delivers = delivery_follows;
     step = step_follows;
     back = λ t is. ((o, (t, is, refl, refl)), tt);
     next_made = λ j. answer_made j (next_answer n);

@@ -1,6 +1,7 @@
 -- What each call of a desk adds to the record.
 use Rattle.std.specs.Prelude.{◌≡◌, ℕ, suc, false, [], ◌∷◌, ◌++◌, Option, Some, None}
 use Rattle.yt_machine.specs.Machine.{Machine}
+use Rattle.yt_machine.specs.Standings.{lowest_deliverable}
 use Rattle.yt_machine.specs.Effects.{Steps, Delivers, Effect, effect}
 use Rattle.yt_stamp.specs.Histories.{MadeBy}
 use Rattle.yt_record.specs.declared.item.Item.TheVariants.{Entered, Gave, Returned}
@@ -15,9 +16,13 @@ abbrev pub entry_by : {M : Machine} → ℕ → Option (Effect M) → Record M
 entry_by j None = []
 entry_by j (Some x) = made (Entered x.entry) (Some j) ∷ []
 
+-- A delivery to update u that the seat j makes.
+abbrev pub delivery_items : {M : Machine} → Now M → ℕ → ℕ → Record M
+delivery_items {M} n j u = entry_by j (effect M n.settings n.session n.updates (Delivers u))
+
 abbrev pub items_of_answer : {M : Machine} → Now M → ℕ → Answer → Record M
 items_of_answer n j (Gives u) = made (Gave (suc n.given) u) (Some j) ∷ []
-items_of_answer {M} n j (Moves u) = entry_by j (effect M n.settings n.session n.updates (Delivers u))
+items_of_answer n j (Moves u) = delivery_items n j u
 items_of_answer n j (Waits u) = []
 items_of_answer n j Quiet = []
 
@@ -37,6 +42,8 @@ step_items {M} n t = entry_by t.maker (effect M n.settings n.session n.updates (
 pub record AreCalls (M : Machine) (n : Now M) : Type 0 where
   pub next : (j : ℕ) → AllFollow n (next_items n j)
   pub gave : (j u : ℕ) → next_answer n ≡ Gives u → IsOut (next_ticket n (suc n.given) u j) (after_items n (next_items n j))
+  -- to the lowest update that can have an answer, also where another one is ready
+  pub delivers : (j u : ℕ) → lowest_deliverable M n.settings n.updates ≡ Some u → AllFollow n (delivery_items n j u)
   pub step : (t : Ticket) → IsOut t n → t.used ≡ false → (x : Effect M) → effect M n.settings n.session n.updates (Steps t.update) ≡ Some x → AllFollow n (step_items n t)
   pub back : (t : Ticket) → IsOut t n → AllFollow n (back_items t)
   -- what is added leaves the desk open, and further items that may follow there may follow on from it: so two calls may share a turn

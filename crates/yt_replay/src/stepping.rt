@@ -209,12 +209,12 @@ fn planned_over<'f>(
     ensures planned { IfOk result (IsPlanOf mappings.now budget facts.now seat.now) }
 {
     with.write_all(alloc, seat.program.own().as_slice())?;
-    let settled = Settled::none(alloc, mappings.list().len())?;
+    let mut settled = Settled::none(alloc, mappings.list().len())?;
     let answer = seat.next_answer();
     let program = &seat.program;
     let below = Overlay::new(alloc, facts);
     plan_step(
-        alloc, program, answer, mappings, budget, &below, with, settled,
+        alloc, program, answer, mappings, budget, &below, with, &mut settled,
     )
 }
 

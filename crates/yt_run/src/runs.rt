@@ -28,7 +28,7 @@ use yt_limits::Budget;
 use yt_reader::{ReadFailure, read_session};
 use yt_report::result_text;
 use yt_schema::Schema;
-use yt_seated::{WorkedSession, worked_over};
+use yt_seated::{Answers, WorkedSession, worked_over};
 use yt_serial::base_of;
 use yt_session::Session;
 use yt_text::{Sink, Source, read_all};
@@ -95,6 +95,15 @@ fn run_output(
     Ok(Output::Text(ending_by(&told), whole))
 }
 
+// When answers are delivered: at once, unless the trace is asked for. That of one worker has the order in which a desk gives tickets.
+fn answers_for(trace: bool) -> Answers {
+    if trace {
+        Answers::Last
+    } else {
+        Answers::AtOnce
+    }
+}
+
 impl Run {
     // Lets the workers take the updates of the session, whose base meets its mappings.
     fn work<R: Threads + Wait + Clock + Sync, G: Gate + Sync>(
@@ -113,7 +122,18 @@ impl Run {
     {
         let settings = self.crew.settings();
         let seats = self.crew.seats();
-        let run = worked_over(rt, gate, alloc, session, base, settings, self.budget, seats)?;
+        let answers = answers_for(self.trace);
+        let run = worked_over(
+            rt,
+            gate,
+            alloc,
+            session,
+            base,
+            settings,
+            self.budget,
+            seats,
+            answers,
+        )?;
         let output = run_output(alloc, session, &run, self.trace)?;
         Ok(output)
     }

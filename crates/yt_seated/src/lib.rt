@@ -6,5 +6,5 @@
 mod seated;
 mod sessions;
 
-pub use crate::seated::Seated;
+pub use crate::seated::{Answers, Seated};
 pub use crate::sessions::{WorkedSession, worked, worked_over};

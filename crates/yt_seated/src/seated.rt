@@ -14,6 +14,16 @@ use yt_touched::first_in_question;
 pub struct Seated<'s> {
     core: Core<'s>,
     mappings: &'s MappingList,
+    answers: Answers,
+}
+
+/// When a seat that makes several moves in one turn delivers an answer.
+#[derive(Clone, Copy)]
+pub enum Answers {
+    /// To the first update that is not committed, as soon as that waits for one: the updates above then begin anew less often.
+    AtOnce,
+    /// Where no step can be made, as a seat that asks for a ticket does.
+    Last,
 }
 
 impl<'s> Model for Seated<'s> {
@@ -30,18 +40,26 @@ impl<'s> Model for Seated<'s> {
 
 impl<'s> Seated<'s> {
     /// The core, with the mappings that its history is over. It takes no memory.
-    pub fn new(core: Core<'s>, mappings: &'s MappingList) -> Seated<'s>
+    pub fn new(core: Core<'s>, mappings: &'s MappingList, answers: Answers) -> Seated<'s>
         requires same { map rule_of mappings.now.items ≡ core.over.rules }
         ensures core { result ≡ core.entry }
     {
-        Seated { core, mappings }
+        Seated {
+            core,
+            mappings,
+            answers,
+        }
     }
 
     /// The core alone. It takes no memory.
     pub fn into_core(self) -> Core<'s>
         ensures core { result ≡ self.entry }
     {
-        let Seated { core, mappings: _ } = self;
+        let Seated {
+            core,
+            mappings: _,
+            answers: _,
+        } = self;
         core
     }
 }
@@ -84,6 +102,13 @@ impl<'s> yt_desk::Core for Seated<'s> {
         self.core.lowest_deliverable()
     }
 
+    fn first_waiting(&self) -> Option<u32> {
+        match self.answers {
+            Answers::AtOnce => self.core.next_deliverable(),
+            Answers::Last => None,
+        }
+    }
+
     fn deliver(&mut self, _alloc: Global, update: u32) -> Result<(), Memory> {
         match self.core.deliver(update) {
             Ok(_) => Ok(()),
@@ -99,8 +124,9 @@ impl<'s> yt_desk::Core for Seated<'s> {
         snapshot.plan(alloc)
     }
 
-    fn next_plan(&self, alloc: Global, update: u32) -> Result<Plan, Memory> {
-        self.core.next_plan(alloc, update)
+    fn next_plan(&mut self, alloc: Global, update: u32) -> Result<Plan, Memory> {
+        let plan = self.core.next_plan(alloc, update)?;
+        Ok(plan)
     }
 
     fn touched(&self, plan: &Plan, since: u64) -> Option<u64> {

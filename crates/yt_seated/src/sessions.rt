@@ -8,7 +8,7 @@ ghost use Rattle.yt_session.specs.Base.{base_violation};
 ghost use Rattle.yt_session.specs.Meanings.{session_of};
 ghost use Rattle.yt_seated.specs.Runs.{IsWholeRun};
 
-use crate::seated::Seated;
+use crate::seated::{Answers, Seated};
 use std::alloc::Global;
 use std::marker::Model;
 use std::sync::Wait;
@@ -69,7 +69,8 @@ impl<'s> WorkedSession<'s> {
 }
 
 /// Runs the session by as many workers as seats, from 1 to 16, each in a thread of its own, until nothing is left to do. Where
-/// no thread can be made the calling thread works in its place. It is refused only for want of memory.
+/// no thread can be made the calling thread works in its place. Recorded answers are delivered at once. It is refused only for want
+/// of memory.
 pub fn worked<'s, R: Threads + Wait + Clock + Sync, G: Gate + Sync>(
     rt: &R,
     gate: &G,
@@ -89,7 +90,10 @@ pub fn worked<'s, R: Threads + Wait + Clock + Sync, G: Gate + Sync>(
     ensures whole { IfOk result IsWholeRun }
 {
     let base = base_of(alloc, session)?;
-    let run = worked_over(rt, gate, alloc, session, base, settings, budget, seats)?;
+    let at_once = Answers::AtOnce;
+    let run = worked_over(
+        rt, gate, alloc, session, base, settings, budget, seats, at_once,
+    )?;
     Ok(run)
 }
 
@@ -104,6 +108,7 @@ pub fn worked_over<'s, R: Threads + Wait + Clock + Sync, G: Gate + Sync>(
     settings: Settings,
     budget: Budget,
     seats: u64,
+    answers: Answers,
 ) -> Result<WorkedSession<'s>, Memory>
     requires valid { IsSession (session_of session.now) }
     requires met { base_violation (session_of session.now) ≡ None }
@@ -117,7 +122,7 @@ pub fn worked_over<'s, R: Threads + Wait + Clock + Sync, G: Gate + Sync>(
 {
     let core = Core::open_over(alloc, session, base, settings, budget)?;
     core.is_legal();
-    let seated = Seated::new(core, mappings_of(session).list());
+    let seated = Seated::new(core, mappings_of(session).list(), answers);
     match run(rt, gate, alloc, seated, seats) {
         Ok(seated) => Ok(WorkedSession {
             session,

@@ -2,6 +2,7 @@ use Rattle.yt_queue.specs.Settings.{settings_of}
 use Rattle.yt_core.proofs.Delivering.{same_plan, steps_from}
 use Rattle.yt_core.proofs.Committing.{same_committed, same_unready}
 use Rattle.yt_core.proofs.Unread.{same_unread}
+use Rattle.yt_core.proofs.Marking.{same_grows}
 use Rattle.yt_core.proofs.putting.step_at.Goals as goal
 
 pub put_step-requires-clause-plan : goal.put_step-requires-clause-plan
@@ -20,3 +21,6 @@ returns-in-Ok-clause-most c = λ n l h. c.put_step.ensures.most n l (same_unread
 
 pub returns-in-Ok-clause-unready : goal.returns-in-Ok-clause-unready
 returns-in-Ok-clause-unready c = λ n l h. c.put_step.ensures.unready n l (same_unready c.args.queue.now c.ready_step.new.queue n c.ready_step.ensures.same h)
+
+pub returns-in-Ok-clause-grows : goal.returns-in-Ok-clause-grows
+returns-in-Ok-clause-grows c = same_grows c.args.queue.now c.ready_step.new.queue c.put_step.new.queue c.args.place c.ready_step.ensures.same c.put_step.ensures.grows

@@ -1,6 +1,11 @@
+use Rattle.std.proofs.Common.{subst, sym}
+use Rattle.yt_queue.specs.Events.{HasStepped}
+use Rattle.yt_queue.specs.declared.records.Record.{Record}
 use Rattle.yt_core.proofs.Placing.{numbers_put, fresh_above, installed_is}
 use Rattle.yt_core.proofs.Committing.{committed_kept, unready_kept}
 use Rattle.yt_core.proofs.Unread.{unread_kept}
+use Rattle.yt_core.proofs.Telling.{there_is}
+use Rattle.yt_core.proofs.Marking.{grows_at}
 use Rattle.yt_core.proofs.stepping.install.Goals as goal
 
 pub restart_marked-requires-clause-from : goal.restart_marked-requires-clause-from
@@ -23,3 +28,9 @@ returns-clause-most c = unread_kept c.args.queue.now c.restart_marked.new.queue 
 
 pub returns-clause-unready : goal.returns-clause-unready
 returns-clause-unready c = unready_kept c.args.queue.now c.restart_marked.new.queue c.args.place c.follow.new.self c.args.fresh.items c.restart_marked.ensures.restarted
+
+pub returns-clause-grows : goal.returns-clause-grows
+returns-clause-grows c =
+    grows_at c.args.queue.now c.restart_marked.new.queue c.args.place c.index-queue-place.result c.follow.new.self c.args.plan c.args.fresh.items c.requires.place
+    (there_is c.args.queue.now c.args.place c.index-queue-place.result c.requires.place c.index-queue-place.is) c.requires.plan
+    (subst (λ (q : Record). HasStepped c.args.plan q c.follow.new.self) (sym c.index-queue-place.is) c.follow.ensures.stepped) c.restart_marked.ensures.restarted

@@ -1,7 +1,8 @@
-use Rattle.std.proofs.Common.{◌∙◌, ap}
+use Rattle.std.proofs.Common.{◌∙◌, ap, subst}
 use Rattle.std.specs.Option.{option_map, option_copied}
 use Rattle.yt_base.specs.Meanings.{choice_of, heading_of}
 use Rattle.yt_eval.specs.Seen.{Seen}
+use Rattle.yt_eval.specs.Watched.{Watched, AreSettled}
 use Rattle.yt_steps.specs.Steps.{step}
 use Rattle.yt_program.specs.Courses.{State, coming_to, course}
 use Rattle.yt_plan.specs.Planned.{at_rest}
@@ -33,3 +34,12 @@ returns-clause-reads g c =
     (course ms c.begin.new.program) c.new-view.result.below c.new-view.result.own (heading_of c.direction-direction.result)
     (ap (λ (v : Seen). v.below) seen) own c.direction-direction.ensures.heading begun
     (c.len-made.ensures.length ∙ made_so_far c.own-own.result.now.items P.own c.own-own.ensures.own)
+
+pub returns-clause-settled : goal.returns-clause-settled
+returns-clause-settled g c =
+    let seen = c.new-view.ensures.seen in
+    let below = ap (λ (v : Seen). v.below) seen in
+    let own = ap (λ (v : Seen). v.own) seen ∙ c.own-own.ensures.own in
+    subst (λ (w : Watched). AreSettled w c.answer_all.new.settled)
+    (λ i. record { rules = c.args.mappings.now; heading = c.direction-direction.ensures.heading i; below = below i; own = own i })
+    c.in_ok-reads.ensures.settled

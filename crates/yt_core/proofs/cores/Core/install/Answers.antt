@@ -8,6 +8,7 @@ use Rattle.yt_queue.specs.declared.records.Record.{Record}
 use Rattle.yt_core.specs.Planned.{PlanMeant}
 use Rattle.yt_core.proofs.Making.{some_number, ready_within, all_one_more, plan_ready, plan_between, core_steps, kept_ok, kept_err, has_stepped}
 use Rattle.yt_core.proofs.Committing.{least_ok, fewer_unready, unready_ok}
+use Rattle.yt_core.proofs.Marking.{known_after, known_ok}
 use Rattle.yt_core.proofs.Unread.{with_nothing_noted, most_ok, more_read}
 use Rattle.yt_core.proofs.cores.Core.install.Goals as goal
 
@@ -52,7 +53,7 @@ step_at-requires-clause-after c =
 
 pub invariant_of-self : goal.invariant_of-self
 invariant_of-self c =
-    with_nothing_noted _ _ _ _
+    with_nothing_noted _ _ _ _ (record { update = 0; made = c.self.inside.known.made; marks = c.self.inside.known.marks }) refl
     (kept_err _ c.self.inside.versions c.step_at.new.versions c.self.inside.queue.items c.deref_mut.result.now c.step_at.new.queue (drop (length c.step_at.new.queue) c.self.inside.queue.items) c.self.inside.queue.len
     c.self.inside.history.items c.step_at.new.history.items (omega arith) c.self.invariant.0 c.deref_mut.ensures.value c.in_err-committed.ensures.versions c.in_err-committed.ensures.queue c.step_at.ensures.long
     c.in_err-committed.ensures.history)
@@ -70,6 +71,17 @@ invariant_of-self-2 c = (
       (more_read c.deref_mut.result.now c.reads_at_most-most.result c.raised-self-inside.result c.raised-self-inside.ensures.most
       (subst (λ (rs : List Record). ReadsAtMost rs c.reads_at_most-most.result) (c.deref.ensures.value ∙ sym c.deref_mut.ensures.value) c.reads_at_most-most.ensures.most))),
   subst (λ (rs : List Record). UnreadyUpTo rs c.unready_from-self-inside.result) c.deref-2.ensures.value c.unready_from-self-inside.ensures.unready,
+  known_ok _ c.step_at.new.versions c.step_at.new.queue (drop (length c.step_at.new.queue) c.self.inside.queue.items) c.self.inside.queue.len _ (omega arith)
+      (known_after _ c.self.inside.versions c.step_at.new.versions c.self.inside.queue.items c.deref_mut.result.now c.step_at.new.queue _ _ c.place_of-place.result c.self.inside.known c.number_of-known.result c.plan.inside.update
+      c.deref_mut.ensures.value c.self.invariant.0
+      (core_steps _ c.self.inside.versions c.self.inside.queue.items c.self.inside.history.items _ c.self.invariant.0 c.self.view_is c.args.plan.update c.requires.ready c.place_of-place.result
+      (c.place_of-place.ensures ∙ ap (λ (p : PlanMeant). p.update) c.plan.view_is) c.deref_mut.result.now c.deref_mut.ensures.value c.plan.inside.step c.args.plan
+      (ap (λ (n : ℕ). record { update = n; program = c.plan.inside.step.program; reads = map read_of c.plan.inside.step.reads.items }) (sym (ap (λ (p : PlanMeant). p.update) c.plan.view_is)) ∙ c.plan.view_is) c.requires.step
+      c.step_at.new.versions c.step_at.new.queue c.step_at.new.history.items c.in_ok-committed.ensures.made).kept
+      c.in_ok-committed.ensures.grows
+      (ready_within _ c.self.inside.versions c.self.inside.queue.items _ _ c.self.invariant.0 c.self.view_is c.args.plan.update c.requires.ready c.place_of-place.result (c.place_of-place.ensures ∙ ap (λ (p : PlanMeant). p.update) c.plan.view_is)
+      c.deref_mut.result.now c.deref_mut.ensures.value)
+      c.place_of-place.ensures c.number_of-known.ensures.known c.number_of-known.ensures.update c.self.invariant.4),
 )
 
 pub returns-clause-made : goal.returns-clause-made

@@ -22,13 +22,13 @@ answer_at-requires-clause-numbers c =
 
 pub invariant_of-self : goal.invariant_of-self
 invariant_of-self c =
-    with_nothing_noted _ _ _ _
+    with_nothing_noted _ _ _ _ (record { update = 0; made = c.self.inside.known.made; marks = c.self.inside.known.marks }) refl
     (kept_err _ c.self.inside.versions c.self.inside.versions c.self.inside.queue.items c.deref_mut.result.now c.answer_at.new.queue (drop (length c.answer_at.new.queue) c.self.inside.queue.items) c.self.inside.queue.len
     c.self.inside.history.items c.answer_at.new.history.items (omega arith) c.self.invariant.0 c.deref_mut.ensures.value refl c.in_err-answer_at.ensures.queue c.answer_at.ensures.long c.in_err-answer_at.ensures.history)
 
 pub invariant_of-self-2 : goal.invariant_of-self-2
 invariant_of-self-2 c =
-    with_nothing_noted _ _ _ _
+    with_nothing_noted _ _ _ _ (record { update = 0; made = c.self.inside.known.made; marks = c.self.inside.known.marks }) refl
     (kept_ok _ c.self.inside.versions c.answer_at.new.queue (drop (length c.answer_at.new.queue) c.self.inside.queue.items) c.self.inside.queue.len (map entry_of c.answer_at.new.history.items) (omega arith)
     (core_answers _ c.self.inside.versions c.self.inside.queue.items c.self.inside.history.items _ c.self.invariant.0 c.self.view_is c.args.update c.requires.paused c.place_of-place.result c.place_of-place.ensures c.deref_mut.result.now
     c.deref_mut.ensures.value c.answer_at.new.queue c.answer_at.new.history.items (choice_of c.args.choice) c.requires.fits c.in_ok-answer_at.ensures.made).kept)

@@ -25,14 +25,14 @@ withdraw_at-requires-clause-more c = subst (λ (rs : List Record). AllHaveOneMor
 
 pub invariant_of-self : goal.invariant_of-self
 invariant_of-self c =
-    with_nothing_noted _ _ _ _
+    with_nothing_noted _ _ _ _ (record { update = 0; made = c.self.inside.known.made; marks = c.self.inside.known.marks }) refl
     (kept_err _ c.self.inside.versions c.withdraw_at.new.versions c.self.inside.queue.items c.deref_mut.result.now c.withdraw_at.new.queue (drop (length c.withdraw_at.new.queue) c.self.inside.queue.items) c.self.inside.queue.len
     c.self.inside.history.items c.withdraw_at.new.history.items (omega arith) c.self.invariant.0 c.deref_mut.ensures.value c.in_err-withdraw_at.ensures.versions
     (same_all c.deref_mut.result.now c.withdraw_at.new.queue c.in_err-withdraw_at.ensures.queue) c.withdraw_at.ensures.long c.in_err-withdraw_at.ensures.history)
 
 pub invariant_of-self-2 : goal.invariant_of-self-2
 invariant_of-self-2 c =
-    with_nothing_noted _ _ _ _
+    with_nothing_noted _ _ _ _ (record { update = 0; made = c.self.inside.known.made; marks = c.self.inside.known.marks }) refl
     (kept_ok _ c.withdraw_at.new.versions c.withdraw_at.new.queue (drop (length c.withdraw_at.new.queue) c.self.inside.queue.items) c.self.inside.queue.len (map entry_of c.withdraw_at.new.history.items) (omega arith)
     (core_withdraws _ c.self.inside.versions c.self.inside.queue.items c.self.inside.history.items _ c.self.invariant.0 c.self.view_is c.args.update c.requires.live c.place_of-place.result c.place_of-place.ensures c.deref_mut.result.now
     c.deref_mut.ensures.value c.withdraw_at.new.versions c.withdraw_at.new.queue c.withdraw_at.new.history.items c.in_ok-withdraw_at.ensures.made).kept)

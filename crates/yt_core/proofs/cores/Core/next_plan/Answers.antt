@@ -1,4 +1,6 @@
-use Rattle.std.proofs.Common.{refl}
+use Rattle.std.proofs.Common.{refl, sym, subst, List}
+use Rattle.yt_queue.specs.declared.records.Record.{Record}
+use Rattle.yt_core.specs.Known.{IsKnown}
 use Rattle.yt_core.proofs.Making.{some_number, ready_within, ready_numbers, ready_placed, left_placed, held_placed, snapshot_update, snapshot_step}
 use Rattle.yt_core.proofs.cores.Core.next_plan.Goals as goal
 
@@ -34,3 +36,24 @@ pub returns-clause-step : goal.returns-clause-step
 returns-clause-step c =
     snapshot_step _ c.self.inside.versions c.self.inside.queue.items _ _ c.self.invariant.0 c.self.view_is c.args.update c.requires.ready c.place_of-place.result c.place_of-place.ensures c.deref.result.now c.deref.ensures.value
     _ refl c.in_ok-plan.plan c.in_ok-plan.ensures.planned
+
+pub plan_at-requires-clause-known : goal.plan_at-requires-clause-known
+plan_at-requires-clause-known c = subst (λ (rs : List Record). IsKnown c.self.inside.mappings c.self.inside.versions rs c.self.inside.known) (sym c.deref.ensures.value) c.self.invariant.4
+
+pub invariant_of-self : goal.invariant_of-self
+invariant_of-self c = (
+  c.self.invariant.0,
+  c.self.invariant.1,
+  c.self.invariant.2,
+  c.self.invariant.3,
+  subst (λ (rs : List Record). IsKnown c.self.inside.mappings c.self.inside.versions rs c.plan_at.new.known) c.deref.ensures.value c.plan_at.ensures.known,
+)
+
+pub invariant_of-self-2 : goal.invariant_of-self-2
+invariant_of-self-2 c = (
+  c.self.invariant.0,
+  c.self.invariant.1,
+  c.self.invariant.2,
+  c.self.invariant.3,
+  subst (λ (rs : List Record). IsKnown c.self.inside.mappings c.self.inside.versions rs c.plan_at.new.known) c.deref.ensures.value c.plan_at.ensures.known,
+)

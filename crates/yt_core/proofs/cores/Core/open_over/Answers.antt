@@ -15,7 +15,7 @@ admissions-requires c = record { few = few_updates c.args.session.now.updates.it
 
 pub invariant_of-result : goal.invariant_of-result
 invariant_of-result c =
-    with_nothing_noted _ _ _ _
+    with_nothing_noted _ _ _ _ c.in_ok-known.known c.in_ok-known.ensures.none
     (opened_by c.mappings_of-mappings.result c.args.budget (settings_of c.args.settings) c.args.session.now.base c.args.session.now.updates c.new-later.result c.args.base c.as_slice-updates.result.now c.in_ok-versions.versions c.in_ok-queue.queue.items
     c.in_ok-history.history.items c.new-later.ensures.empty c.is_within.ensures.some c.requires.retries
     (subst AreWithin (sym c.mappings_of-mappings.ensures.rules) (session_within (session_of c.args.session.now) c.requires.valid)) c.requires.valid.base_order

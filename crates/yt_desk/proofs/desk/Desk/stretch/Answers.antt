@@ -5,7 +5,7 @@ use Rattle.yt_history.specs.Cores.{Ground}
 use Rattle.yt_desk.specs.Shared.{Items, items_of}
 use Rattle.yt_desk.specs.Stretches.{HasStretched}
 use Rattle.yt_desk.proofs.Passing.{same_over, saw_more}
-use Rattle.yt_desk.proofs.Stretching.{steps_extend}
+use Rattle.yt_desk.proofs.Stretching.{moves_extend}
 use Rattle.yt_desk.proofs.desk.Desk.stretch.Goals as goal
 
 pub close_turn-requires-clause-extends : goal.close_turn-requires-clause-extends
@@ -13,13 +13,13 @@ close_turn-requires-clause-extends g c =
     let b = c.open-turn.result.1 in
     let s = c.stretch-stretch.ensures.stretch in
     subst (λ (y : ℕ × Items). Extends y.0 y.1 (items_of c.stretch-stretch.new.self)) (λ k. (c.number.ensures k, sym c.open-turn.ensures.seen k))
-    (steps_extend s.count c.number.result b.over (items_of c.stretch-stretch.new.self) (items_of b) s.steps)
+    (moves_extend s.count c.number.result b.over (items_of c.stretch-stretch.new.self) (items_of b) s.moves)
 
 pub returns-clause-own : goal.returns-clause-own
 returns-clause-own g c =
     let b = c.open-turn.result.1 in
     let s = c.stretch-stretch.ensures.stretch in
-    let e = steps_extend s.count c.number.result b.over (items_of c.stretch-stretch.new.self) (items_of b) s.steps in
+    let e = moves_extend s.count c.number.result b.over (items_of c.stretch-stretch.new.self) (items_of b) s.moves in
     let own = c.requires.own in
     let follows = c.open-turn.ensures.follows in
     let saw = saw_more _ _ own.later (seen_of c.args.seat.now) follows.0 e.0 (seen_of c.close_turn.new.seat) own.saw (c.close_turn.ensures.seen ∙ (sym e.1 ∙ ap (λ (l : Items). l ++ e.0) (sym follows.1))) in
