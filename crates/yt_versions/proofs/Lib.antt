@@ -11,9 +11,6 @@ pub mod Writing
 pub mod Holding
 pub mod Knowing
 pub mod Taking
-pub mod Coursing
-pub mod Merged
 pub mod Both
-pub mod Running
 pub mod Sent
 pub mod Gathering

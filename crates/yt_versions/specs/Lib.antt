@@ -8,6 +8,4 @@ pub mod Cells
 pub mod Zones
 pub mod ZoneLaws
 pub mod Indexed
-pub mod Courses
-pub mod Runs
 pub mod Standing

@@ -4,13 +4,11 @@
 
 mod below;
 mod cells;
-mod courses;
 mod crossing;
 mod handles;
 mod laws;
 mod marks;
 mod reading;
-mod runs;
 mod searches;
 mod tables;
 mod taken;

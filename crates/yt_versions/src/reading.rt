@@ -5,14 +5,13 @@ ghost use Rattle.yt_model.specs.Cursors.{is_beyond, first_of, next_of, scan_of};
 ghost use Rattle.yt_model.specs.Repository.{has, IsRepository};
 ghost use Rattle.yt_base.specs.Candidates.{column_of, further_candidates, AreAll};
 ghost use Rattle.yt_base.specs.Meanings.{fact_of, datum_of};
-ghost use Rattle.yt_versions.specs.Runs.{run_of};
+ghost use Rattle.yt_facts.specs.Runs.{run_of};
 ghost use Rattle.yt_versions.specs.Standing.{seen};
 
-use crate::courses::{Course, least, remaining};
-use crate::runs::{Merging, Run};
 use crate::versions::Versions;
 use std::alloc::Global;
 use yt_base::{Candidates, Column, Facts, Tuple, TupleList, Value};
+use yt_facts::{Course, Merging, Run, least, remaining};
 use yt_memory::Memory;
 
 // Each call also tells that what the update sees is in order. Only `list` takes memory.

@@ -9,6 +9,7 @@ use crate::searches::Held;
 use std::alloc::{AllocError, Global};
 use std::marker::Model;
 use yt_base::Tuple;
+use yt_facts::Hides;
 use yt_memory::Memory;
 use yt_tree::{Share, TreeMap};
 
@@ -78,5 +79,13 @@ impl Taken {
         }
         tuples.remove(tuple)?;
         Ok(Taken { tuples })
+    }
+}
+
+impl Hides for Taken {
+    ghost hidden = { λ D. D };
+
+    fn hides(&self, tuple: &Tuple) -> bool {
+        self.contains(tuple)
     }
 }

@@ -5,9 +5,11 @@ use Rattle.yt_base.specs.Meanings.{fact_of}
 use Rattle.yt_model.specs.Values.{Fact}
 use Rattle.yt_tree.specs.Few.{most}
 use Rattle.yt_versions.specs.Marked.{visible}
-use Rattle.yt_versions.specs.Runs.{ahead_of, left_of, merged, run_of}
+use Rattle.yt_facts.specs.Runs.{ahead_of, left_of, merged, run_of}
+use Rattle.yt_facts.proofs.Further.{both_first, set_alone}
+use Rattle.yt_versions.proofs.Seeing.{visible_in_order}
 use Rattle.yt_versions.specs.Standing.{seen}
-use Rattle.yt_versions.proofs.Both.{base_alone, both_first, none_came, none_taken, none_there, seen_ordered}
+use Rattle.yt_versions.proofs.Both.{none_came, none_taken, none_there, seen_ordered}
 use Rattle.yt_versions.proofs.versions.Versions.with_written.Goals as goal
 
 pub returns-then-is_empty : goal.returns-then-is_empty
@@ -20,7 +22,7 @@ returns-then-is_empty c =
     let free = sym c.taken.ensures.taken ∙ none_there c.taken.result.now c.if-is_empty.ensures.empty in
     let none = none_taken (further_candidates (visible n v.rows) r column past) (none_came c.next-put.result (map fact_of c.candidates.result.left) c.next-put.ensures.end c.is_none.result c.if-is_none.true c.is_none.ensures ∙ c.candidates.ensures.first.first ∙ ap (λ es. take most (further_candidates (visible n es) r column past)) c.table-table.ensures.rows) in
     record {
-      all = subst (λ (D : List Fact). AreAll c.at_hand.result (seen n v) D) (base_alone n v c.taken.ensures.kept r column past (run_of c.args.base) c.requires.base free none)
+      all = subst (λ (D : List Fact). AreAll c.at_hand.result (seen n v) D) (set_alone v.base v.taken (visible n v.rows) c.taken.ensures.kept.order (visible_in_order n v.rows c.taken.ensures.kept.rows.order) r column past (run_of c.args.base) c.requires.base free none)
           (c.at_hand.ensures.all (seen n v) (seen_ordered n v c.taken.ensures.kept));
     }
 
@@ -38,7 +40,7 @@ returns c =
     record {
       all = (
         seen_ordered n v kept,
-        both_first n v kept r column past c.few.result run some c.requires.base first
+        both_first v.base v.taken (visible n v.rows) kept.order (visible_in_order n v.rows kept.rows.order) r column past c.few.result run some c.requires.base first
             (subst (λ (D : List Fact). AreFirst c.few.result D) (c.new-both.ensures.both ∙ ap (λ (D : List Fact). merged (left_of D run) some) c.taken-2.ensures.taken) c.few.ensures.first),
       );
     }

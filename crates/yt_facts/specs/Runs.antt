@@ -7,8 +7,8 @@ use Rattle.yt_base.specs.declared.tuples.Tuple.{Tuple}
 use Rattle.yt_base.specs.Meanings.{fact_of}
 use Rattle.yt_model.specs.Repository.{has}
 use Rattle.yt_model.specs.Values.{Fact, fact_cmp}
-use Rattle.yt_versions.specs.declared.runs.Run.{Run}
-use Rattle.yt_versions.specs.declared.runs.Run.TheVariants.{Listed, Together, Few}
+use Rattle.yt_facts.specs.declared.runs.Run.{Run}
+use Rattle.yt_facts.specs.declared.runs.Run.TheVariants.{Listed, Together, Few}
 
 -- The tuples of a run that are to come.
 abbrev pub run_of : Run → List Fact
@@ -16,9 +16,9 @@ run_of (Listed tuples) = map fact_of tuples.now
 run_of (Together range) = map fact_of range
 run_of (Few few) = map fact_of few.left
 
--- Those that are not taken.
+-- Those that are not hidden.
 abbrev pub left_of : List Fact → List Fact → List Fact
-left_of taken D = filter (λ u. not (has taken u)) D
+left_of hidden D = filter (λ u. not (has hidden u)) D
 
 -- What is to come behind the tuple, if there is one, and with it.
 abbrev pub ahead_of : Option (Bor Tuple) → List Fact → List Fact

@@ -11,7 +11,7 @@ use Rattle.yt_model.proofs.Members.{has-filter}
 use Rattle.yt_model.proofs.Order.{fact_exact, fact_total}
 use Rattle.yt_model.proofs.Searches.{all_weaker}
 use Rattle.yt_model.proofs.Sets.{filter_in_order, same_repository}
-use Rattle.yt_versions.specs.Runs.{merged, merged_with}
+use Rattle.yt_facts.specs.Runs.{merged, merged_with}
 
 -- ---- members
 

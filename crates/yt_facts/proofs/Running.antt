@@ -7,7 +7,7 @@ use Rattle.yt_model.specs.Repository.{has}
 use Rattle.yt_model.specs.Values.{Fact}
 use Rattle.yt_model.proofs.Bools.{differ}
 use Rattle.yt_tree.specs.Few.{Batch, with_first}
-use Rattle.yt_versions.specs.Runs.{left_of}
+use Rattle.yt_facts.specs.Runs.{left_of}
 
 -- ---- what is left
 
