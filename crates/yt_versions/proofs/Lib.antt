@@ -12,5 +12,6 @@ pub mod Holding
 pub mod Knowing
 pub mod Taking
 pub mod Both
+pub mod Passed
 pub mod Sent
 pub mod Gathering

@@ -8,4 +8,5 @@ pub mod Cells
 pub mod Zones
 pub mod ZoneLaws
 pub mod Indexed
+pub mod Passed
 pub mod Standing

@@ -8,6 +8,7 @@ mod crossing;
 mod handles;
 mod laws;
 mod marks;
+mod passing;
 mod reading;
 mod searches;
 mod tables;

@@ -8,6 +8,7 @@ ghost use Rattle.yt_base.specs.Meanings.{fact_of, datum_of};
 ghost use Rattle.yt_facts.specs.Runs.{run_of};
 ghost use Rattle.yt_versions.specs.Standing.{seen};
 
+use crate::taken::Taken;
 use crate::versions::Versions;
 use std::alloc::Global;
 use yt_base::{Candidates, Column, Facts, Tuple, TupleList, Value};
@@ -172,12 +173,12 @@ impl Versions {
     pub(crate) fn list(&self, alloc: Global, number: u32) -> Result<TupleList, Memory>
         ensures tuples { IfOk result (λ list. map fact_of list.items ≡ seen number self.now) }
     {
-        let base = self.base().list(alloc)?;
+        let left = self.taken().left(alloc, self.base().run())?;
         let written = self.table().list(alloc, number)?;
-        let base = Run::Listed(base.as_slice());
+        let none = Taken::none();
         let mut written = Run::Listed(written.as_slice());
         let put = written.next();
-        let mut both = Merging::new(base, self.taken(), put, written);
+        let mut both = Merging::new(Run::Listed(left.as_slice()), &none, put, written);
         let list = both.list(alloc)?;
         Ok(list)
     }

@@ -1,17 +1,19 @@
 //! The tuples of the base of which the table tells in the base's place.
-ghost use Rattle.std.specs.Prelude.{◌≡◌, [], cond, length, ◌==◌, IfOk, OnOk};
-ghost use Rattle.yt_model.specs.Repository.{has};
+ghost use Rattle.std.specs.Prelude.{◌≡◌, [], map, cond, length, ◌==◌, IfOk, OnOk};
+ghost use Rattle.yt_model.specs.Repository.{has, IsRepository};
 ghost use Rattle.yt_model.specs.Values.{Fact, same_fact};
 ghost use Rattle.yt_base.specs.Meanings.{fact_of};
+ghost use Rattle.yt_facts.specs.Runs.{left_of, run_of};
 
 use crate::handles::Handle;
+use crate::passing::Passing;
 use crate::searches::Held;
 use std::alloc::{AllocError, Global};
 use std::marker::Model;
-use yt_base::Tuple;
-use yt_facts::Hides;
+use yt_base::{Tuple, TupleList};
+use yt_facts::{Hides, Run};
 use yt_memory::Memory;
-use yt_tree::{Share, TreeMap};
+use yt_tree::{Share, Start, TreeMap};
 
 /// Some tuples, mostly very few. Contracts see the list of them.
 #[derive(Drop)]
@@ -63,6 +65,17 @@ impl Taken {
             Some(_) => return true,
             None => return false,
         }
+    }
+
+    /// The tuples of the run that are not among them, copied. It is refused only for want of memory.
+    pub fn left(&self, alloc: Global, run: Run<'_>) -> Result<TupleList, Memory>
+        requires in_order { IsRepository (run_of run) }
+        ensures left { IfOk result (λ list.
+            map fact_of list.items ≡ left_of self.now (run_of run.entry)) }
+    {
+        let passing = Passing::of(self.tuples.cursor(&Start));
+        let list = passing.left(alloc, run)?;
+        Ok(list)
     }
 
     /// The same with the tuple, or without it.
