@@ -77,23 +77,34 @@ module _ (D hidden added : List Fact) (s : IsRepository D) (t : IsRepository add
     pub added_alone : (few : Batch Tuple) → all D ≡ [] → AreFirst few (all added) → AreFirst few (all (overlaid D hidden added))
     added_alone few none first = subst (λ (E : List Fact). AreFirst few E) (ap (λ (E : List Fact). merged (left_of hidden E) (all added)) (sym none) ∙ candidates_overlaid) first
 
-    -- Where nothing is hidden and none is added, those of the set are all.
-    pub set_alone : (run : List Fact) → run ≡ all D → hidden ≡ [] → all added ≡ [] → run ≡ all (overlaid D hidden added)
-    set_alone run is free none =
-        is ∙ sym (filter_all (all D)) ∙ sym (merged_none (filter (λ u. true) (all D)))
-        ∙ (λ i. merged (left_of (sym free i) (all D)) (sym none i)) ∙ candidates_overlaid
-
     -- Where no candidate is hidden and none is added, those of the set are all.
-    pub none_written : all added ≡ [] → list_any (is_candidate r c) hidden ≡ false → all (overlaid D hidden added) ≡ all D
-    none_written none free = sym candidates_overlaid ∙ (λ i. merged (kept i) (none i)) ∙ merged_none (all D)
+    unchanged : all added ≡ [] → ((u : Fact) → passes r c past u ≡ true → has hidden u ≡ false) → all (overlaid D hidden added) ≡ all D
+    unchanged none unhidden = sym candidates_overlaid ∙ (λ i. merged (kept i) (none i)) ∙ merged_none (all D)
       where
-        open_to : (u : Fact) → passes r c past u ≡ true → not (has hidden u) ≡ true
-        open_to u h = ap not (lacking (is_candidate r c) hidden u free (first (is_candidate r c u) (is_beyond past u) h))
-
         kept : left_of hidden (all D) ≡ all D
         kept =
             ap (left_of hidden) (further_as r c past D) ∙ filter_turned (passes r c past) (λ u. not (has hidden u)) D
-            ∙ sym (filter_within (passes r c past) (λ u. not (has hidden u)) open_to D) ∙ sym (further_as r c past D)
+            ∙ sym (filter_within (passes r c past) (λ u. not (has hidden u)) (λ u h. ap not (unhidden u h)) D) ∙ sym (further_as r c past D)
+
+    pub none_written : all added ≡ [] → list_any (is_candidate r c) hidden ≡ false → all (overlaid D hidden added) ≡ all D
+    none_written none free = unchanged none (λ u h. lacking (is_candidate r c) hidden u free (first (is_candidate r c u) (is_beyond past u) h))
+
+    -- The same where none of the relation is hidden beyond the tuple.
+    pub none_hidden : all added ≡ [] → further_candidates hidden r None past ≡ [] → all (overlaid D hidden added) ≡ all D
+    none_hidden none free = unchanged none unhidden
+      where
+        hides_none : (u : Fact) → (has hidden u && passes r None past u) ≡ false
+        hides_none u = sym (has-filter (passes r None past) hidden u) ∙ ap (λ (E : List Fact). has E u) (sym (further_as r None past hidden) ∙ free)
+
+        within : (u : Fact) → passes r c past u ≡ true → passes r None past u ≡ true
+        within u h = by (is_candidate r c u) refl (is_beyond past u) h
+          where
+            by : (a : Bool) → is_candidate r c u ≡ a → (b : Bool) → (a && b) ≡ true → (is_of r u && b) ≡ true
+            by true e b g = ap (λ x. x && b) (candidate_of r c u e) ∙ g
+            by false e b g = differ g
+
+        unhidden : (u : Fact) → passes r c past u ≡ true → has hidden u ≡ false
+        unhidden u h = sym (and-true (has hidden u)) ∙ ap (λ b. has hidden u && b) (sym (within u h)) ∙ hides_none u
 
     -- The first of both are the first, also where but the first of what is added are known.
     pub both_first : (few : Batch Tuple) (run some : List Fact) → run ≡ all D → some ≡ take most (all added) → AreFirst few (merged (left_of hidden run) some) → AreFirst few (all (overlaid D hidden added))

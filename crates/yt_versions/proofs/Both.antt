@@ -1,10 +1,9 @@
 -- What an update reads: what is left of the base and what stands in the rows, as one.
-use Rattle.std.proofs.Common.{◌≡◌, ℕ, suc, ◌-◌, ap, refl, sym, ◌∙◌, subst, List, [], ◌∷◌, length, take, Bool, true, false, ◌||◌, ◌&&◌, not, cond, filter, Option, Some, None, arith}
-use Rattle.std.proofs.lemmas.Bool.{eqb-true}
+use Rattle.std.proofs.Common.{◌≡◌, ℕ, ap, refl, sym, ◌∙◌, List, [], ◌∷◌, take, Bool, true, false, ◌||◌, ◌&&◌, not, filter, Option, Some, None}
 use Rattle.std.specs.Borrow.{Bor}
 use Rattle.std.specs.Option.{is_some, option_copied, option_map}
-use Rattle.std.specs.Prelude.{◌==◌, find, IfNone}
-use Rattle.yt_base.specs.Candidates.{is_candidate, further_candidates, AreFirst}
+use Rattle.std.specs.Prelude.{find, IfNone}
+use Rattle.yt_base.specs.Candidates.{further_candidates}
 use Rattle.yt_base.specs.Meanings.{fact_of}
 use Rattle.yt_base.specs.declared.tuples.Tuple.{Tuple}
 use Rattle.yt_facts.proofs.Overlays.{has-overlaid, overlaid_in_order}
@@ -12,14 +11,11 @@ use Rattle.yt_model.specs.Cursors.{first_of, is_beyond, is_of, is_scanned, scan_
 use Rattle.yt_model.specs.Repository.{IsRepository, has}
 use Rattle.yt_model.specs.Values.{Datum, Fact}
 use Rattle.yt_model.proofs.Bools.{differ}
-use Rattle.yt_model.proofs.Members.{has-filter}
-use Rattle.yt_model.proofs.Searches.{filter_all, filter_within, none_passes}
-use Rattle.yt_model.proofs.Sets.{filter_in_order}
-use Rattle.yt_tree.specs.Few.{Batch, most}
+use Rattle.yt_model.proofs.Searches.{filter_within, none_passes}
+use Rattle.yt_tree.specs.Few.{most}
 use Rattle.yt_versions.specs.Marked.{visible}
 use Rattle.yt_versions.specs.Standing.{AreKept, Kept, is_left, seen}
 use Rattle.yt_versions.proofs.Gathering.{scan_candidates}
-use Rattle.yt_versions.proofs.Seeing.{visible_in_order}
 
 pub seen_ordered : (n : ℕ) (v : Kept) → AreKept v → IsRepository (seen n v)
 seen_ordered n v kept = overlaid_in_order v.base v.taken (visible n v.rows) kept.order
@@ -37,10 +33,6 @@ row_seen n v t e = ap (λ b. b || has (visible n v.rows) t) e ∙ sym (has-overl
 pub none_taken : (D : List Fact) → [] ≡ take most D → D ≡ []
 none_taken [] e = refl
 none_taken (u ∷ D) e = absurd (cc)
-
-pub none_there : (D : List Fact) → true ≡ (length D == 0) → D ≡ []
-none_there [] e = refl
-none_there (u ∷ D) e = let z : suc (length D) ≡ 0 = eqb-true (suc (length D)) 0 (sym e) in absurd (cc)
 
 -- Where none came there was none.
 pub none_came : {X : Type 0} (o : Option X) (D : List Fact) → IfNone o (D ≡ []) → (b : Bool) → b ≡ true → is_some o ≡ not b → [] ≡ D

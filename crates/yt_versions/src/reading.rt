@@ -162,7 +162,7 @@ impl Versions {
         let table = self.table();
         let mut written = Run::Few(table.candidates(number, relation, column, past));
         let put = written.next();
-        if put.is_none() && self.taken().is_empty() {
+        if put.is_none() && self.taken().has_none(relation, past) {
             return base.at_hand();
         }
         let mut both = Merging::new(base, self.taken(), put, written);

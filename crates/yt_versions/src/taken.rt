@@ -1,13 +1,15 @@
 //! The tuples of the base of which the table tells in the base's place.
-ghost use Rattle.std.specs.Prelude.{◌≡◌, [], map, cond, length, ◌==◌, IfOk, OnOk};
+ghost use Rattle.std.specs.Prelude.{◌≡◌, [], None, map, cond, IfOk, IsTrue, OnOk};
 ghost use Rattle.yt_model.specs.Repository.{has, IsRepository};
 ghost use Rattle.yt_model.specs.Values.{Fact, same_fact};
+ghost use Rattle.std.specs.Option.{option_map, option_copied};
+ghost use Rattle.yt_base.specs.Candidates.{further_candidates};
 ghost use Rattle.yt_base.specs.Meanings.{fact_of};
 ghost use Rattle.yt_facts.specs.Runs.{left_of, run_of};
 
 use crate::handles::Handle;
 use crate::passing::Passing;
-use crate::searches::Held;
+use crate::searches::{Further, Held};
 use std::alloc::{AllocError, Global};
 use std::marker::Model;
 use yt_base::{Tuple, TupleList};
@@ -50,13 +52,6 @@ impl Taken {
         })
     }
 
-    /// Whether there is none.
-    pub fn is_empty(&self) -> bool
-        ensures empty { result ≡ (length self.now == 0) }
-    {
-        self.tuples.len() == 0
-    }
-
     /// Whether the tuple is among them.
     pub fn contains(&self, tuple: &Tuple) -> bool
         ensures answer { result ≡ has self.now (fact_of tuple.now) }
@@ -65,6 +60,15 @@ impl Taken {
             Some(_) => return true,
             None => return false,
         }
+    }
+
+    /// Whether none of them is of the relation and above `past`, where that is given.
+    pub fn has_none(&self, relation: u16, past: Option<&Tuple>) -> bool
+        ensures none { IsTrue result → further_candidates self.now relation None
+            (option_map fact_of (option_copied past.entry)) ≡ [] }
+    {
+        let found = self.tuples.find_in(&Further { relation, past });
+        found.is_none()
     }
 
     /// The tuples of the run that are not among them, copied. It is refused only for want of memory.

@@ -1,5 +1,5 @@
-use Rattle.std.proofs.Common.{◌≡◌, ◌∙◌, ◌++◌, ap, arith, length, map, refl, sym, List, [], ◌∷◌}
-use Rattle.std.proofs.lemmas.List.{append-nil, map-append}
+use Rattle.std.proofs.Common.{◌∙◌, ◌++◌, ap, arith, length, map, sym, List, [], ◌∷◌}
+use Rattle.std.proofs.lemmas.List.{append-nil}
 use Rattle.yt_base.specs.Meanings.{fact_of}
 use Rattle.yt_base.specs.declared.tuples.Tuple.{Tuple}
 use Rattle.yt_facts.proofs.Further.{rest_ordered}

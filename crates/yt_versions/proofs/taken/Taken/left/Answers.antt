@@ -1,6 +1,5 @@
 use Rattle.std.proofs.Common.{◌∙◌, ap, map, subst, sym, List}
 use Rattle.yt_base.specs.Meanings.{fact_of}
-use Rattle.yt_base.specs.declared.tuples.Tuple.{Tuple}
 use Rattle.yt_model.specs.Repository.{IsRepository}
 use Rattle.yt_model.specs.Values.{Fact}
 use Rattle.yt_facts.specs.Runs.{left_of, run_of}

@@ -1,4 +1,4 @@
-use Rattle.std.proofs.Common.{List, ap, sym, ◌∙◌, map, []}
+use Rattle.std.proofs.Common.{List, ap, sym, ◌∙◌, map}
 use Rattle.yt_base.specs.Meanings.{fact_of}
 use Rattle.yt_facts.proofs.Further.{all_overlaid}
 use Rattle.yt_facts.specs.Runs.{left_of, merged}
@@ -14,8 +14,8 @@ returns c =
     let v = c.args.self.now in
     let kept = c.base.ensures.kept in
     let left =
-        ap (map fact_of) c.as_slice-2.ensures.items ∙ c.in_ok-left.ensures.left
-        ∙ (λ i. left_of (c.taken.ensures.taken i) ((c.run.ensures.all ∙ c.base.ensures.base) i)) in
+    ap (map fact_of) c.as_slice-2.ensures.items ∙ c.in_ok-left.ensures.left
+    ∙ (λ i. left_of (c.taken.ensures.taken i) ((c.run.ensures.all ∙ c.base.ensures.base) i)) in
     let free = ap (λ (D : List Fact). left_of D (left_of v.taken v.base)) c.none-none.ensures.none ∙ filter_all (left_of v.taken v.base) in
     let rows = sym c.next-put.ensures.step ∙ ap (map fact_of) c.as_slice.ensures.items ∙ c.in_ok-written.ensures.tuples ∙ ap (visible n) c.table.ensures.rows in
     record {
