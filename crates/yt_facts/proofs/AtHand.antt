@@ -25,9 +25,7 @@ use Rattle.yt_base.specs.declared.candidates.Candidates.{Candidates}
 use Rattle.yt_base.specs.declared.candidates.Candidates.TheVariants.{Apart, Absent, Together, Listed, Few}
 use Rattle.yt_base.specs.declared.tuples.Tuple.{Tuple}
 use Rattle.yt_facts.specs.Indexes.{Kept, kept_at, is_in, IsIndex}
-use Rattle.yt_facts.specs.Overlaid.{overlaid}
 use Rattle.yt_facts.proofs.Ahead.{beyond_from}
-use Rattle.yt_facts.proofs.Overlays.{has-overlaid, overlaid_in_order}
 
 -- ---- the tuples of one relation
 
@@ -147,7 +145,7 @@ group_further D ms r c d past G s x e t = further_among D r (Some (c, d)) past �
 -- ---- through writes
 
 -- A set of which none passes lacks what passes.
-lacking : (p : Fact → Bool) (D : List Fact) (u : Fact) → list_any p D ≡ false → p u ≡ true → has D u ≡ false
+pub lacking : (p : Fact → Bool) (D : List Fact) (u : Fact) → list_any p D ≡ false → p u ≡ true → has D u ≡ false
 lacking p [] u e h = refl
 lacking p (v ∷ D) u e h = by (p v) refl e (λ g. lacking p D u g h)
   where
@@ -159,26 +157,6 @@ lacking p (v ∷ D) u e h = by (p v) refl e (λ g. lacking p D u g h)
     by true f g rest = cc
     by false f g rest = other f (same_fact u v) refl ∙ rest g
 
--- Writes of what does not pass leave what passes.
-unwritten : (p : Fact → Bool) (D gone added : List Fact) → IsRepository D → list_any p added ≡ false → list_any p gone ≡ false → filter p (overlaid D gone added) ≡ filter p D
-unwritten p D gone added s a g =
-    same_repository (filter p (overlaid D gone added)) (filter p D) (filter_in_order p (overlaid D gone added) (overlaid_in_order D gone added s)) (filter_in_order p D s)
-    (λ u. has-filter p (overlaid D gone added) u ∙ ap (λ b. b && p u) (has-overlaid D gone added u) ∙ by u (p u) refl ∙ sym (has-filter p D u))
-  where
-    off : (a b : Bool) → (a && false) ≡ (b && false)
-    off true true = refl
-    off true false = refl
-    off false true = refl
-    off false false = refl
-
-    left : (a : Bool) → (((a && true) || false) && true) ≡ (a && true)
-    left true = refl
-    left false = refl
-
-    by : (u : Fact) (b : Bool) → p u ≡ b → (((has D u && not (has gone u)) || has added u) && b) ≡ (has D u && b)
-    by u true e = (λ i. ((has D u && not (lacking p gone u g e i)) || lacking p added u a e i) && true) ∙ left (has D u)
-    by u false e = off ((has D u && not (has gone u)) || has added u) (has D u)
-
 -- What is told of these tuples of one set is true of the same ones of another.
 pub told_too : (x : Candidates) (D E all these : List Fact) → IsRepository E → these ≡ all → AreAll x D all → AreAll x E these
 told_too Apart D E all these s e h = tt
@@ -186,9 +164,3 @@ told_too Absent D E all these s e h = (s, e ∙ h.1)
 told_too (Together range) D E all these s e h = (s, e ∙ h.1)
 told_too (Listed tuples) D E all these s e h = (s, e ∙ h.1)
 told_too (Few few) D E all these s e h = (s, subst (AreFirst few) (sym e) h.1)
-
--- So what the set tells of them is true of the overlay.
-pub passed_on : (x : Candidates) (p : Fact → Bool) (D gone added E : List Fact) → IsRepository D → overlaid D gone added ≡ E → list_any p added ≡ false → list_any p gone ≡ false → AreAll x D (filter p D) → AreAll x E (filter p E)
-passed_on x p D gone added E s e a g h =
-    subst (λ (l : List Fact). AreAll x l (filter p l)) e
-    (told_too x D (overlaid D gone added) (filter p D) (filter p (overlaid D gone added)) (overlaid_in_order D gone added s) (unwritten p D gone added s a g) h)

@@ -3,6 +3,9 @@ pub mod Reading
 pub mod Unions
 pub mod Courses
 pub mod Overlays
+pub mod Merged
+pub mod Running
+pub mod Further
 pub mod Groups
 pub mod Indexing
 pub mod Refusals

@@ -1,18 +1,23 @@
 //! Sets that mostly have few tuples.
 ghost use Rattle.std.specs.List.{list_any};
 ghost use Rattle.std.specs.Option.{option_map, option_copied};
-ghost use Rattle.std.specs.Prelude.{◌≡◌, [], false, not, length, filter, IsTrue, IfOk, OnOk, OnErr, IfErr};
+ghost use Rattle.std.specs.Prelude.{◌≡◌, [], false, not, length, filter, IsTrue, IfOk, OnOk, OnErr, IfErr, IfNone, IfSome};
 ghost use Rattle.yt_model.specs.Cursors.{is_beyond};
 ghost use Rattle.yt_model.specs.Repository.{has, change, Insert, Delete, IsRepository};
-ghost use Rattle.yt_base.specs.Candidates.{column_of, is_candidate, AreAll};
+ghost use Rattle.yt_base.specs.Candidates.{column_of, further_candidates, is_candidate, AreAll, AreFirst};
 ghost use Rattle.yt_base.specs.Meanings.{fact_of};
+ghost use Rattle.yt_facts.specs.Courses.{is_ahead};
+ghost use Rattle.yt_facts.specs.Places.{HasAllThat};
+ghost use Rattle.yt_facts.specs.Runs.{run_of};
 
 use crate::course::Hides;
 use crate::listed::{Held, ListedFacts};
 use crate::plain::PlainFacts;
+use crate::runs::Run;
 use std::alloc::Global;
 use std::marker::Model;
 use yt_base::{Candidates, Column, Facts, Memory, Tuple, Value};
+use yt_tree::Few;
 
 // So many tuples are few: to move them in a list costs less than to search a tree for the place of one.
 const FEW: usize = 256;
@@ -116,6 +121,37 @@ impl Group {
         match &self.held {
             Held::Listed(tuples) => tuples.lacks(relation, column),
             Held::Tree(facts) => facts.lacks(relation),
+        }
+    }
+
+    /// The first of its tuples that are of the relation, have the column's value, where a column is given, and are above
+    /// `past`, where that is given; None exactly where there is none.
+    pub(crate) fn few(
+        &self,
+        relation: u16,
+        column: Option<Column<'_>>,
+        past: Option<&Tuple>,
+    ) -> Option<Few<'_, Tuple>>
+        ensures first { IfSome result (λ few. AreFirst few (further_candidates self.now relation
+            (option_map column_of column.entry) (option_map fact_of (option_copied past.entry)))) }
+        ensures none { IfNone result (further_candidates self.now relation
+            (option_map column_of column.entry) (option_map fact_of (option_copied past.entry)) ≡
+            []) }
+        ensures in_order { IsRepository self.now }
+    {
+        self.ahead(relation, past).few(relation, column, past)
+    }
+
+    // Its tuples in order, but for some that are of a lesser relation, or not above `past` where that is given.
+    fn ahead(&self, relation: u16, past: Option<&Tuple>) -> Run<'_>
+        ensures all { HasAllThat (is_ahead relation (option_map fact_of (option_copied past.entry)))
+            self.now (run_of result) }
+        ensures rest { IsRepository (run_of result) }
+        ensures in_order { IsRepository self.now }
+    {
+        match &self.held {
+            Held::Listed(tuples) => Run::Listed(tuples.ahead(relation, past)),
+            Held::Tree(facts) => Run::Together(facts.ahead(relation, past)),
         }
     }
 

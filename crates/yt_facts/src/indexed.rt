@@ -3,9 +3,11 @@ ghost use Rattle.std.specs.Prelude.{◌≡◌, [], not, length, map, IfOk, OnOk,
 ghost use Rattle.yt_model.specs.Repository.{has, change, Insert, Delete, IsRepository};
 ghost use Rattle.yt_base.specs.Meanings.{fact_of};
 ghost use Rattle.yt_facts.specs.Indexes.{IsIndex, IsIndexBut};
+ghost use Rattle.yt_facts.specs.Runs.{run_of};
 
 use crate::plain::PlainFacts;
 use crate::relations::{Columns, drop_out, keep, keeps, kept};
+use crate::runs::Run;
 use std::alloc::Global;
 use std::marker::Model;
 use yt_base::{Candidates, Column, Facts, Memory, TryCopy, Tuple, TupleList, Value};
@@ -111,6 +113,14 @@ impl IndexedFacts {
     {
         let IndexedFacts { all, .. } = self;
         all.into_list(alloc)
+    }
+
+    /// The tuples in order, as a run. It takes no memory.
+    pub fn run(&self) -> Run<'_>
+        ensures all { run_of result ≡ self.now }
+        ensures in_order { IsRepository self.now }
+    {
+        Run::Together(self.all.range(None))
     }
 
     /// The tuples in order. It is refused only for want of memory.

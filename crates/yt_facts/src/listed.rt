@@ -81,6 +81,15 @@ impl ListedFacts {
         }
     }
 
+    /// Its tuples in order, but for some that are of a lesser relation, or not above `past` where that is given.
+    pub(crate) fn ahead(&self, relation: u16, past: Option<&Tuple>) -> &[Tuple]
+        ensures all { HasAllThat (is_ahead relation (option_map fact_of (option_copied past.entry)))
+            self.now (map fact_of result.now) }
+        ensures in_order { IsRepository (map fact_of result.now) }
+    {
+        ahead(self.tuples.as_slice(), relation, past)
+    }
+
     /// The tuples as a list. It is refused only for want of memory.
     pub(crate) fn list(&self, alloc: Global) -> Result<TupleList, Memory>
         ensures tuples { IfOk result (λ list. map fact_of list.items ≡ self.now) }

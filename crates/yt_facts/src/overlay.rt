@@ -1,16 +1,16 @@
 //! A set of tuples as writes leave it, without a copy of the set.
 ghost use Rattle.std.specs.Prelude.{◌≡◌, ◌&&◌, not, map, OnErr, OnOk};
-ghost use Rattle.std.specs.Option.{option_map};
 ghost use Rattle.yt_model.specs.Repository.{Delete, Insert, has, change, apply, IsRepository};
-ghost use Rattle.yt_base.specs.Candidates.{column_of, all_candidates, AreAll};
 ghost use Rattle.yt_base.specs.Meanings.{fact_of, change_of};
 ghost use Rattle.yt_facts.specs.Begun.{HoldsOfFirst};
 
+use crate::changed::changed;
 use crate::course::{Course, least, remaining};
 use crate::group::Group;
 use std::alloc::Global;
 use std::marker::Model;
 use yt_base::{Candidates, Column, Facts, Memory, TryCopy, Tuple, Value, Write};
+use yt_tree::Few;
 
 /// A set with writes applied to it in turn. It borrows the set, and keeps only the tuples that the writes take away
 /// from it or put into it. Contracts see the list of its tuples, in order.
@@ -141,33 +141,22 @@ impl<'a, F: Facts> Facts for Overlay<'a, F> {
         least(left, self.added.scan(relation, column, value, past))
     }
 
-    // What the set has at hand, where no write is among them.
+    // What the set has at hand, where no write is among them, and else a few of both.
     fn candidates(
         &self,
         relation: u16,
         column: Option<Column<'_>>,
         past: Option<&Tuple>,
     ) -> Candidates<'_> {
-        match past {
-            Some(_) => Candidates::Apart,
-            None => self.unwritten(relation, column),
+        if let Some(few) = self.added.few(relation, column, past) {
+            let given = self.facts.candidates(relation, column, past);
+            return changed(given, &self.gone, few);
         }
-    }
-}
-
-impl<'a, F: Facts> Overlay<'a, F> {
-    // All candidates, as the set has them at hand, where no write is among them.
-    fn unwritten(&self, relation: u16, column: Option<Column<'_>>) -> Candidates<'_>
-        ensures all { AreAll result self.now
-            (all_candidates self.now relation (option_map column_of column.entry)) }
-    {
-        let adds_none = self.added.lacks(relation, column);
-        let takes_none = self.gone.lacks(relation, column);
-        if adds_none && takes_none {
-            self.facts.candidates(relation, column, None)
-        } else {
-            Candidates::Apart
+        if self.gone.lacks(relation, column) {
+            return self.facts.candidates(relation, column, past);
         }
+        let given = self.facts.candidates(relation, column, past);
+        changed(given, &self.gone, Few::new())
     }
 }
 

@@ -1,5 +1,5 @@
 //! Which of the tuples that are gone over a cursor stops at.
-ghost use Rattle.std.specs.Prelude.{◌≡◌};
+ghost use Rattle.std.specs.Prelude.{◌≡◌, ◌&&◌};
 ghost use Rattle.std.specs.Option.{option_map, option_copied};
 ghost use Rattle.yt_model.specs.Cursors.{is_of, kept_if, is_scanned as is_scanned_tuple, is_beyond as is_beyond_tuple, has_at as has_datum_at};
 ghost use Rattle.yt_base.specs.Candidates.{column_of, is_candidate as is_candidate_tuple};
@@ -33,6 +33,20 @@ pub fn is_candidate(tuple: &Tuple, relation: u16, column: Option<Column<'_>>) ->
         Some(column) => has_at(tuple, column.number, column.value),
         None => true,
     }
+}
+
+/// The same, and whether it comes after `past`, where that is given.
+pub fn is_further(
+    tuple: &Tuple,
+    relation: u16,
+    column: Option<Column<'_>>,
+    past: Option<&Tuple>,
+) -> bool
+    ensures answer { result ≡ (is_candidate_tuple relation (option_map column_of column.entry)
+        (fact_of tuple.now) && is_beyond_tuple (option_map fact_of (option_copied past.entry))
+        (fact_of tuple.now)) }
+{
+    is_candidate(tuple, relation, column) && is_beyond(past, tuple)
 }
 
 /// Whether the tuple comes after `past`, where that is given.

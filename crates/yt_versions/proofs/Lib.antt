@@ -11,9 +11,7 @@ pub mod Writing
 pub mod Holding
 pub mod Knowing
 pub mod Taking
-pub mod Coursing
-pub mod Merged
 pub mod Both
-pub mod Running
+pub mod Passed
 pub mod Sent
 pub mod Gathering

@@ -1,18 +1,23 @@
 -- The tuples that are taken, after one is put in or taken out.
-use Rattle.std.proofs.Common.{◌≡◌, ap, refl, sym, ◌∙◌, List, [], ◌∷◌, Bool, true, false, ◌||◌, cond, find, map, Option, Some, None}
+use Rattle.std.proofs.Common.{◌≡◌, ℕ, ap, refl, sym, ◌∙◌, List, [], ◌∷◌, Bool, true, false, ◌||◌, ◌&&◌, cond, filter, find, map, Option, Some, None, Bor, not}
 use Rattle.std.specs.BTreeMap.{insert_entry}
 use Rattle.std.specs.Cmp.{on_total}
-use Rattle.std.specs.Option.{is_some, option_map}
+use Rattle.std.specs.Option.{is_some, option_copied, option_map}
 use Rattle.std.specs.Ordering.{is_eq, on}
 use Rattle.yt_base.specs.Meanings.{fact_of}
 use Rattle.yt_base.specs.declared.tuples.Tuple.{Tuple}
 use Rattle.yt_model.specs.Repository.{has}
 use Rattle.yt_model.specs.Values.{Fact, fact_cmp, same_fact}
+use Rattle.yt_model.specs.Cursors.{is_of, is_beyond}
+use Rattle.yt_model.proofs.Bools.{and-true, differ}
+use Rattle.yt_model.proofs.Searches.{none_passes}
 use Rattle.yt_model.proofs.Order.{fact_total}
 use Rattle.yt_model.proofs.Sets.{same_exact}
-use Rattle.yt_tree.specs.Orders.{without}
+use Rattle.yt_tree.specs.Orders.{is_sought, without}
+use Rattle.yt_versions.specs.Zones.{place_of}
 use Rattle.yt_versions.proofs.Holding.{held_same, is_held}
 use Rattle.yt_versions.proofs.Looking.{look, look_insert, look_without}
+use Rattle.yt_versions.proofs.Placing.{zone_is}
 use Rattle.yt_versions.proofs.Seeing.{find_same}
 
 some_mapped : {A B : Type 0} (f : A → B) (o : Option A) → is_some (option_map f o) ≡ is_some o
@@ -61,3 +66,25 @@ module _ {V : Type 0} where
       by : (c : Bool) → is_some (cond c None (look (λ x. same_fact t (fact_of x)) es)) ≡ cond c false (has (tuples es) t)
       by true = refl
       by false = sym (has_looked t es)
+
+  -- Those of a relation that come after a tuple.
+  pub zone_taken : (r : ℕ) (past : Option Fact) (es : List (Tuple × V))
+      → map fact_of (map (λ (e : Tuple × V). e.0) (filter (is_sought (λ k. place_of r past (fact_of k)) (λ _. true)) es)) ≡ filter (λ u. is_of r u && is_beyond past u) (tuples es)
+  zone_taken r past [] = refl
+  zone_taken r past (e ∷ es) =
+      ap (λ b. facts_in (cond b (e ∷ left) left)) (and-true (is_eq (place_of r past (fact_of e.0))) ∙ zone_is r past (fact_of e.0)) ∙ by (is_of r (fact_of e.0) && is_beyond past (fact_of e.0)) (zone_taken r past es)
+    where
+      facts_in : List (Tuple × V) → List Fact
+      facts_in l = map fact_of (map (λ (f : Tuple × V). f.0) l)
+
+      left : List (Tuple × V)
+      left = filter (is_sought (λ k. place_of r past (fact_of k)) (λ _. true)) es
+
+      by : (b : Bool) → facts_in left ≡ filter (λ u. is_of r u && is_beyond past u) (tuples es) → facts_in (cond b (e ∷ left) left) ≡ cond b (fact_of e.0 ∷ filter (λ u. is_of r u && is_beyond past u) (tuples es)) (filter (λ u. is_of r u && is_beyond past u) (tuples es))
+      by true i = ap (λ (l : List Fact). fact_of e.0 ∷ l) i
+      by false i = i
+
+-- Where none was found none is sought.
+pub none_sought : {A : Type 0} (p : A → Bool) (es : List A) (found : Option (Bor A)) → option_copied found ≡ find p es → (b : Bool) → b ≡ true → is_some found ≡ not b → filter p es ≡ []
+none_sought p es None h b t e = none_passes p es (sym h)
+none_sought p es (Some x) h b t e = differ (sym (e ∙ ap not t))

@@ -8,6 +8,5 @@ pub mod Cells
 pub mod Zones
 pub mod ZoneLaws
 pub mod Indexed
-pub mod Courses
-pub mod Runs
+pub mod Passed
 pub mod Standing

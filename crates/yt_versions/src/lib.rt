@@ -4,13 +4,12 @@
 
 mod below;
 mod cells;
-mod courses;
 mod crossing;
 mod handles;
 mod laws;
 mod marks;
+mod passing;
 mod reading;
-mod runs;
 mod searches;
 mod tables;
 mod taken;

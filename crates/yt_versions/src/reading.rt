@@ -5,14 +5,14 @@ ghost use Rattle.yt_model.specs.Cursors.{is_beyond, first_of, next_of, scan_of};
 ghost use Rattle.yt_model.specs.Repository.{has, IsRepository};
 ghost use Rattle.yt_base.specs.Candidates.{column_of, further_candidates, AreAll};
 ghost use Rattle.yt_base.specs.Meanings.{fact_of, datum_of};
-ghost use Rattle.yt_versions.specs.Runs.{run_of};
+ghost use Rattle.yt_facts.specs.Runs.{run_of};
 ghost use Rattle.yt_versions.specs.Standing.{seen};
 
-use crate::courses::{Course, least, remaining};
-use crate::runs::{Merging, Run};
+use crate::taken::Taken;
 use crate::versions::Versions;
 use std::alloc::Global;
 use yt_base::{Candidates, Column, Facts, Tuple, TupleList, Value};
+use yt_facts::{Course, Merging, Run, least, remaining};
 use yt_memory::Memory;
 
 // Each call also tells that what the update sees is in order. Only `list` takes memory.
@@ -162,7 +162,7 @@ impl Versions {
         let table = self.table();
         let mut written = Run::Few(table.candidates(number, relation, column, past));
         let put = written.next();
-        if put.is_none() && self.taken().is_empty() {
+        if put.is_none() && self.taken().has_none(relation, past) {
             return base.at_hand();
         }
         let mut both = Merging::new(base, self.taken(), put, written);
@@ -173,12 +173,12 @@ impl Versions {
     pub(crate) fn list(&self, alloc: Global, number: u32) -> Result<TupleList, Memory>
         ensures tuples { IfOk result (λ list. map fact_of list.items ≡ seen number self.now) }
     {
-        let base = self.base().list(alloc)?;
+        let left = self.taken().left(alloc, self.base().run())?;
         let written = self.table().list(alloc, number)?;
-        let base = Run::Listed(base.as_slice());
+        let none = Taken::none();
         let mut written = Run::Listed(written.as_slice());
         let put = written.next();
-        let mut both = Merging::new(base, self.taken(), put, written);
+        let mut both = Merging::new(Run::Listed(left.as_slice()), &none, put, written);
         let list = both.list(alloc)?;
         Ok(list)
     }

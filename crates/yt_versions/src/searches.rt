@@ -89,6 +89,31 @@ impl<'c> Show<Handle, Marks, Tuple> for Zone<'c> {
     }
 }
 
+/// What is of the relation, and comes after a tuple, where one is given.
+#[derive(Drop)]
+pub struct Further<'c> {
+    pub relation: u16,
+    pub past: Option<&'c Tuple>,
+}
+
+impl<'c> Search<Handle, ()> for Further<'c> {
+    ghost place = { λ s k. place_of s.relation (option_map fact_of (option_copied s.past)) (fact_of k) };
+
+    ghost passes = { λ _ _. true };
+
+    ghost stays_past = { λ s x y. of_past s.relation (option_map fact_of (option_copied s.past)) (fact_of x) (fact_of y) };
+
+    ghost stays_before = { λ s x y. of_before s.relation (option_map fact_of (option_copied s.past)) (fact_of x) (fact_of y) };
+
+    fn place(&self, key: &Handle) -> Ordering {
+        place_in_relation(self.relation, self.past, key.get())
+    }
+
+    fn passes(&self, _entry: &(Handle, ())) -> bool {
+        true
+    }
+}
+
 /// What is of the relation, and was written by the update.
 #[derive(Drop)]
 pub struct Written {

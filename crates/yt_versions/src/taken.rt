@@ -1,16 +1,21 @@
 //! The tuples of the base of which the table tells in the base's place.
-ghost use Rattle.std.specs.Prelude.{◌≡◌, [], cond, length, ◌==◌, IfOk, OnOk};
-ghost use Rattle.yt_model.specs.Repository.{has};
+ghost use Rattle.std.specs.Prelude.{◌≡◌, [], None, map, cond, IfOk, IsTrue, OnOk};
+ghost use Rattle.yt_model.specs.Repository.{has, IsRepository};
 ghost use Rattle.yt_model.specs.Values.{Fact, same_fact};
+ghost use Rattle.std.specs.Option.{option_map, option_copied};
+ghost use Rattle.yt_base.specs.Candidates.{further_candidates};
 ghost use Rattle.yt_base.specs.Meanings.{fact_of};
+ghost use Rattle.yt_facts.specs.Runs.{left_of, run_of};
 
 use crate::handles::Handle;
-use crate::searches::Held;
+use crate::passing::Passing;
+use crate::searches::{Further, Held};
 use std::alloc::{AllocError, Global};
 use std::marker::Model;
-use yt_base::Tuple;
+use yt_base::{Tuple, TupleList};
+use yt_facts::{Hides, Run};
 use yt_memory::Memory;
-use yt_tree::{Share, TreeMap};
+use yt_tree::{Share, Start, TreeMap};
 
 /// Some tuples, mostly very few. Contracts see the list of them.
 #[derive(Drop)]
@@ -47,13 +52,6 @@ impl Taken {
         })
     }
 
-    /// Whether there is none.
-    pub fn is_empty(&self) -> bool
-        ensures empty { result ≡ (length self.now == 0) }
-    {
-        self.tuples.len() == 0
-    }
-
     /// Whether the tuple is among them.
     pub fn contains(&self, tuple: &Tuple) -> bool
         ensures answer { result ≡ has self.now (fact_of tuple.now) }
@@ -62,6 +60,26 @@ impl Taken {
             Some(_) => return true,
             None => return false,
         }
+    }
+
+    /// Whether none of them is of the relation and above `past`, where that is given.
+    pub fn has_none(&self, relation: u16, past: Option<&Tuple>) -> bool
+        ensures none { IsTrue result → further_candidates self.now relation None
+            (option_map fact_of (option_copied past.entry)) ≡ [] }
+    {
+        let found = self.tuples.find_in(&Further { relation, past });
+        found.is_none()
+    }
+
+    /// The tuples of the run that are not among them, copied. It is refused only for want of memory.
+    pub fn left(&self, alloc: Global, run: Run<'_>) -> Result<TupleList, Memory>
+        requires in_order { IsRepository (run_of run) }
+        ensures left { IfOk result (λ list.
+            map fact_of list.items ≡ left_of self.now (run_of run.entry)) }
+    {
+        let passing = Passing::of(self.tuples.cursor(&Start));
+        let list = passing.left(alloc, run)?;
+        Ok(list)
     }
 
     /// The same with the tuple, or without it.
@@ -78,5 +96,13 @@ impl Taken {
         }
         tuples.remove(tuple)?;
         Ok(Taken { tuples })
+    }
+}
+
+impl Hides for Taken {
+    ghost hidden = { λ D. D };
+
+    fn hides(&self, tuple: &Tuple) -> bool {
+        self.contains(tuple)
     }
 }

@@ -6,6 +6,8 @@ ghost use Rattle.yt_model.specs.Cursors.{is_of, is_past, is_beyond};
 ghost use Rattle.yt_model.specs.Repository.{IsRepository};
 ghost use Rattle.yt_base.specs.Candidates.{all_candidates, further_candidates, AreAll};
 ghost use Rattle.yt_base.specs.Meanings.{fact_of};
+ghost use Rattle.yt_facts.specs.Courses.{is_ahead};
+ghost use Rattle.yt_facts.specs.Places.{HasAllThat};
 
 use super::PlainFacts;
 use std::collections::btree_set::Range;
@@ -24,6 +26,22 @@ impl PlainFacts {
                 .tuples
                 .range((Bound::Excluded(tuple), Bound::Unbounded)),
             None => self.tuples.range(..),
+        }
+    }
+
+    /// Its tuples in order, but for some that are of a lesser relation, or not above `past` where that is given.
+    pub(crate) fn ahead(&self, relation: u16, past: Option<&Tuple>) -> Range<'_, Tuple>
+        ensures all { HasAllThat (is_ahead relation (option_map fact_of (option_copied past.entry)))
+            self.now (map fact_of result) }
+        ensures in_order { IsRepository (map fact_of result) }
+    {
+        match past {
+            Some(_) => self.range(past),
+            None => {
+                let first = Tuple::least(relation);
+                self.tuples
+                    .range((Bound::Included(&first), Bound::Unbounded))
+            }
         }
     }
 

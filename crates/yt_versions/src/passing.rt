@@ -1,0 +1,74 @@
+//! Passing the taken tuples in order, beside tuples that are gone over.
+ghost use Rattle.std.specs.Prelude.{◌≡◌, ◌++◌, map, IfOk};
+ghost use Rattle.std.specs.Option.{option_copied, option_map, option_to_list};
+ghost use Rattle.std.specs.declared.cmp.Ordering.TheVariants.{Less};
+ghost use Rattle.yt_model.specs.Repository.{has, IsRepository};
+ghost use Rattle.yt_model.specs.Values.{Fact, fact_cmp};
+ghost use Rattle.yt_base.specs.Meanings.{fact_of};
+ghost use Rattle.yt_facts.specs.Runs.{left_of, run_of};
+ghost use Rattle.yt_versions.specs.Passed.{to_pass, AreToPass};
+
+use crate::handles::Handle;
+use std::alloc::Global;
+use std::cmp::Ordering;
+use yt_base::{List, Tuple, TupleList};
+use yt_facts::Run;
+use yt_memory::Memory;
+use yt_tree::Cursor;
+
+/// The taken tuples that are still to be passed.
+#[derive(Drop)]
+pub struct Passing<'a> {
+    // The first of them, and those behind it.
+    pub(crate) next: Option<&'a (Handle, ())>,
+    pub(crate) rest: Cursor<'a, Handle, ()>,
+}
+
+impl<'a> Passing<'a> {
+    /// All tuples that the cursor has before it.
+    pub fn of(rest: Cursor<'a, Handle, ()>) -> Passing<'a>
+        requires in_order { IsRepository (map (λ e. fact_of e.0) rest) }
+        ensures all { to_pass result ≡ map (λ e. fact_of e.0) rest.entry }
+        ensures ready { AreToPass result }
+    {
+        let mut rest = rest;
+        let next = rest.next();
+        Passing { next, rest }
+    }
+
+    /// Whether the tuple is among them. Those below it are passed.
+    pub fn has(&mut self, tuple: &Tuple) -> bool
+        requires ready { AreToPass self.old }
+        ensures answer { result ≡ has (to_pass self.old) (fact_of tuple.now) }
+        ensures above { (u : Fact) → fact_cmp (fact_of tuple.now) u ≡ Less →
+            has (to_pass self.new) u ≡ has (to_pass self.old) u }
+        ensures ready { AreToPass self.new }
+    {
+        while let Some(entry) = self.next {
+            match entry.0.get().cmp(tuple) {
+                Ordering::Less => self.next = self.rest.next(),
+                Ordering::Equal => return true,
+                Ordering::Greater => return false,
+            }
+        }
+        false
+    }
+
+    /// The tuples of the run that are not among them, copied. It is refused only for want of memory.
+    pub fn left(self, alloc: Global, run: Run<'_>) -> Result<TupleList, Memory>
+        requires ready { AreToPass self }
+        requires in_order { IsRepository (run_of run) }
+        ensures left { IfOk result (λ list.
+            map fact_of list.items ≡ left_of (to_pass self.entry) (run_of run.entry)) }
+    {
+        let mut passing = self;
+        let mut run = run;
+        let mut list = List::new(alloc);
+        while let Some(tuple) = run.next() {
+            if !passing.has(tuple) {
+                list.push(tuple.share()?)?;
+            }
+        }
+        Ok(list)
+    }
+}
