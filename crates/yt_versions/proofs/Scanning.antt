@@ -26,6 +26,7 @@ use Rattle.yt_tree.proofs.Changes.{find_none}
 use Rattle.yt_versions.specs.Cells.{value_in, values_cmp, cell_cmp, same_cell, cell_total}
 use Rattle.yt_versions.specs.Chains.{AreRows}
 use Rattle.yt_versions.specs.Indexed.{cell_of, cell_marks, is_further, IsIndex}
+use Rattle.yt_versions.specs.Spots.{spot}
 use Rattle.yt_versions.specs.Marked.{marks_at, no_marks, stands, visible}
 use Rattle.yt_versions.specs.Zones.{place_in}
 use Rattle.yt_versions.specs.declared.cells.Cell.{Cell}
@@ -252,7 +253,17 @@ module _ (n r c : ℕ) (d : Datum) (past : Option Fact) where
 
   -- ---- the index
 
-  module _ (rows : List (Tuple × Marks)) (cells : List (Cell × Marks)) (order : AreRows rows) (sorted : IsOrdered (on cell_of cell_cmp) cells) (index : IsIndex rows cells) (later : nat_lt 0 c ≡ true) where
+  -- On the shelf of the spot are the marks of all tuples that are scanned.
+  pub shelf_tells : (rows : List (Tuple × Marks)) (shelves : ℕ → List (Cell × Marks)) → IsIndex rows shelves → nat_lt 0 c ≡ true → {cells : List (Cell × Marks)} → cells ≡ shelves (spot r c (Some d))
+      → (u : Fact) → scanned u ≡ true → cell_marks cells c u ≡ marks_at rows u
+  shelf_tells rows shelves index later is u h =
+      let at : value_in (c, u) ≡ Some d = datum_there d (slice_get u.values c) (second (is_beyond past u) (has_at c d u) (second (is_of r u) (is_beyond past u && has_at c d u) h)) in
+      let of : u.relation ≡ r = eqb-true u.relation r (first (is_of r u) (is_beyond past u && has_at c d u) h) in
+      ap (λ es. cell_marks es c u) (is ∙ ap (λ o. shelves (spot r c o)) (sym at) ∙ ap (λ k. shelves (spot k c (value_in (c, u)))) (sym of))
+      ∙ index c u ∙ ap (λ b. cond b (marks_at rows u) no_marks) (further u h later)
+
+  module _ (rows : List (Tuple × Marks)) (cells : List (Cell × Marks)) (order : AreRows rows) (sorted : IsOrdered (on cell_of cell_cmp) cells)
+      (index : (u : Fact) → scanned u ≡ true → cell_marks cells c u ≡ marks_at rows u) where
     -- The cell of a tuple that is seen and scanned.
     pub record Held (u : Fact) : Type 0 where
       pub cell : Cell × Marks
@@ -261,7 +272,7 @@ module _ (n r c : ℕ) (d : Datum) (past : Option Fact) where
       pub passes : sought cell ≡ true
 
     held : (u : Fact) → has (visible n rows) u ≡ true → scanned u ≡ true → Held u
-    held u h k = by (find (λ e. same_cell (c, u) (cell_of e.0)) cells) refl (ap (stands n) (index c u ∙ ap (λ b. cond b (marks_at rows u) no_marks) (further u k later)) ∙ sym (seen_stands n rows order.order u) ∙ h)
+    held u h k = by (find (λ e. same_cell (c, u) (cell_of e.0)) cells) refl (ap (stands n) (index u k) ∙ sym (seen_stands n rows order.order u) ∙ h)
       where
         by : (o : Option (Cell × Marks)) → find (λ e. same_cell (c, u) (cell_of e.0)) cells ≡ o → stands n (unwrap_or (option_map (λ (e : Cell × Marks). e.1) o) no_marks) ≡ true → Held u
         by None f s = differ s
@@ -282,8 +293,7 @@ module _ (n r c : ℕ) (d : Datum) (past : Option Fact) where
         let u = fact_of e.0.tuple in
         let at : cell_marks cells e.0.column u ≡ e.1 =
         ap (λ o. unwrap_or (option_map (λ (z : Cell × Marks). z.1) o) no_marks) (found_at (on_total cell_of cell_total) sought cells sorted f) in
-        let same : marks_at rows u ≡ e.1 =
-        sym (index e.0.column u ∙ ap (λ b. cond b (marks_at rows u) no_marks) (ap (λ k. is_further k (length u.values)) (sought_column e h) ∙ further u (sought_tuple e h) later)) ∙ at in
+        let same : marks_at rows u ≡ e.1 = sym (index u (sought_tuple e h)) ∙ ap (λ k. cell_marks cells k u) (sym (sought_column e h)) ∙ at in
         seen_stands n rows order.order u ∙ ap (stands n) same ∙ sought_stands e h
 
     lower : (u : Fact) (e f : Cell × Marks) → (c, u) ≡ cell_of f.0 → sought e ≡ true → scanned u ≡ true → fact_cmp u (fact_of e.0.tuple) ≡ Less → cell_cmp (cell_of f.0) (cell_of e.0) ≡ Less
@@ -314,5 +324,5 @@ module _ (n r c : ℕ) (d : Datum) (past : Option Fact) where
       where
         by : (u : Fact) (b : Bool) → scanned u ≡ b → (b && stands n (cell_marks cells c u)) ≡ (has (visible n rows) u && b)
         by u true h =
-            ap (stands n) (index c u ∙ ap (λ b. cond b (marks_at rows u) no_marks) (further u h later)) ∙ sym (seen_stands n rows order.order u) ∙ sym (and-true (has (visible n rows) u))
+            ap (stands n) (index u h) ∙ sym (seen_stands n rows order.order u) ∙ sym (and-true (has (visible n rows) u))
         by u false h = sym (never (has (visible n rows) u))

@@ -11,7 +11,7 @@ use Rattle.yt_base.specs.Meanings.{fact_of}
 use Rattle.yt_base.specs.declared.tuples.Tuple.{Tuple}
 use Rattle.yt_model.specs.Values.{Datum, Fact, fact_cmp}
 use Rattle.yt_model.specs.Repository.{IsRepository}
-use Rattle.yt_model.specs.Cursors.{is_of, is_past, is_beyond, is_datum, is_scanned}
+use Rattle.yt_model.specs.Cursors.{is_of, is_past, is_beyond, is_datum, has_at, is_scanned}
 use Rattle.yt_model.proofs.Bools.{and-true}
 use Rattle.yt_tree.specs.Orders.{IsOrdered, is_sought}
 use Rattle.yt_versions.specs.Cells.{value_in}
@@ -91,6 +91,16 @@ pub lead_same : (n r : ℕ) (d : Datum) (past : Option Fact) (e : Tuple × Marks
 lead_same n r d past e =
     let u = fact_of e.0 in
     ap (λ b. b && stands n e.1) (lead_is r d past u ∙ ap (λ b. is_of r u && b) (swap (is_datum d (value_in (0, u))) (is_beyond past u))) ∙ swap (is_scanned r 0 d past u) (stands n e.1)
+
+-- The value in the column asked of each tuple of the relation.
+pub further_same : (n r c : ℕ) (d : Datum) (past : Option Fact) (e : Tuple × Marks)
+    → is_sought (λ k. place_of r past (fact_of k)) (λ f. stands n f.1 && has_at c d (fact_of f.0)) e ≡ (stands n e.1 && is_scanned r c d past (fact_of e.0))
+further_same n r c d past e = ap (λ b. b && (stands n e.1 && has_at c d (fact_of e.0))) (zone_is r past (fact_of e.0)) ∙ turned (is_of r (fact_of e.0)) (is_beyond past (fact_of e.0)) (stands n e.1) (has_at c d (fact_of e.0))
+  where
+    turned : (a b s h : Bool) → ((a && b) && (s && h)) ≡ (s && (a && (b && h)))
+    turned true true s h = refl
+    turned true false s h = swap false s
+    turned false b s h = swap false s
 
 -- The same of what is kept.
 pub seen_in_order : (n : ℕ) {inside es : List (Tuple × Marks)} → inside ≡ es → IsOrdered (on fact_of fact_cmp) inside → IsRepository (visible n es)

@@ -1,4 +1,5 @@
 -- Versions may go to other threads, and be seen there.
+use denote.RattleType.{RattleType}
 use denote.Param.Send.{IsSend, IsSync, sendable, view_send, view_sync}
 use Rattle.std.proofs.Crossing.{crosses, frees}
 use Rattle.std.proofs.Crossing as heap
@@ -11,6 +12,11 @@ use Rattle.yt_versions.specs.contracts.handles.Handle as handles
 use Rattle.yt_versions.specs.contracts.handles.Handle.TheInside as inside
 use Rattle.yt_versions.specs.contracts.marks.Marks as marks
 use Rattle.yt_versions.specs.contracts.cells.Cell as cells
+use Rattle.yt_versions.specs.contracts.spreads.Shelf as shelf
+use Rattle.yt_versions.specs.contracts.spreads.Room as room
+use Rattle.yt_versions.specs.contracts.spreads.Quarters as quarters
+use Rattle.yt_versions.specs.contracts.spreads.Quarters.TheInside as quarters_inside
+use Rattle.yt_versions.specs.contracts.spreads.Shelves as shelves
 use Rattle.yt_versions.specs.contracts.tables.Table as tables
 use Rattle.yt_versions.specs.contracts.taken.Taken as taken
 use Rattle.yt_versions.specs.contracts.versions.Versions as versions
@@ -48,11 +54,42 @@ cell_send = search (sendable, crosses, handle_send) depth 40
 cell_sync : IsSync cells.the_row
 cell_sync = search (sendable, crosses, handle_sync) depth 40
 
+module _ (T : RattleType) (ts : IsSend T) (ty : IsSync T) where
+  room_send : IsSend (room.the_row T)
+  room_send = search (sendable, ts.owned) depth 40 fits 4000
+
+  room_sync : IsSync (room.the_row T)
+  room_sync = search (sendable, ty.shared) depth 40 fits 4000
+
+  quarters_inside_send : IsSend (quarters_inside.the_row T)
+  quarters_inside_send = search (sendable, crosses, room_send, room_sync) depth 40 fits 4000
+
+  quarters_inside_sync : IsSync (quarters_inside.the_row T)
+  quarters_inside_sync = search (sendable, crosses, room_send, room_sync) depth 40 fits 4000
+
+  quarters_send : IsSend (quarters.the_row T)
+  quarters_send = view_send _ _ _ _ _ quarters_inside_send
+
+  quarters_sync : IsSync (quarters.the_row T)
+  quarters_sync = view_sync _ _ _ _ _ quarters_inside_sync
+
+shelf_send : IsSend shelf.the_row
+shelf_send = search (sendable, crosses, tree.crosses, marks_send, marks_sync, cell_send, cell_sync) depth 40 fits 4000
+
+shelf_sync : IsSync shelf.the_row
+shelf_sync = search (sendable, crosses, tree.crosses, marks_send, marks_sync, cell_send, cell_sync) depth 40 fits 4000
+
+shelves_send : IsSend shelves.the_row
+shelves_send = search (sendable, quarters_send, quarters_sync, shelf_send, shelf_sync) depth 40 fits 4000
+
+shelves_sync : IsSync shelves.the_row
+shelves_sync = search (sendable, quarters_send, quarters_sync, shelf_send, shelf_sync) depth 40 fits 4000
+
 table_send : IsSend tables.the_row
-table_send = search (sendable, crosses, tree.crosses, marks_send, marks_sync, handle_send, handle_sync, cell_send, cell_sync) depth 40 fits 4000
+table_send = search (sendable, crosses, tree.crosses, marks_send, marks_sync, handle_send, handle_sync, quarters_send, quarters_sync, shelves_send, shelves_sync) depth 40 fits 4000
 
 table_sync : IsSync tables.the_row
-table_sync = search (sendable, crosses, tree.crosses, marks_send, marks_sync, handle_send, handle_sync, cell_send, cell_sync) depth 40 fits 4000
+table_sync = search (sendable, crosses, tree.crosses, marks_send, marks_sync, handle_send, handle_sync, quarters_send, quarters_sync, shelves_send, shelves_sync) depth 40 fits 4000
 
 -- ---- the base
 

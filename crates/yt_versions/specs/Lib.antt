@@ -5,6 +5,8 @@ pub mod Marked
 pub mod Based
 pub mod Touches
 pub mod Cells
+pub mod Spots
+pub mod Spreads
 pub mod Zones
 pub mod ZoneLaws
 pub mod Indexed

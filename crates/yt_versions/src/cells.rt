@@ -6,8 +6,10 @@ ghost use Rattle.std.specs.Ordering.{on, as_partial_cmp, eq_by_cmp};
 ghost use Rattle.yt_base.specs.Meanings.{datum_of};
 ghost use Rattle.yt_versions.specs.Cells.{value_in, values_cmp, cell_cmp, cell_total};
 ghost use Rattle.yt_versions.specs.Indexed.{cell_of};
+ghost use Rattle.yt_versions.specs.Spots.{spot_of};
 
 use crate::handles::Handle;
+use crate::spots::spot;
 use std::alloc::AllocError;
 use std::cmp::Ordering;
 use yt_base::{Tuple, Value};
@@ -35,6 +37,13 @@ impl Cell {
         ensures { option_map datum_of (option_copied result) ≡ value_in (cell_of self.now) }
     {
         self.tuple.get().values.get(self.column)
+    }
+
+    /// Its spot.
+    pub fn spot(&self) -> u32
+        ensures { result ≡ spot_of (cell_of self.now) }
+    {
+        spot(self.tuple.get().relation, self.column, self.value())
     }
 }
 

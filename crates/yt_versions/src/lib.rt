@@ -5,12 +5,16 @@
 mod below;
 mod cells;
 mod crossing;
+mod edits;
 mod handles;
+mod indexes;
 mod laws;
 mod marks;
 mod passing;
 mod reading;
 mod searches;
+mod spots;
+mod spreads;
 mod tables;
 mod taken;
 mod versions;

@@ -1,6 +1,7 @@
 //! What is looked for among the marked tuples and their cells.
-ghost use Rattle.std.specs.Prelude.{◌≡◌, None, Some};
+ghost use Rattle.std.specs.Prelude.{◌≡◌, ◌&&◌, None, Some};
 ghost use Rattle.std.specs.Option.{option_map, option_copied};
+ghost use Rattle.yt_model.specs.Cursors.{has_at as has_datum_at};
 ghost use Rattle.yt_base.specs.Meanings.{fact_of, datum_of};
 ghost use Rattle.yt_versions.specs.Indexed.{cell_of};
 ghost use Rattle.yt_versions.specs.Marked.{is_marked, stands};
@@ -186,6 +187,45 @@ impl<'c> Show<Handle, Marks, Tuple> for Lead<'c> {
     }
 }
 
+/// What is of the relation, has the value in the column, comes after a tuple, where one is given, and is there for the update:
+/// asked of each tuple of the relation.
+#[derive(Drop)]
+pub struct Further<'c> {
+    pub number: u32,
+    pub relation: u16,
+    pub column: usize,
+    pub value: &'c Value,
+    pub past: Option<&'c Tuple>,
+}
+
+impl<'c> Search<Handle, Marks> for Further<'c> {
+    ghost place = { λ s k. place_of s.relation (option_map fact_of (option_copied s.past)) (fact_of k) };
+
+    ghost passes = { λ s e. stands s.number e.1 && has_datum_at s.column (datum_of s.value.now) (fact_of e.0) };
+
+    ghost stays_past = { λ s x y. of_past s.relation (option_map fact_of (option_copied s.past)) (fact_of x) (fact_of y) };
+
+    ghost stays_before = { λ s x y. of_before s.relation (option_map fact_of (option_copied s.past)) (fact_of x) (fact_of y) };
+
+    fn place(&self, key: &Handle) -> Ordering {
+        place_in_relation(self.relation, self.past, key.get())
+    }
+
+    fn passes(&self, entry: &(Handle, Marks)) -> bool {
+        entry.1.stands(self.number) && has_at(entry.0.get(), self.column, self.value)
+    }
+}
+
+impl<'c> Show<Handle, Marks, Tuple> for Further<'c> {
+    ghost shown = { λ e. e.0 };
+
+    fn show(entry: &(Handle, Marks)) -> &Tuple
+        ensures { result.now ≡ entry.now.0 }
+    {
+        entry.0.get()
+    }
+}
+
 /// The cells with the value in the column, whose tuple is of the relation, comes after a tuple, where one is given, and
 /// is there for the update.
 #[derive(Drop)]
@@ -258,5 +298,15 @@ fn place_in_relation(relation: u16, past: Option<&Tuple>, tuple: &Tuple) -> Orde
         Ordering::Less => Ordering::Less,
         Ordering::Equal => place_after(past, tuple),
         Ordering::Greater => Ordering::Greater,
+    }
+}
+
+// Whether the tuple has the value in the column.
+fn has_at(tuple: &Tuple, column: usize, value: &Value) -> bool
+    ensures answer { result ≡ has_datum_at column (datum_of value.now) (fact_of tuple.now) }
+{
+    match tuple.values.get(column) {
+        Some(there) => value == there,
+        None => false,
     }
 }

@@ -3,25 +3,30 @@ ghost use Rattle.std.specs.Prelude.{◌≡◌, [], length, map, IfOk, OnOk, OnEr
 ghost use Rattle.yt_base.specs.Meanings.{fact_of};
 ghost use Rattle.yt_tree.specs.Orders.{IsOrdered};
 ghost use Rattle.yt_versions.specs.Chains.{AreMarks, AreRows};
-ghost use Rattle.yt_versions.specs.Indexed.{CellHas, CellsHave, IsIndex, set_entry};
 ghost use Rattle.yt_versions.specs.Marked.{marks_at};
 ghost use Rattle.std.specs.Option.{option_map, option_copied};
 
-use crate::cells::Cell;
+use crate::edits::set;
 use crate::handles::Handle;
+use crate::indexes::{indexed, shared};
 use crate::marks::Marks;
-use crate::searches::{Beyond, Held, Lead, Scan, Written, Zone};
+use crate::searches::{Beyond, Further, Held, Lead, Scan, Written, Zone};
+use crate::spots::spot;
+use crate::spreads::{Spots, Spread};
 use std::alloc::{AllocError, Global};
 use std::marker::Model;
+use std::mem;
 use yt_base::{Column, List, Tuple, TupleList, Value};
 use yt_memory::Memory;
 use yt_tree::{Few, Share, Start, TreeMap};
 
-/// Tuples with their marks, in order, and an index of them by cells. Contracts see the tuples with their marks.
+/// Tuples with their marks, in order, and an index of them by cells. Contracts see the tuples with their marks. The index is
+/// changed in place, and let go where memory is wanted in the midst of that; without it the tuples of a relation are gone
+/// through.
 #[derive(Drop)]
 pub struct Table {
     rows: TreeMap<Handle, Marks>,
-    cells: TreeMap<Cell, Marks>,
+    index: Option<Spots>,
 }
 
 impl Model for Table {
@@ -32,11 +37,11 @@ impl Model for Table {
     ghost Value = { List (Tuple × Marks) };
 
     ghost use Rattle.yt_versions.specs.Chains.{AreRows};
-    ghost use Rattle.yt_versions.specs.Indexed.{IsIndex};
+    ghost use Rattle.yt_versions.specs.Indexed.{IsIndexed};
 
     ghost view = { λ t. t.rows };
 
-    ghost invariant = { λ t. AreRows t.rows × IsIndex t.rows t.cells };
+    ghost invariant = { λ t. AreRows t.rows × IsIndexed t.rows t.index };
 }
 
 impl Table {
@@ -49,7 +54,7 @@ impl Table {
     {
         Table {
             rows: TreeMap::new(),
-            cells: TreeMap::new(),
+            index: Some(Spread::none()),
         }
     }
 
@@ -60,7 +65,18 @@ impl Table {
     {
         Ok(Table {
             rows: self.rows.share()?,
-            cells: self.cells.share()?,
+            index: shared(&self.index)?,
+        })
+    }
+
+    /// The same table with the index, which this one then has no more, so that it may be changed in place.
+    pub fn lend(&mut self) -> Result<Table, AllocError>
+        ensures same { IfOk result (λ lent. lent ≡ self.old) }
+        ensures kept { self.new ≡ self.old }
+    {
+        Ok(Table {
+            rows: self.rows.share()?,
+            index: mem::replace(&mut self.index, None),
         })
     }
 
@@ -80,8 +96,8 @@ impl Table {
         }
     }
 
-    /// Puts these marks of the tuple in, among the tuples in place where no other handle shares them. It is refused only for
-    /// want of memory; the table is then as it was.
+    /// Puts these marks of the tuple in, in place where no other handle shares what is changed. It is refused only for want of
+    /// memory; the table is then as it was, without its index.
     pub fn put(&mut self, alloc: Global, key: Handle, marks: Marks) -> Result<(), Memory>
         requires in_order { AreMarks marks }
         ensures marks { OnOk result ((t : Fact) → marks_at self.new t ≡
@@ -89,10 +105,10 @@ impl Table {
         ensures in_order { OnOk result (AreRows self.new) }
         ensures err { OnErr result (self.new ≡ self.old) }
     {
-        let mut cells = self.cells.share()?;
-        set_cells(&mut cells, alloc, &key, &marks)?;
+        let index = mem::replace(&mut self.index, None);
+        let index = indexed(index, alloc, &key, &marks)?;
         set(&mut self.rows, alloc, key, marks)?;
-        self.cells = cells;
+        self.index = index;
         Ok(())
     }
 }
@@ -209,10 +225,25 @@ impl Table {
                 }),
             );
         }
-        let found = self.cells.find_in(&Scan {
+        let column = column as usize;
+        let Some(index) = &self.index else {
+            return tuple_in(
+                self.rows.find_in(&Further {
+                    number,
+                    relation,
+                    column,
+                    value,
+                    past,
+                }),
+            );
+        };
+        let Some(shelf) = index.shelf(spot(relation, column, Some(value))) else {
+            return None;
+        };
+        let found = shelf.cells.find_in(&Scan {
             number,
             relation,
-            column: column as usize,
+            column,
             value,
             past,
         });
@@ -275,74 +306,27 @@ impl Table {
                 past,
             });
         }
-        self.cells.gather(&Scan {
+        let column = column.number as usize;
+        let Some(index) = &self.index else {
+            return self.rows.gather(&Further {
+                number,
+                relation,
+                column,
+                value,
+                past,
+            });
+        };
+        let Some(shelf) = index.shelf(spot(relation, column, Some(value))) else {
+            return Few::new();
+        };
+        shelf.cells.gather(&Scan {
             number,
             relation,
-            column: column.number as usize,
+            column,
             value,
             past,
         })
     }
-}
-
-// Puts the marks at the key; takes the key out where they say that the tuple is nowhere. For want of memory nothing is
-// changed.
-fn set<K: Ord + Share>(
-    map: &mut TreeMap<K, Marks>,
-    alloc: Global,
-    key: K,
-    marks: Marks,
-) -> Result<(), Memory>
-    ensures ok { OnOk result (map.new ≡ set_entry K.cmp map.old key marks) }
-    ensures err { OnErr result (map.new ≡ map.old) }
-    ensures in_order { IsOrdered K.cmp map.new }
-{
-    if marks.is_nowhere() {
-        map.remove(&key)?;
-        return Ok(());
-    }
-    match map.put(alloc, key, marks) {
-        Ok(_) => return Ok(()),
-        Err(_) => return Err(Memory),
-    }
-}
-
-// Puts the marks at each further cell of the tuple.
-fn set_cells(
-    cells: &mut TreeMap<Cell, Marks>,
-    alloc: Global,
-    tuple: &Handle,
-    marks: &Marks,
-) -> Result<(), Memory>
-    ensures ok { OnOk result
-        (CellsHave (fact_of tuple.now) (length (fact_of tuple.now).values) marks.now cells.old
-        cells.new) }
-{
-    for column in 0..tuple.get().values.len() {
-        set_cell(cells, alloc, tuple, column, marks)?;
-    }
-    Ok(())
-}
-
-// Puts the marks at the cell of the tuple in this column, if it is not the first.
-fn set_cell(
-    cells: &mut TreeMap<Cell, Marks>,
-    alloc: Global,
-    tuple: &Handle,
-    column: usize,
-    marks: &Marks,
-) -> Result<(), Memory>
-    ensures ok { OnOk result (CellHas (fact_of tuple.now) column marks.now cells.old cells.new) }
-{
-    if column == 0 {
-        return Ok(());
-    }
-    let cell = Cell {
-        column,
-        tuple: tuple.share()?,
-    };
-    set(cells, alloc, cell, marks.share()?)?;
-    Ok(())
 }
 
 // The tuple of a row.

@@ -3,7 +3,8 @@ ghost use Rattle.std.specs.Prelude.{◌≡◌, ◌&&◌, cond, not, [], ◌∷�
 ghost use Rattle.yt_base.specs.Meanings.{fact_of, change_of};
 ghost use Rattle.yt_versions.specs.Chains.{AreMarks};
 ghost use Rattle.yt_versions.specs.Marked.{is_based, no_marks};
-ghost use Rattle.yt_versions.specs.Standing.{AreKept, StandFor, Published, Retracted, Folded, Wrote, is_left, known_at};
+ghost use Rattle.yt_versions.specs.Standing.{AreKept, StandFor, Published, Retracted, Folded, Wrote, bare, is_left, known_at};
+ghost use Rattle.yt_model.specs.Repository.{has};
 ghost use Rattle.yt_model.specs.Values.{Fact, same_fact};
 ghost use Rattle.yt_versions.specs.Touches.{touched_at, written_at, published_at, unwritten_at, retracted_at, settled_at, folded_at};
 ghost use Rattle.yt_versions.specs.Trails.{no_trails};
@@ -63,14 +64,15 @@ impl Versions {
     /// may go in place. It is refused only for want of memory; nothing is then changed.
     pub fn hand_over(&mut self) -> Result<Versions, Memory>
         ensures same { IfOk result (λ versions. versions ≡ self.old) }
+        ensures left { OnOk result (self.new ≡ bare self.old) }
         ensures err { OnErr result (self.new ≡ self.old) }
     {
-        let bare = Versions {
+        let left = Versions {
             base: Arc::try_clone(&self.base)?,
             taken: Taken::none(),
             table: Table::none(),
         };
-        Ok(mem::replace(self, bare))
+        Ok(mem::replace(self, left))
     }
 
     /// Another handle to the same versions, in constant time. It is refused only for want of memory.
@@ -82,6 +84,18 @@ impl Versions {
             taken: self.taken.share()?,
             table: self.table.share()?,
         })
+    }
+
+    // The same versions with the index of the table, which these then have no more: it is changed in place with the versions
+    // that take the place of these.
+    fn lend(&mut self) -> Result<Versions, Memory>
+        ensures same { IfOk result (λ versions. versions ≡ self.old) }
+        ensures kept { self.new ≡ self.old }
+    {
+        let base = Arc::try_clone(&self.base)?;
+        let taken = self.taken.share()?;
+        let table = self.table.lend()?;
+        Ok(Versions { base, taken, table })
     }
 
     /// Adds writes behind those of the update. It is refused only for want of memory; nothing is then changed.
@@ -96,7 +110,7 @@ impl Versions {
             self.write(alloc, number, write)?;
             return Ok(());
         }
-        let new = with_writes(self.share()?, alloc, number, writes)?;
+        let new = with_writes(self.lend()?, alloc, number, writes)?;
         *self = new;
         Ok(())
     }
@@ -107,7 +121,7 @@ impl Versions {
         ensures ok { OnOk result (Retracted number (map change_of writes.now) self.old self.new) }
         ensures err { OnErr result (self.new ≡ self.old) }
     {
-        let new = without_writes(self.share()?, alloc, number, writes)?;
+        let new = without_writes(self.lend()?, alloc, number, writes)?;
         *self = new;
         Ok(())
     }
@@ -119,7 +133,7 @@ impl Versions {
         ensures ok { OnOk result (Folded number (map change_of writes.now) self.old self.new) }
         ensures err { OnErr result (self.new ≡ self.old) }
     {
-        let new = with_settled(self.share()?, alloc, number, writes)?;
+        let new = with_settled(self.lend()?, alloc, number, writes)?;
         *self = new;
         Ok(())
     }
@@ -174,26 +188,27 @@ impl Versions {
     }
 
     // What is known of the tuple, with a handle of it.
-    fn known(&self, tuple: &Tuple) -> Result<(Handle, Marks), Memory>
+    fn known(&self, in_base: bool, tuple: &Tuple) -> Result<(Handle, Marks), Memory>
+        requires in_base { in_base ≡ has self.now.base (fact_of tuple.now) }
         ensures tuple { IfOk result (λ e. fact_of e.0 ≡ fact_of tuple.now) }
         ensures marks { IfOk result (λ e. e.1 ≡ known_at self.now (fact_of tuple.now)) }
         ensures in_order { IfOk result (λ e. AreMarks e.1) }
     {
-        if self.has_left(tuple) {
+        if in_base && !self.taken.contains(tuple) {
             return Ok((Handle::new(tuple.share()?), Marks::based()));
         }
         self.table.entry(tuple)
     }
 
     // Makes these marks known of the tuple. For want of memory nothing is changed.
-    fn put(&mut self, alloc: Global, key: Handle, marks: Marks) -> Result<(), Memory>
+    fn put(&mut self, alloc: Global, in_base: bool, key: Handle, marks: Marks) -> Result<(), Memory>
+        requires in_base { in_base ≡ has self.old.base (fact_of key) }
         requires in_order { AreMarks marks }
         ensures known { OnOk result ((t : Fact)
             → known_at self.new t ≡ cond (same_fact t (fact_of key)) marks (known_at self.old t)) }
         ensures kept { OnOk result (AreKept self.new) }
         ensures err { OnErr result (self.new ≡ self.old) }
     {
-        let in_base = self.base.contains(key.get());
         let (takes, told) = told_of(in_base, marks);
         let taken = self.taken.share()?.set(alloc, &key, takes)?;
         self.table.put(alloc, key, told)?;
@@ -208,9 +223,10 @@ impl Versions {
         ensures kept { OnOk result (AreKept self.new) }
         ensures err { OnErr result (self.new ≡ self.old) }
     {
-        let (key, mut marks) = self.known(tuple)?;
+        let in_base = self.base.contains(tuple);
+        let (key, mut marks) = self.known(in_base, tuple)?;
         marks.touch(alloc, touch)?;
-        self.put(alloc, key, marks)?;
+        self.put(alloc, in_base, key, marks)?;
         Ok(())
     }
 

@@ -1,16 +1,15 @@
-use Rattle.std.proofs.Common.{ap, refl, ◌∙◌, cond, length, subst}
+use Rattle.std.proofs.Common.{ap, refl, sym, ◌∙◌, cond, subst}
 use Rattle.yt_base.specs.Meanings.{fact_of}
 use Rattle.yt_model.specs.Values.{same_fact}
-use Rattle.yt_versions.specs.Indexed.{CellsHave}
+use Rattle.yt_versions.specs.Indexed.{IsIndexed}
 use Rattle.yt_versions.specs.Marked.{marks_at}
-use Rattle.yt_versions.proofs.Setting.{row_set, rows_set, index_kept}
+use Rattle.yt_versions.proofs.Setting.{row_set, rows_set, indexed_kept}
 use Rattle.yt_versions.proofs.tables.Table.put.Goals as goal
 
 pub invariant_of-self-2 : goal.invariant_of-self-2
 invariant_of-self-2 c = (
   rows_set c.self.inside.rows c.args.key c.args.marks c.in_ok-set.ensures.ok c.in_ok-set.ensures.in_order c.self.invariant.0.marks c.requires.in_order,
-  index_kept (fact_of c.args.key) c.args.marks c.self.inside.rows c.set.new.map c.self.inside.cells c.set_cells.new.cells c.self.invariant.1
-      (subst (λ es. CellsHave (fact_of c.args.key) (length (fact_of c.args.key).values) c.args.marks es c.set_cells.new.cells) c.in_ok-cells.ensures.same c.in_ok-set_cells.ensures.ok)
+  indexed_kept (fact_of c.args.key) c.args.marks c.self.inside.rows c.set.new.map c.replace-index.result c.in_ok-index.index (subst (IsIndexed c.self.inside.rows) (sym c.replace-index.ensures.value) c.self.invariant.1) c.in_ok-index.ensures.ok
       (row_set c.self.inside.rows c.set.new.map c.args.key (fact_of c.args.key) c.args.marks c.in_ok-set.ensures.ok refl),
 )
 

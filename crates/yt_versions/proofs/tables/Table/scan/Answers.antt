@@ -1,13 +1,19 @@
-use Rattle.std.proofs.Common.{ap, sym, ◌∙◌, Some}
+use Rattle.std.proofs.Common.{ap, sym, ◌∙◌, ◌&&◌, refl, [], Some}
 use Rattle.std.proofs.lemmas.Bool.{lt-ltb}
 use Rattle.std.specs.Option.{option_map, option_copied}
 use Rattle.yt_base.specs.Meanings.{fact_of, datum_of}
-use Rattle.yt_model.specs.Cursors.{is_scanned, scan_of}
+use Rattle.yt_model.specs.Cursors.{is_scanned, has_at, scan_of}
 use Rattle.yt_versions.specs.Marked.{stands, visible}
-use Rattle.yt_versions.specs.Zones.{place_lead}
-use Rattle.yt_versions.proofs.Scanning.{scan_none, scan_some}
-use Rattle.yt_versions.proofs.Seeing.{lead_same, seen_by, seen_in_order}
-use Rattle.yt_versions.proofs.Setting.{positive}
+use Rattle.yt_versions.specs.Zones.{place_lead, place_of}
+use Rattle.yt_versions.specs.declared.marks.Marks.{Marks}
+use Rattle.yt_versions.specs.Cells.{cell_cmp}
+use Rattle.yt_versions.specs.Indexed.{cell_of}
+use Rattle.yt_versions.specs.Spreads.{on_spots}
+use Rattle.std.specs.Ordering.{on}
+use Rattle.yt_tree.proofs.Keeping.{ordered_empty}
+use Rattle.yt_versions.proofs.Scanning.{scan_none, scan_some, shelf_tells}
+use Rattle.yt_versions.proofs.Seeing.{lead_same, further_same, seen_by, seen_in_order}
+use Rattle.yt_versions.proofs.Setting.{positive, index_there}
 use Rattle.yt_versions.proofs.tables.Table.scan.Goals as goal
 
 pub returns-then-column-eq0-clause-found : goal.returns-then-column-eq0-clause-found
@@ -23,24 +29,62 @@ returns-then-column-eq0-clause-found c =
 pub returns-then-column-eq0-clause-in_order : goal.returns-then-column-eq0-clause-in_order
 returns-then-column-eq0-clause-in_order c = seen_in_order c.args.number c.self.view_is c.find_in.ensures.in_order
 
-pub returns-in-Some-clause-found : goal.returns-in-Some-clause-found
-returns-in-Some-clause-found c =
+pub returns-in_default-clause-found : goal.returns-in_default-clause-found
+returns-in_default-clause-found c =
+    let n = c.args.number in
+    let r = c.args.relation in
+    let k = c.args.column in
+    let d = datum_of c.args.value.now in
+    let past = option_map fact_of (option_copied c.args.past) in
+    seen_by n (is_scanned r k d past) (λ k. place_of r past (fact_of k)) (λ f. stands n f.1 && has_at k d (fact_of f.0)) (further_same n r k d past) c.self.inside.rows _ _ c.find_in-in_default.ensures.found c.tuple_in-in_default.ensures
+    ∙ ap (λ es. scan_of (visible n es) r k d past) c.self.view_is
+
+pub returns-in_default-clause-in_order : goal.returns-in_default-clause-in_order
+returns-in_default-clause-in_order c = seen_in_order c.args.number c.self.view_is c.self.invariant.0.order
+
+pub returns-in_default-shelf-clause-found : goal.returns-in_default-shelf-clause-found
+returns-in_default-shelf-clause-found c =
     let n = c.args.number in
     let d = datum_of c.args.value.now in
     let past = option_map fact_of (option_copied c.args.past) in
-    ap (λ t. Some (fact_of t)) c.get.ensures
-    ∙ sym (scan_some n c.args.relation c.args.column d past c.self.inside.rows c.self.inside.cells c.self.invariant.0 c.in-Some.ensures.in_order c.self.invariant.1 (lt-ltb 0 c.args.column (positive c.args.column c.if-column-eq0.false)) (sym c.in-Some.ensures.found))
+    let rows = c.self.inside.rows in
+    let shelves = on_spots c.in-Some.index in
+    sym (scan_none n c.args.relation c.args.column d past rows [] c.self.invariant.0 (ordered_empty {V = Marks} (on cell_of cell_cmp) refl)
+    (shelf_tells n c.args.relation c.args.column d past rows shelves (index_there rows c.in-Some.index c.self.invariant.1 c.in-Some.is) (lt-ltb 0 c.args.column (positive c.args.column c.if-column-eq0.false)) (c.in_default-shelf.ensures.shelf ∙ ap shelves c.spot.ensures.spot))
+    refl)
     ∙ ap (λ es. scan_of (visible n es) c.args.relation c.args.column d past) c.self.view_is
 
-pub returns-in-Some-clause-in_order : goal.returns-in-Some-clause-in_order
-returns-in-Some-clause-in_order c = seen_in_order c.args.number c.self.view_is c.self.invariant.0.order
+pub returns-in_default-shelf-clause-in_order : goal.returns-in_default-shelf-clause-in_order
+returns-in_default-shelf-clause-in_order c = seen_in_order c.args.number c.self.view_is c.self.invariant.0.order
+
+pub returns-in-Some-found-clause-found : goal.returns-in-Some-found-clause-found
+returns-in-Some-found-clause-found c =
+    let n = c.args.number in
+    let d = datum_of c.args.value.now in
+    let past = option_map fact_of (option_copied c.args.past) in
+    let rows = c.self.inside.rows in
+    let shelves = on_spots c.in-Some.index in
+    let cells = c.in-Some-shelf.shelf.now.cells in
+    ap (λ t. Some (fact_of t)) c.get.ensures
+    ∙ sym (scan_some n c.args.relation c.args.column d past rows cells c.self.invariant.0 c.in-Some-found.ensures.in_order
+    (shelf_tells n c.args.relation c.args.column d past rows shelves (index_there rows c.in-Some.index c.self.invariant.1 c.in-Some.is) (lt-ltb 0 c.args.column (positive c.args.column c.if-column-eq0.false)) (c.in-Some-shelf.ensures.shelf ∙ ap shelves c.spot.ensures.spot))
+    (sym c.in-Some-found.ensures.found))
+    ∙ ap (λ es. scan_of (visible n es) c.args.relation c.args.column d past) c.self.view_is
+
+pub returns-in-Some-found-clause-in_order : goal.returns-in-Some-found-clause-in_order
+returns-in-Some-found-clause-in_order c = seen_in_order c.args.number c.self.view_is c.self.invariant.0.order
 
 pub returns-in-None-clause-found : goal.returns-in-None-clause-found
 returns-in-None-clause-found c =
     let n = c.args.number in
     let d = datum_of c.args.value.now in
     let past = option_map fact_of (option_copied c.args.past) in
-    sym (scan_none n c.args.relation c.args.column d past c.self.inside.rows c.self.inside.cells c.self.invariant.0 c.in-None.ensures.in_order c.self.invariant.1 (lt-ltb 0 c.args.column (positive c.args.column c.if-column-eq0.false)) (sym c.in-None.ensures.found))
+    let rows = c.self.inside.rows in
+    let shelves = on_spots c.in-Some.index in
+    let cells = c.in-Some-shelf.shelf.now.cells in
+    sym (scan_none n c.args.relation c.args.column d past rows cells c.self.invariant.0 c.in-None.ensures.in_order
+    (shelf_tells n c.args.relation c.args.column d past rows shelves (index_there rows c.in-Some.index c.self.invariant.1 c.in-Some.is) (lt-ltb 0 c.args.column (positive c.args.column c.if-column-eq0.false)) (c.in-Some-shelf.ensures.shelf ∙ ap shelves c.spot.ensures.spot))
+    (sym c.in-None.ensures.found))
     ∙ ap (λ es. scan_of (visible n es) c.args.relation c.args.column d past) c.self.view_is
 
 pub returns-in-None-clause-in_order : goal.returns-in-None-clause-in_order

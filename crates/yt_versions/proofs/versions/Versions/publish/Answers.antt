@@ -11,7 +11,7 @@ pub returns-clause-ok : goal.returns-clause-ok
 returns-clause-ok c =
     let ws = map change_of c.args.writes.now in
     published_stands c.args.number ws c.args.self.now c.in_ok-new.new c.in_ok-new.ensures.kept
-    (λ t. c.in_ok-new.ensures.known t ∙ ap (λ (v : Kept). published_at c.args.number ws t (known_at v t)) c.in_ok-share.ensures.same)
+    (λ t. c.in_ok-new.ensures.known t ∙ ap (λ (v : Kept). published_at c.args.number ws t (known_at v t)) c.in_ok-lend.ensures.same)
 
 pub returns-in-Some-clause-ok : goal.returns-in-Some-clause-ok
 returns-in-Some-clause-ok c =

@@ -1,4 +1,4 @@
-use Rattle.std.proofs.Common.{◌≡◌, ap, refl, ◌∙◌, ◌&&◌, not, cond, List}
+use Rattle.std.proofs.Common.{◌≡◌, ap, refl, sym, ◌∙◌, ◌&&◌, not, cond, List}
 use Rattle.yt_base.specs.Meanings.{fact_of}
 use Rattle.yt_model.specs.Repository.{has}
 use Rattle.yt_model.specs.Values.{Fact, same_fact}
@@ -12,8 +12,8 @@ returns-clause-known c t =
     let old : Kept = record { base = c.self.inside.base.value; taken = c.self.inside.taken; rows = c.self.inside.table } in
     let s = fact_of c.args.key in
     let m = c.args.marks in
-    let based = c.contains-in_base.result in
-    let there : based ≡ has old.base s = c.contains-in_base.ensures.answer ∙ (λ i. has (c.deref.ensures i) (fact_of (c.get.ensures i))) in
+    let based = c.args.in_base in
+    let there : based ≡ has old.base s = c.requires.in_base ∙ ap (λ (v : Kept). has v.base s) (sym c.self.view_is) in
     let takes : (u : Fact) → has c.in_ok-taken.taken u ≡ cond (same_fact u s) (based && not (based && is_based m)) (has old.taken u) =
     λ u. c.in_ok-taken.ensures.set u ∙ ap (λ b. cond (same_fact u s) b (has c.in_ok-share.field-0 u)) c.told_of-takes.ensures.takes
     ∙ ap (λ (D : List Fact). cond (same_fact u s) (based && not (based && is_based m)) (has D u)) c.in_ok-share.ensures.same in
@@ -26,8 +26,8 @@ returns-clause-kept c =
     let old : Kept = record { base = c.self.inside.base.value; taken = c.self.inside.taken; rows = c.self.inside.table } in
     let s = fact_of c.args.key in
     let m = c.args.marks in
-    let based = c.contains-in_base.result in
-    let there : based ≡ has old.base s = c.contains-in_base.ensures.answer ∙ (λ i. has (c.deref.ensures i) (fact_of (c.get.ensures i))) in
+    let based = c.args.in_base in
+    let there : based ≡ has old.base s = c.requires.in_base ∙ ap (λ (v : Kept). has v.base s) (sym c.self.view_is) in
     let takes : (u : Fact) → has c.in_ok-taken.taken u ≡ cond (same_fact u s) (based && not (based && is_based m)) (has old.taken u) =
     λ u. c.in_ok-taken.ensures.set u ∙ ap (λ b. cond (same_fact u s) b (has c.in_ok-share.field-0 u)) c.told_of-takes.ensures.takes
     ∙ ap (λ (D : List Fact). cond (same_fact u s) (based && not (based && is_based m)) (has D u)) c.in_ok-share.ensures.same in
@@ -40,8 +40,8 @@ invariant_of-self-2 c =
     let old : Kept = record { base = c.self.inside.base.value; taken = c.self.inside.taken; rows = c.self.inside.table } in
     let s = fact_of c.args.key in
     let m = c.args.marks in
-    let based = c.contains-in_base.result in
-    let there : based ≡ has old.base s = c.contains-in_base.ensures.answer ∙ (λ i. has (c.deref.ensures i) (fact_of (c.get.ensures i))) in
+    let based = c.args.in_base in
+    let there : based ≡ has old.base s = c.requires.in_base ∙ ap (λ (v : Kept). has v.base s) (sym c.self.view_is) in
     let takes : (u : Fact) → has c.in_ok-taken.taken u ≡ cond (same_fact u s) (based && not (based && is_based m)) (has old.taken u) =
     λ u. c.in_ok-taken.ensures.set u ∙ ap (λ b. cond (same_fact u s) b (has c.in_ok-share.field-0 u)) c.told_of-takes.ensures.takes
     ∙ ap (λ (D : List Fact). cond (same_fact u s) (based && not (based && is_based m)) (has D u)) c.in_ok-share.ensures.same in

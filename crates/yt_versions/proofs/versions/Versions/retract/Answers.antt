@@ -9,4 +9,4 @@ pub returns-clause-ok : goal.returns-clause-ok
 returns-clause-ok c =
     let ws = map change_of c.args.writes.now in
     retracted_stands c.args.number ws c.args.self.now c.in_ok-new.new c.in_ok-new.ensures.kept
-    (λ t. c.in_ok-new.ensures.known t ∙ ap (λ (v : Kept). retracted_at c.args.number ws t (known_at v t)) c.in_ok-share.ensures.same)
+    (λ t. c.in_ok-new.ensures.known t ∙ ap (λ (v : Kept). retracted_at c.args.number ws t (known_at v t)) c.in_ok-lend.ensures.same)
