@@ -16,7 +16,7 @@ ghost use Rattle.yt_base.specs.Contents.{changes_of};
 use std::alloc::Global;
 use yt_base::{Direction, FORCE_RELATION, Facts, Mapping, Memory, Tuple, Value, Write, WriteList};
 use yt_query::Answer;
-use yt_violation::{Scope, first_violation};
+use yt_violation::{Scope, first_image as violating_image};
 
 /// Which violations count: every one, or those that the own writes caused in a direction.
 #[derive(Clone, Copy)]
@@ -120,8 +120,8 @@ pub(crate) fn first_image<F: Facts>(
     let Some(mapping) = mapping else {
         return Ok(Answer::Nothing);
     };
-    match first_violation(alloc, mapping, facts, scope)? {
-        Some(violation) => Ok(Answer::Image(violation.image)),
+    match violating_image(alloc, mapping, facts, scope)? {
+        Some(image) => Ok(Answer::Image(image)),
         None => Ok(Answer::Nothing),
     }
 }

@@ -8,6 +8,6 @@ mod remembered;
 mod scope;
 mod unmet;
 
-pub use crate::first::{first_violation, holds};
+pub use crate::first::{first_image, first_violation, holds};
 pub use crate::scope::Scope;
 pub use yt_match::Matched;
