@@ -29,10 +29,6 @@ has_query f (Occurs u k) nothing = f.exposed
 abbrev pub has_read : Footprint → Read → Bool
 has_read f r = has_query f r.query (is_nothing r.reply)
 
--- Every footprint has the read.
-abbrev pub IsFree : Read → Type 0
-IsFree r = (f : Footprint) → has_read f r ≡ true
-
 -- It is one of an attempt with these own writes and these reads: it has each of them, and any write may meet a read where they
 -- put mappings in force.
 pub record Covers (f : Footprint) (own : List Change) (rs : List Read) : Type 0 where

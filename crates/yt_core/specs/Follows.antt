@@ -51,7 +51,7 @@ pub record AreSame (rs rs' : List Record) : Type 0 where
 
 -- The plan as callers see it.
 abbrev pub meant_of : ℕ → Plan → PlanMeant
-meant_of n plan = record { update = n; program = plan.program; reads = map read_of plan.reads.items }
+meant_of n plan = record { update = n; program = plan.program; reads = reads_in plan.reads.items }
 
 -- The plan is that of a step of the record, over something.
 pub record IsPlanFor (r : Record) (plan : Plan) : Type 0 where

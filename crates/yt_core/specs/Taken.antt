@@ -32,7 +32,7 @@ pub record IsReadySomewhere (r : Record) : Type 0 where
 pub record IsHeldBy (ms : List Rule) (v : Kept) (r : Record) : Type 0 where
   pub applied : seen (suc r.program.attempt.number) v ≡ apply (seen r.program.attempt.number v) r.program.attempt.own
   pub few : r.program.attempt.number + 1 < 2 ^ 32
-  pub valid : AreValidOver ms (seen r.program.attempt.number v) r.program.attempt (map read_of r.log.items)
+  pub valid : AreValidOver ms (seen r.program.attempt.number v) r.program.attempt (reads_in r.log.items)
 
 -- It plans the next step of the record's attempt over what its update sees.
 pub record IsSnapshotOf (ms : List Rule) (B : ℕ) (v : Kept) (r : Record) (p : PlanMeant) : Type 0 where
