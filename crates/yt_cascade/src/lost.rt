@@ -1,5 +1,5 @@
 //! What is lost below an update: the trails of the updates that are restarted.
-ghost use Rattle.std.specs.Prelude.{◌≡◌, ◌+◌, ◌-◌, ◌<◌, ◌^◌, suc, [], ◌∷◌, length, List, map, IfOk, OnOk};
+ghost use Rattle.std.specs.Prelude.{◌≡◌, ◌+◌, ◌-◌, ◌<◌, ◌^◌, [], ◌∷◌, length, List, map, IfOk, OnOk};
 ghost use Rattle.std.specs.Option.{option_map};
 ghost use Rattle.yt_base.specs.Contents.{rules_in};
 ghost use Rattle.yt_base.specs.Meanings.{change_of};
@@ -112,7 +112,7 @@ impl<'r> Lost<'r> {
     ) -> Result<Option<Numbered>, Memory>
         requires fits { before + length (reads_of entry.now) < 2 ^ 64 }
         ensures first { IfOk result (λ found. option_map numbered_of found ≡ first_reached_from
-            (rules_in mappings.now) self.now.members.items (suc before) (reads_of entry.now)) }
+            (rules_in mappings.now) self.now.members.items (before + 1) (reads_of entry.now)) }
     {
         match entry {
             Logged::Asked(read) => self.reached_read(alloc, mappings, before + 1, read),
@@ -130,7 +130,7 @@ impl<'r> Lost<'r> {
     ) -> Result<Option<Numbered>, Memory>
         requires fits { before + (run.now.end - run.now.start) < 2 ^ 64 }
         ensures first { IfOk result (λ found. option_map numbered_of found ≡ first_reached_from
-            (rules_in mappings.now) self.now.members.items (suc before)
+            (rules_in mappings.now) self.now.members.items (before + 1)
             (passing run.now.start (run.now.end - run.now.start) run.now.own)) }
     {
         let mut number = before;

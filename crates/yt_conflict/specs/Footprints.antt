@@ -1,5 +1,5 @@
 -- What an attempt has written and asked, so far as a write must have to do with it to meet one of its reads.
-use Rattle.std.specs.Prelude.{◌≡◌, Bool, true, false, ◌||◌, List, ◌++◌}
+use Rattle.std.specs.Prelude.{◌≡◌, Bool, true, ◌||◌, List, ◌++◌}
 use Rattle.std.specs.List.{list_any, list_all}
 use Rattle.yt_model.specs.Queries.{Query, Present, Violation, Specific, Occurs}
 use Rattle.yt_model.specs.Repository.{Change}

@@ -1,5 +1,5 @@
 //! The first of an attempt's logged reads that has another value now.
-ghost use Rattle.std.specs.Prelude.{◌≡◌, ◌+◌, ◌-◌, ◌<◌, ◌^◌, suc, [], ◌∷◌, length, map, IfOk, OnOk};
+ghost use Rattle.std.specs.Prelude.{◌≡◌, ◌+◌, ◌-◌, ◌<◌, ◌^◌, [], ◌∷◌, length, map, IfOk, OnOk};
 ghost use Rattle.std.specs.Option.{option_map};
 ghost use Rattle.yt_base.specs.Meanings.{change_of, heading_of};
 ghost use Rattle.yt_query.specs.Meanings.{finds_none as finds_none_lem, passing, read_of, reads_in, reads_of};
@@ -72,13 +72,28 @@ fn first_in<F: Facts>(
         return Ok(None);
     }
     let mut view = View::new(alloc, below);
+    let found = changed_in(alloc, &reader, trails, below, &mut view, log)?;
+    Ok(found)
+}
+
+// The first read of the log that is met and has another value now. The view has no own write yet.
+fn changed_in<'a, F: Facts>(
+    alloc: Global,
+    reader: &Reader<'_>,
+    trails: &[Trail<'_>],
+    below: &'a F,
+    view: &mut View<'a, F>,
+    log: &[Logged],
+) -> Result<Option<Changed>, Memory>
+    requires sees { SeesFirst (F.tuples below.now) (map change_of reader.now.own.now) 0 view.old }
+    ensures first { IfOk result (λ found. option_map changed_of found ≡
+        changed_from reader.now trails.now (F.tuples below.now) 1 (reads_in log.now)) }
+{
     let mut seen = 0;
     let mut number = 0;
     'entries: for entry in log {
         let all = entry.count_on(number)?;
-        let found = changed_by(
-            alloc, &reader, trails, below, &mut view, &mut seen, number, entry,
-        )?;
+        let found = changed_by(alloc, reader, trails, below, view, &mut seen, number, entry)?;
         if let Some(changed) = found {
             return Ok(Some(changed));
         }
@@ -104,7 +119,7 @@ fn changed_by<'a, F: Facts>(
     ensures sees { OnOk result
         (SeesFirst (F.tuples below.now) (map change_of reader.now.own.now) seen.new view.new) }
     ensures first { IfOk result (λ found. option_map changed_of found ≡
-        changed_from reader.now trails.now (F.tuples below.now) (suc before) (reads_of entry.now)) }
+        changed_from reader.now trails.now (F.tuples below.now) (before + 1) (reads_of entry.now)) }
 {
     match entry {
         Logged::Asked(read) => {
@@ -132,7 +147,7 @@ fn changed_in_run<'a, F: Facts>(
     ensures sees { OnOk result
         (SeesFirst (F.tuples below.now) (map change_of reader.now.own.now) seen.new view.new) }
     ensures first { IfOk result (λ found. option_map changed_of found ≡
-        changed_from reader.now trails.now (F.tuples below.now) (suc before)
+        changed_from reader.now trails.now (F.tuples below.now) (before + 1)
         (passing run.now.start (run.now.end - run.now.start) run.now.own)) }
 {
     let mut number = before;

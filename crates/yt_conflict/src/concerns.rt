@@ -87,7 +87,8 @@ impl<'r> Reader<'r> {
             (heading_of self.now.direction) (map change_of self.now.own.now) self.now.sense
             (trails_of trails.now) (reads_in log.now) }
     {
-        log.iter().any(|entry| self.meets_entry_apart(trails, entry))
+        log.iter()
+            .any(|entry| self.meets_entry_apart(trails, entry))
     }
 
     // Whether one meets a read of the entry. Those that a look passed found none.

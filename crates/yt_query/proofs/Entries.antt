@@ -1,8 +1,7 @@
 -- The reads of a log, entry by entry.
-use Rattle.std.proofs.Common.{◌≡◌, ◌∙◌, ap, refl, sym, arith, ℕ, zero, suc, ◌+◌, ◌-◌, ◌<◌, ◌≤◌, ◌||◌, ◌&&◌, Bool, List, [], ◌∷◌, ◌++◌, append_assoc, append-nil, length, get_or, drop, add-one, drop-cons}
+use Rattle.std.proofs.Common.{◌≡◌, ◌∙◌, ap, refl, sym, arith, ℕ, zero, suc, ◌+◌, ◌-◌, ◌<◌, ◌≤◌, ◌||◌, ◌&&◌, Bool, List, [], ◌∷◌, ◌++◌, append_assoc, append-nil, map, length, get_or, drop, add-one, drop-cons}
 use Rattle.std.specs.List.{list_all, list_any}
-use Rattle.std.proofs.lemmas.List.Folds.{list_all-append}
-use Rattle.yt_model.proofs.Searches.{any_join}
+use Rattle.std.proofs.lemmas.List.Folds.{list_all-append, list_any-append}
 use Rattle.yt_query.specs.Meanings.{Read, finds_none, passing, reads_in, reads_of}
 use Rattle.yt_query.specs.declared.log.Logged.{Logged}
 
@@ -23,14 +22,14 @@ from_here es i e h is =
     ∙ ap (λ k. reads_of e ++ reads_in (drop k es)) (sym (add-one i))
 
 -- Whether some read passes a test, entry by entry.
-pub any_in : (p : Read → Bool) (es : List Logged) → list_any p (reads_in es) ≡ list_any (λ e. list_any p (reads_of e)) es
+pub any_in : (p : Read → Bool) (es : List Logged) → list_any (list_any p) (map reads_of es) ≡ list_any p (reads_in es)
 any_in p [] = refl
-any_in p (e ∷ es) = any_join p (reads_of e) (reads_in es) ∙ ap (λ b. list_any p (reads_of e) || b) (any_in p es)
+any_in p (e ∷ es) = ap (λ b. list_any p (reads_of e) || b) (any_in p es) ∙ sym (list_any-append p (reads_of e) (reads_in es))
 
 -- Whether all of them do.
-pub all_in : (p : Read → Bool) (es : List Logged) → list_all p (reads_in es) ≡ list_all (λ e. list_all p (reads_of e)) es
+pub all_in : (p : Read → Bool) (es : List Logged) → list_all (list_all p) (map reads_of es) ≡ list_all p (reads_in es)
 all_in p [] = refl
-all_in p (e ∷ es) = list_all-append p (reads_of e) (reads_in es) ∙ ap (λ b. list_all p (reads_of e) && b) (all_in p es)
+all_in p (e ∷ es) = ap (λ b. list_all p (reads_of e) && b) (all_in p es) ∙ sym (list_all-append p (reads_of e) (reads_in es))
 
 -- The first mapping of a run, and those behind it.
 pub run_from : (n end own : ℕ) → n < end → passing n (end - n) own ≡ finds_none n own ∷ passing (n + 1) (end - (n + 1)) own
