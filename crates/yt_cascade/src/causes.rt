@@ -111,21 +111,20 @@ impl<'a> Cascade<'a> {
     }
 
     // The conflict by the changed read of the reader of this number, if there is one.
-    fn conflict_by(
-        &self,
-        reader: u32,
-        changed: Option<Changed>,
-    ) -> Option<Cause>
+    fn conflict_by(&self, reader: u32, changed: Option<Changed>) -> Option<Cause>
         ensures conflict { IsConflict self.now.update reader changed result }
     {
         match changed {
-            Some(changed) => Some(Cause::Conflict {
-                reader,
-                read: changed.number,
-                writer: self.update,
-                old: changed.read.answer,
-                new: changed.now,
-            }),
+            Some(changed) => {
+                let Changed { number, read, now } = changed;
+                Some(Cause::Conflict {
+                    reader,
+                    read: number,
+                    writer: self.update,
+                    old: read.answer,
+                    new: now,
+                })
+            }
             None => None,
         }
     }

@@ -21,45 +21,54 @@ none_is_some x e = cc
 some_is_none : {A : Type 0} (x : A) → Some x ≡ None → ⊥
 some_is_none x e = cc
 
-module _ {C : Type 0} (f : Numbered → C) (p : Read → Bool) where
+module _ (p : Read → Bool) where
   -- What is found among the first reads is found among all.
-  pub found_first : (n : ℕ) (rs qs : List Read) (x : C) → option_map f (first_from p n rs) ≡ Some x → option_map f (first_from p n (rs ++ qs)) ≡ Some x
-  found_first n [] qs x e = absurd (none_is_some x e)
-  found_first n (r ∷ rs) qs x e = by (p r) (found_first (suc n) rs qs x) e
+  pub first_among : (n : ℕ) (rs qs : List Read) (x : Numbered) → first_from p n rs ≡ Some x → first_from p n (rs ++ qs) ≡ Some x
+  first_among n [] qs x e = absurd (none_is_some x e)
+  first_among n (r ∷ rs) qs x e = by (p r) (first_among (suc n) rs qs x) e
     where
-      by : (b : Bool) → (option_map f (first_from p (suc n) rs) ≡ Some x → option_map f (first_from p (suc n) (rs ++ qs)) ≡ Some x)
-          → option_map f (if b then Some (record { number = n; read = r }) else first_from p (suc n) rs) ≡ Some x
-          → option_map f (if b then Some (record { number = n; read = r }) else first_from p (suc n) (rs ++ qs)) ≡ Some x
+      by : (b : Bool) → (first_from p (suc n) rs ≡ Some x → first_from p (suc n) (rs ++ qs) ≡ Some x)
+          → (if b then Some (record { number = n; read = r }) else first_from p (suc n) rs) ≡ Some x
+          → (if b then Some (record { number = n; read = r }) else first_from p (suc n) (rs ++ qs)) ≡ Some x
       by true next h = h
       by false next h = next h
 
   -- Where it is not among the first it is the first of those behind them.
-  pub none_first : (n : ℕ) (rs qs : List Read) → option_map f (first_from p n rs) ≡ None → option_map f (first_from p n (rs ++ qs)) ≡ option_map f (first_from p (n + length rs) qs)
-  none_first n [] qs e =
+  pub first_behind : (n : ℕ) (rs qs : List Read) → first_from p n rs ≡ None → first_from p n (rs ++ qs) ≡ first_from p (n + length rs) qs
+  first_behind n [] qs e =
       let same : n ≡ n + 0 = omega arith in
-      ap (λ k. option_map f (first_from p k qs)) same
-  none_first n (r ∷ rs) qs e = by (p r) (none_first (suc n) rs qs) e
+      ap (λ k. first_from p k qs) same
+  first_behind n (r ∷ rs) qs e = by (p r) (first_behind (suc n) rs qs) e
     where
-      by : (b : Bool) → (option_map f (first_from p (suc n) rs) ≡ None → option_map f (first_from p (suc n) (rs ++ qs)) ≡ option_map f (first_from p (suc n + length rs) qs))
-          → option_map f (if b then Some (record { number = n; read = r }) else first_from p (suc n) rs) ≡ None
-          → option_map f (if b then Some (record { number = n; read = r }) else first_from p (suc n) (rs ++ qs)) ≡ option_map f (first_from p (n + suc (length rs)) qs)
+      by : (b : Bool) → (first_from p (suc n) rs ≡ None → first_from p (suc n) (rs ++ qs) ≡ first_from p (suc n + length rs) qs)
+          → (if b then Some (record { number = n; read = r }) else first_from p (suc n) rs) ≡ None
+          → (if b then Some (record { number = n; read = r }) else first_from p (suc n) (rs ++ qs)) ≡ first_from p (n + suc (length rs)) qs
       by true next h = absurd (some_is_none _ h)
       by false next h =
           let same : suc n + length rs ≡ n + suc (length rs) = omega arith in
-          next h ∙ ap (λ k. option_map f (first_from p k qs)) same
+          next h ∙ ap (λ k. first_from p k qs) same
 
 module _ (ms : List Rule) (h : Direction) (D : List Fact) (own : List Change) (g : Sense) (ts : List (List Change)) where
+  -- With its value now.
+  abbrev with_now : Numbered → Changed
+  with_now r = record { number = r.number; read = r.read; now = value_now ms h D own r.read }
+
   -- That of the first reads is that of all.
   pub found_among : (n : ℕ) (rs qs : List Read) (all o : Option Changed) (x : Changed) → all ≡ first_changed_from ms h D own g ts n (rs ++ qs) → o ≡ first_changed_from ms h D own g ts n rs → o ≡ Some x → Some x ≡ all
-  found_among n rs qs all o x e f i =
-      sym (e ∙ found_first (λ r. record { number = r.number; read = r.read; now = value_now ms h D own r.read }) (is_met_and_changed ms h D own g ts) n rs qs x (sym f ∙ i))
+  found_among n rs qs all o x e f i = by (first_from (is_met_and_changed ms h D own g ts) n rs) refl (sym f ∙ i)
+    where
+      by : (z : Option Numbered) → first_from (is_met_and_changed ms h D own g ts) n rs ≡ z → option_map with_now z ≡ Some x → Some x ≡ all
+      by None k l = absurd (none_is_some x l)
+      by (Some y) k l = sym (e ∙ ap (option_map with_now) (first_among (is_met_and_changed ms h D own g ts) n rs qs y k) ∙ l)
 
   -- Where there is none it is that of those behind them.
   pub none_among : (n m : ℕ) (rs qs : List Read) (all o : Option Changed) → all ≡ first_changed_from ms h D own g ts n (rs ++ qs) → o ≡ first_changed_from ms h D own g ts n rs → o ≡ None → m ≡ n + length rs
       → all ≡ first_changed_from ms h D own g ts m qs
-  none_among n m rs qs all o e f i k =
-      e ∙ none_first (λ r. record { number = r.number; read = r.read; now = value_now ms h D own r.read }) (is_met_and_changed ms h D own g ts) n rs qs (sym f ∙ i)
-      ∙ ap (λ j. first_changed_from ms h D own g ts j qs) (sym k)
+  none_among n m rs qs all o e f i j = by (first_from (is_met_and_changed ms h D own g ts) n rs) refl (sym f ∙ i)
+    where
+      by : (z : Option Numbered) → first_from (is_met_and_changed ms h D own g ts) n rs ≡ z → option_map with_now z ≡ None → all ≡ first_changed_from ms h D own g ts m qs
+      by None k l = e ∙ ap (option_map with_now) (first_behind (is_met_and_changed ms h D own g ts) n rs qs k) ∙ ap (λ a. first_changed_from ms h D own g ts a qs) (sym j)
+      by (Some y) k l = absurd (some_is_none (with_now y) l)
 
 -- An option that is no value is none, and so is what is made of it.
 pub no_value : {A B : Type 0} (f : A → B) (o : Option A) → ((x : A) → o ≡ Some x → ⊥) → option_map f o ≡ None

@@ -20,7 +20,7 @@ use Rattle.yt_model.specs.Updates.{Operation}
 use Rattle.yt_model.specs.Values.{Fact}
 use Rattle.yt_plan.specs.declared.plans.Plan.{Plan}
 use Rattle.yt_program.specs.Courses.{State as ProgramState}
-use Rattle.yt_query.specs.Meanings.{read_of}
+use Rattle.yt_query.specs.Meanings.{reads_in}
 use Rattle.yt_queue.specs.Events.{HasRoom, HasRoomFor}
 use Rattle.yt_queue.specs.Programs.{IsPlanOf}
 use Rattle.yt_queue.specs.Queues.{update_of, updates_of, AreFrom}

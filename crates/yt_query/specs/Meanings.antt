@@ -53,3 +53,8 @@ reads_of (Passed run) = passing run.start (run.end - run.start) run.own
 abbrev pub reads_in : List Logged → List Read
 reads_in [] = []
 reads_in (e ∷ es) = reads_of e ++ reads_in es
+
+-- How many own writes had been made before the reads of an entry.
+abbrev pub own_of : Logged → ℕ
+own_of (Asked r) = r.own
+own_of (Passed run) = run.own

@@ -2,7 +2,7 @@
 ghost use Rattle.std.specs.Prelude.{◌≡◌, ◌+◌, ◌-◌, length, IfOk};
 ghost use Rattle.std.specs.List.{list_any};
 ghost use Rattle.yt_base.specs.Contents.{rules_in};
-ghost use Rattle.yt_query.specs.Meanings.{Read, finds_none as finds_none_lem, passing, read_of, reads_of};
+ghost use Rattle.yt_query.specs.Meanings.{Read, finds_none as finds_none_lem, own_of, passing, read_of, reads_of};
 ghost use Rattle.yt_query.specs.Mentioning.{mentioned};
 
 use crate::answers::Answer;
@@ -55,7 +55,9 @@ impl TryCopy for LoggedRead {
 
 impl Logged {
     /// How many writes the attempt had made before. It takes no memory.
-    pub fn own(&self) -> u64 {
+    pub fn own(&self) -> u64
+        ensures own { result ≡ own_of self.now }
+    {
         match self {
             Logged::Asked(read) => read.own,
             Logged::Passed(run) => run.own,

@@ -1,7 +1,6 @@
 //! What an event does to one seat.
-ghost use Rattle.std.specs.Prelude.{◌≡◌, ◌≤◌, ◌+◌, ◌-◌, ◌++◌, [], ◌∷◌, length, map, take, IfOk, OnOk, OnErr, IsOk};
+ghost use Rattle.std.specs.Prelude.{◌≡◌, ◌≤◌, ◌++◌, [], ◌∷◌, length, map, take, IfOk, OnOk, OnErr, IsOk};
 ghost use Rattle.yt_base.specs.Meanings.{choice_of};
-ghost use Rattle.yt_query.specs.Meanings.{passing, read_of, reads_in, reads_of};
 ghost use Rattle.yt_seats.specs.Seatings.{StandsAt};
 ghost use Rattle.yt_seats.specs.Events.{IsAdmitted, IsSame, KeepsPlace, KeepsPlaceBy, HasStepped, HasDelivered, HasAnswered, HasWithdrawn};
 
@@ -12,7 +11,7 @@ use std::mem;
 use yt_base::{Choice, ChoiceList, List, Memory, TryCopy, Update};
 use yt_plan::Plan;
 use yt_program::Program;
-use yt_query::{Logged, LoggedRead, ReadLog, Run, finds_none};
+use yt_query::ReadLog;
 
 impl Seat {
     /// The update of this number as it is when it is admitted, with these answers recorded for it. It is refused only for
@@ -29,7 +28,7 @@ impl Seat {
         let inbox = queued(alloc, answers)?;
         Ok(Seat {
             program: Program::start(alloc, update, number, 0)?,
-            log: List::new(alloc),
+            log: ReadLog::new(alloc),
             withdrawn: false,
             answers: ChoiceList::new(alloc),
             inbox,
@@ -43,7 +42,7 @@ impl Seat {
         ensures place { OnOk result (KeepsPlaceBy plan self.old self.new) }
         ensures err { OnErr result (IsSame self.old self.new) }
     {
-        match self.reserve_reads(plan.reads.as_slice()) {
+        match self.log.reserve(plan.reads.len()) {
             Ok(()) => self.follow(plan),
             Err(memory) => {
                 drop(plan);
@@ -52,19 +51,9 @@ impl Seat {
         }
     }
 
-    // Makes room for the reads of these entries. It is refused only for want of memory. The update stays as it is.
-    fn reserve_reads(&mut self, entries: &[Logged]) -> Result<(), Memory>
-        ensures room { OnOk result (length (reads_in entries.now) ≤ self.new.log.spare) }
-        ensures same { self.new ≡ record self.old { log = self.new.log } }
-        ensures log { self.new.log.items ≡ self.old.log.items }
-    {
-        let count = count_in(entries)?;
-        self.log.reserve(count as usize)
-    }
-
     // Makes the step of the plan, where there is room for its reads.
     fn follow(&mut self, plan: Plan) -> Result<(), Memory>
-        requires room { length (reads_in plan.reads.items) ≤ self.old.log.spare }
+        requires room { length plan.reads.items ≤ self.old.log.spare }
         ensures ok { IsOk result }
         ensures stepped { HasStepped plan self.old self.new }
         ensures place { KeepsPlaceBy plan self.old self.new }
@@ -129,55 +118,14 @@ fn queued(alloc: Global, answers: &ChoiceList) -> Result<VecDeque<Choice>, Memor
     Ok(queue)
 }
 
-// How many reads these entries stand for. It is refused only for want of memory.
-fn count_in(entries: &[Logged]) -> Result<u64, Memory>
-    ensures count { IfOk result (λ count. count ≡ length (reads_in entries.now)) }
-{
-    let mut count = 0;
-    for entry in entries {
-        count = entry.count_on(count)?;
-    }
-    Ok(count)
-}
-
-// Puts the reads one by one at the end of the log, which has room for them.
-fn take_over(log: &mut List<LoggedRead>, reads: ReadLog) -> Result<(), Memory>
-    requires room { length (reads_in reads.items) ≤ log.old.spare }
+// Puts the reads at the end of the log, which has room for them.
+fn take_over(log: &mut ReadLog, reads: ReadLog) -> Result<(), Memory>
+    requires room { length reads.items ≤ log.old.spare }
     ensures ok { IsOk result }
-    ensures all { map read_of log.new.items ≡ map read_of log.old.items ++ reads_in reads.items }
+    ensures all { log.new.items ≡ log.old.items ++ reads.items }
 {
     for entry in reads.into_vec() {
-        put_entry(log, entry)?;
-    }
-    Ok(())
-}
-
-// Puts the reads of the entry at the end of the log, which has room for them.
-fn put_entry(log: &mut List<LoggedRead>, entry: Logged) -> Result<(), Memory>
-    requires room { length (reads_of entry) ≤ log.old.spare }
-    ensures ok { IsOk result }
-    ensures all { map read_of log.new.items ≡ map read_of log.old.items ++ reads_of entry }
-    ensures spare { log.old.spare ≤ log.new.spare + length (reads_of entry) }
-{
-    match entry {
-        Logged::Asked(read) => {
-            log.push(read)?;
-            Ok(())
-        }
-        Logged::Passed(run) => put_run(log, run),
-    }
-}
-
-// The same of the reads of a run.
-fn put_run(log: &mut List<LoggedRead>, run: Run) -> Result<(), Memory>
-    requires room { run.end - run.start ≤ log.old.spare }
-    ensures ok { IsOk result }
-    ensures all { map read_of log.new.items ≡ map read_of log.old.items
-        ++ passing run.start (run.end - run.start) run.own }
-    ensures spare { log.old.spare ≤ log.new.spare + (run.end - run.start) }
-{
-    for mapping in run.start..run.end {
-        log.push(finds_none(mapping, run.own))?;
+        log.push(entry)?;
     }
     Ok(())
 }

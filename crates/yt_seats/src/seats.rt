@@ -5,17 +5,17 @@ ghost use Rattle.yt_seats.specs.Standings.{HasTrail, IsOver, IsLive};
 
 use crate::outcomes::{outcome, shown};
 use std::collections::VecDeque;
-use yt_base::{Choice, ChoiceList, List, Write};
+use yt_base::{Choice, ChoiceList, Write};
 use yt_plan::Plan;
 use yt_program::Program;
-use yt_query::LoggedRead;
+use yt_query::ReadLog;
 
 /// An update with its present attempt, between two steps: the reads of that attempt, whether the update was withdrawn,
 /// the answers delivered, and those that are recorded and not delivered yet.
 #[derive(Debug, Drop)]
 pub struct Seat {
     pub program: Program,
-    pub log: List<LoggedRead>,
+    pub log: ReadLog,
     pub withdrawn: bool,
     pub answers: ChoiceList,
     pub inbox: VecDeque<Choice>,
