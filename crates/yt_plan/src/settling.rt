@@ -42,10 +42,10 @@ pub fn told_by(
     alloc: Global,
     mappings: &MappingList,
     program: &Program,
-    log: &[LoggedRead],
+    log: &[Logged],
 ) -> Result<Settled, Memory>
     ensures settled { IfOk result (λ settled. (D : List Fact) →
-        AreValidOver (rules_in mappings.now) D program.now.attempt (map read_of log.now) →
+        AreValidOver (rules_in mappings.now) D program.now.attempt (reads_in log.now) →
         HasSettled (rules_in mappings.now) D program.now.attempt settled) }
 {
     let made = made_before(log);

@@ -76,7 +76,7 @@ invariant_of-self-2 c = (
       c.deref_mut.ensures.value c.self.invariant.0
       (core_steps _ c.self.inside.versions c.self.inside.queue.items c.self.inside.history.items _ c.self.invariant.0 c.self.view_is c.args.plan.update c.requires.ready c.place_of-place.result
       (c.place_of-place.ensures ∙ ap (λ (p : PlanMeant). p.update) c.plan.view_is) c.deref_mut.result.now c.deref_mut.ensures.value c.plan.inside.step c.args.plan
-      (ap (λ (n : ℕ). record { update = n; program = c.plan.inside.step.program; reads = map read_of c.plan.inside.step.reads.items }) (sym (ap (λ (p : PlanMeant). p.update) c.plan.view_is)) ∙ c.plan.view_is) c.requires.step
+      (ap (λ (n : ℕ). record { update = n; program = c.plan.inside.step.program; reads = reads_in c.plan.inside.step.reads.items }) (sym (ap (λ (p : PlanMeant). p.update) c.plan.view_is)) ∙ c.plan.view_is) c.requires.step
       c.step_at.new.versions c.step_at.new.queue c.step_at.new.history.items c.in_ok-committed.ensures.made).kept
       c.in_ok-committed.ensures.grows
       (ready_within _ c.self.inside.versions c.self.inside.queue.items _ _ c.self.invariant.0 c.self.view_is c.args.plan.update c.requires.ready c.place_of-place.result (c.place_of-place.ensures ∙ ap (λ (p : PlanMeant). p.update) c.plan.view_is)
