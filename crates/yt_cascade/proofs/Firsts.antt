@@ -1,9 +1,10 @@
 -- The first reads of the program's logs are those of histories.
-use Rattle.std.proofs.Common.{◌≡◌, ◌∙◌, ap, refl, ℕ, suc, ◌+◌, Bool, true, false, ◌||◌, List, [], ◌∷◌, map, Option, Some, None, arith}
+use Rattle.std.proofs.Common.{◌≡◌, ◌∙◌, ap, refl, sym, ℕ, suc, ◌+◌, Bool, true, false, ◌||◌, List, [], ◌∷◌, ◌++◌, length, map, Option, Some, None, arith}
 use Rattle.std.specs.Prelude.{if◌then◌else◌}
 use Rattle.std.specs.List.{list_any}
 use Rattle.std.specs.Option.{option_map}
 use Rattle.yt_conflict.specs.Changes.{Numbered, first_from}
+use Rattle.yt_conflict.proofs.Firsts.{first_among, first_behind}
 use Rattle.yt_machine.specs.Cascade.{reads_of, writer_for}
 use Rattle.yt_machine.specs.Reads.{first_that}
 use Rattle.yt_machine.specs.Updates.{Read as ReadOfHistory}
@@ -62,3 +63,15 @@ module _ (ms : List Rule) (B : ℕ) where
   pub writer_is : (ks : List Trail) (r : Read) → writer_for (caused_chase ms B) (logged ms B r) (members_of ms B ks) ≡ least_writer ms r ks
   writer_is [] r = refl
   writer_is (m ∷ ks) r = ap (λ n. if is_reached ms r (writes_of m) then m.update else n) (writer_is ks r)
+
+-- The first among these reads is that of all.
+pub found_among : (p : Read → Bool) (n : ℕ) (rs qs : List Read) (all o : Option Numbered) (x : Numbered) → all ≡ first_from p n (rs ++ qs) → o ≡ first_from p n rs → o ≡ Some x → Some x ≡ all
+found_among p n rs qs all o x e f i = sym (e ∙ first_among p n rs qs x (sym f ∙ i))
+
+-- Where there is none it is that of those behind them.
+pub none_among : (p : Read → Bool) (n m : ℕ) (rs qs : List Read) (all o : Option Numbered) → all ≡ first_from p n (rs ++ qs) → o ≡ first_from p n rs → o ≡ None → m ≡ n + length rs → all ≡ first_from p m qs
+none_among p n m rs qs all o e f i j = e ∙ first_behind p n rs qs (sym f ∙ i) ∙ ap (λ k. first_from p k qs) (sym j)
+
+-- One read alone, by the test.
+pub one_by : (p : Read → Bool) (n : ℕ) (r : Read) (b : Bool) → p r ≡ b → (if b then Some (record { number = n; read = r }) else None) ≡ first_from p n (r ∷ [])
+one_by p n r b e = ap (λ c. if c then Some (record { number = n; read = r }) else None) (sym e)

@@ -1,5 +1,5 @@
 -- Trails of which some meet no read of a log.
-use Rattle.std.proofs.Common.{◌≡◌, ◌∙◌, ap, refl, sym, subst, ℕ, suc, ◌+◌, ◌<◌, Bool, true, false, ◌&&◌, ◌||◌, List, [], ◌∷◌, ◌++◌, map, drop, length, get_or, append_assoc, Some, None}
+use Rattle.std.proofs.Common.{◌≡◌, ◌∙◌, ap, refl, sym, subst, ℕ, suc, ◌+◌, ◌<◌, Bool, true, false, ◌&&◌, ◌||◌, List, [], ◌∷◌, ◌++◌, drop, length, get_or, append_assoc, Some, None}
 use Rattle.std.specs.List.{list_any, list_all}
 use Rattle.std.specs.Option.{option_map}
 use Rattle.std.specs.Prelude.{if◌then◌else◌}
@@ -10,7 +10,7 @@ use Rattle.yt_model.specs.Repository.{Change}
 use Rattle.yt_model.specs.Values.{Fact}
 use Rattle.yt_model.specs.Violations.{Direction}
 use Rattle.yt_model.proofs.Bools.{both}
-use Rattle.yt_query.specs.Meanings.{Read, read_of}
+use Rattle.yt_query.specs.Meanings.{Read, reads_in}
 use Rattle.yt_conflict.specs.Changes.{Changed, Numbered, first_from, first_changed, is_changed, is_met_and_changed, meets_any, value_now}
 use Rattle.yt_conflict.specs.Concerns.{is_hit, is_met, meets}
 use Rattle.yt_conflict.specs.Trails.{trails_of, writes_of}
@@ -85,10 +85,10 @@ module _ (ms : List Rule) (v : Kept) (r : Record) where
   pub same_invalid : (ts us : List Trail) → MeetAlike ms (trails_of ts) (trails_of us) r → first_invalid ms v ts r ≡ first_invalid ms v us r
   same_invalid ts us a =
       ap (option_map (λ (c : Changed). record { number = c.number; read = c.read }))
-      (same_first ms (direction_of r.program.attempt.operation) r.program.attempt.own (seen r.program.attempt.number v) (trails_of ts) (trails_of us) (map read_of r.log.items) a)
+      (same_first ms (direction_of r.program.attempt.operation) r.program.attempt.own (seen r.program.attempt.number v) (trails_of ts) (trails_of us) (reads_in r.log.items) a)
 
   -- Without a trail none is.
   pub none_invalid : first_invalid ms v [] r ≡ None
   none_invalid =
       ap (option_map (λ (c : Changed). record { number = c.number; read = c.read }))
-      (none_first ms (direction_of r.program.attempt.operation) r.program.attempt.own (seen r.program.attempt.number v) (map read_of r.log.items))
+      (none_first ms (direction_of r.program.attempt.operation) r.program.attempt.own (seen r.program.attempt.number v) (reads_in r.log.items))

@@ -31,8 +31,8 @@ use Rattle.yt_model.proofs.Replies.{reply_is, reply_itself}
 use Rattle.yt_model.specs.Repository.{Change}
 use Rattle.yt_model.specs.Updates.{Operation, direction_of}
 use Rattle.yt_model.specs.Values.{Fact}
-use Rattle.yt_query.specs.Meanings.{Read, read_of}
-use Rattle.yt_query.specs.declared.log.LoggedRead.{LoggedRead}
+use Rattle.yt_query.specs.Meanings.{Read, reads_in}
+use Rattle.yt_query.specs.declared.log.Logged.{Logged}
 use Rattle.yt_queue.specs.Queues.{logged, update_of}
 use Rattle.yt_queue.specs.Records.{IsLive}
 use Rattle.yt_queue.specs.declared.records.Record.{Record}
@@ -120,7 +120,7 @@ module _ (ms : List Rule) (B : ℕ) where
 
   -- The reads of a record's log.
   abbrev reads : Record → List Read
-  reads r = map read_of r.log.items
+  reads r = reads_in r.log.items
 
   -- They are valid over this.
   abbrev pub ValidOver : List Fact → Record → Type 0
@@ -205,7 +205,7 @@ module _ (ms : List Rule) (B : ℕ) where
   first_depends Coarse E lost r a valid =
       first_is ms B (any_reached ms (trails_of lost.members.items))
       (read_depends (caused_chase ms B) Coarse r.program.attempt.operation (seen (number_of r) lost.without) r.program.attempt.own (members_of ms B lost.members.items))
-      (λ q. reached_is ms B lost.members.items q) (map read_of r.log.items)
+      (λ q. reached_is ms B lost.members.items q) (reads_in r.log.items)
 
   -- The dependence of a live update.
   abbrev pub dependence_in : Deps → Lost → Record → Option (Cause (caused_chase ms B))
@@ -230,14 +230,14 @@ module _ (ms : List Rule) (B : ℕ) where
       where_members (option_map (dependence_meant ms lost.members.items (number_of r)) (first_by deps ms lost r)) (dependence_in deps lost r) lost.members.items
       (as_depends lost.members.items (number_of r) (first_by deps ms lost r) ∙ ap (option_map (depends_at lost.members.items (number_of r))) (first_depends deps E lost r a valid))
 
-  nothing_changed : (j : ℕ) (v : Kept) (r : Record) (ls : List LoggedRead) → r.log.items ≡ ls → is_nil ls ≡ true → conflict_in j v r ≡ None
-  nothing_changed j v r [] e h = ap (λ ls. option_map (conflict_at j (number_of r)) (option_map (λ t. record { read = t.0; old = t.1.answer; new = (caused_chase ms B).value r.program.attempt.operation t.1.query (seen (number_of r) v) (take t.1.own r.program.attempt.own) }) (first_that (λ q. not (is_valid (caused_chase ms B) r.program.attempt.operation (seen (number_of r) v) r.program.attempt.own q)) (map (logged ms B) (map read_of ls))))) e
+  nothing_changed : (j : ℕ) (v : Kept) (r : Record) (ls : List Logged) → r.log.items ≡ ls → is_nil ls ≡ true → conflict_in j v r ≡ None
+  nothing_changed j v r [] e h = ap (λ ls. option_map (conflict_at j (number_of r)) (option_map (λ t. record { read = t.0; old = t.1.answer; new = (caused_chase ms B).value r.program.attempt.operation t.1.query (seen (number_of r) v) (take t.1.own r.program.attempt.own) }) (first_that (λ q. not (is_valid (caused_chase ms B) r.program.attempt.operation (seen (number_of r) v) r.program.attempt.own q)) (map (logged ms B) (reads_in ls))))) e
   nothing_changed j v r (l ∷ ls) e h = absurd (cc)
 
-  nothing_depends : (deps : Deps) (lost : Lost) (r : Record) (ls : List LoggedRead) → r.log.items ≡ ls → is_nil ls ≡ true → dependence_in deps lost r ≡ None
+  nothing_depends : (deps : Deps) (lost : Lost) (r : Record) (ls : List Logged) → r.log.items ≡ ls → is_nil ls ≡ true → dependence_in deps lost r ≡ None
   nothing_depends deps lost r [] e h =
       ap (λ ls. option_map (depends_at lost.members.items (number_of r))
-      (first_that (read_depends (caused_chase ms B) deps r.program.attempt.operation (seen (number_of r) lost.without) r.program.attempt.own (members_of ms B lost.members.items)) (map (logged ms B) (map read_of ls)))) e
+      (first_that (read_depends (caused_chase ms B) deps r.program.attempt.operation (seen (number_of r) lost.without) r.program.attempt.own (members_of ms B lost.members.items)) (map (logged ms B) (reads_in ls)))) e
   nothing_depends deps lost r (l ∷ ls) e h = absurd (cc)
 
 live_of : (a b : Bool) → (a && not b) ≡ false → a ≡ true → b ≡ true
@@ -247,7 +247,7 @@ live_of false b h l = absurd (cc)
 
 -- ---- where a cause is looked for
 
-read_is : (b : Bool) (xs : List LoggedRead) → (b ≡ true) ↔ (xs ≡ []) → not b ≡ not (is_nil xs)
+read_is : (b : Bool) (xs : List Logged) → (b ≡ true) ↔ (xs ≡ []) → not b ≡ not (is_nil xs)
 read_is true [] h = refl
 read_is false [] h = let no : false ≡ true = h.1 refl in absurd (cc)
 read_is true (x ∷ xs) h = let no : x ∷ xs ≡ [] = h.0 refl in absurd (cc)
@@ -299,7 +299,7 @@ module _ (a : Above) (ws : List Change) (lost : Lost) (r : Record) (l : may_have
   -- Where there is none the reads are valid over the whole.
   valid_still : IsConflictFor a ws r None → ValidOver a.rules B (seen (number_of r) a.whole) r
   valid_still h =
-      all_valid_now a.rules B r.program.attempt.operation r.program.attempt.own (seen (number_of r) a.whole) 1 (map read_of r.log.items)
+      all_valid_now a.rules B r.program.attempt.operation r.program.attempt.own (seen (number_of r) a.whole) 1 (reads_in r.log.items)
       (unmapped (now_in a.rules B a.whole r) (first_of_all a.rules B a.whole r) (sym (unmapped (conflict_meant a.update (number_of r)) (first_changed_in a.rules a.whole a.sense (ws ∷ []) r) h) ∙ met_by_writes))
 
 -- Without writes there is no conflict.
@@ -307,7 +307,7 @@ pub no_conflict : (a : Above) (ws : List Change) (r : Record) → ws ≡ [] → 
 no_conflict a ws r e =
     sym (ap (λ vs. option_map (conflict_meant a.update (number_of r)) (first_changed_in a.rules a.whole a.sense (vs ∷ []) r)) e
     ∙ ap (λ o. option_map (conflict_meant a.update (number_of r)) (option_map (λ (t : Numbered). record { number = t.number; read = t.read; now = value_now a.rules (direction_of r.program.attempt.operation) (seen (number_of r) a.whole) r.program.attempt.own t.read }) o))
-    (none_met a.rules r.program.attempt.operation (seen (number_of r) a.whole) r.program.attempt.own a.sense 1 (map read_of r.log.items)))
+    (none_met a.rules r.program.attempt.operation (seen (number_of r) a.whole) r.program.attempt.own a.sense 1 (reads_in r.log.items)))
 
 -- A conflict comes first.
 pub conflict_first : (a : Above) (ws : List Change) (lost : Lost) (r : Record) (x : CauseOfProgram) → may_have_cause a.committed r ≡ true → IsConflictFor a ws r (Some x) → IsCauseFor a ws lost r (Some x)
@@ -343,8 +343,8 @@ nothing_for a ws lost r e k = unlost a ws lost r k (no_conflict a ws r e)
 pub unmet_conflict : (a : Above) (ws : List Change) (r : Record) (v : Impact) → HasFootprint r → HasImpact a ws v → IsNoneMet (direction_of r.program.attempt.operation) r.footprint v → IsConflictFor a ws r None
 unmet_conflict a ws r v f i n =
     ap (option_map (conflict_meant a.update (number_of r)))
-    (none_changed a.rules (direction_of r.program.attempt.operation) (seen (number_of r) a.whole) r.program.attempt.own a.sense (ws ∷ []) (map read_of r.log.items)
-    (n a.rules a.sense r.program.attempt.own (ws ∷ []) (map read_of r.log.items) f i))
+    (none_changed a.rules (direction_of r.program.attempt.operation) (seen (number_of r) a.whole) r.program.attempt.own a.sense (ws ∷ []) (reads_in r.log.items)
+    (n a.rules a.sense r.program.attempt.own (ws ∷ []) (reads_in r.log.items) f i))
 
 -- Nor any cause where nothing is lost.
 pub passed : (v : Impact) (lost : Lost) (r : Record) → HasFootprint r → lost.members.items ≡ [] → IsNoneMet (direction_of r.program.attempt.operation) r.footprint v → HasNoCause v lost r

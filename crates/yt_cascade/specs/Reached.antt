@@ -14,7 +14,7 @@ use Rattle.yt_model.specs.Mentions.{mentions}
 use Rattle.yt_model.specs.Repository.{Change}
 use Rattle.yt_model.specs.Updates.{direction_of}
 use Rattle.yt_model.specs.Violations.{Direction}
-use Rattle.yt_query.specs.Meanings.{Read, read_of}
+use Rattle.yt_query.specs.Meanings.{Read, read_of, reads_in}
 use Rattle.yt_queue.specs.declared.records.Record.{Record}
 use Rattle.yt_steps.specs.Chase.{relation_of}
 use Rattle.yt_versions.specs.Standing.{Kept, seen}
@@ -42,30 +42,34 @@ AreMetAlike ms h own ts us (q ∷ qs) = (is_met ms h own Went ts q ≡ is_met ms
 
 -- The same of the reads of a record.
 abbrev pub MeetAlike : List Rule → List (List Change) → List (List Change) → Record → Type 0
-MeetAlike ms ts us r = AreMetAlike ms (direction_of r.program.attempt.operation) r.program.attempt.own ts us (map read_of r.log.items)
+MeetAlike ms ts us r = AreMetAlike ms (direction_of r.program.attempt.operation) r.program.attempt.own ts us (reads_in r.log.items)
 
 -- The numbered read that a `Numbered` stands for.
 abbrev pub numbered_of : NumberedOfProgram → Numbered
-numbered_of x = record { number = x.number; read = read_of x.read.now }
+numbered_of x = record { number = x.number; read = read_of x.read }
 
 -- The first logged read of the record that a write of these trails meets and that has another value over what its update
 -- sees of the versions.
 abbrev pub first_changed_in : List Rule → Kept → Sense → List (List Change) → Record → Option Changed
 first_changed_in ms v g trails r =
-    first_changed ms (direction_of r.program.attempt.operation) (seen r.program.attempt.number v) r.program.attempt.own g trails (map read_of r.log.items)
+    first_changed ms (direction_of r.program.attempt.operation) (seen r.program.attempt.number v) r.program.attempt.own g trails (reads_in r.log.items)
 
 -- The same without its value there, where these trails are lost.
 abbrev pub first_invalid : List Rule → Kept → List Trail → Record → Option Numbered
 first_invalid ms v ts r = option_map (λ c. record { number = c.number; read = c.read }) (first_changed_in ms v Went (trails_of ts) r)
 
--- The first of these reads that mentions a relation which one of the members wrote.
+-- The first of these reads, of which the first has number n, that mentions a relation which one of the members wrote.
+abbrev pub first_reached_from : List Rule → List Trail → ℕ → List Read → Option Numbered
+first_reached_from ms ts n rs = first_from (any_reached ms (trails_of ts)) n rs
+
+-- That of the log.
 abbrev pub first_reached : List Rule → List Trail → List Read → Option Numbered
-first_reached ms ts rs = first_from (any_reached ms (trails_of ts)) 1 rs
+first_reached ms ts rs = first_reached_from ms ts 1 rs
 
 -- The first that depends on what is lost.
 abbrev pub first_by : Deps → List Rule → Lost → Record → Option Numbered
 first_by Precise ms lost r = first_invalid ms lost.without lost.members.items r
-first_by Coarse ms lost r = first_reached ms lost.members.items (map read_of r.log.items)
+first_by Coarse ms lost r = first_reached ms lost.members.items (reads_in r.log.items)
 
 -- By the test of the walk.
 abbrev pub first_dependent : Above → Lost → Record → Option Numbered

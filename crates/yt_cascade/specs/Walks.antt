@@ -24,7 +24,7 @@ use Rattle.yt_machine.specs.Updates.{Update}
 use Rattle.yt_model.specs.Mappings.{Rule}
 use Rattle.yt_model.specs.Repository.{Change}
 use Rattle.yt_model.specs.Values.{Fact}
-use Rattle.yt_query.specs.Meanings.{read_of}
+use Rattle.yt_query.specs.Meanings.{reads_in}
 use Rattle.yt_queue.specs.Queues.{update_of, updates_of}
 use Rattle.yt_queue.specs.declared.records.Record.{Record}
 use Rattle.yt_steps.specs.Chase.{caused_chase}
@@ -60,7 +60,7 @@ IsConflictFor a ws r x = option_map plain_of x ≡ option_map (conflict_meant a.
 
 -- The reader's footprint is that of its own writes and its reads.
 abbrev pub HasFootprint : Record → Type 0
-HasFootprint r = Covers r.footprint r.program.attempt.own (map read_of r.log.items)
+HasFootprint r = Covers r.footprint r.program.attempt.own (reads_in r.log.items)
 
 -- The impact has what these writes may meet, as they came or went.
 abbrev pub HasImpact : Above → List Change → Impact → Type 0

@@ -7,7 +7,7 @@ ghost use Rattle.yt_cascade.specs.Walks.{HasFootprint, HasImpact, HasLostImpact,
 use crate::cascades::Cascade;
 use crate::lost::Lost;
 use std::alloc::Global;
-use yt_base::{Memory, TryCopy, Write};
+use yt_base::{Memory, Write};
 use yt_conflict::{Changed, Impact, Trail, first_changed};
 use yt_entries::Cause;
 use yt_queue::Record;
@@ -106,27 +106,26 @@ impl<'a> Cascade<'a> {
             self.sense,
             &trails,
         )?;
-        self.conflict_by(alloc, reader.number(), changed)
+        let cause = self.conflict_by(reader.number(), changed);
+        Ok(cause)
     }
 
     // The conflict by the changed read of the reader of this number, if there is one.
-    fn conflict_by(
-        &self,
-        alloc: Global,
-        reader: u32,
-        changed: Option<Changed<'_>>,
-    ) -> Result<Option<Cause>, Memory>
-        ensures conflict { IfOk result (IsConflict self.now.update reader changed.entry) }
+    fn conflict_by(&self, reader: u32, changed: Option<Changed>) -> Option<Cause>
+        ensures conflict { IsConflict self.now.update reader changed result }
     {
         match changed {
-            Some(changed) => Ok(Some(Cause::Conflict {
-                reader,
-                read: changed.number,
-                writer: self.update,
-                old: changed.read.answer.copy(alloc)?,
-                new: changed.now,
-            })),
-            None => Ok(None),
+            Some(changed) => {
+                let Changed { number, read, now } = changed;
+                Some(Cause::Conflict {
+                    reader,
+                    read: number,
+                    writer: self.update,
+                    old: read.answer,
+                    new: now,
+                })
+            }
+            None => None,
         }
     }
 
@@ -149,7 +148,7 @@ impl<'a> Cascade<'a> {
             Some(found) => Ok(Some(Cause::Depends {
                 reader: reader.number(),
                 read: found.number,
-                on: lost.writer_for(self.mappings.list(), found.read),
+                on: lost.writer_for(self.mappings.list(), &found.read),
             })),
             None => Ok(None),
         }

@@ -1,21 +1,21 @@
 //! What is lost below an update: the trails of the updates that are restarted.
-ghost use Rattle.std.specs.Prelude.{◌≡◌, [], List, map, IfOk, OnOk};
+ghost use Rattle.std.specs.Prelude.{◌≡◌, ◌+◌, ◌-◌, ◌<◌, ◌^◌, [], ◌∷◌, length, List, map, IfOk, OnOk};
 ghost use Rattle.std.specs.Option.{option_map};
 ghost use Rattle.yt_base.specs.Contents.{rules_in};
 ghost use Rattle.yt_base.specs.Meanings.{change_of};
 ghost use Rattle.yt_model.specs.Mappings.{Rule};
 ghost use Rattle.yt_queue.specs.Programs.{IsBetween};
-ghost use Rattle.yt_query.specs.Meanings.{read_of};
+ghost use Rattle.yt_query.specs.Meanings.{finds_none as finds_none_lem, passing, read_of, reads_in, reads_of};
 ghost use Rattle.yt_steps.specs.Chase.{relation_of};
-ghost use Rattle.yt_cascade.specs.Reached.{is_reached, any_reached, least_writer, numbered_of, first_reached as first_reached_lem};
+ghost use Rattle.yt_cascade.specs.Reached.{is_reached, any_reached, least_writer, numbered_of, first_reached as first_reached_lem, first_reached_from};
 ghost use Rattle.yt_conflict.specs.Trails.{trails_of};
 ghost use Rattle.yt_cascade.specs.Walks.{HasLostImpact, Loses, LosesWhere};
 
 use crate::reads::Numbered;
 use std::alloc::Global;
-use yt_base::{MappingList, Memory, Write};
+use yt_base::{MappingList, Memory, TryCopy, Write};
 use yt_conflict::{Impact, Sense, Trail};
-use yt_query::{LoggedRead, mentions};
+use yt_query::{Logged, LoggedRead, Run, finds_none, mentions};
 use yt_queue::Record;
 use yt_versions::Versions;
 
@@ -81,23 +81,106 @@ impl<'r> Lost<'r> {
         Ok(())
     }
 
-    /// The first of the reads that mentions a relation of which a write is lost.
-    pub(crate) fn first_reached<'l>(
+    /// The first of the reads that mentions a relation of which a write is lost. It is refused only for want of memory.
+    pub(crate) fn first_reached(
         &self,
+        alloc: Global,
         mappings: &MappingList,
-        log: &'l [LoggedRead],
-    ) -> Option<Numbered<'l>>
-        ensures first { option_map numbered_of result ≡
-            first_reached_lem (rules_in mappings.now) self.now.members.items (map read_of log.now) }
+        log: &[Logged],
+    ) -> Result<Option<Numbered>, Memory>
+        ensures first { IfOk result (λ found. option_map numbered_of found ≡
+            first_reached_lem (rules_in mappings.now) self.now.members.items (reads_in log.now)) }
     {
         let mut number = 0;
-        for read in log {
+        for entry in log {
+            let all = entry.count_on(number)?;
+            if let Some(found) = self.reached_by(alloc, mappings, number, entry)? {
+                return Ok(Some(found));
+            }
+            number = all;
+        }
+        Ok(None)
+    }
+
+    // The first of the entry's reads that does, where so many reads come before it.
+    fn reached_by(
+        &self,
+        alloc: Global,
+        mappings: &MappingList,
+        before: u64,
+        entry: &Logged,
+    ) -> Result<Option<Numbered>, Memory>
+        requires fits { before + length (reads_of entry.now) < 2 ^ 64 }
+        ensures first { IfOk result (λ found. option_map numbered_of found ≡ first_reached_from
+            (rules_in mappings.now) self.now.members.items (before + 1) (reads_of entry.now)) }
+    {
+        match entry {
+            Logged::Asked(read) => self.reached_read(alloc, mappings, before + 1, read),
+            Logged::Passed(run) => self.reached_in_run(alloc, mappings, before, run),
+        }
+    }
+
+    // The same of the reads of a run.
+    fn reached_in_run(
+        &self,
+        alloc: Global,
+        mappings: &MappingList,
+        before: u64,
+        run: &Run,
+    ) -> Result<Option<Numbered>, Memory>
+        requires fits { before + (run.now.end - run.now.start) < 2 ^ 64 }
+        ensures first { IfOk result (λ found. option_map numbered_of found ≡ first_reached_from
+            (rules_in mappings.now) self.now.members.items (before + 1)
+            (passing run.now.start (run.now.end - run.now.start) run.now.own)) }
+    {
+        let mut number = before;
+        for mapping in run.start..run.end {
             number += 1;
-            if reaches_any(&self.members, mappings, read) {
-                return Some(Numbered { number, read });
+            let found = self.reached_mapping(alloc, mappings, number, mapping, run.own)?;
+            if let Some(found) = found {
+                return Ok(Some(found));
             }
         }
-        None
+        Ok(None)
+    }
+
+    // The read of this number, that the mapping has no violation by an attempt that had made so many writes, if it mentions
+    // such a relation.
+    fn reached_mapping(
+        &self,
+        alloc: Global,
+        mappings: &MappingList,
+        number: u64,
+        mapping: u16,
+        made: u64,
+    ) -> Result<Option<Numbered>, Memory>
+        ensures first { IfOk result (λ found. option_map numbered_of found ≡ first_reached_from
+            (rules_in mappings.now) self.now.members.items number
+            (finds_none_lem mapping made ∷ [])) }
+    {
+        let read = finds_none(mapping, made);
+        let found = self.reached_read(alloc, mappings, number, &read)?;
+        Ok(found)
+    }
+
+    // The read of this number, if it mentions such a relation.
+    fn reached_read(
+        &self,
+        alloc: Global,
+        mappings: &MappingList,
+        number: u64,
+        read: &LoggedRead,
+    ) -> Result<Option<Numbered>, Memory>
+        ensures first { IfOk result (λ found. option_map numbered_of found ≡ first_reached_from
+            (rules_in mappings.now) self.now.members.items number (read_of read.now ∷ [])) }
+    {
+        if !reaches_any(&self.members, mappings, read) {
+            return Ok(None);
+        }
+        Ok(Some(Numbered {
+            number,
+            read: read.copy(alloc)?,
+        }))
     }
 
     /// The least update of which a lost write is of a relation that the read mentions; 0, which is no update, where none is.

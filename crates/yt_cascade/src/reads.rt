@@ -17,20 +17,20 @@ use yt_versions::Versions;
 
 /// A logged read with its number in the log, from 1.
 #[derive(Drop)]
-pub(crate) struct Numbered<'l> {
+pub(crate) struct Numbered {
     pub(crate) number: u64,
-    pub(crate) read: &'l LoggedRead,
+    pub(crate) read: LoggedRead,
 }
 
 impl<'a> Cascade<'a> {
     /// The first read of the reader that depends on what is lost: precisely, one that has another value without it;
     /// coarsely, one that mentions a relation of it. It is refused only for want of memory.
-    pub(crate) fn first_dependent<'l>(
+    pub(crate) fn first_dependent(
         &self,
         alloc: Global,
         lost: &Lost<'_>,
-        reader: &'l Record,
-    ) -> Result<Option<Numbered<'l>>, Memory>
+        reader: &Record,
+    ) -> Result<Option<Numbered>, Memory>
         requires covers { HasFootprint reader.now }
         requires lost { HasLostImpact self.now.mappings.now lost.now }
         ensures first { IfOk result (λ found. option_map numbered_of found ≡
@@ -38,17 +38,17 @@ impl<'a> Cascade<'a> {
     {
         match self.deps {
             Deps::Precise => self.first_invalid(alloc, lost, reader),
-            Deps::Coarse => Ok(lost.first_reached(self.mappings.list(), reader.log.as_slice())),
+            Deps::Coarse => lost.first_reached(alloc, self.mappings.list(), reader.log.as_slice()),
         }
     }
 
     // The first read of the reader that has another value without what is lost.
-    fn first_invalid<'l>(
+    fn first_invalid(
         &self,
         alloc: Global,
         lost: &Lost<'_>,
-        reader: &'l Record,
-    ) -> Result<Option<Numbered<'l>>, Memory>
+        reader: &Record,
+    ) -> Result<Option<Numbered>, Memory>
         requires covers { HasFootprint reader.now }
         requires lost { HasLostImpact self.now.mappings.now lost.now }
         ensures first { IfOk result (λ found. option_map numbered_of found ≡
@@ -64,13 +64,13 @@ impl<'a> Cascade<'a> {
 
     // The first read of the reader that a write of these trails meets and that has another value over these versions, which
     // are without them.
-    fn first_met<'l>(
+    fn first_met(
         &self,
         alloc: Global,
         without: &Versions,
         trails: &[Trail<'_>],
-        reader: &'l Record,
-    ) -> Result<Option<Numbered<'l>>, Memory>
+        reader: &Record,
+    ) -> Result<Option<Numbered>, Memory>
         ensures first { IfOk result (λ found. option_map numbered_of found ≡
             first_invalid_lem self.now.mappings.now without.now trails.now reader.now) }
     {

@@ -1,17 +1,17 @@
 -- Logs of which no read is met, by the mappings once.
-use Rattle.std.proofs.Common.{◌≡◌, ◌∙◌, ap, refl, sym, zero, suc, ℕ, ◌==◌, Bool, true, false, ◌||◌, ◌&&◌, List, [], ◌∷◌, ◌++◌, Some, None}
+use Rattle.std.proofs.Common.{◌≡◌, ◌∙◌, ap, refl, sym, zero, suc, ℕ, ◌==◌, Bool, true, false, ◌||◌, ◌&&◌, List, [], ◌∷◌, Some, None}
 use Rattle.std.specs.List.{list_any, list_all, slice_get}
 use Rattle.std.specs.Option.{option_map}
 use Rattle.std.specs.Prelude.{if◌then◌else◌}
 use Rattle.std.proofs.lemmas.Bool.{or_parts}
 use Rattle.yt_model.specs.Values.{Fact}
-use Rattle.yt_model.specs.Repository.{Change, Insert, Delete}
+use Rattle.yt_model.specs.Repository.{Change}
 use Rattle.yt_model.specs.Mappings.{Pattern, Rule}
 use Rattle.yt_model.specs.Mentions.{rule_mentions}
 use Rattle.yt_model.specs.Queries.{Query, Present, Violation, Specific, Occurs}
 use Rattle.yt_model.specs.Violations.{Direction}
 use Rattle.yt_model.proofs.Bools.{and-false, or_left, or_right, differ}
-use Rattle.yt_query.specs.Meanings.{Read}
+use Rattle.yt_query.specs.Meanings.{Read, passing}
 use Rattle.yt_conflict.specs.Concerns.{agree, columns, has_columns, stand_together, joins, joins_own, may_cause, seats, may_make, may_violate, concerns, breaks, breaks_some, tuple_of, counts_all, asks_violation, is_nothing, found_none, meets, is_hit, is_met, is_met_apart}
 use Rattle.yt_conflict.specs.declared.concerns.Sense.{Sense}
 use Rattle.yt_conflict.proofs.Hits.{neither, unhit}
@@ -92,3 +92,8 @@ pub none_changed : (ms : List Rule) (h : Direction) (D : List Fact) (own : List 
     → meets_any ms h own g trails rs ≡ false → None ≡ first_changed ms h D own g trails rs
 none_changed ms h D own g trails rs e =
     sym (ap (option_map (λ (r : Numbered). record { number = r.number; read = r.read; now = value_now ms h D own r.read })) (none_first ms h D own g trails 1 rs e))
+
+-- A run asked for violations and found none, so none of its reads is met apart.
+pub run_unmet : (ms : List Rule) (h : Direction) (own : List Change) (g : Sense) (trails : List (List Change)) (n k made : ℕ) → false ≡ meets_any_apart ms h own g trails (passing n k made)
+run_unmet ms h own g trails n zero made = refl
+run_unmet ms h own g trails n (suc k) made = run_unmet ms h own g trails (suc n) k made

@@ -1,5 +1,5 @@
 -- Sets of spots, footprints, reaches and impacts that grow.
-use Rattle.std.proofs.Common.{◌≡◌, ◌∙◌, ap, refl, sym, ℕ, suc, ◌==◌, Bool, true, false, not, ◌&&◌, ◌||◌, List, [], ◌∷◌, ◌++◌, ◌+◌, ◌<◌, subst, map, drop, length, get_or, add-one, Option, Some, None, inl, inr}
+use Rattle.std.proofs.Common.{◌≡◌, ap, refl, sym, ℕ, zero, suc, ◌==◌, Bool, true, false, not, ◌&&◌, ◌||◌, List, [], ◌∷◌, ◌++◌, ◌+◌, ◌<◌, subst, map, drop, length, get_or, add-one, Option, Some, None, inl, inr}
 use Rattle.std.specs.List.{list_any, list_all}
 use Rattle.std.proofs.lemmas.Bool.{and_parts, or_cases}
 use Rattle.yt_base.specs.Meanings.{datum_of}
@@ -9,7 +9,7 @@ use Rattle.yt_model.specs.Queries.{Query, Present, Violation, Specific, Occurs}
 use Rattle.yt_model.specs.Repository.{Change}
 use Rattle.yt_model.specs.Values.{Datum, Fact}
 use Rattle.yt_model.proofs.Bools.{both, or_left, or_right}
-use Rattle.yt_query.specs.Meanings.{Read}
+use Rattle.yt_query.specs.Meanings.{Read, passing}
 use Rattle.yt_conflict.specs.Concerns.{is_nothing, may_enact, adds, columns, tuple_of}
 use Rattle.yt_conflict.specs.Footprints.{CoversMore, ReadsMore, has_query, has_read, has_write, has_write_in}
 use Rattle.yt_conflict.specs.Impacts.{IsReachWithin, IsImpactWithin, key_from, has_key, has_seat, has_seats, has_joins, has_right, has_rule, has_tuple_asked, has_change}
@@ -77,6 +77,18 @@ all_still p q h (x ∷ xs) e = let parts = and_parts (p x) (list_all p xs) e in 
 all_with : {K : Type 0} (p : K → Bool) (xs ys : List K) → list_all p xs ≡ true → list_all p ys ≡ true → list_all p (xs ++ ys) ≡ true
 all_with p [] ys e h = h
 all_with p (x ∷ xs) ys e h = let parts = and_parts (p x) (list_all p xs) e in both (p x) (list_all p (xs ++ ys)) parts.0 (all_with p xs ys parts.1 h)
+
+-- It has each of these reads.
+abbrev pub has_reads : Footprint → List Read → Bool
+has_reads f rs = list_all (has_read f) rs
+
+pub reads_still : (e f : Footprint) (rs : List Read) → ReadsMore e f → has_reads e rs ≡ true → has_reads f rs ≡ true
+reads_still e f rs m h = all_still (has_read e) (has_read f) (λ r i. read_still e f r m i) rs h
+
+-- Every footprint has the reads of a run.
+pub run_is_had : (f : Footprint) (n k own : ℕ) → has_reads f (passing n k own) ≡ true
+run_is_had f n zero own = refl
+run_is_had f n (suc k) own = run_is_had f (suc n) k own
 
 any_with : {K : Type 0} (p : K → Bool) (b : Bool) (xs ys : List K) → (list_any p xs ≡ true → b ≡ true) → (list_any p ys ≡ true → b ≡ true) → list_any p (xs ++ ys) ≡ true → b ≡ true
 any_with p b [] ys f g e = g e

@@ -47,7 +47,11 @@ meets_any_apart ms h own g trails rs = list_any (is_met_apart ms h own g trails)
 abbrev pub is_met_and_changed : List Rule → Direction → List Fact → List Change → Sense → List (List Change) → Read → Bool
 is_met_and_changed ms h D own g trails r = is_met ms h own g trails r && is_changed ms h D own r
 
--- The first read of the log that a write of these trails meets and that has another value over D.
+-- The first of these reads, of which the first has number n, that a write of these trails meets and that has another value over D.
+abbrev pub first_changed_from : List Rule → Direction → List Fact → List Change → Sense → List (List Change) → ℕ → List Read → Option Changed
+first_changed_from ms h D own g trails n rs =
+    option_map (λ r. record { number = r.number; read = r.read; now = value_now ms h D own r.read }) (first_from (is_met_and_changed ms h D own g trails) n rs)
+
+-- That of the log.
 abbrev pub first_changed : List Rule → Direction → List Fact → List Change → Sense → List (List Change) → List Read → Option Changed
-first_changed ms h D own g trails log =
-    option_map (λ r. record { number = r.number; read = r.read; now = value_now ms h D own r.read }) (first_from (is_met_and_changed ms h D own g trails) 1 log)
+first_changed ms h D own g trails log = first_changed_from ms h D own g trails 1 log

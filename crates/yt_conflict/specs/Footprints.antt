@@ -1,5 +1,5 @@
 -- What an attempt has written and asked, so far as a write must have to do with it to meet one of its reads.
-use Rattle.std.specs.Prelude.{◌≡◌, Bool, true, false, ◌||◌, List, ◌++◌}
+use Rattle.std.specs.Prelude.{◌≡◌, Bool, true, ◌||◌, List, ◌++◌}
 use Rattle.std.specs.List.{list_any, list_all}
 use Rattle.yt_model.specs.Queries.{Query, Present, Violation, Specific, Occurs}
 use Rattle.yt_model.specs.Repository.{Change}
@@ -28,10 +28,6 @@ has_query f (Occurs u k) nothing = f.exposed
 -- The same of a logged read.
 abbrev pub has_read : Footprint → Read → Bool
 has_read f r = has_query f r.query (is_nothing r.reply)
-
--- Every footprint has the read.
-abbrev pub IsFree : Read → Type 0
-IsFree r = (f : Footprint) → has_read f r ≡ true
 
 -- It is one of an attempt with these own writes and these reads: it has each of them, and any write may meet a read where they
 -- put mappings in force.

@@ -8,3 +8,4 @@ pub mod Footprints
 pub mod Impacts
 pub mod Keys
 pub mod Meetings
+pub mod Looking

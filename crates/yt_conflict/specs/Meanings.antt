@@ -5,4 +5,4 @@ use Rattle.yt_conflict.specs.declared.changes.Changed.{Changed}
 
 -- The changed read that a `Changed` stands for.
 abbrev pub changed_of : Changed → meant.Changed
-changed_of c = record { number = c.number; read = read_of c.read.now; now = reply_of c.now }
+changed_of c = record { number = c.number; read = read_of c.read; now = reply_of c.now }

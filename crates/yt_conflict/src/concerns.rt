@@ -4,7 +4,7 @@ ghost use Rattle.std.specs.Prelude.{◌≡◌, false, map};
 ghost use Rattle.yt_base.specs.Contents.{rules_in};
 ghost use Rattle.yt_base.specs.Meanings.{change_of, datum_of, fact_of, heading_of};
 ghost use Rattle.yt_model.specs.Queries.{holds_null as holds_null_lem, is_named as is_named_lem};
-ghost use Rattle.yt_query.specs.Meanings.{query_of, read_of};
+ghost use Rattle.yt_query.specs.Meanings.{query_of, read_of, reads_in, reads_of};
 ghost use Rattle.yt_conflict.specs.Changes.{meets_any, meets_any_apart};
 ghost use Rattle.yt_conflict.specs.Concerns.{breaks_some as breaks_some_lem, concerns as concerns_lem, found_none as found_none_lem, is_hit, is_met as is_met_lem, is_met_apart, may_violate as may_violate_lem, meets as meets_lem, tuple_of as tuple_of_lem};
 ghost use Rattle.yt_conflict.specs.Trails.{trails_of};
@@ -12,7 +12,7 @@ ghost use Rattle.yt_conflict.specs.Trails.{trails_of};
 use crate::impacts::Impact;
 use crate::joins::{breaks_some, counts_all, may_decide, may_make};
 use yt_base::{Direction, MappingList, Tuple, Value, Write};
-use yt_query::{Answer, LoggedRead, Query};
+use yt_query::{Answer, Logged, LoggedRead, Query};
 use yt_unifier::is_more_specific;
 
 /// Writes of one update, with its number, and what an attempt must have to do with them for one to meet a read of it.
@@ -43,10 +43,10 @@ pub(crate) struct Reader<'r> {
 impl<'r> Reader<'r> {
     /// Whether a write of one of the trails may meet a read of the log. Where it says no, none does. It goes by the
     /// mappings once, and not by each read that found no violation. It takes no memory.
-    pub(crate) fn may_be_met(&self, trails: &[Trail<'_>], log: &[LoggedRead]) -> bool
+    pub(crate) fn may_be_met(&self, trails: &[Trail<'_>], log: &[Logged]) -> bool
         ensures unmet { result ≡ false → meets_any (rules_in self.now.mappings.now)
             (heading_of self.now.direction) (map change_of self.now.own.now) self.now.sense
-            (trails_of trails.now) (map read_of log.now) ≡ false }
+            (trails_of trails.now) (reads_in log.now) ≡ false }
     {
         if counts_all(self.direction, self.own) {
             return true;
@@ -82,12 +82,25 @@ impl<'r> Reader<'r> {
     }
 
     // Whether a write of one of the trails meets a read of the log, of those that asked for no violation or found one.
-    fn meets_apart(&self, trails: &[Trail<'_>], log: &[LoggedRead]) -> bool
+    fn meets_apart(&self, trails: &[Trail<'_>], log: &[Logged]) -> bool
         ensures { result ≡ meets_any_apart (rules_in self.now.mappings.now)
             (heading_of self.now.direction) (map change_of self.now.own.now) self.now.sense
-            (trails_of trails.now) (map read_of log.now) }
+            (trails_of trails.now) (reads_in log.now) }
     {
-        log.iter().any(|read| self.is_met_apart(trails, read))
+        log.iter()
+            .any(|entry| self.meets_entry_apart(trails, entry))
+    }
+
+    // Whether one meets a read of the entry. Those that a look passed found none.
+    fn meets_entry_apart(&self, trails: &[Trail<'_>], entry: &Logged) -> bool
+        ensures { result ≡ meets_any_apart (rules_in self.now.mappings.now)
+            (heading_of self.now.direction) (map change_of self.now.own.now) self.now.sense
+            (trails_of trails.now) (reads_of entry.now) }
+    {
+        match entry {
+            Logged::Asked(read) => self.is_met_apart(trails, read),
+            Logged::Passed(_) => false,
+        }
     }
 
     // Whether the read asked for no violation or found one, and a write of one of the trails meets it.

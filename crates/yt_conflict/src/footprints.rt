@@ -1,11 +1,11 @@
 //! What an attempt has written and asked, so far as a write below it must have to do with it to meet one of its reads.
-ghost use Rattle.std.specs.Prelude.{◌≡◌, ◌<◌, ◌||◌, false, true, [], map, IsTrue};
+ghost use Rattle.std.specs.Prelude.{◌≡◌, ◌<◌, ◌||◌, false, true, [], map};
 ghost use Rattle.std.specs.List.{list_all};
 ghost use Rattle.yt_base.specs.Meanings.{change_of, datum_of, fact_of, heading_of};
 ghost use Rattle.yt_model.specs.Specific.{is_constant as is_constant_lem};
-ghost use Rattle.yt_query.specs.Meanings.{read_of, reply_of};
+ghost use Rattle.yt_query.specs.Meanings.{read_of, reads_in, reads_of, reply_of};
 ghost use Rattle.yt_conflict.specs.Concerns.{is_nothing as is_nothing_lem};
-ghost use Rattle.yt_conflict.specs.Footprints.{Covers, CoversMore, IsFree, ReadsMore, has_read, has_write_in};
+ghost use Rattle.yt_conflict.specs.Footprints.{Covers, CoversMore, ReadsMore, has_read, has_write_in};
 ghost use Rattle.yt_conflict.specs.Meetings.{IsJoinless, IsNoneMet, IsOutside};
 ghost use Rattle.yt_conflict.specs.Signatures.{IsWithin, has_spot, has_tuple, has_values, spot_asked};
 
@@ -14,7 +14,7 @@ use crate::impacts::{Impact, Reach};
 use crate::joins::may_enact_any;
 use crate::signatures::{Signature, home, spot};
 use yt_base::{Direction, Tuple, Value, Write};
-use yt_query::{Answer, LoggedRead, Query};
+use yt_query::{Answer, Logged, LoggedRead, Query};
 
 /// Where the values lie that an attempt has written, and those that it has asked for; whether it has found a violation; and
 /// whether any write at all may meet one of its reads.
@@ -40,8 +40,8 @@ impl Footprint {
     }
 
     /// That of the attempt once it has made these own writes and these reads more. It takes no memory.
-    pub fn after(self, writes: &[Write], reads: &[LoggedRead]) -> Footprint
-        ensures covers { CoversMore self (map change_of writes.now) (map read_of reads.now)
+    pub fn after(self, writes: &[Write], reads: &[Logged]) -> Footprint
+        ensures covers { CoversMore self (map change_of writes.now) (reads_in reads.now)
             result }
     {
         let asked = self.asking(reads);
@@ -54,18 +54,26 @@ impl Footprint {
     }
 
     // With these reads more.
-    fn asking(self, reads: &[LoggedRead]) -> Footprint
+    fn asking(self, reads: &[Logged]) -> Footprint
         ensures more { ReadsMore self result }
-        ensures has { list_all (has_read result) (map read_of reads.now) ≡ true }
+        ensures has { list_all (has_read result) (reads_in reads.now) ≡ true }
     {
         let mut more = self;
-        for read in reads {
-            if is_free(read) {
-                continue;
-            }
-            more = more.asking_one(read);
+        for entry in reads {
+            more = more.asking_by(entry);
         }
         more
+    }
+
+    // With the reads of one entry more. Every footprint has those that a look passed.
+    fn asking_by(self, entry: &Logged) -> Footprint
+        ensures more { ReadsMore self result }
+        ensures has { list_all (has_read result) (reads_of entry.now) ≡ true }
+    {
+        match entry {
+            Logged::Asked(read) => self.asking_one(read),
+            Logged::Passed(_) => self,
+        }
     }
 
     // With one read more.
@@ -219,18 +227,6 @@ fn is_constant(value: &Value) -> bool
         Value::Int(_) => true,
         Value::Word(_) => true,
         Value::Null(_) => false,
-    }
-}
-
-// Whether every footprint has the read: that a mapping has no violation.
-fn is_free(read: &LoggedRead) -> bool
-    ensures free { IsTrue result → IsFree (read_of read.now) }
-{
-    match &read.query {
-        Query::Present(_) => false,
-        Query::Violation(_) => is_nothing(&read.answer),
-        Query::Specific(_) => false,
-        Query::Occurs(_, _) => false,
     }
 }
 

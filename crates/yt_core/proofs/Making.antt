@@ -31,7 +31,7 @@ use Rattle.yt_plan.specs.Settled.{is_valid_over, AreValidOver}
 use Rattle.yt_machine.specs.Reads.{all_valid, is_valid}
 use Rattle.std.specs.List.{list_all}
 use Rattle.yt_plan.specs.declared.plans.Plan.{Plan}
-use Rattle.yt_query.specs.Meanings.{read_of}
+use Rattle.yt_query.specs.Meanings.{reads_in}
 use Rattle.yt_program.specs.Courses.{State as ProgramState}
 use Rattle.yt_queue.specs.Queues.{logged, update_of, updates_of, AreFrom}
 use Rattle.yt_queue.specs.Renewals.{AllHaveOneMore}
@@ -166,8 +166,8 @@ module _ (g : Ground) (v : Kept) (rs : List Record) (H : List PlainEntry) (s : S
             ap (λ m. seen (suc m) v) number ∙ sees (suc i) ∙ below_more (machine g) (chase_laws caused g.rules g.budget kept.budget) g.base us i u found
             ∙ (λ j. apply (sym (sees i) j) (own j)) ∙ ap (λ m. apply (seen m v) r.program.attempt.own) (sym number);
         valid =
-            subst (λ (D : List Fact). AreValidOver g.rules D r.program.attempt (map read_of r.log.items)) (sym (ap (λ m. seen m v) number ∙ sees i))
-            (all_read (is_valid_over g.rules (below (machine g) g.base us i) r.program.attempt) (logged g.rules g.budget) (is_valid (machine g) u.operation (below (machine g) g.base us i) u.state.own) (λ x. refl) (map read_of r.log.items)
+            subst (λ (D : List Fact). AreValidOver g.rules D r.program.attempt (reads_in r.log.items)) (sym (ap (λ m. seen m v) number ∙ sees i))
+            (all_read (is_valid_over g.rules (below (machine g) g.base us i) r.program.attempt) (logged g.rules g.budget) (is_valid (machine g) u.operation (below (machine g) g.base us i) u.state.own) (λ x. refl) (reads_in r.log.items)
             ∙ sym (ap (λ (ws : List (Update (machine g))). all_valid (machine g) (below (machine g) g.base ws i) u) kept.left.leaves) ∙ (history_of g v rs H kept).valid i u (update_there g v rs H i r kept there));
         few = subst (λ (m : ℕ). m + 1 < 2 ^ 32) (sym number) (omega (arith, placed_within g v rs H s kept same n Ready stands i (sym e), kept.few));
       }

@@ -10,7 +10,7 @@ use Rattle.yt_plan.specs.Settled.{AreValidOver}
 use Rattle.yt_program.specs.Wishes.{wish}
 use Rattle.yt_queue.specs.Programs.{HasNext}
 use Rattle.yt_queue.specs.Wants.{WantsNext}
-use Rattle.yt_query.specs.Meanings.{Read, read_of}
+use Rattle.yt_query.specs.Meanings.{Read, reads_in}
 use Rattle.yt_steps.specs.Attempts.{Attempt}
 use Rattle.yt_program.specs.Courses.{State as ProgramState}
 use Rattle.yt_queue.specs.declared.records.Record.{Record}
@@ -37,7 +37,7 @@ stands_applied ms v w r n program versions number same held =
 
 -- Over what the update sees its writes have caused no violation of the settled mappings.
 pub has_settled : (ms ks : List Rule) (v w : Kept) (r : Record) (n : ℕ) (program : ProgramState) (marks : List Bool) → ks ≡ ms → w ≡ v → n ≡ r.program.attempt.number → program ≡ r.program → IsHeldBy ms v r
-    → ((D : List Fact) → AreValidOver ms D r.program.attempt (map read_of r.log.items) → HasSettled ms D r.program.attempt marks) → HasSettled ks (seen n w) program.attempt marks
+    → ((D : List Fact) → AreValidOver ms D r.program.attempt (reads_in r.log.items) → HasSettled ms D r.program.attempt marks) → HasSettled ks (seen n w) program.attempt marks
 has_settled ms ks v w r n program marks rules versions number same held tells =
     let here : HasSettled ms (seen r.program.attempt.number v) r.program.attempt marks = tells (seen r.program.attempt.number v) held.valid in
     subst (λ (l : List Rule). HasSettled l (seen n w) program.attempt marks) (sym rules)

@@ -20,7 +20,7 @@ use Rattle.yt_model.specs.Updates.{Operation}
 use Rattle.yt_model.specs.Values.{Fact}
 use Rattle.yt_plan.specs.declared.plans.Plan.{Plan}
 use Rattle.yt_program.specs.Courses.{State as ProgramState}
-use Rattle.yt_query.specs.Meanings.{read_of}
+use Rattle.yt_query.specs.Meanings.{reads_in}
 use Rattle.yt_queue.specs.Events.{HasRoom, HasRoomFor}
 use Rattle.yt_queue.specs.Programs.{IsPlanOf}
 use Rattle.yt_queue.specs.Queues.{update_of, updates_of, AreFrom}
@@ -51,7 +51,7 @@ pub record AreSame (rs rs' : List Record) : Type 0 where
 
 -- The plan as callers see it.
 abbrev pub meant_of : ℕ → Plan → PlanMeant
-meant_of n plan = record { update = n; program = plan.program; reads = map read_of plan.reads.items }
+meant_of n plan = record { update = n; program = plan.program; reads = reads_in plan.reads.items }
 
 -- The plan is that of a step of the record, over something.
 pub record IsPlanFor (r : Record) (plan : Plan) : Type 0 where

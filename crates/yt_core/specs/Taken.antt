@@ -7,7 +7,7 @@ use Rattle.yt_model.specs.Mappings.{Rule}
 use Rattle.yt_model.specs.Repository.{apply}
 use Rattle.yt_plan.specs.Planned.{at_rest, next_attempt, next_reads}
 use Rattle.yt_plan.specs.Settled.{AreValidOver}
-use Rattle.yt_query.specs.Meanings.{read_of}
+use Rattle.yt_query.specs.Meanings.{reads_in}
 use Rattle.yt_queue.specs.Queues.{update_of}
 use Rattle.yt_queue.specs.declared.records.Record.{Record}
 use Rattle.yt_steps.specs.Chase.{caused_chase}
@@ -32,7 +32,7 @@ pub record IsReadySomewhere (r : Record) : Type 0 where
 pub record IsHeldBy (ms : List Rule) (v : Kept) (r : Record) : Type 0 where
   pub applied : seen (suc r.program.attempt.number) v ≡ apply (seen r.program.attempt.number v) r.program.attempt.own
   pub few : r.program.attempt.number + 1 < 2 ^ 32
-  pub valid : AreValidOver ms (seen r.program.attempt.number v) r.program.attempt (map read_of r.log.items)
+  pub valid : AreValidOver ms (seen r.program.attempt.number v) r.program.attempt (reads_in r.log.items)
 
 -- It plans the next step of the record's attempt over what its update sees.
 pub record IsSnapshotOf (ms : List Rule) (B : ℕ) (v : Kept) (r : Record) (p : PlanMeant) : Type 0 where

@@ -1,10 +1,10 @@
 //! Which mappings are known to be settled for one of the updates of a core, so that a look of its need not read its log.
-ghost use Rattle.std.specs.Prelude.{◌≡◌, ◌≤◌, List, map, IfOk};
+ghost use Rattle.std.specs.Prelude.{◌≡◌, ◌≤◌, List, IfOk};
 ghost use Rattle.yt_base.specs.Contents.{rules_in};
 ghost use Rattle.yt_model.specs.Values.{Fact};
 ghost use Rattle.yt_plan.specs.Planned.{HasSettled};
 ghost use Rattle.yt_plan.specs.Settled.{AreValidOver};
-ghost use Rattle.yt_query.specs.Meanings.{read_of};
+ghost use Rattle.yt_query.specs.Meanings.{reads_in};
 
 use std::alloc::Global;
 use std::mem;
@@ -46,7 +46,7 @@ impl Known {
     ) -> Result<Settled, Memory>
         ensures settled { IfOk result (λ settled. (D : List Fact) →
             AreValidOver (rules_in mappings.now) D item.now.program.attempt
-            (map read_of item.now.log.items) →
+            (reads_in item.now.log.items) →
             (self.old.update ≡ item.now.program.attempt.number →
             AreMarksOver (rules_in mappings.now) D item.now self.old) →
             HasSettled (rules_in mappings.now) D item.now.program.attempt settled) }

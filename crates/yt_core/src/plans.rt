@@ -3,7 +3,7 @@ ghost use Rattle.std.specs.Option.{option_map, option_copied};
 ghost use Rattle.std.specs.Prelude.{◌≡◌, ◌<◌, length, map, IfOk, OnOk, OnErr};
 ghost use Rattle.yt_base.specs.Meanings.{choice_of, rule_of};
 ghost use Rattle.yt_limits.specs.Within.{AreWithin};
-ghost use Rattle.yt_query.specs.Meanings.{read_of};
+ghost use Rattle.yt_query.specs.Meanings.{reads_in};
 ghost use Rattle.yt_queue.specs.Queues.{AreFrom};
 ghost use Rattle.yt_queue.specs.Programs.{IsBetween, HasNext};
 ghost use Rattle.yt_queue.specs.Wants.{WantsNext};
@@ -19,7 +19,7 @@ use yt_eval::Settled;
 use yt_limits::{Budget, Mappings};
 use yt_plan::{Plan as Planned, plan_step, settled_by};
 use yt_program::Program;
-use yt_query::LoggedRead;
+use yt_query::Logged;
 use yt_queue::Record;
 use yt_versions::Versions;
 
@@ -31,13 +31,12 @@ pub struct Plan {
 }
 
 impl Model for Plan {
-    ghost use Rattle.std.specs.Prelude.{map};
-    ghost use Rattle.yt_query.specs.Meanings.{read_of};
+    ghost use Rattle.yt_query.specs.Meanings.{reads_in};
     ghost use Rattle.yt_core.specs.Planned.{PlanMeant};
 
     ghost Value = { PlanMeant };
 
-    ghost view = { λ p. record { update = p.update; program = p.step.program; reads = map read_of p.step.reads.items } };
+    ghost view = { λ p. record { update = p.update; program = p.step.program; reads = reads_in p.step.reads.items } };
 }
 
 impl Plan {
@@ -55,9 +54,9 @@ impl Plan {
         self.step.program.attempt()
     }
 
-    /// The reads of the step, in order. It takes no memory.
-    pub fn reads(&self) -> &[LoggedRead]
-        ensures reads { map read_of result.now ≡ self.now.reads }
+    /// The reads of the step, in order, as the entries of a log. It takes no memory.
+    pub fn reads(&self) -> &[Logged]
+        ensures reads { reads_in result.now ≡ self.now.reads }
     {
         self.step.reads.as_slice()
     }

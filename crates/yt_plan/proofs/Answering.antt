@@ -10,8 +10,11 @@ use Rattle.yt_model.specs.Violations.{Direction, Caused}
 use Rattle.yt_model.specs.Updates.{Choice, direction_of}
 use Rattle.yt_model.specs.Mappings.{Rule}
 use Rattle.yt_query.specs.Kinds.{IsOfKind}
-use Rattle.yt_query.specs.Meanings.{Read, read_of}
+use Rattle.yt_query.specs.Meanings.{Read, read_of, reads_in}
+use Rattle.yt_query.specs.declared.log.Logged.{Logged}
+use Rattle.yt_query.specs.declared.log.Logged.TheVariants.{Asked}
 use Rattle.yt_query.specs.declared.log.LoggedRead.{LoggedRead}
+use Rattle.yt_query.proofs.Entries.{with_last}
 use Rattle.yt_steps.specs.Attempts.{Attempt}
 use Rattle.yt_steps.specs.Steps.{Asking, step, moved}
 use Rattle.yt_program.specs.Courses.{Course, Reading, State, coming_to, by_reply, first_asked, course, course_by}
@@ -81,19 +84,14 @@ planned_reads ms B n D P c t below own h e f g k m =
     (λ i. map (read_after (m i)) (log_of (λ q. value ms q (e i) (f i) (Caused (g i))) (k i)))
     ∙ ap (map (read_after (length P.own))) (comes_by (answers_over ms D P) B P (step ms P c))
 
-map_more : (rs : List LoggedRead) (r : LoggedRead) → map read_of (rs ++ r ∷ []) ≡ map read_of rs ++ read_of r ∷ []
-map_more [] r = refl
-map_more (q ∷ rs) r = ap (λ xs. read_of q ∷ xs) (map_more rs r)
-
 -- One more read, and what is left to be read.
-pub reads_on : (val : Query → Reply) (n : ℕ) (t u : Course) (q : Query) (a : Reply) (rs made : List LoggedRead) (r : LoggedRead) (all : List Read) → IsOn val t q a
-    → u ≡ by_reply t a → made ≡ rs ++ r ∷ [] → read_of r ≡ read_after n (q, a)
-    → map read_of rs ++ map (read_after n) (log_of val t) ≡ all → map read_of made ++ map (read_after n) (log_of val u) ≡ all
+pub reads_on : (val : Query → Reply) (n : ℕ) (t u : Course) (q : Query) (a : Reply) (rs made : List Logged) (r : LoggedRead) (all : List Read) → IsOn val t q a
+    → u ≡ by_reply t a → made ≡ rs ++ Asked r ∷ [] → read_of r ≡ read_after n (q, a)
+    → reads_in rs ++ map (read_after n) (log_of val t) ≡ all → reads_in made ++ map (read_after n) (log_of val u) ≡ all
 reads_on val n t u q a rs made r all on f e same h =
-    (λ i. map read_of (e i) ++ map (read_after n) (log_of val (f i)))
-    ∙ ap (λ xs. xs ++ map (read_after n) (log_of val (by_reply t a))) (map_more rs r ∙ ap (λ x. map read_of rs ++ x ∷ []) same)
-    ∙ append_assoc (map read_of rs) (read_after n (q, a) ∷ []) (map (read_after n) (log_of val (by_reply t a)))
-    ∙ ap (λ es. map read_of rs ++ map (read_after n) es) (sym on.log)
+    (λ i. with_last made rs (Asked r) (read_after n (q, a) ∷ []) e (ap (λ x. x ∷ []) same) i ++ map (read_after n) (log_of val (f i)))
+    ∙ append_assoc (reads_in rs) (read_after n (q, a) ∷ []) (map (read_after n) (log_of val (by_reply t a)))
+    ∙ ap (λ es. reads_in rs ++ map (read_after n) es) (sym on.log)
     ∙ h
 
 -- Fewer queries are left, of those that are asked after some were passed.

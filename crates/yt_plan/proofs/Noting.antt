@@ -1,5 +1,5 @@
 -- What the reads of a log tell of mappings.
-use Rattle.std.proofs.Common.{◌≡◌, ◌∙◌, ap, refl, sym, subst, ℕ, zero, suc, slice_index_or, replicate, Bool, true, false, if◌then◌else◌, ◌&&◌, List, [], ◌∷◌, ◌++◌, map, take, drop}
+use Rattle.std.proofs.Common.{◌≡◌, ◌∙◌, ap, refl, sym, subst, ℕ, zero, suc, slice_index_or, replicate, Bool, true, false, if◌then◌else◌, List, [], ◌∷◌, ◌++◌, ◌-◌, take, drop}
 use Rattle.std.specs.List.{list_all}
 use Rattle.std.proofs.lemmas.Bool.{false≢true, and_parts}
 use Rattle.std.proofs.lemmas.List.{take-append-drop}
@@ -11,11 +11,13 @@ use Rattle.yt_model.specs.Repository.{Change}
 use Rattle.yt_model.specs.Updates.{direction_of}
 use Rattle.yt_eval.specs.Watched.{AreSettled, LoseMarksTo, with_settled}
 use Rattle.yt_eval.proofs.Settling.{learnt_nothing, settled_after}
-use Rattle.yt_query.specs.Meanings.{Read, read_of}
-use Rattle.yt_query.specs.declared.log.LoggedRead.{LoggedRead}
+use Rattle.yt_query.specs.Meanings.{Read, own_of, passing, reads_in, reads_of}
+use Rattle.yt_query.specs.declared.log.Logged.{Logged}
+use Rattle.yt_query.specs.declared.log.Logged.TheVariants.{Asked, Passed}
+use Rattle.yt_query.proofs.Entries.{with_last}
 use Rattle.yt_steps.specs.Attempts.{Attempt}
 use Rattle.yt_plan.specs.Planned.{HasSettled}
-use Rattle.yt_plan.specs.Settled.{is_valid_over, AreValidOver, HasSettledBy, noted}
+use Rattle.yt_plan.specs.Settled.{is_valid_over, AreValidOver, HasSettledBy, all_noted, noted}
 
 is_nothing : (a b : Reply) → same_reply a Nothing ≡ true → same_reply a b ≡ true → b ≡ Nothing
 is_nothing Nothing Nothing e f = refl
@@ -38,21 +40,36 @@ noted_right n ms D P marks r own valid settled = by (same_reply r.reply Nothing)
         (learnt_nothing _ marks r.query (subst (λ (m : ℕ). HasSettledBy m ms D P marks) (sym own) settled) (is_nothing r.reply _ e valid))
     by false e = settled
 
-map_last : (rs : List LoggedRead) (r : LoggedRead) → map read_of (rs ++ r ∷ []) ≡ map read_of rs ++ read_of r ∷ []
-map_last [] r = refl
-map_last (q ∷ rs) r = ap (λ xs. read_of q ∷ xs) (map_last rs r)
+-- The reads of the last entry are valid, and those before it.
+pub last_valid : (ms : List Rule) (D : List Fact) (P : Attempt) (all before : List Logged) (e : Logged) → all ≡ before ++ e ∷ [] → AreValidOver ms D P (reads_in all)
+    → AreValidOver ms D P (reads_in before) × AreValidOver ms D P (reads_of e)
+last_valid ms D P all before e h valid =
+    and_parts (list_all (is_valid_over ms D P) (reads_in before)) (list_all (is_valid_over ms D P) (reads_of e))
+    (sym (list_all-append (is_valid_over ms D P) (reads_in before) (reads_of e)) ∙ ap (list_all (is_valid_over ms D P)) (sym (with_last all before e (reads_of e) h refl)) ∙ valid)
 
--- The last of the reads is valid, and those before it.
-pub last_valid : (ms : List Rule) (D : List Fact) (P : Attempt) (all before : List LoggedRead) (r : LoggedRead) → all ≡ before ++ r ∷ [] → AreValidOver ms D P (map read_of all)
-    → AreValidOver ms D P (map read_of before) × (is_valid_over ms D P (read_of r) ≡ true)
-last_valid ms D P all before r e valid =
-    let parts = and_parts (list_all (is_valid_over ms D P) (map read_of before)) (is_valid_over ms D P (read_of r) && true)
-    (sym (list_all-append (is_valid_over ms D P) (map read_of before) (read_of r ∷ [])) ∙ ap (list_all (is_valid_over ms D P)) (sym (ap (map read_of) e ∙ map_last before r)) ∙ valid) in
-    (parts.0, (and_parts (is_valid_over ms D P (read_of r)) true parts.1).0)
+-- These reads are of an attempt that had made n writes.
+abbrev HaveMade : ℕ → List Read → Type 0
+HaveMade n [] = Unit {0}
+HaveMade n (r ∷ rs) = (r.own ≡ n) × HaveMade n rs
 
-pub note_right : (n : ℕ) (ms : List Rule) (D : List Fact) (P : Attempt) (marks marks' : List Bool) (r : LoggedRead) → r.own ≡ n → marks' ≡ noted marks (read_of r)
-    → is_valid_over ms D P (read_of r) ≡ true → HasSettledBy n ms D P marks → HasSettledBy n ms D P marks'
-note_right n ms D P marks marks' r own e valid settled = subst (λ xs. HasSettledBy n ms D P xs) (sym e) (noted_right n ms D P marks (read_of r) own valid settled)
+-- Valid reads may be noted.
+all_noted_right : (n : ℕ) (ms : List Rule) (D : List Fact) (P : Attempt) (marks : List Bool) (rs : List Read) → HaveMade n rs → AreValidOver ms D P rs → HasSettledBy n ms D P marks → HasSettledBy n ms D P (all_noted marks rs)
+all_noted_right n ms D P marks [] own valid settled = settled
+all_noted_right n ms D P marks (r ∷ rs) own valid settled =
+    let parts = and_parts (is_valid_over ms D P r) (list_all (is_valid_over ms D P) rs) valid in
+    all_noted_right n ms D P (noted marks r) rs own.1 parts.1 (noted_right n ms D P marks r own.0 parts.0 settled)
+
+run_made : (k m own n : ℕ) → own ≡ n → HaveMade n (passing k m own)
+run_made k zero own n e = tt
+run_made k (suc m) own n e = (e, run_made (suc k) m own n e)
+
+made_by : (e : Logged) (n : ℕ) → own_of e ≡ n → HaveMade n (reads_of e)
+made_by (Asked r) n e = (e, tt)
+made_by (Passed run) n e = run_made run.start (run.end - run.start) run.own n e
+
+pub note_right : (n : ℕ) (ms : List Rule) (D : List Fact) (P : Attempt) (marks marks' : List Bool) (e : Logged) → own_of e ≡ n → marks' ≡ all_noted marks (reads_of e)
+    → AreValidOver ms D P (reads_of e) → HasSettledBy n ms D P marks → HasSettledBy n ms D P marks'
+note_right n ms D P marks marks' e own h valid settled = subst (λ xs. HasSettledBy n ms D P xs) (sym h) (all_noted_right n ms D P marks (reads_of e) (made_by e n own) valid settled)
 
 -- What the first writes have left settled, and none of the later ones stirred, all of them have.
 pub settled_since : (n : ℕ) (ms : List Rule) (D : List Fact) (P : Attempt) (marks left : List Bool) (ws : List Change) → ws ≡ drop n P.own → LoseMarksTo ws ms marks left → HasSettledBy n ms D P marks → HasSettled ms D P left

@@ -1,5 +1,5 @@
 -- Which mappings the log of an attempt tells to be settled.
-use Rattle.std.specs.Prelude.{◌≡◌, ℕ, Bool, true, if◌then◌else◌, List, take}
+use Rattle.std.specs.Prelude.{◌≡◌, ℕ, Bool, true, if◌then◌else◌, List, [], ◌∷◌, take}
 use Rattle.std.specs.List.{list_all}
 use Rattle.yt_model.specs.Values.{Fact}
 use Rattle.yt_model.specs.Mappings.{Rule}
@@ -25,3 +25,8 @@ HasSettledBy n ms D P marks = AreSettled (record { rules = ms; heading = directi
 -- The marks, with one for the mapping of which the read tells that it has no violation.
 abbrev pub noted : List Bool → Read → List Bool
 noted marks r = if same_reply r.reply Nothing then with_settled marks r.query else marks
+
+-- The same of all the reads.
+abbrev pub all_noted : List Bool → List Read → List Bool
+all_noted marks [] = marks
+all_noted marks (r ∷ rs) = all_noted (noted marks r) rs

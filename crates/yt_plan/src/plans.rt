@@ -7,7 +7,7 @@ ghost use Rattle.yt_model.specs.Repository.{IsRepository, apply};
 ghost use Rattle.yt_model.specs.Violations.{Caused};
 ghost use Rattle.yt_base.specs.Meanings.{choice_of, heading_of};
 ghost use Rattle.yt_eval.specs.Watched.{AreSettled, seen_over};
-ghost use Rattle.yt_query.specs.Meanings.{read_of};
+ghost use Rattle.yt_query.specs.Meanings.{reads_in};
 ghost use Rattle.yt_steps.specs.Steps.{step};
 ghost use Rattle.yt_program.specs.Courses.{coming_to, course};
 ghost use Rattle.yt_program.specs.Wishes.{wish};
@@ -19,10 +19,10 @@ use yt_base::{Choice, Direction, Facts, Memory, TryCopy};
 use yt_eval::{AppliedView, Settled};
 use yt_limits::{Budget, Mappings};
 use yt_program::{Program, Want};
-use yt_query::{LoggedRead, ReadLog};
+use yt_query::{Logged, LoggedRead, ReadLog};
 
-// Room for so many reads at most is made before the first of them.
-const AT_ONCE: usize = 64;
+// Room for so many entries of the log is made before the first of them.
+const AT_ONCE: usize = 4;
 
 /// The next step of an attempt: the attempt after it, and the reads of the step in order.
 #[derive(Drop)]
@@ -55,7 +55,7 @@ pub fn plan_step<F: Facts>(
         (next_attempt mappings.now budget (F.tuples below.now) program.now.attempt
         (option_map choice_of (option_copied choice.entry)))) }
     ensures reads { IfOk result (λ plan.
-        map read_of plan.reads.items
+        reads_in plan.reads.items
         ≡ next_reads mappings.now (F.tuples below.now) program.now.attempt
         (option_map choice_of (option_copied choice.entry))) }
     ensures settled { OnOk result
@@ -97,7 +97,7 @@ fn take_step<F: Facts>(
         (next_attempt mappings.now budget (F.tuples below.now) program.now.attempt
         (option_map choice_of (option_copied choice.entry)))) }
     ensures reads { IfOk result (λ reads.
-        map read_of reads.items
+        reads_in reads.items
         ≡ next_reads mappings.now (F.tuples below.now) program.now.attempt
         (option_map choice_of (option_copied choice.entry))) }
     ensures settled { OnOk result
@@ -159,7 +159,7 @@ fn answer_all<F: Facts>(
         value mappings.now q view.now.below view.now.own (Caused (heading_of direction)))
         (course mappings.now program.old))) }
     ensures reads { IfOk result (λ reads.
-        map read_of reads.items
+        reads_in reads.items
         ≡ map (read_after made)
         (log_of
         (λ q. value mappings.now q view.now.below view.now.own (Caused (heading_of direction)))
@@ -167,7 +167,7 @@ fn answer_all<F: Facts>(
     ensures settled { OnOk result (AreSettled
         (seen_over mappings.now (heading_of direction) view.now) settled.new) }
 {
-    let mut reads = log_for(alloc, settled)?;
+    let mut reads = log_begun(alloc)?;
     'queries: loop {
         program.pass_logged(settled.marks(), mappings, made, &mut reads)?;
         let Want::Read(query) = program.wants() else {
@@ -176,19 +176,19 @@ fn answer_all<F: Facts>(
         let query = query.copy(alloc)?;
         let answer = view.eval(&query, mappings.list(), direction, settled, alloc)?;
         program.take(alloc, &answer, mappings)?;
-        reads.push(LoggedRead {
+        reads.push(Logged::Asked(LoggedRead {
             query,
             answer,
             own: made,
-        })?;
+        }))?;
     }
 }
 
-// An empty log, with room for a read of each mapping, if there are not too many.
-fn log_for(alloc: Global, settled: &Settled) -> Result<ReadLog, Memory>
+// An empty log, with room for the entries of most steps.
+fn log_begun(alloc: Global) -> Result<ReadLog, Memory>
     ensures empty { IfOk result (λ log. log.items ≡ []) }
 {
     let mut log = ReadLog::new(alloc);
-    log.reserve(settled.marks().len().min(AT_ONCE) + 1)?;
+    log.reserve(AT_ONCE)?;
     Ok(log)
 }

@@ -1,19 +1,19 @@
 //! Mappings that need not be searched anew: what the last reads of an attempt told is true still.
-ghost use Rattle.std.specs.Prelude.{◌≡◌, List, drop, map, IfOk};
+ghost use Rattle.std.specs.Prelude.{◌≡◌, ◌-◌, List, drop, map, IfOk};
 ghost use Rattle.yt_base.specs.Contents.{rules_in};
 ghost use Rattle.yt_base.specs.Meanings.{change_of};
 ghost use Rattle.yt_model.specs.Mappings.{Rule};
 ghost use Rattle.yt_model.specs.Values.{Fact};
-ghost use Rattle.yt_query.specs.Meanings.{read_of};
+ghost use Rattle.yt_query.specs.Meanings.{passing, read_of, reads_in, reads_of};
 ghost use Rattle.yt_steps.specs.Attempts.{Attempt};
 ghost use Rattle.yt_plan.specs.Planned.{HasSettled};
-ghost use Rattle.yt_plan.specs.Settled.{AreValidOver, HasSettledBy, noted as noted_lem};
+ghost use Rattle.yt_plan.specs.Settled.{AreValidOver, HasSettledBy, all_noted, noted};
 
 use std::alloc::Global;
 use yt_base::{MappingList, Memory, Write};
 use yt_eval::Settled;
 use yt_program::Program;
-use yt_query::{Answer, LoggedRead};
+use yt_query::{Answer, Logged, LoggedRead, Run};
 
 /// The mappings of which the last reads of the attempt tell that its writes have caused no violation, and before its first write
 /// all of them, but for those to which a write since then may have given one; none where the attempt is not looking for violations.
@@ -23,10 +23,10 @@ pub fn settled_by(
     alloc: Global,
     mappings: &MappingList,
     program: &Program,
-    log: &[LoggedRead],
+    log: &[Logged],
 ) -> Result<Settled, Memory>
     ensures settled { IfOk result (λ settled. (D : List Fact) →
-        AreValidOver (rules_in mappings.now) D program.now.attempt (map read_of log.now) →
+        AreValidOver (rules_in mappings.now) D program.now.attempt (reads_in log.now) →
         HasSettled (rules_in mappings.now) D program.now.attempt settled) }
 {
     if !program.is_looking() {
@@ -42,10 +42,10 @@ pub fn told_by(
     alloc: Global,
     mappings: &MappingList,
     program: &Program,
-    log: &[LoggedRead],
+    log: &[Logged],
 ) -> Result<Settled, Memory>
     ensures settled { IfOk result (λ settled. (D : List Fact) →
-        AreValidOver (rules_in mappings.now) D program.now.attempt (map read_of log.now) →
+        AreValidOver (rules_in mappings.now) D program.now.attempt (reads_in log.now) →
         HasSettled (rules_in mappings.now) D program.now.attempt settled) }
 {
     let made = made_before(log);
@@ -71,9 +71,9 @@ pub fn stir_since(
 }
 
 // How many writes had been made before the last reads; none where nothing was read.
-fn made_before(log: &[LoggedRead]) -> u64 {
+fn made_before(log: &[Logged]) -> u64 {
     match log.last() {
-        Some(last) => last.own,
+        Some(last) => last.own(),
         None => 0,
     }
 }
@@ -93,27 +93,47 @@ fn begun(alloc: Global, mappings: &MappingList, made: u64) -> Result<Settled, Me
 }
 
 // Learns of the last reads, by an attempt that had made so many writes.
-fn learn_last(settled: &mut Settled, log: &[LoggedRead], made: u64)
+fn learn_last(settled: &mut Settled, log: &[Logged], made: u64)
     ensures learnt { (ms : List Rule) (D : List Fact) (P : Attempt) →
-        AreValidOver ms D P (map read_of log.now) →
+        AreValidOver ms D P (reads_in log.now) →
         HasSettledBy made ms D P settled.old → HasSettledBy made ms D P settled.new }
 {
     let mut rest = log;
-    'reads: while let Some((read, before)) = rest.split_last() {
-        if read.own != made {
+    'entries: while let Some((entry, before)) = rest.split_last() {
+        if entry.own() != made {
             return;
         }
-        note(settled, read);
+        note(settled, entry);
         rest = before;
     }
 }
 
+// Settles the mappings of which the entry tells that they have no violation.
+fn note(settled: &mut Settled, entry: &Logged)
+    ensures noted { settled.new ≡ all_noted settled.old (reads_of entry.now) }
+{
+    match entry {
+        Logged::Asked(read) => note_read(settled, read),
+        Logged::Passed(run) => note_run(settled, run),
+    }
+}
+
 // Settles the mapping of which the read tells that it has no violation, if it does.
-fn note(settled: &mut Settled, read: &LoggedRead)
-    ensures noted { settled.new ≡ noted_lem settled.old (read_of read.now) }
+fn note_read(settled: &mut Settled, read: &LoggedRead)
+    ensures noted { settled.new ≡ noted settled.old (read_of read.now) }
 {
     if matches!(&read.answer, Answer::Nothing) {
         settled.learn(&read.query);
+    }
+}
+
+// Settles the mappings of the run.
+fn note_run(settled: &mut Settled, run: &Run)
+    ensures noted { settled.new
+        ≡ all_noted settled.old (passing run.now.start (run.now.end - run.now.start) run.now.own) }
+{
+    for number in run.start..run.end {
+        settled.settle(number);
     }
 }
 

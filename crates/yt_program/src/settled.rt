@@ -1,11 +1,10 @@
 //! A look that passes over mappings that are settled.
-ghost use Rattle.std.specs.Prelude.{◌≡◌, ◌<◌, ◌≤◌, ◌+◌, ◌-◌, ℕ, true, false, length, slice_index_or, map, IfOk, OnOk, OnErr};
+ghost use Rattle.std.specs.Prelude.{◌≡◌, ◌<◌, ◌≤◌, ◌+◌, ◌-◌, ◌++◌, ℕ, List, true, false, length, slice_index_or, map, IfOk, OnOk, OnErr};
 ghost use Rattle.yt_base.specs.Meanings.{rule_of};
-ghost use Rattle.yt_query.specs.Meanings.{read_of};
+ghost use Rattle.yt_query.specs.Meanings.{Read, passing, reads_in};
 ghost use Rattle.yt_program.specs.Looks.{AsksNext, Passes, PassesLogged};
 ghost use Rattle.yt_program.specs.Rows.{Violating, begun_in};
 ghost use Rattle.yt_program.specs.PointMeanings.{reading_of};
-ghost use Rattle.yt_program.specs.Logged.{finds_none as finds_none_lem};
 ghost use Rattle.yt_program.specs.Transitions.{HasPassed, HasPassedLogged};
 
 use crate::passing::{next_from_start, violation_asked};
@@ -15,7 +14,7 @@ use crate::readings::Reading;
 use crate::rows::Row;
 use yt_base::{Mapping, Memory};
 use yt_limits::Mappings;
-use yt_query::{Answer, LoggedRead, Query, ReadLog};
+use yt_query::{Logged, ReadLog, Run};
 
 impl Program {
     /// Passes, in a look, over mappings that are settled: `settled[n]` says that the mapping of number n has no violation
@@ -31,9 +30,9 @@ impl Program {
         }
     }
 
-    /// Passes as `pass` does, and puts a read of each mapping that it passes at the end of the log: that it has no
-    /// violation, by an attempt that had made so many writes. It is refused only for want of memory; the program then stays
-    /// as it is, and some of the reads may be in the log.
+    /// Passes as `pass` does, and puts the runs of mappings that it passes at the end of the log: a read of each, that it has
+    /// no violation, by an attempt that had made so many writes. It is refused only for want of memory; the program then
+    /// stays as it is, and some of the reads may be in the log.
     pub fn pass_logged(
         &mut self,
         settled: &[bool],
@@ -42,7 +41,7 @@ impl Program {
         log: &mut ReadLog,
     ) -> Result<(), Memory>
         ensures passed { OnOk result (HasPassedLogged mappings.now settled.now made self.old
-            (map read_of log.old.items) self.new (map read_of log.new.items)) }
+            (reads_in log.old.items) self.new (reads_in log.new.items)) }
         ensures attempt { self.new.attempt ≡ self.old.attempt }
         ensures err { OnErr result (self.new ≡ self.old) }
     {
@@ -82,10 +81,11 @@ fn first_unmarked(from: u16, number: u32, marks: &[bool], mappings: &Mappings<'_
 }
 
 // The last place of the run from `from` on: each but the last has a mark, and the next one's mapping is in force from the
-// start.
+// start. A look passes all but the last.
 fn end_of_run(from: u16, marks: &[bool], mappings: &Mappings<'_>) -> u16
-    ensures passed { (number : ℕ) →
-        Passes mappings.now marks.now number (Violating from) (Violating result) }
+    ensures passed { (number made : ℕ) (before : List Read) →
+        PassesLogged mappings.now marks.now number made (Violating from) before
+        (Violating result) (before ++ passing from (result - from) made) }
     ensures after { from ≤ result }
 {
     let all = mappings.list().as_slice();
@@ -123,8 +123,8 @@ fn pass_logged(
     log: &mut ReadLog,
 ) -> Result<(), Memory>
     ensures passed { OnOk result (PassesLogged mappings.now marks.now number made
-        (reading_of reading.old) (map read_of log.old.items)
-        (reading_of reading.new) (map read_of log.new.items)) }
+        (reading_of reading.old) (reads_in log.old.items)
+        (reading_of reading.new) (reads_in log.new.items)) }
     ensures phase { begun_in (reading_of reading.new) ≡ begun_in (reading_of reading.old) }
     ensures err { OnErr result (reading.new ≡ reading.old) }
 {
@@ -135,7 +135,7 @@ fn pass_logged(
     Ok(())
 }
 
-// The place that `first_unmarked` gives, with a read of each mapping before it.
+// The place that `first_unmarked` gives, with the runs of the mappings before it.
 fn log_marked(
     from: u16,
     number: u32,
@@ -145,14 +145,20 @@ fn log_marked(
     log: &mut ReadLog,
 ) -> Result<u16, Memory>
     ensures passed { IfOk result (λ place. PassesLogged mappings.now marks.now number made
-        (Violating from) (map read_of log.old.items)
-        (Violating place) (map read_of log.new.items)) }
+        (Violating from) (reads_in log.old.items)
+        (Violating place) (reads_in log.new.items)) }
 {
     let mut place = from;
     'places: while is_marked(marks, place) {
+        let end = end_of_run(place, marks, mappings);
+        if place < end {
+            log_run(log, place, end, made)?;
+            place = end;
+            continue;
+        }
         match next_from_start(number, place as usize + 1, mappings) {
             Some(next) => {
-                log.push(finds_none(place, made))?;
+                log_run(log, place, place + 1, made)?;
                 place = next;
             }
             None => return Ok(place),
@@ -161,15 +167,17 @@ fn log_marked(
     Ok(place)
 }
 
-// The read that the mapping at the place has no violation, by an attempt that had made so many writes.
-fn finds_none(place: u16, made: u64) -> LoggedRead
-    ensures read { read_of result ≡ finds_none_lem place made }
+// Puts the run of the mappings from `start` on up to `end` at the end of the log, by an attempt that had made so many writes.
+fn log_run(log: &mut ReadLog, start: u16, end: u16, made: u64) -> Result<(), Memory>
+    ensures logged { OnOk result (reads_in log.new.items
+        ≡ reads_in log.old.items ++ passing start (end - start) made) }
 {
-    LoggedRead {
-        query: Query::Violation(place),
-        answer: Answer::Nothing,
+    log.push(Logged::Passed(Run {
+        start,
+        end,
         own: made,
-    }
+    }))?;
+    Ok(())
 }
 
 // Whether there is a mark at the place.

@@ -1,3 +1,4 @@
 pub mod Same
 pub mod OfKind
 pub mod Mentioned
+pub mod Entries

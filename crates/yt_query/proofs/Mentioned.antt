@@ -10,26 +10,24 @@ use Rattle.yt_model.proofs.Searches.{any_join}
 use Rattle.yt_base.specs.declared.mappings.Atom.{Atom}
 use Rattle.yt_base.specs.declared.mappings.Mapping.{Mapping}
 use Rattle.yt_base.specs.Meanings.{pattern_of, rule_of}
-use Rattle.yt_query.specs.declared.queries.Query.{Query}
-use Rattle.yt_query.specs.declared.queries.Query.TheVariants.{Violation}
-use Rattle.yt_query.specs.Meanings.{query_of}
+use Rattle.yt_model.specs.Queries.{Violation}
 
 -- An atom of the relation stands among these.
 abbrev pub some_of : ℕ → List Atom → Bool
 some_of r as' = list_any (λ (a : Pattern). a.relation == r) (map pattern_of as')
 
-module _ (q : Query) (ms : List Mapping) (n r : ℕ) (asked : q ≡ Violation n) where
-  by_mapping : (o : Option Mapping) → o ≡ slice_get ms n → mentions (map rule_of ms) (query_of q) r ≡ rule_mentions (option_map rule_of o) r
-  by_mapping o e = ap (λ q. mentions (map rule_of ms) (query_of q) r) asked ∙ ap (λ o. rule_mentions o r) (get_map rule_of ms n ∙ ap (option_map rule_of) (sym e))
+module _ (ms : List Mapping) (n r : ℕ) where
+  by_mapping : (o : Option Mapping) → o ≡ slice_get ms n → mentions (map rule_of ms) (Violation n) r ≡ rule_mentions (option_map rule_of o) r
+  by_mapping o e = ap (λ o. rule_mentions o r) (get_map rule_of ms n ∙ ap (option_map rule_of) (sym e))
 
-  by_sides : (m : Mapping) → Some m ≡ slice_get ms n → mentions (map rule_of ms) (query_of q) r ≡ (some_of r m.left.items || some_of r m.right.items)
+  by_sides : (m : Mapping) → Some m ≡ slice_get ms n → mentions (map rule_of ms) (Violation n) r ≡ (some_of r m.left.items || some_of r m.right.items)
   by_sides m e = by_mapping (Some m) e ∙ any_join (λ (a : Pattern). a.relation == r) (map pattern_of m.left.items) (map pattern_of m.right.items)
 
-  pub left_mentions : (m : Mapping) (as' : List Atom) (b : Bool) → Some m ≡ slice_get ms n → as' ≡ m.left.items → b ≡ some_of r as' → b ≡ true → b ≡ mentions (map rule_of ms) (query_of q) r
+  pub left_mentions : (m : Mapping) (as' : List Atom) (b : Bool) → Some m ≡ slice_get ms n → as' ≡ m.left.items → b ≡ some_of r as' → b ≡ true → b ≡ mentions (map rule_of ms) (Violation n) r
   left_mentions m as' b e l s t = t ∙ ap (λ c. c || some_of r m.right.items) (sym t ∙ s ∙ ap (some_of r) l) ∙ sym (by_sides m e)
 
-  pub right_mentions : (m : Mapping) (as' bs : List Atom) (a b : Bool) → Some m ≡ slice_get ms n → as' ≡ m.left.items → a ≡ some_of r as' → a ≡ false → bs ≡ m.right.items → b ≡ some_of r bs → b ≡ mentions (map rule_of ms) (query_of q) r
+  pub right_mentions : (m : Mapping) (as' bs : List Atom) (a b : Bool) → Some m ≡ slice_get ms n → as' ≡ m.left.items → a ≡ some_of r as' → a ≡ false → bs ≡ m.right.items → b ≡ some_of r bs → b ≡ mentions (map rule_of ms) (Violation n) r
   right_mentions m as' bs a b e l s t k u = u ∙ ap (some_of r) k ∙ ap (λ c. c || some_of r m.right.items) (sym t ∙ s ∙ ap (some_of r) l) ∙ sym (by_sides m e)
 
-  pub none_mentions : None ≡ slice_get ms n → false ≡ mentions (map rule_of ms) (query_of q) r
+  pub none_mentions : None ≡ slice_get ms n → false ≡ mentions (map rule_of ms) (Violation n) r
   none_mentions e = sym (by_mapping None e)

@@ -1,3 +1,4 @@
 pub mod Meanings
 pub mod Kinds
 pub mod Laws
+pub mod Mentioning

@@ -12,5 +12,5 @@ mod queries;
 
 pub use crate::answers::Answer;
 pub use crate::laws::values_are_of_their_kind;
-pub use crate::log::{LoggedRead, ReadLog};
+pub use crate::log::{Logged, LoggedRead, ReadLog, Run, finds_none};
 pub use crate::queries::{Query, mentions};

@@ -1,7 +1,7 @@
 //! Queries, and the relations that they mention.
 ghost use Rattle.std.specs.Prelude.{◌≡◌, ◌==◌, map, IfOk};
 ghost use Rattle.std.specs.List.{list_any};
-ghost use Rattle.yt_model.specs.Queries.{Query as QueryMeant};
+ghost use Rattle.yt_model.specs.Queries.{Query as QueryMeant, Violation};
 ghost use Rattle.yt_model.specs.Mentions.{mentions as mentions_lem};
 ghost use Rattle.yt_base.specs.Meanings.{pattern_of, rule_of};
 ghost use Rattle.yt_query.specs.Meanings.{query_of};
@@ -46,15 +46,23 @@ pub fn mentions(query: &Query, mappings: &MappingList, relation: u16) -> bool
 {
     match query {
         Query::Present(tuple) => tuple.relation == relation,
-        Query::Violation(number) => match mappings.get(*number as usize) {
-            Some(mapping) => {
-                stands_in(mapping.left.as_slice(), relation)
-                    || stands_in(mapping.right.as_slice(), relation)
-            }
-            None => false,
-        },
+        Query::Violation(number) => violation_mentions(*number, mappings, relation),
         Query::Specific(tuple) => tuple.relation == relation,
         Query::Occurs(_, _) => true,
+    }
+}
+
+/// Whether the query for the first violation of the mapping of this number mentions the relation. It takes no memory.
+pub(crate) fn violation_mentions(number: u16, mappings: &MappingList, relation: u16) -> bool
+    ensures answer { result ≡ mentions_lem (map rule_of mappings.now.items)
+        (Violation number) relation }
+{
+    match mappings.get(number as usize) {
+        Some(mapping) => {
+            stands_in(mapping.left.as_slice(), relation)
+                || stands_in(mapping.right.as_slice(), relation)
+        }
+        None => false,
     }
 }
 

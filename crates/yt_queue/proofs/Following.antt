@@ -17,9 +17,10 @@ use Rattle.yt_model.specs.Repository.{Change}
 use Rattle.yt_program.specs.Logged.{read_after}
 use Rattle.yt_plan.specs.Planned.{answers_over, next_attempt}
 use Rattle.yt_plan.specs.declared.plans.Plan.{Plan}
-use Rattle.yt_query.specs.Meanings.{Read, read_of}
+use Rattle.yt_query.specs.Meanings.{Read, reads_in}
 use Rattle.yt_program.specs.Courses.{State}
-use Rattle.yt_query.specs.declared.log.LoggedRead.{LoggedRead}
+use Rattle.yt_query.specs.declared.log.Logged.{Logged}
+use Rattle.yt_query.proofs.Entries.{in_both}
 use Rattle.yt_steps.specs.Attempts.{outcome_in}
 use Rattle.yt_steps.specs.Steps.{step}
 use Rattle.yt_steps.specs.Chase.{caused_chase, ending}
@@ -29,26 +30,26 @@ use Rattle.yt_queue.specs.Queues.{logged, update_of}
 use Rattle.yt_queue.specs.declared.records.Record.{Record}
 
 -- Behind the step the log is that of the step.
-logs : (ms : List Rule) (B : ℕ) (D : List Fact) (r : Record) (plan : Plan) (log : List LoggedRead) → IsPlanOf ms B D r plan → log ≡ r.log.items ++ plan.reads.items
-    → map (logged ms B) (map read_of log) ≡ map (logged ms B) (map read_of r.log.items) ++ step_log (caused_chase ms B) r.program.attempt.operation D (map choice_of r.answers.items) r.program.attempt
+logs : (ms : List Rule) (B : ℕ) (D : List Fact) (r : Record) (plan : Plan) (log : List Logged) → IsPlanOf ms B D r plan → log ≡ r.log.items ++ plan.reads.items
+    → map (logged ms B) (reads_in log) ≡ map (logged ms B) (reads_in r.log.items) ++ step_log (caused_chase ms B) r.program.attempt.operation D (map choice_of r.answers.items) r.program.attempt
 logs ms B D r plan log p e =
     let P = r.program.attempt in
     let c = next_answer (caused_chase ms B) (map choice_of r.answers.items) P in
-    let before = map (logged ms B) (map read_of r.log.items) in
-    ap (λ (rs : List LoggedRead). map (logged ms B) (map read_of rs)) e
-    ∙ (ap (λ (rs : List Read). map (logged ms B) rs) (map-append read_of r.log.items plan.reads.items)
-    ∙ (map-append (logged ms B) (map read_of r.log.items) (map read_of plan.reads.items)
+    let before = map (logged ms B) (reads_in r.log.items) in
+    ap (λ (es : List Logged). map (logged ms B) (reads_in es)) e
+    ∙ (ap (λ (rs : List Read). map (logged ms B) rs) (in_both r.log.items plan.reads.items)
+    ∙ (map-append (logged ms B) (reads_in r.log.items) (reads_in plan.reads.items)
     ∙ ap (λ (rs : List Read). before ++ map (logged ms B) rs) p.reads
     ∙ (λ i. before ++ map-map (logged ms B) (read_after (length P.own)) (log_of (answers_over ms D P) (step ms P c)) i)))
 
 -- With the attempt and the reads of the plan taken over, the step is made.
-pub stepped_by : (ms : List Rule) (B : ℕ) (D : List Fact) (r : Record) (plan : Plan) (log : List LoggedRead) → IsPlanOf ms B D r plan → log ≡ r.log.items ++ plan.reads.items
+pub stepped_by : (ms : List Rule) (B : ℕ) (D : List Fact) (r : Record) (plan : Plan) (log : List Logged) → IsPlanOf ms B D r plan → log ≡ r.log.items ++ plan.reads.items
     → ◌≡◌ {A = Update (caused_chase ms B)}
     (record {
       operation = plan.program.attempt.operation;
       attempt = plan.program.attempt.attempt;
       state = plan.program.attempt;
-      log = map (logged ms B) (map read_of log);
+      log = map (logged ms B) (reads_in log);
       withdrawn = r.withdrawn;
       answers = map choice_of r.answers.items;
       inbox = map choice_of r.inbox.items;
@@ -111,7 +112,7 @@ own_by ms B D r plan ws n p e f =
     ap (λ (vs : List Change). P.own ++ vs) (f ∙ (ap (drop n) own ∙ drop_at P.own m.writes n (sym e))) ∙ sym own
 
 -- The footprint is that of the attempt that was taken over, and of all its reads.
-pub covers_by : (e : Footprint) (own own' : List Change) (before reads log : List LoggedRead) → Covers e own (map read_of before ++ map read_of reads) → own ≡ own' → log ≡ before ++ reads → Covers e own' (map read_of log)
+pub covers_by : (e : Footprint) (own own' : List Change) (before reads log : List Logged) → Covers e own (reads_in before ++ reads_in reads) → own ≡ own' → log ≡ before ++ reads → Covers e own' (reads_in log)
 covers_by e own own' before reads log c o l =
-    subst (λ (ws : List Change). Covers e ws (map read_of log)) o
-    (subst (λ (rs : List Read). Covers e own rs) (sym (ap (map read_of) l ∙ map-append read_of before reads)) c)
+    subst (λ (ws : List Change). Covers e ws (reads_in log)) o
+    (subst (λ (rs : List Read). Covers e own rs) (sym (ap reads_in l ∙ in_both before reads)) c)

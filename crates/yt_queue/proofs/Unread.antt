@@ -2,8 +2,8 @@
 use Rattle.std.proofs.Common.{◌≡◌, ◌∙◌, ap, sym, subst, ℕ, suc, ◌<◌, ◌≤◌, List, [], ◌∷◌, map, length, get_or, drop, drop-cons}
 use Rattle.std.proofs.lemmas.List.{drop_all, get_or-map, length-map}
 use Rattle.yt_machine.specs.Updates.{Update}
-use Rattle.yt_query.specs.Meanings.{read_of}
-use Rattle.yt_query.specs.declared.log.LoggedRead.{LoggedRead}
+use Rattle.yt_query.specs.Meanings.{reads_in}
+use Rattle.yt_query.specs.declared.log.Logged.{Logged}
 use Rattle.yt_steps.specs.Chase.{caused_chase}
 use Rattle.yt_queue.specs.Queues.{update_of, updates_of, logged}
 use Rattle.yt_queue.specs.Walks.{AreUnread, ReadsAtMost}
@@ -22,7 +22,7 @@ one_fewer rs n k r e l at none h ms B =
     let u = update_of ms B r in
     let m : k < length us = simp length-map l in
     let here : get_or us k u ≡ u = get_or-map (update_of ms B) rs k r u l ∙ ap (update_of ms B) at in
-    let unread : u.log ≡ [] = ap (λ (ls : List LoggedRead). map (logged ms B) (map read_of ls)) none in
+    let unread : u.log ≡ [] = ap (λ (es : List Logged). map (logged ms B) (reads_in es)) none in
     let rest : AreUnread (caused_chase ms B) (drop (suc k) us) = subst (λ (i : ℕ). AreUnread (caused_chase ms B) (drop i us)) e (h ms B) in
     let cut : drop k us ≡ u ∷ drop (suc k) us = drop-cons us k u m ∙ ap (λ (v : Update (caused_chase ms B)). v ∷ drop (suc k) us) here in
     subst (λ (vs : List (Update (caused_chase ms B))). AreUnread (caused_chase ms B) vs) (sym cut) (unread, rest)

@@ -4,7 +4,7 @@ use Rattle.yt_base.specs.Meanings.{choice_of}
 use Rattle.yt_conflict.specs.Footprints.{Covers}
 use Rattle.yt_machine.specs.Updates.{Read, Update}
 use Rattle.yt_model.specs.Mappings.{Rule}
-use Rattle.yt_query.specs.Meanings.{Read as ReadMeant, read_of}
+use Rattle.yt_query.specs.Meanings.{Read as ReadMeant, reads_in}
 use Rattle.yt_steps.specs.Chase.{caused_chase}
 use Rattle.yt_queue.specs.declared.records.Record.{Record}
 
@@ -20,7 +20,7 @@ module _ (ms : List Rule) (B : ℕ) where
         operation = r.program.attempt.operation;
         attempt = r.program.attempt.attempt;
         state = r.program.attempt;
-        log = map logged (map read_of r.log.items);
+        log = map logged (reads_in r.log.items);
         withdrawn = r.withdrawn;
         answers = map choice_of r.answers.items;
         inbox = map choice_of r.inbox.items;
@@ -34,7 +34,7 @@ module _ (ms : List Rule) (B : ℕ) where
 pub record StandsAt (n : ℕ) (r : Record) : Type 0 where
   pub number : r.program.attempt.number ≡ n
   pub between : r.program.reading ≡ None
-  pub covers : Covers r.footprint r.program.attempt.own (map read_of r.log.items)
+  pub covers : Covers r.footprint r.program.attempt.own (reads_in r.log.items)
 
 -- The records are those of the updates from number n on.
 abbrev pub AreFrom : ℕ → List Record → Type 0

@@ -16,9 +16,10 @@ use Rattle.yt_model.specs.Repository.{Change}
 use Rattle.yt_program.specs.Logged.{read_after}
 use Rattle.yt_plan.specs.Planned.{answers_over, next_attempt}
 use Rattle.yt_plan.specs.declared.plans.Plan.{Plan}
-use Rattle.yt_query.specs.Meanings.{Read, read_of}
+use Rattle.yt_query.specs.Meanings.{Read, reads_in}
 use Rattle.yt_program.specs.Courses.{State}
-use Rattle.yt_query.specs.declared.log.LoggedRead.{LoggedRead}
+use Rattle.yt_query.specs.declared.log.Logged.{Logged}
+use Rattle.yt_query.proofs.Entries.{in_both}
 use Rattle.yt_steps.specs.Attempts.{outcome_in}
 use Rattle.yt_steps.specs.Steps.{step}
 use Rattle.yt_steps.specs.Chase.{caused_chase, ending}
@@ -29,26 +30,26 @@ use Rattle.yt_seats.specs.Seatings.{logged, update_of}
 use Rattle.yt_seats.specs.declared.seats.Seat.{Seat}
 
 -- Behind the step the log is that of the step.
-logs : (ms : List Rule) (B : ℕ) (D : List Fact) (r : Seat) (plan : Plan) (log : List LoggedRead) → IsPlanOf ms B D r plan → log ≡ r.log.items ++ plan.reads.items
-    → map (logged ms B) (map read_of log) ≡ map (logged ms B) (map read_of r.log.items) ++ step_log (caused_chase ms B) r.program.attempt.operation D (map choice_of r.answers.items) r.program.attempt
+logs : (ms : List Rule) (B : ℕ) (D : List Fact) (r : Seat) (plan : Plan) (log : List Logged) → IsPlanOf ms B D r plan → log ≡ r.log.items ++ plan.reads.items
+    → map (logged ms B) (reads_in log) ≡ map (logged ms B) (reads_in r.log.items) ++ step_log (caused_chase ms B) r.program.attempt.operation D (map choice_of r.answers.items) r.program.attempt
 logs ms B D r plan log p e =
     let P = r.program.attempt in
     let c = next_answer (caused_chase ms B) (map choice_of r.answers.items) P in
-    let before = map (logged ms B) (map read_of r.log.items) in
-    ap (λ (rs : List LoggedRead). map (logged ms B) (map read_of rs)) e
-    ∙ (ap (λ (rs : List Read). map (logged ms B) rs) (map-append read_of r.log.items plan.reads.items)
-    ∙ (map-append (logged ms B) (map read_of r.log.items) (map read_of plan.reads.items)
+    let before = map (logged ms B) (reads_in r.log.items) in
+    ap (λ (es : List Logged). map (logged ms B) (reads_in es)) e
+    ∙ (ap (λ (rs : List Read). map (logged ms B) rs) (in_both r.log.items plan.reads.items)
+    ∙ (map-append (logged ms B) (reads_in r.log.items) (reads_in plan.reads.items)
     ∙ ap (λ (rs : List Read). before ++ map (logged ms B) rs) p.reads
     ∙ (λ i. before ++ map-map (logged ms B) (read_after (length P.own)) (log_of (answers_over ms D P) (step ms P c)) i)))
 
 -- With the attempt and the reads of the plan taken over, the step is made.
-pub stepped_by : (ms : List Rule) (B : ℕ) (D : List Fact) (r : Seat) (plan : Plan) (log : List LoggedRead) → IsPlanOf ms B D r plan → log ≡ r.log.items ++ plan.reads.items
+pub stepped_by : (ms : List Rule) (B : ℕ) (D : List Fact) (r : Seat) (plan : Plan) (log : List Logged) → IsPlanOf ms B D r plan → log ≡ r.log.items ++ plan.reads.items
     → ◌≡◌ {A = Update (caused_chase ms B)}
     (record {
       operation = plan.program.attempt.operation;
       attempt = plan.program.attempt.attempt;
       state = plan.program.attempt;
-      log = map (logged ms B) (map read_of log);
+      log = map (logged ms B) (reads_in log);
       withdrawn = r.withdrawn;
       answers = map choice_of r.answers.items;
       inbox = map choice_of r.inbox.items;
@@ -103,14 +104,14 @@ unwritten ms B D r plan ws n p h e l =
 -- ---- a log with more room
 
 -- The seat with this log.
-abbrev with_log : Seat → Listed LoggedRead → Seat
+abbrev with_log : Seat → Listed Logged → Seat
 with_log r log = record { program = r.program; log = log; withdrawn = r.withdrawn; answers = r.answers; inbox = r.inbox }
 
 -- What a step makes of a seat rests on the reads of its log alone.
-pub stepped_roomy : (r : Seat) (log : Listed LoggedRead) (plan : Plan) (r' : Seat) → log.items ≡ r.log.items → HasStepped plan (with_log r log) r' → HasStepped plan r r'
+pub stepped_roomy : (r : Seat) (log : Listed Logged) (plan : Plan) (r' : Seat) → log.items ≡ r.log.items → HasStepped plan (with_log r log) r' → HasStepped plan r r'
 stepped_roomy r log plan r' e h ms B D p =
     h ms B D (record { program = p.program; reads = p.reads })
-    ∙ ap (λ (xs : List LoggedRead). stepped (caused_chase ms B) D (update_of ms B (with_log r (record { items = xs; spare = log.spare })))) e
+    ∙ ap (λ (xs : List Logged). stepped (caused_chase ms B) D (update_of ms B (with_log r (record { items = xs; spare = log.spare })))) e
 
-pub placed_roomy : (r : Seat) (log : Listed LoggedRead) (plan : Plan) (r' : Seat) → KeepsPlaceBy plan (with_log r log) r' → KeepsPlaceBy plan r r'
+pub placed_roomy : (r : Seat) (log : Listed Logged) (plan : Plan) (r' : Seat) → KeepsPlaceBy plan (with_log r log) r' → KeepsPlaceBy plan r r'
 placed_roomy r log plan r' h ms B D n p s = h ms B D n (record { program = p.program; reads = p.reads }) (record { number = s.number; between = s.between })

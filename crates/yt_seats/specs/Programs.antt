@@ -15,7 +15,7 @@ use Rattle.yt_plan.specs.declared.plans.Plan.{Plan}
 use Rattle.yt_program.specs.Courses.{State}
 use Rattle.yt_program.specs.Wishes.{End, IsDone, IsSpent, IsRefused, end_in, Wish, WishesReply, WishesChoice, WishesNothing, WishesStep}
 use Rattle.yt_frontier.specs.Inquiries.{Inquiry, inquiry_in}
-use Rattle.yt_query.specs.Meanings.{read_of}
+use Rattle.yt_query.specs.Meanings.{reads_in}
 use Rattle.yt_steps.specs.Attempts.{outcome_in, question_in}
 use Rattle.yt_steps.specs.Chase.{caused_chase, ending}
 use Rattle.yt_seats.specs.Seatings.{update_of}
@@ -76,7 +76,7 @@ HasNext r c = (ms : List Rule) (B : ℕ) → c ≡ next_answer (caused_chase ms 
 -- The plan is that of the seat's next step over D.
 pub record IsPlanOf (ms : List Rule) (B : ℕ) (D : List Fact) (r : Seat) (plan : Plan) : Type 0 where
   pub program : plan.program ≡ at_rest (next_attempt ms B D r.program.attempt (next_answer (caused_chase ms B) (map choice_of r.answers.items) r.program.attempt))
-  pub reads : map read_of plan.reads.items ≡ next_reads ms D r.program.attempt (next_answer (caused_chase ms B) (map choice_of r.answers.items) r.program.attempt)
+  pub reads : reads_in plan.reads.items ≡ next_reads ms D r.program.attempt (next_answer (caused_chase ms B) (map choice_of r.answers.items) r.program.attempt)
 
 -- These are the writes that the step shows.
 abbrev pub HasWritten : Seat → Plan → List Write → Type 0

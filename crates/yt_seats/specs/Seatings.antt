@@ -3,7 +3,7 @@ use Rattle.std.specs.Prelude.{◌≡◌, ℕ, suc, List, [], ◌∷◌, map, Non
 use Rattle.yt_base.specs.Meanings.{choice_of}
 use Rattle.yt_machine.specs.Updates.{Read, Update}
 use Rattle.yt_model.specs.Mappings.{Rule}
-use Rattle.yt_query.specs.Meanings.{Read as ReadMeant, read_of}
+use Rattle.yt_query.specs.Meanings.{Read as ReadMeant, reads_in}
 use Rattle.yt_steps.specs.Chase.{caused_chase}
 use Rattle.yt_seats.specs.declared.seats.Seat.{Seat}
 
@@ -19,7 +19,7 @@ module _ (ms : List Rule) (B : ℕ) where
         operation = r.program.attempt.operation;
         attempt = r.program.attempt.attempt;
         state = r.program.attempt;
-        log = map logged (map read_of r.log.items);
+        log = map logged (reads_in r.log.items);
         withdrawn = r.withdrawn;
         answers = map choice_of r.answers.items;
         inbox = map choice_of r.inbox.items;

@@ -124,8 +124,8 @@ fn take_over(log: &mut ReadLog, reads: ReadLog) -> Result<(), Memory>
     ensures ok { IsOk result }
     ensures all { log.new.items ≡ log.old.items ++ reads.items }
 {
-    for read in reads.into_vec() {
-        log.push(read)?;
+    for entry in reads.into_vec() {
+        log.push(entry)?;
     }
     Ok(())
 }

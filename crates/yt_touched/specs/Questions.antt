@@ -9,8 +9,8 @@ use Rattle.yt_steps.specs.Chase.{relation_of}
 use Rattle.yt_base.specs.Listed.{Listed}
 use Rattle.yt_base.specs.Meanings.{rule_of}
 use Rattle.yt_base.specs.declared.mappings.Mapping.{Mapping}
-use Rattle.yt_query.specs.Meanings.{Read, read_of}
-use Rattle.yt_query.specs.declared.log.LoggedRead.{LoggedRead}
+use Rattle.yt_query.specs.Meanings.{Read, reads_in}
+use Rattle.yt_query.specs.declared.log.Logged.{Logged}
 use Rattle.yt_history.specs.PlainEntries.{PlainEntry, WasAdmitted, WasStepped, WasDelivered, WasAnswered, WasWithdrawn}
 use Rattle.yt_touched.specs.Shown.{restarted_in, taken_in, trail_by}
 
@@ -19,8 +19,8 @@ abbrev pub is_read : List Rule → List Read → ℕ → Bool
 is_read ms reads r = list_any (λ (x : Read). mentions ms x.query r) reads
 
 -- The same, of mappings and reads as the program has them.
-abbrev pub mentioned_by : Listed Mapping → List LoggedRead → ℕ → Bool
-mentioned_by mappings reads r = is_read (map rule_of mappings.items) (map read_of reads) r
+abbrev pub mentioned_by : Listed Mapping → List Logged → ℕ → Bool
+mentioned_by mappings reads r = is_read (map rule_of mappings.items) (reads_in reads) r
 
 -- One of the writes is of a relation that passes the test.
 abbrev pub any_of : (ℕ → Bool) → List Change → Bool

@@ -3,7 +3,7 @@ ghost use Rattle.std.specs.List.{list_any};
 ghost use Rattle.std.specs.Prelude.{◌≡◌, map};
 ghost use Rattle.yt_base.specs.Meanings.{rule_of, change_of};
 ghost use Rattle.yt_entries.specs.Meanings.{entry_of};
-ghost use Rattle.yt_query.specs.Meanings.{read_of};
+ghost use Rattle.yt_query.specs.Meanings.{reads_in};
 ghost use Rattle.yt_steps.specs.Chase.{relation_of};
 ghost use Rattle.yt_touched.specs.Shown.{lost_in, restarted_in, trail_by};
 ghost use Rattle.yt_touched.specs.Questions.{mentioned_by, any_of, shows_below, adds_below, takes_below, is_questioned_by, first_in_question as first_in_question_lem};
@@ -11,7 +11,7 @@ ghost use Rattle.yt_touched.specs.Questions.{mentioned_by, any_of, shows_below, 
 use crate::shown::{causes_in, lost_in, reader_of, restarts, shown_by, takes_away};
 use yt_base::{MappingList, Write};
 use yt_entries::Entry;
-use yt_query::{LoggedRead, mentions};
+use yt_query::Logged;
 
 /// The number of the first entry after so many that is in question for a step of this update with these reads: it wrote, or
 /// took away, in a relation that a read mentions and as a write of an update below, or it restarted the update. Entries are
@@ -20,11 +20,11 @@ pub fn first_in_question(
     mappings: &MappingList,
     entries: &[Entry],
     update: u32,
-    reads: &[LoggedRead],
+    reads: &[Logged],
     since: u64,
 ) -> Option<u64>
     ensures first { result ≡ first_in_question_lem (map rule_of mappings.now.items) update
-        (map read_of reads.now) (map entry_of entries.now) since }
+        (reads_in reads.now) (map entry_of entries.now) since }
 {
     if since > entries.len() as u64 {
         return None;
@@ -44,7 +44,7 @@ fn is_questioned(
     before: &[Entry],
     entry: &Entry,
     update: u32,
-    reads: &[LoggedRead],
+    reads: &[Logged],
 ) -> bool
     ensures { result ≡ is_questioned_by (mentioned_by mappings.now reads.now) update
         (map entry_of before.now) (entry_of entry.now) }
@@ -55,7 +55,7 @@ fn is_questioned(
 }
 
 // Whether it shows a write, by an update below, of a relation that is read.
-fn adds_below(mappings: &MappingList, entry: &Entry, update: u32, reads: &[LoggedRead]) -> bool
+fn adds_below(mappings: &MappingList, entry: &Entry, update: u32, reads: &[Logged]) -> bool
     ensures { result
         ≡ adds_below (mentioned_by mappings.now reads.now) update (entry_of entry.now) }
 {
@@ -75,7 +75,7 @@ fn takes_below(
     before: &[Entry],
     entry: &Entry,
     update: u32,
-    reads: &[LoggedRead],
+    reads: &[Logged],
 ) -> bool
     ensures { result ≡ takes_below (mentioned_by mappings.now reads.now) update
         (map entry_of before.now) (entry_of entry.now) }
@@ -90,7 +90,7 @@ fn loses_below(
     before: &[Entry],
     entry: &Entry,
     update: u32,
-    reads: &[LoggedRead],
+    reads: &[Logged],
 ) -> bool
     ensures { result ≡ list_any (shows_below (mentioned_by mappings.now reads.now) update
         (map entry_of before.now)) (lost_in (entry_of entry.now)) }
@@ -107,7 +107,7 @@ fn restarts_below(
     before: &[Entry],
     entry: &Entry,
     update: u32,
-    reads: &[LoggedRead],
+    reads: &[Logged],
 ) -> bool
     ensures { result ≡ list_any (shows_below (mentioned_by mappings.now reads.now) update
         (map entry_of before.now)) (restarted_in (entry_of entry.now)) }
@@ -127,7 +127,7 @@ fn showed_below(
     before: &[Entry],
     by: u32,
     update: u32,
-    reads: &[LoggedRead],
+    reads: &[Logged],
 ) -> bool
     ensures { result ≡ shows_below (mentioned_by mappings.now reads.now) update
         (map entry_of before.now) by }
@@ -137,7 +137,7 @@ fn showed_below(
 
 // Whether the update shows such a write after these entries: it is sought from the last of them back to the one that took the
 // update's earlier writes away.
-fn showed(mappings: &MappingList, before: &[Entry], by: u32, reads: &[LoggedRead]) -> bool
+fn showed(mappings: &MappingList, before: &[Entry], by: u32, reads: &[Logged]) -> bool
     ensures { result ≡ any_of (mentioned_by mappings.now reads.now)
         (trail_by by (map entry_of before.now)) }
 {
@@ -154,7 +154,7 @@ fn showed(mappings: &MappingList, before: &[Entry], by: u32, reads: &[LoggedRead
 }
 
 // Whether one of the writes is of a relation that is read.
-fn any_read(mappings: &MappingList, writes: &[Write], reads: &[LoggedRead]) -> bool
+fn any_read(mappings: &MappingList, writes: &[Write], reads: &[Logged]) -> bool
     ensures { result ≡ any_of (mentioned_by mappings.now reads.now) (map change_of writes.now) }
 {
     writes
@@ -163,12 +163,12 @@ fn any_read(mappings: &MappingList, writes: &[Write], reads: &[LoggedRead]) -> b
 }
 
 // Whether one of the reads mentions the relation.
-fn is_read(mappings: &MappingList, relation: u16, reads: &[LoggedRead]) -> bool
+fn is_read(mappings: &MappingList, relation: u16, reads: &[Logged]) -> bool
     ensures { result ≡ mentioned_by mappings.now reads.now relation }
 {
     reads
         .iter()
-        .any(|read| mentions(&read.query, mappings, relation))
+        .any(|entry| entry.mentions(mappings, relation))
 }
 
 // The relation of the write.

@@ -6,7 +6,7 @@ use Rattle.yt_model.specs.Mappings.{Rule}
 use Rattle.yt_model.specs.Values.{Fact}
 use Rattle.yt_plan.specs.Planned.{HasSettled}
 use Rattle.yt_plan.specs.Settled.{AreValidOver}
-use Rattle.yt_query.specs.Meanings.{read_of}
+use Rattle.yt_query.specs.Meanings.{reads_in}
 use Rattle.yt_core.specs.Known.{AreMarksOver}
 use Rattle.yt_core.proofs.Marking.{marks_kept}
 use Rattle.yt_model.specs.Repository.{apply}
@@ -36,7 +36,7 @@ plan_step-requires-clause-settled c =
     subst (λ (E : List Fact). HasSettled c.args.mappings.now E r.program.attempt c.in_ok-settled.settled) (sym D)
     (subst (λ (ms : List Rule). HasSettled ms (seen r.program.attempt.number v) r.program.attempt c.in_ok-settled.settled) c.list.ensures.rules
     (c.in_ok-settled.ensures.settled (seen r.program.attempt.number v)
-    (subst (λ (ms : List Rule). AreValidOver ms (seen r.program.attempt.number v) r.program.attempt (map read_of r.log.items)) (sym c.list.ensures.rules) c.requires.held.valid)
+    (subst (λ (ms : List Rule). AreValidOver ms (seen r.program.attempt.number v) r.program.attempt (reads_in r.log.items)) (sym c.list.ensures.rules) c.requires.held.valid)
     (λ e. subst (λ (ms : List Rule). AreMarksOver ms (seen r.program.attempt.number v) r c.args.known.now) (sym c.list.ensures.rules) (c.requires.known e))))
 
 pub returns-clause-planned : goal.returns-clause-planned

@@ -1,8 +1,8 @@
 use Rattle.std.proofs.Common.{List, map, subst, sym}
 use Rattle.yt_base.specs.Meanings.{rule_of}
 use Rattle.yt_plan.specs.Settled.{AreValidOver}
-use Rattle.yt_query.specs.Meanings.{read_of}
-use Rattle.yt_query.specs.declared.log.LoggedRead.{LoggedRead}
+use Rattle.yt_query.specs.Meanings.{reads_in}
+use Rattle.yt_query.specs.declared.log.Logged.{Logged}
 use Rattle.yt_core.proofs.Planning.{can_step, steps_left, stands_applied, number_few, has_settled, snapshot_taken}
 use Rattle.yt_core.proofs.plans.snapshot_of.Goals as goal
 
@@ -13,7 +13,7 @@ invariant_of-result c =
       left = steps_left c.args.item.now c.in_ok-program.program c.args.budget c.in_ok-program.ensures.same c.requires.left;
       applied = stands_applied _ c.args.versions.now c.in_ok-versions.versions c.args.item.now c.number.result c.in_ok-program.program c.in_ok-versions.ensures.same c.number.ensures.number c.in_ok-program.ensures.same c.requires.held;
       settled = has_settled _ c.of.result c.args.versions.now c.in_ok-versions.versions c.args.item.now c.number.result c.in_ok-program.program c.in_ok-settled.settled c.of.ensures.rules c.in_ok-versions.ensures.same c.number.ensures.number c.in_ok-program.ensures.same c.requires.held
-          (λ D valid. c.in_ok-settled.ensures.settled D (subst (λ (rs : List LoggedRead). AreValidOver (map rule_of c.args.mappings.now.items) D c.args.item.now.program.attempt (map read_of rs)) (sym c.as_slice.ensures.items) valid));
+          (λ D valid. c.in_ok-settled.ensures.settled D (subst (λ (rs : List Logged). AreValidOver (map rule_of c.args.mappings.now.items) D c.args.item.now.program.attempt (reads_in rs)) (sym c.as_slice.ensures.items) valid));
       few = number_few _ c.args.versions.now c.args.item.now c.number.result c.number.ensures.number c.requires.held;
     }
 

@@ -1,4 +1,4 @@
-use Rattle.std.proofs.Common.{◌≡◌, ◌∙◌, ap, sym, subst, Bool, List, map}
+use Rattle.std.proofs.Common.{◌≡◌, ◌∙◌, ap, sym, subst, List}
 use Rattle.yt_machine.specs.Trees.{result_of}
 use Rattle.yt_model.specs.Queries.{Query, Reply, value}
 use Rattle.yt_model.specs.Mappings.{Rule}
@@ -6,7 +6,7 @@ use Rattle.yt_model.specs.Violations.{Caused}
 use Rattle.yt_base.specs.Meanings.{heading_of}
 use Rattle.yt_query.specs.Kinds.{IsOfKind}
 use Rattle.yt_eval.specs.Watched.{AreSettled, seen_over}
-use Rattle.yt_query.specs.Meanings.{query_of, reply_of, read_of}
+use Rattle.yt_query.specs.Meanings.{query_of, reply_of}
 use Rattle.yt_query.proofs.OfKind.{values_are_of_kind}
 use Rattle.yt_program.specs.Courses.{course}
 use Rattle.yt_program.specs.Settled.{FindsNone}

@@ -4,7 +4,7 @@ use Rattle.yt_model.specs.Queries.{value}
 use Rattle.yt_model.specs.Violations.{Caused}
 use Rattle.yt_base.specs.Meanings.{heading_of}
 use Rattle.yt_eval.specs.Watched.{AreSettled, seen_over}
-use Rattle.yt_query.specs.Meanings.{read_of}
+use Rattle.yt_query.specs.Meanings.{reads_in}
 use Rattle.yt_program.specs.Courses.{course}
 use Rattle.yt_program.specs.Logged.{read_after}
 use Rattle.yt_plan.proofs.plans.answer_all.Given as goal
@@ -16,7 +16,7 @@ invariant-queries g l = record {
       result_of (λ q. value l.mappings q l.view.below l.view.own (Caused (heading_of l.direction))) (course l.mappings l.program)
       ≡ result_of (λ q. value l.mappings q l.view.below l.view.own (Caused (heading_of l.direction))) (course l.mappings l.fn.program);
   read :
-      map read_of l.reads.items ++ map (read_after l.made) (log_of (λ q. value l.mappings q l.view.below l.view.own (Caused (heading_of l.direction))) (course l.mappings l.program))
+      reads_in l.reads.items ++ map (read_after l.made) (log_of (λ q. value l.mappings q l.view.below l.view.own (Caused (heading_of l.direction))) (course l.mappings l.program))
       ≡ map (read_after l.made) (log_of (λ q. value l.mappings q l.view.below l.view.own (Caused (heading_of l.direction))) (course l.mappings l.fn.program));
   settled : AreSettled (seen_over l.mappings (heading_of l.direction) l.view) l.settled;
 }

@@ -1,6 +1,6 @@
-use Rattle.std.proofs.Common.{◌≡◌, ◌-◌, map}
+use Rattle.std.proofs.Common.{◌≡◌, ◌-◌}
 use Rattle.yt_model.specs.Queries.{Query, Reply}
-use Rattle.yt_query.specs.Meanings.{read_of}
+use Rattle.yt_query.specs.Meanings.{reads_in}
 use Rattle.yt_steps.specs.Attempts.{Attempt}
 use Rattle.yt_program.specs.Rows.{Violating, row_tree}
 use Rattle.yt_program.specs.Settled.{FindsNone}
@@ -11,7 +11,7 @@ use Rattle.yt_program.proofs.settled.log_marked.Given as goal
 abbrev pub invariant-places : goal.invariant-places
 invariant-places l =
     (val : Query → Reply) (P : Attempt) → FindsNone val l.marks → P.number ≡ l.number
-    → IsLogged val l.made (row_tree l.mappings P (Violating l.from)) (map read_of l.fn.log.items) (row_tree l.mappings P (Violating l.place)) (map read_of l.log.items)
+    → IsLogged val l.made (row_tree l.mappings P (Violating l.from)) (reads_in l.fn.log.items) (row_tree l.mappings P (Violating l.place)) (reads_in l.log.items)
 
 -- How many places come after it.
 abbrev pub decreases-places : goal.decreases-places

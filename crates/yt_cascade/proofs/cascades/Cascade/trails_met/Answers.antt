@@ -1,4 +1,4 @@
-use Rattle.std.proofs.Common.{◌≡◌, ◌∙◌, ◌<◌, ◌++◌, ap, get_or, sym, subst, refl, [], ◌∷◌, false, List, map, drop, length, append-nil, arith}
+use Rattle.std.proofs.Common.{◌≡◌, ◌∙◌, ◌<◌, ◌++◌, ap, get_or, sym, subst, refl, [], ◌∷◌, false, List, drop, length, append-nil, arith}
 use Rattle.std.proofs.lemmas.Grind.{common_steps}
 use Rattle.yt_conflict.specs.Meetings.{IsNoneMet}
 use Rattle.yt_conflict.specs.Trails.{trails_of, writes_of}
@@ -7,7 +7,7 @@ use Rattle.yt_conflict.specs.declared.concerns.Trail.{Trail}
 use Rattle.yt_conflict.proofs.Gathering.{all_gone}
 use Rattle.yt_model.specs.Updates.{direction_of}
 use Rattle.yt_model.specs.Violations.{Direction}
-use Rattle.yt_query.specs.Meanings.{read_of}
+use Rattle.yt_query.specs.Meanings.{reads_in}
 use Rattle.yt_cascade.specs.Reached.{MeetAlike}
 use Rattle.yt_cascade.specs.Walks.{has_own_impact}
 use Rattle.yt_cascade.proofs.Meeting.{alike_itself, left_out, one_of, put_in}
@@ -19,7 +19,7 @@ loop-member-init c =
       left = c.requires.lost;
       alike =
           subst (λ (ts : List Trail). MeetAlike c.args.self.now.mappings.now (trails_of (ts ++ c.args.lost.now.members.items)) (trails_of c.args.lost.now.members.items) r) (sym c.new-met.ensures.items)
-          (alike_itself c.args.self.now.mappings.now (direction_of r.program.attempt.operation) r.program.attempt.own (trails_of c.args.lost.now.members.items) (map read_of r.log.items));
+          (alike_itself c.args.self.now.mappings.now (direction_of r.program.attempt.operation) r.program.attempt.own (trails_of c.args.lost.now.members.items) (reads_in r.log.items));
     }
 
 pub loop-member-preserved-then-not-may_be_met : goal.loop-member-preserved-then-not-may_be_met
@@ -35,8 +35,8 @@ loop-member-preserved-then-not-may_be_met c =
     record {
       left = one.1;
       alike =
-          left_out ms (direction_of r.program.attempt.operation) r.program.attempt.own c.loop-member.met.items all c.loop-member.member-index c.member-item.result (map read_of r.log.items) l is
-          (none ms Went r.program.attempt.own (writes_of c.member-item.result ∷ []) (map read_of r.log.items) c.requires.covers one.0) c.loop-member.invariant.alike;
+          left_out ms (direction_of r.program.attempt.operation) r.program.attempt.own c.loop-member.met.items all c.loop-member.member-index c.member-item.result (reads_in r.log.items) l is
+          (none ms Went r.program.attempt.own (writes_of c.member-item.result ∷ []) (reads_in r.log.items) c.requires.covers one.0) c.loop-member.invariant.alike;
     }
 
 pub loop-member-preserved : goal.loop-member-preserved
@@ -50,7 +50,7 @@ loop-member-preserved c =
     record {
       left = one.1;
       alike =
-          put_in ms (direction_of r.program.attempt.operation) r.program.attempt.own c.loop-member.met.items c.push.new.self.items all c.loop-member.member-index c.member-item.result _ (map read_of r.log.items) l is refl c.in_ok-push.ensures.items c.loop-member.invariant.alike;
+          put_in ms (direction_of r.program.attempt.operation) r.program.attempt.own c.loop-member.met.items c.push.new.self.items all c.loop-member.member-index c.member-item.result _ (reads_in r.log.items) l is refl c.in_ok-push.ensures.items c.loop-member.invariant.alike;
     }
 
 pub returns : goal.returns

@@ -1,30 +1,24 @@
-use Rattle.std.proofs.Common.{◌≡◌, ◌<◌, ◌≤◌, length, map, arith}
-use Rattle.yt_query.specs.Meanings.{read_of}
+use Rattle.std.proofs.Common.{◌≡◌, ◌∙◌, ◌<◌, length, arith, sym}
+use Rattle.yt_query.specs.Meanings.{reads_of}
+use Rattle.yt_query.proofs.Entries.{all_in}
 use Rattle.yt_conflict.specs.Footprints.{ReadsMore, has_read}
-use Rattle.yt_conflict.proofs.Within.{reads_itself, reads_more, read_still}
+use Rattle.yt_conflict.proofs.Within.{has_reads, reads_itself, reads_more, reads_still}
 use Rattle.yt_conflict.proofs.Gathering.{begins, goes_on, ends}
 use Rattle.yt_conflict.proofs.footprints.Footprint.asking.Goals as goal
 
-pub loop-read-init : goal.loop-read-init
-loop-read-init c = record { more = reads_itself c.args.self; has = begins ReadsMore (has_read) read_of (reads_more) (read_still) c.args.reads.now c.args.self }
+pub loop-entry-init : goal.loop-entry-init
+loop-entry-init c = record { more = reads_itself c.args.self; has = begins ReadsMore has_reads reads_of (reads_more) (reads_still) c.args.reads.now c.args.self }
 
-pub loop-read-preserved : goal.loop-read-preserved
-loop-read-preserved c =
-    let l : c.loop-read.read-index < length c.args.reads.now = omega arith in
+pub loop-entry-preserved : goal.loop-entry-preserved
+loop-entry-preserved c =
+    let l : c.loop-entry.entry-index < length c.args.reads.now = omega arith in
     record {
-      more = reads_more c.args.self c.loop-read.more c.asking_one-more.result c.loop-read.invariant.more c.asking_one-more.ensures.more;
-      has = goes_on ReadsMore (has_read) read_of (reads_more) (read_still) c.args.reads.now c.loop-read.read-index c.read-item.result c.loop-read.more c.asking_one-more.result l c.read-item.is c.asking_one-more.ensures.more c.asking_one-more.ensures.has c.loop-read.invariant.has;
-    }
-
-pub loop-read-preserved-then-is_free : goal.loop-read-preserved-then-is_free
-loop-read-preserved-then-is_free c =
-    let l : c.loop-read.read-index < length c.args.reads.now = omega arith in
-    record {
-      more = c.loop-read.invariant.more;
-      has = goes_on ReadsMore (has_read) read_of (reads_more) (read_still) c.args.reads.now c.loop-read.read-index c.read-item.result c.loop-read.more c.loop-read.more l c.read-item.is (reads_itself c.loop-read.more) (c.is_free.ensures.free c.if-is_free.true c.loop-read.more) c.loop-read.invariant.has;
+      more = reads_more c.args.self c.loop-entry.more c.asking_by-more.result c.loop-entry.invariant.more c.asking_by-more.ensures.more;
+      has = goes_on ReadsMore has_reads reads_of (reads_more) (reads_still) c.args.reads.now c.loop-entry.entry-index c.entry-item.result c.loop-entry.more c.asking_by-more.result l c.entry-item.is c.asking_by-more.ensures.more c.asking_by-more.ensures.has c.loop-entry.invariant.has;
     }
 
 pub returns-clause-has : goal.returns-clause-has
 returns-clause-has c =
-    let all : c.loop-read.read-index ≡ length c.args.reads.now = omega arith in
-    ends ReadsMore (has_read) read_of (reads_more) (read_still) c.args.reads.now c.loop-read.read-index c.loop-read.more all (reads_itself c.loop-read.more) c.loop-read.invariant.has
+    let all : c.loop-entry.entry-index ≡ length c.args.reads.now = omega arith in
+    sym (all_in (has_read c.loop-entry.more) c.args.reads.now)
+    ∙ ends ReadsMore has_reads reads_of (reads_more) (reads_still) c.args.reads.now c.loop-entry.entry-index c.loop-entry.more all (reads_itself c.loop-entry.more) c.loop-entry.invariant.has

@@ -1,6 +1,6 @@
 use Rattle.std.proofs.Common.{subst, sym, ap, ◌∙◌, refl, arith, length, ◌≤◌, ℕ, drop, map, List}
 use Rattle.yt_entries.specs.Meanings.{entry_of}
-use Rattle.yt_query.specs.Meanings.{read_of}
+use Rattle.yt_query.specs.Meanings.{reads_in}
 use Rattle.yt_queue.specs.Queues.{AreFrom}
 use Rattle.yt_queue.specs.Renewals.{AllHaveOneMore}
 use Rattle.yt_queue.specs.Walks.{CommitsAtLeast, ReadsAtMost, UnreadyUpTo}
@@ -43,13 +43,13 @@ pub step_at-requires-clause-plan : goal.step_at-requires-clause-plan
 step_at-requires-clause-plan c =
     plan_ready _ c.self.inside.versions c.self.inside.queue.items c.self.inside.history.items _ c.self.invariant.0 c.self.view_is c.args.plan.update c.requires.ready c.place_of-place.result
     (c.place_of-place.ensures ∙ ap (λ (p : PlanMeant). p.update) c.plan.view_is) c.deref_mut.result.now c.deref_mut.ensures.value c.plan.inside.step c.args.plan
-    (ap (λ (n : ℕ). record { update = n; program = c.plan.inside.step.program; reads = map read_of c.plan.inside.step.reads.items }) (sym (ap (λ (p : PlanMeant). p.update) c.plan.view_is)) ∙ c.plan.view_is) c.requires.step
+    (ap (λ (n : ℕ). record { update = n; program = c.plan.inside.step.program; reads = reads_in c.plan.inside.step.reads.items }) (sym (ap (λ (p : PlanMeant). p.update) c.plan.view_is)) ∙ c.plan.view_is) c.requires.step
 
 pub step_at-requires-clause-after : goal.step_at-requires-clause-after
 step_at-requires-clause-after c =
     plan_between _ c.self.inside.versions c.self.inside.queue.items c.self.inside.history.items _ c.self.invariant.0 c.self.view_is c.args.plan.update c.requires.ready c.place_of-place.result
     (c.place_of-place.ensures ∙ ap (λ (p : PlanMeant). p.update) c.plan.view_is) c.deref_mut.result.now c.deref_mut.ensures.value c.plan.inside.step c.args.plan
-    (ap (λ (n : ℕ). record { update = n; program = c.plan.inside.step.program; reads = map read_of c.plan.inside.step.reads.items }) (sym (ap (λ (p : PlanMeant). p.update) c.plan.view_is)) ∙ c.plan.view_is) c.requires.step
+    (ap (λ (n : ℕ). record { update = n; program = c.plan.inside.step.program; reads = reads_in c.plan.inside.step.reads.items }) (sym (ap (λ (p : PlanMeant). p.update) c.plan.view_is)) ∙ c.plan.view_is) c.requires.step
 
 pub invariant_of-self : goal.invariant_of-self
 invariant_of-self c =
@@ -63,7 +63,7 @@ invariant_of-self-2 c = (
   kept_ok _ c.step_at.new.versions c.step_at.new.queue (drop (length c.step_at.new.queue) c.self.inside.queue.items) c.self.inside.queue.len (map entry_of c.step_at.new.history.items) (omega arith)
       (core_steps _ c.self.inside.versions c.self.inside.queue.items c.self.inside.history.items _ c.self.invariant.0 c.self.view_is c.args.plan.update c.requires.ready c.place_of-place.result
       (c.place_of-place.ensures ∙ ap (λ (p : PlanMeant). p.update) c.plan.view_is) c.deref_mut.result.now c.deref_mut.ensures.value c.plan.inside.step c.args.plan
-      (ap (λ (n : ℕ). record { update = n; program = c.plan.inside.step.program; reads = map read_of c.plan.inside.step.reads.items }) (sym (ap (λ (p : PlanMeant). p.update) c.plan.view_is)) ∙ c.plan.view_is) c.requires.step
+      (ap (λ (n : ℕ). record { update = n; program = c.plan.inside.step.program; reads = reads_in c.plan.inside.step.reads.items }) (sym (ap (λ (p : PlanMeant). p.update) c.plan.view_is)) ∙ c.plan.view_is) c.requires.step
       c.step_at.new.versions c.step_at.new.queue c.step_at.new.history.items c.in_ok-committed.ensures.made).kept,
   least_ok c.step_at.new.queue (drop (length c.step_at.new.queue) c.self.inside.queue.items) c.self.inside.queue.len c.in_ok-committed.committed (omega arith) c.in_ok-committed.ensures.committed,
   most_ok c.step_at.new.queue (drop (length c.step_at.new.queue) c.self.inside.queue.items) c.self.inside.queue.len c.raised-self-inside.result (omega arith)
@@ -76,7 +76,7 @@ invariant_of-self-2 c = (
       c.deref_mut.ensures.value c.self.invariant.0
       (core_steps _ c.self.inside.versions c.self.inside.queue.items c.self.inside.history.items _ c.self.invariant.0 c.self.view_is c.args.plan.update c.requires.ready c.place_of-place.result
       (c.place_of-place.ensures ∙ ap (λ (p : PlanMeant). p.update) c.plan.view_is) c.deref_mut.result.now c.deref_mut.ensures.value c.plan.inside.step c.args.plan
-      (ap (λ (n : ℕ). record { update = n; program = c.plan.inside.step.program; reads = map read_of c.plan.inside.step.reads.items }) (sym (ap (λ (p : PlanMeant). p.update) c.plan.view_is)) ∙ c.plan.view_is) c.requires.step
+      (ap (λ (n : ℕ). record { update = n; program = c.plan.inside.step.program; reads = reads_in c.plan.inside.step.reads.items }) (sym (ap (λ (p : PlanMeant). p.update) c.plan.view_is)) ∙ c.plan.view_is) c.requires.step
       c.step_at.new.versions c.step_at.new.queue c.step_at.new.history.items c.in_ok-committed.ensures.made).kept
       c.in_ok-committed.ensures.grows
       (ready_within _ c.self.inside.versions c.self.inside.queue.items _ _ c.self.invariant.0 c.self.view_is c.args.plan.update c.requires.ready c.place_of-place.result (c.place_of-place.ensures ∙ ap (λ (p : PlanMeant). p.update) c.plan.view_is)
@@ -89,7 +89,7 @@ returns-clause-made c =
     has_stepped _ c.step_at.new.versions c.step_at.new.queue (map entry_of c.self.inside.history.items) (map entry_of c.step_at.new.history.items) c.args.self.now _ c.args.plan.update c.self.view_is refl
     (core_steps _ c.self.inside.versions c.self.inside.queue.items c.self.inside.history.items _ c.self.invariant.0 c.self.view_is c.args.plan.update c.requires.ready c.place_of-place.result
     (c.place_of-place.ensures ∙ ap (λ (p : PlanMeant). p.update) c.plan.view_is) c.deref_mut.result.now c.deref_mut.ensures.value c.plan.inside.step c.args.plan
-    (ap (λ (n : ℕ). record { update = n; program = c.plan.inside.step.program; reads = map read_of c.plan.inside.step.reads.items }) (sym (ap (λ (p : PlanMeant). p.update) c.plan.view_is)) ∙ c.plan.view_is) c.requires.step
+    (ap (λ (n : ℕ). record { update = n; program = c.plan.inside.step.program; reads = reads_in c.plan.inside.step.reads.items }) (sym (ap (λ (p : PlanMeant). p.update) c.plan.view_is)) ∙ c.plan.view_is) c.requires.step
     c.step_at.new.versions c.step_at.new.queue c.step_at.new.history.items c.in_ok-committed.ensures.made)
 
 pub unready_from-self-inside-requires-clause-from : goal.unready_from-self-inside-requires-clause-from
@@ -97,7 +97,7 @@ unready_from-self-inside-requires-clause-from c =
     subst (λ (rs : List Record). AreFrom 1 rs) (sym c.deref-2.ensures.value) (kept_ok _ c.step_at.new.versions c.step_at.new.queue (drop (length c.step_at.new.queue) c.self.inside.queue.items) c.self.inside.queue.len (map entry_of c.step_at.new.history.items) (omega arith)
     (core_steps _ c.self.inside.versions c.self.inside.queue.items c.self.inside.history.items _ c.self.invariant.0 c.self.view_is c.args.plan.update c.requires.ready c.place_of-place.result
     (c.place_of-place.ensures ∙ ap (λ (p : PlanMeant). p.update) c.plan.view_is) c.deref_mut.result.now c.deref_mut.ensures.value c.plan.inside.step c.args.plan
-    (ap (λ (n : ℕ). record { update = n; program = c.plan.inside.step.program; reads = map read_of c.plan.inside.step.reads.items }) (sym (ap (λ (p : PlanMeant). p.update) c.plan.view_is)) ∙ c.plan.view_is) c.requires.step
+    (ap (λ (n : ℕ). record { update = n; program = c.plan.inside.step.program; reads = reads_in c.plan.inside.step.reads.items }) (sym (ap (λ (p : PlanMeant). p.update) c.plan.view_is)) ∙ c.plan.view_is) c.requires.step
     c.step_at.new.versions c.step_at.new.queue c.step_at.new.history.items c.in_ok-committed.ensures.made).kept).numbers
 
 pub unready_from-self-inside-requires-clause-first : goal.unready_from-self-inside-requires-clause-first

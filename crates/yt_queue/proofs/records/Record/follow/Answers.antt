@@ -4,8 +4,8 @@ use Rattle.yt_base.specs.Meanings.{change_of}
 use Rattle.yt_base.specs.declared.updates.Write.{Write}
 use Rattle.yt_conflict.specs.Footprints.{Covers}
 use Rattle.yt_model.specs.Repository.{Change}
-use Rattle.yt_query.specs.Meanings.{read_of}
-use Rattle.yt_query.specs.declared.log.LoggedRead.{LoggedRead}
+use Rattle.yt_query.specs.Meanings.{reads_in}
+use Rattle.yt_query.specs.declared.log.Logged.{Logged}
 use Rattle.yt_queue.specs.Queues.{update_of}
 use Rattle.yt_queue.specs.declared.records.Record.{Record}
 use Rattle.yt_queue.proofs.Following.{covers_by, own_by, stepped_by}
@@ -26,8 +26,8 @@ returns-clause-place c = λ ms B D n p s.
       between = search (rules, p);
       covers =
           covers_by c.after-self.result (old.program.attempt.own ++ writes) c.renew.new.place.attempt.own old.log.items c.args.plan.reads.items c.take_over.new.log.items
-          (subst (λ (ls : List LoggedRead). Covers c.after-self.result (old.program.attempt.own ++ writes) (map read_of old.log.items ++ map read_of ls)) c.as_slice-2.ensures.items
-          (c.after-self.ensures.covers old.program.attempt.own (map read_of old.log.items) s.covers))
+          (subst (λ (es : List Logged). Covers c.after-self.result (old.program.attempt.own ++ writes) (reads_in old.log.items ++ reads_in es)) c.as_slice-2.ensures.items
+          (c.after-self.ensures.covers old.program.attempt.own (reads_in old.log.items) s.covers))
           (own_by ms B D old c.args.plan writes c.len-made.result p
           (c.len-made.ensures.length ∙ (sym (length-map c.own.result.now.items change_of) ∙ ap length c.own.ensures.own))
           (c.since-writes.ensures.since ∙ (ap (λ (ws : List Write). drop c.len-made.result (map change_of ws)) c.as_slice.ensures.items ∙ ap (drop c.len-made.result) c.own-2.ensures.own))

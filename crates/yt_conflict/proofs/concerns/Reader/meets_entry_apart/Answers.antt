@@ -1,0 +1,31 @@
+use Rattle.std.proofs.Common.{◌∙◌, ◌-◌, ap, map, sym}
+use Rattle.std.proofs.Math.Bool.{or-false}
+use Rattle.yt_base.specs.Contents.{rules_in}
+use Rattle.yt_base.specs.Meanings.{change_of, heading_of}
+use Rattle.yt_query.specs.Meanings.{reads_of, read_of}
+use Rattle.yt_query.specs.declared.log.Logged.{Logged}
+use Rattle.yt_conflict.specs.Changes.{meets_any_apart}
+use Rattle.yt_conflict.specs.Concerns.{is_met_apart}
+use Rattle.yt_conflict.specs.Trails.{trails_of}
+use Rattle.yt_conflict.proofs.Unmet.{run_unmet}
+use Rattle.yt_conflict.proofs.concerns.Reader.meets_entry_apart.Goals as goal
+
+pub returns-in-Asked : goal.returns-in-Asked
+returns-in-Asked c =
+    let r = c.args.self.now in
+    let ms = rules_in r.mappings.now in
+    let h = heading_of r.direction in
+    let own = map change_of r.own.now in
+    let ts = trails_of c.args.trails.now in
+    c.is_met_apart.ensures ∙ sym (or-false (is_met_apart ms h own r.sense ts (read_of c.in-Asked.read)))
+    ∙ ap (λ (e : Logged). meets_any_apart ms h own r.sense ts (reads_of e)) (sym c.in-Asked.is)
+
+pub returns-in-Passed : goal.returns-in-Passed
+returns-in-Passed c =
+    let r = c.args.self.now in
+    let ms = rules_in r.mappings.now in
+    let h = heading_of r.direction in
+    let own = map change_of r.own.now in
+    let ts = trails_of c.args.trails.now in
+    let run = c.in-Passed.field-0 in
+    run_unmet ms h own r.sense ts run.start (run.end - run.start) run.own ∙ ap (λ (e : Logged). meets_any_apart ms h own r.sense ts (reads_of e)) (sym c.in-Passed.is)
