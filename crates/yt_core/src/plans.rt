@@ -173,7 +173,14 @@ fn plan_of(
     let with = versions.below(update + 1);
     let answer = item.next_answer();
     let step = plan_step(
-        alloc, program, answer, mappings, budget, &below, &with, &mut settled,
+        alloc,
+        program,
+        answer,
+        mappings,
+        budget,
+        &below,
+        &with,
+        &mut settled,
     )?;
     known.keep(update, program.own().len() as u64, settled);
     Ok(Plan { update, step })

@@ -57,12 +57,7 @@ pub fn told_by(
 
 /// Takes away the marks of the mappings to which one of the attempt's writes behind the first so many may have given a violation.
 /// It takes no memory.
-pub fn stir_since(
-    settled: &mut Settled,
-    mappings: &MappingList,
-    program: &Program,
-    made: u64,
-)
+pub fn stir_since(settled: &mut Settled, mappings: &MappingList, program: &Program, made: u64)
     ensures settled { (D : List Fact) →
         HasSettledBy made (rules_in mappings.now) D program.now.attempt settled.old →
         HasSettled (rules_in mappings.now) D program.now.attempt settled.new }

@@ -1,5 +1,5 @@
 //! What is looked for among the marked tuples and their cells.
-ghost use Rattle.std.specs.Prelude.{◌≡◌, ◌&&◌, None, Some};
+ghost use Rattle.std.specs.Prelude.{◌≡◌, ◌&&◌, None, Some, true};
 ghost use Rattle.std.specs.Option.{option_map, option_copied};
 ghost use Rattle.yt_model.specs.Cursors.{has_at as has_datum_at};
 ghost use Rattle.yt_base.specs.Meanings.{fact_of, datum_of};
