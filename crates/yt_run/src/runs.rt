@@ -97,10 +97,9 @@ fn run_output(
 
 // When answers are delivered: at once, unless the trace is asked for. That of one worker has the order in which a desk gives tickets.
 fn answers_for(trace: bool) -> Answers {
-    if trace {
-        Answers::Last
-    } else {
-        Answers::AtOnce
+    match trace {
+        true => Answers::Last,
+        false => Answers::AtOnce,
     }
 }
 
