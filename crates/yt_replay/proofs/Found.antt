@@ -15,13 +15,13 @@ use Rattle.yt_model.specs.Mappings.{Rule}
 use Rattle.yt_model.specs.Mentions.{mentions}
 use Rattle.yt_model.specs.Updates.{direction_of}
 use Rattle.yt_model.specs.Values.{Fact}
-use Rattle.yt_query.specs.Meanings.{Read, read_of}
+use Rattle.yt_query.specs.Meanings.{Read, reads_in}
 use Rattle.yt_steps.specs.Chase.{caused_chase, relation_of}
 use Rattle.yt_seats.specs.Seatings.{StandsAt, logged, update_of}
 use Rattle.yt_seats.specs.Standings.{IsLive}
 use Rattle.yt_seats.specs.declared.seats.Seat.{Seat}
-use Rattle.yt_replay.specs.Causes.{AreTold, IsFirstDependent, IsJoinOf, IsMetConflict, any_met, cause_meant, conflict_meant, dependence_meant, depends_by, least_writer, may_conflict, member_of, members_of, numbered_of, writes_of}
-use Rattle.yt_replay.specs.Changes.{IsFirstChange, change_meant, changed_at, is_changed, is_met_and_changed, meets}
+use Rattle.yt_replay.specs.Causes.{AreTold, IsFirstDependent, IsJoinOf, IsMetConflict, cause_meant, conflict_meant, dependence_meant, depends_by, least_writer, may_conflict, member_of, members_of, numbered_of, writes_of}
+use Rattle.yt_replay.specs.Changes.{IsFirstChange, any_met, change_meant, changed_at, is_changed, is_met_and_changed, meets}
 use Rattle.yt_replay.specs.Relations.{any_of}
 use Rattle.yt_replay.specs.Met.{has_turned, is_reached, met_conflict, met_join}
 use Rattle.yt_replay.specs.declared.changes.Change.{Change}
@@ -72,12 +72,12 @@ module _ (ms : List Rule) (B : ℕ) where
       → option_map (cause_meant ms B) found
       ≡ option_map (λ (x : Changed M). Conflict r.program.attempt.number x.read j x.old x.new)
       (option_map (λ (t : ℕ × ReadOfHistory M). record { read = t.0; old = t.1.answer; new = value_now M r.program.attempt.operation D r.program.attempt.own t.1 })
-      (first_that (λ q. meets ms relations q.query && not (is_valid M r.program.attempt.operation D r.program.attempt.own q)) (map (logged ms B) (map read_of r.log.items))))
+      (first_that (λ q. meets ms relations q.query && not (is_valid M r.program.attempt.operation D r.program.attempt.own q)) (map (logged ms B) (reads_in r.log.items))))
   conflict_is c j relations D r found change first is =
       let h = direction_of r.program.attempt.operation in
       let own = r.program.attempt.own in
       let n = r.program.attempt.number in
-      let reads = map read_of r.log.items in
+      let reads = reads_in r.log.items in
       sym (map_map (cause_kept ms B) cause_of found) ∙ ap (option_map (cause_kept ms B)) (is ∙ ap (option_map (conflict_meant j n)) first)
       ∙ as_conflict j n D r (first_that (is_met_and_changed ms relations h D own) reads)
       ∙ ap (λ o. option_map (λ (x : Changed M). Conflict n x.read j x.old x.new) (option_map (λ (t : ℕ × ReadOfHistory M). record { read = t.0; old = t.1.answer; new = value_now M r.program.attempt.operation D own t.1 }) o))
@@ -116,11 +116,11 @@ module _ (ms : List Rule) (B : ℕ) where
       → option_map cause_of found ≡ option_map (dependence_meant ms l.members.items r.program.attempt.number) (option_map numbered_of read)
       → option_map (cause_meant ms B) found
       ≡ option_map (λ (t : ℕ × ReadOfHistory M). Depends r.program.attempt.number t.0 (writer_for M t.1 (members_of ms B l.members.items)))
-      (first_that (λ q. is_reached ms B (members_of ms B l.members.items) q && has_turned ms B deps r.program.attempt.operation D r.program.attempt.own q) (map (logged ms B) (map read_of r.log.items)))
+      (first_that (λ q. is_reached ms B (members_of ms B l.members.items) q && has_turned ms B deps r.program.attempt.operation D r.program.attempt.own q) (map (logged ms B) (reads_in r.log.items)))
   dependence_is deps D l r found read told first is =
       let n = r.program.attempt.number in
       let ks = l.members.items in
-      let reads = map read_of r.log.items in
+      let reads = reads_in r.log.items in
       let p = depends_by deps ms l.relations.items (direction_of r.program.attempt.operation) D r.program.attempt.own in
       sym (map_map (cause_kept ms B) cause_of found) ∙ ap (option_map (cause_kept ms B)) (is ∙ ap (option_map (dependence_meant ms ks n)) first)
       ∙ as_depends n ks (first_that p reads)
@@ -186,21 +186,21 @@ module _ (ms : List Rule) (B : ℕ) (c j : ℕ) (relations : List ℕ) where
       option_map (λ (x : Changed (caused_chase ms B)). Conflict n x.read j x.old x.new)
       (option_map (λ (t : ℕ × ReadOfHistory (caused_chase ms B)). record { read = t.0; old = t.1.answer; new = value_now (caused_chase ms B) r.program.attempt.operation D r.program.attempt.own t.1 }) o)
 
-  none_where : (D : List Fact) (n : ℕ) (r : Seat) (b : Bool) → (b && any_met ms relations (map read_of r.log.items)) ≡ false
-      → (if b then conflicts_by D n r (first_that (λ q. meets ms relations q.query && not (is_valid (caused_chase ms B) r.program.attempt.operation D r.program.attempt.own q)) (map (logged ms B) (map read_of r.log.items))) else None) ≡ None
-  none_where D n r true e = ap (conflicts_by D n r) (none_of_reads (λ q. not (is_valid (caused_chase ms B) r.program.attempt.operation D r.program.attempt.own q)) (map read_of r.log.items) e)
+  none_where : (D : List Fact) (n : ℕ) (r : Seat) (b : Bool) → (b && any_met ms relations (reads_in r.log.items)) ≡ false
+      → (if b then conflicts_by D n r (first_that (λ q. meets ms relations q.query && not (is_valid (caused_chase ms B) r.program.attempt.operation D r.program.attempt.own q)) (map (logged ms B) (reads_in r.log.items))) else None) ≡ None
+  none_where D n r true e = ap (conflicts_by D n r) (none_of_reads (λ q. not (is_valid (caused_chase ms B) r.program.attempt.operation D r.program.attempt.own q)) (reads_in r.log.items) e)
   none_where D n r false e = refl
 
   -- What nothing meets has no conflict.
   pub unmet_has_none : (D : List Fact) (n : ℕ) (r : Seat) → StandsAt n r → may_conflict ms c relations r ≡ false → met_conflict ms B c j relations D n (update_of ms B r) ≡ None
   unmet_has_none D n r stands h =
-      none_where D n r (nat_lt c n && not r.withdrawn) (ap (λ k. (nat_lt c k && not r.withdrawn) && any_met ms relations (map read_of r.log.items)) (sym stands.number) ∙ h)
+      none_where D n r (nat_lt c n && not r.withdrawn) (ap (λ k. (nat_lt c k && not r.withdrawn) && any_met ms relations (reads_in r.log.items)) (sym stands.number) ∙ h)
 
 -- ---- whether an update may be in conflict
 
-pub may_live : (ms : List Rule) (c n : ℕ) (relations : List ℕ) (r : Seat) (live met : Bool) (reads : List Read) → n ≡ r.program.attempt.number → IsLive c n r live → live ≡ true → reads ≡ map read_of r.log.items → met ≡ any_met ms relations reads → met ≡ may_conflict ms c relations r
+pub may_live : (ms : List Rule) (c n : ℕ) (relations : List ℕ) (r : Seat) (live met : Bool) (reads : List Read) → n ≡ r.program.attempt.number → IsLive c n r live → live ≡ true → reads ≡ reads_in r.log.items → met ≡ any_met ms relations reads → met ≡ may_conflict ms c relations r
 may_live ms c n relations r live met reads e is t same m =
-    m ∙ ap (any_met ms relations) same ∙ ap (λ b. b && any_met ms relations (map read_of r.log.items)) (sym t ∙ is ms 0 ∙ ap (λ k. nat_lt c k && not r.withdrawn) e)
+    m ∙ ap (any_met ms relations) same ∙ ap (λ b. b && any_met ms relations (reads_in r.log.items)) (sym t ∙ is ms 0 ∙ ap (λ k. nat_lt c k && not r.withdrawn) e)
 
 pub may_not : (ms : List Rule) (c n : ℕ) (relations : List ℕ) (r : Seat) (live : Bool) → n ≡ r.program.attempt.number → IsLive c n r live → live ≡ false → live ≡ may_conflict ms c relations r
-may_not ms c n relations r live e is f = f ∙ ap (λ b. b && any_met ms relations (map read_of r.log.items)) (sym f ∙ is ms 0 ∙ ap (λ k. nat_lt c k && not r.withdrawn) e)
+may_not ms c n relations r live e is f = f ∙ ap (λ b. b && any_met ms relations (reads_in r.log.items)) (sym f ∙ is ms 0 ∙ ap (λ k. nat_lt c k && not r.withdrawn) e)

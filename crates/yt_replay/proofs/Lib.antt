@@ -19,3 +19,4 @@ pub mod Preparing
 pub mod Going
 pub mod Done
 pub mod Deciding
+pub mod Swapped

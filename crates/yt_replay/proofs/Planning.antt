@@ -8,7 +8,7 @@ use Rattle.yt_model.specs.Values.{Fact}
 use Rattle.yt_plan.specs.Planned.{HasSettled, WantsStep, at_rest, next_attempt, next_reads}
 use Rattle.yt_plan.specs.declared.plans.Plan.{Plan}
 use Rattle.yt_program.specs.Wishes.{wish}
-use Rattle.yt_query.specs.Meanings.{read_of}
+use Rattle.yt_query.specs.Meanings.{reads_in}
 use Rattle.yt_steps.specs.Attempts.{Attempt}
 use Rattle.yt_seats.specs.Programs.{HasNext, IsPlanOf}
 use Rattle.yt_seats.specs.Wants.{WantsNext}
@@ -30,7 +30,7 @@ nothing_settled k ms D P marks e m h = absurd (both_ways (slice_index_or marks m
 
 -- What was planned over such a set is the plan over that of the uppermost level.
 pub planned_is : (ms : List Rule) (B : ℕ) (D E : List Fact) (r : Seat) (plan : Plan) (a : Option Choice) → D ≡ E → HasNext r a → plan.program ≡ at_rest (next_attempt ms B D r.program.attempt a)
-    → map read_of plan.reads.items ≡ next_reads ms D r.program.attempt a → IsPlanOf ms B E r plan
+    → reads_in plan.reads.items ≡ next_reads ms D r.program.attempt a → IsPlanOf ms B E r plan
 planned_is ms B D E r plan a e next p q = record {
   program = p ∙ (λ i. at_rest (next_attempt ms B (e i) r.program.attempt (next ms B i)));
   reads = q ∙ (λ i. next_reads ms (e i) r.program.attempt (next ms B i));
@@ -38,6 +38,6 @@ planned_is ms B D E r plan a e next p q = record {
 
 -- Where there is one.
 pub planned_ok : {M : Type 0} (ms : List Rule) (B : ℕ) (D E : List Fact) (r : Seat) (o : Result Plan M) (a : Option Choice) → D ≡ E → HasNext r a → IfOk o (λ plan. plan.program ≡ at_rest (next_attempt ms B D r.program.attempt a))
-    → IfOk o (λ plan. map read_of plan.reads.items ≡ next_reads ms D r.program.attempt a) → IfOk o (IsPlanOf ms B E r)
+    → IfOk o (λ plan. reads_in plan.reads.items ≡ next_reads ms D r.program.attempt a) → IfOk o (IsPlanOf ms B E r)
 planned_ok ms B D E r (Ok plan) a e next p q = planned_is ms B D E r plan a e next p q
 planned_ok ms B D E r (Err m) a e next p q = tt

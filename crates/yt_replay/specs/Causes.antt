@@ -15,11 +15,11 @@ use Rattle.yt_model.specs.Repository.{Change, IsRepository, apply}
 use Rattle.yt_model.specs.Updates.{direction_of}
 use Rattle.yt_model.specs.Values.{Fact}
 use Rattle.yt_model.specs.Violations.{Direction}
-use Rattle.yt_query.specs.Meanings.{Read, read_of}
+use Rattle.yt_query.specs.Meanings.{Read, read_of, reads_in}
 use Rattle.yt_steps.specs.Chase.{caused_chase}
 use Rattle.yt_seats.specs.Seatings.{AreFrom, StandsAt, update_of, updates_of}
 use Rattle.yt_seats.specs.declared.seats.Seat.{Seat}
-use Rattle.yt_replay.specs.Changes.{ChangeMeant, meets, is_met_and_changed}
+use Rattle.yt_replay.specs.Changes.{ChangeMeant, any_met, is_met_and_changed, meets}
 use Rattle.yt_replay.specs.Levels.{top}
 use Rattle.yt_replay.specs.Relations.{any_of}
 use Rattle.yt_replay.specs.Met.{AreValid, AreValidThat, is_open, met_cascade, met_conflict, met_conflicts, met_join}
@@ -77,13 +77,9 @@ AreMetConflicts ms c j relations D rs causes =
 abbrev pub conflict_meant : ℕ → ℕ → ChangeMeant → PlainCause
 conflict_meant j n c = InConflict (record { reader = n; read = c.number; writer = j; old = c.read.reply; new = c.now })
 
--- One of the reads mentions one of the relations.
-abbrev pub any_met : List Rule → List ℕ → List Read → Bool
-any_met ms relations rs = list_any (λ x. meets ms relations x.query) rs
-
 -- Whether the update is live, and a read of it mentions one of the relations.
 abbrev pub may_conflict : List Rule → ℕ → List ℕ → Seat → Bool
-may_conflict ms c relations r = (nat_lt c r.program.attempt.number && not r.withdrawn) && any_met ms relations (map read_of r.log.items)
+may_conflict ms c relations r = (nat_lt c r.program.attempt.number && not r.withdrawn) && any_met ms relations (reads_in r.log.items)
 
 -- None of the updates may be in conflict.
 abbrev pub AreUnmet : List Rule → ℕ → List ℕ → List Seat → Type 0
@@ -109,7 +105,7 @@ pub record LeavesBelow (goes : Bool) (r : Seat) (levels levels' : List (List Fac
 
 -- The read with its number that a `Numbered` stands for.
 abbrev pub numbered_of : Numbered → ℕ × Read
-numbered_of x = (x.number, read_of x.read.now)
+numbered_of x = (x.number, read_of x.read)
 
 -- The read mentions one of the relations, and by values it has another value over D.
 abbrev pub depends_by : Deps → List Rule → List ℕ → Direction → List Fact → List Change → Read → Bool
@@ -119,7 +115,7 @@ depends_by Coarse ms relations h D own r = meets ms relations r.query
 -- It is the first read of the seat's update that depends on what is lost.
 abbrev pub IsFirstDependent : Deps → List Rule → Losses → List Fact → Seat → Option Numbered → Type 0
 IsFirstDependent deps ms l D r found =
-    option_map numbered_of found ≡ first_that (depends_by deps ms l.relations.items (direction_of r.program.attempt.operation) D r.program.attempt.own) (map read_of r.log.items)
+    option_map numbered_of found ≡ first_that (depends_by deps ms l.relations.items (direction_of r.program.attempt.operation) D r.program.attempt.own) (reads_in r.log.items)
 
 -- The first member that wrote a relation which the read mentions; 0 where none did.
 abbrev pub least_writer : List Rule → Read → List MemberOfProgram → ℕ

@@ -103,19 +103,19 @@ fn join_of(
 // The dependence by the read, if there is one.
 fn dependence_by(
     reader: u32,
-    read: Option<Numbered<'_>>,
+    read: Option<Numbered>,
     losses: &Losses<'_>,
     mappings: &MappingList,
 ) -> Option<Cause>
     ensures dependence { option_map cause_of result ≡
         option_map (dependence_meant (rules_in mappings.now) losses.now.members.items reader)
-        (option_map numbered_of read.entry) }
+        (option_map numbered_of read) }
 {
     match read {
         Some(found) => Some(Cause::Depends {
             reader,
             read: found.number,
-            on: losses.writer_for(found.read, mappings),
+            on: losses.writer_for(&found.read, mappings),
         }),
         None => None,
     }

@@ -3,19 +3,19 @@ ghost use Rattle.std.specs.Prelude.{◌≡◌, ◌≤◌, ◌++◌, drop, length
 ghost use Rattle.std.specs.Option.{option_map};
 ghost use Rattle.yt_base.specs.Contents.{rules_in};
 ghost use Rattle.yt_entries.specs.Meanings.{cause_of};
-ghost use Rattle.yt_query.specs.Meanings.{read_of};
-ghost use Rattle.yt_replay.specs.Causes.{AreMetConflicts, AreUnmet, IsMetConflict, any_met as any_met_lem, conflict_meant, may_conflict as may_conflict_lem};
-ghost use Rattle.yt_replay.specs.Changes.{change_meant};
+ghost use Rattle.yt_query.specs.Meanings.{reads_in};
+ghost use Rattle.yt_replay.specs.Causes.{AreMetConflicts, AreUnmet, IsMetConflict, conflict_meant, may_conflict as may_conflict_lem};
+ghost use Rattle.yt_replay.specs.Changes.{any_met as any_met_lem, change_meant};
 ghost use Rattle.yt_replay.specs.Levels.{RisesFrom, top};
 ghost use Rattle.yt_replay.specs.Places.{AreBetween};
 
 use crate::changes::{Change, changed_read};
 use crate::levels::Levels;
-use crate::relations::is_met;
+use crate::relations::is_any_met;
 use std::alloc::Global;
-use yt_base::{MappingList, Memory, TryCopy};
+use yt_base::{MappingList, Memory};
 use yt_entries::{Cause, CauseList};
-use yt_query::LoggedRead;
+use yt_query::Logged;
 use yt_seats::Seat;
 
 /// What an event finds: the mappings, and how many updates were committed when it began.
@@ -99,29 +99,27 @@ fn conflict_of(
     }
     let below = levels.facts();
     let change = changed_read(alloc, seat, scene.mappings, below, relations)?;
-    let cause = conflict_by(alloc, reader, writer, change)?;
+    let cause = conflict_by(reader, writer, change);
     Ok(cause)
 }
 
 // The conflict by the read that has another value, if there is one.
-fn conflict_by(
-    alloc: Global,
-    reader: u32,
-    writer: u32,
-    change: Option<Change<'_>>,
-) -> Result<Option<Cause>, Memory>
-    ensures conflict { IfOk result (λ cause. option_map cause_of cause ≡
-        option_map (conflict_meant writer reader) (option_map change_meant change.entry)) }
+fn conflict_by(reader: u32, writer: u32, change: Option<Change>) -> Option<Cause>
+    ensures conflict { option_map cause_of result ≡
+        option_map (conflict_meant writer reader) (option_map change_meant change) }
 {
     match change {
-        Some(change) => Ok(Some(Cause::Conflict {
-            reader,
-            read: change.number,
-            writer,
-            old: change.read.answer.copy(alloc)?,
-            new: change.now,
-        })),
-        None => Ok(None),
+        Some(change) => {
+            let Change { number, read, now } = change;
+            Some(Cause::Conflict {
+                reader,
+                read: number,
+                writer,
+                old: read.answer,
+                new: now,
+            })
+        }
+        None => None,
     }
 }
 
@@ -154,9 +152,9 @@ fn may_conflict(seat: &Seat, scene: Scene<'_>, relations: &[u16]) -> bool
 }
 
 // Whether one of the reads mentions one of the relations.
-fn any_met(log: &[LoggedRead], mappings: &MappingList, relations: &[u16]) -> bool
-    ensures met { result ≡ any_met_lem (rules_in mappings.now) relations.now (map read_of log.now) }
+fn any_met(log: &[Logged], mappings: &MappingList, relations: &[u16]) -> bool
+    ensures met { result ≡ any_met_lem (rules_in mappings.now) relations.now (reads_in log.now) }
 {
     log.iter()
-        .any(|read| is_met(&read.query, mappings, relations))
+        .any(|entry| is_any_met(entry, mappings, relations))
 }

@@ -1,17 +1,17 @@
 //! What is lost below an update: the trails of the members, which are the updates that go.
-ghost use Rattle.std.specs.Prelude.{◌≡◌, ◌||◌, [], map, true, IfOk, OnOk, is_some as is_some_lem};
+ghost use Rattle.std.specs.Prelude.{◌≡◌, ◌||◌, ◌+◌, ◌-◌, ◌<◌, ◌^◌, [], ◌∷◌, length, map, true, IfOk, OnOk, is_some as is_some_lem};
 ghost use Rattle.std.specs.List.{list_any};
 ghost use Rattle.std.specs.Option.{option_map};
 ghost use Rattle.yt_base.specs.Contents.{rules_in};
 ghost use Rattle.yt_base.specs.Meanings.{change_of};
 ghost use Rattle.yt_machine.specs.Reads.{first_that};
 ghost use Rattle.yt_machine.specs.Updates.{Precise};
-ghost use Rattle.yt_query.specs.Meanings.{read_of};
+ghost use Rattle.yt_query.specs.Meanings.{finds_none as finds_none_lem, passing, read_of, reads_in, reads_of};
 ghost use Rattle.yt_model.specs.Mentions.{mentions as mentions_lem};
 ghost use Rattle.yt_seats.specs.Programs.{IsBetween};
 ghost use Rattle.yt_seats.specs.Settings.{deps_of};
 ghost use Rattle.yt_replay.specs.Causes.{AreTold, IsFirstDependent, LeavesBelow, Loses, least_writer, numbered_of};
-ghost use Rattle.yt_replay.specs.Changes.{meets};
+ghost use Rattle.yt_replay.specs.Changes.{first_behind, is_read_met};
 ghost use Rattle.yt_replay.specs.Relations.{any_of};
 ghost use Rattle.yt_replay.specs.Levels.{RisesFrom, top};
 
@@ -19,8 +19,8 @@ use crate::changes::changed_read;
 use crate::levels::Levels;
 use crate::relations::{is_met, put_relations, relation_of};
 use std::alloc::Global;
-use yt_base::{MappingList, Memory, Write};
-use yt_query::{LoggedRead, mentions};
+use yt_base::{MappingList, Memory, TryCopy, Write};
+use yt_query::{Logged, LoggedRead, Run, finds_none, mentions};
 use yt_seats::{Deps, Seat};
 
 /// An update whose trail goes, with that trail.
@@ -39,9 +39,9 @@ pub(crate) struct Losses<'r> {
 
 /// A logged read with its number in the log, from 1.
 #[derive(Drop)]
-pub(crate) struct Numbered<'a> {
+pub(crate) struct Numbered {
     pub(crate) number: u64,
-    pub(crate) read: &'a LoggedRead,
+    pub(crate) read: LoggedRead,
 }
 
 impl<'r> Losses<'r> {
@@ -90,31 +90,31 @@ impl<'r> Losses<'r> {
     /// The first read of the update that depends on what is lost: by values, one that has another value without it; by
     /// relations, one that mentions a relation of it. The uppermost level lies below the update, without what is lost. It
     /// is refused only for want of memory.
-    pub(crate) fn first_dependent<'a>(
+    pub(crate) fn first_dependent(
         &self,
         alloc: Global,
         levels: &Levels,
-        seat: &'a Seat,
+        seat: &Seat,
         mappings: &MappingList,
         deps: Deps,
-    ) -> Result<Option<Numbered<'a>>, Memory>
+    ) -> Result<Option<Numbered>, Memory>
         ensures first { IfOk result (IsFirstDependent (deps_of deps) (rules_in mappings.now)
             self.now (top levels.now) seat.now) }
     {
         match deps {
             Deps::Precise => self.first_changed(alloc, levels, seat, mappings),
-            Deps::Coarse => Ok(self.first_met(seat.log.as_slice(), mappings)),
+            Deps::Coarse => self.first_met(alloc, seat.log.as_slice(), mappings),
         }
     }
 
     // The first read of the update that has another value without what is lost.
-    fn first_changed<'a>(
+    fn first_changed(
         &self,
         alloc: Global,
         levels: &Levels,
-        seat: &'a Seat,
+        seat: &Seat,
         mappings: &MappingList,
-    ) -> Result<Option<Numbered<'a>>, Memory>
+    ) -> Result<Option<Numbered>, Memory>
         ensures first { IfOk result (IsFirstDependent Precise
             (rules_in mappings.now) self.now (top levels.now) seat.now) }
     {
@@ -130,19 +130,110 @@ impl<'r> Losses<'r> {
     }
 
     // The first of the reads that mentions a relation of what is lost.
-    fn first_met<'a>(&self, log: &'a [LoggedRead], mappings: &MappingList) -> Option<Numbered<'a>>
-        ensures first { option_map numbered_of result ≡
-            first_that (λ r. meets (rules_in mappings.now) self.now.relations.items r.query)
-            (map read_of log.now) }
+    fn first_met(
+        &self,
+        alloc: Global,
+        log: &[Logged],
+        mappings: &MappingList,
+    ) -> Result<Option<Numbered>, Memory>
+        ensures first { IfOk result (λ found. option_map numbered_of found ≡
+            first_that (is_read_met (rules_in mappings.now) self.now.relations.items)
+            (reads_in log.now)) }
     {
         let mut number = 0;
-        'reads: for read in log {
-            number += 1;
-            if is_met(&read.query, mappings, self.relations.as_slice()) {
-                return Some(Numbered { number, read });
+        'entries: for entry in log {
+            let all = entry.count_on(number)?;
+            if let Some(found) = self.met_by(alloc, number, entry, mappings)? {
+                return Ok(Some(found));
             }
+            number = all;
         }
-        None
+        Ok(None)
+    }
+
+    // The same of the reads of an entry, where so many reads come before it.
+    fn met_by(
+        &self,
+        alloc: Global,
+        before: u64,
+        entry: &Logged,
+        mappings: &MappingList,
+    ) -> Result<Option<Numbered>, Memory>
+        requires fits { before + length (reads_of entry.now) < 2 ^ 64 }
+        ensures first { IfOk result (λ found. option_map numbered_of found ≡
+            first_behind (is_read_met (rules_in mappings.now) self.now.relations.items) before
+            (reads_of entry.now)) }
+    {
+        match entry {
+            Logged::Asked(read) => self.met_at(alloc, before, read, mappings),
+            Logged::Passed(run) => self.met_in_run(alloc, before, run, mappings),
+        }
+    }
+
+    // The same of the reads of a run.
+    fn met_in_run(
+        &self,
+        alloc: Global,
+        before: u64,
+        run: &Run,
+        mappings: &MappingList,
+    ) -> Result<Option<Numbered>, Memory>
+        requires fits { before + (run.now.end - run.now.start) < 2 ^ 64 }
+        ensures first { IfOk result (λ found. option_map numbered_of found ≡
+            first_behind (is_read_met (rules_in mappings.now) self.now.relations.items) before
+            (passing run.now.start (run.now.end - run.now.start) run.now.own)) }
+    {
+        let mut number = before;
+        for mapping in run.start..run.end {
+            let found = self.met_mapping(alloc, number, mapping, run.own, mappings)?;
+            if let Some(found) = found {
+                return Ok(Some(found));
+            }
+            number += 1;
+        }
+        Ok(None)
+    }
+
+    // The read behind so many, that the mapping has no violation by an attempt that had made `made` writes, if it mentions
+    // such a relation.
+    fn met_mapping(
+        &self,
+        alloc: Global,
+        before: u64,
+        mapping: u16,
+        made: u64,
+        mappings: &MappingList,
+    ) -> Result<Option<Numbered>, Memory>
+        requires fits { before + 1 < 2 ^ 64 }
+        ensures first { IfOk result (λ found. option_map numbered_of found ≡
+            first_behind (is_read_met (rules_in mappings.now) self.now.relations.items) before
+            (finds_none_lem mapping made ∷ [])) }
+    {
+        let read = finds_none(mapping, made);
+        let found = self.met_at(alloc, before, &read, mappings)?;
+        Ok(found)
+    }
+
+    // The read behind so many, if it mentions such a relation.
+    fn met_at(
+        &self,
+        alloc: Global,
+        before: u64,
+        read: &LoggedRead,
+        mappings: &MappingList,
+    ) -> Result<Option<Numbered>, Memory>
+        requires fits { before + 1 < 2 ^ 64 }
+        ensures first { IfOk result (λ found. option_map numbered_of found ≡
+            first_behind (is_read_met (rules_in mappings.now) self.now.relations.items) before
+            (read_of read.now ∷ [])) }
+    {
+        if !is_met(&read.query, mappings, self.relations.as_slice()) {
+            return Ok(None);
+        }
+        Ok(Some(Numbered {
+            number: before + 1,
+            read: read.copy(alloc)?,
+        }))
     }
 
     /// The least member that wrote a relation which the read mentions; 0, which is no update, where none did.

@@ -3,14 +3,14 @@ ghost use Rattle.std.specs.Prelude.{◌≡◌, ◌==◌, map, IfOk, OnOk};
 ghost use Rattle.std.specs.List.{list_any};
 ghost use Rattle.yt_base.specs.Contents.{rules_in};
 ghost use Rattle.yt_base.specs.Meanings.{change_of};
-ghost use Rattle.yt_query.specs.Meanings.{query_of};
+ghost use Rattle.yt_query.specs.Meanings.{query_of, reads_of};
 ghost use Rattle.yt_steps.specs.Chase.{relation_of as relation_of_lem};
-ghost use Rattle.yt_replay.specs.Changes.{meets};
+ghost use Rattle.yt_replay.specs.Changes.{any_met, meets};
 ghost use Rattle.yt_replay.specs.Relations.{AreRelationsOf, HasMore, HasOneMore};
 
 use std::alloc::Global;
 use yt_base::{MappingList, Memory, Write};
-use yt_query::{Query, mentions};
+use yt_query::{Logged, Query, mentions};
 
 /// The relations of which the writes are, each once. It is refused only for want of memory.
 pub(crate) fn relations_of(alloc: Global, writes: &[Write]) -> Result<Vec<u16>, Memory>
@@ -60,6 +60,15 @@ pub(crate) fn relation_of(write: &Write) -> u16
         Write::Insert(tuple) => tuple.relation,
         Write::Delete(tuple) => tuple.relation,
     }
+}
+
+/// Whether one of the entry's reads mentions one of the relations. It takes no memory.
+pub(crate) fn is_any_met(entry: &Logged, mappings: &MappingList, relations: &[u16]) -> bool
+    ensures met { result ≡ any_met (rules_in mappings.now) relations.now (reads_of entry.now) }
+{
+    relations
+        .iter()
+        .any(|relation| entry.mentions(mappings, *relation))
 }
 
 /// Whether the query mentions one of the relations. It takes no memory.

@@ -1,59 +1,69 @@
-use Rattle.std.proofs.Common.{◌≡◌, ◌∙◌, ◌+◌, ◌<◌, sym, true, false, map, length, arith}
-use Rattle.std.proofs.lemmas.Grind.{common_steps}
-use Rattle.yt_base.specs.Meanings.{change_of, heading_of, rule_of}
-use Rattle.yt_query.specs.Meanings.{read_of, reply_of}
-use Rattle.yt_replay.specs.Changes.{is_met_and_changed}
-use Rattle.yt_replay.proofs.Numbered.{passed_by, found_here, change_is, test_tells, unmet_tells}
+use Rattle.std.proofs.Common.{◌≡◌, ◌∙◌, ◌+◌, ◌++◌, ap, refl, sym, drop, map, arith}
+use Rattle.std.specs.Prelude.{option_map}
+use Rattle.std.proofs.lemmas.List.{drop_all}
+use Rattle.yt_base.specs.Contents.{rules_in}
+use Rattle.yt_base.specs.Meanings.{change_of, heading_of}
+use Rattle.yt_query.specs.Meanings.{reads_in, reads_of}
+use Rattle.yt_query.proofs.Entries.{from_here}
+use Rattle.yt_replay.specs.Changes.{change_meant, changed_at, first_behind, is_met_and_changed}
+use Rattle.yt_replay.proofs.Numbered.{behind_none, found_among, no_value, none_among}
 use Rattle.yt_replay.proofs.changes.first_changed.Goals as goal
 
-pub reads-preserved-then-not-is_met : goal.reads-preserved-then-not-is_met
-reads-preserved-then-not-is_met c =
-    let ms = map rule_of c.args.mappings.now.items in
-    let h = heading_of c.args.direction in
-    let D = c.args.below.now in
-    let own = map change_of c.args.own.now in
-    let ks = c.args.relations.now in
-    let r = c.read-item.result in
-    let l : c.reads.read-index < length c.args.log.now = omega arith in
-    let m : c.is_met.result ≡ false = grind (arith, common_steps) in
-    record {
-      number = omega (arith, c.reads.invariant.number);
-      first = passed_by (is_met_and_changed ms ks h D own) c.reads.number c.reads.read-index c.args.log.now _ c.reads.invariant.first r l c.read-item.is (unmet_tells ms ks h D own r (sym c.is_met.ensures.met ∙ m));
-    }
+pub entries-init : goal.entries-init
+entries-init c = refl
 
-pub returns-then-not-is_same : goal.returns-then-not-is_same
-returns-then-not-is_same c =
-    let ms = map rule_of c.args.mappings.now.items in
+pub changed_by-requires : goal.changed_by-requires
+changed_by-requires c = record { fits = (let e = c.in_ok-all.ensures.counted in omega (arith, e)) }
+
+pub returns-in-Some : goal.returns-in-Some
+returns-in-Some c =
+    let ms = rules_in c.args.mappings.now in
     let h = heading_of c.args.direction in
     let D = c.args.below.now in
     let own = map change_of c.args.own.now in
-    let ks = c.args.relations.now in
-    let r = c.read-item.result in
-    let l : c.reads.read-index < length c.args.log.now = omega arith in
-    let m : c.is_met.result ≡ true = grind (arith, common_steps) in
-    let f : c.is_same.result ≡ false = grind (arith, common_steps) in
-    let a = reply_of c.in_ok-now.now in
-    let v = c.in_ok-now.ensures.value in
+    let p = is_met_and_changed ms c.args.relations.now h D own in
+    let f = changed_at ms h D own in
+    let es = c.args.log.now in
+    let i = c.entries.entry-index in
+    let n = c.entries.number in
+    let rs = reads_of c.entry-item.result in
+    let rest = reads_in (drop (i + 1) es) in
+    let all = option_map f (first_behind p 0 (reads_in es)) in
+    let here : all ≡ option_map f (first_behind p n (rs ++ rest)) = c.entries.invariant ∙ ap (λ qs. option_map f (first_behind p n qs)) (from_here es i c.entry-item.result (omega arith) c.entry-item.is) in
     record {
       first =
-          change_is ms ks h D own (c.reads.number + 1) (read_of r) a (map read_of c.args.log.now) v
-          (found_here (is_met_and_changed ms ks h D own) c.reads.number c.reads.read-index c.args.log.now _ c.reads.invariant.first r l c.read-item.is (test_tells ms ks h D own r c.is_same.result true a (sym c.is_met.ensures.met ∙ m) v c.is_same.ensures.same f));
+          found_among f p n rs rest all (option_map change_meant c.in_ok-found.found) (change_meant c.in-Some.change) here c.in_ok-found.ensures.first (ap (option_map change_meant) c.in-Some.is)
+          ∙ ap (option_map f) (behind_none p (reads_in es));
     }
 
-pub reads-preserved : goal.reads-preserved
-reads-preserved c =
-    let ms = map rule_of c.args.mappings.now.items in
+pub entries-preserved : goal.entries-preserved
+entries-preserved c =
+    let ms = rules_in c.args.mappings.now in
     let h = heading_of c.args.direction in
     let D = c.args.below.now in
     let own = map change_of c.args.own.now in
-    let ks = c.args.relations.now in
-    let r = c.read-item.result in
-    let l : c.reads.read-index < length c.args.log.now = omega arith in
-    let m : c.is_met.result ≡ true = grind (arith, common_steps) in
-    let f : c.is_same.result ≡ true = grind (arith, common_steps) in
-    let a = reply_of c.in_ok-now.now in
-    let v = c.in_ok-now.ensures.value in
+    let p = is_met_and_changed ms c.args.relations.now h D own in
+    let f = changed_at ms h D own in
+    let es = c.args.log.now in
+    let i = c.entries.entry-index in
+    let n = c.entries.number in
+    let rs = reads_of c.entry-item.result in
+    let rest = reads_in (drop (i + 1) es) in
+    let all = option_map f (first_behind p 0 (reads_in es)) in
+    let here : all ≡ option_map f (first_behind p n (rs ++ rest)) = c.entries.invariant ∙ ap (λ qs. option_map f (first_behind p n qs)) (from_here es i c.entry-item.result (omega arith) c.entry-item.is) in
+    none_among f p n c.in_ok-all.all rs rest all (option_map change_meant c.in_ok-found.found) here c.in_ok-found.ensures.first (no_value change_meant c.in_ok-found.found c.in_default.not-Some) c.in_ok-all.ensures.counted
+
+pub returns : goal.returns
+returns c =
+    let ms = rules_in c.args.mappings.now in
+    let h = heading_of c.args.direction in
+    let D = c.args.below.now in
+    let own = map change_of c.args.own.now in
+    let p = is_met_and_changed ms c.args.relations.now h D own in
+    let f = changed_at ms h D own in
+    let es = c.args.log.now in
     record {
-      number = omega (arith, c.reads.invariant.number);
-      first = passed_by (is_met_and_changed ms ks h D own) c.reads.number c.reads.read-index c.args.log.now _ c.reads.invariant.first r l c.read-item.is (test_tells ms ks h D own r c.is_same.result false a (sym c.is_met.ensures.met ∙ m) v c.is_same.ensures.same f);
+      first =
+          sym (c.entries.invariant ∙ ap (λ ls. option_map f (first_behind p c.entries.number (reads_in ls))) (drop_all c.entries.entry-index es (omega arith)))
+          ∙ ap (option_map f) (behind_none p (reads_in es));
     }

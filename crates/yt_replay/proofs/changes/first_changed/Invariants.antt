@@ -1,17 +1,12 @@
-use Rattle.std.proofs.Common.{◌≡◌, map, drop}
-use Rattle.std.specs.Prelude.{option_map}
-use Rattle.yt_base.specs.Meanings.{change_of, heading_of, rule_of}
-use Rattle.yt_machine.specs.Reads.{first_that}
-use Rattle.yt_query.specs.Meanings.{Read, read_of}
-use Rattle.yt_replay.specs.Changes.{is_met_and_changed}
-use Rattle.yt_replay.proofs.Numbered.{counted_on}
+use Rattle.std.proofs.Common.{◌≡◌, drop, map}
+use Rattle.yt_base.specs.Contents.{rules_in}
+use Rattle.yt_base.specs.Meanings.{change_of, heading_of}
+use Rattle.yt_query.specs.Meanings.{reads_in}
+use Rattle.yt_replay.specs.Changes.{first_change_behind}
 use Rattle.yt_replay.proofs.changes.first_changed.Given as goal
 
--- The first of those that are left, counted on, is the first of all.
-abbrev pub invariant-reads : goal.invariant-reads
-invariant-reads l = record {
-  number : l.number ≡ l.read-index;
-  first :
-      option_map (counted_on {A = Read} l.number) (first_that (is_met_and_changed (map rule_of l.mappings.items) l.relations (heading_of l.direction) l.below (map change_of l.own)) (map read_of (drop l.read-index l.log)))
-      ≡ first_that (is_met_and_changed (map rule_of l.mappings.items) l.relations (heading_of l.direction) l.below (map change_of l.own)) (map read_of l.log);
-}
+-- The first of all is the first of those that are left.
+abbrev pub invariant-entries : goal.invariant-entries
+invariant-entries l =
+    first_change_behind 0 (rules_in l.mappings) l.relations (heading_of l.direction) l.below (map change_of l.own) (reads_in l.log)
+    ≡ first_change_behind l.number (rules_in l.mappings) l.relations (heading_of l.direction) l.below (map change_of l.own) (reads_in (drop l.entry-index l.log))

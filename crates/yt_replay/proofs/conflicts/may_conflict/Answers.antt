@@ -1,13 +1,13 @@
 use Rattle.std.proofs.Common.{ap, map, rules}
 use Rattle.yt_base.specs.Meanings.{rule_of}
-use Rattle.yt_query.specs.Meanings.{read_of}
+use Rattle.yt_query.specs.Meanings.{reads_in}
 use Rattle.yt_replay.proofs.Found.{may_live, may_not}
 use Rattle.yt_replay.proofs.conflicts.may_conflict.Goals as goal
 
 pub returns-then-live : goal.returns-then-live
 returns-then-live c = record {
   met = may_live (map rule_of c.args.scene.mappings.now.items) c.args.scene.committed c.number.result c.args.relations.now c.args.seat.now c.is_live-live.result c.any_met-met.result _ c.number.ensures.number c.is_live-live.ensures.live (search rules)
-      (ap (map read_of) c.as_slice.ensures.items) c.any_met-met.ensures.met;
+      (ap reads_in c.as_slice.ensures.items) c.any_met-met.ensures.met;
 }
 
 pub returns-else-live : goal.returns-else-live

@@ -1,31 +1,52 @@
-use Rattle.std.proofs.Common.{◌≡◌, ◌∙◌, ◌<◌, ◌≤◌, ap, sym, ℕ, List, true, false, map, length, arith, rules}
-use Rattle.yt_base.specs.Meanings.{rule_of}
-use Rattle.yt_query.specs.Meanings.{read_of}
-use Rattle.yt_replay.specs.Changes.{meets}
-use Rattle.yt_replay.proofs.Numbered.{passed_by, found_here, none_left}
+use Rattle.std.proofs.Common.{◌∙◌, ◌+◌, ap, refl, sym, drop, arith}
+use Rattle.std.specs.Prelude.{option_map}
+use Rattle.std.proofs.lemmas.List.{drop_all}
+use Rattle.yt_base.specs.Contents.{rules_in}
+use Rattle.yt_query.specs.Meanings.{reads_in, reads_of}
+use Rattle.yt_query.proofs.Entries.{from_here}
+use Rattle.yt_replay.specs.Causes.{numbered_of}
+use Rattle.yt_replay.specs.Changes.{first_behind, is_read_met}
+use Rattle.yt_replay.proofs.Numbered.{behind_none, first_among, first_beyond, no_value}
 use Rattle.yt_replay.proofs.losses.Losses.first_met.Goals as goal
 
-pub returns-then-is_met : goal.returns-then-is_met
-returns-then-is_met c =
-    let l : c.reads.read-index < length c.args.log.now = omega arith in
-    let m : c.is_met.result ≡ true = search rules in record {
+pub entries-init : goal.entries-init
+entries-init c = refl
+
+pub met_by-requires : goal.met_by-requires
+met_by-requires c = record { fits = (let e = c.in_ok-all.ensures.counted in omega (arith, e)) }
+
+pub returns-in-Some : goal.returns-in-Some
+returns-in-Some c =
+    let p = is_read_met (rules_in c.args.mappings.now) c.args.self.now.relations.items in
+    let es = c.args.log.now in
+    let i = c.entries.entry-index in
+    let n = c.entries.number in
+    let rs = reads_of c.entry-item.result in
+    let rest = reads_in (drop (i + 1) es) in
+    let here = c.entries.invariant ∙ ap (first_behind p n) (from_here es i c.entry-item.result (omega arith) c.entry-item.is) in
+    record {
       first =
-          found_here (λ r. meets (map rule_of c.args.mappings.now.items) c.args.self.now.relations.items r.query) c.reads.number c.reads.read-index c.args.log.now _ c.reads.invariant.first c.read-item.result l c.read-item.is
-          (ap (λ (ks : List ℕ). meets (map rule_of c.args.mappings.now.items) ks (read_of c.read-item.result).query) (sym c.as_slice.ensures.value) ∙ sym c.is_met.ensures.met ∙ m);
+          sym (here ∙ first_among p n rs rest (numbered_of c.in-Some.found) (sym c.in_ok-found.ensures.first ∙ ap (option_map numbered_of) c.in-Some.is))
+          ∙ behind_none p (reads_in es);
     }
 
-pub reads-preserved : goal.reads-preserved
-reads-preserved c =
-    let l : c.reads.read-index < length c.args.log.now = omega arith in
-    let m : c.is_met.result ≡ false = search rules in record {
-      number = omega (arith, c.reads.invariant.number);
-      first =
-          passed_by (λ r. meets (map rule_of c.args.mappings.now.items) c.args.self.now.relations.items r.query) c.reads.number c.reads.read-index c.args.log.now _ c.reads.invariant.first c.read-item.result l c.read-item.is
-          (ap (λ (ks : List ℕ). meets (map rule_of c.args.mappings.now.items) ks (read_of c.read-item.result).query) (sym c.as_slice.ensures.value) ∙ sym c.is_met.ensures.met ∙ m);
-    }
+pub entries-preserved : goal.entries-preserved
+entries-preserved c =
+    let p = is_read_met (rules_in c.args.mappings.now) c.args.self.now.relations.items in
+    let es = c.args.log.now in
+    let i = c.entries.entry-index in
+    let n = c.entries.number in
+    let rs = reads_of c.entry-item.result in
+    let rest = reads_in (drop (i + 1) es) in
+    let here = c.entries.invariant ∙ ap (first_behind p n) (from_here es i c.entry-item.result (omega arith) c.entry-item.is) in
+    here ∙ first_beyond p n rs rest (sym c.in_ok-found.ensures.first ∙ no_value numbered_of c.in_ok-found.field-0 c.in_default.not-Some) ∙ ap (λ k. first_behind p k rest) (sym c.in_ok-all.ensures.counted)
 
 pub returns : goal.returns
 returns c =
-    let l : length c.args.log.now ≤ c.reads.read-index = omega arith in record {
-      first = none_left (λ r. meets (map rule_of c.args.mappings.now.items) c.args.self.now.relations.items r.query) c.reads.number c.reads.read-index c.args.log.now _ c.reads.invariant.first l;
+    let p = is_read_met (rules_in c.args.mappings.now) c.args.self.now.relations.items in
+    let es = c.args.log.now in
+    record {
+      first =
+          sym (c.entries.invariant ∙ ap (λ ls. first_behind p c.entries.number (reads_in ls)) (drop_all c.entries.entry-index es (omega arith)))
+          ∙ behind_none p (reads_in es);
     }

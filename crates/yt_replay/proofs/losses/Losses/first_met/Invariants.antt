@@ -1,17 +1,11 @@
-use Rattle.std.proofs.Common.{◌≡◌, map, drop}
-use Rattle.std.specs.Prelude.{option_map}
-use Rattle.yt_base.specs.Meanings.{rule_of}
-use Rattle.yt_machine.specs.Reads.{first_that}
-use Rattle.yt_query.specs.Meanings.{Read, read_of}
-use Rattle.yt_replay.specs.Changes.{meets}
-use Rattle.yt_replay.proofs.Numbered.{counted_on}
+use Rattle.std.proofs.Common.{◌≡◌, drop}
+use Rattle.yt_base.specs.Contents.{rules_in}
+use Rattle.yt_query.specs.Meanings.{reads_in}
+use Rattle.yt_replay.specs.Changes.{first_behind, is_read_met}
 use Rattle.yt_replay.proofs.losses.Losses.first_met.Given as goal
 
--- The first of those that are left, counted on, is the first of all.
-abbrev pub invariant-reads : goal.invariant-reads
-invariant-reads l = record {
-  number : l.number ≡ l.read-index;
-  first :
-      option_map (counted_on {A = Read} l.number) (first_that (λ r. meets (map rule_of l.mappings.items) l.self.relations.items r.query) (map read_of (drop l.read-index l.log)))
-      ≡ first_that (λ r. meets (map rule_of l.mappings.items) l.self.relations.items r.query) (map read_of l.log);
-}
+-- The first of all is the first of those that are left.
+abbrev pub invariant-entries : goal.invariant-entries
+invariant-entries l =
+    first_behind (is_read_met (rules_in l.mappings) l.self.relations.items) 0 (reads_in l.log)
+    ≡ first_behind (is_read_met (rules_in l.mappings) l.self.relations.items) l.number (reads_in (drop l.entry-index l.log))
