@@ -214,7 +214,14 @@ fn planned_over<'f>(
     let program = &seat.program;
     let below = Overlay::new(alloc, facts);
     plan_step(
-        alloc, program, answer, mappings, budget, &below, with, &mut settled,
+        alloc,
+        program,
+        answer,
+        mappings,
+        budget,
+        &below,
+        with,
+        &mut settled,
     )
 }
 

@@ -166,9 +166,7 @@ fn any_read(mappings: &MappingList, writes: &[Write], reads: &[Logged]) -> bool
 fn is_read(mappings: &MappingList, relation: u16, reads: &[Logged]) -> bool
     ensures { result ≡ mentioned_by mappings.now reads.now relation }
 {
-    reads
-        .iter()
-        .any(|entry| entry.mentions(mappings, relation))
+    reads.iter().any(|entry| entry.mentions(mappings, relation))
 }
 
 // The relation of the write.
