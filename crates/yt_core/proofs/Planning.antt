@@ -1,6 +1,5 @@
 -- What a snapshot of an update plans, and what is known of it.
-use Rattle.std.proofs.Common.{◌≡◌, ◌∙◌, sym, subst, ℕ, suc, ◌<◌, ◌+◌, ◌^◌, Bool, Option, List, map}
-use Rattle.yt_machine.specs.Updates.{committed}
+use Rattle.std.proofs.Common.{◌≡◌, ◌∙◌, sym, subst, ℕ, suc, ◌<◌, ◌+◌, ◌^◌, Bool, Option, List}
 use Rattle.yt_model.specs.Mappings.{Rule}
 use Rattle.yt_model.specs.Repository.{apply}
 use Rattle.yt_model.specs.Values.{Fact}
@@ -14,7 +13,6 @@ use Rattle.yt_query.specs.Meanings.{Read, reads_in}
 use Rattle.yt_steps.specs.Attempts.{Attempt}
 use Rattle.yt_program.specs.Courses.{State as ProgramState}
 use Rattle.yt_queue.specs.declared.records.Record.{Record}
-use Rattle.yt_steps.specs.Chase.{caused}
 use Rattle.yt_versions.specs.Standing.{Kept, seen}
 use Rattle.yt_core.specs.Planned.{PlanMeant}
 use Rattle.yt_core.specs.Taken.{IsHeldBy, IsReadySomewhere, IsSnapshotOf}

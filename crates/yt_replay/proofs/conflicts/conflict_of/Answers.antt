@@ -15,6 +15,6 @@ pub returns : goal.returns
 returns c =
     let ms = map rule_of c.args.scene.mappings.now.items in record {
       cause =
-          conflict_live ms c.args.scene.committed c.args.writer c.args.relations.now (top c.args.levels.now) c.args.seat.now c.number-reader.result c.is_live.result c.in_ok-cause.cause c.in_ok-change.change c.number-reader.ensures.number c.is_live.ensures.live (search rules)
-          (subst (λ (D : List Fact). IsFirstChange ms c.args.relations.now D c.args.seat.now c.in_ok-change.change) c.facts-below.ensures.top c.in_ok-change.ensures.first) c.in_ok-cause.ensures.conflict;
+          conflict_live ms c.args.scene.committed c.args.writer c.args.relations.now (top c.args.levels.now) c.args.seat.now c.number-reader.result c.is_live.result c.conflict_by-cause.result c.in_ok-change.change c.number-reader.ensures.number c.is_live.ensures.live (search rules)
+          (subst (λ (D : List Fact). IsFirstChange ms c.args.relations.now D c.args.seat.now c.in_ok-change.change) c.facts-below.ensures.top c.in_ok-change.ensures.first) c.conflict_by-cause.ensures.conflict;
     }
