@@ -92,12 +92,12 @@ impl<'c> Show<Handle, Marks, Tuple> for Zone<'c> {
 
 /// What is of the relation, and comes after a tuple, where one is given.
 #[derive(Drop)]
-pub struct Further<'c> {
+pub struct Onward<'c> {
     pub relation: u16,
     pub past: Option<&'c Tuple>,
 }
 
-impl<'c> Search<Handle, ()> for Further<'c> {
+impl<'c> Search<Handle, ()> for Onward<'c> {
     ghost place = { λ s k. place_of s.relation (option_map fact_of (option_copied s.past)) (fact_of k) };
 
     ghost passes = { λ _ _. true };

@@ -9,7 +9,7 @@ ghost use Rattle.yt_facts.specs.Runs.{left_of, run_of};
 
 use crate::handles::Handle;
 use crate::passing::Passing;
-use crate::searches::{Further, Held};
+use crate::searches::{Held, Onward};
 use std::alloc::{AllocError, Global};
 use std::marker::Model;
 use yt_base::{Tuple, TupleList};
@@ -67,7 +67,7 @@ impl Taken {
         ensures none { IsTrue result → further_candidates self.now relation None
             (option_map fact_of (option_copied past.entry)) ≡ [] }
     {
-        let found = self.tuples.find_in(&Further { relation, past });
+        let found = self.tuples.find_in(&Onward { relation, past });
         found.is_none()
     }
 
