@@ -124,6 +124,17 @@ impl Group {
         }
     }
 
+    /// Whether that is plain by its first and last tuple, or because there are few: it never searches long.
+    pub(crate) fn plainly_lacks(&self, relation: u16, column: Option<Column<'_>>) -> bool
+        ensures none { IsTrue result →
+            list_any (is_candidate relation (option_map column_of column.entry)) self.now ≡ false }
+    {
+        match &self.held {
+            Held::Listed(tuples) => tuples.plainly_lacks(relation, column),
+            Held::Tree(facts) => facts.lacks(relation),
+        }
+    }
+
     /// The first of its tuples that are of the relation, have the column's value, where a column is given, and are above
     /// `past`, where that is given; None exactly where there is none.
     pub(crate) fn few(

@@ -2,7 +2,7 @@
 ghost use Rattle.std.specs.Option.{option_map, option_copied};
 ghost use Rattle.std.specs.List.{list_any, remove};
 ghost use Rattle.std.specs.Prelude.{◌≡◌, ◌<◌, ◌≤◌, [], false, not, length, map, filter, find, Some, IsTrue, IfOk, OnOk, OnErr, IfErr};
-ghost use Rattle.yt_model.specs.Cursors.{is_beyond as is_beyond_tuple, first_of, next_of, scan_of};
+ghost use Rattle.yt_model.specs.Cursors.{is_beyond as is_beyond_tuple, is_of, first_of, next_of, scan_of};
 ghost use Rattle.yt_model.specs.Repository.{has, change, Insert, Delete, IsRepository};
 ghost use Rattle.yt_base.specs.Candidates.{column_of, is_candidate as is_candidate_tuple};
 ghost use Rattle.yt_base.specs.Meanings.{fact_of, datum_of};
@@ -219,6 +219,14 @@ impl ListedFacts {
         true
     }
 
+    /// Whether it is plain that it has no such tuple: all are of greater relations or all of lesser ones, or few and not such.
+    pub(crate) fn plainly_lacks(&self, relation: u16, column: Option<Column<'_>>) -> bool
+        ensures none { IsTrue result →
+            list_any (is_candidate_tuple relation (option_map column_of column.entry)) self.now ≡ false }
+    {
+        is_beside(&self.tuples, relation) || self.tuples.len() <= SHORT && self.lacks(relation, column)
+    }
+
     /// The least tuple of the same relation above the given one; None exactly where there is none.
     pub(crate) fn after(&self, tuple: &Tuple) -> Option<&Tuple>
         ensures found { option_map fact_of (option_copied result) ≡
@@ -309,6 +317,17 @@ fn above<'a>(tuples: &'a [Tuple], tuple: &Tuple) -> &'a [Tuple]
     match tuples.binary_search(tuple) {
         Ok(place) => &tuples[place + 1..],
         Err(place) => &tuples[place..],
+    }
+}
+
+// Whether all tuples are of greater relations, or all of lesser ones.
+fn is_beside(tuples: &Vec<Tuple>, relation: u16) -> bool
+    requires { IsRepository (map fact_of tuples.now.items) }
+    ensures none { IsTrue result → list_any (is_of relation) (map fact_of tuples.now.items) ≡ false }
+{
+    match (tuples.first(), tuples.last()) {
+        (Some(first), Some(last)) => relation < first.relation || last.relation < relation,
+        _ => true,
     }
 }
 
