@@ -219,12 +219,14 @@ impl ListedFacts {
         true
     }
 
-    /// Whether it is plain that it has no such tuple: all are of greater relations or all of lesser ones, or few and not such.
-    pub(crate) fn plainly_lacks(&self, relation: u16, column: Option<Column<'_>>) -> bool
-        ensures none { IsTrue result →
-            list_any (is_candidate_tuple relation (option_map column_of column.entry)) self.now ≡ false }
+    /// Whether all its tuples are of greater relations, or all of lesser ones.
+    pub(crate) fn is_beside(&self, relation: u16) -> bool
+        ensures none { IsTrue result → list_any (is_of relation) self.now ≡ false }
     {
-        is_beside(&self.tuples, relation) || self.tuples.len() <= SHORT && self.lacks(relation, column)
+        match (self.tuples.first(), self.tuples.last()) {
+            (Some(first), Some(last)) => relation < first.relation || last.relation < relation,
+            _ => true,
+        }
     }
 
     /// The least tuple of the same relation above the given one; None exactly where there is none.
@@ -317,17 +319,6 @@ fn above<'a>(tuples: &'a [Tuple], tuple: &Tuple) -> &'a [Tuple]
     match tuples.binary_search(tuple) {
         Ok(place) => &tuples[place + 1..],
         Err(place) => &tuples[place..],
-    }
-}
-
-// Whether all tuples are of greater relations, or all of lesser ones.
-fn is_beside(tuples: &Vec<Tuple>, relation: u16) -> bool
-    requires { IsRepository (map fact_of tuples.now.items) }
-    ensures none { IsTrue result → list_any (is_of relation) (map fact_of tuples.now.items) ≡ false }
-{
-    match (tuples.first(), tuples.last()) {
-        (Some(first), Some(last)) => relation < first.relation || last.relation < relation,
-        _ => true,
     }
 }
 

@@ -152,8 +152,8 @@ impl<'a, F: Facts> Facts for Overlay<'a, F> {
     ) -> Candidates<'_> {
         // The tuples that were added tell that they are in order.
         self.added.is_in_order();
-        let adds_none = self.added.plainly_lacks(relation, column);
-        if adds_none && self.gone.plainly_lacks(relation, column) {
+        let adds_none = self.added.is_beside(relation);
+        if adds_none && self.gone.is_beside(relation) {
             self.facts.candidates(relation, column, past)
         } else {
             self.written(relation, column, past)
