@@ -8,3 +8,4 @@ pub mod Places
 pub mod Steps
 pub mod Prepared
 pub mod Replays
+pub mod Readers

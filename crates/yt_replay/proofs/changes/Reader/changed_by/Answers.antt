@@ -1,7 +1,7 @@
 use Rattle.std.proofs.Common.{◌∙◌, ◌-◌, arith, length, ap}
 use Rattle.yt_query.specs.Meanings.{reads_of}
 use Rattle.yt_query.proofs.Entries.{run_length}
-use Rattle.yt_replay.proofs.changes.changed_by.Goals as goal
+use Rattle.yt_replay.proofs.changes.Reader.changed_by.Goals as goal
 
 pub changed_at-requires : goal.changed_at-requires
 changed_at-requires c =

@@ -4,35 +4,38 @@ use Rattle.yt_base.specs.Contents.{rules_in}
 use Rattle.yt_base.specs.Meanings.{change_of, heading_of}
 use Rattle.yt_query.specs.Meanings.{Read, read_of, reply_of}
 use Rattle.yt_replay.proofs.Numbered.{change_is, no_change, test_tells, unmet_tells}
-use Rattle.yt_replay.proofs.changes.changed_at.Goals as goal
+use Rattle.yt_replay.proofs.changes.Reader.changed_at.Goals as goal
 
 pub returns-then-not-is_met : goal.returns-then-not-is_met
 returns-then-not-is_met c =
-    let ms = rules_in c.args.mappings.now in
-    let h = heading_of c.args.direction in
-    let D = c.args.below.now in
-    let own = map change_of c.args.own.now in
-    let ks = c.args.relations.now in
+    let r = c.args.self.now in
+    let ms = rules_in r.mappings.now in
+    let h = heading_of r.direction in
+    let D = r.below.now in
+    let own = map change_of r.own.now in
+    let ks = r.relations.now in
     let m : c.is_met.result ≡ false = grind (arith, common_steps) in
     record { first = no_change ms ks h D own c.args.before (read_of c.args.read.now) (unmet_tells ms ks h D own c.args.read.now (sym c.is_met.ensures.met ∙ m)) }
 
 pub returns-then-is_same : goal.returns-then-is_same
 returns-then-is_same c =
-    let ms = rules_in c.args.mappings.now in
-    let h = heading_of c.args.direction in
-    let D = c.args.below.now in
-    let own = map change_of c.args.own.now in
-    let ks = c.args.relations.now in
+    let r = c.args.self.now in
+    let ms = rules_in r.mappings.now in
+    let h = heading_of r.direction in
+    let D = r.below.now in
+    let own = map change_of r.own.now in
+    let ks = r.relations.now in
     let m : c.is_met.result ≡ true = grind (arith, common_steps) in
     record { first = no_change ms ks h D own c.args.before (read_of c.args.read.now) (test_tells ms ks h D own c.args.read.now c.is_same.result false (reply_of c.in_ok-now.now) (sym c.is_met.ensures.met ∙ m) c.in_ok-now.ensures.value c.is_same.ensures.same c.if-is_same.true) }
 
 pub returns : goal.returns
 returns c =
-    let ms = rules_in c.args.mappings.now in
-    let h = heading_of c.args.direction in
-    let D = c.args.below.now in
-    let own = map change_of c.args.own.now in
-    let ks = c.args.relations.now in
+    let r = c.args.self.now in
+    let ms = rules_in r.mappings.now in
+    let h = heading_of r.direction in
+    let D = r.below.now in
+    let own = map change_of r.own.now in
+    let ks = r.relations.now in
     let a = reply_of c.in_ok-now.now in
     let m : c.is_met.result ≡ true = grind (arith, common_steps) in
     record {

@@ -7,7 +7,7 @@ use Rattle.yt_query.specs.Meanings.{reads_in, reads_of}
 use Rattle.yt_query.proofs.Entries.{from_here}
 use Rattle.yt_replay.specs.Changes.{change_meant, changed_at, first_behind, is_met_and_changed}
 use Rattle.yt_replay.proofs.Numbered.{behind_none, found_among, no_value, none_among}
-use Rattle.yt_replay.proofs.changes.first_changed.Goals as goal
+use Rattle.yt_replay.proofs.changes.Reader.first_changed.Goals as goal
 
 pub entries-init : goal.entries-init
 entries-init c = refl
@@ -17,11 +17,12 @@ changed_by-requires c = record { fits = (let e = c.in_ok-all.ensures.counted in 
 
 pub returns-in-Some : goal.returns-in-Some
 returns-in-Some c =
-    let ms = rules_in c.args.mappings.now in
-    let h = heading_of c.args.direction in
-    let D = c.args.below.now in
-    let own = map change_of c.args.own.now in
-    let p = is_met_and_changed ms c.args.relations.now h D own in
+    let r = c.args.self.now in
+    let ms = rules_in r.mappings.now in
+    let h = heading_of r.direction in
+    let D = r.below.now in
+    let own = map change_of r.own.now in
+    let p = is_met_and_changed ms r.relations.now h D own in
     let f = changed_at ms h D own in
     let es = c.args.log.now in
     let i = c.entries.entry-index in
@@ -38,11 +39,12 @@ returns-in-Some c =
 
 pub entries-preserved : goal.entries-preserved
 entries-preserved c =
-    let ms = rules_in c.args.mappings.now in
-    let h = heading_of c.args.direction in
-    let D = c.args.below.now in
-    let own = map change_of c.args.own.now in
-    let p = is_met_and_changed ms c.args.relations.now h D own in
+    let r = c.args.self.now in
+    let ms = rules_in r.mappings.now in
+    let h = heading_of r.direction in
+    let D = r.below.now in
+    let own = map change_of r.own.now in
+    let p = is_met_and_changed ms r.relations.now h D own in
     let f = changed_at ms h D own in
     let es = c.args.log.now in
     let i = c.entries.entry-index in
@@ -55,11 +57,12 @@ entries-preserved c =
 
 pub returns : goal.returns
 returns c =
-    let ms = rules_in c.args.mappings.now in
-    let h = heading_of c.args.direction in
-    let D = c.args.below.now in
-    let own = map change_of c.args.own.now in
-    let p = is_met_and_changed ms c.args.relations.now h D own in
+    let r = c.args.self.now in
+    let ms = rules_in r.mappings.now in
+    let h = heading_of r.direction in
+    let D = r.below.now in
+    let own = map change_of r.own.now in
+    let p = is_met_and_changed ms r.relations.now h D own in
     let f = changed_at ms h D own in
     let es = c.args.log.now in
     record {
