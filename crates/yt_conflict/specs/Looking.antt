@@ -1,5 +1,5 @@
 -- What is looked for while the reads of an attempt are gone through, and what its view is then.
-use Rattle.std.specs.Prelude.{◌≡◌, ◌≤◌, ℕ, true, List, [], ◌∷◌, take, length, map, Option}
+use Rattle.std.specs.Prelude.{◌≡◌, ◌≤◌, ℕ, List, take, length, map, Option}
 use Rattle.yt_base.specs.Contents.{rules_in}
 use Rattle.yt_base.specs.Meanings.{change_of, heading_of}
 use Rattle.yt_eval.specs.Seen.{Seen}
@@ -7,7 +7,6 @@ use Rattle.yt_model.specs.Values.{Fact}
 use Rattle.yt_model.specs.Repository.{Change}
 use Rattle.yt_query.specs.Meanings.{Read}
 use Rattle.yt_conflict.specs.Changes.{Changed, first_changed_from}
-use Rattle.yt_conflict.specs.Concerns.{is_met}
 use Rattle.yt_conflict.specs.Trails.{trails_of}
 use Rattle.yt_conflict.specs.declared.concerns.Reader.{Reader}
 use Rattle.yt_conflict.specs.declared.concerns.Trail.{Trail}
@@ -22,9 +21,3 @@ pub record SeesFirst (D : List Fact) (own : List Change) (n : ℕ) (v : Seen) : 
 abbrev pub changed_from : Reader → List Trail → List Fact → ℕ → List Read → Option Changed
 changed_from r trails D n rs =
     first_changed_from (rules_in r.mappings.now) (heading_of r.direction) D (map change_of r.own.now) r.sense (trails_of trails) n rs
-
--- It is that of the read of number n alone, whatever trails meet the read.
-abbrev pub IsFoundWhereMet : Reader → List Fact → ℕ → Read → Option Changed → Type 0
-IsFoundWhereMet r D n q found =
-    (trails : List Trail) → is_met (rules_in r.mappings.now) (heading_of r.direction) (map change_of r.own.now) r.sense (trails_of trails) q ≡ true
-    → found ≡ changed_from r trails D n (q ∷ [])

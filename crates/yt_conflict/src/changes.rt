@@ -5,7 +5,7 @@ ghost use Rattle.yt_base.specs.Meanings.{change_of, heading_of};
 ghost use Rattle.yt_query.specs.Meanings.{finds_none as finds_none_lem, passing, read_of, reads_in, reads_of};
 ghost use Rattle.yt_conflict.specs.Changes.{first_changed as first_changed_lem};
 ghost use Rattle.yt_conflict.specs.Meanings.{changed_of};
-ghost use Rattle.yt_conflict.specs.Looking.{IsFoundWhereMet, SeesFirst, changed_from};
+ghost use Rattle.yt_conflict.specs.Looking.{SeesFirst, changed_from};
 ghost use Rattle.yt_conflict.specs.Trails.{trails_of};
 ghost use Rattle.yt_base.specs.Contents.{changes_of, rules_in};
 
@@ -208,26 +208,6 @@ fn changed_read<'a, F: Facts>(
     if !reader.is_met(trails, read) {
         return Ok(None);
     }
-    let changed = changed_met(alloc, reader, below, view, seen, number, read)?;
-    Ok(changed)
-}
-
-// The read of this number, which is met, if it has another value now.
-fn changed_met<'a, F: Facts>(
-    alloc: Global,
-    reader: &Reader<'_>,
-    below: &'a F,
-    view: &mut View<'a, F>,
-    seen: &mut usize,
-    number: u64,
-    read: &LoggedRead,
-) -> Result<Option<Changed>, Memory>
-    requires sees { SeesFirst (F.tuples below.now) (map change_of reader.now.own.now) seen.old view.old }
-    ensures sees { OnOk result
-        (SeesFirst (F.tuples below.now) (map change_of reader.now.own.now) seen.new view.new) }
-    ensures first { IfOk result (λ found. IsFoundWhereMet reader.now (F.tuples below.now) number
-        (read_of read.now) (option_map changed_of found)) }
-{
     let count = standing_then(read.own, reader.own);
     see(alloc, view, below, reader.own, *seen, count)?;
     *seen = count;
