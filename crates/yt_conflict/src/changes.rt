@@ -114,7 +114,8 @@ fn changed_by<'a, F: Facts>(
     before: u64,
     entry: &Logged,
 ) -> Result<Option<Changed>, Memory>
-    requires sees { SeesFirst (F.tuples below.now) (map change_of reader.now.own.now) seen.old view.old }
+    requires sees { SeesFirst (F.tuples below.now) (map change_of reader.now.own.now)
+        seen.old view.old }
     requires fits { before + length (reads_of entry.now) < 2 ^ 64 }
     ensures sees { OnOk result
         (SeesFirst (F.tuples below.now) (map change_of reader.now.own.now) seen.new view.new) }
@@ -142,7 +143,8 @@ fn changed_in_run<'a, F: Facts>(
     before: u64,
     run: &Run,
 ) -> Result<Option<Changed>, Memory>
-    requires sees { SeesFirst (F.tuples below.now) (map change_of reader.now.own.now) seen.old view.old }
+    requires sees { SeesFirst (F.tuples below.now) (map change_of reader.now.own.now)
+        seen.old view.old }
     requires fits { before + (run.now.end - run.now.start) < 2 ^ 64 }
     ensures sees { OnOk result
         (SeesFirst (F.tuples below.now) (map change_of reader.now.own.now) seen.new view.new) }
@@ -176,7 +178,8 @@ fn changed_mapping<'a, F: Facts>(
     mapping: u16,
     made: u64,
 ) -> Result<Option<Changed>, Memory>
-    requires sees { SeesFirst (F.tuples below.now) (map change_of reader.now.own.now) seen.old view.old }
+    requires sees { SeesFirst (F.tuples below.now) (map change_of reader.now.own.now)
+        seen.old view.old }
     ensures sees { OnOk result
         (SeesFirst (F.tuples below.now) (map change_of reader.now.own.now) seen.new view.new) }
     ensures first { IfOk result (λ found. option_map changed_of found ≡
@@ -199,7 +202,8 @@ fn changed_read<'a, F: Facts>(
     number: u64,
     read: &LoggedRead,
 ) -> Result<Option<Changed>, Memory>
-    requires sees { SeesFirst (F.tuples below.now) (map change_of reader.now.own.now) seen.old view.old }
+    requires sees { SeesFirst (F.tuples below.now) (map change_of reader.now.own.now)
+        seen.old view.old }
     ensures sees { OnOk result
         (SeesFirst (F.tuples below.now) (map change_of reader.now.own.now) seen.new view.new) }
     ensures first { IfOk result (λ found. option_map changed_of found ≡

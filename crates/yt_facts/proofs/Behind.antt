@@ -18,7 +18,7 @@ turned : (u t : Fact) → fact_cmp u t ≡ Less → fact_cmp t u ≡ Greater
 turned u t e = fact_total.antisymm t u ∙ ap ordering_reverse e
 
 -- What is below all of a list is below its last one.
-below_last : (x : Fact) (u : Tuple) (D : List Tuple) (s : Tuple) → slice_get (u ∷ D) (length D) ≡ Some s → AllByRecursion (λ y. fact_cmp x y ≡ Less) (map fact_of (u ∷ D)) → fact_cmp x (fact_of s) ≡ Less
+pub below_last : (x : Fact) (u : Tuple) (D : List Tuple) (s : Tuple) → slice_get (u ∷ D) (length D) ≡ Some s → AllByRecursion (λ y. fact_cmp x y ≡ Less) (map fact_of (u ∷ D)) → fact_cmp x (fact_of s) ≡ Less
 below_last x u [] s g a = subst (λ y. fact_cmp x (fact_of y) ≡ Less) (same_Some u s g) a.0
 below_last x u (v ∷ D) s g a = below_last x v D s g a.1
 

@@ -34,6 +34,18 @@ pub further_as : (r : ℕ) (c : Option (ℕ × Datum)) (past : Option Fact) (D :
 further_as r c None D = sym (filter_as (passes r c None) (is_candidate r c) (λ u. and-true (is_candidate r c u)) D)
 further_as r c (Some t) D = refl
 
+-- Where there is no candidate there is none past a tuple.
+none_lacking : (p q : Fact → Bool) (D : List Fact) → list_any p D ≡ false → filter (λ u. p u && q u) D ≡ []
+none_lacking p q [] h = refl
+none_lacking p q (u ∷ D) h = by (p u) refl h (λ g. none_lacking p q D g)
+  where
+    by : (a : Bool) → p u ≡ a → (a || list_any p D) ≡ false → (list_any p D ≡ false → filter (λ v. p v && q v) D ≡ []) → filter (λ v. p v && q v) (u ∷ D) ≡ []
+    by true e g k = absurd (differ (sym g))
+    by false e g k = rw e (k g)
+
+pub lacks_further : (D : List Fact) (r : ℕ) (c : Option (ℕ × Datum)) (past : Option Fact) → list_any (is_candidate r c) D ≡ false → further_candidates D r c past ≡ []
+lacks_further D r c past h = further_as r c past D ∙ none_lacking (is_candidate r c) (is_beyond past) D h
+
 first : (a b : Bool) → (a && b) ≡ true → a ≡ true
 first true b h = refl
 first false b h = h

@@ -15,5 +15,6 @@ pub mod Related
 pub mod Beginning
 pub mod AtHand
 pub mod Behind
+pub mod Beside
 pub mod Sought
 mod Ahead

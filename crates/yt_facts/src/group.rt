@@ -2,7 +2,7 @@
 ghost use Rattle.std.specs.List.{list_any};
 ghost use Rattle.std.specs.Option.{option_map, option_copied};
 ghost use Rattle.std.specs.Prelude.{◌≡◌, [], false, not, length, filter, IsTrue, IfOk, OnOk, OnErr, IfErr, IfNone, IfSome};
-ghost use Rattle.yt_model.specs.Cursors.{is_beyond};
+ghost use Rattle.yt_model.specs.Cursors.{is_beyond, is_of};
 ghost use Rattle.yt_model.specs.Repository.{has, change, Insert, Delete, IsRepository};
 ghost use Rattle.yt_base.specs.Candidates.{column_of, further_candidates, is_candidate, AreAll, AreFirst};
 ghost use Rattle.yt_base.specs.Meanings.{fact_of};
@@ -120,6 +120,16 @@ impl Group {
     {
         match &self.held {
             Held::Listed(tuples) => tuples.lacks(relation, column),
+            Held::Tree(facts) => facts.lacks(relation),
+        }
+    }
+
+    /// Whether all its tuples are of greater relations, or all of lesser ones: the first and the last tell.
+    pub(crate) fn is_beside(&self, relation: u16) -> bool
+        ensures none { IsTrue result → list_any (is_of relation) self.now ≡ false }
+    {
+        match &self.held {
+            Held::Listed(tuples) => tuples.is_beside(relation),
             Held::Tree(facts) => facts.lacks(relation),
         }
     }

@@ -2,7 +2,7 @@
 ghost use Rattle.std.specs.Option.{option_map, option_copied};
 ghost use Rattle.std.specs.List.{list_any, remove};
 ghost use Rattle.std.specs.Prelude.{◌≡◌, ◌<◌, ◌≤◌, [], false, not, length, map, filter, find, Some, IsTrue, IfOk, OnOk, OnErr, IfErr};
-ghost use Rattle.yt_model.specs.Cursors.{is_beyond as is_beyond_tuple, first_of, next_of, scan_of};
+ghost use Rattle.yt_model.specs.Cursors.{is_beyond as is_beyond_tuple, is_of, first_of, next_of, scan_of};
 ghost use Rattle.yt_model.specs.Repository.{has, change, Insert, Delete, IsRepository};
 ghost use Rattle.yt_base.specs.Candidates.{column_of, is_candidate as is_candidate_tuple};
 ghost use Rattle.yt_base.specs.Meanings.{fact_of, datum_of};
@@ -217,6 +217,16 @@ impl ListedFacts {
             }
         }
         true
+    }
+
+    /// Whether all its tuples are of greater relations, or all of lesser ones.
+    pub(crate) fn is_beside(&self, relation: u16) -> bool
+        ensures none { IsTrue result → list_any (is_of relation) self.now ≡ false }
+    {
+        match (self.tuples.first(), self.tuples.last()) {
+            (Some(first), Some(last)) => relation < first.relation || last.relation < relation,
+            _ => true,
+        }
     }
 
     /// The least tuple of the same relation above the given one; None exactly where there is none.

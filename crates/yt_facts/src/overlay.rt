@@ -1,5 +1,7 @@
 //! A set of tuples as writes leave it, without a copy of the set.
 ghost use Rattle.std.specs.Prelude.{◌≡◌, ◌&&◌, not, map, OnErr, OnOk};
+ghost use Rattle.std.specs.Option.{option_map, option_copied};
+ghost use Rattle.yt_base.specs.Candidates.{column_of, further_candidates, AreAll};
 ghost use Rattle.yt_model.specs.Repository.{Delete, Insert, has, change, apply, IsRepository};
 ghost use Rattle.yt_base.specs.Meanings.{fact_of, change_of};
 ghost use Rattle.yt_facts.specs.Begun.{HoldsOfFirst};
@@ -148,6 +150,28 @@ impl<'a, F: Facts> Facts for Overlay<'a, F> {
         column: Option<Column<'_>>,
         past: Option<&Tuple>,
     ) -> Candidates<'_> {
+        // The tuples that were added tell that they are in order.
+        self.added.is_in_order();
+        let adds_none = self.added.is_beside(relation);
+        if adds_none && self.gone.is_beside(relation) {
+            self.facts.candidates(relation, column, past)
+        } else {
+            self.written(relation, column, past)
+        }
+    }
+}
+
+impl<'a, F: Facts> Overlay<'a, F> {
+    // The candidates, where a write may be among them.
+    fn written(
+        &self,
+        relation: u16,
+        column: Option<Column<'_>>,
+        past: Option<&Tuple>,
+    ) -> Candidates<'_>
+        ensures all { AreAll result self.now (further_candidates self.now relation
+            (option_map column_of column.entry) (option_map fact_of (option_copied past.entry))) }
+    {
         if let Some(few) = self.added.few(relation, column, past) {
             let given = self.facts.candidates(relation, column, past);
             return changed(given, &self.gone, few);

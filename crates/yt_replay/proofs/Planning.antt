@@ -1,5 +1,5 @@
 -- The plan of the next step of a seat's update.
-use Rattle.std.proofs.Common.{◌≡◌, ◌∙◌, ap, refl, ℕ, zero, suc, slice_index_or, replicate, Bool, false, Option, List, map}
+use Rattle.std.proofs.Common.{◌≡◌, ◌∙◌, ap, refl, ℕ, zero, suc, slice_index_or, replicate, Bool, false, Option, List}
 use Rattle.std.specs.Prelude.{IfOk, Result, Ok, Err}
 use Rattle.std.proofs.lemmas.Bool.{both_ways}
 use Rattle.yt_model.specs.Mappings.{Rule}

@@ -1,5 +1,5 @@
 //! The updates that are in conflict with the writes of a step.
-ghost use Rattle.std.specs.Prelude.{◌≡◌, ◌≤◌, ◌++◌, drop, length, map, option_to_list, IfOk, OnOk};
+ghost use Rattle.std.specs.Prelude.{◌≡◌, ◌≤◌, ◌++◌, drop, length, option_to_list, IfOk, OnOk};
 ghost use Rattle.std.specs.Option.{option_map};
 ghost use Rattle.yt_base.specs.Contents.{rules_in};
 ghost use Rattle.yt_entries.specs.Meanings.{cause_of};

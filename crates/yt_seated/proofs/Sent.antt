@@ -5,7 +5,6 @@ use Rattle.std.proofs.Crossing.{crosses}
 use Rattle.yt_versions.proofs.Sent.{versions_send}
 use Rattle.yt_base.proofs.Sent.{tuple_send, tuple_sync}
 use Rattle.yt_program.proofs.Sent.{program_send}
-use Rattle.yt_query.specs.contracts.log.LoggedRead as reads
 use Rattle.yt_query.specs.contracts.log.Logged as log_entries
 use Rattle.yt_queue.specs.contracts.records.Record as records
 use Rattle.yt_entries.specs.contracts.entries.Entry as entries
@@ -15,11 +14,8 @@ use Rattle.yt_base.specs.contracts.updates.Choice as choices
 use Rattle.yt_session.specs.contracts.sessions.SessionUpdate as session_updates
 use Rattle.yt_seated.specs.contracts.seated.Seated as seated
 
-read_send : IsSend reads.the_row
-read_send = search (sendable, crosses, tuple_send) depth 60 fits 6000
-
 log_entry_send : IsSend log_entries.the_row
-log_entry_send = search (sendable, crosses, read_send) depth 60 fits 6000
+log_entry_send = search (sendable, crosses, tuple_send) depth 60 fits 6000
 
 record_send : IsSend records.the_row
 record_send = search (sendable, crosses, log_entry_send, program_send) depth 60 fits 6000

@@ -3,14 +3,14 @@ use Rattle.std.specs.Option.{option_map, option_copied}
 use Rattle.yt_base.specs.Candidates.{column_of, further_candidates, AreAll}
 use Rattle.yt_base.specs.Meanings.{fact_of}
 use Rattle.yt_model.specs.Values.{Fact}
-use Rattle.yt_facts.proofs.AtHand.{told_too}
-use Rattle.yt_facts.proofs.Further.{none_written}
+use Rattle.yt_facts.proofs.AtHand.{none_of_relation, told_too}
+use Rattle.yt_facts.proofs.Further.{lacks_further, none_written}
 use Rattle.yt_facts.proofs.Overlays.{overlaid_in_order}
 use Rattle.yt_facts.specs.Overlaid.{overlaid}
 use Rattle.yt_facts.proofs.overlay.OverlayFacts.candidates.Goals as goal
 
-pub returns-then-lacks : goal.returns-then-lacks
-returns-then-lacks g c =
+pub returns-then-is_beside : goal.returns-then-is_beside
+returns-then-is_beside g c =
     let r = c.args.relation in
     let column = option_map column_of c.args.column in
     let past = option_map fact_of (option_copied c.args.past) in
@@ -21,5 +21,5 @@ returns-then-lacks g c =
     record {
       all = subst (λ (F : List Fact). AreAll c.candidates.result F (further_candidates F r column past)) c.self.view_is
           (told_too c.candidates.result D E (further_candidates D r column past) (further_candidates E r column past) (overlaid_in_order D gone added c.self.invariant)
-          (none_written D gone added c.self.invariant c.few.ensures.in_order r column past c.in_default.ensures.none (c.lacks.ensures.none c.if-lacks.true)) c.candidates.ensures.all);
+          (none_written D gone added c.self.invariant c.is_in_order.ensures.in_order r column past (lacks_further added r column past (none_of_relation r column added (c.is_beside-adds_none.ensures.none c.if-adds_none.true))) (none_of_relation r column gone (c.is_beside.ensures.none c.if-is_beside.true))) c.candidates.ensures.all);
     }
