@@ -3,12 +3,12 @@ use Rattle.std.specs.Option.{option_map}
 use Rattle.yt_base.specs.Contents.{rules_in}
 use Rattle.yt_base.specs.Meanings.{change_of, heading_of}
 use Rattle.yt_query.specs.Meanings.{finds_none, passing}
-use Rattle.yt_query.proofs.Entries.{run_ended, run_from}
+use Rattle.yt_query.proofs.Entries.{passage_ended, passage_from}
 use Rattle.yt_conflict.specs.Looking.{changed_from}
 use Rattle.yt_conflict.specs.Meanings.{changed_of}
 use Rattle.yt_conflict.specs.Trails.{trails_of}
 use Rattle.yt_conflict.proofs.Firsts.{found_among, no_value, none_among}
-use Rattle.yt_conflict.proofs.changes.changed_in_run.Goals as goal
+use Rattle.yt_conflict.proofs.changes.changed_in_passage.Goals as goal
 
 pub loop-mapping-init : goal.loop-mapping-init
 loop-mapping-init g c = record { sees = c.requires.sees; counted = omega arith; first = refl }
@@ -27,13 +27,13 @@ returns-in-Some-clause-first g c =
     let D = g.F.Facts.tuples c.args.below.now in
     let own = map change_of r.own.now in
     let ts = trails_of c.args.trails.now in
-    let run = c.args.run.now in
+    let passage = c.args.passage.now in
     let k = c.loop-mapping.mapping in
     let n = c.loop-mapping.number in
-    let all = changed_from r c.args.trails.now D (c.args.before + 1) (passing run.start (run.end - run.start) run.own) in
-    let here : all ≡ changed_from r c.args.trails.now D (n + 1) (finds_none k run.own ∷ passing (k + 1) (run.end - (k + 1)) run.own) =
-    c.loop-mapping.invariant.first ∙ ap (changed_from r c.args.trails.now D (n + 1)) (run_from k run.end run.own c.loop-mapping-test.true) in
-    found_among ms h D own r.sense ts (n + 1) (finds_none k run.own ∷ []) (passing (k + 1) (run.end - (k + 1)) run.own) all (option_map changed_of c.in_ok-found.found) (changed_of c.in-Some.changed) here c.in_ok-found.ensures.first (ap (option_map changed_of) c.in-Some.is)
+    let all = changed_from r c.args.trails.now D (c.args.before + 1) (passing passage.start (passage.end - passage.start) passage.own) in
+    let here : all ≡ changed_from r c.args.trails.now D (n + 1) (finds_none k passage.own ∷ passing (k + 1) (passage.end - (k + 1)) passage.own) =
+    c.loop-mapping.invariant.first ∙ ap (changed_from r c.args.trails.now D (n + 1)) (passage_from k passage.end passage.own c.loop-mapping-test.true) in
+    found_among ms h D own r.sense ts (n + 1) (finds_none k passage.own ∷ []) (passing (k + 1) (passage.end - (k + 1)) passage.own) all (option_map changed_of c.in_ok-found.found) (changed_of c.in-Some.changed) here c.in_ok-found.ensures.first (ap (option_map changed_of) c.in-Some.is)
 
 pub loop-mapping-preserved : goal.loop-mapping-preserved
 loop-mapping-preserved g c =
@@ -43,16 +43,16 @@ loop-mapping-preserved g c =
     let D = g.F.Facts.tuples c.args.below.now in
     let own = map change_of r.own.now in
     let ts = trails_of c.args.trails.now in
-    let run = c.args.run.now in
+    let passage = c.args.passage.now in
     let k = c.loop-mapping.mapping in
     let n = c.loop-mapping.number in
-    let all = changed_from r c.args.trails.now D (c.args.before + 1) (passing run.start (run.end - run.start) run.own) in
-    let here : all ≡ changed_from r c.args.trails.now D (n + 1) (finds_none k run.own ∷ passing (k + 1) (run.end - (k + 1)) run.own) =
-    c.loop-mapping.invariant.first ∙ ap (changed_from r c.args.trails.now D (n + 1)) (run_from k run.end run.own c.loop-mapping-test.true) in
+    let all = changed_from r c.args.trails.now D (c.args.before + 1) (passing passage.start (passage.end - passage.start) passage.own) in
+    let here : all ≡ changed_from r c.args.trails.now D (n + 1) (finds_none k passage.own ∷ passing (k + 1) (passage.end - (k + 1)) passage.own) =
+    c.loop-mapping.invariant.first ∙ ap (changed_from r c.args.trails.now D (n + 1)) (passage_from k passage.end passage.own c.loop-mapping-test.true) in
     record {
       sees = c.in_ok-found.ensures.sees;
       counted = (let e = c.loop-mapping.invariant.counted in let l = c.loop-mapping-test.true in omega (arith, e, l));
-      first = none_among ms h D own r.sense ts (n + 1) (n + 1 + 1) (finds_none k run.own ∷ []) (passing (k + 1) (run.end - (k + 1)) run.own) all (option_map changed_of c.in_ok-found.found) here c.in_ok-found.ensures.first (no_value changed_of c.in_ok-found.found c.in_default.not-Some) refl;
+      first = none_among ms h D own r.sense ts (n + 1) (n + 1 + 1) (finds_none k passage.own ∷ []) (passing (k + 1) (passage.end - (k + 1)) passage.own) all (option_map changed_of c.in_ok-found.found) here c.in_ok-found.ensures.first (no_value changed_of c.in_ok-found.found c.in_default.not-Some) refl;
     }
 
 pub returns-clause-sees : goal.returns-clause-sees
@@ -62,6 +62,6 @@ pub returns-clause-first : goal.returns-clause-first
 returns-clause-first g c =
     let r = c.args.reader.now in
     let D = g.F.Facts.tuples c.args.below.now in
-    let run = c.args.run.now in
+    let passage = c.args.passage.now in
     let k = c.loop-mapping.mapping in
-    sym (c.loop-mapping.invariant.first ∙ ap (changed_from r c.args.trails.now D (c.loop-mapping.number + 1)) (run_ended k run.end run.own (omega (arith, c.loop-mapping-test.false))))
+    sym (c.loop-mapping.invariant.first ∙ ap (changed_from r c.args.trails.now D (c.loop-mapping.number + 1)) (passage_ended k passage.end passage.own (omega (arith, c.loop-mapping-test.false))))

@@ -3,7 +3,7 @@ use Rattle.std.specs.List.{list_any}
 use Rattle.yt_base.specs.Contents.{rules_in}
 use Rattle.yt_query.specs.Meanings.{passing}
 use Rattle.yt_query.specs.Mentioning.{mentioned}
-use Rattle.yt_query.proofs.log.Run.mentions.Given as goal
+use Rattle.yt_query.proofs.log.Passage.mentions.Given as goal
 
 -- One of all of them does where one of those that are left does.
 abbrev pub invariant-loop-number : goal.invariant-loop-number

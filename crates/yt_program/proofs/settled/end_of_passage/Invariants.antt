@@ -5,11 +5,11 @@ use Rattle.yt_steps.specs.Attempts.{Attempt}
 use Rattle.yt_program.specs.Rows.{Violating, row_tree}
 use Rattle.yt_program.specs.Settled.{FindsNone}
 use Rattle.yt_program.specs.Logged.{IsLogged}
-use Rattle.yt_program.proofs.settled.end_of_run.Given as goal
+use Rattle.yt_program.proofs.settled.end_of_passage.Given as goal
 
 -- The look comes from here to what it came to from the start on, with a read of each mapping up to here, and here is a place of a mapping.
-abbrev pub invariant-run : goal.invariant-run
-invariant-run l = record {
+abbrev pub invariant-passage : goal.invariant-passage
+invariant-passage l = record {
   passed :
       (val : Query → Reply) (P : Attempt) (made : ℕ) (before : List Read) → FindsNone val l.marks
       → IsLogged val made (row_tree l.mappings P (Violating l.from)) before (row_tree l.mappings P (Violating l.place)) (before ++ passing l.from (l.place - l.from) made);
@@ -18,5 +18,5 @@ invariant-run l = record {
 }
 
 -- How many places come after it.
-abbrev pub decreases-run : goal.decreases-run
-decreases-run l = 65536 - l.place
+abbrev pub decreases-passage : goal.decreases-passage
+decreases-passage l = 65536 - l.place
