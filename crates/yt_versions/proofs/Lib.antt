@@ -1,5 +1,6 @@
 pub mod Looking
 pub mod Placing
+pub mod Ranking
 pub mod Seeing
 pub mod Chained
 pub mod Seen

@@ -11,6 +11,7 @@ mod indexes;
 mod laws;
 mod marks;
 mod passing;
+mod ranks;
 mod reading;
 mod searches;
 mod spots;

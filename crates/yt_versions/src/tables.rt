@@ -86,7 +86,7 @@ impl Table {
         ensures marks { IfOk result (λ e. e.1 ≡ marks_at self.now (fact_of tuple.now)) }
         ensures in_order { IfOk result (λ e. AreMarks e.1) }
     {
-        match self.rows.find_at(&Held { tuple }) {
+        match self.rows.find_at(&Held::new(tuple)) {
             Some(entry) => {
                 let key = entry.0.share()?;
                 let marks = entry.1.share()?;
@@ -145,7 +145,7 @@ impl Table {
         ensures answer { result ≡ has (visible number self.now) (fact_of tuple.now) }
         ensures in_order { IsRepository (visible number self.now) }
     {
-        match self.rows.find_at(&Held { tuple }) {
+        match self.rows.find_at(&Held::new(tuple)) {
             Some(entry) => return entry.1.stands(number),
             None => return false,
         }
@@ -216,14 +216,7 @@ impl Table {
         ensures in_order { IsRepository (visible number self.now) }
     {
         if column == 0 {
-            return tuple_in(
-                self.rows.find_in(&Lead {
-                    number,
-                    relation,
-                    value,
-                    past,
-                }),
-            );
+            return tuple_in(self.rows.find_in(&Lead::new(number, relation, value, past)));
         }
         let column = column as usize;
         let Some(index) = &self.index else {
@@ -299,12 +292,7 @@ impl Table {
     {
         let value = column.value;
         if column.number == 0 {
-            return self.rows.gather(&Lead {
-                number,
-                relation,
-                value,
-                past,
-            });
+            return self.rows.gather(&Lead::new(number, relation, value, past));
         }
         let column = column.number as usize;
         let Some(index) = &self.index else {

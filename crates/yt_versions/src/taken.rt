@@ -56,7 +56,7 @@ impl Taken {
     pub fn contains(&self, tuple: &Tuple) -> bool
         ensures answer { result ≡ has self.now (fact_of tuple.now) }
     {
-        match self.tuples.find_at(&Held { tuple }) {
+        match self.tuples.find_at(&Held::new(tuple)) {
             Some(_) => return true,
             None => return false,
         }
