@@ -10,6 +10,7 @@
 
 mod mappings;
 mod names;
+mod numerals;
 mod page;
 mod printing;
 mod refusals;

@@ -7,9 +7,10 @@ ghost use Rattle.yt_grammar.specs.Grammar.{fact_words, value_word};
 ghost use Rattle.yt_grammar.specs.Printing.{written_fact};
 ghost use Rattle.yt_schema.specs.Pages.{blank, space, with_word, with_words, with_line_feed};
 
+use crate::numerals::push_number;
 use crate::printing::push_fact;
 use crate::schema::Schema;
-use crate::spelling::{push_number, push_value};
+use crate::spelling::push_value;
 use std::alloc::{AllocError, Global};
 use std::marker::Model;
 use yt_base::{Memory, Tuple, Value};
