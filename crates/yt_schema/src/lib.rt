@@ -14,6 +14,7 @@ mod numerals;
 mod page;
 mod printing;
 mod refusals;
+mod runs;
 mod schema;
 mod spelling;
 mod statements;

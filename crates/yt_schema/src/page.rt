@@ -9,6 +9,7 @@ ghost use Rattle.yt_schema.specs.Pages.{blank, space, with_word, with_words, wit
 
 use crate::numerals::push_number;
 use crate::printing::push_fact;
+use crate::runs::push_run;
 use crate::schema::Schema;
 use crate::spelling::push_value;
 use std::alloc::{AllocError, Global};
@@ -57,7 +58,7 @@ impl Page {
         ensures word { OnOk result (self.new ≡ with_word self.old (name bytes.now)) }
     {
         push_space(&mut self.text, self.apart)?;
-        self.text.extend_from_slice(bytes)?;
+        push_run(&mut self.text, bytes)?;
         self.apart = true;
         Ok(())
     }
