@@ -1,5 +1,5 @@
 //! What is read of versions by an update: what is left of the base, and what stands in the table.
-ghost use Rattle.std.specs.Prelude.{◌≡◌, [], find, map, IfOk, IsTrue};
+ghost use Rattle.std.specs.Prelude.{◌≡◌, [], find, IsTrue};
 ghost use Rattle.std.specs.Option.{option_map, option_copied};
 ghost use Rattle.yt_model.specs.Cursors.{is_beyond, first_of, next_of, scan_of};
 ghost use Rattle.yt_model.specs.Repository.{has, IsRepository};
@@ -8,14 +8,12 @@ ghost use Rattle.yt_base.specs.Meanings.{fact_of, datum_of};
 ghost use Rattle.yt_facts.specs.Runs.{run_of};
 ghost use Rattle.yt_versions.specs.Standing.{seen};
 
-use crate::taken::Taken;
+use crate::sweeps::Sweep;
 use crate::versions::Versions;
-use std::alloc::Global;
-use yt_base::{Candidates, Column, Facts, Tuple, TupleList, Value};
+use yt_base::{Candidates, Column, Facts, Tuple, Value};
 use yt_facts::{Course, Merging, Run, least, remaining};
-use yt_memory::Memory;
 
-// Each call also tells that what the update sees is in order. Only `list` takes memory.
+// Each call also tells that what the update sees is in order. None takes memory.
 impl Versions {
     // What is always true of them: what the update sees is in order. It does nothing but say so.
     pub(crate) fn is_in_order(&self, number: u32)
@@ -169,17 +167,12 @@ impl Versions {
         Candidates::Few(both.few())
     }
 
-    // The tuples that it sees, in order, copied. It is refused only for want of memory.
-    pub(crate) fn list(&self, alloc: Global, number: u32) -> Result<TupleList, Memory>
-        ensures tuples { IfOk result (λ list. map fact_of list.items ≡ seen number self.now) }
+    // The tuples that it sees, in order.
+    pub(crate) fn sweep(&self, number: u32) -> Sweep<'_>
+        ensures all { result ≡ seen number self.now }
     {
-        let left = self.taken().left(alloc, self.base().run())?;
-        let written = self.table().list(alloc, number)?;
-        let none = Taken::none();
-        let mut written = Run::Listed(written.as_slice());
-        let put = written.next();
-        let mut both = Merging::new(Run::Listed(left.as_slice()), &none, put, written);
-        let list = both.list(alloc)?;
-        Ok(list)
+        let base = self.base().run();
+        let taken = self.taken().passing();
+        Sweep::of(base, taken, self.table().cursor(), number)
     }
 }

@@ -5,15 +5,15 @@ ghost use Rattle.yt_model.specs.Values.{Fact, same_fact};
 ghost use Rattle.std.specs.Option.{option_map, option_copied};
 ghost use Rattle.yt_base.specs.Candidates.{further_candidates};
 ghost use Rattle.yt_base.specs.Meanings.{fact_of};
-ghost use Rattle.yt_facts.specs.Runs.{left_of, run_of};
+ghost use Rattle.yt_versions.specs.Passed.{to_pass, AreToPass};
 
 use crate::handles::Handle;
 use crate::passing::Passing;
 use crate::searches::{Held, Onward};
 use std::alloc::{AllocError, Global};
 use std::marker::Model;
-use yt_base::{Tuple, TupleList};
-use yt_facts::{Hides, Run};
+use yt_base::Tuple;
+use yt_facts::Hides;
 use yt_memory::Memory;
 use yt_tree::{Share, Start, TreeMap};
 
@@ -71,15 +71,12 @@ impl Taken {
         found.is_none()
     }
 
-    /// The tuples of the run that are not among them, copied. It is refused only for want of memory.
-    pub fn left(&self, alloc: Global, run: Run<'_>) -> Result<TupleList, Memory>
-        requires in_order { IsRepository (run_of run) }
-        ensures left { IfOk result (λ list.
-            map fact_of list.items ≡ left_of self.now (run_of run.entry)) }
+    /// All of them in order, to be passed. It takes no memory.
+    pub fn passing(&self) -> Passing<'_>
+        ensures all { to_pass result ≡ self.now }
+        ensures ready { AreToPass result }
     {
-        let passing = Passing::of(self.tuples.cursor(&Start));
-        let list = passing.left(alloc, run)?;
-        Ok(list)
+        Passing::of(self.tuples.cursor(&Start))
     }
 
     /// The same with the tuple, or without it.

@@ -2,17 +2,16 @@ use Rattle.std.proofs.Common.{◌∙◌, ap, map, subst, sym, List}
 use Rattle.yt_base.specs.Meanings.{fact_of}
 use Rattle.yt_model.specs.Repository.{IsRepository}
 use Rattle.yt_model.specs.Values.{Fact}
-use Rattle.yt_facts.specs.Runs.{left_of, run_of}
 use Rattle.yt_versions.proofs.Passed.{taken_in_order}
 use Rattle.yt_versions.proofs.Seeing.{all_reached}
-use Rattle.yt_versions.proofs.taken.Taken.left.Goals as goal
+use Rattle.yt_versions.proofs.taken.Taken.passing.Goals as goal
 
-pub of-passing-requires : goal.of-passing-requires
-of-passing-requires c =
+pub of-requires : goal.of-requires
+of-requires c =
     let es = c.self.inside.tuples in
     record { in_order = subst IsRepository (sym (ap (λ l. map (λ e. fact_of e.0) l) (c.cursor.ensures.rest ∙ all_reached es))) (taken_in_order es c.cursor.ensures.in_order) }
 
-pub returns : goal.returns
-returns c =
+pub returns-clause-all : goal.returns-clause-all
+returns-clause-all c =
     let es = c.self.inside.tuples in
-    record { left = c.in_ok-list.ensures.left ∙ ap (λ (D : List Fact). left_of D (run_of c.args.run)) (c.of-passing.ensures.all ∙ ap (λ l. map (λ e. fact_of e.0) l) (c.cursor.ensures.rest ∙ all_reached es) ∙ c.self.view_is) }
+    c.of.ensures.all ∙ ap (λ l. map (λ e. fact_of e.0) l) (c.cursor.ensures.rest ∙ all_reached es) ∙ c.self.view_is
