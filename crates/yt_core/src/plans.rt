@@ -2,6 +2,7 @@
 ghost use Rattle.std.specs.Option.{option_map, option_copied};
 ghost use Rattle.std.specs.Prelude.{◌≡◌, ◌<◌, length, map, IfOk, OnOk, OnErr};
 ghost use Rattle.yt_base.specs.Meanings.{choice_of};
+ghost use Rattle.yt_limits.specs.Within.{AreWithin};
 ghost use Rattle.yt_query.specs.Meanings.{reads_in};
 ghost use Rattle.yt_queue.specs.Queues.{AreFrom};
 ghost use Rattle.yt_queue.specs.Programs.{IsBetween, HasNext};
@@ -194,6 +195,7 @@ pub(crate) fn snapshot_at<'s>(
     queue: &[Record],
     place: usize,
 ) -> Result<Snapshot<'s>, Memory>
+    requires within { AreWithin mappings.now }
     requires place { place < length queue.now }
     requires numbers { AreFrom 1 queue.now }
     requires ready { AtPlace place queue.now IsReadySomewhere }
@@ -216,6 +218,7 @@ fn snapshot_of<'s>(
     versions: &Versions,
     item: &Record,
 ) -> Result<Snapshot<'s>, Memory>
+    requires within { AreWithin mappings.now }
     requires between { IsBetween item.now.program }
     requires ready { IsReadySomewhere item.now }
     requires left { item.now.program.attempt.steps < budget }
