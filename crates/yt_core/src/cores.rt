@@ -28,7 +28,8 @@ use yt_base::{Memory, TupleList, UpdateList};
 use yt_entries::{Entry, EntryList, Standing};
 use yt_facts::IndexedFacts;
 use yt_frontier::Question;
-use yt_limits::{Budget, Mappings};
+use yt_limits::Budget;
+use yt_plan::TouchedMappings;
 use yt_queue::{
     Record, Settings, committed_from, is_quiet, lowest_deliverable, lowest_ready,
     lowest_ready_besides, next_deliverable, reads_at_most, unready_from,
@@ -41,7 +42,7 @@ use yt_versions::Versions;
 /// that history.
 #[derive(Drop)]
 pub struct Core<'s> {
-    pub(crate) mappings: Mappings<'s>,
+    pub(crate) mappings: TouchedMappings<'s>,
     pub(crate) budget: Budget,
     pub(crate) settings: Settings,
     pub(crate) base: &'s TupleList,
@@ -113,7 +114,7 @@ impl<'s> Core<'s> {
         let updates = session.updates.as_slice();
         let queue = admitted(alloc, updates)?;
         let history = admissions(alloc, updates)?;
-        let mappings = mappings_of(session);
+        let mappings = TouchedMappings::of(alloc, mappings_of(session))?;
         let later = UpdateList::new(alloc);
         let known = Known::none(alloc)?;
         Ok(Core {
@@ -235,7 +236,7 @@ impl<'s> Core<'s> {
         ensures step { IfOk result (IsStepAt self.now) }
     {
         let place = place_of(update);
-        let mappings = self.mappings.list();
+        let mappings = &self.mappings;
         let versions = &self.versions;
         let snapshot = snapshot_at(alloc, mappings, self.budget, versions, &self.queue, place)?;
         Ok(snapshot)
@@ -283,7 +284,7 @@ impl<'s> Core<'s> {
         self.known.update = 0;
         let committed = step_at(
             alloc,
-            &self.mappings,
+            self.mappings.all(),
             self.settings,
             least,
             most,

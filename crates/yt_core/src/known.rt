@@ -1,6 +1,5 @@
 //! Which mappings are known to be settled for one of the updates of a core, so that a look of its need not read its log.
 ghost use Rattle.std.specs.Prelude.{◌≡◌, ◌≤◌, List, IfOk};
-ghost use Rattle.yt_base.specs.Contents.{rules_in};
 ghost use Rattle.yt_model.specs.Values.{Fact};
 ghost use Rattle.yt_plan.specs.Planned.{HasSettled};
 ghost use Rattle.yt_plan.specs.Settled.{AreValidOver};
@@ -8,9 +7,9 @@ ghost use Rattle.yt_query.specs.Meanings.{reads_in};
 
 use std::alloc::Global;
 use std::mem;
-use yt_base::{MappingList, Memory};
+use yt_base::Memory;
 use yt_eval::Settled;
-use yt_plan::{stir_since, told_by};
+use yt_plan::{TouchedMappings, stir_since, told_by};
 use yt_queue::Record;
 
 /// The marks of the update of this number, that were right when its attempt had made so many writes. No update has number 0.
@@ -41,15 +40,15 @@ impl Known {
     pub(crate) fn take(
         &mut self,
         alloc: Global,
-        mappings: &MappingList,
+        mappings: &TouchedMappings<'_>,
         item: &Record,
     ) -> Result<Settled, Memory>
         ensures settled { IfOk result (λ settled. (D : List Fact) →
-            AreValidOver (rules_in mappings.now) D item.now.program.attempt
+            AreValidOver mappings.now D item.now.program.attempt
             (reads_in item.now.log.items) →
             (self.old.update ≡ item.now.program.attempt.number →
-            AreMarksOver (rules_in mappings.now) D item.now self.old) →
-            HasSettled (rules_in mappings.now) D item.now.program.attempt settled) }
+            AreMarksOver mappings.now D item.now self.old) →
+            HasSettled mappings.now D item.now.program.attempt settled) }
         ensures none { self.new.update ≡ 0 }
     {
         let update = mem::replace(&mut self.update, 0);

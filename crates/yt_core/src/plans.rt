@@ -1,7 +1,7 @@
 //! The next step of an update, planned while the core goes on.
 ghost use Rattle.std.specs.Option.{option_map, option_copied};
 ghost use Rattle.std.specs.Prelude.{◌≡◌, ◌<◌, length, map, IfOk, OnOk, OnErr};
-ghost use Rattle.yt_base.specs.Meanings.{choice_of, rule_of};
+ghost use Rattle.yt_base.specs.Meanings.{choice_of};
 ghost use Rattle.yt_limits.specs.Within.{AreWithin};
 ghost use Rattle.yt_query.specs.Meanings.{reads_in};
 ghost use Rattle.yt_queue.specs.Queues.{AreFrom};
@@ -14,10 +14,10 @@ ghost use Rattle.yt_core.specs.Taken.{AtPlace, IsHeldBy, IsReadySomewhere, IsSna
 use crate::known::Known;
 use std::alloc::Global;
 use std::marker::Model;
-use yt_base::{Choice, MappingList, Memory, TryCopy};
+use yt_base::{Choice, Memory, TryCopy};
 use yt_eval::Settled;
 use yt_limits::{Budget, Mappings};
-use yt_plan::{Plan as Planned, plan_step, settled_by};
+use yt_plan::{Plan as Planned, TouchedMappings, plan_step, settled_by};
 use yt_program::Program;
 use yt_query::Logged;
 use yt_queue::Record;
@@ -124,7 +124,7 @@ impl<'s> Snapshot<'s> {
 /// only for want of memory; there are then marks of no update.
 pub(crate) fn plan_at(
     alloc: Global,
-    mappings: &Mappings<'_>,
+    mappings: &TouchedMappings<'_>,
     budget: Budget,
     versions: &Versions,
     queue: &[Record],
@@ -149,7 +149,7 @@ pub(crate) fn plan_at(
 // The plan of the next step of the record, which is ready, by what is known of it; its marks are kept.
 fn plan_of(
     alloc: Global,
-    mappings: &Mappings<'_>,
+    mappings: &TouchedMappings<'_>,
     budget: Budget,
     versions: &Versions,
     item: &Record,
@@ -168,7 +168,7 @@ fn plan_of(
 {
     let update = item.number();
     let program = &item.program;
-    let mut settled = known.take(alloc, mappings.list(), item)?;
+    let mut settled = known.take(alloc, mappings, item)?;
     let below = versions.below(update);
     let with = versions.below(update + 1);
     let answer = item.next_answer();
@@ -176,7 +176,7 @@ fn plan_of(
         alloc,
         program,
         answer,
-        mappings,
+        mappings.all(),
         budget,
         &below,
         &with,
@@ -189,21 +189,21 @@ fn plan_of(
 /// A snapshot of the next step of the update at the place, which is ready. It is refused only for want of memory.
 pub(crate) fn snapshot_at<'s>(
     alloc: Global,
-    mappings: &'s MappingList,
+    mappings: &TouchedMappings<'s>,
     budget: Budget,
     versions: &Versions,
     queue: &[Record],
     place: usize,
 ) -> Result<Snapshot<'s>, Memory>
-    requires within { AreWithin (map rule_of mappings.now.items) }
+    requires within { AreWithin mappings.now }
     requires place { place < length queue.now }
     requires numbers { AreFrom 1 queue.now }
     requires ready { AtPlace place queue.now IsReadySomewhere }
     requires left { AtPlace place queue.now (λ r. r.program.attempt.steps < budget) }
-    requires held { AtPlace place queue.now (IsHeldBy (map rule_of mappings.now.items)
+    requires held { AtPlace place queue.now (IsHeldBy mappings.now
         versions.now) }
     ensures taken { IfOk result (λ snapshot. AtPlace place queue.now (λ r. IsSnapshotOf
-        (map rule_of mappings.now.items) budget versions.now r snapshot)) }
+        mappings.now budget versions.now r snapshot)) }
 {
     let item = &queue[place];
     let snapshot = snapshot_of(alloc, mappings, budget, versions, item)?;
@@ -213,17 +213,17 @@ pub(crate) fn snapshot_at<'s>(
 // A snapshot of the next step of the record, which is ready.
 fn snapshot_of<'s>(
     alloc: Global,
-    mappings: &'s MappingList,
+    mappings: &TouchedMappings<'s>,
     budget: Budget,
     versions: &Versions,
     item: &Record,
 ) -> Result<Snapshot<'s>, Memory>
-    requires within { AreWithin (map rule_of mappings.now.items) }
+    requires within { AreWithin mappings.now }
     requires between { IsBetween item.now.program }
     requires ready { IsReadySomewhere item.now }
     requires left { item.now.program.attempt.steps < budget }
-    requires held { IsHeldBy (map rule_of mappings.now.items) versions.now item.now }
-    ensures taken { IfOk result (IsSnapshotOf (map rule_of mappings.now.items) budget versions.now
+    requires held { IsHeldBy mappings.now versions.now item.now }
+    ensures taken { IfOk result (IsSnapshotOf mappings.now budget versions.now
         item.now) }
 {
     let settled = settled_by(alloc, mappings, &item.program, item.log.as_slice())?;
@@ -231,7 +231,7 @@ fn snapshot_of<'s>(
     let versions = versions.share()?;
     let program = item.program.copy(alloc)?;
     Ok(Snapshot {
-        mappings: Mappings::of(mappings),
+        mappings: Mappings::of(mappings.list()),
         budget,
         versions,
         update: item.number(),

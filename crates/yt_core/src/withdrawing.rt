@@ -74,7 +74,7 @@ impl<'s> Core<'s> {
         self.known.update = 0;
         withdraw_at(
             alloc,
-            &self.mappings,
+            self.mappings.all(),
             self.settings,
             &mut self.versions,
             &mut self.queue,

@@ -2,7 +2,7 @@
 ghost use Rattle.std.specs.Prelude.{◌≡◌, ◌==◌, ◌&&◌, ℕ, true, false, not, Some, slice_index_or, slice_set, replicate, map, IfOk};
 ghost use Rattle.std.specs.List.{list_any};
 ghost use Rattle.yt_base.specs.Meanings.{change_of, pattern_of, rule_of};
-ghost use Rattle.yt_eval.specs.Touching.{is_among, IsTouchingIf};
+ghost use Rattle.yt_eval.specs.Touching.{is_among, IsTouching, IsTouchingIf};
 ghost use Rattle.yt_eval.specs.Watched.{asks_settled, with_settled, stirs, touches as touches_lem, LoseMarks, LoseMarksTo, LosesMark};
 ghost use Rattle.yt_base.specs.Contents.{rules_in};
 ghost use Rattle.yt_query.specs.Meanings.{query_of};
@@ -105,30 +105,20 @@ impl Settled {
         }
     }
 
-    /// Stirs the mappings to which one of the writes may give a violation.
-    pub fn stir_all(&mut self, mappings: &MappingList, writes: &[Write])
+    /// Stirs the mappings to which one of the writes may give a violation, which are found by what the mappings touch.
+    pub fn stir_all(&mut self, touching: &Touching, mappings: &MappingList, writes: &[Write])
+        requires touching { IsTouching (rules_in mappings.now) touching.now }
         ensures left { LoseMarksTo (map change_of writes.now) (rules_in mappings.now) self.old
             self.new }
     {
         for write in writes {
-            self.stir(mappings, write);
+            self.stir_by(Some(touching), mappings, write);
         }
     }
 
     /// Stirs the mappings to which the write may give a violation: by an insertion those with an atom of its relation on
-    /// the left, by a deletion those with one on the right, and all of them where it may put a mapping in force.
-    pub fn stir(&mut self, mappings: &MappingList, write: &Write)
-        ensures left { LoseMarks (stirs (change_of write.now))
-            (rules_in mappings.now) self.old self.new }
-    {
-        if relation_of(write) == FORCE_RELATION {
-            self.marks.fill(false);
-        } else {
-            self.stir_touched(mappings, write);
-        }
-    }
-
-    /// The same, with what the mappings touch where that is given.
+    /// the left, by a deletion those with one on the right, and all of them where it may put a mapping in force. They are
+    /// found by what the mappings touch, where that is given.
     pub(crate) fn stir_by(
         &mut self,
         touching: Option<&Touching>,

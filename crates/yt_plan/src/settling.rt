@@ -1,6 +1,5 @@
 //! Mappings that need not be searched anew: what the last reads of an attempt told is true still.
 ghost use Rattle.std.specs.Prelude.{◌≡◌, ◌-◌, List, drop, map, IfOk};
-ghost use Rattle.yt_base.specs.Contents.{rules_in};
 ghost use Rattle.yt_base.specs.Meanings.{change_of};
 ghost use Rattle.yt_model.specs.Mappings.{Rule};
 ghost use Rattle.yt_model.specs.Values.{Fact};
@@ -9,8 +8,9 @@ ghost use Rattle.yt_steps.specs.Attempts.{Attempt};
 ghost use Rattle.yt_plan.specs.Planned.{HasSettled};
 ghost use Rattle.yt_plan.specs.Settled.{AreValidOver, HasSettledBy, all_noted, noted};
 
+use crate::touched::TouchedMappings;
 use std::alloc::Global;
-use yt_base::{MappingList, Memory, Write};
+use yt_base::{Memory, Write};
 use yt_eval::Settled;
 use yt_program::Program;
 use yt_query::{Answer, Logged, LoggedRead, Passage};
@@ -21,13 +21,13 @@ use yt_query::{Answer, Logged, LoggedRead, Passage};
 /// It is refused only for want of memory.
 pub fn settled_by(
     alloc: Global,
-    mappings: &MappingList,
+    mappings: &TouchedMappings<'_>,
     program: &Program,
     log: &[Logged],
 ) -> Result<Settled, Memory>
     ensures settled { IfOk result (λ settled. (D : List Fact) →
-        AreValidOver (rules_in mappings.now) D program.now.attempt (reads_in log.now) →
-        HasSettled (rules_in mappings.now) D program.now.attempt settled) }
+        AreValidOver mappings.now D program.now.attempt (reads_in log.now) →
+        HasSettled mappings.now D program.now.attempt settled) }
 {
     if !program.is_looking() {
         let none = Settled::none(alloc, 0)?;
@@ -40,13 +40,13 @@ pub fn settled_by(
 /// The same, whether the attempt is looking for violations or not. It is refused only for want of memory.
 pub fn told_by(
     alloc: Global,
-    mappings: &MappingList,
+    mappings: &TouchedMappings<'_>,
     program: &Program,
     log: &[Logged],
 ) -> Result<Settled, Memory>
     ensures settled { IfOk result (λ settled. (D : List Fact) →
-        AreValidOver (rules_in mappings.now) D program.now.attempt (reads_in log.now) →
-        HasSettled (rules_in mappings.now) D program.now.attempt settled) }
+        AreValidOver mappings.now D program.now.attempt (reads_in log.now) →
+        HasSettled mappings.now D program.now.attempt settled) }
 {
     let made = made_before(log);
     let mut settled = begun(alloc, mappings, made)?;
@@ -57,12 +57,17 @@ pub fn told_by(
 
 /// Takes away the marks of the mappings to which one of the attempt's writes behind the first so many may have given a violation.
 /// It takes no memory.
-pub fn stir_since(settled: &mut Settled, mappings: &MappingList, program: &Program, made: u64)
+pub fn stir_since(
+    settled: &mut Settled,
+    mappings: &TouchedMappings<'_>,
+    program: &Program,
+    made: u64,
+)
     ensures settled { (D : List Fact) →
-        HasSettledBy made (rules_in mappings.now) D program.now.attempt settled.old →
-        HasSettled (rules_in mappings.now) D program.now.attempt settled.new }
+        HasSettledBy made mappings.now D program.now.attempt settled.old →
+        HasSettled mappings.now D program.now.attempt settled.new }
 {
-    settled.stir_all(mappings, since(program.own().as_slice(), made));
+    mappings.stir(settled, since(program.own().as_slice(), made));
 }
 
 // How many writes had been made before the last reads; none where nothing was read.
@@ -75,15 +80,15 @@ fn made_before(log: &[Logged]) -> u64 {
 
 // The marks to begin with, where so many writes had been made: before the first of them no mapping has a violation that they
 // caused, and of later ones nothing is known. It is refused only for want of memory.
-fn begun(alloc: Global, mappings: &MappingList, made: u64) -> Result<Settled, Memory>
+fn begun(alloc: Global, mappings: &TouchedMappings<'_>, made: u64) -> Result<Settled, Memory>
     ensures begun { IfOk result (λ settled. (D : List Fact) (P : Attempt) →
-        HasSettledBy made (rules_in mappings.now) D P settled) }
+        HasSettledBy made mappings.now D P settled) }
 {
     if made == 0 {
-        let settled = Settled::all(alloc, mappings.len())?;
+        let settled = Settled::all(alloc, mappings.list().len())?;
         return Ok(settled);
     }
-    let settled = Settled::none(alloc, mappings.len())?;
+    let settled = Settled::none(alloc, mappings.list().len())?;
     Ok(settled)
 }
 

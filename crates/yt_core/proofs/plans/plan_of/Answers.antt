@@ -5,9 +5,6 @@ use Rattle.yt_base.specs.Meanings.{change_of, choice_of}
 use Rattle.yt_model.specs.Mappings.{Rule}
 use Rattle.yt_model.specs.Values.{Fact}
 use Rattle.yt_plan.specs.Planned.{HasSettled}
-use Rattle.yt_plan.specs.Settled.{AreValidOver}
-use Rattle.yt_query.specs.Meanings.{reads_in}
-use Rattle.yt_core.specs.Known.{AreMarksOver}
 use Rattle.yt_core.proofs.Marking.{marks_kept}
 use Rattle.yt_model.specs.Repository.{apply}
 use Rattle.yt_versions.specs.Standing.{seen}
@@ -33,11 +30,9 @@ plan_step-requires-clause-settled c =
     let v = c.args.versions.now in
     let D : seen c.below-below.result.number c.below-below.result.versions.now ≡ seen r.program.attempt.number v =
     (λ i. seen (c.below-below.ensures.number i) (c.below-below.ensures.versions i)) ∙ ap (λ m. seen m v) c.number-update.ensures.number in
-    subst (λ (E : List Fact). HasSettled c.args.mappings.now E r.program.attempt c.in_ok-settled.settled) (sym D)
-    (subst (λ (ms : List Rule). HasSettled ms (seen r.program.attempt.number v) r.program.attempt c.in_ok-settled.settled) c.list.ensures.rules
-    (c.in_ok-settled.ensures.settled (seen r.program.attempt.number v)
-    (subst (λ (ms : List Rule). AreValidOver ms (seen r.program.attempt.number v) r.program.attempt (reads_in r.log.items)) (sym c.list.ensures.rules) c.requires.held.valid)
-    (λ e. subst (λ (ms : List Rule). AreMarksOver ms (seen r.program.attempt.number v) r c.args.known.now) (sym c.list.ensures.rules) (c.requires.known e))))
+    subst (λ (ms : List Rule). HasSettled ms (seen c.below-below.result.number c.below-below.result.versions.now) r.program.attempt c.in_ok-settled.settled) (sym c.all.ensures.rules)
+    (subst (λ (E : List Fact). HasSettled c.args.mappings.now E r.program.attempt c.in_ok-settled.settled) (sym D)
+    (c.in_ok-settled.ensures.settled (seen r.program.attempt.number v) c.requires.held.valid c.requires.known))
 
 pub returns-clause-planned : goal.returns-clause-planned
 returns-clause-planned c =
@@ -47,8 +42,8 @@ returns-clause-planned c =
     let n = c.number-update.result in
     let a = option_map choice_of (option_copied c.next_answer-answer.result) in
     subst (IsSnapshotOf ms c.args.budget v r)
-    (sym (planned_same ms c.args.budget _ (seen n v) r.program.attempt a a n _ _ (λ i. seen (c.below-below.ensures.number i) (c.below-below.ensures.versions i)) refl c.in_ok-step.ensures.program c.in_ok-step.ensures.reads))
-    (snapshot_taken ms ms c.args.budget v v r n r.program a refl refl c.number-update.ensures.number refl c.next_answer-answer.ensures.next)
+    (sym (planned_same c.all.result.now c.args.budget _ (seen n v) r.program.attempt a a n _ _ (λ i. seen (c.below-below.ensures.number i) (c.below-below.ensures.versions i)) refl c.in_ok-step.ensures.program c.in_ok-step.ensures.reads))
+    (snapshot_taken ms c.all.result.now c.args.budget v v r n r.program a c.all.ensures.rules refl c.number-update.ensures.number refl c.next_answer-answer.ensures.next)
 
 pub returns-clause-known : goal.returns-clause-known
 returns-clause-known c =
@@ -58,4 +53,5 @@ returns-clause-known c =
     (λ i. seen (c.below-below.ensures.number i) (c.below-below.ensures.versions i)) ∙ ap (λ m. seen m v) c.number-update.ensures.number in
     marks_kept c.args.mappings.now v r c.keep.new.self c.plan_step.new.settled (c.keep.ensures.update ∙ c.number-update.ensures.number)
     (c.keep.ensures.made ∙ c.len.ensures.length ∙ (sym (length-map c.own.result.now.items change_of) ∙ ap length c.own.ensures.own)) c.keep.ensures.marks
-    (subst (λ (E : List Fact). HasSettled c.args.mappings.now E r.program.attempt c.plan_step.new.settled) D c.in_ok-step.ensures.settled)
+    (subst (λ (E : List Fact). HasSettled c.args.mappings.now E r.program.attempt c.plan_step.new.settled) D
+    (subst (λ (ms : List Rule). HasSettled ms (seen c.below-below.result.number c.below-below.result.versions.now) r.program.attempt c.plan_step.new.settled) c.all.ensures.rules c.in_ok-step.ensures.settled))

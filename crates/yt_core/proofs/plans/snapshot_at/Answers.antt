@@ -1,6 +1,5 @@
-use Rattle.std.proofs.Common.{subst, sym, ◌∙◌, map}
+use Rattle.std.proofs.Common.{subst, sym, ◌∙◌}
 use Rattle.std.proofs.lemmas.Option.{same_Some}
-use Rattle.yt_base.specs.Meanings.{rule_of}
 use Rattle.yt_queue.specs.declared.records.Record.{Record}
 use Rattle.yt_core.specs.Taken.{IsSnapshotOf}
 use Rattle.yt_core.proofs.Telling.{there_is, between_there}
@@ -25,7 +24,7 @@ pub returns : goal.returns
 returns c =
     record {
       taken =
-          λ r spot. subst (λ (q : Record). IsSnapshotOf (map rule_of c.args.mappings.now.items) c.args.budget c.args.versions.now q c.in_ok-snapshot.snapshot)
+          λ r spot. subst (λ (q : Record). IsSnapshotOf c.args.mappings.now c.args.budget c.args.versions.now q c.in_ok-snapshot.snapshot)
           (same_Some c.index-queue-place.result r (sym (there_is c.args.queue.now c.args.place c.index-queue-place.result c.requires.place c.index-queue-place.is) ∙ spot))
           c.in_ok-snapshot.ensures.taken;
     }

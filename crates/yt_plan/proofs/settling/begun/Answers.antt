@@ -1,5 +1,4 @@
 use Rattle.std.proofs.Common.{ap, take}
-use Rattle.yt_base.specs.Contents.{rules_in}
 use Rattle.yt_model.specs.Updates.{direction_of}
 use Rattle.yt_eval.proofs.Settling.{nothing_caused}
 use Rattle.yt_plan.proofs.Noting.{nothing_settled}
@@ -7,8 +6,8 @@ use Rattle.yt_plan.proofs.settling.begun.Goals as goal
 
 pub returns-then-made-eq0 : goal.returns-then-made-eq0
 returns-then-made-eq0 c = record {
-  begun = λ D P n e. nothing_caused (rules_in c.args.mappings.now) (direction_of P.operation) D (take c.args.made P.own) n (ap (λ m. take m P.own) c.if-made-eq0.true);
+  begun = λ D P n e. nothing_caused c.args.mappings.now (direction_of P.operation) D (take c.args.made P.own) n (ap (λ m. take m P.own) c.if-made-eq0.true);
 }
 
 pub returns : goal.returns
-returns c = record { begun = λ D P. nothing_settled _ c.args.made (rules_in c.args.mappings.now) D P _ c.in_ok-settled-2.ensures.none }
+returns c = record { begun = λ D P. nothing_settled _ c.args.made c.args.mappings.now D P _ c.in_ok-settled-2.ensures.none }

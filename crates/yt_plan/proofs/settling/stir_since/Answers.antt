@@ -7,6 +7,6 @@ pub returns : goal.returns
 returns c =
     record {
       settled =
-          λ D settled. settled_since c.args.made _ D c.args.program.now.attempt c.args.settled.now c.stir_all.new.self _
-          (c.since.ensures.since ∙ ap (drop c.args.made) (ap (map change_of) c.as_slice.ensures.items ∙ c.own.ensures.own)) c.stir_all.ensures.left settled;
+          λ D settled. settled_since c.args.made _ D c.args.program.now.attempt c.args.settled.now c.stir.new.settled _
+          (c.since.ensures.since ∙ ap (drop c.args.made) (ap (map change_of) c.as_slice.ensures.items ∙ c.own.ensures.own)) c.stir.ensures.left settled;
     }

@@ -5,6 +5,9 @@ use Rattle.yt_queue.specs.Queues.{AreFrom}
 use Rattle.yt_queue.specs.Renewals.{AllHaveOneMore}
 use Rattle.yt_queue.specs.Walks.{CommitsAtLeast, ReadsAtMost, UnreadyUpTo}
 use Rattle.yt_queue.specs.declared.records.Record.{Record}
+use Rattle.yt_model.specs.Mappings.{Rule}
+use Rattle.yt_queue.specs.Settings.{settings_of}
+use Rattle.yt_core.specs.Follows.{StepsTo}
 use Rattle.yt_core.specs.Planned.{PlanMeant}
 use Rattle.yt_core.proofs.Making.{some_number, ready_within, all_one_more, plan_ready, plan_between, core_steps, kept_ok, kept_err, has_stepped}
 use Rattle.yt_core.proofs.Committing.{least_ok, fewer_unready, unready_ok}
@@ -64,7 +67,8 @@ invariant_of-self-2 c = (
       (core_steps _ c.self.inside.versions c.self.inside.queue.items c.self.inside.history.items _ c.self.invariant.0 c.self.view_is c.args.plan.update c.requires.ready c.place_of-place.result
       (c.place_of-place.ensures ∙ ap (λ (p : PlanMeant). p.update) c.plan.view_is) c.deref_mut.result.now c.deref_mut.ensures.value c.plan.inside.step c.args.plan
       (ap (λ (n : ℕ). record { update = n; program = c.plan.inside.step.program; reads = reads_in c.plan.inside.step.reads.items }) (sym (ap (λ (p : PlanMeant). p.update) c.plan.view_is)) ∙ c.plan.view_is) c.requires.step
-      c.step_at.new.versions c.step_at.new.queue c.step_at.new.history.items c.in_ok-committed.ensures.made).kept,
+      c.step_at.new.versions c.step_at.new.queue c.step_at.new.history.items (subst (λ (ms : List Rule). StepsTo ms (settings_of c.self.inside.settings) c.place_of-place.result c.plan.inside.step c.self.inside.versions c.deref_mut.result.now c.self.inside.history.items
+      c.step_at.new.versions c.step_at.new.queue c.step_at.new.history.items) c.all.ensures.rules c.in_ok-committed.ensures.made)).kept,
   least_ok c.step_at.new.queue (drop (length c.step_at.new.queue) c.self.inside.queue.items) c.self.inside.queue.len c.in_ok-committed.committed (omega arith) c.in_ok-committed.ensures.committed,
   most_ok c.step_at.new.queue (drop (length c.step_at.new.queue) c.self.inside.queue.items) c.self.inside.queue.len c.raised-self-inside.result (omega arith)
       (c.in_ok-committed.ensures.most c.raised-self-inside.result (let u = c.raised-self-inside.ensures.update in let p = c.place_of-place.ensures in omega (arith, u, p))
@@ -77,7 +81,8 @@ invariant_of-self-2 c = (
       (core_steps _ c.self.inside.versions c.self.inside.queue.items c.self.inside.history.items _ c.self.invariant.0 c.self.view_is c.args.plan.update c.requires.ready c.place_of-place.result
       (c.place_of-place.ensures ∙ ap (λ (p : PlanMeant). p.update) c.plan.view_is) c.deref_mut.result.now c.deref_mut.ensures.value c.plan.inside.step c.args.plan
       (ap (λ (n : ℕ). record { update = n; program = c.plan.inside.step.program; reads = reads_in c.plan.inside.step.reads.items }) (sym (ap (λ (p : PlanMeant). p.update) c.plan.view_is)) ∙ c.plan.view_is) c.requires.step
-      c.step_at.new.versions c.step_at.new.queue c.step_at.new.history.items c.in_ok-committed.ensures.made).kept
+      c.step_at.new.versions c.step_at.new.queue c.step_at.new.history.items (subst (λ (ms : List Rule). StepsTo ms (settings_of c.self.inside.settings) c.place_of-place.result c.plan.inside.step c.self.inside.versions c.deref_mut.result.now c.self.inside.history.items
+      c.step_at.new.versions c.step_at.new.queue c.step_at.new.history.items) c.all.ensures.rules c.in_ok-committed.ensures.made)).kept
       c.in_ok-committed.ensures.grows
       (ready_within _ c.self.inside.versions c.self.inside.queue.items _ _ c.self.invariant.0 c.self.view_is c.args.plan.update c.requires.ready c.place_of-place.result (c.place_of-place.ensures ∙ ap (λ (p : PlanMeant). p.update) c.plan.view_is)
       c.deref_mut.result.now c.deref_mut.ensures.value)
@@ -90,7 +95,8 @@ returns-clause-made c =
     (core_steps _ c.self.inside.versions c.self.inside.queue.items c.self.inside.history.items _ c.self.invariant.0 c.self.view_is c.args.plan.update c.requires.ready c.place_of-place.result
     (c.place_of-place.ensures ∙ ap (λ (p : PlanMeant). p.update) c.plan.view_is) c.deref_mut.result.now c.deref_mut.ensures.value c.plan.inside.step c.args.plan
     (ap (λ (n : ℕ). record { update = n; program = c.plan.inside.step.program; reads = reads_in c.plan.inside.step.reads.items }) (sym (ap (λ (p : PlanMeant). p.update) c.plan.view_is)) ∙ c.plan.view_is) c.requires.step
-    c.step_at.new.versions c.step_at.new.queue c.step_at.new.history.items c.in_ok-committed.ensures.made)
+    c.step_at.new.versions c.step_at.new.queue c.step_at.new.history.items (subst (λ (ms : List Rule). StepsTo ms (settings_of c.self.inside.settings) c.place_of-place.result c.plan.inside.step c.self.inside.versions c.deref_mut.result.now c.self.inside.history.items
+    c.step_at.new.versions c.step_at.new.queue c.step_at.new.history.items) c.all.ensures.rules c.in_ok-committed.ensures.made))
 
 pub unready_from-self-inside-requires-clause-from : goal.unready_from-self-inside-requires-clause-from
 unready_from-self-inside-requires-clause-from c =
@@ -98,7 +104,8 @@ unready_from-self-inside-requires-clause-from c =
     (core_steps _ c.self.inside.versions c.self.inside.queue.items c.self.inside.history.items _ c.self.invariant.0 c.self.view_is c.args.plan.update c.requires.ready c.place_of-place.result
     (c.place_of-place.ensures ∙ ap (λ (p : PlanMeant). p.update) c.plan.view_is) c.deref_mut.result.now c.deref_mut.ensures.value c.plan.inside.step c.args.plan
     (ap (λ (n : ℕ). record { update = n; program = c.plan.inside.step.program; reads = reads_in c.plan.inside.step.reads.items }) (sym (ap (λ (p : PlanMeant). p.update) c.plan.view_is)) ∙ c.plan.view_is) c.requires.step
-    c.step_at.new.versions c.step_at.new.queue c.step_at.new.history.items c.in_ok-committed.ensures.made).kept).numbers
+    c.step_at.new.versions c.step_at.new.queue c.step_at.new.history.items (subst (λ (ms : List Rule). StepsTo ms (settings_of c.self.inside.settings) c.place_of-place.result c.plan.inside.step c.self.inside.versions c.deref_mut.result.now c.self.inside.history.items
+    c.step_at.new.versions c.step_at.new.queue c.step_at.new.history.items) c.all.ensures.rules c.in_ok-committed.ensures.made)).kept).numbers
 
 pub unready_from-self-inside-requires-clause-first : goal.unready_from-self-inside-requires-clause-first
 unready_from-self-inside-requires-clause-first c =

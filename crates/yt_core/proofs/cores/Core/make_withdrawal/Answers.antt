@@ -3,7 +3,10 @@ use Rattle.yt_entries.specs.Meanings.{entry_of}
 use Rattle.yt_machine.specs.Effects.{Withdraws}
 use Rattle.yt_queue.specs.Queues.{AreFrom}
 use Rattle.yt_queue.specs.Renewals.{AllHaveOneMore}
+use Rattle.yt_queue.specs.Settings.{settings_of}
 use Rattle.yt_queue.specs.declared.records.Record.{Record}
+use Rattle.yt_model.specs.Mappings.{Rule}
+use Rattle.yt_core.specs.Withdrawals.{WithdrawsTo}
 use Rattle.yt_core.proofs.Losing.{live_number, live_within, core_withdraws, same_all}
 use Rattle.yt_core.proofs.Making.{some_number, all_one_more, kept_ok, kept_err, has_made}
 use Rattle.yt_core.proofs.Unread.{with_nothing_noted}
@@ -35,10 +38,12 @@ invariant_of-self-2 c =
     with_nothing_noted _ _ _ _ (record { update = 0; made = c.self.inside.known.made; marks = c.self.inside.known.marks }) refl
     (kept_ok _ c.withdraw_at.new.versions c.withdraw_at.new.queue (drop (length c.withdraw_at.new.queue) c.self.inside.queue.items) c.self.inside.queue.len (map entry_of c.withdraw_at.new.history.items) (omega arith)
     (core_withdraws _ c.self.inside.versions c.self.inside.queue.items c.self.inside.history.items _ c.self.invariant.0 c.self.view_is c.args.update c.requires.live c.place_of-place.result c.place_of-place.ensures c.deref_mut.result.now
-    c.deref_mut.ensures.value c.withdraw_at.new.versions c.withdraw_at.new.queue c.withdraw_at.new.history.items c.in_ok-withdraw_at.ensures.made).kept)
+    c.deref_mut.ensures.value c.withdraw_at.new.versions c.withdraw_at.new.queue c.withdraw_at.new.history.items (subst (λ (ms : List Rule). WithdrawsTo ms (settings_of c.self.inside.settings) c.place_of-place.result c.self.inside.versions c.deref_mut.result.now c.self.inside.history.items
+    c.withdraw_at.new.versions c.withdraw_at.new.queue c.withdraw_at.new.history.items) c.all.ensures.rules c.in_ok-withdraw_at.ensures.made)).kept)
 
 pub returns-clause-made : goal.returns-clause-made
 returns-clause-made c =
     has_made (λ g. Withdraws c.args.update) _ c.withdraw_at.new.versions c.withdraw_at.new.queue (map entry_of c.self.inside.history.items) (map entry_of c.withdraw_at.new.history.items) c.args.self.now _ c.self.view_is refl
     (core_withdraws _ c.self.inside.versions c.self.inside.queue.items c.self.inside.history.items _ c.self.invariant.0 c.self.view_is c.args.update c.requires.live c.place_of-place.result c.place_of-place.ensures c.deref_mut.result.now
-    c.deref_mut.ensures.value c.withdraw_at.new.versions c.withdraw_at.new.queue c.withdraw_at.new.history.items c.in_ok-withdraw_at.ensures.made)
+    c.deref_mut.ensures.value c.withdraw_at.new.versions c.withdraw_at.new.queue c.withdraw_at.new.history.items (subst (λ (ms : List Rule). WithdrawsTo ms (settings_of c.self.inside.settings) c.place_of-place.result c.self.inside.versions c.deref_mut.result.now c.self.inside.history.items
+    c.withdraw_at.new.versions c.withdraw_at.new.queue c.withdraw_at.new.history.items) c.all.ensures.rules c.in_ok-withdraw_at.ensures.made))

@@ -1,4 +1,4 @@
-use Rattle.std.proofs.Common.{sym, subst, refl}
+use Rattle.std.proofs.Common.{◌∙◌, sym, subst, refl}
 use Rattle.yt_limits.specs.Within.{AreWithin}
 use Rattle.yt_queue.specs.Settings.{settings_of}
 use Rattle.yt_serial.proofs.Limits.{session_within}
@@ -16,9 +16,9 @@ admissions-requires c = record { few = few_updates c.args.session.now.updates.it
 pub invariant_of-result : goal.invariant_of-result
 invariant_of-result c =
     with_nothing_noted _ _ _ _ c.in_ok-known.known c.in_ok-known.ensures.none
-    (opened_by c.mappings_of-mappings.result c.args.budget (settings_of c.args.settings) c.args.session.now.base c.args.session.now.updates c.new-later.result c.args.base c.as_slice-updates.result.now c.in_ok-versions.versions c.in_ok-queue.queue.items
+    (opened_by c.in_ok-mappings.mappings c.args.budget (settings_of c.args.settings) c.args.session.now.base c.args.session.now.updates c.new-later.result c.args.base c.as_slice-updates.result.now c.in_ok-versions.versions c.in_ok-queue.queue.items
     c.in_ok-history.history.items c.new-later.ensures.empty c.is_within.ensures.some c.requires.retries
-    (subst AreWithin (sym c.mappings_of-mappings.ensures.rules) (session_within (session_of c.args.session.now) c.requires.valid)) c.requires.valid.base_order
+    (subst AreWithin (sym (c.in_ok-mappings.ensures.rules ∙ c.mappings_of.ensures.rules)) (session_within (session_of c.args.session.now) c.requires.valid)) c.requires.valid.base_order
     (few_updates c.args.session.now.updates.items c.as_slice-updates.result.now c.as_slice-updates.ensures.items c.requires.valid.update_count) c.requires.base c.as_slice-updates.ensures.items c.in_ok-queue.ensures.admitted c.in_ok-queue.ensures.numbers
     c.in_ok-queue.ensures.long c.in_ok-history.ensures.entries c.in_ok-versions.ensures.base)
 
@@ -26,6 +26,6 @@ pub returns : goal.returns
 returns c =
     record {
       opened =
-          opened_is (session_of c.args.session.now) c.mappings_of-mappings.result c.args.budget (settings_of c.args.settings) c.args.session.now.base c.args.session.now.updates c.new-later.result c.as_slice-updates.result.now c.in_ok-history.history.items c.new-later.ensures.empty
-          c.mappings_of-mappings.ensures.rules c.as_slice-updates.ensures.items c.in_ok-history.ensures.entries refl refl;
+          opened_is (session_of c.args.session.now) c.in_ok-mappings.mappings c.args.budget (settings_of c.args.settings) c.args.session.now.base c.args.session.now.updates c.new-later.result c.as_slice-updates.result.now c.in_ok-history.history.items c.new-later.ensures.empty
+          (c.in_ok-mappings.ensures.rules ∙ c.mappings_of.ensures.rules) c.as_slice-updates.ensures.items c.in_ok-history.ensures.entries refl refl;
     }

@@ -1,7 +1,4 @@
-use Rattle.std.proofs.Common.{sym, subst, List}
-use Rattle.yt_limits.specs.Within.{AreWithin}
-use Rattle.yt_model.specs.Mappings.{Rule}
-use Rattle.yt_core.specs.Taken.{AtPlace, IsHeldBy}
+use Rattle.std.proofs.Common.{refl}
 use Rattle.yt_core.proofs.Making.{some_number, ready_within, ready_numbers, ready_placed, left_placed, held_placed, snapshot_update, snapshot_step}
 use Rattle.yt_core.proofs.cores.Core.snapshot.Goals as goal
 
@@ -26,18 +23,17 @@ snapshot_at-requires-clause-left c =
 
 pub snapshot_at-requires-clause-held : goal.snapshot_at-requires-clause-held
 snapshot_at-requires-clause-held c =
-    subst (λ (rules : List Rule). AtPlace c.place_of-place.result c.deref.result.now (IsHeldBy rules c.self.inside.versions)) (sym c.list-mappings.ensures.rules)
-    (held_placed _ c.self.inside.versions c.self.inside.queue.items _ _ c.self.invariant.0 c.self.view_is c.args.update c.requires.ready c.place_of-place.result c.place_of-place.ensures c.deref.result.now c.deref.ensures.value)
+    held_placed _ c.self.inside.versions c.self.inside.queue.items _ _ c.self.invariant.0 c.self.view_is c.args.update c.requires.ready c.place_of-place.result c.place_of-place.ensures c.deref.result.now c.deref.ensures.value
 
 pub returns-clause-update : goal.returns-clause-update
 returns-clause-update c =
     snapshot_update _ c.self.inside.versions c.self.inside.queue.items _ _ c.self.invariant.0 c.self.view_is c.args.update c.requires.ready c.place_of-place.result c.place_of-place.ensures c.deref.result.now c.deref.ensures.value
-    _ c.list-mappings.ensures.rules c.in_ok-snapshot.snapshot c.in_ok-snapshot.ensures.taken
+    _ refl c.in_ok-snapshot.snapshot c.in_ok-snapshot.ensures.taken
 
 pub returns-clause-step : goal.returns-clause-step
 returns-clause-step c =
     snapshot_step _ c.self.inside.versions c.self.inside.queue.items _ _ c.self.invariant.0 c.self.view_is c.args.update c.requires.ready c.place_of-place.result c.place_of-place.ensures c.deref.result.now c.deref.ensures.value
-    _ c.list-mappings.ensures.rules c.in_ok-snapshot.snapshot c.in_ok-snapshot.ensures.taken
+    _ refl c.in_ok-snapshot.snapshot c.in_ok-snapshot.ensures.taken
 
 pub snapshot_at-requires-clause-within : goal.snapshot_at-requires-clause-within
-snapshot_at-requires-clause-within c = subst AreWithin (sym c.list-mappings.ensures.rules) c.self.invariant.0.within
+snapshot_at-requires-clause-within c = c.self.invariant.0.within
