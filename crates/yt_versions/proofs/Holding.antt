@@ -1,5 +1,5 @@
 -- A search for one tuple finds its row, which says what is known of it.
-use Rattle.std.proofs.Common.{◌≡◌, ℕ, refl, ap, sym, ◌∙◌, subst, List, Bool, true, find, Option, Some, unwrap_or}
+use Rattle.std.proofs.Common.{◌≡◌, ℕ, refl, ap, sym, ◌∙◌, subst, List, Bool, find, Option, Some, unwrap_or}
 use Rattle.std.specs.Option.{option_map}
 use Rattle.std.specs.Ordering.{is_eq}
 use Rattle.yt_base.specs.Meanings.{fact_of}
