@@ -13,6 +13,7 @@ pub mod Holding
 pub mod Knowing
 pub mod Taking
 pub mod Both
+pub mod Opened
 pub mod Passed
 pub mod Sent
 pub mod Gathering

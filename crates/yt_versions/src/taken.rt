@@ -1,5 +1,6 @@
 //! The tuples of the base of which the table tells in the base's place.
 ghost use Rattle.std.specs.Prelude.{◌≡◌, [], None, map, cond, IfOk, IsTrue, OnOk};
+ghost use Rattle.yt_model.specs.Cursors.{next_of};
 ghost use Rattle.yt_model.specs.Repository.{has, IsRepository};
 ghost use Rattle.yt_model.specs.Values.{Fact, same_fact};
 ghost use Rattle.std.specs.Option.{option_map, option_copied};
@@ -69,6 +70,22 @@ impl Taken {
     {
         let found = self.tuples.find_in(&Onward { relation, past });
         found.is_none()
+    }
+
+    /// The least of them that is of the tuple's relation and above it; None exactly where there is none.
+    pub fn after(&self, tuple: &Tuple) -> Option<&Tuple>
+        ensures found { option_map fact_of (option_copied result)
+            ≡ next_of self.now (fact_of tuple.now) }
+        ensures in_order { IsRepository self.now }
+    {
+        let onward = Onward {
+            relation: tuple.relation,
+            past: Some(tuple),
+        };
+        match self.tuples.find_in(&onward) {
+            Some(entry) => return Some(entry.0.get()),
+            None => return None,
+        }
     }
 
     /// All of them in order, to be passed. It takes no memory.
