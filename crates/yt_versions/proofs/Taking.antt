@@ -2,18 +2,22 @@
 use Rattle.std.proofs.Common.{◌≡◌, ℕ, ap, refl, sym, ◌∙◌, List, [], ◌∷◌, Bool, true, false, ◌||◌, ◌&&◌, cond, filter, find, map, Option, Some, None, Bor, not}
 use Rattle.std.specs.BTreeMap.{insert_entry}
 use Rattle.std.specs.Cmp.{on_total}
+use Rattle.std.specs.List.{AllByRecursion}
+use Rattle.std.specs.List.Sorted.{IsStrictlySortedBy}
+use Rattle.std.specs.Map.{keys_of}
 use Rattle.std.specs.Option.{is_some, option_copied, option_map}
 use Rattle.std.specs.Ordering.{is_eq, on}
+use Rattle.std.specs.declared.cmp.Ordering.TheVariants.{Less}
 use Rattle.yt_base.specs.Meanings.{fact_of}
 use Rattle.yt_base.specs.declared.tuples.Tuple.{Tuple}
-use Rattle.yt_model.specs.Repository.{has}
+use Rattle.yt_model.specs.Repository.{has, IsRepository}
 use Rattle.yt_model.specs.Values.{Fact, fact_cmp, same_fact}
 use Rattle.yt_model.specs.Cursors.{is_of, is_beyond}
 use Rattle.yt_model.proofs.Bools.{and-true, differ}
 use Rattle.yt_model.proofs.Searches.{none_passes}
 use Rattle.yt_model.proofs.Order.{fact_total}
 use Rattle.yt_model.proofs.Sets.{same_exact}
-use Rattle.yt_tree.specs.Orders.{is_sought, without}
+use Rattle.yt_tree.specs.Orders.{is_sought, without, IsOrdered}
 use Rattle.yt_versions.specs.Zones.{place_of}
 use Rattle.yt_versions.proofs.Holding.{held_same, is_held}
 use Rattle.yt_versions.proofs.Looking.{look, look_insert, look_without}
@@ -83,6 +87,29 @@ module _ {V : Type 0} where
       by : (b : Bool) → facts_in left ≡ filter (λ u. is_of r u && is_beyond past u) (tuples es) → facts_in (cond b (e ∷ left) left) ≡ cond b (fact_of e.0 ∷ filter (λ u. is_of r u && is_beyond past u) (tuples es)) (filter (λ u. is_of r u && is_beyond past u) (tuples es))
       by true i = ap (λ (l : List Fact). fact_of e.0 ∷ l) i
       by false i = i
+
+-- The first of those.
+pub first_taken : {V : Type 0} (r : ℕ) (past : Option Fact) (es : List (Tuple × V)) → option_map (λ (e : Tuple × V). fact_of e.0) (find (is_sought (λ k. place_of r past (fact_of k)) (λ _. true)) es) ≡ find (λ u. is_of r u && is_beyond past u) (tuples es)
+first_taken r past [] = refl
+first_taken {V} r past (e ∷ es) =
+    ap (λ b. option_map (λ (f : Tuple × V). fact_of f.0) (cond b (Some e) left)) (and-true (is_eq (place_of r past (fact_of e.0))) ∙ zone_is r past (fact_of e.0)) ∙ by (is_of r (fact_of e.0) && is_beyond past (fact_of e.0)) (first_taken r past es)
+  where
+    left : Option (Tuple × V)
+    left = find (is_sought (λ k. place_of r past (fact_of k)) (λ _. true)) es
+
+    by : (b : Bool) → option_map (λ (f : Tuple × V). fact_of f.0) left ≡ find (λ u. is_of r u && is_beyond past u) (tuples es) → option_map (λ (f : Tuple × V). fact_of f.0) (cond b (Some e) left) ≡ cond b (Some (fact_of e.0)) (find (λ u. is_of r u && is_beyond past u) (tuples es))
+    by true i = refl
+    by false i = i
+
+-- They are in order.
+pub taken_in_order : {V : Type 0} (es : List (Tuple × V)) → IsOrdered (on fact_of fact_cmp) es → IsRepository (tuples es)
+unfolding IsStrictlySortedBy
+taken_in_order [] s = tt
+taken_in_order {V} (e ∷ es) s = (below es s.0, taken_in_order es s.1)
+  where
+    below : (fs : List (Tuple × V)) → AllByRecursion (λ y. fact_cmp (fact_of e.0) (fact_of y) ≡ Less) (keys_of fs) → AllByRecursion (λ u. fact_cmp (fact_of e.0) u ≡ Less) (tuples fs)
+    below [] a = tt
+    below (f ∷ fs) a = (a.0, below fs a.1)
 
 -- Where none was found none is sought.
 pub none_sought : {A : Type 0} (p : A → Bool) (es : List A) (found : Option (Bor A)) → option_copied found ≡ find p es → (b : Bool) → b ≡ true → is_some found ≡ not b → filter p es ≡ []
