@@ -3,6 +3,7 @@ ghost use Rattle.std.specs.Prelude.{◌≡◌, ◌≤◌, ◌↔◌, map, IfOk, 
 ghost use Rattle.yt_steps.specs.Attempts.{Look};
 ghost use Rattle.yt_model.specs.Updates.{direction_of};
 ghost use Rattle.yt_base.specs.Meanings.{change_of, heading_of};
+ghost use Rattle.yt_program.specs.Firsts.{BeginWith};
 
 use crate::points::Point;
 use crate::programs::Program;
@@ -26,11 +27,25 @@ impl Program {
         self.own.into_list(alloc)
     }
 
-    /// Lets copies of it share its writes from now on. It is refused only for want of memory. It stays as it is.
-    pub fn share(&mut self, alloc: Global) -> Result<(), Memory>
+    /// A copy to make the next step on, which takes along what the attempt keeps to make more writes. It is refused only for
+    /// want of memory. The attempt stays as it is.
+    pub fn branch(&mut self, alloc: Global) -> Result<Program, Memory>
+        ensures same { IfOk result (λ branch. branch ≡ self.old) }
+        ensures stays { self.new ≡ self.old }
+    {
+        let own = self.own.branch(alloc)?;
+        let mut copy = self.copy(alloc)?;
+        copy.own = own;
+        Ok(copy)
+    }
+
+    /// Lets copies of it share its writes from now on. It keeps those that it had before, to make more. It is refused only for
+    /// want of memory. It stays as it is.
+    pub fn share(&mut self, alloc: Global, before: &Program) -> Result<(), Memory>
+        requires first { BeginWith before.now.attempt.own self.old.attempt.own }
         ensures same { self.new ≡ self.old }
     {
-        self.own.share(alloc)?;
+        self.own.share(alloc, &before.own)?;
         Ok(())
     }
 
