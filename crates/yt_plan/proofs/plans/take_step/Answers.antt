@@ -18,10 +18,13 @@ share-requires g c =
     let own = ap (λ (v : Seen). v.own) seen ∙ c.own-own.ensures.own in
     let begun = c.in_ok-begin.ensures.step ∙ ap (λ (s : State). coming_to c.args.budget s.attempt (step ms s.attempt (option_map choice_of (option_copied c.args.choice)))) c.requires.same in
     record {
-      first = (_, ap (λ (s : State). s.attempt.own) (c.in_ok-reads.ensures.answered
-          ∙ ap at_rest (planned ms c.args.budget (g.F.Facts.tuples c.args.below.now) P (option_map choice_of (option_copied c.args.choice))
-          (course ms c.begin.new.program) c.new-view.result.below c.new-view.result.own (heading_of c.direction-direction.result)
-          (ap (λ (v : Seen). v.below) seen) own c.direction-direction.ensures.heading begun)));
+      first = (
+        _,
+        ap (λ (s : State). s.attempt.own) (c.in_ok-reads.ensures.answered
+            ∙ ap at_rest (planned ms c.args.budget (g.F.Facts.tuples c.args.below.now) P (option_map choice_of (option_copied c.args.choice))
+            (course ms c.begin.new.program) c.new-view.result.below c.new-view.result.own (heading_of c.direction-direction.result)
+            (ap (λ (v : Seen). v.below) seen) own c.direction-direction.ensures.heading begun)),
+      );
     }
 
 pub returns-clause-program : goal.returns-clause-program
