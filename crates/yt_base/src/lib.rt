@@ -50,7 +50,7 @@ pub mod updates;
 pub mod values;
 
 pub use crate::bindings::Binding;
-pub use crate::candidates::{Candidates, Column, next_candidate};
+pub use crate::candidates::{Candidates, Column, Opening, next_candidate};
 pub use crate::copying::TryCopy;
 pub use crate::facts::Facts;
 pub use crate::lists::{List, Name, NameList, NumberList, Word};

@@ -15,7 +15,7 @@ use crate::reads::Numbered;
 use std::alloc::Global;
 use yt_base::{MappingList, Memory, TryCopy, Write};
 use yt_conflict::{Impact, Sense, Trail};
-use yt_query::{Logged, LoggedRead, Run, finds_none, mentions};
+use yt_query::{Logged, LoggedRead, Passage, finds_none, mentions};
 use yt_queue::Record;
 use yt_versions::Versions;
 
@@ -116,27 +116,27 @@ impl<'r> Lost<'r> {
     {
         match entry {
             Logged::Asked(read) => self.reached_read(alloc, mappings, before + 1, read),
-            Logged::Passed(run) => self.reached_in_run(alloc, mappings, before, run),
+            Logged::Passed(passage) => self.reached_in_passage(alloc, mappings, before, passage),
         }
     }
 
-    // The same of the reads of a run.
-    fn reached_in_run(
+    // The same of the reads of a passage.
+    fn reached_in_passage(
         &self,
         alloc: Global,
         mappings: &MappingList,
         before: u64,
-        run: &Run,
+        passage: &Passage,
     ) -> Result<Option<Numbered>, Memory>
-        requires fits { before + (run.now.end - run.now.start) < 2 ^ 64 }
+        requires fits { before + (passage.now.end - passage.now.start) < 2 ^ 64 }
         ensures first { IfOk result (λ found. option_map numbered_of found ≡ first_reached_from
             (rules_in mappings.now) self.now.members.items (before + 1)
-            (passing run.now.start (run.now.end - run.now.start) run.now.own)) }
+            (passing passage.now.start (passage.now.end - passage.now.start) passage.now.own)) }
     {
         let mut number = before;
-        for mapping in run.start..run.end {
+        for mapping in passage.start..passage.end {
             number += 1;
-            let found = self.reached_mapping(alloc, mappings, number, mapping, run.own)?;
+            let found = self.reached_mapping(alloc, mappings, number, mapping, passage.own)?;
             if let Some(found) = found {
                 return Ok(Some(found));
             }

@@ -93,7 +93,7 @@ pub none_changed : (ms : List Rule) (h : Direction) (D : List Fact) (own : List 
 none_changed ms h D own g trails rs e =
     sym (ap (option_map (λ (r : Numbered). record { number = r.number; read = r.read; now = value_now ms h D own r.read })) (none_first ms h D own g trails 1 rs e))
 
--- A run asked for violations and found none, so none of its reads is met apart.
-pub run_unmet : (ms : List Rule) (h : Direction) (own : List Change) (g : Sense) (trails : List (List Change)) (n k made : ℕ) → false ≡ meets_any_apart ms h own g trails (passing n k made)
-run_unmet ms h own g trails n zero made = refl
-run_unmet ms h own g trails n (suc k) made = run_unmet ms h own g trails (suc n) k made
+-- A passage asked for violations and found none, so none of its reads is met apart.
+pub passage_unmet : (ms : List Rule) (h : Direction) (own : List Change) (g : Sense) (trails : List (List Change)) (n k made : ℕ) → false ≡ meets_any_apart ms h own g trails (passing n k made)
+passage_unmet ms h own g trails n zero made = refl
+passage_unmet ms h own g trails n (suc k) made = passage_unmet ms h own g trails (suc n) k made

@@ -85,10 +85,10 @@ has_reads f rs = list_all (has_read f) rs
 pub reads_still : (e f : Footprint) (rs : List Read) → ReadsMore e f → has_reads e rs ≡ true → has_reads f rs ≡ true
 reads_still e f rs m h = all_still (has_read e) (has_read f) (λ r i. read_still e f r m i) rs h
 
--- Every footprint has the reads of a run.
-pub run_is_had : (f : Footprint) (n k own : ℕ) → has_reads f (passing n k own) ≡ true
-run_is_had f n zero own = refl
-run_is_had f n (suc k) own = run_is_had f (suc n) k own
+-- Every footprint has the reads of a passage.
+pub passage_is_had : (f : Footprint) (n k own : ℕ) → has_reads f (passing n k own) ≡ true
+passage_is_had f n zero own = refl
+passage_is_had f n (suc k) own = passage_is_had f (suc n) k own
 
 any_with : {K : Type 0} (p : K → Bool) (b : Bool) (xs ys : List K) → (list_any p xs ≡ true → b ≡ true) → (list_any p ys ≡ true → b ≡ true) → list_any p (xs ++ ys) ≡ true → b ≡ true
 any_with p b [] ys f g e = g e

@@ -14,7 +14,7 @@ use crate::views::{see, standing_then};
 use std::alloc::Global;
 use yt_base::{Direction, Facts, MappingList, Memory, TryCopy, Write, WriteList};
 use yt_eval::View;
-use yt_query::{Answer, Logged, LoggedRead, ReadLog, Run, finds_none};
+use yt_query::{Answer, Logged, LoggedRead, Passage, ReadLog, finds_none};
 
 /// A logged read that has another value now: its number in the log, from 1, the read with the answer that it had, and its
 /// value now.
@@ -126,14 +126,14 @@ fn changed_by<'a, F: Facts>(
         Logged::Asked(read) => {
             changed_read(alloc, reader, trails, below, view, seen, before + 1, read)
         }
-        Logged::Passed(run) => {
-            changed_in_run(alloc, reader, trails, below, view, seen, before, run)
+        Logged::Passed(passage) => {
+            changed_in_passage(alloc, reader, trails, below, view, seen, before, passage)
         }
     }
 }
 
-// The same of the reads of a run.
-fn changed_in_run<'a, F: Facts>(
+// The same of the reads of a passage.
+fn changed_in_passage<'a, F: Facts>(
     alloc: Global,
     reader: &Reader<'_>,
     trails: &[Trail<'_>],
@@ -141,22 +141,30 @@ fn changed_in_run<'a, F: Facts>(
     view: &mut View<'a, F>,
     seen: &mut usize,
     before: u64,
-    run: &Run,
+    passage: &Passage,
 ) -> Result<Option<Changed>, Memory>
     requires sees { SeesFirst (F.tuples below.now) (map change_of reader.now.own.now)
         seen.old view.old }
-    requires fits { before + (run.now.end - run.now.start) < 2 ^ 64 }
+    requires fits { before + (passage.now.end - passage.now.start) < 2 ^ 64 }
     ensures sees { OnOk result
         (SeesFirst (F.tuples below.now) (map change_of reader.now.own.now) seen.new view.new) }
     ensures first { IfOk result (λ found. option_map changed_of found ≡
         changed_from reader.now trails.now (F.tuples below.now) (before + 1)
-        (passing run.now.start (run.now.end - run.now.start) run.now.own)) }
+        (passing passage.now.start (passage.now.end - passage.now.start) passage.now.own)) }
 {
     let mut number = before;
-    for mapping in run.start..run.end {
+    for mapping in passage.start..passage.end {
         number += 1;
         let found = changed_mapping(
-            alloc, reader, trails, below, view, seen, number, mapping, run.own,
+            alloc,
+            reader,
+            trails,
+            below,
+            view,
+            seen,
+            number,
+            mapping,
+            passage.own,
         )?;
         if let Some(changed) = found {
             return Ok(Some(changed));

@@ -18,11 +18,11 @@ use Rattle.yt_model.proofs.Members.{has-filter}
 use Rattle.yt_model.proofs.Ranges.{least, from_least, from_least_of, relation_le}
 use Rattle.yt_model.proofs.Searches.{filter_all}
 use Rattle.yt_model.proofs.Sets.{filter_in_order, same_exact, same_repository}
-use Rattle.yt_base.specs.Candidates.{is_candidate, all_candidates, further_candidates, AreAll, AreFirst}
+use Rattle.yt_base.specs.Candidates.{is_candidate, all_candidates, further_candidates, AreAll, AreFirst, Begin}
 use Rattle.yt_base.proofs.NextCandidates.{candidate_of}
 use Rattle.yt_base.specs.Meanings.{fact_of}
 use Rattle.yt_base.specs.declared.candidates.Candidates.{Candidates}
-use Rattle.yt_base.specs.declared.candidates.Candidates.TheVariants.{Apart, Absent, Together, Listed, Few}
+use Rattle.yt_base.specs.declared.candidates.Candidates.TheVariants.{Apart, Absent, Together, Listed, Few, Opening}
 use Rattle.yt_base.specs.declared.tuples.Tuple.{Tuple}
 use Rattle.yt_facts.specs.Indexes.{Kept, kept_at, is_in, IsIndex}
 use Rattle.yt_facts.proofs.Ahead.{beyond_from}
@@ -126,7 +126,7 @@ group_all D ms r c d G s x e t =
     sym (same_repository G (filter (is_in r c d) D) t (filter_in_order (is_in r c d) D s) (λ u. ap (λ (l : List Fact). has l u) e ∙ x r c d u ∙ sym (has-filter (is_in r c d) D u)))
 
 -- What passes p among what passes q.
-filter_among : (p q : Fact → Bool) (D : List Fact) → filter (λ u. p u && q u) D ≡ filter q (filter p D)
+pub filter_among : (p q : Fact → Bool) (D : List Fact) → filter (λ u. p u && q u) D ≡ filter q (filter p D)
 filter_among p q [] = refl
 filter_among p q (u ∷ D) = by (p u) (filter_among p q D)
   where
@@ -164,3 +164,4 @@ told_too Absent D E all these s e h = (s, e ∙ h.1)
 told_too (Together range) D E all these s e h = (s, e ∙ h.1)
 told_too (Listed tuples) D E all these s e h = (s, e ∙ h.1)
 told_too (Few few) D E all these s e h = (s, subst (AreFirst few) (sym e) h.1)
+told_too (Opening opening) D E all these s e h = (s, subst (Begin opening) (sym e) h.1)

@@ -50,7 +50,7 @@ first : (a b : Bool) → (a && b) ≡ true → a ≡ true
 first true b h = refl
 first false b h = h
 
-merged_none : (xs : List Fact) → merged xs [] ≡ xs
+pub merged_none : (xs : List Fact) → merged xs [] ≡ xs
 merged_none [] = refl
 merged_none (x ∷ xs) = ap (λ l. x ∷ l) (merged_none xs)
 

@@ -1,9 +1,10 @@
 -- Places in a list of tuples in order.
-use Rattle.std.specs.Prelude.{◌≡◌, ℕ, Bool, true, List, find}
+use Rattle.std.specs.Prelude.{◌≡◌, ℕ, Bool, true, ◌&&◌, not, List, find, Some}
 use Rattle.std.specs.Ordering.{is_le}
 use Rattle.std.specs.List.{HoldsAt}
 use Rattle.std.specs.List.Sorted.{IsPartitionPoint}
 use Rattle.std.specs.declared.cmp.Ordering.TheVariants.{Less, Equal, Greater}
+use Rattle.yt_model.specs.Cursors.{is_beyond}
 use Rattle.yt_model.specs.Values.{Fact, fact_cmp}
 use Rattle.yt_base.specs.Meanings.{fact_of}
 use Rattle.yt_base.specs.declared.tuples.Tuple.{Tuple}
@@ -19,6 +20,10 @@ IsBetween D t i = IsPartitionPoint (λ y. fact_cmp (fact_of y) (fact_of t) ≡ L
 -- The tuple u is not below t.
 abbrev pub is_from : Fact → Fact → Bool
 is_from t u = is_le (fact_cmp t u)
+
+-- The tuple u is above s and below t.
+abbrev pub is_inside : Fact → Fact → Fact → Bool
+is_inside s t u = is_beyond (Some s) u && not (is_from t u)
 
 -- Of those that pass q the rest has the first one that the set has, by whatever further test.
 abbrev pub HasAllThat : (Fact → Bool) → List Fact → List Fact → Type 0

@@ -27,6 +27,7 @@ pub(crate) fn changed<'a>(
 {
     match given {
         Candidates::Apart => Candidates::Apart,
+        Candidates::Opening(_) => Candidates::Apart,
         Candidates::Absent => Candidates::Few(few),
         Candidates::Together(range) => {
             Candidates::Few(first_of_both(Run::Together(range), gone, few))

@@ -1,14 +1,17 @@
 //! An ordered set of tuples with an index on each column.
-ghost use Rattle.std.specs.Prelude.{◌≡◌, [], not, length, map, IfOk, OnOk, OnErr, IfErr};
+ghost use Rattle.std.specs.Prelude.{◌≡◌, [], true, not, length, map, filter, Some, IfOk, OnOk, OnErr, IfErr};
+ghost use Rattle.yt_model.specs.Cursors.{is_beyond};
 ghost use Rattle.yt_model.specs.Repository.{has, change, Insert, Delete, IsRepository};
 ghost use Rattle.yt_base.specs.Meanings.{fact_of};
 ghost use Rattle.yt_facts.specs.Indexes.{IsIndex, IsIndexBut};
+ghost use Rattle.yt_facts.specs.Places.{is_inside};
 ghost use Rattle.yt_facts.specs.Runs.{run_of};
 
 use crate::plain::PlainFacts;
 use crate::relations::{Columns, drop_out, keep, keeps, kept};
 use crate::runs::Run;
 use std::alloc::Global;
+use std::collections::btree_set::Range;
 use std::marker::Model;
 use yt_base::{Candidates, Column, Facts, Memory, TryCopy, Tuple, TupleList, Value};
 
@@ -121,6 +124,16 @@ impl IndexedFacts {
         ensures in_order { IsRepository self.now }
     {
         Run::Together(self.all.range(None))
+    }
+
+    /// The tuples that are above a tuple and below another one, in order. It takes no memory.
+    pub fn inside(&self, past: &Tuple, end: &Tuple) -> Range<'_, Tuple>
+        requires forward { is_beyond (Some (fact_of past.now)) (fact_of end.now) ≡ true }
+        ensures tuples { map fact_of result ≡
+            filter (is_inside (fact_of past.now) (fact_of end.now)) self.now }
+        ensures in_order { IsRepository self.now }
+    {
+        self.all.inside(past, end)
     }
 
     /// The tuples in order. It is refused only for want of memory.

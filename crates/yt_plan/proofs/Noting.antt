@@ -59,13 +59,13 @@ all_noted_right n ms D P marks (r ∷ rs) own valid settled =
     let parts = and_parts (is_valid_over ms D P r) (list_all (is_valid_over ms D P) rs) valid in
     all_noted_right n ms D P (noted marks r) rs own.1 parts.1 (noted_right n ms D P marks r own.0 parts.0 settled)
 
-run_made : (k m own n : ℕ) → own ≡ n → HaveMade n (passing k m own)
-run_made k zero own n e = tt
-run_made k (suc m) own n e = (e, run_made (suc k) m own n e)
+passage_made : (k m own n : ℕ) → own ≡ n → HaveMade n (passing k m own)
+passage_made k zero own n e = tt
+passage_made k (suc m) own n e = (e, passage_made (suc k) m own n e)
 
 made_by : (e : Logged) (n : ℕ) → own_of e ≡ n → HaveMade n (reads_of e)
 made_by (Asked r) n e = (e, tt)
-made_by (Passed run) n e = run_made run.start (run.end - run.start) run.own n e
+made_by (Passed passage) n e = passage_made passage.start (passage.end - passage.start) passage.own n e
 
 pub note_right : (n : ℕ) (ms : List Rule) (D : List Fact) (P : Attempt) (marks marks' : List Bool) (e : Logged) → own_of e ≡ n → marks' ≡ all_noted marks (reads_of e)
     → AreValidOver ms D P (reads_of e) → HasSettledBy n ms D P marks → HasSettledBy n ms D P marks'

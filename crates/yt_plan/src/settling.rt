@@ -13,7 +13,7 @@ use std::alloc::Global;
 use yt_base::{Memory, Write};
 use yt_eval::Settled;
 use yt_program::Program;
-use yt_query::{Answer, Logged, LoggedRead, Run};
+use yt_query::{Answer, Logged, LoggedRead, Passage};
 
 /// The mappings of which the last reads of the attempt tell that its writes have caused no violation, and before its first write
 /// all of them, but for those to which a write since then may have given one; none where the attempt is not looking for violations.
@@ -114,7 +114,7 @@ fn note(settled: &mut Settled, entry: &Logged)
 {
     match entry {
         Logged::Asked(read) => note_read(settled, read),
-        Logged::Passed(run) => note_run(settled, run),
+        Logged::Passed(passage) => note_passage(settled, passage),
     }
 }
 
@@ -127,12 +127,12 @@ fn note_read(settled: &mut Settled, read: &LoggedRead)
     }
 }
 
-// Settles the mappings of the run.
-fn note_run(settled: &mut Settled, run: &Run)
+// Settles the mappings of the passage.
+fn note_passage(settled: &mut Settled, passage: &Passage)
     ensures noted { settled.new
-        ≡ all_noted settled.old (passing run.now.start (run.now.end - run.now.start) run.now.own) }
+        ≡ all_noted settled.old (passing passage.now.start (passage.now.end - passage.now.start) passage.now.own) }
 {
-    for number in run.start..run.end {
+    for number in passage.start..passage.end {
         settled.settle(number);
     }
 }

@@ -5,7 +5,7 @@ use Rattle.yt_machine.specs.Trees.{Tree, Leaf, Node, log_of}
 use Rattle.yt_model.specs.Mappings.{Rule}
 use Rattle.yt_model.specs.Queries.{Query, Reply, Violation, Nothing}
 use Rattle.yt_query.specs.Meanings.{Read, finds_none, passing}
-use Rattle.yt_query.proofs.Entries.{run_on}
+use Rattle.yt_query.proofs.Entries.{passage_on}
 use Rattle.yt_steps.specs.Attempts.{Attempt}
 use Rattle.yt_steps.specs.Steps.{Asking, look_from}
 use Rattle.yt_program.specs.Rows.{Violating, look_on, goes_on, row_tree}
@@ -49,28 +49,28 @@ logged_step val n B P t u before after l = record {
       ∙ ap (λ es. after ++ map (read_after n) es) (sym (asks_so val B P u));
 }
 
--- A run begins with no mapping.
-pub run_begins : {A : Type 0} (val : Query → Reply) (t : Tree Query Reply A) (from made : ℕ) (before : List Read) → IsLogged val made t before t (before ++ passing from (from - from) made)
-run_begins val t from made before =
+-- A passage begins with no mapping.
+pub passage_begins : {A : Type 0} (val : Query → Reply) (t : Tree Query Reply A) (from made : ℕ) (before : List Read) → IsLogged val made t before t (before ++ passing from (from - from) made)
+passage_begins val t from made before =
     let none : from - from ≡ 0 = omega arith in
     subst (λ rs. IsLogged val made t before t rs) (sym (ap (λ k. before ++ passing from k made) none ∙ append-nil before)) (logged_none val made t before)
 
 -- It goes on by one mapping without a violation.
-pub run_goes_on : (val : Query → Reply) (ms : List Rule) (P : Attempt) (from k made : ℕ) (before : List Read) → from ≤ k
+pub passage_goes_on : (val : Query → Reply) (ms : List Rule) (P : Attempt) (from k made : ℕ) (before : List Read) → from ≤ k
     → IsLogged val made (row_tree ms P (Violating from)) before (row_tree ms P (Violating k)) (before ++ passing from (k - from) made)
     → val (Violation k) ≡ Nothing → row_tree ms P (Violating (k + 1)) ≡ look_from P (k + 1) (drop (k + 1) ms)
     → IsLogged val made (row_tree ms P (Violating from)) before (row_tree ms P (Violating (k + 1))) (before ++ passing from (k + 1 - from) made)
-run_goes_on val ms P from k made before h passed nothing next =
+passage_goes_on val ms P from k made before h passed nothing next =
     let one : k + 1 - from ≡ suc (k - from) = omega (arith, h) in
     let here : from + (k - from) ≡ k = omega (arith, h) in
     let more : passing from (k + 1 - from) made ≡ passing from (k - from) made ++ finds_none k made ∷ [] =
-    ap (λ j. passing from j made) one ∙ run_on from (k - from) made ∙ ap (λ m. passing from (k - from) made ++ finds_none m made ∷ []) here in
+    ap (λ j. passing from j made) one ∙ passage_on from (k - from) made ∙ ap (λ m. passing from (k - from) made ++ finds_none m made ∷ []) here in
     logged_on val made (row_tree ms P (Violating from)) (row_tree ms P (Violating k)) (row_tree ms P (Violating (k + 1))) before (before ++ passing from (k - from) made) (before ++ passing from (k + 1 - from) made) passed
     (logs_settled val ms P k made (k + 1) (k + 1) (before ++ passing from (k - from) made) (before ++ passing from (k + 1 - from) made) (omega arith) nothing next
     (ap (λ rs. before ++ rs) more ∙ sym (append_assoc before (passing from (k - from) made) (finds_none k made ∷ []))))
 
--- A run of one mapping.
-pub run_of_one : (n k made : ℕ) (before : List Read) → k ≡ n + 1 → before ++ passing n (k - n) made ≡ before ++ finds_none n made ∷ []
-run_of_one n k made before e =
+-- A passage of one mapping.
+pub passage_of_one : (n k made : ℕ) (before : List Read) → k ≡ n + 1 → before ++ passing n (k - n) made ≡ before ++ finds_none n made ∷ []
+passage_of_one n k made before e =
     let one : k - n ≡ 1 = omega (arith, e) in
     ap (λ j. before ++ passing n j made) one

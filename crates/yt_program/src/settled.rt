@@ -14,7 +14,7 @@ use crate::readings::Reading;
 use crate::rows::Row;
 use yt_base::{Mapping, Memory};
 use yt_limits::Mappings;
-use yt_query::{Logged, ReadLog, Run};
+use yt_query::{Logged, Passage, ReadLog};
 
 impl Program {
     /// Passes, in a look, over mappings that are settled: `settled[n]` says that the mapping of number n has no violation
@@ -30,7 +30,7 @@ impl Program {
         }
     }
 
-    /// Passes as `pass` does, and puts the runs of mappings that it passes at the end of the log: a read of each, that it has
+    /// Passes as `pass` does, and puts the passages of mappings that it passes at the end of the log: a read of each, that it has
     /// no violation, by an attempt that had made so many writes. It is refused only for want of memory; the program then
     /// stays as it is, and some of the reads may be in the log.
     pub fn pass_logged(
@@ -70,19 +70,19 @@ fn pass(reading: &mut Reading, number: u32, marks: &[bool], mappings: &Mappings<
 fn first_unmarked(from: u16, number: u32, marks: &[bool], mappings: &Mappings<'_>) -> u16
     ensures passed { Passes mappings.now marks.now number (Violating from) (Violating result) }
 {
-    let mut place = end_of_run(from, marks, mappings);
+    let mut place = end_of_passage(from, marks, mappings);
     'places: while is_marked(marks, place) {
         match next_from_start(number, place as usize + 1, mappings) {
-            Some(next) => place = end_of_run(next, marks, mappings),
+            Some(next) => place = end_of_passage(next, marks, mappings),
             None => return place,
         }
     }
     place
 }
 
-// The last place of the run from `from` on: each but the last has a mark, and the next one's mapping is in force from the
+// The last place of the passage from `from` on: each but the last has a mark, and the next one's mapping is in force from the
 // start. A look passes all but the last.
-fn end_of_run(from: u16, marks: &[bool], mappings: &Mappings<'_>) -> u16
+fn end_of_passage(from: u16, marks: &[bool], mappings: &Mappings<'_>) -> u16
     ensures passed { (number made : ℕ) (before : List Read) →
         PassesLogged mappings.now marks.now number made (Violating from) before
         (Violating result) (before ++ passing from (result - from) made) }
@@ -91,7 +91,7 @@ fn end_of_run(from: u16, marks: &[bool], mappings: &Mappings<'_>) -> u16
     let all = mappings.list().as_slice();
     let last = marks.len().min(mappings.len().saturating_sub(1));
     let mut place = from as usize;
-    'run: while leads_on(place, last, marks, all) {
+    'passage: while leads_on(place, last, marks, all) {
         place += 1;
     }
     place as u16
@@ -135,7 +135,7 @@ fn pass_logged(
     Ok(())
 }
 
-// The place that `first_unmarked` gives, with the runs of the mappings before it.
+// The place that `first_unmarked` gives, with the passages of the mappings before it.
 fn log_marked(
     from: u16,
     number: u32,
@@ -150,15 +150,15 @@ fn log_marked(
 {
     let mut place = from;
     'places: while is_marked(marks, place) {
-        let end = end_of_run(place, marks, mappings);
+        let end = end_of_passage(place, marks, mappings);
         if place < end {
-            log_run(log, place, end, made)?;
+            log_passage(log, place, end, made)?;
             place = end;
             continue;
         }
         match next_from_start(number, place as usize + 1, mappings) {
             Some(next) => {
-                log_run(log, place, place + 1, made)?;
+                log_passage(log, place, place + 1, made)?;
                 place = next;
             }
             None => return Ok(place),
@@ -167,12 +167,12 @@ fn log_marked(
     Ok(place)
 }
 
-// Puts the run of the mappings from `start` on up to `end` at the end of the log, by an attempt that had made so many writes.
-fn log_run(log: &mut ReadLog, start: u16, end: u16, made: u64) -> Result<(), Memory>
+// Puts the passage of the mappings from `start` on up to `end` at the end of the log, by an attempt that had made so many writes.
+fn log_passage(log: &mut ReadLog, start: u16, end: u16, made: u64) -> Result<(), Memory>
     ensures logged { OnOk result (reads_in log.new.items
         ≡ reads_in log.old.items ++ passing start (end - start) made) }
 {
-    log.push(Logged::Passed(Run {
+    log.push(Logged::Passed(Passage {
         start,
         end,
         own: made,

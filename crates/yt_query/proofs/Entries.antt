@@ -31,28 +31,28 @@ pub all_in : (p : Read → Bool) (es : List Logged) → list_all (list_all p) (m
 all_in p [] = refl
 all_in p (e ∷ es) = ap (λ b. list_all p (reads_of e) && b) (all_in p es) ∙ sym (list_all-append p (reads_of e) (reads_in es))
 
--- The first mapping of a run, and those behind it.
-pub run_from : (n end own : ℕ) → n < end → passing n (end - n) own ≡ finds_none n own ∷ passing (n + 1) (end - (n + 1)) own
-run_from n end own h =
+-- The first mapping of a passage, and those behind it.
+pub passage_from : (n end own : ℕ) → n < end → passing n (end - n) own ≡ finds_none n own ∷ passing (n + 1) (end - (n + 1)) own
+passage_from n end own h =
     let more : end - n ≡ suc (end - (n + 1)) = omega (arith, h) in
     ap (λ k. passing n k own) more ∙ ap (λ m. finds_none n own ∷ passing m (end - (n + 1)) own) (sym (add-one n))
 
 -- No mapping is left of it.
-pub run_ended : (n end own : ℕ) → end ≤ n → passing n (end - n) own ≡ []
-run_ended n end own h =
+pub passage_ended : (n end own : ℕ) → end ≤ n → passing n (end - n) own ≡ []
+passage_ended n end own h =
     let none : end - n ≡ 0 = omega (arith, h) in
     ap (λ k. passing n k own) none
 
 -- With one mapping more.
-pub run_on : (n k own : ℕ) → passing n (suc k) own ≡ passing n k own ++ finds_none (n + k) own ∷ []
-run_on n zero own =
+pub passage_on : (n k own : ℕ) → passing n (suc k) own ≡ passing n k own ++ finds_none (n + k) own ∷ []
+passage_on n zero own =
     let same : n ≡ n + 0 = omega arith in
     ap (λ m. finds_none m own ∷ []) same
-run_on n (suc k) own =
+passage_on n (suc k) own =
     let same : suc n + k ≡ n + suc k = omega arith in
-    ap (λ rs. finds_none n own ∷ rs) (run_on (suc n) k own ∙ ap (λ m. passing (suc n) k own ++ finds_none m own ∷ []) same)
+    ap (λ rs. finds_none n own ∷ rs) (passage_on (suc n) k own ∙ ap (λ m. passing (suc n) k own ++ finds_none m own ∷ []) same)
 
 -- There is a read for each mapping.
-pub run_length : (n k own : ℕ) → length (passing n k own) ≡ k
-run_length n zero own = refl
-run_length n (suc k) own = ap suc (run_length (suc n) k own)
+pub passage_length : (n k own : ℕ) → length (passing n k own) ≡ k
+passage_length n zero own = refl
+passage_length n (suc k) own = ap suc (passage_length (suc n) k own)

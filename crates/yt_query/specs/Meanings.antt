@@ -47,7 +47,7 @@ passing n (suc k) own = finds_none n own ∷ passing (suc n) k own
 -- The reads that an entry of a log stands for.
 abbrev pub reads_of : Logged → List Read
 reads_of (Asked r) = read_of r ∷ []
-reads_of (Passed run) = passing run.start (run.end - run.start) run.own
+reads_of (Passed passage) = passing passage.start (passage.end - passage.start) passage.own
 
 -- Those of a log, in order.
 abbrev pub reads_in : List Logged → List Read
@@ -57,4 +57,4 @@ reads_in (e ∷ es) = reads_of e ++ reads_in es
 -- How many own writes had been made before the reads of an entry.
 abbrev pub own_of : Logged → ℕ
 own_of (Asked r) = r.own
-own_of (Passed run) = run.own
+own_of (Passed passage) = passage.own

@@ -12,5 +12,5 @@ mod queries;
 
 pub use crate::answers::Answer;
 pub use crate::laws::values_are_of_their_kind;
-pub use crate::log::{Logged, LoggedRead, ReadLog, Run, finds_none};
+pub use crate::log::{Logged, LoggedRead, Passage, ReadLog, finds_none};
 pub use crate::queries::{Query, mentions};

@@ -21,17 +21,17 @@ pub struct LoggedRead {
 /// Mappings that a look passed: those from number `start` on, up to the last before `end`, were asked for their first
 /// violation one after the other and had none, by an attempt that had made `own` writes.
 #[derive(Clone, Copy, Debug)]
-pub struct Run {
+pub struct Passage {
     pub start: u16,
     pub end: u16,
     pub own: u64,
 }
 
-/// An entry of a log: one read, or the reads of a run of mappings, one for each.
+/// An entry of a log: one read, or the reads of a passage of mappings, one for each.
 #[derive(Debug, Drop)]
 pub enum Logged {
     Asked(LoggedRead),
-    Passed(Run),
+    Passed(Passage),
 }
 
 /// The reads of an attempt, in the order in which they were made.
@@ -60,7 +60,7 @@ impl Logged {
     {
         match self {
             Logged::Asked(read) => read.own,
-            Logged::Passed(run) => run.own,
+            Logged::Passed(passage) => passage.own,
         }
     }
 
@@ -81,7 +81,7 @@ impl Logged {
     {
         match self {
             Logged::Asked(_) => 1,
-            Logged::Passed(run) => run.count(),
+            Logged::Passed(passage) => passage.count(),
         }
     }
 
@@ -92,12 +92,12 @@ impl Logged {
     {
         match self {
             Logged::Asked(read) => mentions(&read.query, mappings, relation),
-            Logged::Passed(run) => run.mentions(mappings, relation),
+            Logged::Passed(passage) => passage.mentions(mappings, relation),
         }
     }
 }
 
-impl Run {
+impl Passage {
     // How many mappings there are.
     fn count(self) -> u64
         ensures count { result ≡ length (passing self.start (self.end - self.start) self.own) }

@@ -11,7 +11,7 @@ use std::alloc::Global;
 use yt_base::{Direction, MappingList, Memory, TryCopy, Write};
 use yt_eval::View;
 use yt_facts::IndexedFacts;
-use yt_query::{Answer, Logged, LoggedRead, Run, finds_none};
+use yt_query::{Answer, Logged, LoggedRead, Passage, finds_none};
 use yt_seats::Seat;
 
 /// A read that has another value now: its number in the log, from 1, the read with the answer that it had, and its value
@@ -89,33 +89,41 @@ fn changed_by(
         Logged::Asked(read) => changed_at(
             alloc, before, read, own, direction, mappings, below, relations,
         ),
-        Logged::Passed(run) => changed_in_run(
-            alloc, before, run, own, direction, mappings, below, relations,
+        Logged::Passed(passage) => changed_in_passage(
+            alloc, before, passage, own, direction, mappings, below, relations,
         ),
     }
 }
 
-// The same of the reads of a run.
-fn changed_in_run(
+// The same of the reads of a passage.
+fn changed_in_passage(
     alloc: Global,
     before: u64,
-    run: &Run,
+    passage: &Passage,
     own: &[Write],
     direction: Direction,
     mappings: &MappingList,
     below: &IndexedFacts,
     relations: &[u16],
 ) -> Result<Option<Change>, Memory>
-    requires fits { before + (run.now.end - run.now.start) < 2 ^ 64 }
+    requires fits { before + (passage.now.end - passage.now.start) < 2 ^ 64 }
     ensures first { IfOk result (λ found. option_map change_meant found ≡
         first_change_behind before (rules_in mappings.now) relations.now (heading_of direction)
         below.now (map change_of own.now)
-        (passing run.now.start (run.now.end - run.now.start) run.now.own)) }
+        (passing passage.now.start (passage.now.end - passage.now.start) passage.now.own)) }
 {
     let mut number = before;
-    for mapping in run.start..run.end {
+    for mapping in passage.start..passage.end {
         let found = changed_mapping(
-            alloc, number, mapping, run.own, own, direction, mappings, below, relations,
+            alloc,
+            number,
+            mapping,
+            passage.own,
+            own,
+            direction,
+            mappings,
+            below,
+            relations,
         )?;
         if let Some(change) = found {
             return Ok(Some(change));

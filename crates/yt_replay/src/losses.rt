@@ -20,7 +20,7 @@ use crate::levels::Levels;
 use crate::relations::{is_met, put_relations, relation_of};
 use std::alloc::Global;
 use yt_base::{MappingList, Memory, TryCopy, Write};
-use yt_query::{Logged, LoggedRead, Run, finds_none, mentions};
+use yt_query::{Logged, LoggedRead, Passage, finds_none, mentions};
 use yt_seats::{Deps, Seat};
 
 /// An update whose trail goes, with that trail.
@@ -166,26 +166,26 @@ impl<'r> Losses<'r> {
     {
         match entry {
             Logged::Asked(read) => self.met_at(alloc, before, read, mappings),
-            Logged::Passed(run) => self.met_in_run(alloc, before, run, mappings),
+            Logged::Passed(passage) => self.met_in_passage(alloc, before, passage, mappings),
         }
     }
 
-    // The same of the reads of a run.
-    fn met_in_run(
+    // The same of the reads of a passage.
+    fn met_in_passage(
         &self,
         alloc: Global,
         before: u64,
-        run: &Run,
+        passage: &Passage,
         mappings: &MappingList,
     ) -> Result<Option<Numbered>, Memory>
-        requires fits { before + (run.now.end - run.now.start) < 2 ^ 64 }
+        requires fits { before + (passage.now.end - passage.now.start) < 2 ^ 64 }
         ensures first { IfOk result (λ found. option_map numbered_of found ≡
             first_behind (is_read_met (rules_in mappings.now) self.now.relations.items) before
-            (passing run.now.start (run.now.end - run.now.start) run.now.own)) }
+            (passing passage.now.start (passage.now.end - passage.now.start) passage.now.own)) }
     {
         let mut number = before;
-        for mapping in run.start..run.end {
-            let found = self.met_mapping(alloc, number, mapping, run.own, mappings)?;
+        for mapping in passage.start..passage.end {
+            let found = self.met_mapping(alloc, number, mapping, passage.own, mappings)?;
             if let Some(found) = found {
                 return Ok(Some(found));
             }

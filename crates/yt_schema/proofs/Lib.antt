@@ -6,3 +6,4 @@ pub mod Fitted
 pub mod Lined
 mod Starting
 mod Tupled
+mod Digits

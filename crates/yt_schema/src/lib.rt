@@ -10,9 +10,11 @@
 
 mod mappings;
 mod names;
+mod numerals;
 mod page;
 mod printing;
 mod refusals;
+mod runs;
 mod schema;
 mod spelling;
 mod statements;

@@ -1,34 +1,16 @@
-//! How names, numbers, nulls and texts are spelled.
+//! How nulls, texts and values are spelled.
 
 ghost use Rattle.std.specs.Prelude.{◌≡◌, ◌++◌, ◌∷◌, [], OnOk, OnErr, flat_map};
-ghost use Rattle.std.specs.Fmt.{decimal, signed_decimal};
 ghost use Rattle.std.specs.List.{list_all};
 ghost use Rattle.yt_grammar.specs.Layout.{null_text, quoted, written_byte};
 ghost use Rattle.yt_grammar.specs.Printing.{null_name_text, value_text};
 ghost use Rattle.yt_base.specs.Meanings.{datum_of, null_of};
 ghost use Rattle.yt_schema.specs.Pages.{StartsWith, is_plain};
 
-use itoa::Buffer;
+use crate::numerals::{push_natural, push_number};
+use crate::runs::push_run;
 use std::alloc::AllocError;
 use yt_base::{Null, Value};
-
-/// A number in plain decimal.
-pub(crate) fn push_number(out: &mut Vec<u8>, number: i64) -> Result<(), AllocError>
-    ensures ok { OnOk result (out.new.items ≡ out.old.items ++ signed_decimal number) }
-    ensures err { OnErr result (StartsWith out.old.items out.new.items) }
-{
-    let mut spelled = Buffer::new();
-    out.extend_from_slice(spelled.format(number).as_bytes())
-}
-
-// A number that is not negative in plain decimal.
-fn push_natural(out: &mut Vec<u8>, number: u32) -> Result<(), AllocError>
-    ensures ok { OnOk result (out.new.items ≡ out.old.items ++ decimal number) }
-    ensures err { OnErr result (StartsWith out.old.items out.new.items) }
-{
-    let mut digits = Buffer::new();
-    out.extend_from_slice(digits.format(number).as_bytes())
-}
 
 /// The null of an update and a place.
 pub(crate) fn push_null(out: &mut Vec<u8>, update: u32, place: u32) -> Result<(), AllocError>
@@ -104,7 +86,7 @@ fn push_inside(out: &mut Vec<u8>, text: &[u8]) -> Result<(), AllocError>
     ensures err { OnErr result (StartsWith out.old.items out.new.items) }
 {
     if is_plain_text(text) {
-        return out.extend_from_slice(text);
+        return push_run(out, text);
     }
     push_bytes(out, text)
 }

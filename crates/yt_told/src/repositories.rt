@@ -16,15 +16,9 @@ pub(crate) fn repository(
 ) -> Result<TupleList, Memory>
     ensures told { IfOk result (AreAnswered (seen number versions.now)) }
 {
-    outer_forms(alloc, versions.below(number).list(alloc)?)
-}
-
-// The outer forms of the tuples but for those that say which mappings are in force.
-fn outer_forms(alloc: Global, tuples: TupleList) -> Result<TupleList, Memory>
-    ensures told { IfOk result (AreAnswered (facts_of tuples)) }
-{
+    let mut sweep = versions.below(number).sweep();
     let mut forms = TupleList::new(alloc);
-    for tuple in tuples.into_vec() {
+    while let Some(tuple) = sweep.next() {
         if tuple.relation != FORCE_RELATION {
             forms.push(tuple.outer(alloc)?)?;
         }

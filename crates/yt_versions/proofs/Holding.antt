@@ -1,5 +1,5 @@
 -- A search for one tuple finds its row, which says what is known of it.
-use Rattle.std.proofs.Common.{◌≡◌, ℕ, refl, ap, sym, ◌∙◌, subst, List, Bool, true, find, Option, Some, unwrap_or}
+use Rattle.std.proofs.Common.{◌≡◌, ℕ, refl, ap, sym, ◌∙◌, subst, List, Bool, find, Option, Some, unwrap_or}
 use Rattle.std.specs.Option.{option_map}
 use Rattle.std.specs.Ordering.{is_eq}
 use Rattle.yt_base.specs.Meanings.{fact_of}
@@ -16,6 +16,10 @@ use Rattle.yt_versions.proofs.Scanning.{found_passes}
 
 abbrev pub is_held : {V : Type 0} → Fact → Tuple × V → Bool
 is_held t e = is_eq (fact_cmp t (fact_of e.0))
+
+-- What a search for one tuple finds is found by each that is equal.
+pub held_as : {V : Type 0} (rows : List (Tuple × V)) {s t : Tuple} {o : Option (Tuple × V)} → s ≡ t → o ≡ find (is_held (fact_of s)) rows → o ≡ find (is_held (fact_of t)) rows
+held_as rows e f = f ∙ ap (λ t. find (is_held (fact_of t)) rows) e
 
 pub held_same : {V : Type 0} (t : Fact) (e : Tuple × V) → is_held t e ≡ same_fact t (fact_of e.0)
 held_same t e = refl

@@ -1,5 +1,6 @@
 pub mod Looking
 pub mod Placing
+pub mod Ranking
 pub mod Seeing
 pub mod Chained
 pub mod Seen
@@ -12,6 +13,7 @@ pub mod Holding
 pub mod Knowing
 pub mod Taking
 pub mod Both
+pub mod Opened
 pub mod Passed
 pub mod Sent
 pub mod Gathering

@@ -13,10 +13,11 @@ use Rattle.yt_model.specs.Values.{Datum, Fact, fact_cmp}
 use Rattle.yt_model.specs.Repository.{IsRepository}
 use Rattle.yt_model.specs.Cursors.{is_of, is_past, is_beyond, is_datum, has_at, is_scanned}
 use Rattle.yt_model.proofs.Bools.{and-true}
+use Rattle.yt_tree.specs.Few.{Batch, no_item, with_first}
 use Rattle.yt_tree.specs.Orders.{IsOrdered, is_sought}
 use Rattle.yt_versions.specs.Cells.{value_in}
 use Rattle.yt_versions.specs.Marked.{stands, visible}
-use Rattle.yt_versions.specs.Zones.{place_beyond, place_lead, place_of}
+use Rattle.yt_versions.specs.Zones.{Leading, place_beyond, place_lead, place_of}
 use Rattle.yt_versions.specs.declared.marks.Marks.{Marks}
 use Rattle.yt_versions.proofs.Placing.{beyond_is, lead_is, zone_is}
 
@@ -138,3 +139,14 @@ shown_by n q place passes same es =
     both : (xs : List (Tuple × Marks)) → map fact_of (map (λ (e : Tuple × Marks). e.0) xs) ≡ map (λ (e : Tuple × Marks). fact_of e.0) xs
     both [] = refl
     both (x ∷ xs) = ap (λ l. fact_of x.0 ∷ l) (both xs)
+
+-- What is found, and what is shown, by a search for a first value, where another says the same of it.
+pub found_by_lead : (rows : List (Tuple × Marks)) {s q : Leading} {o : Option (Tuple × Marks)} → s ≡ q → o ≡ find (is_sought (λ k. place_lead s.relation s.value s.past (fact_of k)) (λ f. stands s.number f.1)) rows
+    → o ≡ find (is_sought (λ k. place_lead q.relation q.value q.past (fact_of k)) (λ f. stands q.number f.1)) rows
+found_by_lead rows e f = f ∙ ap (λ (q : Leading). find (is_sought (λ k. place_lead q.relation q.value q.past (fact_of k)) (λ f. stands q.number f.1)) rows) e
+
+pub shown_by_lead : (rows : List (Tuple × Marks)) {s q : Leading} {few : Batch Tuple} → s ≡ q
+    → few ≡ with_first no_item (map (λ (e : Tuple × Marks). e.0) (filter (is_sought (λ k. place_lead s.relation s.value s.past (fact_of k)) (λ f. stands s.number f.1)) rows))
+    → few ≡ with_first no_item (map (λ (e : Tuple × Marks). e.0) (filter (is_sought (λ k. place_lead q.relation q.value q.past (fact_of k)) (λ f. stands q.number f.1)) rows))
+shown_by_lead rows e f =
+    f ∙ ap (λ (q : Leading). with_first no_item (map (λ (e : Tuple × Marks). e.0) (filter (is_sought (λ k. place_lead q.relation q.value q.past (fact_of k)) (λ f. stands q.number f.1)) rows))) e

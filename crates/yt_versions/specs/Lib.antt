@@ -6,6 +6,7 @@ pub mod Based
 pub mod Touches
 pub mod Cells
 pub mod Spots
+pub mod Ranks
 pub mod Spreads
 pub mod Zones
 pub mod ZoneLaws

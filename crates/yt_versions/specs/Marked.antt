@@ -1,11 +1,12 @@
 -- What marks say of a tuple, and the tuples that an update sees.
-use Rattle.std.specs.Prelude.{ℕ, ◌==◌, Bool, false, not, ◌&&◌, List, [], filter, find, map, unwrap_or, length}
+use Rattle.std.specs.Prelude.{ℕ, ◌==◌, Bool, false, not, ◌&&◌, cond, List, [], Option, Some, None, filter, find, map, unwrap_or, length}
 use Rattle.std.specs.Option.{is_some, option_map}
 use Rattle.yt_base.specs.declared.tuples.Tuple.{Tuple}
 use Rattle.yt_base.specs.Meanings.{fact_of}
 use Rattle.yt_model.specs.Cursors.{is_of}
 use Rattle.yt_model.specs.Values.{Fact, same_fact}
 use Rattle.yt_tree.specs.Orders.{is_at}
+use Rattle.yt_facts.specs.Places.{is_from}
 use Rattle.yt_versions.specs.Chains.{newest_cmp}
 use Rattle.yt_versions.specs.Unders.{is_under}
 use Rattle.yt_versions.specs.declared.marks.Marks.{Marks}
@@ -41,3 +42,9 @@ marks_at rows t = unwrap_or (option_map (λ e. e.1) (find (λ e. same_fact t (fa
 -- The tuples that update n sees.
 abbrev pub visible : ℕ → List (Tuple × Marks) → List Fact
 visible n rows = map (λ e. fact_of e.0) (filter (λ e. stands n e.1) rows)
+
+-- The tuple that was put, if there is one and the one that is gone does not come before it.
+abbrev pub put_first : Option Fact → Option Fact → Option Fact
+put_first None gone = None
+put_first (Some t) None = Some t
+put_first (Some t) (Some s) = cond (is_from t s) (Some t) None

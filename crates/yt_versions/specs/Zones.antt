@@ -22,3 +22,10 @@ place_in r c d past x = ordering_then (nat_cmp x.0 c) (ordering_then (values_cmp
 -- To the tuples of relation r that have the value d in the first column and come after the given tuple, if one is given.
 abbrev pub place_lead : ℕ → Datum → Option Fact → Fact → Ordering
 place_lead r d past u = ordering_then (nat_cmp u.relation r) (ordering_then (values_cmp (value_in (0, u)) (Some d)) (place_beyond past u))
+
+-- A search by the update of a number for the tuples of a relation that have a value in the first column and come after the given tuple, if one is given.
+pub record Leading : Type 0 where
+  pub number : ℕ
+  pub relation : ℕ
+  pub value : Datum
+  pub past : Option Fact

@@ -1,12 +1,10 @@
 //! What an update sees: the base with the writes of lower updates.
-ghost use Rattle.std.specs.Prelude.{◌≡◌, map, IfOk};
-ghost use Rattle.yt_base.specs.Meanings.{fact_of};
+ghost use Rattle.std.specs.Prelude.{◌≡◌};
 ghost use Rattle.yt_versions.specs.Standing.{seen};
 
+use crate::sweeps::Sweep;
 use crate::versions::Versions;
-use std::alloc::Global;
-use yt_base::{Candidates, Column, Facts, Tuple, TupleList, Value};
-use yt_memory::Memory;
+use yt_base::{Candidates, Column, Facts, Tuple, Value};
 
 /// The versions as they are for one update.
 #[derive(Drop)]
@@ -16,12 +14,11 @@ pub struct Below<'v> {
 }
 
 impl<'v> Below<'v> {
-    /// The tuples in order, copied. It is refused only for want of memory.
-    pub fn list(&self, alloc: Global) -> Result<TupleList, Memory>
-        ensures tuples { IfOk result (λ list.
-            map fact_of list.items ≡ seen self.now.number self.now.versions.now) }
+    /// The tuples in order, one by one. It takes no memory.
+    pub fn sweep(&self) -> Sweep<'v>
+        ensures all { result ≡ seen self.now.number self.now.versions.now }
     {
-        self.versions.list(alloc, self.number)
+        self.versions.sweep(self.number)
     }
 }
 

@@ -1,11 +1,13 @@
-//! A tuple as a key of trees, which share it.
+//! A tuple as a key of trees, which share it, with the rank that decides most comparisons.
 ghost use Rattle.std.specs.Prelude.{◌≡◌, refl};
 ghost use Rattle.std.specs.Ordering.{on, as_partial_cmp, eq_by_cmp};
 ghost use Rattle.std.specs.Cmp.{on_total, eq_by_cmp_equiv, partial_equiv_from_equiv, po};
 ghost use Rattle.yt_model.specs.Values.{fact_cmp};
 ghost use Rattle.yt_base.specs.Meanings.{fact_of};
 ghost use Rattle.yt_model.proofs.Order.{fact_total};
+ghost use Rattle.yt_versions.specs.Ranks.{rank_of};
 
+use crate::ranks::rank;
 use std::alloc::AllocError;
 use std::cmp::Ordering;
 use std::marker::Model;
@@ -15,6 +17,7 @@ use yt_tree::Share;
 /// A handle of a tuple. Contracts see the tuple.
 #[derive(Drop)]
 pub struct Handle {
+    rank: u64,
     tuple: Tuple,
 }
 
@@ -23,7 +26,13 @@ impl Model for Handle {
 
     ghost Value = { Tuple };
 
+    ghost use Rattle.std.specs.Prelude.{◌≡◌};
+    ghost use Rattle.yt_base.specs.Meanings.{fact_of};
+    ghost use Rattle.yt_versions.specs.Ranks.{rank_of};
+
     ghost view = { λ h. h.tuple };
+
+    ghost invariant = { λ h. h.rank ≡ rank_of (fact_of h.tuple) };
 }
 
 impl Handle {
@@ -31,7 +40,17 @@ impl Handle {
     pub fn new(tuple: Tuple) -> Handle
         ensures same { result ≡ tuple }
     {
-        Handle { tuple }
+        Handle {
+            rank: rank(&tuple),
+            tuple,
+        }
+    }
+
+    /// The rank of the tuple.
+    pub fn rank(&self) -> u64
+        ensures rank { result ≡ rank_of (fact_of self.now) }
+    {
+        self.rank
     }
 
     /// The tuple.
@@ -45,7 +64,10 @@ impl Handle {
 impl Share for Handle {
     fn share(&self) -> Result<Handle, AllocError> {
         match self.tuple.share() {
-            Ok(tuple) => Ok(Handle { tuple }),
+            Ok(tuple) => Ok(Handle {
+                rank: self.rank,
+                tuple,
+            }),
             Err(_) => Err(AllocError),
         }
     }
@@ -85,6 +107,10 @@ impl Ord for Handle {
     ghost matches_eq = { λ _ _. refl };
 
     fn cmp(&self, other: &Handle) -> Ordering {
-        self.tuple.cmp(&other.tuple)
+        match self.rank.cmp(&other.rank) {
+            Ordering::Less => Ordering::Less,
+            Ordering::Equal => self.tuple.cmp(&other.tuple),
+            Ordering::Greater => Ordering::Greater,
+        }
     }
 }

@@ -11,14 +11,17 @@ mod indexes;
 mod laws;
 mod marks;
 mod passing;
+mod ranks;
 mod reading;
 mod searches;
 mod spots;
 mod spreads;
+mod sweeps;
 mod tables;
 mod taken;
 mod versions;
 
 pub use crate::below::Below;
 pub use crate::laws::{below_is_seen, seen_is_applied};
+pub use crate::sweeps::Sweep;
 pub use crate::versions::Versions;

@@ -53,22 +53,4 @@ impl<'a> Passing<'a> {
         }
         false
     }
-
-    /// The tuples of the run that are not among them, copied. It is refused only for want of memory.
-    pub fn left(self, alloc: Global, run: Run<'_>) -> Result<TupleList, Memory>
-        requires ready { AreToPass self }
-        requires in_order { IsRepository (run_of run) }
-        ensures left { IfOk result (λ list.
-            map fact_of list.items ≡ left_of (to_pass self.entry) (run_of run.entry)) }
-    {
-        let mut passing = self;
-        let mut run = run;
-        let mut list = List::new(alloc);
-        while let Some(tuple) = run.next() {
-            if !passing.has(tuple) {
-                list.push(tuple.share()?)?;
-            }
-        }
-        Ok(list)
-    }
 }

@@ -1,21 +1,24 @@
 //! What is read of versions by an update: what is left of the base, and what stands in the table.
-ghost use Rattle.std.specs.Prelude.{◌≡◌, [], find, map, IfOk, IsTrue};
+ghost use Rattle.std.specs.Prelude.{◌≡◌, [], None, Some, find, IfSome, IsTrue};
 ghost use Rattle.std.specs.Option.{option_map, option_copied};
 ghost use Rattle.yt_model.specs.Cursors.{is_beyond, first_of, next_of, scan_of};
 ghost use Rattle.yt_model.specs.Repository.{has, IsRepository};
-ghost use Rattle.yt_base.specs.Candidates.{column_of, further_candidates, AreAll};
+ghost use Rattle.yt_base.specs.Candidates.{column_of, further_candidates, AreAll, Begin};
 ghost use Rattle.yt_base.specs.Meanings.{fact_of, datum_of};
 ghost use Rattle.yt_facts.specs.Runs.{run_of};
+ghost use Rattle.yt_versions.specs.Marked.{put_first};
 ghost use Rattle.yt_versions.specs.Standing.{seen};
 
-use crate::taken::Taken;
+use crate::sweeps::Sweep;
 use crate::versions::Versions;
-use std::alloc::Global;
-use yt_base::{Candidates, Column, Facts, Tuple, TupleList, Value};
+use std::collections::btree_set::Range;
+use yt_base::{Candidates, Column, Facts, Opening, Tuple, Value};
 use yt_facts::{Course, Merging, Run, least, remaining};
-use yt_memory::Memory;
 
-// Each call also tells that what the update sees is in order. Only `list` takes memory.
+// So many tuples of the base are gathered with those of the table at less cost than a range is found.
+const FEW: usize = 3;
+
+// Each call also tells that what the update sees is in order. None takes memory.
 impl Versions {
     // What is always true of them: what the update sees is in order. It does nothing but say so.
     pub(crate) fn is_in_order(&self, number: u32)
@@ -97,7 +100,8 @@ impl Versions {
     }
 
     // What it sees of the relation, with the column's value where a column is given, and above `past` where that is given, as far as
-    // it is at hand: what the base has, where nothing of it is taken or written, and else a few of both.
+    // it is at hand: what the base has, where nothing of it is taken or written, and else what it has before the first that is, or
+    // a few of both.
     pub(crate) fn candidates(
         &self,
         number: u32,
@@ -109,6 +113,9 @@ impl Versions {
             (further_candidates (seen number self.now) relation (option_map column_of column.entry)
             (option_map fact_of (option_copied past.entry))) }
     {
+        if let Some(opening) = self.opening(number, relation, column, past) {
+            return Candidates::Opening(opening);
+        }
         match self.base().candidates(relation, column, past) {
             Candidates::Absent => {
                 Candidates::Few(self.table().candidates(number, relation, column, past))
@@ -126,6 +133,48 @@ impl Versions {
                 Candidates::Apart
             }
         }
+    }
+
+    // What comes first of them, where no column is given, and a tuple of the relation is; None where that is no more than a few.
+    fn opening(
+        &self,
+        number: u32,
+        relation: u16,
+        column: Option<Column<'_>>,
+        past: Option<&Tuple>,
+    ) -> Option<Opening<'_>>
+        ensures first { IfSome result (λ opening. Begin opening
+            (further_candidates (seen number self.now) relation (option_map column_of column.entry)
+            (option_map fact_of (option_copied past.entry)))) }
+        ensures in_order { IsRepository (seen number self.now) }
+    {
+        // They tell that they are in order.
+        self.is_in_order(number);
+        let tuple = past?;
+        if tuple.relation != relation {
+            return None;
+        }
+        match column {
+            Some(_) => None,
+            None => self.up_to_written(number, tuple),
+        }
+    }
+
+    // What it sees of the tuple's relation above it, up to the first tuple there that was written or taken; None where the base
+    // has but a few before that one.
+    fn up_to_written(&self, number: u32, past: &Tuple) -> Option<Opening<'_>>
+        ensures first { IfSome result (λ opening. Begin opening
+            (further_candidates (seen number self.now) past.now.relation None
+            (Some (fact_of past.now)))) }
+    {
+        let gone = self.taken().after(past);
+        let put = no_later(self.table().after(number, past), gone);
+        let end = put.or(gone)?;
+        let range = self.base().inside(past, end);
+        if !has_some(&range) {
+            return None;
+        }
+        Some(Opening::new(range, put))
     }
 
     // Whether it is plain that the base has none of them.
@@ -169,17 +218,39 @@ impl Versions {
         Candidates::Few(both.few())
     }
 
-    // The tuples that it sees, in order, copied. It is refused only for want of memory.
-    pub(crate) fn list(&self, alloc: Global, number: u32) -> Result<TupleList, Memory>
-        ensures tuples { IfOk result (λ list. map fact_of list.items ≡ seen number self.now) }
+    // The tuples that it sees, in order.
+    pub(crate) fn sweep(&self, number: u32) -> Sweep<'_>
+        ensures all { result ≡ seen number self.now }
     {
-        let left = self.taken().left(alloc, self.base().run())?;
-        let written = self.table().list(alloc, number)?;
-        let none = Taken::none();
-        let mut written = Run::Listed(written.as_slice());
-        let put = written.next();
-        let mut both = Merging::new(Run::Listed(left.as_slice()), &none, put, written);
-        let list = both.list(alloc)?;
-        Ok(list)
+        let base = self.base().run();
+        let taken = self.taken().passing();
+        Sweep::of(base, taken, self.table().cursor(), number)
+    }
+}
+
+// The tuple that was put, if there is one and the one that is gone does not come before it.
+fn no_later<'a>(put: Option<&'a Tuple>, gone: Option<&Tuple>) -> Option<&'a Tuple>
+    ensures first { option_map fact_of (option_copied result) ≡
+        put_first (option_map fact_of (option_copied put.entry))
+        (option_map fact_of (option_copied gone.entry)) }
+{
+    let Some(tuple) = put else {
+        return None;
+    };
+    let Some(other) = gone else {
+        return put;
+    };
+    if tuple.cmp(other).is_le() {
+        Some(tuple)
+    } else {
+        None
+    }
+}
+
+// Whether the range has more than a few tuples. It is not known where memory is wanted.
+fn has_some(range: &Range<'_, Tuple>) -> bool {
+    match range.clone() {
+        Ok(mut tuples) => tuples.nth(FEW).is_some(),
+        Err(_) => false,
     }
 }

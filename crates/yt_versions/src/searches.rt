@@ -11,21 +11,53 @@ ghost use Rattle.yt_versions.specs.ZoneLaws.{beyond_before, beyond_past, of_befo
 use crate::cells::{Cell, values_order};
 use crate::handles::Handle;
 use crate::marks::Marks;
+use crate::ranks::{rank, rank_at};
 use std::cmp::Ordering;
+use std::marker::Model;
 use yt_base::{Tuple, Value};
 use yt_tree::{Search, Show, Sought};
 
-/// The tuple itself, whether or not it is there for an update.
+/// The tuple itself, whether or not it is there for an update. Contracts see the tuple.
 #[derive(Drop)]
 pub struct Held<'c> {
-    pub tuple: &'c Tuple,
+    rank: u64,
+    tuple: &'c Tuple,
+}
+
+impl<'c> Model for Held<'c> {
+    ghost use Rattle.std.specs.Prelude.{◌≡◌};
+    ghost use Rattle.yt_base.specs.Meanings.{fact_of};
+    ghost use Rattle.yt_base.specs.declared.tuples.Tuple.{Tuple};
+    ghost use Rattle.yt_versions.specs.Ranks.{rank_of};
+
+    ghost Value = { Tuple };
+
+    ghost view = { λ s. s.tuple.now };
+
+    ghost invariant = { λ s. s.rank ≡ rank_of (fact_of s.tuple.now) };
+}
+
+impl<'c> Held<'c> {
+    /// A search for the tuple. It takes no memory.
+    pub fn new(tuple: &'c Tuple) -> Held<'c>
+        ensures tuple { result ≡ tuple.now }
+    {
+        Held {
+            rank: rank(tuple),
+            tuple,
+        }
+    }
 }
 
 impl<'c> Sought<Handle> for Held<'c> {
-    ghost key = { λ s. s.tuple.now };
+    ghost key = { λ s. s };
 
     fn order(&self, other: &Handle) -> Ordering {
-        self.tuple.cmp(other.get())
+        match self.rank.cmp(&other.rank()) {
+            Ordering::Less => Ordering::Less,
+            Ordering::Equal => self.tuple.cmp(other.get()),
+            Ordering::Greater => Ordering::Greater,
+        }
     }
 }
 
@@ -141,33 +173,68 @@ impl Search<Handle, Marks> for Written {
 }
 
 /// What is of the relation, has the value in its first column, comes after a tuple, where one is given, and is there for the
-/// update.
+/// update. Contracts see that as a `Leading`.
 #[derive(Drop)]
 pub struct Lead<'c> {
-    pub number: u32,
-    pub relation: u16,
-    pub value: &'c Value,
-    pub past: Option<&'c Tuple>,
+    rank: u64,
+    number: u32,
+    relation: u16,
+    value: &'c Value,
+    past: Option<&'c Tuple>,
+}
+
+impl<'c> Model for Lead<'c> {
+    ghost use Rattle.std.specs.Prelude.{◌≡◌, Some};
+    ghost use Rattle.std.specs.Option.{option_map, option_copied};
+    ghost use Rattle.yt_base.specs.Meanings.{datum_of, fact_of};
+    ghost use Rattle.yt_versions.specs.Ranks.{rank_at};
+    ghost use Rattle.yt_versions.specs.Zones.{Leading};
+
+    ghost Value = { Leading };
+
+    ghost view = { λ s. record {
+      number = s.number;
+      relation = s.relation;
+      value = datum_of s.value.now;
+      past = option_map fact_of (option_copied s.past);
+    } };
+
+    ghost invariant = { λ s. s.rank ≡ rank_at s.relation (Some (datum_of s.value.now)) };
+}
+
+impl<'c> Lead<'c> {
+    /// A search for these tuples. It takes no memory.
+    pub fn new(number: u32, relation: u16, value: &'c Value, past: Option<&'c Tuple>) -> Lead<'c>
+        ensures search { result ≡ record {
+          number = number;
+          relation = relation;
+          value = datum_of value.now;
+          past = option_map fact_of (option_copied past.entry);
+        } }
+    {
+        Lead {
+            rank: rank_at(relation, Some(value)),
+            number,
+            relation,
+            value,
+            past,
+        }
+    }
 }
 
 impl<'c> Search<Handle, Marks> for Lead<'c> {
-    ghost place = { λ s k. place_lead s.relation (datum_of s.value.now) (option_map fact_of (option_copied s.past)) (fact_of k) };
+    ghost place = { λ s k. place_lead s.relation s.value s.past (fact_of k) };
 
     ghost passes = { λ s e. stands s.number e.1 };
 
-    ghost stays_past = { λ s x y. lead_past s.relation (datum_of s.value.now) (option_map fact_of (option_copied s.past)) (fact_of x) (fact_of y) };
+    ghost stays_past = { λ s x y. lead_past s.relation s.value s.past (fact_of x) (fact_of y) };
 
-    ghost stays_before = { λ s x y. lead_before s.relation (datum_of s.value.now) (option_map fact_of (option_copied s.past)) (fact_of x) (fact_of y) };
+    ghost stays_before = { λ s x y. lead_before s.relation s.value s.past (fact_of x) (fact_of y) };
 
     fn place(&self, key: &Handle) -> Ordering {
-        let tuple = key.get();
-        match tuple.relation.cmp(&self.relation) {
+        match key.rank().cmp(&self.rank) {
             Ordering::Less => Ordering::Less,
-            Ordering::Equal => match values_order(tuple.values.get(0), Some(self.value)) {
-                Ordering::Less => Ordering::Less,
-                Ordering::Equal => place_after(self.past, tuple),
-                Ordering::Greater => Ordering::Greater,
-            },
+            Ordering::Equal => place_at(self.relation, self.value, self.past, key.get()),
             Ordering::Greater => Ordering::Greater,
         }
     }
@@ -270,6 +337,22 @@ impl<'c> Show<Cell, Marks, Tuple> for Scan<'c> {
         ensures { result.now ≡ entry.now.0.tuple }
     {
         entry.0.tuple.get()
+    }
+}
+
+// Where the tuple lies to those of the relation with the first value that come after `past`, where that is given.
+fn place_at(relation: u16, value: &Value, past: Option<&Tuple>, tuple: &Tuple) -> Ordering
+    ensures { result ≡ place_lead relation (datum_of value.now)
+        (option_map fact_of (option_copied past.entry)) (fact_of tuple.now) }
+{
+    match tuple.relation.cmp(&relation) {
+        Ordering::Less => Ordering::Less,
+        Ordering::Equal => match values_order(tuple.values.get(0), Some(value)) {
+            Ordering::Less => Ordering::Less,
+            Ordering::Equal => place_after(past, tuple),
+            Ordering::Greater => Ordering::Greater,
+        },
+        Ordering::Greater => Ordering::Greater,
     }
 }
 

@@ -16,9 +16,9 @@ use crate::spreads::{Spots, Spread};
 use std::alloc::{AllocError, Global};
 use std::marker::Model;
 use std::mem;
-use yt_base::{Column, List, Tuple, TupleList, Value};
+use yt_base::{Column, Tuple, Value};
 use yt_memory::Memory;
-use yt_tree::{Few, Share, Start, TreeMap};
+use yt_tree::{Cursor, Few, Share, Start, TreeMap};
 
 /// Tuples with their marks, in order, and an index of them by cells. Contracts see the tuples with their marks. The index is
 /// changed in place, and let go where memory is wanted in the midst of that; without it the tuples of a relation are gone
@@ -86,7 +86,7 @@ impl Table {
         ensures marks { IfOk result (λ e. e.1 ≡ marks_at self.now (fact_of tuple.now)) }
         ensures in_order { IfOk result (λ e. AreMarks e.1) }
     {
-        match self.rows.find_at(&Held { tuple }) {
+        match self.rows.find_at(&Held::new(tuple)) {
             Some(entry) => {
                 let key = entry.0.share()?;
                 let marks = entry.1.share()?;
@@ -113,7 +113,7 @@ impl Table {
     }
 }
 
-// The tuples of the table that an update sees. Only `list` takes memory.
+// The tuples of the table that an update sees. No call takes memory.
 impl Table {
     ghost use Rattle.std.specs.Prelude.{find};
     ghost use Rattle.std.specs.Option.{is_some};
@@ -125,19 +125,11 @@ impl Table {
     ghost use Rattle.yt_model.specs.Values.{fact_cmp};
     ghost use Rattle.yt_versions.specs.Marked.{visible};
 
-    /// The tuples that it sees, in order, copied. It is refused only for want of memory.
-    pub fn list(&self, alloc: Global, number: u32) -> Result<TupleList, Memory>
-        ensures tuples { IfOk result (λ list. map fact_of list.items ≡ visible number self.now) }
-        ensures in_order { IfOk result (λ _. IsRepository (visible number self.now)) }
+    /// The rows in order, as a cursor. It takes no memory.
+    pub fn cursor(&self) -> Cursor<'_, Handle, Marks>
+        ensures rows { result ≡ self.now }
     {
-        let mut list = List::new(alloc);
-        let mut cursor = self.rows.cursor(&Start);
-        while let Some(row) = cursor.next() {
-            if row.1.stands(number) {
-                list.push(row.0.get().share()?)?;
-            }
-        }
-        Ok(list)
+        self.rows.cursor(&Start)
     }
 
     /// Whether the update sees the tuple.
@@ -145,7 +137,7 @@ impl Table {
         ensures answer { result ≡ has (visible number self.now) (fact_of tuple.now) }
         ensures in_order { IsRepository (visible number self.now) }
     {
-        match self.rows.find_at(&Held { tuple }) {
+        match self.rows.find_at(&Held::new(tuple)) {
             Some(entry) => return entry.1.stands(number),
             None => return false,
         }
@@ -216,14 +208,7 @@ impl Table {
         ensures in_order { IsRepository (visible number self.now) }
     {
         if column == 0 {
-            return tuple_in(
-                self.rows.find_in(&Lead {
-                    number,
-                    relation,
-                    value,
-                    past,
-                }),
-            );
+            return tuple_in(self.rows.find_in(&Lead::new(number, relation, value, past)));
         }
         let column = column as usize;
         let Some(index) = &self.index else {
@@ -299,12 +284,7 @@ impl Table {
     {
         let value = column.value;
         if column.number == 0 {
-            return self.rows.gather(&Lead {
-                number,
-                relation,
-                value,
-                past,
-            });
+            return self.rows.gather(&Lead::new(number, relation, value, past));
         }
         let column = column.number as usize;
         let Some(index) = &self.index else {

@@ -1,19 +1,20 @@
 //! The tuples of the base of which the table tells in the base's place.
 ghost use Rattle.std.specs.Prelude.{◌≡◌, [], None, map, cond, IfOk, IsTrue, OnOk};
+ghost use Rattle.yt_model.specs.Cursors.{next_of};
 ghost use Rattle.yt_model.specs.Repository.{has, IsRepository};
 ghost use Rattle.yt_model.specs.Values.{Fact, same_fact};
 ghost use Rattle.std.specs.Option.{option_map, option_copied};
 ghost use Rattle.yt_base.specs.Candidates.{further_candidates};
 ghost use Rattle.yt_base.specs.Meanings.{fact_of};
-ghost use Rattle.yt_facts.specs.Runs.{left_of, run_of};
+ghost use Rattle.yt_versions.specs.Passed.{to_pass, AreToPass};
 
 use crate::handles::Handle;
 use crate::passing::Passing;
 use crate::searches::{Held, Onward};
 use std::alloc::{AllocError, Global};
 use std::marker::Model;
-use yt_base::{Tuple, TupleList};
-use yt_facts::{Hides, Run};
+use yt_base::Tuple;
+use yt_facts::Hides;
 use yt_memory::Memory;
 use yt_tree::{Share, Start, TreeMap};
 
@@ -56,7 +57,7 @@ impl Taken {
     pub fn contains(&self, tuple: &Tuple) -> bool
         ensures answer { result ≡ has self.now (fact_of tuple.now) }
     {
-        match self.tuples.find_at(&Held { tuple }) {
+        match self.tuples.find_at(&Held::new(tuple)) {
             Some(_) => return true,
             None => return false,
         }
@@ -71,15 +72,28 @@ impl Taken {
         found.is_none()
     }
 
-    /// The tuples of the run that are not among them, copied. It is refused only for want of memory.
-    pub fn left(&self, alloc: Global, run: Run<'_>) -> Result<TupleList, Memory>
-        requires in_order { IsRepository (run_of run) }
-        ensures left { IfOk result (λ list.
-            map fact_of list.items ≡ left_of self.now (run_of run.entry)) }
+    /// The least of them that is of the tuple's relation and above it; None exactly where there is none.
+    pub fn after(&self, tuple: &Tuple) -> Option<&Tuple>
+        ensures found { option_map fact_of (option_copied result)
+            ≡ next_of self.now (fact_of tuple.now) }
+        ensures in_order { IsRepository self.now }
     {
-        let passing = Passing::of(self.tuples.cursor(&Start));
-        let list = passing.left(alloc, run)?;
-        Ok(list)
+        let onward = Onward {
+            relation: tuple.relation,
+            past: Some(tuple),
+        };
+        match self.tuples.find_in(&onward) {
+            Some(entry) => return Some(entry.0.get()),
+            None => return None,
+        }
+    }
+
+    /// All of them in order, to be passed. It takes no memory.
+    pub fn passing(&self) -> Passing<'_>
+        ensures all { to_pass result ≡ self.now }
+        ensures ready { AreToPass result }
+    {
+        Passing::of(self.tuples.cursor(&Start))
     }
 
     /// The same with the tuple, or without it.

@@ -1,13 +1,13 @@
 //! The tuples of a set as ranges of its tree.
 ghost use Rattle.std.specs.List.{list_any};
 ghost use Rattle.std.specs.Option.{option_map, option_copied};
-ghost use Rattle.std.specs.Prelude.{◌≡◌, [], ◌+◌, false, map, filter, None, IsTrue};
+ghost use Rattle.std.specs.Prelude.{◌≡◌, [], ◌+◌, false, true, map, filter, None, Some, IsTrue};
 ghost use Rattle.yt_model.specs.Cursors.{is_of, is_past, is_beyond};
 ghost use Rattle.yt_model.specs.Repository.{IsRepository};
 ghost use Rattle.yt_base.specs.Candidates.{all_candidates, further_candidates, AreAll};
 ghost use Rattle.yt_base.specs.Meanings.{fact_of};
 ghost use Rattle.yt_facts.specs.Courses.{is_ahead};
-ghost use Rattle.yt_facts.specs.Places.{HasAllThat};
+ghost use Rattle.yt_facts.specs.Places.{is_inside, HasAllThat};
 
 use super::PlainFacts;
 use std::collections::btree_set::Range;
@@ -86,6 +86,17 @@ impl PlainFacts {
         let end = Tuple::least(next);
         self.tuples
             .range((Bound::Excluded(tuple), Bound::Excluded(&end)))
+    }
+
+    /// All its tuples that are above a tuple and below another one.
+    pub(crate) fn inside(&self, past: &Tuple, end: &Tuple) -> Range<'_, Tuple>
+        requires forward { is_beyond (Some (fact_of past.now)) (fact_of end.now) ≡ true }
+        ensures tuples { map fact_of result ≡
+            filter (is_inside (fact_of past.now) (fact_of end.now)) self.now }
+        ensures in_order { IsRepository self.now }
+    {
+        self.tuples
+            .range((Bound::Excluded(past), Bound::Excluded(end)))
     }
 
     /// Whether it is plain that it has no tuple of the relation: it begins behind it, or ends before it.

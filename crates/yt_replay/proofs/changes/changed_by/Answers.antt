@@ -1,6 +1,6 @@
 use Rattle.std.proofs.Common.{◌∙◌, ◌-◌, arith, length, ap}
 use Rattle.yt_query.specs.Meanings.{reads_of}
-use Rattle.yt_query.proofs.Entries.{run_length}
+use Rattle.yt_query.proofs.Entries.{passage_length}
 use Rattle.yt_replay.proofs.changes.changed_by.Goals as goal
 
 pub changed_at-requires : goal.changed_at-requires
@@ -9,9 +9,9 @@ changed_at-requires c =
     let fits = c.requires in
     record { fits = omega (arith, same, fits) }
 
-pub changed_in_run-requires : goal.changed_in_run-requires
-changed_in_run-requires c =
-    let run = c.in-Passed.run' in
-    let same = ap (λ e. length (reads_of e)) c.in-Passed.is ∙ run_length run.start (run.end - run.start) run.own in
+pub changed_in_passage-requires : goal.changed_in_passage-requires
+changed_in_passage-requires c =
+    let passage = c.in-Passed.passage' in
+    let same = ap (λ e. length (reads_of e)) c.in-Passed.is ∙ passage_length passage.start (passage.end - passage.start) passage.own in
     let fits = c.requires in
     record { fits = omega (arith, same, fits) }

@@ -7,7 +7,7 @@ use Rattle.yt_query.specs.declared.log.Logged.{Logged}
 use Rattle.yt_conflict.specs.Changes.{meets_any_apart}
 use Rattle.yt_conflict.specs.Concerns.{is_met_apart}
 use Rattle.yt_conflict.specs.Trails.{trails_of}
-use Rattle.yt_conflict.proofs.Unmet.{run_unmet}
+use Rattle.yt_conflict.proofs.Unmet.{passage_unmet}
 use Rattle.yt_conflict.proofs.concerns.Reader.meets_entry_apart.Goals as goal
 
 pub returns-in-Asked : goal.returns-in-Asked
@@ -27,5 +27,5 @@ returns-in-Passed c =
     let h = heading_of r.direction in
     let own = map change_of r.own.now in
     let ts = trails_of c.args.trails.now in
-    let run = c.in-Passed.field-0 in
-    run_unmet ms h own r.sense ts run.start (run.end - run.start) run.own ∙ ap (λ (e : Logged). meets_any_apart ms h own r.sense ts (reads_of e)) (sym c.in-Passed.is)
+    let passage = c.in-Passed.field-0 in
+    passage_unmet ms h own r.sense ts passage.start (passage.end - passage.start) passage.own ∙ ap (λ (e : Logged). meets_any_apart ms h own r.sense ts (reads_of e)) (sym c.in-Passed.is)

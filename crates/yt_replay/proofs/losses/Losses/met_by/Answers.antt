@@ -1,6 +1,6 @@
 use Rattle.std.proofs.Common.{◌∙◌, ◌-◌, arith, length, ap}
 use Rattle.yt_query.specs.Meanings.{reads_of}
-use Rattle.yt_query.proofs.Entries.{run_length}
+use Rattle.yt_query.proofs.Entries.{passage_length}
 use Rattle.yt_replay.proofs.losses.Losses.met_by.Goals as goal
 
 pub met_at-requires : goal.met_at-requires
@@ -9,9 +9,9 @@ met_at-requires c =
     let fits = c.requires in
     record { fits = omega (arith, same, fits) }
 
-pub met_in_run-requires : goal.met_in_run-requires
-met_in_run-requires c =
-    let run = c.in-Passed.run' in
-    let same = ap (λ e. length (reads_of e)) c.in-Passed.is ∙ run_length run.start (run.end - run.start) run.own in
+pub met_in_passage-requires : goal.met_in_passage-requires
+met_in_passage-requires c =
+    let passage = c.in-Passed.passage' in
+    let same = ap (λ e. length (reads_of e)) c.in-Passed.is ∙ passage_length passage.start (passage.end - passage.start) passage.own in
     let fits = c.requires in
     record { fits = omega (arith, same, fits) }

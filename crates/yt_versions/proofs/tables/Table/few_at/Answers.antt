@@ -19,7 +19,7 @@ use Rattle.yt_tree.specs.Few.{no_item}
 use Rattle.yt_tree.proofs.Keeping.{ordered_empty}
 use Rattle.yt_tree.proofs.Gathering.{with_nothing}
 use Rattle.yt_versions.proofs.Scanning.{scan_all, shelf_tells}
-use Rattle.yt_versions.proofs.Seeing.{lead_same, further_same, shown_by, seen_in_order}
+use Rattle.yt_versions.proofs.Seeing.{lead_same, further_same, shown_by, shown_by_lead, seen_in_order}
 use Rattle.yt_versions.proofs.Setting.{positive, index_there}
 use Rattle.yt_versions.proofs.tables.Table.few_at.Goals as goal
 
@@ -31,7 +31,7 @@ returns-then-column-eq0-clause-first c =
     let past = option_map fact_of (option_copied c.args.past) in
     let rows = c.self.inside.rows in
     let found = map (λ (e : Tuple × Marks). e.0) (filter (is_sought (λ k. place_lead r d past (fact_of k)) (λ f. stands n f.1)) rows) in
-    few_first c.gather.result found (further_candidates (visible n c.args.self.now) r (Some (c.args.column.number, d)) past) c.gather.ensures.first
+    few_first c.gather.result found (further_candidates (visible n c.args.self.now) r (Some (c.args.column.number, d)) past) (shown_by_lead rows c.new.ensures.search c.gather.ensures.first)
     (shown_by n (is_scanned r 0 d past) (λ k. place_lead r d past (fact_of k)) (λ f. stands n f.1) (lead_same n r d past) rows
     ∙ scan_candidates (visible n rows) r 0 d past
     ∙ ap (λ es. further_candidates (visible n es) r (Some (0, d)) past) c.self.view_is
@@ -66,7 +66,7 @@ returns-in_default-shelf-clause-first c =
     let past = option_map fact_of (option_copied c.args.past) in
     let rows = c.self.inside.rows in
     let shelves = on_spots c.in-Some.index in
-    few_first c.new.result [] (further_candidates (visible n c.args.self.now) r (Some (k, d)) past) (c.new.ensures.none ∙ sym (with_nothing no_item))
+    few_first c.new-in_default-shelf.result [] (further_candidates (visible n c.args.self.now) r (Some (k, d)) past) (c.new-in_default-shelf.ensures.none ∙ sym (with_nothing no_item))
     (scan_all n r k d past rows [] c.self.invariant.0 (ordered_empty {V = Marks} (on cell_of cell_cmp) refl)
     (shelf_tells n r k d past rows shelves (index_there rows c.in-Some.index c.self.invariant.1 c.in-Some.is) (lt-ltb 0 k (positive k c.if-column-eq0.false)) (c.in_default-shelf.ensures.shelf ∙ ap shelves c.spot.ensures.spot))
     ∙ scan_candidates (visible n rows) r k d past

@@ -12,7 +12,7 @@ use Rattle.yt_versions.specs.Spreads.{on_spots}
 use Rattle.std.specs.Ordering.{on}
 use Rattle.yt_tree.proofs.Keeping.{ordered_empty}
 use Rattle.yt_versions.proofs.Scanning.{scan_none, scan_some, shelf_tells}
-use Rattle.yt_versions.proofs.Seeing.{lead_same, further_same, seen_by, seen_in_order}
+use Rattle.yt_versions.proofs.Seeing.{found_by_lead, lead_same, further_same, seen_by, seen_in_order}
 use Rattle.yt_versions.proofs.Setting.{positive, index_there}
 use Rattle.yt_versions.proofs.tables.Table.scan.Goals as goal
 
@@ -22,7 +22,7 @@ returns-then-column-eq0-clause-found c =
     let r = c.args.relation in
     let d = datum_of c.args.value.now in
     let past = option_map fact_of (option_copied c.args.past) in
-    seen_by n (is_scanned r 0 d past) (λ k. place_lead r d past (fact_of k)) (λ f. stands n f.1) (lead_same n r d past) c.self.inside.rows _ _ c.find_in.ensures.found c.tuple_in.ensures
+    seen_by n (is_scanned r 0 d past) (λ k. place_lead r d past (fact_of k)) (λ f. stands n f.1) (lead_same n r d past) c.self.inside.rows _ _ (found_by_lead c.self.inside.rows c.new.ensures.search c.find_in.ensures.found) c.tuple_in.ensures
     ∙ ap (λ es. scan_of (visible n es) r 0 d past) c.self.view_is
     ∙ ap (λ k. scan_of (visible n c.args.self.now) r k d past) (sym c.if-column-eq0.true)
 
