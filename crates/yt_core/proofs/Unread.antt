@@ -103,3 +103,10 @@ most_ok qs ys n c l h = subst (λ (xs : List Record). ReadsAtMost xs c) (sym (fr
 pub with_nothing_noted : (g : Ground) (v : Kept) (rs : List Record) (H : List PlainEntry) (k : Known) → k.update ≡ 0 → IsKept g v rs H
     → IsKept g v rs H × CommitsAtLeast rs 0 × ReadsAtMost rs (2 ^ 32 - 1) × UnreadyUpTo rs 0 × IsKnown g.rules v rs k
 with_nothing_noted g v rs H k e kept = (kept, none_committed rs, all_may_read rs (2 ^ 32 - 1) (let l = kept.few in omega (arith, l)), none_unready rs, none_known g.rules v rs k e)
+
+-- What is true of the updates is true of a list of the same ones.
+pub as_before : (g : Ground) (v : Kept) (rs rs' : List Record) (H : List PlainEntry) (least most unready : ℕ) (k : Known) → rs' ≡ rs
+    → IsKept g v rs H × CommitsAtLeast rs least × ReadsAtMost rs most × UnreadyUpTo rs unready × IsKnown g.rules v rs k
+    → IsKept g v rs' H × CommitsAtLeast rs' least × ReadsAtMost rs' most × UnreadyUpTo rs' unready × IsKnown g.rules v rs' k
+as_before g v rs rs' H least most unready k e h =
+    subst (λ (xs : List Record). IsKept g v xs H × CommitsAtLeast xs least × ReadsAtMost xs most × UnreadyUpTo xs unready × IsKnown g.rules v xs k) (sym e) h

@@ -96,9 +96,11 @@ impl<'s> Snapshot<'s> {
         let answer = lent(&self.answer);
         let mappings = &self.mappings;
         let mut settled = self.settled.copy(alloc)?;
+        let branch = self.program.copy(alloc)?;
         let step = plan_step(
             alloc,
             &self.program,
+            branch,
             answer,
             mappings,
             self.budget,
@@ -120,8 +122,23 @@ impl<'s> Snapshot<'s> {
     }
 }
 
-/// The plan of the next step of the update at the place, which is ready, by what is known of it; its marks are kept. It is refused
-/// only for want of memory; there are then marks of no update.
+/// A copy of the attempt of the update at the place to make its next step on, which takes along what the attempt keeps to make more
+/// writes. It is refused only for want of memory. The updates stay as they are.
+pub(crate) fn branch_at(
+    alloc: Global,
+    queue: &mut [Record],
+    place: usize,
+) -> Result<Program, Memory>
+    requires place { place < length queue.old }
+    ensures branch { IfOk result (λ branch. AtPlace place queue.old (λ r. branch ≡ r.program)) }
+    ensures same { queue.new ≡ queue.old }
+    ensures long { length queue.new ≡ length queue.old }
+{
+    queue[place].program.branch(alloc)
+}
+
+/// The plan of the next step of the update at the place, which is ready, on a branch of its attempt, by what is known of it; its
+/// marks are kept. It is refused only for want of memory; there are then marks of no update.
 pub(crate) fn plan_at(
     alloc: Global,
     mappings: &TouchedMappings<'_>,
@@ -129,9 +146,11 @@ pub(crate) fn plan_at(
     versions: &Versions,
     queue: &[Record],
     place: usize,
+    branch: Program,
     known: &mut Known,
 ) -> Result<Plan, Memory>
     requires place { place < length queue.now }
+    requires branch { AtPlace place queue.now (λ r. branch ≡ r.program) }
     requires numbers { AreFrom 1 queue.now }
     requires ready { AtPlace place queue.now IsReadySomewhere }
     requires left { AtPlace place queue.now (λ r. r.program.attempt.steps < budget) }
@@ -142,19 +161,21 @@ pub(crate) fn plan_at(
     ensures known { IsKnown mappings.now versions.now queue.now known.new }
 {
     let item = &queue[place];
-    let plan = plan_of(alloc, mappings, budget, versions, item, known)?;
+    let plan = plan_of(alloc, mappings, budget, versions, item, branch, known)?;
     Ok(plan)
 }
 
-// The plan of the next step of the record, which is ready, by what is known of it; its marks are kept.
+// The plan of the next step of the record, which is ready, on a branch of its attempt, by what is known of it; its marks are kept.
 fn plan_of(
     alloc: Global,
     mappings: &TouchedMappings<'_>,
     budget: Budget,
     versions: &Versions,
     item: &Record,
+    branch: Program,
     known: &mut Known,
 ) -> Result<Plan, Memory>
+    requires branch { branch ≡ item.now.program }
     requires between { IsBetween item.now.program }
     requires ready { IsReadySomewhere item.now }
     requires left { item.now.program.attempt.steps < budget }
@@ -175,6 +196,7 @@ fn plan_of(
     let step = plan_step(
         alloc,
         program,
+        branch,
         answer,
         mappings.all(),
         budget,

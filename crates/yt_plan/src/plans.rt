@@ -31,13 +31,14 @@ pub struct Plan {
     pub reads: ReadLog,
 }
 
-/// The next step of the attempt over what lies below it, with the answer where it is at a question. `with` is what lies
-/// below it with its own writes applied, and `settled` the mappings of which it is known that they have no violation that
-/// these caused; those of which it is known after the step are put in their place. The attempt stays as it is. It is refused
-/// only for want of memory.
+/// The next step of the attempt over what lies below it, with the answer where it is at a question. It is made on the branch, a
+/// copy of the attempt, which stays as it is. `with` is what lies below it with its own writes applied, and `settled` the
+/// mappings of which it is known that they have no violation that these caused; those of which it is known after the step are
+/// put in their place. It is refused only for want of memory.
 pub fn plan_step<F: Facts>(
     alloc: Global,
     program: &Program,
+    branch: Program,
     choice: Option<&Choice>,
     mappings: &Mappings<'_>,
     budget: Budget,
@@ -45,6 +46,7 @@ pub fn plan_step<F: Facts>(
     with: &F,
     settled: &mut Settled,
 ) -> Result<Plan, Memory>
+    requires branch { branch ≡ program.now }
     requires applied { F.tuples with.now ≡ apply (F.tuples below.now) program.now.attempt.own }
     requires settled { HasSettled mappings.now (F.tuples below.now) program.now.attempt settled.old }
     requires wanted { WantsStep (wish program.now) (option_map choice_of (option_copied choice)) }
@@ -61,7 +63,7 @@ pub fn plan_step<F: Facts>(
     ensures settled { OnOk result
         (HasSettled mappings.now (F.tuples below.now) program.now.attempt settled.new) }
 {
-    let mut after = program.copy(alloc)?;
+    let mut after = branch;
     match take_step(
         alloc, program, &mut after, choice, mappings, budget, below, with, settled,
     ) {
@@ -111,7 +113,7 @@ fn take_step<F: Facts>(
     let made = own.len() as u64;
     let direction = program.direction();
     let reads = answer_all(alloc, after, &view, settled, mappings, direction, made)?;
-    after.share(alloc)?;
+    after.share(alloc, program)?;
     Ok(reads)
 }
 

@@ -8,4 +8,5 @@ pub mod Repairs
 pub mod Shorter
 pub mod Passed
 pub mod Logging
+mod Leading
 pub mod Sent

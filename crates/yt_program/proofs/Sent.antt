@@ -9,6 +9,8 @@ use Rattle.yt_program.specs.contracts.own.Own as own
 use Rattle.yt_program.specs.contracts.own.Own.TheInside as own_inside
 use Rattle.yt_program.specs.contracts.points.Point as points
 use Rattle.yt_program.specs.contracts.programs.Program as programs
+use Rattle.yt_program.specs.contracts.shared.SharedWrites as shared
+use Rattle.yt_program.specs.contracts.shared.SharedWrites.TheInside as shared_inside
 use Rattle.yt_program.specs.contracts.programs.Program.TheInside as inside
 
 operation_send : IsSend operations.the_row
@@ -18,8 +20,14 @@ point_send : IsSend points.the_row
 point_send = search (sendable, crosses, tuple_send, repair_send) depth 60 fits 6000
 
 -- The writes, which copies of a program share.
+shared_inside_send : IsSend shared_inside.the_row
+shared_inside_send = search (sendable, crosses) depth 60 fits 6000
+
+shared_send : IsSend shared.the_row
+shared_send = view_send _ _ _ _ _ shared_inside_send
+
 own_inside_send : IsSend own_inside.the_row
-own_inside_send = search (sendable, crosses) depth 60 fits 6000
+own_inside_send = search (sendable, crosses, shared_send) depth 60 fits 6000
 
 own_send : IsSend own.the_row
 own_send = view_send _ _ _ _ _ own_inside_send

@@ -5,6 +5,7 @@ pub mod Wishes
 pub mod RowMeanings
 pub mod PointMeanings
 pub mod TurnMeanings
+pub mod Firsts
 pub mod Owning
 pub mod Views
 pub mod Results

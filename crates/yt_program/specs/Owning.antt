@@ -7,4 +7,4 @@ use Rattle.yt_program.specs.declared.own.Held.TheVariants.{Alone, Shared}
 -- Alone or shared, it is the list.
 abbrev pub held_in : Held → Listed Write
 held_in (Alone writes) = writes
-held_in (Shared writes) = writes.value
+held_in (Shared writes) = writes

@@ -2,8 +2,11 @@
 ghost use Rattle.std.specs.Prelude.{◌≡◌, ◌≤◌, ◌↔◌, map, IfOk, IsTrue};
 ghost use Rattle.yt_steps.specs.Attempts.{Look};
 ghost use Rattle.yt_model.specs.Updates.{direction_of};
+ghost use Rattle.yt_base.specs.Contents.{changes_of};
 ghost use Rattle.yt_base.specs.Meanings.{change_of, heading_of};
+ghost use Rattle.yt_program.specs.Firsts.{BeginWith};
 
+use crate::own::Own;
 use crate::points::Point;
 use crate::programs::Program;
 use crate::repairing::is_repaired;
@@ -26,11 +29,41 @@ impl Program {
         self.own.into_list(alloc)
     }
 
-    /// Lets copies of it share its writes from now on. It is refused only for want of memory. It stays as it is.
-    pub fn share(&mut self, alloc: Global) -> Result<(), Memory>
+    /// A copy to make the next step on, which takes along what the attempt keeps to make more writes. It is refused only for
+    /// want of memory. The attempt stays as it is.
+    pub fn branch(&mut self, alloc: Global) -> Result<Program, Memory>
+        ensures same { IfOk result (λ branch. branch ≡ self.old) }
+        ensures stays { self.new ≡ self.old }
+    {
+        let own = self.own.branch(alloc)?;
+        self.with(alloc, own)
+    }
+
+    // A copy with these writes, which are the attempt's. It is refused only for want of memory.
+    fn with(&self, alloc: Global, own: Own) -> Result<Program, Memory>
+        requires own { changes_of own ≡ self.now.attempt.own }
+        ensures same { IfOk result (λ copy. copy ≡ self.now) }
+    {
+        Ok(Program {
+            number: self.number,
+            attempt: self.attempt,
+            operation: self.operation.copy(alloc)?,
+            own,
+            steps: self.steps,
+            nulls: self.nulls,
+            taken: self.taken,
+            hand: self.hand,
+            point: self.point.copy(alloc)?,
+        })
+    }
+
+    /// Lets copies of it share its writes from now on. It keeps those that it had before, to make more. It is refused only for
+    /// want of memory. It stays as it is.
+    pub fn share(&mut self, alloc: Global, before: &Program) -> Result<(), Memory>
+        requires first { BeginWith before.now.attempt.own self.old.attempt.own }
         ensures same { self.new ≡ self.old }
     {
-        self.own.share(alloc)?;
+        self.own.share(alloc, &before.own)?;
         Ok(())
     }
 
@@ -88,16 +121,7 @@ impl TryCopy for Program {
     fn copy(&self, alloc: Global) -> Result<Program, Memory>
         ensures same { IfOk result (λ copy. copy ≡ self.now) }
     {
-        Ok(Program {
-            number: self.number,
-            attempt: self.attempt,
-            operation: self.operation.copy(alloc)?,
-            own: self.own.copy(alloc)?,
-            steps: self.steps,
-            nulls: self.nulls,
-            taken: self.taken,
-            hand: self.hand,
-            point: self.point.copy(alloc)?,
-        })
+        let own = self.own.copy(alloc)?;
+        self.with(alloc, own)
     }
 }

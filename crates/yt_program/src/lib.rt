@@ -29,6 +29,7 @@ mod replacing;
 mod results;
 mod rows;
 mod settled;
+mod shared;
 mod starting;
 mod turns;
 mod writes;

@@ -1,19 +1,21 @@
 //! The writes of an attempt, which copies of it share.
-ghost use Rattle.std.specs.Prelude.{◌≡◌, [], ◌++◌, map, IfOk, OnOk, OnErr};
+ghost use Rattle.std.specs.Prelude.{◌≡◌, [], ◌++◌, IfOk, OnOk, OnErr};
 ghost use Rattle.yt_base.specs.Contents.{changes_of};
-ghost use Rattle.yt_base.specs.Meanings.{change_of, choice_of, operation_of};
+ghost use Rattle.yt_base.specs.Meanings.{choice_of, operation_of};
 ghost use Rattle.yt_query.specs.Meanings.{reply_of};
 ghost use Rattle.yt_chase.specs.Stands.{wanted, TakesReply, TakesChoice};
 ghost use Rattle.yt_chase.specs.Transitions.{AsksAs, HasAnswered, HasChosen};
+ghost use Rattle.yt_program.specs.Firsts.{BeginWith};
 ghost use Rattle.yt_program.specs.PointMeanings.{HasWritten, IsWriting, tuple_at};
 
 use crate::points::Point;
+use crate::shared::SharedWrites;
 use crate::writing;
 use std::alloc::Global;
 use std::marker::Model;
 use std::mem;
 use std::sync::Arc;
-use yt_base::{Choice, Memory, Operation, TryCopy, Write, WriteList};
+use yt_base::{Choice, Memory, Operation, TryCopy, WriteList};
 use yt_chase::{Progress, Repair};
 use yt_limits::Mappings;
 use yt_query::Answer;
@@ -28,7 +30,7 @@ pub(crate) struct Own {
 #[derive(Debug, Drop)]
 pub(crate) enum Held {
     Alone(WriteList),
-    Shared(Arc<WriteList>),
+    Shared(SharedWrites),
 }
 
 impl Model for Own {
@@ -57,7 +59,7 @@ impl Own {
     {
         match &self.held {
             Held::Alone(writes) => writes,
-            Held::Shared(writes) => writes,
+            Held::Shared(writes) => writes.list(),
         }
     }
 
@@ -67,10 +69,7 @@ impl Own {
     {
         match self.held {
             Held::Alone(writes) => Ok(writes),
-            Held::Shared(writes) => {
-                let writes: &WriteList = &writes;
-                writes.copy(alloc)
-            }
+            Held::Shared(writes) => writes.list().copy(alloc),
         }
     }
 
@@ -83,13 +82,38 @@ impl Own {
                 held: Held::Alone(writes.copy(alloc)?),
             }),
             Held::Shared(writes) => Ok(Own {
-                held: Held::Shared(Arc::try_clone(writes)?),
+                held: Held::Shared(writes.copy()?),
             }),
         }
     }
 
-    /// Lets copies share the writes from now on. It is refused only for want of memory. The writes stay as they are.
-    pub(crate) fn share(&mut self, alloc: Global) -> Result<(), Memory>
+    /// Another list of the same writes, which takes along what these keep to make more. It is refused only for want of memory.
+    pub(crate) fn branch(&mut self, alloc: Global) -> Result<Own, Memory>
+        ensures same { IfOk result (λ branch. changes_of branch ≡ changes_of self.old) }
+        ensures stays { self.new ≡ self.old }
+    {
+        match &mut self.held {
+            Held::Alone(writes) => Ok(Own {
+                held: Held::Alone(writes.copy(alloc)?),
+            }),
+            Held::Shared(writes) => Ok(Own {
+                held: Held::Shared(writes.branch()?),
+            }),
+        }
+    }
+
+    /// Lets copies share the writes from now on, of which the first may be kept where they are shared already. It is refused
+    /// only for want of memory. The writes stay as they are.
+    pub(crate) fn share(&mut self, alloc: Global, first: &Own) -> Result<(), Memory>
+        requires first { BeginWith (changes_of first.now) (changes_of self.old) }
+        ensures same { self.new.items ≡ self.old.items }
+    {
+        self.share_all(alloc)?;
+        self.keep(first)
+    }
+
+    // Lets copies share the writes from now on.
+    fn share_all(&mut self, alloc: Global) -> Result<(), Memory>
         ensures same { self.new.items ≡ self.old.items }
     {
         let Held::Alone(writes) = &mut self.held else {
@@ -98,13 +122,27 @@ impl Own {
         let writes = mem::replace(writes, WriteList::new(alloc));
         match Arc::new(alloc, writes) {
             Ok(shared) => {
-                self.held = Held::Shared(shared);
+                self.held = Held::Shared(SharedWrites::of(shared));
                 Ok(())
             }
             Err(refused) => {
                 self.held = Held::Alone(refused.value);
                 Err(Memory)
             }
+        }
+    }
+
+    // Keeps the first of the writes, where both are shared.
+    fn keep(&mut self, first: &Own) -> Result<(), Memory>
+        requires first { BeginWith (changes_of first.now) (changes_of self.old) }
+        ensures same { self.new.items ≡ self.old.items }
+    {
+        let Held::Shared(first) = &first.held else {
+            return Ok(());
+        };
+        match &mut self.held {
+            Held::Alone(_) => Ok(()),
+            Held::Shared(writes) => writes.keep(first),
         }
     }
 
@@ -115,11 +153,7 @@ impl Own {
     {
         match &mut self.held {
             Held::Alone(writes) => Ok(mem::replace(writes, WriteList::new(alloc))),
-            Held::Shared(writes) => {
-                let writes: &WriteList = writes;
-                let copy = copied(alloc, writes.as_slice())?;
-                Ok(copy)
-            }
+            Held::Shared(writes) => writes.alone(alloc),
         }
     }
 
@@ -177,8 +211,7 @@ impl Own {
         match &mut self.held {
             Held::Alone(own) => repair.answer(alloc, own, answer, mappings),
             Held::Shared(shared) => {
-                let shared: &WriteList = shared;
-                let mut own = copied(alloc, shared.as_slice())?;
+                let mut own = shared.alone(alloc)?;
                 let progress = repair.answer(alloc, &mut own, answer, mappings);
                 self.held = Held::Alone(own);
                 progress
@@ -206,16 +239,4 @@ impl Own {
         self.held = Held::Alone(own);
         progress
     }
-}
-
-// A copy of the writes with room for one more. It is refused only for want of memory.
-fn copied(alloc: Global, writes: &[Write]) -> Result<WriteList, Memory>
-    ensures same { IfOk result (λ copy. changes_of copy ≡ map change_of writes.now) }
-{
-    let mut copy = WriteList::new(alloc);
-    copy.reserve(writes.len().saturating_add(1))?;
-    for write in writes {
-        copy.push(write.copy(alloc)?)?;
-    }
-    Ok(copy)
 }

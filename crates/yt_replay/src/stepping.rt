@@ -213,9 +213,11 @@ fn planned_over<'f>(
     let answer = seat.next_answer();
     let program = &seat.program;
     let below = Overlay::new(alloc, facts);
+    let branch = program.copy(alloc)?;
     plan_step(
         alloc,
         program,
+        branch,
         answer,
         mappings,
         budget,

@@ -9,6 +9,7 @@ use Rattle.yt_query.specs.contracts.log.Logged as log_entries
 use Rattle.yt_queue.specs.contracts.records.Record as records
 use Rattle.yt_entries.specs.contracts.entries.Entry as entries
 use Rattle.yt_core.specs.contracts.cores.Core as core
+use Rattle.yt_plan.specs.contracts.touched.TouchedMappings as touched_mappings
 use Rattle.yt_base.specs.contracts.updates.Update as updates
 use Rattle.yt_base.specs.contracts.updates.Choice as choices
 use Rattle.yt_session.specs.contracts.sessions.SessionUpdate as session_updates
@@ -33,8 +34,11 @@ session_update_sync = search (sendable, crosses, choice_sync) depth 60 fits 6000
 update_send : IsSend updates.the_row
 update_send = search (sendable, crosses) depth 60 fits 6000
 
+touched_mappings_send : (κ : NamedLft) → IsSend (touched_mappings.the_row κ)
+touched_mappings_send κ = search (sendable, crosses) depth 60 fits 6000
+
 core_send : (κ : NamedLft) → IsSend (core.the_row κ)
-core_send κ = search (sendable, crosses, versions_send, record_send, entry_send, update_send, session_update_sync, tuple_sync) depth 60 fits 6000
+core_send κ = search (sendable, crosses, versions_send, record_send, entry_send, update_send, session_update_sync, tuple_sync, touched_mappings_send) depth 60 fits 6000
 
 pub seated_send : (κ : NamedLft) → IsSend (seated.the_row κ)
 seated_send κ = search (sendable, crosses, core_send) depth 60 fits 6000

@@ -9,6 +9,10 @@ use Rattle.yt_core.proofs.plans.plan_at.Goals as goal
 pub plan_of-requires-clause-between : goal.plan_of-requires-clause-between
 plan_of-requires-clause-between c = between_there c.args.queue.now c.args.place c.index-queue-place.result c.requires.numbers c.requires.place c.index-queue-place.is
 
+pub plan_of-requires-clause-branch : goal.plan_of-requires-clause-branch
+plan_of-requires-clause-branch c =
+    c.requires.branch c.index-queue-place.result (there_is c.args.queue.now c.args.place c.index-queue-place.result c.requires.place c.index-queue-place.is)
+
 pub plan_of-requires-clause-ready : goal.plan_of-requires-clause-ready
 plan_of-requires-clause-ready c =
     c.requires.ready c.index-queue-place.result (there_is c.args.queue.now c.args.place c.index-queue-place.result c.requires.place c.index-queue-place.is)

@@ -1,9 +1,13 @@
 use Rattle.std.proofs.Common.{◌∙◌, List, subst, sym}
+use Rattle.yt_limits.specs.Within.{AreWithin}
 use Rattle.yt_plan.specs.Settled.{AreValidOver}
 use Rattle.yt_query.specs.Meanings.{reads_in}
 use Rattle.yt_query.specs.declared.log.Logged.{Logged}
 use Rattle.yt_core.proofs.Planning.{can_step, steps_left, stands_applied, number_few, has_settled, snapshot_taken}
 use Rattle.yt_core.proofs.plans.snapshot_of.Goals as goal
+
+pub of-requires : goal.of-requires
+of-requires c = record { within = subst AreWithin (sym c.list.ensures.rules) c.requires.within }
 
 pub invariant_of-result : goal.invariant_of-result
 invariant_of-result c =

@@ -9,6 +9,24 @@ use Rattle.yt_plan.specs.Planned.{at_rest}
 use Rattle.yt_plan.proofs.Answering.{planned, planned_reads, made_so_far}
 use Rattle.yt_plan.proofs.plans.take_step.Goals as goal
 
+-- The step is one of the attempt, which it only adds writes to.
+pub share-requires : goal.share-requires
+share-requires g c =
+    let ms = c.args.mappings.now in
+    let P = c.args.program.now.attempt in
+    let seen = c.new-view.ensures.seen in
+    let own = ap (λ (v : Seen). v.own) seen ∙ c.own-own.ensures.own in
+    let begun = c.in_ok-begin.ensures.step ∙ ap (λ (s : State). coming_to c.args.budget s.attempt (step ms s.attempt (option_map choice_of (option_copied c.args.choice)))) c.requires.same in
+    record {
+      first = (
+        _,
+        ap (λ (s : State). s.attempt.own) (c.in_ok-reads.ensures.answered
+            ∙ ap at_rest (planned ms c.args.budget (g.F.Facts.tuples c.args.below.now) P (option_map choice_of (option_copied c.args.choice))
+            (course ms c.begin.new.program) c.new-view.result.below c.new-view.result.own (heading_of c.direction-direction.result)
+            (ap (λ (v : Seen). v.below) seen) own c.direction-direction.ensures.heading begun)),
+      );
+    }
+
 pub returns-clause-program : goal.returns-clause-program
 returns-clause-program g c =
     let ms = c.args.mappings.now in
