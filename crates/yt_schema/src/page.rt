@@ -8,8 +8,8 @@ ghost use Rattle.yt_grammar.specs.Printing.{written_fact};
 ghost use Rattle.yt_schema.specs.Pages.{blank, space, with_word, with_words, with_line_feed};
 
 use crate::numerals::push_number;
+use crate::plain::push_plain;
 use crate::printing::push_fact;
-use crate::runs::push_run;
 use crate::schema::Schema;
 use crate::spelling::push_value;
 use std::alloc::{AllocError, Global};
@@ -58,7 +58,7 @@ impl Page {
         ensures word { OnOk result (self.new ≡ with_word self.old (name bytes.now)) }
     {
         push_space(&mut self.text, self.apart)?;
-        push_run(&mut self.text, bytes)?;
+        push_plain(&mut self.text, bytes)?;
         self.apart = true;
         Ok(())
     }

@@ -5,7 +5,7 @@ ghost use Rattle.yt_base.specs.Meanings.{datum_of, fact_of};
 ghost use Rattle.yt_grammar.specs.Printing.{joined_text, tuple_text, value_text};
 ghost use Rattle.yt_schema.specs.Pages.{StartsWith};
 
-use crate::runs::push_run;
+use crate::plain::push_plain;
 use crate::schema::Schema;
 use crate::spelling::push_value;
 use std::alloc::{AllocError, Global};
@@ -72,7 +72,7 @@ pub(crate) fn push_fact(
     ensures { OnOk result (out.new.items ≡ out.old.items ++ (name.now
         ++ (40 ∷ (joined_text (value_text inner) (map datum_of values.now) ++ 41 ∷ [])))) }
 {
-    push_run(out, name)?;
+    push_plain(out, name)?;
     out.push(b'(')?;
     push_all(out, inner, values)?;
     out.push(b')')?;

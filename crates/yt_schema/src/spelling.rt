@@ -8,7 +8,7 @@ ghost use Rattle.yt_base.specs.Meanings.{datum_of, null_of};
 ghost use Rattle.yt_schema.specs.Pages.{StartsWith, is_plain};
 
 use crate::numerals::{push_natural, push_number};
-use crate::runs::push_run;
+use crate::plain::push_plain;
 use std::alloc::AllocError;
 use yt_base::{Null, Value};
 
@@ -86,7 +86,7 @@ fn push_inside(out: &mut Vec<u8>, text: &[u8]) -> Result<(), AllocError>
     ensures err { OnErr result (StartsWith out.old.items out.new.items) }
 {
     if is_plain_text(text) {
-        return push_run(out, text);
+        return push_plain(out, text);
     }
     push_bytes(out, text)
 }

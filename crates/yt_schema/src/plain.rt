@@ -6,7 +6,7 @@ ghost use Rattle.yt_schema.specs.Pages.{StartsWith};
 use std::alloc::AllocError;
 
 /// Adds the bytes as they are. A few go one by one, which costs less than a copy of them.
-pub(crate) fn push_run(out: &mut Vec<u8>, bytes: &[u8]) -> Result<(), AllocError>
+pub(crate) fn push_plain(out: &mut Vec<u8>, bytes: &[u8]) -> Result<(), AllocError>
     ensures ok { OnOk result (out.new.items ≡ out.old.items ++ bytes.now) }
     ensures err { OnErr result (StartsWith out.old.items out.new.items) }
 {
