@@ -16,7 +16,6 @@ use Rattle.yt_base.specs.Candidates.{Begin}
 use Rattle.yt_facts.specs.Overlaid.{overlaid}
 use Rattle.yt_facts.specs.Places.{is_from, is_inside}
 use Rattle.yt_facts.specs.Runs.{left_of, merged}
-use Rattle.yt_facts.proofs.Ahead.{beyond_from}
 use Rattle.yt_facts.proofs.AtHand.{filter_among}
 use Rattle.yt_facts.proofs.Further.{merged_none, passing_overlaid}
 use Rattle.yt_facts.proofs.Overlays.{has-overlaid, overlaid_in_order}
@@ -54,6 +53,14 @@ from_above d p u h e = by (fact_cmp d p) refl (fact_cmp p u) refl h e
     by Less f Greater g h e = differ e
     by Equal f Equal g h e = differ e
     by Equal f Greater g h e = differ e
+
+above_from : (t u : Fact) → is_beyond (Some t) u ≡ true → is_from t u ≡ true
+above_from t u = by (fact_cmp t u)
+  where
+    by : (o : Ordering) → is_lt o ≡ true → is_le o ≡ true
+    by Less e = refl
+    by Equal e = refl
+    by Greater e = differ e
 
 from_itself : (t : Fact) → is_from t t ≡ true
 from_itself t = ap is_le (tied_itself fact_total t)
@@ -130,7 +137,7 @@ inside_is t d e u = elim (cases_eq u.relation t.relation) [
   where
     by : (b : Bool) → is_beyond (Some t) u ≡ b → (u.relation ≡ t.relation → ⊥) → (b && is_below d u) ≡ false
     by true f n =
-        let from : t.relation ≤ u.relation = relation_le t u (beyond_from t u f) in
+        let from : t.relation ≤ u.relation = relation_le t u (above_from t u f) in
         ap not (greater_from d u (omega (arith, from, n, e)))
     by false f n = refl
 
@@ -184,7 +191,7 @@ module _ (D hidden added : List Fact) (s : IsRepository D) (t : IsRepository hid
     ends_past None None e f d g = absurd (cc)
     ends_past None (Some h) e f d g = ap (is_past past) (sym (some_same h d g)) ∙ found_passes (is_past past) hidden h (sym f)
     ends_past (Some p) None e f d g = ap (is_past past) (sym (some_same p d g)) ∙ found_passes (is_past past) added p (sym e)
-    ends_past (Some p) (Some h) e f d = by (is_from p h)
+    ends_past (Some p) (Some h) e f d g = by (is_from p h) g
       where
         by : (b : Bool) → option_or (cond b (Some p) None) (Some h) ≡ Some d → is_past past d ≡ true
         by true g = ap (is_past past) (sym (some_same p d g)) ∙ found_passes (is_past past) added p (sym e)
@@ -193,18 +200,18 @@ module _ (D hidden added : List Fact) (s : IsRepository D) (t : IsRepository hid
     abbrev Opens : Option Fact → Fact → Type 0
     Opens put d = Begin (filter (is_inside past d) D ++ option_to_list put) these
 
-    with_put : (p : Fact) (gone : Option Fact) → Some p ≡ find (is_past past) added → gone ≡ find (is_past past) hidden → IsNoLower p gone → Opens (Some p) p
-    with_put p gone e f h =
+    with_put : (p : Fact) (o : Option Fact) → Some p ≡ find (is_past past) added → o ≡ find (is_past past) hidden → IsNoLower p o → Opens (Some p) p
+    with_put p o e f h =
         begins_with p (found_passes (is_past past) added p (sym e)) (subst (IsNoLower p) f h) (subst (IsNoLower p) e (from_itself p)) (found_has (is_past past) added p (sym e))
 
-    with_gone : (h : Fact) (put : Option Fact) → put ≡ find (is_past past) added → Some h ≡ find (is_past past) hidden → IsNoLower h put → Opens None h
-    with_gone h put e f k = begins_below h (found_passes (is_past past) hidden h (sym f)) (subst (IsNoLower h) f (from_itself h)) (subst (IsNoLower h) e k)
+    with_gone : (h : Fact) (o : Option Fact) → o ≡ find (is_past past) added → Some h ≡ find (is_past past) hidden → IsNoLower h o → Opens None h
+    with_gone h o e f k = begins_below h (found_passes (is_past past) hidden h (sym f)) (subst (IsNoLower h) f (from_itself h)) (subst (IsNoLower h) e k)
 
     pub opens : (put gone : Option Fact) → put ≡ find (is_past past) added → gone ≡ find (is_past past) hidden → (d : Fact) → option_or (put_first put gone) gone ≡ Some d → Opens (put_first put gone) d
     opens None None e f d g = absurd (cc)
     opens None (Some h) e f d g = subst (Opens None) (some_same h d g) (with_gone h None e f tt)
     opens (Some p) None e f d g = subst (Opens (Some p)) (some_same p d g) (with_put p None e f tt)
-    opens (Some p) (Some h) e f d = by (is_from p h) refl
+    opens (Some p) (Some h) e f d g = by (is_from p h) refl g
       where
         other : is_from p h ≡ false → is_from h p ≡ true
         other k = turn (fact_cmp p h) refl k

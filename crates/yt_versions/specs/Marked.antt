@@ -45,6 +45,6 @@ visible n rows = map (λ e. fact_of e.0) (filter (λ e. stands n e.1) rows)
 
 -- The tuple that was put, if there is one and the one that is gone does not come before it.
 abbrev pub put_first : Option Fact → Option Fact → Option Fact
-put_first None gone = None
+put_first None s = None
 put_first (Some t) None = Some t
 put_first (Some t) (Some s) = cond (is_from t s) (Some t) None
