@@ -1,6 +1,6 @@
-//! Numbers in plain decimal: small ones digit by digit, the others by a buffer, from which they are copied.
+//! Numbers in plain decimal.
 
-ghost use Rattle.std.specs.Prelude.{◌≡◌, ◌++◌, ◌<◌, OnOk, OnErr};
+ghost use Rattle.std.specs.Prelude.{◌≡◌, ◌+◌, ◌++◌, ◌<◌, ◌≤◌, OnOk, OnErr};
 ghost use Rattle.std.specs.Fmt.{decimal, signed_decimal};
 ghost use Rattle.yt_schema.specs.Pages.{StartsWith};
 
@@ -15,67 +15,92 @@ pub(crate) fn push_number(out: &mut Vec<u8>, number: i64) -> Result<(), AllocErr
     if let Ok(natural) = u32::try_from(number) {
         return push_natural(out, natural);
     }
-    let mut spelled = Buffer::new();
-    out.extend_from_slice(spelled.format(number).as_bytes())
+    push_long(out, number)
 }
 
-/// A number that is not negative in plain decimal.
+/// A number that is not negative in plain decimal. Short ones go digit by digit, which costs less than a buffer and the copy
+/// from it.
 pub(crate) fn push_natural(out: &mut Vec<u8>, number: u32) -> Result<(), AllocError>
     ensures ok { OnOk result (out.new.items ≡ out.old.items ++ decimal number) }
     ensures err { OnErr result (StartsWith out.old.items out.new.items) }
 {
+    if number < 10 {
+        return push_one(out, number);
+    }
+    if number < 100 {
+        return push_two(out, number);
+    }
+    if number < 1000 {
+        return push_three(out, number);
+    }
     if number < 10_000 {
-        return push_thousands(out, number);
+        return push_four(out, number);
     }
-    let mut digits = Buffer::new();
-    out.extend_from_slice(digits.format(number).as_bytes())
+    push_long(out, i64::from(number))
 }
 
-// A number below 10,000.
-fn push_thousands(out: &mut Vec<u8>, number: u32) -> Result<(), AllocError>
-    requires { number < 10000 }
-    ensures ok { OnOk result (out.new.items ≡ out.old.items ++ decimal number) }
+// A number of any length. Never inlined, so that short ones save no registers for it.
+#[inline(never)]
+fn push_long(out: &mut Vec<u8>, number: i64) -> Result<(), AllocError>
+    ensures ok { OnOk result (out.new.items ≡ out.old.items ++ signed_decimal number) }
     ensures err { OnErr result (StartsWith out.old.items out.new.items) }
 {
-    if number < 10 {
-        return push_ones(out, number);
-    }
-    push_hundreds(out, number / 10)?;
-    push_ones(out, number % 10)
+    let mut spelled = Buffer::new();
+    out.extend_from_slice(spelled.format(number).as_bytes())
 }
 
-// A number below 1,000.
-fn push_hundreds(out: &mut Vec<u8>, number: u32) -> Result<(), AllocError>
-    requires { number < 1000 }
-    ensures ok { OnOk result (out.new.items ≡ out.old.items ++ decimal number) }
-    ensures err { OnErr result (StartsWith out.old.items out.new.items) }
+// The glyph of a digit.
+fn glyph(digit: u32) -> u8
+    requires { digit < 10 }
+    ensures { result ≡ 48 + digit }
 {
-    if number < 10 {
-        return push_ones(out, number);
-    }
-    push_tens(out, number / 10)?;
-    push_ones(out, number % 10)
+    b'0' + digit as u8
 }
 
-// A number below 100.
-fn push_tens(out: &mut Vec<u8>, number: u32) -> Result<(), AllocError>
-    requires { number < 100 }
-    ensures ok { OnOk result (out.new.items ≡ out.old.items ++ decimal number) }
-    ensures err { OnErr result (StartsWith out.old.items out.new.items) }
-{
-    if number < 10 {
-        return push_ones(out, number);
-    }
-    push_ones(out, number / 10)?;
-    push_ones(out, number % 10)
-}
-
-// A digit.
-fn push_ones(out: &mut Vec<u8>, number: u32) -> Result<(), AllocError>
+// A number of one digit.
+fn push_one(out: &mut Vec<u8>, number: u32) -> Result<(), AllocError>
     requires { number < 10 }
     ensures ok { OnOk result (out.new.items ≡ out.old.items ++ decimal number) }
     ensures err { OnErr result (StartsWith out.old.items out.new.items) }
 {
-    out.push(b'0' + number as u8)?;
+    out.push(glyph(number))?;
     Ok(())
+}
+
+// A number of two digits.
+fn push_two(out: &mut Vec<u8>, number: u32) -> Result<(), AllocError>
+    requires low { 10 ≤ number }
+    requires high { number < 100 }
+    ensures ok { OnOk result (out.new.items ≡ out.old.items ++ decimal number) }
+    ensures err { OnErr result (StartsWith out.old.items out.new.items) }
+{
+    out.extend_from_slice(&[glyph(number / 10), glyph(number % 10)])
+}
+
+// A number of three digits.
+fn push_three(out: &mut Vec<u8>, number: u32) -> Result<(), AllocError>
+    requires low { 100 ≤ number }
+    requires high { number < 1000 }
+    ensures ok { OnOk result (out.new.items ≡ out.old.items ++ decimal number) }
+    ensures err { OnErr result (StartsWith out.old.items out.new.items) }
+{
+    let front = number / 10;
+    out.extend_from_slice(&[glyph(front / 10), glyph(front % 10), glyph(number % 10)])
+}
+
+// A number of four digits.
+fn push_four(out: &mut Vec<u8>, number: u32) -> Result<(), AllocError>
+    requires low { 1000 ≤ number }
+    requires high { number < 10000 }
+    ensures ok { OnOk result (out.new.items ≡ out.old.items ++ decimal number) }
+    ensures err { OnErr result (StartsWith out.old.items out.new.items) }
+{
+    let front = number / 10;
+    let first = front / 10;
+    out.extend_from_slice(&[
+        glyph(first / 10),
+        glyph(first % 10),
+        glyph(front % 10),
+        glyph(number % 10),
+    ])
 }

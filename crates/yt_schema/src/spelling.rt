@@ -23,7 +23,8 @@ pub(crate) fn push_null(out: &mut Vec<u8>, update: u32, place: u32) -> Result<()
     push_natural(out, place)
 }
 
-// A null by its outer name, or by its inner name with the attempt.
+// A null by its outer name, or by its inner name with the attempt. Never inlined, so that numbers save no registers for it.
+#[inline(never)]
 fn push_null_name(out: &mut Vec<u8>, inner: bool, null: Null) -> Result<(), AllocError>
     ensures ok { OnOk result (out.new.items ≡
         out.old.items ++ null_name_text inner (null_of null)) }
@@ -91,7 +92,8 @@ fn push_inside(out: &mut Vec<u8>, text: &[u8]) -> Result<(), AllocError>
     push_bytes(out, text)
 }
 
-/// A text in its quotes.
+/// A text in its quotes. Never inlined, as nulls are not.
+#[inline(never)]
 pub(crate) fn push_text(out: &mut Vec<u8>, text: &[u8]) -> Result<(), AllocError>
     ensures ok { OnOk result (out.new.items ≡ out.old.items ++ quoted text.now) }
     ensures err { OnErr result (StartsWith out.old.items out.new.items) }

@@ -88,11 +88,6 @@ module _ {V : Type 0} where
   taken_in_order [] s = tt
   taken_in_order (e ∷ es) s = (below_all e.0 es s.0, taken_in_order es s.1)
 
--- One more tuple is listed.
-pub joined : (xs : List Tuple) (t : Tuple) (rest : List Fact) → map fact_of (xs ++ t ∷ []) ++ rest ≡ map fact_of xs ++ fact_of t ∷ rest
-joined [] t rest = refl
-joined (x ∷ xs) t rest = ap (λ l. fact_of x ∷ l) (joined xs t rest)
-
 -- Behind the last one there is none.
 pub none_behind_it : {A : Type 0} (o : Option (Bor A)) (D rest : List A) → D ≡ option_to_list (option_copied o) ++ rest → IfNone o (D ≡ []) → IfNone o (rest ≡ [])
 none_behind_it None D rest step end = sym step ∙ end

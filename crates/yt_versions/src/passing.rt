@@ -1,19 +1,14 @@
 //! Passing the taken tuples in order, beside tuples that are gone over.
-ghost use Rattle.std.specs.Prelude.{◌≡◌, ◌++◌, map, IfOk};
-ghost use Rattle.std.specs.Option.{option_copied, option_map, option_to_list};
+ghost use Rattle.std.specs.Prelude.{◌≡◌, map};
 ghost use Rattle.std.specs.declared.cmp.Ordering.TheVariants.{Less};
 ghost use Rattle.yt_model.specs.Repository.{has, IsRepository};
 ghost use Rattle.yt_model.specs.Values.{Fact, fact_cmp};
 ghost use Rattle.yt_base.specs.Meanings.{fact_of};
-ghost use Rattle.yt_facts.specs.Runs.{left_of, run_of};
 ghost use Rattle.yt_versions.specs.Passed.{to_pass, AreToPass};
 
 use crate::handles::Handle;
-use std::alloc::Global;
 use std::cmp::Ordering;
-use yt_base::{List, Tuple, TupleList};
-use yt_facts::Run;
-use yt_memory::Memory;
+use yt_base::Tuple;
 use yt_tree::Cursor;
 
 /// The taken tuples that are still to be passed.
