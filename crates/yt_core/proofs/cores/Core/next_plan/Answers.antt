@@ -42,8 +42,8 @@ returns-clause-step c =
 pub plan_at-requires-clause-known : goal.plan_at-requires-clause-known
 plan_at-requires-clause-known c = subst (λ (rs : List Record). IsKnown c.self.inside.mappings c.self.inside.versions rs c.self.inside.known) (sym (c.deref.ensures.value ∙ (front c.branch_at.new.queue (drop (length c.branch_at.new.queue) c.self.inside.queue.items) c.self.inside.queue.len (omega arith) ∙ c.branch_at.ensures.same ∙ c.deref_mut.ensures.value))) c.self.invariant.4
 
-pub branch_at-branch-requires : goal.branch_at-branch-requires
-branch_at-branch-requires c = record {
+pub branch_at-requires : goal.branch_at-requires
+branch_at-requires c = record {
   place =
       ready_within _ c.self.inside.versions c.self.inside.queue.items _ _ c.self.invariant.0 c.self.view_is c.args.update c.requires.ready c.place_of-place.result c.place_of-place.ensures c.deref_mut.result.now c.deref_mut.ensures.value;
 }
