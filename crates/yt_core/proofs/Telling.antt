@@ -1,7 +1,8 @@
 -- What is told of a core is told of the updates that its history left.
 use Rattle.std.proofs.Common.{◌≡◌, ◌∙◌, ap, refl, sym, subst, ℕ, zero, suc, ◌<◌, ◌+◌, Bool, false, not, Option, Some, None, List, [], ◌∷◌, map, length, get_or, arith}
+use Rattle.std.proofs.Math.ListN.{set}
 use Rattle.std.specs.Prelude.{option_map, option_and_then, unwrap_or, slice_get}
-use Rattle.std.proofs.lemmas.Option.{none-some, slice_get-map}
+use Rattle.std.proofs.lemmas.Option.{none-some, same_Some, slice_get-map}
 use Rattle.yt_base.specs.Meanings.{choice_of}
 use Rattle.yt_entries.specs.Meanings.{standing_of}
 use Rattle.yt_entries.specs.declared.standings.Standing.{Standing as StandingOfProgram}
@@ -12,6 +13,7 @@ use Rattle.yt_history.specs.PlainEntries.{PlainEntry}
 use Rattle.yt_machine.specs.Standings as standings
 use Rattle.yt_machine.specs.Standings.{Standing, standing, question_of, is_nil}
 use Rattle.yt_machine.specs.Updates.{Settings, Update, committed}
+use Rattle.yt_program.specs.Courses.{State as ProgramState}
 use Rattle.yt_queue.specs.Programs.{IsBetween}
 use Rattle.yt_queue.specs.Queues.{update_of, updates_of, AreFrom}
 use Rattle.yt_queue.specs.Records.{HasStanding, HasQuestion}
@@ -26,6 +28,18 @@ use Rattle.yt_core.proofs.Following.{there, stands_at, mapped_long}
 
 pub there_is : (rs : List Record) (k : ℕ) (r : Record) → k < length rs → r ≡ get_or rs k r → slice_get rs k ≡ Some r
 there_is rs k r l e = there rs k r l (sym e)
+
+set_back : (rs : List Record) (k : ℕ) (r r' : Record) → slice_get rs k ≡ Some r → r' ≡ r → set rs k r' ≡ rs
+set_back [] k r r' spot e = refl
+set_back (q ∷ rs) zero r r' spot e = ap (λ p. p ∷ rs) (e ∙ sym (same_Some q r spot))
+set_back (q ∷ rs) (suc k) r r' spot e = ap (λ ps. q ∷ ps) (set_back rs k r r' spot e)
+
+-- A record is put back with the same attempt.
+pub put_back : (rs : List Record) (k : ℕ) (r : Record) (p : ProgramState) → slice_get rs k ≡ Some r → p ≡ r.program
+    → set rs k (record { program = p; log = r.log; withdrawn = r.withdrawn; answers = r.answers; inbox = r.inbox; footprint = r.footprint }) ≡ rs
+put_back rs k r p spot e =
+    set_back rs k r (record { program = p; log = r.log; withdrawn = r.withdrawn; answers = r.answers; inbox = r.inbox; footprint = r.footprint }) spot
+    (λ i. record { program = e i; log = r.log; withdrawn = r.withdrawn; answers = r.answers; inbox = r.inbox; footprint = r.footprint })
 
 pub between_there : (rs : List Record) (k : ℕ) (r : Record) → AreFrom 1 rs → k < length rs → r ≡ get_or rs k r → IsBetween r.program
 between_there rs k r a l e = (stands_at rs 1 k r a (there_is rs k r l e)).between

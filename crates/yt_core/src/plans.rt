@@ -134,7 +134,8 @@ pub(crate) fn branch_at(
     ensures same { queue.new ≡ queue.old }
     ensures long { length queue.new ≡ length queue.old }
 {
-    queue[place].program.branch(alloc)
+    let branch = queue[place].program.branch(alloc)?;
+    Ok(branch)
 }
 
 /// The plan of the next step of the update at the place, which is ready, on a branch of its attempt, by what is known of it; its

@@ -32,7 +32,7 @@ impl<'a> Model for TouchedMappings<'a> {
 impl<'a> TouchedMappings<'a> {
     /// These mappings. It is refused only for want of memory.
     pub fn of(alloc: Global, mappings: Mappings<'a>) -> Result<TouchedMappings<'a>, Memory>
-        ensures rules { IfOk result (λ touched. touched ≡ mappings) }
+        ensures rules { IfOk result (λ touched. touched ≡ mappings.entry) }
     {
         let touching = Touching::of(alloc, mappings.list())?;
         Ok(TouchedMappings {
