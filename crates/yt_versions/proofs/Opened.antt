@@ -1,10 +1,10 @@
 -- What an update sees before the first tuple that was written or taken is what the base has there.
-use Rattle.std.proofs.Common.{◌≡◌, ◌<◌, ◌≤◌, arith, ap, refl, sym, ◌∙◌, subst, List, [], ◌∷◌, ◌++◌, length, take, Bool, true, false, ◌&&◌, ◌||◌, not, cond, filter, find, Option, Some, None, inl, inr}
+use Rattle.std.proofs.Common.{◌≡◌, ◌<◌, ◌≤◌, arith, ap, refl, sym, ◌∙◌, subst, List, [], ◌∷◌, ◌++◌, length, take, Bool, true, false, ◌&&◌, ◌||◌, not, cond, filter, find, Option, Some, None, Bor, inl, inr}
 use Rattle.std.specs.Cmp.Lexicographic.{slice_cmp}
 use Rattle.std.specs.List.{AllByRecursion}
 use Rattle.std.specs.List.Sorted.{IsStrictlySortedBy}
 use Rattle.std.specs.Cmp.{tied_itself}
-use Rattle.std.specs.Option.{option_or}
+use Rattle.std.specs.Option.{option_copied, option_map, option_or}
 use Rattle.std.specs.Ordering.{is_le, is_lt, nat_cmp, ordering_reverse, ordering_then, MatchOrdering}
 use Rattle.std.specs.Prelude.{option_to_list}
 use Rattle.std.specs.declared.cmp.Ordering.{Ordering}
@@ -13,6 +13,8 @@ use Rattle.std.proofs.lemmas.Bool.{and_parts, eq-eqb, ne_eqb, cases_eq}
 use Rattle.std.proofs.lemmas.Cmp.{ranked}
 use Rattle.std.proofs.lemmas.List.{append_assoc, append-nil}
 use Rattle.yt_base.specs.Candidates.{Begin}
+use Rattle.yt_base.specs.Meanings.{fact_of}
+use Rattle.yt_base.specs.declared.tuples.Tuple.{Tuple}
 use Rattle.yt_facts.specs.Overlaid.{overlaid}
 use Rattle.yt_facts.specs.Places.{is_from, is_inside}
 use Rattle.yt_facts.specs.Runs.{left_of, merged}
@@ -224,3 +226,8 @@ module _ (D hidden added : List Fact) (s : IsRepository D) (t : IsRepository hid
         by : (b : Bool) → is_from p h ≡ b → option_or (cond b (Some p) None) (Some h) ≡ Some d → Opens (cond b (Some p) None) d
         by true k g = subst (Opens (Some p)) (some_same p d g) (with_put p (Some h) e f k)
         by false k g = subst (Opens None) (some_same h d g) (with_gone h (Some p) e f (other k))
+
+-- What is there of two tuples is there of what they mean.
+pub or_meant : (one other : Option (Bor Tuple)) (t : Bor Tuple) → option_or one other ≡ Some t → option_or (option_map fact_of (option_copied one)) (option_map fact_of (option_copied other)) ≡ Some (fact_of t.now)
+or_meant None other t e = ap (λ (o : Option (Bor Tuple)). option_map fact_of (option_copied o)) e
+or_meant (Some one) other t e = ap (λ (o : Option (Bor Tuple)). option_map fact_of (option_copied o)) e

@@ -101,16 +101,6 @@ first_taken {V} r past (e ∷ es) =
     by true i = refl
     by false i = i
 
--- They are in order.
-pub taken_in_order : {V : Type 0} (es : List (Tuple × V)) → IsOrdered (on fact_of fact_cmp) es → IsRepository (tuples es)
-unfolding IsStrictlySortedBy
-taken_in_order [] s = tt
-taken_in_order {V} (e ∷ es) s = (below es s.0, taken_in_order es s.1)
-  where
-    below : (fs : List (Tuple × V)) → AllByRecursion (λ y. fact_cmp (fact_of e.0) (fact_of y) ≡ Less) (keys_of fs) → AllByRecursion (λ u. fact_cmp (fact_of e.0) u ≡ Less) (tuples fs)
-    below [] a = tt
-    below (f ∷ fs) a = (a.0, below fs a.1)
-
 -- Where none was found none is sought.
 pub none_sought : {A : Type 0} (p : A → Bool) (es : List A) (found : Option (Bor A)) → option_copied found ≡ find p es → (b : Bool) → b ≡ true → is_some found ≡ not b → filter p es ≡ []
 none_sought p es None h b t e = none_passes p es (sym h)

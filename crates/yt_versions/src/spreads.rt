@@ -71,10 +71,12 @@ impl Spread for Shelf {
         }
     }
 
+    #[inline(always)]
     fn shelf(&self, _spot: u32) -> Option<&Shelf> {
         Some(self)
     }
 
+    #[inline(always)]
     fn set(&mut self, alloc: Global, _spot: u32, cell: Cell, marks: Marks) -> Result<(), Memory> {
         edits::set(&mut self.cells, alloc, cell, marks)
     }
@@ -110,6 +112,7 @@ impl<T: Spread> Spread for Halves<T> {
         }
     }
 
+    #[inline(always)]
     fn shelf(&self, spot: u32) -> Option<&Shelf> {
         if spot % 2 == 0 {
             self.even.shelf(spot / 2)
@@ -118,6 +121,7 @@ impl<T: Spread> Spread for Halves<T> {
         }
     }
 
+    #[inline(always)]
     fn set(&mut self, alloc: Global, spot: u32, cell: Cell, marks: Marks) -> Result<(), Memory> {
         if spot % 2 == 0 {
             self.even.set(alloc, spot / 2, cell, marks)
@@ -183,6 +187,7 @@ impl<T: Spread> Spread for Quarters<T> {
         Quarters { room: None }
     }
 
+    #[inline(always)]
     fn shelf(&self, spot: u32) -> Option<&Shelf> {
         match &self.room {
             Some(room) => room.parts.shelf(spot),
@@ -190,6 +195,7 @@ impl<T: Spread> Spread for Quarters<T> {
         }
     }
 
+    #[inline(always)]
     fn set(&mut self, alloc: Global, spot: u32, cell: Cell, marks: Marks) -> Result<(), Memory> {
         let Some(shared) = &mut self.room else {
             let mut parts: Halves<Halves<T>> = Spread::none();
@@ -245,10 +251,12 @@ impl Spread for Shelves {
         }
     }
 
+    #[inline(always)]
     fn shelf(&self, spot: u32) -> Option<&Shelf> {
         self.parts.shelf(spot)
     }
 
+    #[inline(always)]
     fn set(&mut self, alloc: Global, spot: u32, cell: Cell, marks: Marks) -> Result<(), Memory> {
         self.parts.set(alloc, spot, cell, marks)
     }

@@ -11,7 +11,7 @@ changed_at-requires c =
 
 pub changed_in_passage-requires : goal.changed_in_passage-requires
 changed_in_passage-requires c =
-    let passage = c.in-Passed.passage' in
+    let passage = c.in-Passed.passage in
     let same = ap (λ e. length (reads_of e)) c.in-Passed.is ∙ passage_length passage.start (passage.end - passage.start) passage.own in
     let fits = c.requires in
     record { fits = omega (arith, same, fits) }

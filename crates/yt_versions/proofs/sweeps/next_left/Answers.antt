@@ -1,7 +1,7 @@
 use Rattle.std.proofs.Common.{◌∙◌, ap, arith, length, sym, List}
 use Rattle.yt_base.specs.Meanings.{fact_of}
 use Rattle.yt_facts.proofs.Further.{rest_ordered}
-use Rattle.yt_facts.specs.Runs.{left_of, run_of}
+use Rattle.yt_facts.specs.Runs.{run_of}
 use Rattle.yt_model.specs.Values.{Fact}
 use Rattle.yt_versions.specs.Passed.{to_pass}
 use Rattle.yt_versions.proofs.Passed.{left_kept, left_passed}

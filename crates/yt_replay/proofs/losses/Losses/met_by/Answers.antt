@@ -11,7 +11,7 @@ met_at-requires c =
 
 pub met_in_passage-requires : goal.met_in_passage-requires
 met_in_passage-requires c =
-    let passage = c.in-Passed.passage' in
+    let passage = c.in-Passed.passage in
     let same = ap (λ e. length (reads_of e)) c.in-Passed.is ∙ passage_length passage.start (passage.end - passage.start) passage.own in
     let fits = c.requires in
     record { fits = omega (arith, same, fits) }

@@ -1,7 +1,6 @@
-use Rattle.std.proofs.Common.{◌∙◌, ap, map, subst, sym, List}
+use Rattle.std.proofs.Common.{◌∙◌, ap, map, subst, sym}
 use Rattle.yt_base.specs.Meanings.{fact_of}
 use Rattle.yt_model.specs.Repository.{IsRepository}
-use Rattle.yt_model.specs.Values.{Fact}
 use Rattle.yt_versions.proofs.Passed.{taken_in_order}
 use Rattle.yt_versions.proofs.Seeing.{all_reached}
 use Rattle.yt_versions.proofs.taken.Taken.passing.Goals as goal

@@ -1,4 +1,4 @@
-use Rattle.std.proofs.Common.{List, ap, ◌∙◌}
+use Rattle.std.proofs.Common.{ap, ◌∙◌}
 use Rattle.yt_facts.proofs.Further.{all_overlaid}
 use Rattle.yt_facts.specs.Runs.{left_of, merged}
 use Rattle.yt_versions.specs.Marked.{visible}
