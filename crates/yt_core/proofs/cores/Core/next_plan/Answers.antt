@@ -60,7 +60,7 @@ invariant_of-self-2 c =
     let before = as_before _ _ _ _ _ _ _ _ _ (front c.branch_at.new.queue (drop (length c.branch_at.new.queue) c.self.inside.queue.items) c.self.inside.queue.len (omega arith) ∙ c.branch_at.ensures.same ∙ c.deref_mut.ensures.value) c.self.invariant in
     (before.0, before.1, before.2, before.3, subst (λ (rs : List Record). IsKnown c.self.inside.mappings c.self.inside.versions rs c.plan_at.new.known) c.deref.ensures.value c.plan_at.ensures.known)
 
-pub invariant_of-self-3 : goal.invariant_of-self-3
-invariant_of-self-3 c =
+pub invariant_of-self-in_err-plan : goal.invariant_of-self-in_err-plan
+invariant_of-self-in_err-plan c =
     let before = as_before _ _ _ _ _ _ _ _ _ (front c.branch_at.new.queue (drop (length c.branch_at.new.queue) c.self.inside.queue.items) c.self.inside.queue.len (omega arith) ∙ c.branch_at.ensures.same ∙ c.deref_mut.ensures.value) c.self.invariant in
     (before.0, before.1, before.2, before.3, subst (λ (rs : List Record). IsKnown c.self.inside.mappings c.self.inside.versions rs c.plan_at.new.known) c.deref.ensures.value c.plan_at.ensures.known)
