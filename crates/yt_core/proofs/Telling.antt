@@ -101,6 +101,12 @@ module _ (g : Ground) (H : List PlainEntry) (rs : List Record) (s : State) (left
   pub deliverable_told : (o : Option ℕ) → IsLowestDeliverable g.settings rs o → o ≡ lowest_deliverable_at s
   deliverable_told o h = h g.rules g.budget ∙ sym (ap (standings.lowest_deliverable (caused_chase g.rules g.budget) g.settings) left.leaves) ∙ ap lowest_deliverable_at same
 
+  pub next_told : (o : Option ℕ) → IsNextDeliverable g.settings rs o → o ≡ next_deliverable_at s
+  next_told o h =
+      h g.rules g.budget
+      ∙ sym (ap (λ (us : List (Update (caused_chase g.rules g.budget))). only (suc (committed (caused_chase g.rules g.budget) us)) (standings.lowest_deliverable (caused_chase g.rules g.budget) g.settings us)) left.leaves)
+      ∙ ap next_deliverable_at same
+
   pub besides_told : (ns : List ℕ) (o : Option ℕ) → IsLowestBesides ns g.settings rs o → o ≡ lowest_ready_besides_at s ns
   besides_told ns o h =
       h g.rules g.budget
