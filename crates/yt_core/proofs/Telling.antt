@@ -15,10 +15,10 @@ use Rattle.yt_machine.specs.Updates.{Settings, Update, committed}
 use Rattle.yt_queue.specs.Programs.{IsBetween}
 use Rattle.yt_queue.specs.Queues.{update_of, updates_of, AreFrom}
 use Rattle.yt_queue.specs.Records.{HasStanding, HasQuestion}
-use Rattle.yt_queue.specs.Walks.{HasCommitted, IsLowestReady, IsLowestDeliverable, IsLowestBesides, IsQuiet}
+use Rattle.yt_queue.specs.Walks.{HasCommitted, IsLowestReady, IsLowestDeliverable, IsLowestBesides, IsNextDeliverable, IsQuiet, only}
 use Rattle.yt_queue.specs.declared.records.Record.{Record}
 use Rattle.yt_steps.specs.Chase.{caused_chase}
-use Rattle.yt_core.specs.States.{State, updates_at, numbered_at, committed_at, standing_at, question_at, has_waiting, lowest_ready_at, lowest_ready_besides_of, lowest_ready_besides_at, lowest_deliverable_at, is_quiet_at}
+use Rattle.yt_core.specs.States.{State, updates_at, numbered_at, committed_at, standing_at, question_at, has_waiting, lowest_ready_at, lowest_ready_besides_of, lowest_ready_besides_at, lowest_deliverable_at, next_deliverable_at, is_quiet_at}
 use Rattle.yt_core.specs.Told.{HasStandingAt, HasQuestionAt, HasWaitingAt}
 use Rattle.yt_core.proofs.Following.{there, stands_at, mapped_long}
 
