@@ -9,10 +9,10 @@ use Rattle.yt_program.specs.Views.{state_of}
 use Rattle.yt_program.specs.declared.points.Point.{Point}
 use Rattle.yt_program.specs.declared.points.Point.TheVariants.{Reading as ReadingPoint}
 use Rattle.yt_program.specs.declared.readings.Reading.{Reading}
-use Rattle.yt_program.specs.declared.programs.Program.TheInside.{Inside}
+use Rattle.yt_program.specs.declared.programs.Parts.{Parts}
 
--- The program, at this point.
-abbrev at_point : Inside → Point → Inside
+-- The parts of a program, at this point.
+abbrev at_point : Parts → Point → Parts
 at_point p x = record { number = p.number; attempt = p.attempt; operation = p.operation; own = p.own; steps = p.steps; nulls = p.nulls; taken = p.taken; hand = p.hand; point = x }
 
 -- The attempt, begun in this phase.
@@ -20,7 +20,7 @@ abbrev in_phase : Attempt → Phase → Attempt
 in_phase P phase = record { number = P.number; attempt = P.attempt; operation = P.operation; phase = phase; own = P.own; steps = P.steps; nulls = P.nulls; taken = P.taken }
 
 -- Within a look it has passed: what holds of the course from where it stood and of that from where it stands now holds of those of the program.
-pub passes_on : (ms : List Rule) (Goes : Course → Course → Type 0) (p q : Inside) (s : State) (r t : Reading)
+pub passes_on : (ms : List Rule) (Goes : Course → Course → Type 0) (p q : Parts) (s : State) (r t : Reading)
     → state_of p ≡ s → p.point ≡ ReadingPoint r → q ≡ at_point p (ReadingPoint t)
     → ((P : Attempt) → P.number ≡ p.number → Goes (coming_to p.hand.budget P (row_tree ms P (reading_of r))) (coming_to p.hand.budget P (row_tree ms P (reading_of t))))
     → begun_in (reading_of t) ≡ begun_in (reading_of r) → Goes (course ms s) (course ms (state_of q))
@@ -28,9 +28,9 @@ passes_on ms Goes p q s r t v e f passed phase =
     let old : state_of (at_point p (ReadingPoint r)) ≡ s = (λ i. state_of (at_point p (sym e i))) ∙ v in
     let P = (state_of (at_point p (ReadingPoint r))).attempt in
     subst (λ (u : State). Goes (course ms u) (course ms (state_of q))) old
-    (subst (λ (x : Inside). Goes (course ms (state_of (at_point p (ReadingPoint r)))) (course ms (state_of x))) (sym f)
+    (subst (λ (x : Parts). Goes (course ms (state_of (at_point p (ReadingPoint r)))) (course ms (state_of x))) (sym f)
     (subst (λ (R : Attempt). Goes (coming_to p.hand.budget P (row_tree ms P (reading_of r))) (coming_to p.hand.budget R (row_tree ms R (reading_of t)))) (sym (λ i. in_phase P (phase i))) (passed P refl)))
 
 -- Elsewhere it is as it was.
-pub stays_there : (ms : List Rule) (Goes : Course → Course → Type 0) (p q : Inside) (s : State) → state_of p ≡ s → q ≡ p → Goes (course ms s) (course ms s) → Goes (course ms s) (course ms (state_of q))
+pub stays_there : (ms : List Rule) (Goes : Course → Course → Type 0) (p q : Parts) (s : State) → state_of p ≡ s → q ≡ p → Goes (course ms s) (course ms s) → Goes (course ms s) (course ms (state_of q))
 stays_there ms Goes p q s v f same = subst (λ (u : State). Goes (course ms s) (course ms u)) (sym (ap state_of f ∙ v)) same

@@ -8,6 +8,7 @@ use Rattle.yt_chase.proofs.Sent.{repair_send}
 use Rattle.yt_program.specs.contracts.own.Own as own
 use Rattle.yt_program.specs.contracts.own.Own.TheInside as own_inside
 use Rattle.yt_program.specs.contracts.points.Point as points
+use Rattle.yt_program.specs.contracts.programs.Parts as parts
 use Rattle.yt_program.specs.contracts.programs.Program as programs
 use Rattle.yt_program.specs.contracts.shared.SharedWrites as shared
 use Rattle.yt_program.specs.contracts.shared.SharedWrites.TheInside as shared_inside
@@ -32,9 +33,12 @@ own_inside_send = search (sendable, crosses, shared_send) depth 60 fits 6000
 own_send : IsSend own.the_row
 own_send = view_send _ _ _ _ _ own_inside_send
 
--- A program by its fields: their number is above what the search takes at once.
+-- The parts by their fields: their number is above what the search takes at once.
+parts_send : IsSend parts.the_row
+parts_send = search (sendable, crosses, operation_send, point_send, own_send, declared_send) depth 60 fits 6000
+
 inside_send : IsSend inside.the_row
-inside_send = search (sendable, crosses, operation_send, point_send, own_send, declared_send) depth 60 fits 6000
+inside_send = search (sendable, crosses, parts_send) depth 60 fits 6000
 
 pub program_send : IsSend programs.the_row
 program_send = view_send _ _ _ _ _ inside_send

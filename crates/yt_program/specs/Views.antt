@@ -5,10 +5,10 @@ use Rattle.yt_base.specs.Meanings.{operation_of, change_of}
 use Rattle.yt_steps.specs.Attempts.{question_in}
 use Rattle.yt_program.specs.Courses.{State}
 use Rattle.yt_program.specs.PointMeanings.{phase_at, row_at}
-use Rattle.yt_program.specs.declared.programs.Program.TheInside.{Inside}
+use Rattle.yt_program.specs.declared.programs.Parts.{Parts}
 
 -- The attempt as it is between two steps, or was when the step in hand began, with that step.
-abbrev pub state_of : Inside → State
+abbrev pub state_of : Parts → State
 state_of p =
     record {
       attempt = record {
@@ -25,7 +25,7 @@ state_of p =
     }
 
 -- At most 300 steps, each of which draws at most 64 nulls and takes at most one answer. A step in hand is within its budget, and takes an answer where it began at a question.
-pub record IsCounted (p : Inside) : Type 0 where
+pub record IsCounted (p : Parts) : Type 0 where
   pub steps : p.steps ≤ 300
   pub nulls : p.nulls ≤ 64 * p.steps
   pub taken : p.taken ≤ p.steps

@@ -19,14 +19,15 @@ impl Program {
     pub fn own(&self) -> &WriteList
         ensures own { map change_of result.now.items ≡ self.now.attempt.own }
     {
-        self.own.list()
+        self.parts.own.list()
     }
 
     /// The writes that the attempt has made, in order, for which it is given up. It is refused only for want of memory.
     pub fn into_own(self, alloc: Global) -> Result<WriteList, Memory>
         ensures own { IfOk result (λ own. map change_of own.items ≡ self.attempt.own) }
     {
-        self.own.into_list(alloc)
+        let parts = Box::into_inner(self.parts);
+        parts.own.into_list(alloc)
     }
 
     /// A copy to make the next step on, which takes along what the attempt keeps to make more writes. It is refused only for
@@ -35,7 +36,7 @@ impl Program {
         ensures same { IfOk result (λ branch. branch ≡ self.old) }
         ensures stays { self.new ≡ self.old }
     {
-        let own = self.own.branch(alloc)?;
+        let own = self.parts.own.branch(alloc)?;
         self.with(alloc, own)
     }
 
@@ -44,17 +45,17 @@ impl Program {
         requires own { changes_of own ≡ self.now.attempt.own }
         ensures same { IfOk result (λ copy. copy ≡ self.now) }
     {
-        Ok(Program {
-            number: self.number,
-            attempt: self.attempt,
-            operation: self.operation.copy(alloc)?,
-            own,
-            steps: self.steps,
-            nulls: self.nulls,
-            taken: self.taken,
-            hand: self.hand,
-            point: self.point.copy(alloc)?,
-        })
+        let from = &*self.parts;
+        let operation = from.operation.copy(alloc)?;
+        let mut copy = Program::at_start(alloc, from.number, from.attempt, operation)?;
+        let parts = &mut *copy.parts;
+        parts.point = from.point.copy(alloc)?;
+        parts.own = own;
+        parts.steps = from.steps;
+        parts.nulls = from.nulls;
+        parts.taken = from.taken;
+        parts.hand = from.hand;
+        Ok(copy)
     }
 
     /// Lets copies of it share its writes from now on. It keeps those that it had before, to make more. It is refused only for
@@ -63,7 +64,7 @@ impl Program {
         requires first { BeginWith before.now.attempt.own self.old.attempt.own }
         ensures same { self.new ≡ self.old }
     {
-        self.own.share(alloc, &before.own)?;
+        self.parts.own.share(alloc, &before.parts.own)?;
         Ok(())
     }
 
@@ -72,14 +73,14 @@ impl Program {
         ensures steps { result ≡ self.now.attempt.steps }
         ensures most { result ≤ 300 }
     {
-        self.steps
+        self.parts.steps
     }
 
     /// How many nulls it has drawn.
     pub fn nulls(&self) -> u32
         ensures nulls { result ≡ self.now.attempt.nulls }
     {
-        self.nulls
+        self.parts.nulls
     }
 
     /// How many answers to questions it has taken.
@@ -87,14 +88,14 @@ impl Program {
         ensures taken { result ≡ self.now.attempt.taken }
         ensures most { result ≤ self.now.attempt.steps }
     {
-        self.taken
+        self.parts.taken
     }
 
     /// Whether its next step, or the step in hand, is a look.
     pub fn is_looking(&self) -> bool
         ensures looking { IsTrue result ↔ (self.now.attempt.phase ≡ Look) }
     {
-        match &self.point {
+        match &self.parts.point {
             Point::Start => false,
             Point::Look => true,
             Point::Repair(repair) => is_repaired(repair),
@@ -107,7 +108,7 @@ impl Program {
     pub fn direction(&self) -> Direction
         ensures heading { heading_of result ≡ direction_of self.now.attempt.operation }
     {
-        self.operation.direction()
+        self.parts.operation.direction()
     }
 }
 
@@ -121,7 +122,7 @@ impl TryCopy for Program {
     fn copy(&self, alloc: Global) -> Result<Program, Memory>
         ensures same { IfOk result (λ copy. copy ≡ self.now) }
     {
-        let own = self.own.copy(alloc)?;
+        let own = self.parts.own.copy(alloc)?;
         self.with(alloc, own)
     }
 }

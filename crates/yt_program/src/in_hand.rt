@@ -20,14 +20,14 @@ impl Program {
     pub fn number(&self) -> u32
         ensures number { result ≡ self.now.attempt.number }
     {
-        self.number
+        self.parts.number
     }
 
     /// What its update is to do. It takes no memory.
     pub fn operation(&self) -> &Operation
         ensures operation { operation_of result.now ≡ self.now.attempt.operation }
     {
-        &self.operation
+        &self.parts.operation
     }
 
     /// Whether its next step is the first, that of the operation. It takes no memory.
@@ -35,7 +35,7 @@ impl Program {
         requires between { self.now.reading ≡ None }
         ensures start { result ≡ is_start self.now.attempt.phase }
     {
-        matches!(&self.point, Point::Start)
+        matches!(&self.parts.point, Point::Start)
     }
 
     /// The mapping of the forward repair in hand, and the values of its variables; None exactly where none is in hand.
@@ -43,7 +43,7 @@ impl Program {
     pub fn bound(&self) -> Option<Bound<'_>>
         ensures bound { option_map bound_of result ≡ bound_in self.now.attempt.phase }
     {
-        match &self.point {
+        match &self.parts.point {
             Point::Repair(repair) => repair.bound(),
             Point::Start => None,
             Point::Look => None,
@@ -60,7 +60,7 @@ impl Program {
             (λ sub. moved_by (images_of sub) ≡
             unifier_in self.now.attempt.phase (fact_of form.now)) }
     {
-        match &self.point {
+        match &self.parts.point {
             Point::Repair(repair) => repair.unifier_with(alloc, form),
             _ => unreachable!(),
         }

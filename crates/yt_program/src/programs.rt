@@ -3,7 +3,7 @@ ghost use Rattle.std.specs.Prelude.{◌≡◌, ◌<◌, ◌≤◌, true, false, 
 ghost use Rattle.yt_model.specs.Mappings.{Rule};
 ghost use Rattle.yt_base.specs.Meanings.{choice_of, operation_of};
 ghost use Rattle.yt_query.specs.Meanings.{reply_of};
-ghost use Rattle.yt_steps.specs.Attempts.{question_in, Look};
+ghost use Rattle.yt_steps.specs.Attempts.{question_in, Look, Start};
 ghost use Rattle.yt_steps.specs.Steps.{moved};
 ghost use Rattle.yt_program.specs.Courses.{between, counted, course, first_asked};
 ghost use Rattle.yt_program.specs.Wishes.{wish, WishesStep, query_wished, TakesAnswer, Fits};
@@ -26,7 +26,7 @@ use crate::turns::Turn;
 use std::alloc::Global;
 use std::marker::Model;
 use yt_base::{Choice, Memory, Operation, TryCopy, Update};
-use yt_chase::{Fresh, Progress};
+use yt_chase::{Fresh, Progress, boxed};
 use yt_limits::{Budget, Mappings};
 use yt_query::Answer;
 
@@ -37,10 +37,16 @@ pub(crate) struct Hand {
     pub(crate) answers: bool,
 }
 
-/// An attempt at an update, which asks queries and questions, takes their answers, and makes the steps of the chase.
-/// Contracts see it as its attempt and the step in hand.
+/// An attempt at an update, which asks queries and questions, takes their answers, and makes the steps of the chase. It is a
+/// pointer, so that it is small where it moves. Contracts see it as its attempt and the step in hand.
 #[derive(Debug, Drop)]
 pub struct Program {
+    pub(crate) parts: Box<Parts>,
+}
+
+/// What a program is made of: its update, its writes, its counts, and where it stands.
+#[derive(Debug, Drop)]
+pub(crate) struct Parts {
     pub(crate) number: u32,
     pub(crate) attempt: u32,
     pub(crate) operation: Operation,
@@ -59,9 +65,9 @@ impl Model for Program {
 
     ghost use Rattle.yt_program.specs.Views.{state_of, IsCounted};
 
-    ghost view = { state_of };
+    ghost view = { λ p. state_of p.parts.value };
 
-    ghost invariant = { IsCounted };
+    ghost invariant = { λ p. IsCounted p.parts.value };
 }
 
 impl Program {
@@ -75,10 +81,24 @@ impl Program {
     ) -> Result<Program, Memory>
         ensures begun { IfOk result (IsAtStart number attempt (operation_of update.now.operation)) }
     {
-        Ok(Program {
+        let operation = update.operation.copy(alloc)?;
+        Program::at_start(alloc, number, attempt, operation)
+    }
+
+    /// The attempt of that number at the operation, at its start. `number` is the update's. It is refused only for want of
+    /// memory.
+    pub(crate) fn at_start(
+        alloc: Global,
+        number: u32,
+        attempt: u32,
+        operation: Operation,
+    ) -> Result<Program, Memory>
+        ensures begun { IfOk result (IsAtStart number attempt (operation_of operation)) }
+    {
+        let parts = Parts {
             number,
             attempt,
-            operation: update.operation.copy(alloc)?,
+            operation,
             own: Own::none(alloc),
             steps: 0,
             nulls: 0,
@@ -88,6 +108,9 @@ impl Program {
                 answers: false,
             },
             point: Point::Start,
+        };
+        Ok(Program {
+            parts: boxed(alloc, parts)?,
         })
     }
 
@@ -99,7 +122,7 @@ impl Program {
             first_asked (course ms self.now) ≡ query_wished (want_of result) }
         ensures rests { query_wished (want_of result) ≡ None → self.now.reading ≡ None }
     {
-        match &self.point {
+        match &self.parts.point {
             Point::Start => Want::NextStep,
             Point::Look => Want::NextStep,
             Point::Repair(repair) => want_of_repair(repair),
@@ -126,22 +149,33 @@ impl Program {
             budget,
             answers: false,
         };
-        match &mut self.point {
-            Point::Start => {
-                let turn = start(alloc, &self.operation)?;
-                self.follow(alloc, turn, hand)
-            }
+        match &mut self.parts.point {
+            Point::Start => self.operate(alloc, hand),
             Point::Look => self.look(alloc, mappings, hand),
             Point::Repair(repair) => {
                 if !generates(repair) {
                     return self.look(alloc, mappings, hand);
                 }
                 repair.begin(alloc, mappings)?;
-                self.hand = hand;
+                self.parts.hand = hand;
                 Ok(())
             }
             _ => unreachable!(),
         }
+    }
+
+    // Begins the step of the operation. It stands apart, since it is rare and what it comes to is large.
+    fn operate(&mut self, alloc: Global, hand: Hand) -> Result<(), Memory>
+        requires left { self.old.attempt.steps < hand.budget }
+        requires phase { self.old.attempt.phase ≡ Start }
+        requires answers { hand.answers ≡ false }
+        ensures step { (ms : List Rule) →
+            OnOk result (HasBegun ms hand.budget self.old self.new) }
+        ensures attempt { StaysWhileAsking self.old self.new }
+        ensures err { OnErr result (self.new ≡ self.old) }
+    {
+        let turn = start(alloc, &self.parts.operation)?;
+        self.follow(alloc, turn, hand)
     }
 
     // Begins a look.
@@ -153,14 +187,15 @@ impl Program {
         ensures attempt { StaysWhileAsking self.old self.new }
         ensures err { OnErr result (self.new ≡ self.old) }
     {
-        match next_from_start(self.number, 0, mappings) {
+        match next_from_start(self.parts.number, 0, mappings) {
             Some(place) => {
-                self.point = Point::Reading(violation_asked(place));
-                self.hand = hand;
+                let parts = &mut *self.parts;
+                parts.point = Point::Reading(violation_asked(place));
+                parts.hand = hand;
                 Ok(())
             }
             None => {
-                let turn = look(alloc, self.number, 0, mappings)?;
+                let turn = look(alloc, self.parts.number, 0, mappings)?;
                 self.follow(alloc, turn, hand)
             }
         }
@@ -192,8 +227,9 @@ impl Program {
         ensures attempt { self.new.attempt ≡ self.old.attempt }
         ensures stays { result ≡ false → self.new ≡ self.old }
     {
-        match &mut self.point {
-            Point::Reading(reading) => looks_on(reading, self.number, answer, mappings),
+        let parts = &mut *self.parts;
+        match &mut parts.point {
+            Point::Reading(reading) => looks_on(reading, parts.number, answer, mappings),
             Point::Start => false,
             Point::Look => false,
             Point::Repair(_) => false,
@@ -213,23 +249,25 @@ impl Program {
         ensures attempt { StaysWhileAsking self.old self.new }
         ensures err { OnErr result (self.new ≡ self.old) }
     {
-        let hand = self.hand;
+        let hand = self.parts.hand;
         let fresh = self.fresh();
-        match &mut self.point {
+        let parts = &mut *self.parts;
+        match &mut parts.point {
             Point::Reading(reading) => {
-                match answered(alloc, &self.operation, fresh, reading, answer, mappings)? {
+                match answered(alloc, &parts.operation, fresh, reading, answer, mappings)? {
                     Some(turn) => self.follow(alloc, turn, hand),
                     None => {
                         let there = is_yes(answer);
-                        self.own
-                            .write(alloc, &self.operation, &mut self.point, there)?;
+                        parts
+                            .own
+                            .write(alloc, &parts.operation, &mut parts.point, there)?;
                         self.land(0, hand);
                         Ok(())
                     }
                 }
             }
             Point::Repair(repair) => {
-                match self.own.answer(alloc, repair, answer, mappings)? {
+                match parts.own.answer(alloc, repair, answer, mappings)? {
                     Progress::Asks => {}
                     Progress::Ends => self.land(0, hand),
                 }
@@ -258,10 +296,11 @@ impl Program {
             budget,
             answers: true,
         };
-        match &mut self.point {
+        let parts = &mut *self.parts;
+        match &mut parts.point {
             Point::Repair(repair) => {
-                match self.own.choose(alloc, repair, choice, mappings)? {
-                    Progress::Asks => self.hand = hand,
+                match parts.own.choose(alloc, repair, choice, mappings)? {
+                    Progress::Asks => parts.hand = hand,
                     Progress::Ends => self.land(0, hand),
                 }
                 Ok(())
@@ -281,8 +320,9 @@ impl Program {
     {
         match turn {
             Turn::Asks(reading) => {
-                self.point = Point::Reading(reading);
-                self.hand = hand;
+                let parts = &mut *self.parts;
+                parts.point = Point::Reading(reading);
+                parts.hand = hand;
                 Ok(())
             }
             Turn::Moves(step) => self.make(alloc, step, hand),
@@ -297,8 +337,9 @@ impl Program {
             between (moved hand.budget self.old.attempt (move_of step))) }
         ensures err { OnErr result (self.new ≡ self.old) }
     {
-        self.own.append(alloc, step.writes)?;
-        self.point = step.point;
+        let parts = &mut *self.parts;
+        parts.own.append(alloc, step.writes)?;
+        parts.point = step.point;
         self.land(step.drawn, hand);
         Ok(())
     }
@@ -312,10 +353,11 @@ impl Program {
             between (counted hand.budget hand.answers drawn self.old.attempt) }
     {
         hand.budget.is_within();
-        self.steps += 1;
-        self.nulls += drawn;
-        self.taken = taken_after(self.taken, hand.answers);
-        spend(&mut self.point, self.steps, hand.budget);
+        let parts = &mut *self.parts;
+        parts.steps += 1;
+        parts.nulls += drawn;
+        parts.taken = taken_after(parts.taken, hand.answers);
+        spend(&mut parts.point, parts.steps, hand.budget);
     }
 
     // From where the attempt draws its nulls.
@@ -324,9 +366,9 @@ impl Program {
         ensures room { result.drawn ≤ 19200 }
     {
         Fresh {
-            update: self.number,
-            attempt: self.attempt,
-            drawn: self.nulls,
+            update: self.parts.number,
+            attempt: self.parts.attempt,
+            drawn: self.parts.nulls,
         }
     }
 }

@@ -2,19 +2,16 @@
 ghost use Rattle.std.specs.Prelude.{◌≡◌, ◌+◌, ◌<◌, ◌^◌, suc, None, IfOk};
 ghost use Rattle.yt_steps.specs.Attempts.{begun};
 
-use crate::own::Own;
-use crate::points::Point;
-use crate::programs::{Hand, Program};
+use crate::programs::Program;
 use std::alloc::Global;
 use yt_base::{Memory, TryCopy};
-use yt_limits::Budget;
 
 impl Program {
     /// The attempt's number. It takes no memory.
     pub fn attempt(&self) -> u32
         ensures attempt { result ≡ self.now.attempt.attempt }
     {
-        self.attempt
+        self.parts.attempt
     }
 
     /// The next attempt at the same update, at its start. It is refused only for want of memory.
@@ -27,19 +24,7 @@ impl Program {
               reading = None;
             }) }
     {
-        Ok(Program {
-            number: self.number,
-            attempt: self.attempt + 1,
-            operation: self.operation.copy(alloc)?,
-            own: Own::none(alloc),
-            steps: 0,
-            nulls: 0,
-            taken: 0,
-            hand: Hand {
-                budget: Budget::new(1),
-                answers: false,
-            },
-            point: Point::Start,
-        })
+        let operation = self.parts.operation.copy(alloc)?;
+        Program::at_start(alloc, self.parts.number, self.parts.attempt + 1, operation)
     }
 }

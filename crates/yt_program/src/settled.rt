@@ -25,8 +25,9 @@ impl Program {
         ensures passed { HasPassed mappings.now settled.now self.old self.new }
         ensures attempt { self.new.attempt ≡ self.old.attempt }
     {
-        if let Point::Reading(reading) = &mut self.point {
-            pass(reading, self.number, settled, mappings);
+        let parts = &mut *self.parts;
+        if let Point::Reading(reading) = &mut parts.point {
+            pass(reading, parts.number, settled, mappings);
         }
     }
 
@@ -45,8 +46,9 @@ impl Program {
         ensures attempt { self.new.attempt ≡ self.old.attempt }
         ensures err { OnErr result (self.new ≡ self.old) }
     {
-        if let Point::Reading(reading) = &mut self.point {
-            pass_logged(reading, self.number, settled, mappings, made, log)?;
+        let parts = &mut *self.parts;
+        if let Point::Reading(reading) = &mut parts.point {
+            pass_logged(reading, parts.number, settled, mappings, made, log)?;
         }
         Ok(())
     }

@@ -1,4 +1,4 @@
-use Rattle.std.proofs.Common.{sym, subst}
+use Rattle.std.proofs.Common.{◌≡◌, ◌∙◌, ap, sym, subst}
 use Rattle.yt_base.specs.Listed.{Listed}
 use Rattle.yt_query.specs.Meanings.{reads_in}
 use Rattle.yt_query.specs.declared.log.Logged.{Logged}
@@ -6,6 +6,8 @@ use Rattle.yt_program.specs.Logged.{IsLogged}
 use Rattle.yt_program.specs.PointMeanings.{reading_of}
 use Rattle.yt_program.specs.Rows.{row_tree}
 use Rattle.yt_program.specs.Courses.{Course, course}
+use Rattle.yt_program.specs.Views.{state_of}
+use Rattle.yt_program.specs.declared.programs.Program.TheInside.{Inside}
 use Rattle.yt_program.proofs.Logging.{logged_none, logged_step}
 use Rattle.yt_program.proofs.Passed.{passes_on, stays_there}
 use Rattle.yt_program.proofs.programs.Program.pass_logged.Goals as goal
@@ -14,16 +16,18 @@ use Rattle.yt_program.proofs.programs.Program.pass_logged.Goals.{in-Reading+in_o
 pub returns-clause-passed : goal.returns-clause-passed
 returns-clause-passed c = λ val finds.
     let ms = c.args.mappings.now in
+    let was = c.deref_mut-parts.result.now in
+    let view : state_of was ≡ c.args.self.now = ap state_of c.deref_mut-parts.ensures.value ∙ c.self.view_is in
     let before = reads_in c.args.log.now.items in
     let Goes : Listed Logged → Course → Course → Type 0 = λ log t u. IsLogged val c.args.made t before u (reads_in log.items) in
-    elim c.match-self.branch [
+    elim c.match-parts.branch [
       | in-Reading+in_ok-pass_logged w ↦
-          passes_on ms (Goes c.match-self.log) c.self.inside c.match-self.self-inside c.args.self.now w.in-Reading.reading w.pass_logged.new.reading
-          c.self.view_is w.in-Reading.is w.self-inside-is
-          (λ P number. logged_step val c.args.made c.self.inside.hand.budget P (row_tree ms P (reading_of w.in-Reading.reading)) (row_tree ms P (reading_of w.pass_logged.new.reading)) before (reads_in c.match-self.log.items)
+          passes_on ms (Goes c.match-parts.log) was c.match-parts.self-inside.parts.value c.args.self.now w.in-Reading.reading w.pass_logged.new.reading
+          view w.in-Reading.is (ap (λ (p : Inside). p.parts.value) w.self-inside-is)
+          (λ P number. logged_step val c.args.made was.hand.budget P (row_tree ms P (reading_of w.in-Reading.reading)) (row_tree ms P (reading_of w.pass_logged.new.reading)) before (reads_in c.match-parts.log.items)
           (subst (λ (log : Listed Logged). IsLogged val c.args.made (row_tree ms P (reading_of w.in-Reading.reading)) before (row_tree ms P (reading_of w.pass_logged.new.reading)) (reads_in log.items)) (sym w.log-is) (w.in_ok-pass_logged.ensures.passed val P finds number)))
           w.pass_logged.ensures.phase
       | in_default w ↦
-          stays_there ms (Goes c.match-self.log) c.self.inside c.match-self.self-inside c.args.self.now c.self.view_is w.self-inside-is
+          stays_there ms (Goes c.match-parts.log) was c.match-parts.self-inside.parts.value c.args.self.now view (ap (λ (p : Inside). p.parts.value) w.self-inside-is)
           (subst (λ (log : Listed Logged). Goes log (course ms c.args.self.now) (course ms c.args.self.now)) (sym w.log-is) (logged_none val c.args.made (course ms c.args.self.now) before))
     ]
