@@ -116,6 +116,7 @@ impl Program {
 
     /// What is wanted next: the answer to a query exactly where the step in hand asks that query first, and else what
     /// the attempt between two steps wants. It takes no memory.
+    #[inline]
     pub fn wants(&self) -> Want<'_>
         ensures want { want_of result ≡ wish self.now }
         ensures first { (ms : List Rule) →
