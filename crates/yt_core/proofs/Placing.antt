@@ -160,7 +160,7 @@ above_more rs up k a u = subst AllHaveOneMore (sym u) (more_above rs (suc k) a)
 pub above_fresh : (rs up : List Record) (k : ℕ) (fs : List (Option ProgramState)) → up ≡ drop (suc k) rs → AreFresh up fs → AreFresh (drop (suc k) rs) fs
 above_fresh rs up k fs u a = subst (λ (qs : List Record). AreFresh qs fs) u a
 
-pub above_prepared : (ms : List Rule) (s : Settings) (c k : ℕ) (v : Kept) (rs up : List Record) (r : Record) (plan : Plan) (p : Prepared) → AreFrom 1 rs → k < length rs → r ≡ get_or rs k r → up ≡ drop (suc k) rs
-    → HasCommitted rs c → IsPrepared ms s c v r up plan p → IsPreparedAt ms s k plan v rs p
-above_prepared ms s c k v rs up r plan p a l e u counts is =
-    prepared_at ms s c k v rs r plan p a (there_is rs k r l e) counts (subst (λ (qs : List Record). IsPrepared ms s c v r qs plan p) u is)
+pub above_prepared : (ms : List Rule) (s : Settings) (c k : ℕ) (v v' : Kept) (rs up : List Record) (r : Record) (plan : Plan) (p : Prepared) → AreFrom 1 rs → k < length rs → r ≡ get_or rs k r → up ≡ drop (suc k) rs
+    → HasCommitted rs c → IsPrepared ms s c v r up plan v' p → IsPreparedAt ms s k plan v rs v' p
+above_prepared ms s c k v v' rs up r plan p a l e u counts is =
+    prepared_at ms s c k v v' rs r plan p a (there_is rs k r l e) counts (subst (λ (qs : List Record). IsPrepared ms s c v r qs plan v' p) u is)
