@@ -108,9 +108,9 @@ from_on (r ∷ rs) n (suc k) m e a = from_on rs (suc n) k m (omega (arith, e)) a
 
 -- ---- what was prepared at a place
 
-pub prepared_at : (ms : List Rule) (s : Settings) (c k : ℕ) (v : Kept) (rs : List Record) (r : Record) (plan : Plan) (p : Prepared) → AreFrom 1 rs → slice_get rs k ≡ Some r
-    → ((ms : List Rule) (B : ℕ) → c ≡ committed (caused_chase ms B) (updates_of ms B rs)) → IsPrepared ms s c v r (drop (suc k) rs) plan p → IsPreparedAt ms s k plan v rs p
-prepared_at ms s c k v rs r plan p numbers spot counts is B requests later D H r' kept spot' ready isplan =
+pub prepared_at : (ms : List Rule) (s : Settings) (c k : ℕ) (v v' : Kept) (rs : List Record) (r : Record) (plan : Plan) (p : Prepared) → AreFrom 1 rs → slice_get rs k ≡ Some r
+    → ((ms : List Rule) (B : ℕ) → c ≡ committed (caused_chase ms B) (updates_of ms B rs)) → IsPrepared ms s c v r (drop (suc k) rs) plan v' p → IsPreparedAt ms s k plan v rs v' p
+prepared_at ms s c k v v' rs r plan p numbers spot counts is B requests later D H r' kept spot' ready isplan =
     let us : List (Update (caused_chase ms B)) = updates_of ms B rs in
     let same : r ≡ r' = same_Some r r' (sym spot ∙ spot') in
     let at_us : slice_get us k ≡ Some (update_of ms B r) = slice_get-map (update_of ms B) rs k ∙ ap (option_map (update_of ms B)) spot in
@@ -123,14 +123,14 @@ prepared_at ms s c k v rs r plan p numbers spot counts is B requests later D H r
     let may : is_ready (standing (caused_chase ms B) s (committed (caused_chase ms B) us) (suc k) (update_of ms B r)) ≡ true =
     ap (λ (q : Record). is_ready (standing (caused_chase ms B) s (committed (caused_chase ms B) us) (suc k) (update_of ms B q))) same ∙ ap is_ready ready in
     let plan_is : IsPlanOf ms B (below (caused_chase ms B) D us k) r plan = subst (λ (q : Record). IsPlanOf ms B (below (caused_chase ms B) D us k) q plan) (sym same) isplan in
-    let left : IsStepLeft ms B s c r.program.attempt.number D (take k us) (update_of ms B r) (updates_of ms B (drop (suc k) rs)) p =
+    let left : IsStepLeft ms B s c r.program.attempt.number D (take k us) (update_of ms B r) (updates_of ms B (drop (suc k) rs)) v' p =
     is B D (take k us) (committed (caused_chase ms B) us) (suc k) kept.budget (number ∙ sym (ap suc long))
     (subst (λ (ws : List (Update (caused_chase ms B))). RanAbove ms B D (take k us) (update_of ms B r) ws) (sym upper) (ran_above (ground_with ms s B D requests later) v rs H kept k (update_of ms B r) at_us long)) versions may plan_is in
-    let moved : IsStepLeft ms B s (committed (caused_chase ms B) us) (suc k) D (take k us) (update_of ms B r) (updates_of ms B (drop (suc k) rs)) p =
-    subst (λ (j : ℕ). IsStepLeft ms B s (committed (caused_chase ms B) us) j D (take k us) (update_of ms B r) (updates_of ms B (drop (suc k) rs)) p) number
-    (subst (λ (d : ℕ). IsStepLeft ms B s d r.program.attempt.number D (take k us) (update_of ms B r) (updates_of ms B (drop (suc k) rs)) p) (counts ms B) left) in
-    subst (λ (q : Record). IsStepLeft ms B s (committed (caused_chase ms B) us) (suc k) D (take k us) (update_of ms B q) (drop (suc k) us) p) same
-    (subst (λ (ws : List (Update (caused_chase ms B))). IsStepLeft ms B s (committed (caused_chase ms B) us) (suc k) D (take k us) (update_of ms B r) ws p) upper moved)
+    let moved : IsStepLeft ms B s (committed (caused_chase ms B) us) (suc k) D (take k us) (update_of ms B r) (updates_of ms B (drop (suc k) rs)) v' p =
+    subst (λ (j : ℕ). IsStepLeft ms B s (committed (caused_chase ms B) us) j D (take k us) (update_of ms B r) (updates_of ms B (drop (suc k) rs)) v' p) number
+    (subst (λ (d : ℕ). IsStepLeft ms B s d r.program.attempt.number D (take k us) (update_of ms B r) (updates_of ms B (drop (suc k) rs)) v' p) (counts ms B) left) in
+    subst (λ (q : Record). IsStepLeft ms B s (committed (caused_chase ms B) us) (suc k) D (take k us) (update_of ms B q) (drop (suc k) us) v' p) same
+    (subst (λ (ws : List (Update (caused_chase ms B))). IsStepLeft ms B s (committed (caused_chase ms B) us) (suc k) D (take k us) (update_of ms B r) ws v' p) upper moved)
 
 -- ---- a step
 
@@ -154,16 +154,16 @@ pub step_follows : (ms : List Rule) (s : Settings) (B k : ℕ) (D : List Fact) (
     → IsKept (ground_with ms s B D requests later) v rs (map entry_of es) → slice_get rs k ≡ Some r
     → standing (caused_chase ms B) s (committed (caused_chase ms B) (updates_of ms B rs)) (suc k) (update_of ms B r) ≡ Ready
     → IsPlanOf ms B (below (caused_chase ms B) D (updates_of ms B rs) k) r plan
-    → IsPreparedAt ms s k plan v rs p → IsInstalled k plan p.left.fresh.items rs rs' → AreFrom 1 rs' → length rs' ≡ length rs → v' ≡ p.left.versions
+    → IsPreparedAt ms s k plan v rs v' p → IsInstalled k plan p.left.fresh.items rs rs' → AreFrom 1 rs' → length rs' ≡ length rs
     → a ≡ r.program.attempt.attempt → TellsStep s k a p.writes p.left.causes rs' e → es' ≡ es ++ e ∷ []
     → Follows (ground_with ms s B D requests later) (Steps (suc k)) (map entry_of es) v' rs' (map entry_of es')
-step_follows ms s B k D requests later es es' rs rs' v v' r plan p a e kept spot ready isplan prepared installed numbers long versions attempt told grew =
+step_follows ms s B k D requests later es es' rs rs' v v' r plan p a e kept spot ready isplan prepared installed numbers long attempt told grew =
     let g : Ground = ground_with ms s B D requests later in
     let us : List (Update (caused_chase ms B)) = updates_of ms B rs in
     let u : Update (caused_chase ms B) = update_of ms B r in
     let x : Effect (caused_chase ms B) = step_effect (caused_chase ms B) s (session_over g) us k u in
     let w : Update (caused_chase ms B) = stepped (caused_chase ms B) (below (caused_chase ms B) D us k) u in
-    let left : IsStepLeft ms B s (committed (caused_chase ms B) us) (suc k) D (take k us) u (drop (suc k) us) p = prepared B requests later D (map entry_of es) r kept spot ready isplan in
+    let left : IsStepLeft ms B s (committed (caused_chase ms B) us) (suc k) D (take k us) u (drop (suc k) us) v' p = prepared B requests later D (map entry_of es) r kept spot ready isplan in
     let at_us : slice_get us k ≡ Some u = slice_get-map (update_of ms B) rs k ∙ ap (option_map (update_of ms B)) spot in
     let us' : updates_of ms B rs' ≡ x.updates =
     installed ms B (below (caused_chase ms B) D us k) r (marks_for ms B p.left.fresh.items) spot isplan (marked_so ms B p.left.fresh.items)
@@ -184,7 +184,7 @@ step_follows ms s B k D requests later es es' rs rs' v v' r plan p a e kept spot
     follows g (map entry_of es) (map entry_of es') rs rs' v v' (Steps (suc k)) x (entry_of e) kept
     (allowed_step (caused_chase ms B) s (session_over g) us k u at_us (ap is_ready ready)) us' numbers
     long
-    (subst (λ (y : Kept). HaveTrails ms B D x.updates y) (sym versions) left.versions.stand)
+    left.versions.stand
     (ap (plain_entry ms B) (sym entry) ∙ entry_back ms B (entry_of e))
     (ap (map entry_of) grew ∙ mapped_more es e)
   where
@@ -194,13 +194,13 @@ step_follows ms s B k D requests later es es' rs rs' v v' r plan p a e kept spot
 
 -- The parts after it follow in every history.
 pub steps_to : (ms : List Rule) (s : Settings) (k : ℕ) (es es' : List Entry) (rs rs' : List Record) (v v' : Kept) (r : Record) (plan : Plan) (p : Prepared) (a : ℕ) (e : Entry) → slice_get rs k ≡ Some r
-    → IsPreparedAt ms s k plan v rs p → IsInstalled k plan p.left.fresh.items rs rs' → AreFrom 1 rs' → length rs' ≡ length rs → v' ≡ p.left.versions
+    → IsPreparedAt ms s k plan v rs v' p → IsInstalled k plan p.left.fresh.items rs rs' → AreFrom 1 rs' → length rs' ≡ length rs
     → a ≡ r.program.attempt.attempt → TellsStep s k a p.writes p.left.causes rs' e → es' ≡ es ++ e ∷ [] → StepsTo ms s k plan v rs es v' rs' es'
-steps_to ms s k es es' rs rs' v v' r plan p a e spot prepared installed numbers long versions attempt told grew B D requests later kept ready planned =
+steps_to ms s k es es' rs rs' v v' r plan p a e spot prepared installed numbers long attempt told grew B D requests later kept ready planned =
     let us : List (Update (caused_chase ms B)) = updates_of ms B rs in
     let at_us : slice_get us k ≡ Some (update_of ms B r) = slice_get-map (update_of ms B) rs k ∙ ap (option_map (update_of ms B)) spot in
     let may : standing (caused_chase ms B) s (committed (caused_chase ms B) us) (suc k) (update_of ms B r) ≡ Ready =
     same_Some _ _ (sym (ap (option_map (standing (caused_chase ms B) s (committed (caused_chase ms B) us) (suc k))) at_us) ∙ ready) in
     let is : IsStepOver ms B (below (caused_chase ms B) D us k) (update_of ms B r) (meant_of (suc k) plan) =
     subst (λ (o : Option (Update (caused_chase ms B))). IsSomeThat (λ u. IsStepOver ms B (below (caused_chase ms B) D us k) u (meant_of (suc k) plan)) o) at_us planned in
-    step_follows ms s B k D requests later es es' rs rs' v v' r plan p a e kept spot may (record { program = is.program; reads = is.reads }) prepared installed numbers long versions attempt told grew
+    step_follows ms s B k D requests later es es' rs rs' v v' r plan p a e kept spot may (record { program = is.program; reads = is.reads }) prepared installed numbers long attempt told grew

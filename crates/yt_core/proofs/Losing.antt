@@ -30,7 +30,7 @@ use Rattle.yt_steps.specs.Chase.{caused_chase}
 use Rattle.yt_versions.specs.Standing.{Kept, Retracted}
 use Rattle.yt_core.specs.Aftermaths.{Cleared, ClearedIf, in_order}
 use Rattle.yt_core.specs.Follows.{Follows, ground_with, AreSame}
-use Rattle.yt_core.specs.Kept.{IsKept, HaveTrails}
+use Rattle.yt_core.specs.Kept.{IsKept}
 use Rattle.yt_core.specs.LiveCalls.{is_live_in, is_withdrawn}
 use Rattle.yt_core.specs.States.{State, numbered_at, committed_at, standing_at}
 use Rattle.yt_core.proofs.Running.{ran_above}
@@ -53,18 +53,18 @@ trail_lost n r ws old copy new number same trail_is taken =
     subst (λ (v : Kept). ClearedIf true r v new) same
     (λ D before after stand was none others. subst (λ (m : ℕ). Retracted m (map change_of ws) copy new) number taken D before after stand (was ∙ sym (trail_is [] 0)) none others)
 
-pub loss_prepared : (ms : List Rule) (s : Settings) (c : ℕ) (old after : Kept) (r : Record) (upper : List Record) (found : List (Option CauseOfProgram)) (left : Aftermath)
+pub loss_prepared : (ms : List Rule) (s : Settings) (c : ℕ) (old after new : Kept) (r : Record) (upper : List Record) (found : List (Option CauseOfProgram)) (left : Aftermath)
     → AreFrom (suc r.program.attempt.number) upper → ClearedIf true r old after → WereLost ms s c old r upper found
-    → Cleared upper found after left.versions → AreThere found left.fresh.items → left.causes.items ≡ in_order found → IsLossPrepared ms s c old r upper left
-loss_prepared ms s c old after r upper found left from lost were cleared there causes B E lower few e ran versions =
+    → Cleared upper found after new → AreThere found left.fresh.items → left.causes.items ≡ in_order found → IsLossPrepared ms s c old r upper new left
+loss_prepared ms s c old after new r upper found left from lost were cleared there causes B E lower few e ran versions =
     let us : List (Update (caused_chase ms B)) = updates_of ms B upper in
     let u : Update (caused_chase ms B) = update_of ms B r in
     let mid : AreVersions ms B E (lower ++ withdrawn_now (caused_chase ms B) u ∷ us) after = versions_with ms B r.program.attempt.number E lower u (withdrawn_now (caused_chase ms B) u) us old after e lost versions in
-    left_by ms B _ E lower (withdrawn_now (caused_chase ms B) u) upper found after left (subst (λ (m : ℕ). AreFrom (suc m) upper) e from) (were B E lower few e ran versions) mid cleared there causes
+    left_by ms B _ E lower (withdrawn_now (caused_chase ms B) u) upper found after new left (subst (λ (m : ℕ). AreFrom (suc m) upper) e from) (were B E lower few e ran versions) mid cleared there causes
 
-pub loss_prepared_at : (ms : List Rule) (s : Settings) (c k : ℕ) (v : Kept) (rs up : List Record) (r : Record) (left : Aftermath) → AreFrom 1 rs → k < length rs → r ≡ get_or rs k r → up ≡ drop (suc k) rs
-    → HasCommitted rs c → IsLossPrepared ms s c v r up left → IsLossPreparedAt ms s k v rs left
-loss_prepared_at ms s c k v rs up r left numbers l spot above counts is B requests later D H r' kept spot' =
+pub loss_prepared_at : (ms : List Rule) (s : Settings) (c k : ℕ) (v v' : Kept) (rs up : List Record) (r : Record) (left : Aftermath) → AreFrom 1 rs → k < length rs → r ≡ get_or rs k r → up ≡ drop (suc k) rs
+    → HasCommitted rs c → IsLossPrepared ms s c v r up v' left → IsLossPreparedAt ms s k v rs v' left
+loss_prepared_at ms s c k v v' rs up r left numbers l spot above counts is B requests later D H r' kept spot' =
     let us : List (Update (caused_chase ms B)) = updates_of ms B rs in
     let there : slice_get rs k ≡ Some r = there_is rs k r l spot in
     let same : r ≡ r' = same_Some r r' (sym there ∙ spot') in
@@ -73,13 +73,13 @@ loss_prepared_at ms s c k v rs up r left numbers l spot above counts is B reques
     let upper : updates_of ms B up ≡ drop (suc k) us = ap (updates_of ms B) above ∙ dropped_map (update_of ms B) rs (suc k) in
     let all : us ≡ take k us ++ update_of ms B r ∷ updates_of ms B up = sym (cut_at us k (update_of ms B r) at_us) ∙ sym (ap (λ (ws : List (Update (caused_chase ms B))). take k us ++ update_of ms B r ∷ ws) upper) in
     let versions : AreVersions ms B D (take k us ++ update_of ms B r ∷ updates_of ms B up) v = subst (λ (ws : List (Update (caused_chase ms B))). AreVersions ms B D ws v) all (record { sorted = kept.sorted; stand = kept.versions }) in
-    let here : IsLossLeft ms B s c (suc (length (take k us))) D (take k us) (update_of ms B r) (updates_of ms B up) left =
+    let here : IsLossLeft ms B s c (suc (length (take k us))) D (take k us) (update_of ms B r) (updates_of ms B up) v' left =
     is B D (take k us) kept.budget (number_there rs k r numbers l spot ∙ sym (ap suc long))
     (subst (λ (ws : List (Update (caused_chase ms B))). RanAbove ms B D (take k us) (update_of ms B r) ws) (sym upper) (ran_above (ground_with ms s B D requests later) v rs H kept k (update_of ms B r) at_us long)) versions in
-    subst (λ (q : Record). IsLossLeft ms B s (committed (caused_chase ms B) us) (suc k) D (take k us) (update_of ms B q) (drop (suc k) us) left) same
-    (subst (λ (ws : List (Update (caused_chase ms B))). IsLossLeft ms B s (committed (caused_chase ms B) us) (suc k) D (take k us) (update_of ms B r) ws left) upper
-    (subst (λ (d : ℕ). IsLossLeft ms B s d (suc k) D (take k us) (update_of ms B r) (updates_of ms B up) left) (counts ms B)
-    (subst (λ (j : ℕ). IsLossLeft ms B s c (suc j) D (take k us) (update_of ms B r) (updates_of ms B up) left) long here)))
+    subst (λ (q : Record). IsLossLeft ms B s (committed (caused_chase ms B) us) (suc k) D (take k us) (update_of ms B q) (drop (suc k) us) v' left) same
+    (subst (λ (ws : List (Update (caused_chase ms B))). IsLossLeft ms B s (committed (caused_chase ms B) us) (suc k) D (take k us) (update_of ms B r) ws v' left) upper
+    (subst (λ (d : ℕ). IsLossLeft ms B s d (suc k) D (take k us) (update_of ms B r) (updates_of ms B up) v' left) (counts ms B)
+    (subst (λ (j : ℕ). IsLossLeft ms B s c (suc j) D (take k us) (update_of ms B r) (updates_of ms B up) v' left) long here)))
 
 -- ---- it is put in place
 
@@ -103,9 +103,9 @@ allowed_withdrawal M s S us k u spot may =
     ∙ ap (λ b. if b then Some (withdraw_effect M s S us k u) else None) may
 
 pub withdraws_to : (ms : List Rule) (s : Settings) (k : ℕ) (es es' : List Entry) (rs rs' : List Record) (v v' : Kept) (left : Aftermath) (e : Entry) → k < length rs
-    → IsLossPreparedAt ms s k v rs left → IsRemoved k left.fresh.items rs rs' → AreFrom 1 rs' → length rs' ≡ length rs → v' ≡ left.versions
+    → IsLossPreparedAt ms s k v rs v' left → IsRemoved k left.fresh.items rs rs' → AreFrom 1 rs' → length rs' ≡ length rs
     → TellsWithdrawal k left.causes rs' e → es' ≡ es ++ e ∷ [] → WithdrawsTo ms s k v rs es v' rs' es'
-withdraws_to ms s k es es' rs rs' v v' left e l prepared removed numbers long versions told grew B D requests later kept allowed =
+withdraws_to ms s k es es' rs rs' v v' left e l prepared removed numbers long told grew B D requests later kept allowed =
     let g : Ground = ground_with ms s B D requests later in
     let us : List (Update (caused_chase ms B)) = updates_of ms B rs in
     let at_rs : (r : Record) × (slice_get rs k ≡ Some r) = record_placed rs k l in
@@ -114,13 +114,13 @@ withdraws_to ms s k es es' rs rs' v v' left e l prepared removed numbers long ve
     let at_us : slice_get us k ≡ Some u = slice_get-map (update_of ms B) rs k ∙ ap (option_map (update_of ms B)) at_rs.1 in
     let may : may_withdraw (caused_chase ms B) us k u ≡ true = same_Some _ _ (sym (ap (option_map (may_withdraw (caused_chase ms B) us k)) at_us) ∙ allowed) in
     let x : Effect (caused_chase ms B) = withdraw_effect (caused_chase ms B) s (session_over g) us k u in
-    let is : IsLossLeft ms B s (committed (caused_chase ms B) us) (suc k) D (take k us) u (drop (suc k) us) left = prepared B requests later D (map entry_of es) r kept at_rs.1 in
+    let is : IsLossLeft ms B s (committed (caused_chase ms B) us) (suc k) D (take k us) u (drop (suc k) us) v' left = prepared B requests later D (map entry_of es) r kept at_rs.1 in
     let us' : updates_of ms B rs' ≡ x.updates =
     removed ms B r (marks_for ms B left.fresh.items) at_rs.1 (marked_so ms B left.fresh.items)
     ∙ ap (λ (ws : List (Update (caused_chase ms B))). take k us ++ withdrawn_now (caused_chase ms B) u ∷ ws) (is.restarts (marks_for ms B left.fresh.items) (marked_so ms B left.fresh.items)) in
     let entry : entry_kept ms B (entry_of e) ≡ x.entry = ap (entry_kept ms B) (told ms B) ∙ (λ i. Withdrew (suc k) (is.told i) (committed (caused_chase ms B) (us' i))) in
     follows g (map entry_of es) (map entry_of es') rs rs' v v' (Withdraws (suc k)) x (entry_of e) kept (allowed_withdrawal (caused_chase ms B) s (session_over g) us k u at_us may) us' numbers
-    long (subst (λ (y : Kept). HaveTrails ms B D x.updates y) (sym versions) is.versions.stand)
+    long is.versions.stand
     (ap (plain_entry ms B) (sym entry) ∙ entry_back ms B (entry_of e)) (ap (map entry_of) grew ∙ mapped_more es e)
 
 -- With the room that was made in the history.

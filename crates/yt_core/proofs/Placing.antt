@@ -3,7 +3,7 @@ use Rattle.std.proofs.Common.{◌≡◌, ◌∙◌, ap, refl, sym, subst, ℕ, z
 use Rattle.std.proofs.Math.ListN.{set}
 use Rattle.std.proofs.lemmas.List.{drop_all}
 use Rattle.std.proofs.lemmas.Option.{same_Some, slice_get-map}
-use Rattle.std.specs.Prelude.{Result, Ok, Err, IfOk, is_some, slice_get, option_map}
+use Rattle.std.specs.Prelude.{Result, Ok, Err, IfOk, OnErr, OnOk, is_some, slice_get, option_map}
 use Rattle.yt_entries.specs.declared.causes.Cause.{Cause as CauseOfProgram}
 use Rattle.yt_machine.specs.Cascade.{Cause}
 use Rattle.yt_machine.specs.Settle.{restart}
@@ -37,6 +37,11 @@ use Rattle.yt_core.proofs.Telling.{there_is, number_there}
 pub if_ok : {A E : Type 0} (r : Result A E) (P Q : A → Type 0) → ((x : A) → P x → Q x) → IfOk r P → IfOk r Q
 if_ok (Ok x) P Q f h = f x h
 if_ok (Err e) P Q f h = tt
+
+-- What comes of either side is true.
+pub on_either : {A E : Type 0} (r : Result A E) (P Q R : Type 0) → (P → R) → (Q → R) → OnOk r P → OnErr r Q → R
+on_either (Ok x) P Q R f g ok err = f ok
+on_either (Err e) P Q R f g ok err = g err
 
 -- ---- all of the updates above
 
@@ -160,7 +165,7 @@ above_more rs up k a u = subst AllHaveOneMore (sym u) (more_above rs (suc k) a)
 pub above_fresh : (rs up : List Record) (k : ℕ) (fs : List (Option ProgramState)) → up ≡ drop (suc k) rs → AreFresh up fs → AreFresh (drop (suc k) rs) fs
 above_fresh rs up k fs u a = subst (λ (qs : List Record). AreFresh qs fs) u a
 
-pub above_prepared : (ms : List Rule) (s : Settings) (c k : ℕ) (v : Kept) (rs up : List Record) (r : Record) (plan : Plan) (p : Prepared) → AreFrom 1 rs → k < length rs → r ≡ get_or rs k r → up ≡ drop (suc k) rs
-    → HasCommitted rs c → IsPrepared ms s c v r up plan p → IsPreparedAt ms s k plan v rs p
-above_prepared ms s c k v rs up r plan p a l e u counts is =
-    prepared_at ms s c k v rs r plan p a (there_is rs k r l e) counts (subst (λ (qs : List Record). IsPrepared ms s c v r qs plan p) u is)
+pub above_prepared : (ms : List Rule) (s : Settings) (c k : ℕ) (v v' : Kept) (rs up : List Record) (r : Record) (plan : Plan) (p : Prepared) → AreFrom 1 rs → k < length rs → r ≡ get_or rs k r → up ≡ drop (suc k) rs
+    → HasCommitted rs c → IsPrepared ms s c v r up plan v' p → IsPreparedAt ms s k plan v rs v' p
+above_prepared ms s c k v v' rs up r plan p a l e u counts is =
+    prepared_at ms s c k v v' rs r plan p a (there_is rs k r l e) counts (subst (λ (qs : List Record). IsPrepared ms s c v r qs plan v' p) u is)

@@ -195,19 +195,19 @@ found_in_loss a s new r upper plan ws found b d n spent f trail_is are B E lower
 -- ---- together
 
 -- What is left of the causes that were found, where update w stands above the lower ones now.
-pub left_by : (ms : List Rule) (B : ℕ) (causes : List (Cause (caused_chase ms B))) (E : List Fact) (lower : List (Update (caused_chase ms B))) (w : Update (caused_chase ms B)) (upper : List Record) (found : List (Option CauseOfProgram)) (mid : Kept) (left : Aftermath)
+pub left_by : (ms : List Rule) (B : ℕ) (causes : List (Cause (caused_chase ms B))) (E : List Fact) (lower : List (Update (caused_chase ms B))) (w : Update (caused_chase ms B)) (upper : List Record) (found : List (Option CauseOfProgram)) (mid new : Kept) (left : Aftermath)
     → AreFrom (suc (suc (length lower))) upper → IsFound ms B causes (suc (suc (length lower))) (updates_of ms B upper) found → AreVersions ms B E (lower ++ w ∷ updates_of ms B upper) mid
-    → Cleared upper found mid left.versions → AreThere found left.fresh.items → left.causes.items ≡ in_order found → IsLeft ms B causes E lower w (suc (length lower)) (updates_of ms B upper) left
-left_by ms B causes E lower w upper found mid left from is versions cleared there told =
+    → Cleared upper found mid new → AreThere found left.fresh.items → left.causes.items ≡ in_order found → IsLeft ms B causes E lower w (suc (length lower)) (updates_of ms B upper) new left
+left_by ms B causes E lower w upper found mid new left from is versions cleared there told =
     let us : List (Update (caused_chase ms B)) = updates_of ms B upper in
     let mid' : AreVersions ms B E ((lower ++ w ∷ []) ++ us) mid = subst (λ (xs : List (Update (caused_chase ms B))). AreVersions ms B E xs mid) (sym (one_by_one ms B lower w us)) versions in
-    let cut : AreVersions ms B E ((lower ++ w ∷ []) ++ restart (caused_chase ms B) (suc (suc (length lower))) (all_found ms B found) us) left.versions =
-    versions_cleared ms B (suc (suc (length lower))) E (lower ++ w ∷ []) upper found (all_found ms B found) mid left.versions (ap suc (more lower w)) from (all_marked ms B found) cleared mid' in
+    let cut : AreVersions ms B E ((lower ++ w ∷ []) ++ restart (caused_chase ms B) (suc (suc (length lower))) (all_found ms B found) us) new =
+    versions_cleared ms B (suc (suc (length lower))) E (lower ++ w ∷ []) upper found (all_found ms B found) mid new (ap suc (more lower w)) from (all_marked ms B found) cleared mid' in
     record {
       told = ap (λ cs. map (cause_kept ms B) (map cause_of cs)) told ∙ is.told;
       restarts = λ xs m. is.restarts xs (m ∙ there);
       versions =
-          subst (λ (xs : List (Update (caused_chase ms B))). AreVersions ms B E xs left.versions)
+          subst (λ (xs : List (Update (caused_chase ms B))). AreVersions ms B E xs new)
           (one_by_one ms B lower w (restart (caused_chase ms B) (suc (suc (length lower))) (all_found ms B found) us)
           ∙ ap (λ (xs : List (Update (caused_chase ms B))). lower ++ w ∷ xs) (is.restarts (all_found ms B found) (all_marked ms B found))) cut;
     }
@@ -216,18 +216,18 @@ left_by ms B causes E lower w upper found mid left from is versions cleared ther
     more [] x = refl
     more (y ∷ xs) x = ap suc (more xs x)
 
-pub step_prepared : (ms : List Rule) (s : Settings) (c : ℕ) (old after : Kept) (r : Record) (upper : List Record) (plan : Plan) (found : List (Option CauseOfProgram)) (ws : List Write) (p : Prepared)
+pub step_prepared : (ms : List Rule) (s : Settings) (c : ℕ) (old after new : Kept) (r : Record) (upper : List Record) (plan : Plan) (found : List (Option CauseOfProgram)) (ws : List Write) (p : Prepared)
     → AreFrom (suc r.program.attempt.number) upper → ShowsStep r plan old after → WereFound ms s c old after r upper plan found
-    → Cleared upper found after p.left.versions → AreThere found p.left.fresh.items → p.left.causes.items ≡ in_order found → HasWritten r plan ws → map change_of p.writes.items ≡ map change_of ws
-    → IsPrepared ms s c old r upper plan p
-step_prepared ms s c old after r upper plan found ws p from shows were cleared there causes written same B E lower k n few e ran versions may isplan =
+    → Cleared upper found after new → AreThere found p.left.fresh.items → p.left.causes.items ≡ in_order found → HasWritten r plan ws → map change_of p.writes.items ≡ map change_of ws
+    → IsPrepared ms s c old r upper plan new p
+step_prepared ms s c old after new r upper plan found ws p from shows were cleared there causes written same B E lower k n few e ran versions may isplan =
     let us : List (Update (caused_chase ms B)) = updates_of ms B upper in
     let u : Update (caused_chase ms B) = update_of ms B r in
     let v : Update (caused_chase ms B) = after_step ms B E lower u in
     let mid : AreVersions ms B E (lower ++ v ∷ us) after = versions_with ms B r.program.attempt.number E lower u v us old after e (shows ms B (laid ms B E lower) s k n may isplan) versions in
-    let left : IsLeft ms B (causes_above ms B s c (suc (length lower)) E lower u us) E lower v (suc (length lower)) us p.left =
-    left_by ms B (causes_above ms B s c (suc (length lower)) E lower u us) E lower v upper found after p.left (subst (λ (m : ℕ). AreFrom (suc m) upper) e from) (were B E lower k n few e ran may versions mid isplan) mid cleared there causes in
-    subst (λ (j : ℕ). IsStepLeft ms B s c j E lower u us p) (sym e)
+    let left : IsLeft ms B (causes_above ms B s c (suc (length lower)) E lower u us) E lower v (suc (length lower)) us new p.left =
+    left_by ms B (causes_above ms B s c (suc (length lower)) E lower u us) E lower v upper found after new p.left (subst (λ (m : ℕ). AreFrom (suc m) upper) e from) (were B E lower k n few e ran may versions mid isplan) mid cleared there causes in
+    subst (λ (j : ℕ). IsStepLeft ms B s c j E lower u us new p) (sym e)
     (record { causes = left.told; restarts = left.restarts; versions = left.versions; writes = same ∙ written ms B (laid ms B E lower) isplan })
 
 -- The same where the update's number and the versions were handed over.
@@ -243,14 +243,14 @@ shows_more_by r plan ws b n old copy new hidden t written e same put =
 
 -- ---- where none of the updates above has read anything
 
-cleared_none : (upper : List Record) (v w : Kept) → v ≡ w → Cleared upper [] v w
-cleared_none [] v w e = e
-cleared_none (r ∷ rs) v w e = e
+cleared_none : (upper : List Record) (v : Kept) → Cleared upper [] v v
+cleared_none [] v = refl
+cleared_none (r ∷ rs) v = refl
 
 pub step_alone : (old after : Kept) (r : Record) (plan : Plan) (ws : List Write) (hidden spent : Bool) (p : Prepared) → HasHidden plan.program hidden → hidden ≡ false → HasSpent plan.program spent → spent ≡ false
-    → HasWritten r plan ws → ShowsStep r plan old after → p.left.versions ≡ after → p.left.fresh.items ≡ [] → p.left.causes.items ≡ [] → map change_of p.writes.items ≡ map change_of ws → IsPreparedAlone old r plan p
-step_alone old after r plan ws hidden spent p hides shown spends unspent written shows versions fresh causes same ms s c upper from unread =
+    → HasWritten r plan ws → ShowsStep r plan old after → p.left.fresh.items ≡ [] → p.left.causes.items ≡ [] → map change_of p.writes.items ≡ map change_of ws → IsPreparedAlone old r plan after p
+step_alone old after r plan ws hidden spent p hides shown spends unspent written shows fresh causes same ms s c upper from unread =
     let a : Above = record { rules = ms; deps = s.deps; committed = c; update = r.program.attempt.number; sense = Came; whole = after } in
-    step_prepared ms s c old after r upper plan [] ws p from shows
+    step_prepared ms s c old after after r upper plan [] ws p from shows
     (found_in_writes a s old r upper plan ws [] spent refl refl spends unspent (turned_more r plan ws hidden hides shown written) (none_read a (map change_of ws) upper unread))
-    (cleared_none upper after p.left.versions (sym versions)) (ap (map is_some) fresh) causes written same
+    (cleared_none upper after) (ap (map is_some) fresh) causes written same

@@ -41,6 +41,17 @@ put_back rs k r p spot e =
     set_back rs k r (record { program = p; log = r.log; withdrawn = r.withdrawn; answers = r.answers; inbox = r.inbox; footprint = r.footprint }) spot
     (λ i. record { program = e i; log = r.log; withdrawn = r.withdrawn; answers = r.answers; inbox = r.inbox; footprint = r.footprint })
 
+-- The records are the same where the attempt of one was lent, and is as it was.
+pub lent_back : (rs : List Record) (k : ℕ) (r : Record) (p : ProgramState) → k < length rs → r ≡ get_or rs k r → p ≡ (get_or rs k r).program
+    → set rs k (record { program = p; log = (get_or rs k r).log; withdrawn = (get_or rs k r).withdrawn; answers = (get_or rs k r).answers; inbox = (get_or rs k r).inbox; footprint = (get_or rs k r).footprint }) ≡ rs
+lent_back rs k r p l e stays = put_back rs k (get_or rs k r) p (there_is rs k r l e ∙ ap (λ q. Some q) e) stays
+
+-- What then stands at the place stood there.
+pub lent_there : (rs : List Record) (k : ℕ) (r : Record) (p : ProgramState) (q : Record) → k < length rs → r ≡ get_or rs k r → p ≡ (get_or rs k r).program
+    → q ≡ get_or (set rs k (record { program = p; log = (get_or rs k r).log; withdrawn = (get_or rs k r).withdrawn; answers = (get_or rs k r).answers; inbox = (get_or rs k r).inbox; footprint = (get_or rs k r).footprint })) k q
+    → slice_get rs k ≡ Some (get_or (set rs k (record { program = p; log = (get_or rs k r).log; withdrawn = (get_or rs k r).withdrawn; answers = (get_or rs k r).answers; inbox = (get_or rs k r).inbox; footprint = (get_or rs k r).footprint })) k q)
+lent_there rs k r p q l e stays f = there_is rs k q l (f ∙ ap (λ ps. get_or ps k q) (lent_back rs k r p l e stays)) ∙ ap (λ o. Some o) f
+
 pub between_there : (rs : List Record) (k : ℕ) (r : Record) → AreFrom 1 rs → k < length rs → r ≡ get_or rs k r → IsBetween r.program
 between_there rs k r a l e = (stands_at rs 1 k r a (there_is rs k r l e)).between
 

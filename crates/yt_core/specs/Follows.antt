@@ -71,13 +71,14 @@ IsPlanAt k plan rs = IsSomeThat (λ (r : Record). IsPlanFor r plan) (slice_get r
 abbrev pub HasAnswerRoomAt : ℕ → List Record → Type 0
 HasAnswerRoomAt k rs = IsSomeThat (λ (r : Record). HasRoom r) (slice_get rs k)
 
--- What was prepared is what the step of the plan leaves, in any history of the queue.
-abbrev pub IsPreparedAt : List Rule → Settings → ℕ → Plan → Kept → List Record → Prepared → Type 0
-IsPreparedAt ms s k plan v rs p =
+-- What was prepared, with the second versions in place of the first, is what the step of the plan leaves, in any history of the
+-- queue.
+abbrev pub IsPreparedAt : List Rule → Settings → ℕ → Plan → Kept → List Record → Kept → Prepared → Type 0
+IsPreparedAt ms s k plan v rs v' p =
     (B : ℕ) (requests : List Request) (later : List Operation) (D : List Fact) (H : List PlainEntry) (r : Record) → IsKept (ground_with ms s B D requests later) v rs H → slice_get rs k ≡ Some r
     → standing (caused_chase ms B) s (committed (caused_chase ms B) (updates_of ms B rs)) (suc k) (update_of ms B r) ≡ Ready
     → IsPlanOf ms B (below (caused_chase ms B) D (updates_of ms B rs) k) r plan
-    → IsStepLeft ms B s (committed (caused_chase ms B) (updates_of ms B rs)) (suc k) D (take k (updates_of ms B rs)) (update_of ms B r) (drop (suc k) (updates_of ms B rs)) p
+    → IsStepLeft ms B s (committed (caused_chase ms B) (updates_of ms B rs)) (suc k) D (take k (updates_of ms B rs)) (update_of ms B r) (drop (suc k) (updates_of ms B rs)) v' p
 
 -- Those that were committed before are so still, as far as they stand below the place.
 abbrev pub KeepsCommitted : ℕ → List Record → List Record → Type 0

@@ -64,12 +64,12 @@ module _ (ms : List Rule) (B : ℕ) where
   abbrev pub restarted_above : Settings → ℕ → ℕ → List Fact → List (Update (caused_chase ms B)) → Update (caused_chase ms B) → List (Update (caused_chase ms B)) → List (Update (caused_chase ms B))
   restarted_above s c j E lower u upper = restarted (caused_chase ms B) (readers (causes_above s c j E lower u upper)) (suc j) upper
 
-  -- What that step leaves: its causes, the restarts, the versions, and its writes.
-  pub record IsStepLeft (s : Settings) (c j : ℕ) (E : List Fact) (lower : List (Update (caused_chase ms B))) (u : Update (caused_chase ms B)) (upper : List (Update (caused_chase ms B))) (p : Prepared) : Type 0 where
+  -- What that step leaves: its causes, the restarts, these versions, and its writes.
+  pub record IsStepLeft (s : Settings) (c j : ℕ) (E : List Fact) (lower : List (Update (caused_chase ms B))) (u : Update (caused_chase ms B)) (upper : List (Update (caused_chase ms B))) (v : Kept) (p : Prepared) : Type 0 where
     pub causes : map (cause_kept ms B) (map cause_of p.left.causes.items) ≡ causes_above s c j E lower u upper
     pub restarts : (xs : List (Option (Cause (caused_chase ms B)))) → map is_some xs ≡ map is_some p.left.fresh.items
         → restart (caused_chase ms B) (suc j) xs upper ≡ restarted_above s c j E lower u upper
-    pub versions : AreVersions ms B E (lower ++ after_step E lower u ∷ restarted_above s c j E lower u upper) p.left.versions
+    pub versions : AreVersions ms B E (lower ++ after_step E lower u ∷ restarted_above s c j E lower u upper) v
     pub writes : map change_of p.writes.items ≡ writes_of_step (caused_chase ms B) (laid ms B E lower) u
 
 -- In any history of these mappings where the plan is the step of the update, which is ready: the versions then have its
@@ -100,15 +100,15 @@ WereFound ms s c old new r upper plan found =
     → IsFound ms B (causes_above ms B s c (suc (length lower)) E lower (update_of ms B r) (updates_of ms B upper)) (suc (suc (length lower))) (updates_of ms B upper) found
 
 -- In any history of these mappings over E where the update stands above the lower ones and is ready, and the plan is that
--- of its step: what was prepared is what the step leaves.
-abbrev pub IsPrepared : List Rule → Settings → ℕ → Kept → Record → List Record → Plan → Prepared → Type 0
-IsPrepared ms s c v r upper plan p =
+-- of its step: what was prepared, with the second versions in place of the first, is what the step leaves.
+abbrev pub IsPrepared : List Rule → Settings → ℕ → Kept → Record → List Record → Plan → Kept → Prepared → Type 0
+IsPrepared ms s c v r upper plan v' p =
     (B : ℕ) (E : List Fact) (lower : List (Update (caused_chase ms B))) (k n : ℕ) → 1 ≤ B → r.program.attempt.number ≡ suc (length lower)
     → RanAbove ms B E lower (update_of ms B r) (updates_of ms B upper)
     → AreVersions ms B E (lower ++ update_of ms B r ∷ updates_of ms B upper) v → MayStep ms B s k n r
-    → IsPlanOf ms B (laid ms B E lower) r plan → IsStepLeft ms B s c r.program.attempt.number E lower (update_of ms B r) (updates_of ms B upper) p
+    → IsPlanOf ms B (laid ms B E lower) r plan → IsStepLeft ms B s c r.program.attempt.number E lower (update_of ms B r) (updates_of ms B upper) v' p
 
 -- The same whichever updates stand above, of which none has read anything.
-abbrev pub IsPreparedAlone : Kept → Record → Plan → Prepared → Type 0
-IsPreparedAlone v r plan p =
-    (ms : List Rule) (s : Settings) (c : ℕ) (upper : List Record) → AreFrom (suc r.program.attempt.number) upper → ReadsAtMost upper 0 → IsPrepared ms s c v r upper plan p
+abbrev pub IsPreparedAlone : Kept → Record → Plan → Kept → Prepared → Type 0
+IsPreparedAlone v r plan v' p =
+    (ms : List Rule) (s : Settings) (c : ℕ) (upper : List Record) → AreFrom (suc r.program.attempt.number) upper → ReadsAtMost upper 0 → IsPrepared ms s c v r upper plan v' p

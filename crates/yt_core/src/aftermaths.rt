@@ -1,4 +1,4 @@
-//! What an event leaves of the versions and of the updates above it, made before anything is changed.
+//! What an event leaves of the updates above it and of the versions, made before anything is changed.
 ghost use Rattle.std.specs.Prelude.{◌≡◌, ◌≤◌, ◌++◌, length, is_some, IfOk, OnOk};
 ghost use Rattle.yt_queue.specs.Programs.{IsBetween};
 ghost use Rattle.yt_queue.specs.Renewals.{AllHaveOneMore, AreFresh, AreThere};
@@ -11,72 +11,67 @@ use yt_program::Program;
 use yt_queue::{Record, fresh_programs};
 use yt_versions::Versions;
 
-/// What an event leaves: the versions, the next attempts of the updates above it that are restarted, and why they are.
+/// What an event leaves beside the versions: the next attempts of the updates above it that are restarted, and why they are.
 #[derive(Drop)]
 pub(crate) struct Aftermath {
-    pub(crate) versions: Versions,
     pub(crate) fresh: Vec<Option<Program>>,
     pub(crate) causes: CauseList,
 }
 
 /// What is left where the updates above restart that have a cause, which was looked for among the first of them: the
-/// versions, which are handed over, lose their trails. It is refused only for want of memory.
+/// versions lose their trails. It is refused only for want of memory; some of the trails may be gone then.
 pub(crate) fn settled(
     alloc: Global,
-    versions: Versions,
+    versions: &mut Versions,
     upper: &[Record],
     found: Vec<Option<Cause>>,
 ) -> Result<Aftermath, Memory>
     requires long { length found.items ≤ length upper.now }
     requires more { AllHaveOneMore upper.now }
     requires between { AllBetween upper.now }
-    ensures cleared { IfOk result (λ left. Cleared upper.now found.items versions left.versions) }
+    ensures cleared { OnOk result (Cleared upper.now found.items versions.old versions.new) }
     ensures fresh { IfOk result (λ left. AreFresh upper.now left.fresh.items) }
     ensures there { IfOk result (λ left. AreThere found.items left.fresh.items) }
     ensures causes { IfOk result (λ left. left.causes.items ≡ in_order_lem found.items) }
 {
     let fresh = fresh_programs(alloc, upper, &found)?;
-    let versions = without_restarted(alloc, versions, upper, &found)?;
+    clear(alloc, versions, upper, &found)?;
     let causes = in_order(alloc, found)?;
-    Ok(Aftermath {
-        versions,
-        fresh,
-        causes,
-    })
+    Ok(Aftermath { fresh, causes })
 }
 
-// The versions without the trails of the updates that have a cause.
-fn without_restarted(
+// Takes back the trails of the updates that have a cause.
+fn clear(
     alloc: Global,
-    mut versions: Versions,
+    versions: &mut Versions,
     upper: &[Record],
     found: &[Option<Cause>],
-) -> Result<Versions, Memory>
+) -> Result<(), Memory>
     requires long { length found.now ≤ length upper.now }
     requires between { AllBetween upper.now }
-    ensures cleared { IfOk result (Cleared upper.now found.now versions) }
+    ensures cleared { OnOk result (Cleared upper.now found.now versions.old versions.new) }
 {
     for i in 0..found.len() {
-        versions = without_one(alloc, versions, &upper[i], &found[i])?;
+        clear_one(alloc, versions, &upper[i], &found[i])?;
     }
-    Ok(versions)
+    Ok(())
 }
 
-// The versions without the trail of the update, if it has a cause.
-fn without_one(
+// Takes back the trail of the update, if it has a cause.
+fn clear_one(
     alloc: Global,
-    mut versions: Versions,
+    versions: &mut Versions,
     item: &Record,
     cause: &Option<Cause>,
-) -> Result<Versions, Memory>
+) -> Result<(), Memory>
     requires between { IsBetween item.now.program }
-    ensures cleared { IfOk result (ClearedIf (is_some cause.now) item.now versions) }
+    ensures cleared { OnOk result
+        (ClearedIf (is_some cause.now) item.now versions.old versions.new) }
 {
     if cause.is_some() {
         versions.retract(alloc, item.number(), item.trail())?;
-        return Ok(versions);
     }
-    Ok(versions)
+    Ok(())
 }
 
 // The causes: the conflicts, and then the dependences, each in number order.

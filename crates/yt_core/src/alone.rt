@@ -1,7 +1,7 @@
 //! A step above which nobody has read anything: its writes go in place, and no update restarts.
 ghost use Rattle.std.specs.Prelude.{◌≡◌, [], false, IsTrue, IfOk, OnErr};
 ghost use Rattle.yt_queue.specs.Programs.{HasSpent, IsBetween};
-ghost use Rattle.yt_core.specs.Steps.{HasHidden, IsPreparedAlone, ShowsStep};
+ghost use Rattle.yt_core.specs.Steps.{HasHidden, IsPreparedAlone};
 
 use crate::aftermaths::Aftermath;
 use crate::stepping::{Prepared, copied, hides};
@@ -29,8 +29,8 @@ pub(crate) fn is_alone(readers: usize, program: &Program) -> bool
     !has_spent(program)
 }
 
-/// What the step of the plan leaves, where none of the updates above has read anything. The versions are handed over, with its
-/// writes in place. It is refused only for want of memory; the versions are then as they were.
+/// What the step of the plan leaves, where none of the updates above has read anything. Its writes go into the versions, which
+/// is the last that can fail. It is refused only for want of memory; the versions are then as they were.
 pub(crate) fn prepare_alone(
     alloc: Global,
     versions: &mut Versions,
@@ -41,41 +41,18 @@ pub(crate) fn prepare_alone(
     requires after { IsBetween plan.now.program }
     requires shown { HasHidden plan.now.program false }
     requires unspent { HasSpent plan.now.program false }
-    ensures prepared { IfOk result (IsPreparedAlone versions.old item.now plan.now) }
+    ensures prepared { IfOk result (IsPreparedAlone versions.old item.now plan.now versions.new) }
     ensures fresh { IfOk result (λ p. p.left.fresh.items ≡ []) }
     ensures err { OnErr result (versions.new ≡ versions.old) }
 {
-    let writes = copied(alloc, item.written(plan))?;
-    let after = published(alloc, versions, item, plan)?;
+    let written = item.written(plan);
+    let writes = copied(alloc, written)?;
+    versions.publish(alloc, item.number(), written)?;
     Ok(Prepared {
         writes,
         left: Aftermath {
-            versions: after,
             fresh: Vec::new(alloc),
             causes: CauseList::new(alloc),
         },
     })
-}
-
-// The versions, handed over, with the writes that the step shows.
-fn published(
-    alloc: Global,
-    versions: &mut Versions,
-    item: &Record,
-    plan: &Plan,
-) -> Result<Versions, Memory>
-    requires between { IsBetween item.now.program }
-    requires after { IsBetween plan.now.program }
-    requires shown { HasHidden plan.now.program false }
-    ensures shows { IfOk result (ShowsStep item.now plan.now versions.old) }
-    ensures err { OnErr result (versions.new ≡ versions.old) }
-{
-    let mut after = versions.hand_over()?;
-    match after.publish(alloc, item.number(), item.written(plan)) {
-        Ok(()) => Ok(after),
-        Err(refusal) => {
-            *versions = after;
-            Err(refusal)
-        }
-    }
 }

@@ -17,7 +17,7 @@ ghost use Rattle.yt_core.specs.Planned.{IsStepAt};
 use crate::admitting::{admissions, admitted};
 use crate::deliveries::deliver_at;
 use crate::known::Known;
-use crate::plans::{Plan, Snapshot, branch_at, plan_at, snapshot_at};
+use crate::plans::{Plan, Snapshot, plan_at, snapshot_at};
 use crate::putting::{least_below, step_at};
 use crate::refusals::{DeliverRefusal, StepRefusal};
 use crate::standings::{has_waiting, place_of, question, standing};
@@ -251,18 +251,11 @@ impl<'s> Core<'s> {
         ensures step { IfOk result (IsStepAt self.old) }
     {
         let place = place_of(update);
-        let branch = branch_at(alloc, &mut self.queue, place)?;
-        let plan = plan_at(
-            alloc,
-            &self.mappings,
-            self.budget,
-            &self.versions,
-            &self.queue,
-            place,
-            branch,
-            &mut self.known,
-        )?;
-        Ok(plan)
+        let mappings = &self.mappings;
+        let versions = &self.versions;
+        let queue = &mut self.queue;
+        let known = &mut self.known;
+        plan_at(alloc, mappings, self.budget, versions, queue, place, known)
     }
 
     /// Makes the step of the plan, which is the next one of its update at the present state. It gives the number of the

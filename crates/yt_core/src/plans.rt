@@ -122,48 +122,33 @@ impl<'s> Snapshot<'s> {
     }
 }
 
-/// A copy of the attempt of the update at the place to make its next step on, which takes along what the attempt keeps to make more
-/// writes. It is refused only for want of memory. The updates stay as they are.
-pub(crate) fn branch_at(
-    alloc: Global,
-    queue: &mut [Record],
-    place: usize,
-) -> Result<Program, Memory>
-    requires place { place < length queue.old }
-    ensures branch { IfOk result (λ branch. AtPlace place queue.old (λ r. branch ≡ r.program)) }
-    ensures same { queue.new ≡ queue.old }
-    ensures long { length queue.new ≡ length queue.old }
-{
-    let branch = queue[place].program.branch(alloc)?;
-    Ok(branch)
-}
-
-/// The plan of the next step of the update at the place, which is ready, on a branch of its attempt, by what is known of it; its
-/// marks are kept. It is refused only for want of memory; there are then marks of no update.
+/// The plan of the next step of the update at the place, which is ready, by what is known of it; its marks are kept. It is made on a
+/// branch of the attempt, which takes along what the attempt keeps to make more writes. It is refused only for want of memory;
+/// there are then marks of no update, or the same. The updates stay as they are.
 pub(crate) fn plan_at(
     alloc: Global,
     mappings: &TouchedMappings<'_>,
     budget: Budget,
     versions: &Versions,
-    queue: &[Record],
+    queue: &mut [Record],
     place: usize,
-    branch: Program,
     known: &mut Known,
 ) -> Result<Plan, Memory>
-    requires place { place < length queue.now }
-    requires branch { AtPlace place queue.now (λ r. branch ≡ r.program) }
-    requires numbers { AreFrom 1 queue.now }
-    requires ready { AtPlace place queue.now IsReadySomewhere }
-    requires left { AtPlace place queue.now (λ r. r.program.attempt.steps < budget) }
-    requires held { AtPlace place queue.now (IsHeldBy mappings.now versions.now) }
-    requires known { IsKnown mappings.now versions.now queue.now known.old }
-    ensures planned { IfOk result (λ plan. AtPlace place queue.now (λ r. IsSnapshotOf
+    requires place { place < length queue.old }
+    requires numbers { AreFrom 1 queue.old }
+    requires ready { AtPlace place queue.old IsReadySomewhere }
+    requires left { AtPlace place queue.old (λ r. r.program.attempt.steps < budget) }
+    requires held { AtPlace place queue.old (IsHeldBy mappings.now versions.now) }
+    requires known { IsKnown mappings.now versions.now queue.old known.old }
+    ensures planned { IfOk result (λ plan. AtPlace place queue.old (λ r. IsSnapshotOf
         mappings.now budget versions.now r plan)) }
-    ensures known { IsKnown mappings.now versions.now queue.now known.new }
+    ensures known { IsKnown mappings.now versions.now queue.old known.new }
+    ensures same { queue.new ≡ queue.old }
+    ensures long { length queue.new ≡ length queue.old }
 {
+    let branch = queue[place].program.branch(alloc)?;
     let item = &queue[place];
-    let plan = plan_of(alloc, mappings, budget, versions, item, branch, known)?;
-    Ok(plan)
+    plan_of(alloc, mappings, budget, versions, item, branch, known)
 }
 
 // The plan of the next step of the record, which is ready, on a branch of its attempt, by what is known of it; its marks are kept.

@@ -56,9 +56,7 @@ pub(crate) fn step_at(
     match ready_step(
         alloc, mappings, settings, least, most, versions, queue, history, place, &plan,
     ) {
-        Ok(prepared) => Ok(put_step(
-            settings, least, versions, queue, history, place, plan, prepared,
-        )),
+        Ok(prepared) => Ok(put_step(settings, least, queue, history, place, plan, prepared)),
         Err(refusal) => {
             drop(plan);
             Err(refusal)
@@ -67,7 +65,7 @@ pub(crate) fn step_at(
 }
 
 // Makes room for the step of the plan, and prepares what it leaves, where at least so many are committed and at most so many
-// have read something. The versions may be handed over with it. It is refused only for want of memory; the versions are then
+// have read something. The versions are put in place with it. It is refused only for want of memory; the versions are then
 // as they were. What queue and history mean stays.
 fn ready_step(
     alloc: Global,
@@ -91,7 +89,7 @@ fn ready_step(
     ensures room { OnOk result (HasRoomAt place plan.now queue.new) }
     ensures spare { OnOk result (1 ≤ history.new.spare) }
     ensures prepared { IfOk result (IsPreparedAt mappings.now
-        (settings_of settings) place plan.now versions.old queue.new) }
+        (settings_of settings) place plan.now versions.old queue.new versions.new) }
     ensures fresh { IfOk result (λ p. AreFresh (drop (suc place) queue.new) p.left.fresh.items) }
     ensures versions { OnErr result (versions.new ≡ versions.old) }
     ensures same { AreSame queue.old queue.new }
@@ -104,12 +102,11 @@ fn ready_step(
     )
 }
 
-// Puts the step of the plan in place, which was prepared: it is the next one of the update at the place, where at least so many
-// are committed. It gives how many are committed then. There is room for it, so that it takes no memory.
+// Puts the step of the plan in place, which was prepared and whose versions are in place: it is the next one of the update at the
+// place, where at least so many are committed. It gives how many are committed then. There is room for it, so that it takes no memory.
 fn put_step(
     settings: Settings,
     least: u32,
-    versions: &mut Versions,
     queue: &mut [Record],
     history: &mut EntryList,
     place: usize,
@@ -123,9 +120,9 @@ fn put_step(
     requires plan { IsPlanAt place plan queue.old }
     requires spare { 1 ≤ history.old.spare }
     requires fresh { AreFresh (drop (suc place) queue.old) prepared.left.fresh.items }
-    ensures made { (ms : List Rule) (before : Kept) → IsPreparedAt ms (settings_of settings) place
-        plan before queue.old prepared → StepsTo ms (settings_of settings) place plan before
-        queue.old history.old.items versions.new queue.new history.new.items }
+    ensures made { (ms : List Rule) (before after : Kept) → IsPreparedAt ms (settings_of settings)
+        place plan before queue.old after prepared → StepsTo ms (settings_of settings) place plan
+        before queue.old history.old.items after queue.new history.new.items }
     ensures committed { CommitsAtLeast queue.new result }
     ensures most { KeepsUnread place queue.old queue.new }
     ensures unready { KeepsUnready place queue.old queue.new }
@@ -135,7 +132,6 @@ fn put_step(
     let attempt = queue[place].program.attempt();
     let Prepared { writes, left } = prepared;
     install(queue, place, plan, left.fresh);
-    *versions = left.versions;
     let committed = committed_from(queue, least_below(least, place));
     let entry = step_entry(
         settings,

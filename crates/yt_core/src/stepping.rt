@@ -24,7 +24,7 @@ use yt_program::{Outcome, Program};
 use yt_queue::{Record, Settings, committed_from, has_spent, outcome, restart_marked};
 use yt_versions::Versions;
 
-/// What a step leaves: the writes that it shows, and what becomes of the updates above.
+/// What a step leaves beside the versions: the writes that it shows, and what becomes of the updates above.
 #[derive(Drop)]
 pub(crate) struct Prepared {
     pub(crate) writes: WriteList,
@@ -32,13 +32,14 @@ pub(crate) struct Prepared {
 }
 
 /// What the step of the plan leaves, where `upper` are the updates above that of the record, the first of which may have
-/// read something, and so many are committed. It is refused only for want of memory.
+/// read something, and so many are committed. The versions after it are made aside, and put in place last. It is refused only
+/// for want of memory; the versions are then as they were.
 pub(crate) fn prepare(
     alloc: Global,
     mappings: &Mappings<'_>,
     settings: Settings,
     committed: u32,
-    versions: &Versions,
+    versions: &mut Versions,
     item: &Record,
     upper: &[Record],
     readers: usize,
@@ -51,15 +52,17 @@ pub(crate) fn prepare(
     requires within { readers ≤ length upper.now }
     requires more { AllHaveOneMore upper.now }
     ensures prepared { IfOk result (IsPrepared mappings.now (settings_of settings) committed
-        versions.now item.now upper.now plan.now) }
+        versions.old item.now upper.now plan.now versions.new) }
     ensures fresh { IfOk result (λ p. AreFresh upper.now p.left.fresh.items) }
+    ensures err { OnErr result (versions.new ≡ versions.old) }
 {
-    let after = versions_after(alloc, versions, item, plan)?;
+    let mut after = versions_after(alloc, versions, item, plan)?;
     let found = found(
         alloc, mappings, settings, committed, versions, &after, item, upper, readers, plan,
     )?;
     let writes = copied(alloc, item.written(plan))?;
-    let left = settled(alloc, after, upper, found)?;
+    let left = settled(alloc, &mut after, upper, found)?;
+    *versions = after;
     Ok(Prepared { writes, left })
 }
 
@@ -158,7 +161,7 @@ pub(crate) fn copied(alloc: Global, writes: &[Write]) -> Result<WriteList, Memor
 }
 
 /// What the step of the plan leaves, which is one of the update at the place, where at least so many are committed and at
-/// most so many have read something. The versions may be handed over with it. It is refused only for want of memory; the versions
+/// most so many have read something. The versions are put in place with it. It is refused only for want of memory; the versions
 /// are then as they were.
 pub(crate) fn prepare_at(
     alloc: Global,
@@ -179,7 +182,7 @@ pub(crate) fn prepare_at(
     requires more { AllHaveOneMore queue.now }
     requires after { IsBetween plan.now.program }
     ensures prepared { IfOk result (IsPreparedAt mappings.now
-        (settings_of settings) place plan.now versions.old queue.now) }
+        (settings_of settings) place plan.now versions.old queue.now versions.new) }
     ensures fresh { IfOk result (λ p. AreFresh (drop (suc place) queue.now) p.left.fresh.items) }
     ensures err { OnErr result (versions.new ≡ versions.old) }
 {
@@ -188,13 +191,11 @@ pub(crate) fn prepare_at(
     let upper = above(queue, place);
     let readers = readers_above(queue, place, most);
     if is_alone(readers, &plan.program) {
-        let alone = prepare_alone(alloc, versions, item, plan)?;
-        return Ok(alone);
+        return prepare_alone(alloc, versions, item, plan);
     }
-    let prepared = prepare(
+    prepare(
         alloc, mappings, settings, committed, versions, item, upper, readers, plan,
-    )?;
-    Ok(prepared)
+    )
 }
 
 /// The updates above the place.

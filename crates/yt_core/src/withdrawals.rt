@@ -69,18 +69,18 @@ fn make_withdrawal(
 {
     let left = prepare_loss_at(alloc, mappings, settings, versions, queue, place)?;
     remove(queue, place, left.fresh);
-    *versions = left.versions;
     let entry = withdrawal_entry(queue, place, left.causes);
     put_last(history, entry);
     Ok(())
 }
 
-// What the withdrawal of the update at the place leaves. It is refused only for want of memory.
+// What the withdrawal of the update at the place leaves. The versions are put in place with it. It is refused only for want of
+// memory; the versions are then as they were.
 fn prepare_loss_at(
     alloc: Global,
     mappings: &Mappings<'_>,
     settings: Settings,
-    versions: &Versions,
+    versions: &mut Versions,
     queue: &[Record],
     place: usize,
 ) -> Result<Aftermath, Memory>
@@ -88,24 +88,24 @@ fn prepare_loss_at(
     requires numbers { AreFrom 1 queue.now }
     requires more { AllHaveOneMore queue.now }
     ensures left { IfOk result (IsLossPreparedAt mappings.now (settings_of settings) place
-        versions.now queue.now) }
+        versions.old queue.now versions.new) }
     ensures fresh { IfOk result (λ left. AreFresh (drop (suc place) queue.now) left.fresh.items) }
+    ensures err { OnErr result (versions.new ≡ versions.old) }
 {
     let committed = committed(queue);
     let item = &queue[place];
     let upper = above(queue, place);
-    let left = prepare_loss(alloc, mappings, settings, committed, versions, item, upper)?;
-    Ok(left)
+    prepare_loss(alloc, mappings, settings, committed, versions, item, upper)
 }
 
-// What the withdrawal of the record leaves, where `upper` are the updates above it, and so many are committed. It is
-// refused only for want of memory.
+// What the withdrawal of the record leaves, where `upper` are the updates above it, and so many are committed. The versions
+// after it are made aside, and put in place last. It is refused only for want of memory; the versions are then as they were.
 fn prepare_loss(
     alloc: Global,
     mappings: &Mappings<'_>,
     settings: Settings,
     committed: u32,
-    versions: &Versions,
+    versions: &mut Versions,
     item: &Record,
     upper: &[Record],
 ) -> Result<Aftermath, Memory>
@@ -113,12 +113,14 @@ fn prepare_loss(
     requires numbers { AreFrom (suc item.now.program.attempt.number) upper.now }
     requires more { AllHaveOneMore upper.now }
     ensures left { IfOk result (IsLossPrepared mappings.now (settings_of settings) committed
-        versions.now item.now upper.now) }
+        versions.old item.now upper.now versions.new) }
     ensures fresh { IfOk result (λ left. AreFresh upper.now left.fresh.items) }
+    ensures err { OnErr result (versions.new ≡ versions.old) }
 {
     let found = found_lost(alloc, mappings, settings, committed, versions, item, upper)?;
-    let after = without(alloc, versions, item)?;
-    let left = settled(alloc, after, upper, found)?;
+    let mut after = without(alloc, versions, item)?;
+    let left = settled(alloc, &mut after, upper, found)?;
+    *versions = after;
     Ok(left)
 }
 

@@ -1,4 +1,4 @@
-use Rattle.std.proofs.Common.{refl, ap, sym, ◌∙◌}
+use Rattle.std.proofs.Common.{ap, sym, ◌∙◌}
 use Rattle.yt_queue.specs.declared.records.Record.{Record}
 use Rattle.yt_queue.specs.Settings.{settings_of}
 use Rattle.yt_core.proofs.Following.{steps_to}
@@ -8,11 +8,11 @@ use Rattle.yt_core.proofs.Committing.{fewer_committed}
 use Rattle.yt_core.proofs.putting.put_step.Goals as goal
 
 pub returns-clause-made : goal.returns-clause-made
-returns-clause-made c = λ ms before prepared.
-    steps_to ms (settings_of c.args.settings) c.args.place c.args.history.now.items c.put_last.new.history.items c.args.queue.now c.install.new.queue before c.args.prepared.left.versions
+returns-clause-made c = λ ms before after prepared.
+    steps_to ms (settings_of c.args.settings) c.args.place c.args.history.now.items c.put_last.new.history.items c.args.queue.now c.install.new.queue before after
     c.index-queue-place.result c.args.plan c.args.prepared c.attempt-attempt.result c.step_entry-entry.result
     (there_is c.args.queue.now c.args.place c.index-queue-place.result c.requires.place c.index-queue-place.is)
-    prepared c.install.ensures.installed c.install.ensures.numbers c.install.ensures.long refl (c.attempt-attempt.ensures.attempt ∙ ap (λ (r : Record). r.program.attempt.attempt) (sym c.index-queue-place.is)) c.step_entry-entry.ensures.told c.put_last.ensures.all
+    prepared c.install.ensures.installed c.install.ensures.numbers c.install.ensures.long (c.attempt-attempt.ensures.attempt ∙ ap (λ (r : Record). r.program.attempt.attempt) (sym c.index-queue-place.is)) c.step_entry-entry.ensures.told c.put_last.ensures.all
 
 pub committed_from-committed-requires-clause-least : goal.committed_from-committed-requires-clause-least
 committed_from-committed-requires-clause-least c =

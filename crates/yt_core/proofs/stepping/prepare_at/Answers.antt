@@ -4,7 +4,7 @@ use Rattle.yt_queue.specs.Renewals.{AreFresh}
 use Rattle.yt_queue.specs.Settings.{settings_of}
 use Rattle.yt_queue.specs.Walks.{ReadsAtMost}
 use Rattle.yt_queue.specs.declared.records.Record.{Record}
-use Rattle.yt_core.proofs.Placing.{above_numbers, above_more, above_fresh, above_prepared}
+use Rattle.yt_core.proofs.Placing.{if_ok, above_numbers, above_more, above_fresh, above_prepared}
 use Rattle.yt_core.proofs.Telling.{between_there}
 use Rattle.yt_core.proofs.stepping.prepare_at.Goals as goal
 
@@ -20,12 +20,16 @@ prepare-requires-clause-more c = above_more c.args.queue.now c.above-upper.resul
 
 pub returns-clause-prepared : goal.returns-clause-prepared
 returns-clause-prepared c =
-    above_prepared c.args.mappings.now (settings_of c.args.settings) c.committed_from-committed.result c.args.place c.args.versions.now c.args.queue.now c.above-upper.result.now c.index-queue-place.result c.args.plan.now
-    c.in_ok-prepared.prepared c.requires.numbers c.requires.place c.index-queue-place.is c.above-upper.ensures.rest c.committed_from-committed.ensures.committed c.in_ok-prepared.ensures.prepared
+    if_ok c.prepare.result _ _
+    (λ prepared is. above_prepared c.args.mappings.now (settings_of c.args.settings) c.committed_from-committed.result c.args.place c.args.versions.now c.prepare.new.versions c.args.queue.now c.above-upper.result.now c.index-queue-place.result c.args.plan.now
+    prepared c.requires.numbers c.requires.place c.index-queue-place.is c.above-upper.ensures.rest c.committed_from-committed.ensures.committed is)
+    c.prepare.ensures.prepared
 
 pub returns-clause-fresh : goal.returns-clause-fresh
 returns-clause-fresh c =
-    above_fresh c.args.queue.now c.above-upper.result.now c.args.place c.in_ok-prepared.prepared.left.fresh.items c.above-upper.ensures.rest c.in_ok-prepared.ensures.fresh
+    if_ok c.prepare.result _ _
+    (λ prepared fresh. above_fresh c.args.queue.now c.above-upper.result.now c.args.place prepared.left.fresh.items c.above-upper.ensures.rest fresh)
+    c.prepare.ensures.fresh
 
 pub prepare-requires-clause-read : goal.prepare-requires-clause-read
 prepare-requires-clause-read c = subst (λ (rs : List Record). ReadsAtMost rs c.readers_above-readers.result) (sym c.above-upper.ensures.rest) c.readers_above-readers.ensures.read
@@ -41,10 +45,15 @@ returns-then-is_alone-clause-prepared c =
     let unread : ReadsAtMost c.above-upper.result.now 0 =
     subst (λ (n : ℕ). ReadsAtMost c.above-upper.result.now n) (c.is_alone.ensures.unread c.if-is_alone.true)
     (subst (λ (rs : List Record). ReadsAtMost rs c.readers_above-readers.result) (sym c.above-upper.ensures.rest) c.readers_above-readers.ensures.read) in
-    above_prepared c.args.mappings.now (settings_of c.args.settings) c.committed_from-committed.result c.args.place c.args.versions.now c.args.queue.now c.above-upper.result.now c.index-queue-place.result c.args.plan.now
-    c.in_ok-alone.alone c.requires.numbers c.requires.place c.index-queue-place.is c.above-upper.ensures.rest c.committed_from-committed.ensures.committed
-    (c.in_ok-alone.ensures.prepared c.args.mappings.now (settings_of c.args.settings) c.committed_from-committed.result c.above-upper.result.now
-    (above_numbers c.args.queue.now c.above-upper.result.now c.args.place c.index-queue-place.result c.requires.numbers c.requires.place c.index-queue-place.is c.above-upper.ensures.rest) unread)
+    if_ok c.prepare_alone.result _ _
+    (λ prepared is. above_prepared c.args.mappings.now (settings_of c.args.settings) c.committed_from-committed.result c.args.place c.args.versions.now c.prepare_alone.new.versions c.args.queue.now c.above-upper.result.now c.index-queue-place.result c.args.plan.now
+    prepared c.requires.numbers c.requires.place c.index-queue-place.is c.above-upper.ensures.rest c.committed_from-committed.ensures.committed
+    (is c.args.mappings.now (settings_of c.args.settings) c.committed_from-committed.result c.above-upper.result.now
+    (above_numbers c.args.queue.now c.above-upper.result.now c.args.place c.index-queue-place.result c.requires.numbers c.requires.place c.index-queue-place.is c.above-upper.ensures.rest) unread))
+    c.prepare_alone.ensures.prepared
 
 pub returns-then-is_alone-clause-fresh : goal.returns-then-is_alone-clause-fresh
-returns-then-is_alone-clause-fresh c = subst (λ (fs : List (Option State)). AreFresh (drop (suc c.args.place) c.args.queue.now) fs) (sym c.in_ok-alone.ensures.fresh) tt
+returns-then-is_alone-clause-fresh c =
+    if_ok c.prepare_alone.result _ _
+    (λ prepared none. subst (λ (fs : List (Option State)). AreFresh (drop (suc c.args.place) c.args.queue.now) fs) (sym none) tt)
+    c.prepare_alone.ensures.fresh

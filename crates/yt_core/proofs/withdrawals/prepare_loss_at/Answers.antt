@@ -1,6 +1,6 @@
 use Rattle.yt_queue.specs.Settings.{settings_of}
 use Rattle.yt_core.proofs.Losing.{loss_prepared_at}
-use Rattle.yt_core.proofs.Placing.{above_numbers, above_more, above_fresh}
+use Rattle.yt_core.proofs.Placing.{if_ok, above_numbers, above_more, above_fresh}
 use Rattle.yt_core.proofs.Telling.{between_there}
 use Rattle.yt_core.proofs.withdrawals.prepare_loss_at.Goals as goal
 
@@ -16,8 +16,13 @@ prepare_loss-requires-clause-more c = above_more c.args.queue.now c.above-upper.
 
 pub returns-clause-left : goal.returns-clause-left
 returns-clause-left c =
-    loss_prepared_at c.args.mappings.now (settings_of c.args.settings) c.committed-committed.result c.args.place c.args.versions.now c.args.queue.now c.above-upper.result.now c.index-queue-place.result c.in_ok-left.left
-    c.requires.numbers c.requires.place c.index-queue-place.is c.above-upper.ensures.rest c.committed-committed.ensures.committed c.in_ok-left.ensures.left
+    if_ok c.prepare_loss.result _ _
+    (λ left is. loss_prepared_at c.args.mappings.now (settings_of c.args.settings) c.committed-committed.result c.args.place c.args.versions.now c.prepare_loss.new.versions c.args.queue.now c.above-upper.result.now c.index-queue-place.result left
+    c.requires.numbers c.requires.place c.index-queue-place.is c.above-upper.ensures.rest c.committed-committed.ensures.committed is)
+    c.prepare_loss.ensures.left
 
 pub returns-clause-fresh : goal.returns-clause-fresh
-returns-clause-fresh c = above_fresh c.args.queue.now c.above-upper.result.now c.args.place c.in_ok-left.left.fresh.items c.above-upper.ensures.rest c.in_ok-left.ensures.fresh
+returns-clause-fresh c =
+    if_ok c.prepare_loss.result _ _
+    (λ left fresh. above_fresh c.args.queue.now c.above-upper.result.now c.args.place left.fresh.items c.above-upper.ensures.rest fresh)
+    c.prepare_loss.ensures.fresh

@@ -1,7 +1,7 @@
 use Rattle.std.proofs.Common.{drop}
 use Rattle.yt_versions.specs.Standing.{Kept}
 use Rattle.yt_core.specs.Aftermaths.{AllBetween, Cleared}
-use Rattle.yt_core.proofs.aftermaths.without_restarted.Given as goal
+use Rattle.yt_core.proofs.aftermaths.clear.Given as goal
 
 abbrev pub invariant-loop-i : goal.invariant-loop-i
 invariant-loop-i l = record {

@@ -1,9 +1,9 @@
 use Rattle.std.proofs.Common.{rules, arith, ◌<◌, length}
 use Rattle.yt_core.proofs.Placing.{next_between, others_between, clear_one, clear_rest}
-use Rattle.yt_core.proofs.aftermaths.without_restarted.Goals as goal
+use Rattle.yt_core.proofs.aftermaths.clear.Goals as goal
 
-pub without_one-requires : goal.without_one-requires
-without_one-requires c =
+pub clear_one-requires : goal.clear_one-requires
+clear_one-requires c =
     let l : c.loop-i.i < length c.args.upper.now = (let t = c.loop-i-test.true in let n = c.requires.long in omega (arith, t, n)) in
     record { between = next_between c.args.upper.now c.loop-i.i c.index-upper-i.result l c.index-upper-i.is c.loop-i.invariant.between }
 
@@ -14,8 +14,8 @@ loop-i-preserved c =
       between = others_between c.args.upper.now c.loop-i.i c.index-upper-i.result l c.index-upper-i.is c.loop-i.invariant.between;
       done =
           λ w later. c.loop-i.invariant.done w
-          (clear_one c.args.upper.now c.args.found.now c.loop-i.i c.index-upper-i.result c.index-found-i.result c.loop-i.versions c.in_ok-versions.versions w l c.index-upper-i.is (search rules) c.index-found-i.is
-          c.in_ok-versions.ensures.cleared later);
+          (clear_one c.args.upper.now c.args.found.now c.loop-i.i c.index-upper-i.result c.index-found-i.result c.loop-i.versions c.clear_one.new.versions w l c.index-upper-i.is (search rules) c.index-found-i.is
+          c.in_ok-clear_one.ensures.cleared later);
     }
 
 pub returns : goal.returns
