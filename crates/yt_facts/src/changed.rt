@@ -25,23 +25,20 @@ pub(crate) fn changed<'a>(
         AreAll result (overlaid D gone.now added)
         (further_candidates (overlaid D gone.now added) r c past) }
 {
-    match given {
-        Candidates::Apart => Candidates::Apart,
-        Candidates::Opening(_) => Candidates::Apart,
-        Candidates::Absent => Candidates::Few(few),
-        Candidates::Together(range) => {
-            Candidates::Few(first_of_both(Run::Together(range), gone, few))
-        }
-        Candidates::Listed(tuples) => {
-            Candidates::Few(first_of_both(Run::Listed(tuples), gone, few))
-        }
+    let run = match given {
+        Candidates::Apart => return Candidates::Apart,
+        Candidates::Opening(_) => return Candidates::Apart,
+        Candidates::Absent => return Candidates::Few(few),
+        Candidates::Together(range) => Run::Together(range),
+        Candidates::Listed(tuples) => Run::Listed(tuples),
         Candidates::Few(first) => {
             if first.is_full() {
                 return Candidates::Apart;
             }
-            Candidates::Few(first_of_both(Run::Few(first), gone, few))
+            Run::Few(first)
         }
-    }
+    };
+    Candidates::Few(first_of_both(run, gone, few))
 }
 
 // The first of them, where the set has this run.

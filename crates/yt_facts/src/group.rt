@@ -173,7 +173,7 @@ impl Group {
     {
         match &self.held {
             Held::Listed(tuples) => Candidates::Listed(tuples.behind(past)),
-            Held::Tree(facts) => Candidates::Together(facts.range(past)),
+            Held::Tree(facts) => facts.at_hand(past),
         }
     }
 }

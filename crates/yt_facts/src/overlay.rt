@@ -1,10 +1,12 @@
 //! A set of tuples as writes leave it, without a copy of the set.
-ghost use Rattle.std.specs.Prelude.{◌≡◌, ◌&&◌, not, map, OnErr, OnOk};
+ghost use Rattle.std.specs.Prelude.{◌≡◌, ◌&&◌, List, not, map, OnErr, OnOk};
 ghost use Rattle.std.specs.Option.{option_map, option_copied};
-ghost use Rattle.yt_base.specs.Candidates.{column_of, further_candidates, AreAll};
+ghost use Rattle.yt_base.specs.Candidates.{column_of, further_candidates, AreAll, AreFirst};
 ghost use Rattle.yt_model.specs.Repository.{Delete, Insert, has, change, apply, IsRepository};
 ghost use Rattle.yt_base.specs.Meanings.{fact_of, change_of};
+ghost use Rattle.yt_model.specs.Values.{Fact};
 ghost use Rattle.yt_facts.specs.Begun.{HoldsOfFirst};
+ghost use Rattle.yt_facts.specs.Overlaid.{overlaid};
 
 use crate::changed::changed;
 use crate::course::{Course, least, remaining};
@@ -173,15 +175,32 @@ impl<'a, F: Facts> Overlay<'a, F> {
             (option_map column_of column.entry) (option_map fact_of (option_copied past.entry))) }
     {
         if let Some(few) = self.added.few(relation, column, past) {
-            let given = self.facts.candidates(relation, column, past);
-            return changed(given, &self.gone, few);
+            return with_few(self.facts, &self.gone, few, relation, column, past);
         }
         if self.gone.lacks(relation, column) {
             return self.facts.candidates(relation, column, past);
         }
-        let given = self.facts.candidates(relation, column, past);
-        changed(given, &self.gone, Few::new())
+        with_few(self.facts, &self.gone, Few::new(), relation, column, past)
     }
+}
+
+// The candidates of the set as writes leave it, of which these are the first that were added.
+fn with_few<'a, F: Facts>(
+    facts: &'a F,
+    gone: &'a Group,
+    few: Few<'a, Tuple>,
+    relation: u16,
+    column: Option<Column<'_>>,
+    past: Option<&Tuple>,
+) -> Candidates<'a>
+    ensures all { (added : List Fact) → IsRepository added →
+        AreFirst few.entry (further_candidates added relation (option_map column_of column.entry)
+        (option_map fact_of (option_copied past.entry))) →
+        AreAll result (overlaid (F.tuples facts.now) gone.now added)
+        (further_candidates (overlaid (F.tuples facts.now) gone.now added) relation
+        (option_map column_of column.entry) (option_map fact_of (option_copied past.entry))) }
+{
+    changed(facts.candidates(relation, column, past), gone, few)
 }
 
 // Whether the tuple is in the set and not gone.

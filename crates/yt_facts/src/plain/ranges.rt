@@ -29,6 +29,15 @@ impl PlainFacts {
         }
     }
 
+    /// All its tuples above the given one, or all where none is given, at hand.
+    pub(crate) fn at_hand(&self, past: Option<&Tuple>) -> Candidates<'_>
+        ensures all { AreAll result self.now
+            (filter (is_beyond (option_map fact_of (option_copied past.entry))) self.now) }
+        ensures in_order { IsRepository self.now }
+    {
+        Candidates::Together(self.range(past))
+    }
+
     /// Its tuples in order, but for some that are of a lesser relation, or not above `past` where that is given.
     pub(crate) fn ahead(&self, relation: u16, past: Option<&Tuple>) -> Range<'_, Tuple>
         ensures all { HasAllThat (is_ahead relation (option_map fact_of (option_copied past.entry)))

@@ -1,8 +1,12 @@
-use Rattle.std.proofs.Common.{sym, subst}
+use Rattle.std.proofs.Common.{◌≡◌, ℕ, ap, sym, ◌∙◌, subst, List, Option}
 use Rattle.yt_base.specs.Candidates.{further_candidates, AreAll}
 use Rattle.yt_base.specs.declared.candidates.Candidates.{Candidates}
 use Rattle.yt_facts.proofs.Further.{added_alone, few_whole}
 use Rattle.yt_facts.proofs.Overlays.{overlaid_in_order}
+use Rattle.yt_facts.specs.Runs.{run_of}
+use Rattle.yt_model.specs.Repository.{IsRepository}
+use Rattle.yt_model.specs.Values.{Datum, Fact}
+use Rattle.yt_facts.proofs.changed.changed.Goals.{in-Together, in-Listed, in-Few+else-is_full}
 use Rattle.yt_facts.proofs.changed.changed.Goals as goal
 
 pub returns-in-Absent : goal.returns-in-Absent
@@ -12,25 +16,26 @@ returns-in-Absent c = record {
       (overlaid_in_order D c.args.gone.now added all.0, added_alone D c.args.gone.now added all.0 t r column past c.args.few all.1 few);
 }
 
-pub returns-in-Together : goal.returns-in-Together
-returns-in-Together c = record {
+-- The run is all that the set has at hand.
+pub returns : goal.returns
+returns c = record {
   all = λ D added r column past t few told.
-      let all = subst (λ (x : Candidates). AreAll x D (further_candidates D r column past)) c.in-Together.is told in
-      (overlaid_in_order D c.args.gone.now added all.0, c.first_of_both.ensures.first D added r column past all.0 t (sym all.1) few);
+      let known = at_hand D r column past told in
+      (overlaid_in_order D c.args.gone.now added known.0, c.first_of_both.ensures.first D added r column past known.0 t known.1 few);
 }
-
-pub returns-in-Listed : goal.returns-in-Listed
-returns-in-Listed c = record {
-  all = λ D added r column past t few told.
-      let all = subst (λ (x : Candidates). AreAll x D (further_candidates D r column past)) c.in-Listed.is told in
-      (overlaid_in_order D c.args.gone.now added all.0, c.first_of_both-in-Listed.ensures.first D added r column past all.0 t (sym all.1) few);
-}
-
-pub returns-else-is_full : goal.returns-else-is_full
-returns-else-is_full c = record {
-  all = λ D added r column past t few told.
-      let all = subst (λ (x : Candidates). AreAll x D (further_candidates D r column past)) c.in-Few.is told in (
-        overlaid_in_order D c.args.gone.now added all.0,
-        c.first_of_both-in-Few.ensures.first D added r column past all.0 t (few_whole c.in-Few.first (further_candidates D r column past) all.1 c.if-is_full.ensures.full) few,
-      );
-}
+  where
+    at_hand :
+        (D : List Fact) (r : ℕ) (column : Option (ℕ × Datum)) (past : Option Fact) →
+        AreAll c.args.given D (further_candidates D r column past) →
+        IsRepository D × (run_of c.match-given.run ≡ further_candidates D r column past)
+    at_hand D r column past told = elim c.match-given.branch [
+      | in-Together w ↦
+          let all = subst (λ (x : Candidates). AreAll x D (further_candidates D r column past)) w.in-Together.is told in
+          (all.0, ap run_of w.run-is ∙ sym all.1)
+      | in-Listed w ↦
+          let all = subst (λ (x : Candidates). AreAll x D (further_candidates D r column past)) w.in-Listed.is told in
+          (all.0, ap run_of w.run-is ∙ sym all.1)
+      | in-Few+else-is_full w ↦
+          let all = subst (λ (x : Candidates). AreAll x D (further_candidates D r column past)) w.in-Few.is told in
+          (all.0, ap run_of w.run-is ∙ few_whole w.in-Few.first (further_candidates D r column past) all.1 w.if-is_full.ensures.full)
+    ]
