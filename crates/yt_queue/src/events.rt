@@ -14,6 +14,9 @@ use yt_plan::{Plan, since};
 use yt_program::Program;
 use yt_query::ReadLog;
 
+// Room for so many reads is made with the first of an attempt, since most attempts have no more.
+const MOST_READS: usize = 16;
+
 impl Record {
     /// The update of this number as it is when it is admitted, with these answers recorded for it. It is refused only for
     /// want of memory.
@@ -43,7 +46,11 @@ impl Record {
         ensures same { IsSame self.old self.new }
         ensures place { KeepsPlace self.old self.new }
     {
-        self.log.reserve(plan.reads.len())
+        let reads = plan.reads.len();
+        if self.log.is_empty() {
+            return self.log.reserve(reads.max(MOST_READS));
+        }
+        self.log.reserve(reads)
     }
 
     /// Makes room for one more answer. It is refused only for want of memory. The update stays as it is.

@@ -23,10 +23,6 @@ pub record Kept : Type 0 where
   pub taken : List Fact
   pub rows : List (Tuple × Marks)
 
--- The versions of the same base that no update has written to.
-abbrev pub bare : Kept → Kept
-bare v = record { base = v.base; taken = []; rows = [] }
-
 -- The base has the tuple and tells of it.
 abbrev pub is_left : Kept → Fact → Bool
 is_left v t = has v.base t && not (has v.taken t)

@@ -1,19 +1,21 @@
 //! What is read of versions by an update: what is left of the base, and what stands in the table.
-ghost use Rattle.std.specs.Prelude.{◌≡◌, [], None, Some, find, IfSome, IsTrue};
+ghost use Rattle.std.specs.Prelude.{◌≡◌, [], None, Some, find, IfNone, IfSome, IsTrue};
 ghost use Rattle.std.specs.Option.{option_map, option_copied};
 ghost use Rattle.yt_model.specs.Cursors.{is_beyond, first_of, next_of, scan_of};
 ghost use Rattle.yt_model.specs.Repository.{has, IsRepository};
-ghost use Rattle.yt_base.specs.Candidates.{column_of, further_candidates, AreAll, Begin};
+ghost use Rattle.yt_base.specs.Candidates.{column_of, further_candidates, AreAll, AreFirst, Begin};
 ghost use Rattle.yt_base.specs.Meanings.{fact_of, datum_of};
-ghost use Rattle.yt_facts.specs.Runs.{run_of};
+ghost use Rattle.yt_facts.specs.Runs.{ahead_of, left_of, merged, run_of};
 ghost use Rattle.yt_versions.specs.Marked.{put_first};
 ghost use Rattle.yt_versions.specs.Standing.{seen};
 
 use crate::sweeps::Sweep;
+use crate::taken::Taken;
 use crate::versions::Versions;
 use std::collections::btree_set::Range;
 use yt_base::{Candidates, Column, Facts, Opening, Tuple, Value};
 use yt_facts::{Course, Merging, Run, least, remaining};
+use yt_tree::Few;
 
 // So many tuples of the base are gathered with those of the table at less cost than a range is found.
 const FEW: usize = 3;
@@ -113,13 +115,43 @@ impl Versions {
             (further_candidates (seen number self.now) relation (option_map column_of column.entry)
             (option_map fact_of (option_copied past.entry))) }
     {
-        if let Some(opening) = self.opening(number, relation, column, past) {
-            return Candidates::Opening(opening);
-        }
-        match self.base().candidates(relation, column, past) {
-            Candidates::Absent => {
-                Candidates::Few(self.table().candidates(number, relation, column, past))
+        if column.is_none() {
+            if let Some(tuple) = past {
+                return self.onwards(number, relation, tuple);
             }
+        }
+        self.at_hand(number, relation, column, past)
+    }
+
+    // The same above a tuple, where no column is given: what comes first of it, where that is more than a few.
+    fn onwards(&self, number: u32, relation: u16, past: &Tuple) -> Candidates<'_>
+        ensures all { AreAll result (seen number self.now)
+            (further_candidates (seen number self.now) relation None (Some (fact_of past.now))) }
+    {
+        let _ = self.base();
+        if past.relation == relation {
+            if let Some(opening) = self.up_to_written(number, past) {
+                return Candidates::Opening(opening);
+            }
+        }
+        self.at_hand(number, relation, None, Some(past))
+    }
+
+    // The same, of what the base has and what is written together.
+    #[inline(always)]
+    fn at_hand(
+        &self,
+        number: u32,
+        relation: u16,
+        column: Option<Column<'_>>,
+        past: Option<&Tuple>,
+    ) -> Candidates<'_>
+        ensures all { AreAll result (seen number self.now)
+            (further_candidates (seen number self.now) relation (option_map column_of column.entry)
+            (option_map fact_of (option_copied past.entry))) }
+    {
+        match self.base().candidates(relation, column, past) {
+            Candidates::Absent => self.written(number, relation, column, past),
             Candidates::Together(range) => {
                 self.with_written(number, relation, column, past, Run::Together(range))
             }
@@ -128,36 +160,29 @@ impl Versions {
             }
             _ => {
                 if self.base_lacks(relation, column, past) {
-                    return Candidates::Few(self.table().candidates(number, relation, column, past));
+                    return self.written(number, relation, column, past);
                 }
                 Candidates::Apart
             }
         }
     }
 
-    // What comes first of them, where no column is given, and a tuple of the relation is; None where that is no more than a few.
-    fn opening(
+    // A few of them, where the base has none.
+    fn written(
         &self,
         number: u32,
         relation: u16,
         column: Option<Column<'_>>,
         past: Option<&Tuple>,
-    ) -> Option<Opening<'_>>
-        ensures first { IfSome result (λ opening. Begin opening
+    ) -> Candidates<'_>
+        requires none { further_candidates self.now.base relation (option_map column_of column)
+            (option_map fact_of (option_copied past)) ≡ [] }
+        ensures all { AreAll result (seen number self.now)
             (further_candidates (seen number self.now) relation (option_map column_of column.entry)
-            (option_map fact_of (option_copied past.entry)))) }
-        ensures in_order { IsRepository (seen number self.now) }
+            (option_map fact_of (option_copied past.entry))) }
     {
-        // They tell that they are in order.
-        self.is_in_order(number);
-        let tuple = past?;
-        if tuple.relation != relation {
-            return None;
-        }
-        match column {
-            Some(_) => None,
-            None => self.up_to_written(number, tuple),
-        }
+        let _ = self.base();
+        Candidates::Few(self.table().candidates(number, relation, column, past))
     }
 
     // What it sees of the tuple's relation above it, up to the first tuple there that was written or taken; None where the base
@@ -214,8 +239,7 @@ impl Versions {
         if put.is_none() && self.taken().has_none(relation, past) {
             return base.at_hand();
         }
-        let mut both = Merging::new(base, self.taken(), put, written);
-        Candidates::Few(both.few())
+        Candidates::Few(few_of_both(base, self.taken(), put, written))
     }
 
     // The tuples that it sees, in order.
@@ -226,6 +250,21 @@ impl Versions {
         let taken = self.taken().passing();
         Sweep::of(base, taken, self.table().cursor(), number)
     }
+}
+
+// The first of those of the run that are not taken, and of what is written: that begins with `put`, and goes on with `written`.
+fn few_of_both<'a>(
+    base: Run<'a>,
+    taken: &'a Taken,
+    put: Option<&'a Tuple>,
+    written: Run<'a>,
+) -> Few<'a, Tuple>
+    requires end { IfNone put (run_of written ≡ []) }
+    ensures first { AreFirst result (merged (left_of taken.now (run_of base.entry))
+        (ahead_of put.entry (run_of written.entry))) }
+{
+    let mut both = Merging::new(base, taken, put, written);
+    both.few()
 }
 
 // The tuple that was put, if there is one and the one that is gone does not come before it.

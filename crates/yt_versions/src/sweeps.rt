@@ -10,11 +10,12 @@ ghost use Rattle.yt_versions.specs.Passed.{to_pass, AreToPass};
 use crate::handles::Handle;
 use crate::marks::Marks;
 use crate::passing::Passing;
+use crate::searches::Held;
 use std::cmp::Ordering;
 use std::marker::Model;
 use yt_base::Tuple;
 use yt_facts::Run;
-use yt_tree::Cursor;
+use yt_tree::{Cursor, Sought};
 
 /// The tuples that an update sees, in order. Contracts see those that are to come.
 #[derive(Drop)]
@@ -25,7 +26,7 @@ pub struct Sweep<'a> {
     number: u32,
     // The first of the base and the first of the table that is to come.
     left: Option<&'a Tuple>,
-    put: Option<&'a Tuple>,
+    put: Option<&'a Handle>,
 }
 
 impl<'a> Model for Sweep<'a> {
@@ -78,13 +79,13 @@ impl<'a> Sweep<'a> {
         let Some(left) = self.left else {
             let put = self.put;
             self.put = next_standing(&mut self.rows, self.number);
-            return put;
+            return tuple_of(put);
         };
         let Some(put) = self.put else {
             self.left = next_left(&mut self.base, &mut self.taken);
             return Some(left);
         };
-        match left.cmp(put) {
+        match Held::new(left).order(put) {
             Ordering::Less => {
                 self.left = next_left(&mut self.base, &mut self.taken);
                 Some(left)
@@ -96,9 +97,19 @@ impl<'a> Sweep<'a> {
             }
             Ordering::Greater => {
                 self.put = next_standing(&mut self.rows, self.number);
-                Some(put)
+                Some(put.get())
             }
         }
+    }
+}
+
+// The tuple of the handle, if there is one.
+fn tuple_of<'a>(handle: Option<&'a Handle>) -> Option<&'a Tuple>
+    ensures same { option_copied result ≡ option_copied handle.entry }
+{
+    match handle {
+        Some(handle) => Some(handle.get()),
+        None => None,
     }
 }
 
@@ -122,14 +133,14 @@ fn next_left<'a>(base: &mut Run<'a>, taken: &mut Passing<'a>) -> Option<&'a Tupl
 }
 
 // The next tuple of the rows that stands for the update.
-fn next_standing<'a>(rows: &mut Cursor<'a, Handle, Marks>, number: u32) -> Option<&'a Tuple>
+fn next_standing<'a>(rows: &mut Cursor<'a, Handle, Marks>, number: u32) -> Option<&'a Handle>
     ensures step { visible number rows.old ≡
         option_to_list (option_map fact_of (option_copied result)) ++ visible number rows.new }
     ensures end { IfNone result (visible number rows.new ≡ []) }
 {
     while let Some(row) = rows.next() {
         if row.1.stands(number) {
-            return Some(row.0.get());
+            return Some(&row.0);
         }
     }
     None

@@ -1,9 +1,9 @@
 //! The versions themselves.
-ghost use Rattle.std.specs.Prelude.{◌≡◌, ◌&&◌, cond, not, [], ◌∷◌, map, IfSome, IfOk, OnOk, OnErr};
+ghost use Rattle.std.specs.Prelude.{◌≡◌, ◌&&◌, cond, not, [], ◌∷◌, length, map, IfSome, IfOk, OnOk, OnErr};
 ghost use Rattle.yt_base.specs.Meanings.{fact_of, change_of};
 ghost use Rattle.yt_versions.specs.Chains.{AreMarks};
 ghost use Rattle.yt_versions.specs.Marked.{is_based, no_marks};
-ghost use Rattle.yt_versions.specs.Standing.{AreKept, StandFor, Published, Retracted, Folded, Wrote, bare, is_left, known_at};
+ghost use Rattle.yt_versions.specs.Standing.{AreKept, StandFor, Published, Retracted, Folded, Wrote, is_left, known_at};
 ghost use Rattle.yt_model.specs.Repository.{has};
 ghost use Rattle.yt_model.specs.Values.{Fact, same_fact};
 ghost use Rattle.yt_versions.specs.Touches.{touched_at, written_at, published_at, unwritten_at, retracted_at, settled_at, folded_at};
@@ -16,7 +16,6 @@ use crate::tables::Table;
 use crate::taken::Taken;
 use std::alloc::Global;
 use std::marker::Model;
-use std::mem;
 use std::sync::Arc;
 use yt_base::{Facts, Tuple, Write};
 use yt_facts::IndexedFacts;
@@ -60,21 +59,6 @@ impl Versions {
         }
     }
 
-    /// The versions, handed over: what is left are those of the base that no update has written to. No other handle is made, so that a write
-    /// may go in place. It is refused only for want of memory; nothing is then changed.
-    pub fn hand_over(&mut self) -> Result<Versions, Memory>
-        ensures same { IfOk result (λ versions. versions ≡ self.old) }
-        ensures left { OnOk result (self.new ≡ bare self.old) }
-        ensures err { OnErr result (self.new ≡ self.old) }
-    {
-        let left = Versions {
-            base: Arc::try_clone(&self.base)?,
-            taken: Taken::none(),
-            table: Table::none(),
-        };
-        Ok(mem::replace(self, left))
-    }
-
     /// Another handle to the same versions, in constant time. It is refused only for want of memory.
     pub fn share(&self) -> Result<Versions, Memory>
         ensures same { IfOk result (λ copy. copy ≡ self.now) }
@@ -96,6 +80,13 @@ impl Versions {
         let taken = self.taken.share()?;
         let table = self.table.lend()?;
         Ok(Versions { base, taken, table })
+    }
+
+    /// How many tuples the base has. It takes no memory.
+    pub fn base_len(&self) -> usize
+        ensures length { result ≡ length self.now.base }
+    {
+        self.base.len()
     }
 
     /// Adds writes behind those of the update. It is refused only for want of memory; nothing is then changed.

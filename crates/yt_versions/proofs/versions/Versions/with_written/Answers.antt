@@ -41,7 +41,7 @@ returns c =
     record {
       all = (
         seen_ordered n v kept,
-        both_first v.base v.taken (visible n v.rows) kept.order (visible_in_order n v.rows kept.rows.order) r column past c.few.result run some c.requires.base first
-            (subst (λ (D : List Fact). AreFirst c.few.result D) (c.new-both.ensures.both ∙ ap (λ (D : List Fact). merged (left_of D run) some) c.taken-2.ensures.taken) c.few.ensures.first),
+        both_first v.base v.taken (visible n v.rows) kept.order (visible_in_order n v.rows kept.rows.order) r column past c.few_of_both.result run some c.requires.base first
+            (subst (λ (D : List Fact). AreFirst c.few_of_both.result D) (ap (λ (D : List Fact). merged (left_of D run) some) c.taken-2.ensures.taken) c.few_of_both.ensures.first),
       );
     }
