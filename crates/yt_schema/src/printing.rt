@@ -16,7 +16,8 @@ fn push_other(out: &mut Vec<u8>, inner: bool, value: &Value) -> Result<(), Alloc
         out.old.items ++ 44 ∷ 32 ∷ value_text inner (datum_of value.now)) }
     ensures err { OnErr result (StartsWith out.old.items out.new.items) }
 {
-    out.extend_from_slice(b", ")?;
+    out.push(b',')?;
+    out.push(b' ')?;
     push_value(out, inner, value)
 }
 
