@@ -137,8 +137,9 @@ impl Versions {
         self.at_hand(number, relation, None, Some(past))
     }
 
-    // The same, of what the base has and what is written together.
-    #[inline(always)]
+    // The same, of what the base has and what is written together. Never inlined, so that a call that has an opening clears no room for
+    // all the others.
+    #[inline(never)]
     fn at_hand(
         &self,
         number: u32,

@@ -241,7 +241,7 @@ impl Table {
 
 // The candidates that an update sees, a few at a time. No call takes memory.
 impl Table {
-    ghost use Rattle.std.specs.Prelude.{Some};
+    ghost use Rattle.std.specs.Prelude.{◌≤◌, Some};
     ghost use Rattle.yt_base.specs.Candidates.{column_of, further_candidates, AreFirst};
     ghost use Rattle.yt_base.specs.Meanings.{datum_of};
     ghost use Rattle.yt_model.specs.Repository.{IsRepository};
@@ -260,17 +260,23 @@ impl Table {
             (option_map column_of column.entry) (option_map fact_of (option_copied past.entry))) }
         ensures in_order { IsRepository (visible number self.now) }
     {
-        match column {
-            Some(column) => self.few_at(number, relation, column, past),
-            None => self.rows.gather(&Zone {
+        let Some(column) = column else {
+            return self.rows.gather(&Zone {
                 number,
                 relation,
                 past,
-            }),
+            });
+        };
+        if column.number == 0 {
+            return self
+                .rows
+                .gather(&Lead::new(number, relation, column.value, past));
         }
+        self.few_at(number, relation, column, past)
     }
 
-    // Those of them with the value in the column.
+    // Those of them with the value in the column, which is not the first.
+    #[inline(never)]
     fn few_at(
         &self,
         number: u32,
@@ -278,14 +284,12 @@ impl Table {
         column: Column<'_>,
         past: Option<&Tuple>,
     ) -> Few<'_, Tuple>
+        requires further { 1 ≤ column.number }
         ensures first { AreFirst result (further_candidates (visible number self.now) relation
             (Some (column_of column.entry)) (option_map fact_of (option_copied past.entry))) }
         ensures in_order { IsRepository (visible number self.now) }
     {
         let value = column.value;
-        if column.number == 0 {
-            return self.rows.gather(&Lead::new(number, relation, value, past));
-        }
         let column = column.number as usize;
         let Some(index) = &self.index else {
             return self.rows.gather(&Further {

@@ -23,23 +23,6 @@ use Rattle.yt_versions.proofs.Seeing.{lead_same, further_same, shown_by, shown_b
 use Rattle.yt_versions.proofs.Setting.{positive, index_there}
 use Rattle.yt_versions.proofs.tables.Table.few_at.Goals as goal
 
-pub returns-then-column-eq0-clause-first : goal.returns-then-column-eq0-clause-first
-returns-then-column-eq0-clause-first c =
-    let n = c.args.number in
-    let r = c.args.relation in
-    let d = datum_of c.args.column.value.now in
-    let past = option_map fact_of (option_copied c.args.past) in
-    let rows = c.self.inside.rows in
-    let found = map (λ (e : Tuple × Marks). e.0) (filter (is_sought (λ k. place_lead r d past (fact_of k)) (λ f. stands n f.1)) rows) in
-    few_first c.gather.result found (further_candidates (visible n c.args.self.now) r (Some (c.args.column.number, d)) past) (shown_by_lead rows c.new.ensures.search c.gather.ensures.first)
-    (shown_by n (is_scanned r 0 d past) (λ k. place_lead r d past (fact_of k)) (λ f. stands n f.1) (lead_same n r d past) rows
-    ∙ scan_candidates (visible n rows) r 0 d past
-    ∙ ap (λ es. further_candidates (visible n es) r (Some (0, d)) past) c.self.view_is
-    ∙ ap (λ k. further_candidates (visible n c.args.self.now) r (Some (k, d)) past) (sym c.if-column-eq0.true))
-
-pub returns-then-column-eq0-clause-in_order : goal.returns-then-column-eq0-clause-in_order
-returns-then-column-eq0-clause-in_order c = seen_in_order c.args.number c.self.view_is c.gather.ensures.in_order
-
 pub returns-in_default-clause-first : goal.returns-in_default-clause-first
 returns-in_default-clause-first c =
     let n = c.args.number in
@@ -49,7 +32,7 @@ returns-in_default-clause-first c =
     let past = option_map fact_of (option_copied c.args.past) in
     let rows = c.self.inside.rows in
     let found = map (λ (e : Tuple × Marks). e.0) (filter (is_sought (λ k. place_of r past (fact_of k)) (λ f. stands n f.1 && has_at k d (fact_of f.0))) rows) in
-    few_first c.gather-in_default.result found (further_candidates (visible n c.args.self.now) r (Some (k, d)) past) c.gather-in_default.ensures.first
+    few_first c.gather.result found (further_candidates (visible n c.args.self.now) r (Some (k, d)) past) c.gather.ensures.first
     (shown_by n (is_scanned r k d past) (λ k. place_of r past (fact_of k)) (λ f. stands n f.1 && has_at k d (fact_of f.0)) (further_same n r k d past) rows
     ∙ scan_candidates (visible n rows) r k d past
     ∙ ap (λ es. further_candidates (visible n es) r (Some (k, d)) past) c.self.view_is)
@@ -66,9 +49,9 @@ returns-in_default-shelf-clause-first c =
     let past = option_map fact_of (option_copied c.args.past) in
     let rows = c.self.inside.rows in
     let shelves = on_spots c.in-Some.index in
-    few_first c.new-in_default-shelf.result [] (further_candidates (visible n c.args.self.now) r (Some (k, d)) past) (c.new-in_default-shelf.ensures.none ∙ sym (with_nothing no_item))
+    few_first c.new.result [] (further_candidates (visible n c.args.self.now) r (Some (k, d)) past) (c.new.ensures.none ∙ sym (with_nothing no_item))
     (scan_all n r k d past rows [] c.self.invariant.0 (ordered_empty {V = Marks} (on cell_of cell_cmp) refl)
-    (shelf_tells n r k d past rows shelves (index_there rows c.in-Some.index c.self.invariant.1 c.in-Some.is) (lt-ltb 0 k (positive k c.if-column-eq0.false)) (c.in_default-shelf.ensures.shelf ∙ ap shelves c.spot.ensures.spot))
+    (shelf_tells n r k d past rows shelves (index_there rows c.in-Some.index c.self.invariant.1 c.in-Some.is) (lt-ltb 0 k c.requires.further) (c.in_default-shelf.ensures.shelf ∙ ap shelves c.spot.ensures.spot))
     ∙ scan_candidates (visible n rows) r k d past
     ∙ ap (λ es. further_candidates (visible n es) r (Some (k, d)) past) c.self.view_is)
 
@@ -88,7 +71,7 @@ returns-clause-first c =
     let found = map (λ (e : Cell × Marks). e.0.tuple) (filter (is_sought (λ x. place_in r k d past (cell_of x)) (λ f. stands n f.1)) cells) in
     few_first c.gather-2.result found (further_candidates (visible n c.args.self.now) r (Some (k, d)) past) c.gather-2.ensures.first
     (scan_all n r k d past rows cells c.self.invariant.0 c.gather-2.ensures.in_order
-    (shelf_tells n r k d past rows shelves (index_there rows c.in-Some.index c.self.invariant.1 c.in-Some.is) (lt-ltb 0 k (positive k c.if-column-eq0.false)) (c.in-Some-shelf.ensures.shelf ∙ ap shelves c.spot.ensures.spot))
+    (shelf_tells n r k d past rows shelves (index_there rows c.in-Some.index c.self.invariant.1 c.in-Some.is) (lt-ltb 0 k c.requires.further) (c.in-Some-shelf.ensures.shelf ∙ ap shelves c.spot.ensures.spot))
     ∙ scan_candidates (visible n rows) r k d past
     ∙ ap (λ es. further_candidates (visible n es) r (Some (k, d)) past) c.self.view_is)
 
