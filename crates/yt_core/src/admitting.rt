@@ -28,6 +28,9 @@ pub(crate) fn admitted(alloc: Global, updates: &[SessionUpdate]) -> Result<Vec<R
     Ok(queue)
 }
 
+// Most updates have no more entries than this, their admissions among them.
+const MOST_ENTRIES: usize = 6;
+
 /// The entries of the admissions of these updates. It is refused only for want of memory.
 pub(crate) fn admissions(alloc: Global, updates: &[SessionUpdate]) -> Result<EntryList, Memory>
     requires few { length updates.now ≤ 1000 }
@@ -35,6 +38,7 @@ pub(crate) fn admissions(alloc: Global, updates: &[SessionUpdate]) -> Result<Ent
         (length updates.now)) }
 {
     let mut history = EntryList::new(alloc);
+    history.reserve(updates.len() * MOST_ENTRIES)?;
     for i in 0..updates.len() {
         let update = i as u32 + 1;
         history.push(Entry::Admitted { update })?;

@@ -15,7 +15,7 @@ use yt_program::Program;
 use yt_query::ReadLog;
 
 // Room for so many reads is made with the first of an attempt, since most attempts have no more.
-const MOST_READS: usize = 16;
+const MOST_READS: usize = 32;
 
 impl Record {
     /// The update of this number as it is when it is admitted, with these answers recorded for it. It is refused only for

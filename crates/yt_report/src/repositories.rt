@@ -14,6 +14,9 @@ use yt_program::Finish;
 use yt_schema::{Page, Schema};
 use yt_session::SessionUpdate;
 
+// A line of the repository mostly has no more bytes than this.
+const LINE: usize = 24;
+
 #[tactic(auto, using(yt_print::proofs::Onward::mapped_more))]
 fn with_tuples(mut page: Page, schema: &Schema, tuples: &[Tuple]) -> Result<Page, Memory>
     ensures { IfOk result (HasLines page (map (tuple_words schema.now) (map fact_of tuples.now))) }
@@ -30,7 +33,8 @@ pub(crate) fn with_repository(page: Page, schema: &Schema, tuples: &[Tuple]) -> 
     ensures { IfOk result (HasLines page (repository_lines schema.now (map fact_of tuples.now))) }
 {
     let count = tuples.len() as i64;
-    let counted = page.name(b"repository")?.number(count)?.end_line()?;
+    let mut counted = page.name(b"repository")?.number(count)?.end_line()?;
+    counted.reserve(tuples.len().saturating_mul(LINE))?;
     with_tuples(counted, schema, tuples)
 }
 

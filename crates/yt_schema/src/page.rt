@@ -53,6 +53,14 @@ impl Page {
         }
     }
 
+    /// Makes room for so many bytes more. It is refused only for want of memory. What is on the page stays.
+    pub fn reserve(&mut self, more: usize) -> Result<(), Memory>
+        ensures same { self.new ≡ self.old }
+    {
+        self.text.reserve(more)?;
+        Ok(())
+    }
+
     /// Adds a name.
     pub fn add_name(&mut self, bytes: &[u8]) -> Result<(), Memory>
         ensures word { OnOk result (self.new ≡ with_word self.old (name bytes.now)) }

@@ -18,7 +18,7 @@ pub(crate) fn repository(
 {
     let mut sweep = versions.below(number).sweep();
     let mut forms = TupleList::new(alloc);
-    forms.reserve(versions.base_len())?;
+    forms.reserve(versions.base_len().saturating_add(versions.rows_len()))?;
     while let Some(tuple) = sweep.next() {
         if tuple.relation != FORCE_RELATION {
             forms.push(tuple.outer(alloc)?)?;

@@ -58,6 +58,13 @@ impl Table {
         }
     }
 
+    /// How many tuples it has.
+    pub fn len(&self) -> usize
+        ensures length { result ≡ length self.now }
+    {
+        self.rows.len()
+    }
+
     /// Another handle to the same table.
     pub fn share(&self) -> Result<Table, AllocError>
         ensures same { IfOk result (λ copy. copy ≡ self.now) }

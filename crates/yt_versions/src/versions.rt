@@ -89,6 +89,13 @@ impl Versions {
         self.base.len()
     }
 
+    /// How many tuples updates have written. It takes no memory.
+    pub fn rows_len(&self) -> usize
+        ensures length { result ≡ length self.now.rows }
+    {
+        self.table.len()
+    }
+
     /// Adds writes behind those of the update. It is refused only for want of memory; nothing is then changed.
     pub fn publish(&mut self, alloc: Global, number: u32, writes: &[Write]) -> Result<(), Memory>
         ensures ok { OnOk result (Published number (map change_of writes.now) self.old self.new) }
