@@ -13,6 +13,7 @@ ghost use Rattle.yt_commands.specs.Runs.{ending_by, kept, ran, result_output, sa
 use crate::base::met_base;
 use crate::reading::SessionCommand;
 use std::alloc::Global;
+use std::mem;
 use yt_base::Memory;
 use yt_command::{Ending, Output, Refusal};
 use yt_limits::Budget;
@@ -108,7 +109,12 @@ fn ran(alloc: Global, session: &Session, budget: Budget) -> Result<Output, Memor
         (λ output. view_of output ≡ ran budget (session_of session.now)) }
 {
     match told_of(alloc, session, budget)? {
-        Ok(told) => result_output(alloc, session, &told),
+        Ok(told) => {
+            let output = result_output(alloc, session, &told);
+            // The process ends with the command, and gives back at once what was told.
+            mem::forget(told);
+            output
+        }
         Err(refusal) => Ok(refusal),
     }
 }

@@ -15,6 +15,7 @@ ghost use Rattle.yt_run.specs.Runs.{RunsTo, meaning, running, trace_part};
 
 use crate::crews::Crew;
 use std::alloc::Global;
+use std::mem;
 use std::sync::Wait;
 use std::thread::Threads;
 use std::time::Clock;
@@ -92,7 +93,9 @@ fn run_output(
     let told = run.result(alloc)?;
     let text = result_text(alloc, session, &told)?;
     let whole = with_trace(alloc, text, &session.schema, run.history(), trace)?;
-    Ok(Output::Text(ending_by(&told), whole))
+    let ending = ending_by(&told);
+    mem::forget(told);
+    Ok(Output::Text(ending, whole))
 }
 
 // When answers are delivered: at once, unless the trace is asked for. That of one worker has the order in which a desk gives tickets.
@@ -133,8 +136,10 @@ impl Run {
             seats,
             answers,
         )?;
-        let output = run_output(alloc, session, &run, self.trace)?;
-        Ok(output)
+        let output = run_output(alloc, session, &run, self.trace);
+        // The process ends with the command, and gives back at once what the workers leave.
+        mem::forget(run);
+        output
     }
 
     // What it makes of a session.
