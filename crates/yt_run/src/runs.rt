@@ -136,10 +136,10 @@ impl Run {
             seats,
             answers,
         )?;
-        let output = run_output(alloc, session, &run, self.trace);
+        let output = run_output(alloc, session, &run, self.trace)?;
         // The process ends with the command, and gives back at once what the workers leave.
         mem::forget(run);
-        output
+        Ok(output)
     }
 
     // What it makes of a session.
