@@ -5,7 +5,7 @@ ghost use Rattle.yt_model.specs.Cursors.{is_beyond, first_of, next_of, scan_of};
 ghost use Rattle.yt_model.specs.Repository.{has, IsRepository};
 ghost use Rattle.yt_model.specs.Values.{Fact};
 ghost use Rattle.yt_base.specs.Meanings.{fact_of, datum_of};
-ghost use Rattle.yt_base.specs.Candidates.{column_of, further_candidates, AreAll};
+ghost use Rattle.yt_base.specs.Candidates.{AreFurther};
 
 use crate::candidates::{Candidates, Column};
 use crate::tuples::Tuple;
@@ -67,9 +67,8 @@ pub trait Facts {
         _column: Option<Column<'_>>,
         _past: Option<&Tuple>,
     ) -> Candidates<'_>
-        ensures all { AreAll result (tuples self.now)
-            (further_candidates (tuples self.now) _relation (option_map column_of _column.entry)
-            (option_map fact_of (option_copied _past.entry))) }
+        ensures all { AreFurther result (tuples self.now) _relation _column.entry
+            (option_copied _past.entry) }
     {
         Candidates::Apart
     }

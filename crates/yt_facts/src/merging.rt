@@ -1,5 +1,5 @@
 //! Two runs as one, without what is hidden of the first.
-ghost use Rattle.std.specs.Prelude.{◌≡◌, ◌++◌, [], map, IfNone, IfOk};
+ghost use Rattle.std.specs.Prelude.{◌≡◌, ◌++◌, [], IfNone};
 ghost use Rattle.std.specs.Option.{option_copied, option_map, option_to_list};
 ghost use Rattle.yt_base.specs.Candidates.{AreFirst};
 ghost use Rattle.yt_base.specs.Meanings.{fact_of};
@@ -7,10 +7,9 @@ ghost use Rattle.yt_facts.specs.Runs.{run_of, left_of, merged, ahead_of};
 
 use crate::course::Hides;
 use crate::runs::Run;
-use std::alloc::Global;
 use std::cmp::Ordering;
 use std::marker::Model;
-use yt_base::{List, Memory, Tuple, TupleList};
+use yt_base::Tuple;
 use yt_tree::Few;
 
 /// What is left of a run without the tuples that are hidden, and another run, as one in order. Contracts see the tuples that
@@ -106,16 +105,5 @@ impl<'a, H: Hides> Merging<'a, H> {
             few.push(tuple);
         }
         few
-    }
-
-    /// The tuples to come, copied. It is refused only for want of memory.
-    pub fn list(&mut self, alloc: Global) -> Result<TupleList, Memory>
-        ensures tuples { IfOk result (λ list. map fact_of list.items ≡ self.old) }
-    {
-        let mut list = List::new(alloc);
-        while let Some(tuple) = self.next() {
-            list.push(tuple.share()?)?;
-        }
-        Ok(list)
     }
 }

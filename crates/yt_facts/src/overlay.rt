@@ -1,7 +1,7 @@
 //! A set of tuples as writes leave it, without a copy of the set.
 ghost use Rattle.std.specs.Prelude.{◌≡◌, ◌&&◌, List, not, map, OnErr, OnOk};
 ghost use Rattle.std.specs.Option.{option_map, option_copied};
-ghost use Rattle.yt_base.specs.Candidates.{column_of, further_candidates, AreAll, AreFirst};
+ghost use Rattle.yt_base.specs.Candidates.{column_of, further_candidates, AreFirst, AreFurther};
 ghost use Rattle.yt_model.specs.Repository.{Delete, Insert, has, change, apply, IsRepository};
 ghost use Rattle.yt_base.specs.Meanings.{fact_of, change_of};
 ghost use Rattle.yt_model.specs.Values.{Fact};
@@ -171,8 +171,7 @@ impl<'a, F: Facts> Overlay<'a, F> {
         column: Option<Column<'_>>,
         past: Option<&Tuple>,
     ) -> Candidates<'_>
-        ensures all { AreAll result self.now (further_candidates self.now relation
-            (option_map column_of column.entry) (option_map fact_of (option_copied past.entry))) }
+        ensures all { AreFurther result self.now relation column.entry (option_copied past.entry) }
     {
         if let Some(few) = self.added.few(relation, column, past) {
             return with_few(self.facts, &self.gone, few, relation, column, past);
@@ -196,9 +195,8 @@ fn with_few<'a, F: Facts>(
     ensures all { (added : List Fact) → IsRepository added →
         AreFirst few.entry (further_candidates added relation (option_map column_of column.entry)
         (option_map fact_of (option_copied past.entry))) →
-        AreAll result (overlaid (F.tuples facts.now) gone.now added)
-        (further_candidates (overlaid (F.tuples facts.now) gone.now added) relation
-        (option_map column_of column.entry) (option_map fact_of (option_copied past.entry))) }
+        AreFurther result (overlaid (F.tuples facts.now) gone.now added) relation column.entry
+        (option_copied past.entry) }
 {
     changed(facts.candidates(relation, column, past), gone, few)
 }

@@ -3,7 +3,7 @@ ghost use Rattle.std.specs.Prelude.{◌≡◌, [], None, Some, find, IfNone, IfS
 ghost use Rattle.std.specs.Option.{option_map, option_copied};
 ghost use Rattle.yt_model.specs.Cursors.{is_beyond, first_of, next_of, scan_of};
 ghost use Rattle.yt_model.specs.Repository.{has, IsRepository};
-ghost use Rattle.yt_base.specs.Candidates.{column_of, further_candidates, AreAll, AreFirst, Begin};
+ghost use Rattle.yt_base.specs.Candidates.{column_of, further_candidates, AreFirst, AreFurther, Begin};
 ghost use Rattle.yt_base.specs.Meanings.{fact_of, datum_of};
 ghost use Rattle.yt_facts.specs.Runs.{ahead_of, left_of, merged, run_of};
 ghost use Rattle.yt_versions.specs.Marked.{put_first};
@@ -111,9 +111,8 @@ impl Versions {
         column: Option<Column<'_>>,
         past: Option<&Tuple>,
     ) -> Candidates<'_>
-        ensures all { AreAll result (seen number self.now)
-            (further_candidates (seen number self.now) relation (option_map column_of column.entry)
-            (option_map fact_of (option_copied past.entry))) }
+        ensures all { AreFurther result (seen number self.now) relation column.entry
+            (option_copied past.entry) }
     {
         if column.is_none() {
             if let Some(tuple) = past {
@@ -125,8 +124,7 @@ impl Versions {
 
     // The same above a tuple, where no column is given: what comes first of it, where that is more than a few.
     fn onwards(&self, number: u32, relation: u16, past: &Tuple) -> Candidates<'_>
-        ensures all { AreAll result (seen number self.now)
-            (further_candidates (seen number self.now) relation None (Some (fact_of past.now))) }
+        ensures all { AreFurther result (seen number self.now) relation None (Some past.now) }
     {
         let _ = self.base();
         if past.relation == relation {
@@ -147,9 +145,8 @@ impl Versions {
         column: Option<Column<'_>>,
         past: Option<&Tuple>,
     ) -> Candidates<'_>
-        ensures all { AreAll result (seen number self.now)
-            (further_candidates (seen number self.now) relation (option_map column_of column.entry)
-            (option_map fact_of (option_copied past.entry))) }
+        ensures all { AreFurther result (seen number self.now) relation column.entry
+            (option_copied past.entry) }
     {
         match self.base().candidates(relation, column, past) {
             Candidates::Absent => self.written(number, relation, column, past),
@@ -178,9 +175,8 @@ impl Versions {
     ) -> Candidates<'_>
         requires none { further_candidates self.now.base relation (option_map column_of column)
             (option_map fact_of (option_copied past)) ≡ [] }
-        ensures all { AreAll result (seen number self.now)
-            (further_candidates (seen number self.now) relation (option_map column_of column.entry)
-            (option_map fact_of (option_copied past.entry))) }
+        ensures all { AreFurther result (seen number self.now) relation column.entry
+            (option_copied past.entry) }
     {
         let _ = self.base();
         Candidates::Few(self.table().candidates(number, relation, column, past))
@@ -230,9 +226,8 @@ impl Versions {
     ) -> Candidates<'a>
         requires base { run_of base ≡ further_candidates self.now.base relation
             (option_map column_of column) (option_map fact_of (option_copied past)) }
-        ensures all { AreAll result (seen number self.now)
-            (further_candidates (seen number self.now) relation (option_map column_of column.entry)
-            (option_map fact_of (option_copied past.entry))) }
+        ensures all { AreFurther result (seen number self.now) relation column.entry
+            (option_copied past.entry) }
     {
         let table = self.table();
         let mut written = Run::Few(table.candidates(number, relation, column, past));

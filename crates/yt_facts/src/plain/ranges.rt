@@ -4,7 +4,7 @@ ghost use Rattle.std.specs.Option.{option_map, option_copied};
 ghost use Rattle.std.specs.Prelude.{◌≡◌, [], ◌+◌, false, true, map, filter, None, Some, IsTrue};
 ghost use Rattle.yt_model.specs.Cursors.{is_of, is_past, is_beyond};
 ghost use Rattle.yt_model.specs.Repository.{IsRepository};
-ghost use Rattle.yt_base.specs.Candidates.{all_candidates, further_candidates, AreAll};
+ghost use Rattle.yt_base.specs.Candidates.{all_candidates, AreAll, AreFurther};
 ghost use Rattle.yt_base.specs.Meanings.{fact_of};
 ghost use Rattle.yt_facts.specs.Courses.{is_ahead};
 ghost use Rattle.yt_facts.specs.Places.{is_inside, HasAllThat};
@@ -57,8 +57,7 @@ impl PlainFacts {
     /// All its tuples of the relation that are above `past`, where that is given. They can stand apart: no tuple bounds those of
     /// the last relation that there can be, and `past` may be of another relation.
     pub(crate) fn relation(&self, relation: u16, past: Option<&Tuple>) -> Candidates<'_>
-        ensures all { AreAll result self.now (further_candidates self.now relation None
-            (option_map fact_of (option_copied past.entry))) }
+        ensures all { AreFurther result self.now relation None (option_copied past.entry) }
     {
         let Some(next) = relation.checked_add(1) else {
             return Candidates::Apart;
