@@ -17,10 +17,10 @@ use Rattle.yt_program.specs.Courses.{State as ProgramState}
 use Rattle.yt_queue.specs.Programs.{IsBetween}
 use Rattle.yt_queue.specs.Queues.{update_of, updates_of, AreFrom}
 use Rattle.yt_queue.specs.Records.{HasStanding, HasQuestion}
-use Rattle.yt_queue.specs.Walks.{HasCommitted, IsLowestReady, IsLowestDeliverable, IsLowestBesides, IsQuiet}
+use Rattle.yt_queue.specs.Walks.{HasCommitted, IsLowestReady, IsLowestDeliverable, IsLowestBesides, IsNextDeliverable, IsQuiet, only}
 use Rattle.yt_queue.specs.declared.records.Record.{Record}
 use Rattle.yt_steps.specs.Chase.{caused_chase}
-use Rattle.yt_core.specs.States.{State, updates_at, numbered_at, committed_at, standing_at, question_at, has_waiting, lowest_ready_at, lowest_ready_besides_of, lowest_ready_besides_at, lowest_deliverable_at, is_quiet_at}
+use Rattle.yt_core.specs.States.{State, updates_at, numbered_at, committed_at, standing_at, question_at, has_waiting, lowest_ready_at, lowest_ready_besides_of, lowest_ready_besides_at, lowest_deliverable_at, next_deliverable_at, is_quiet_at}
 use Rattle.yt_core.specs.Told.{HasStandingAt, HasQuestionAt, HasWaitingAt}
 use Rattle.yt_core.proofs.Following.{there, stands_at, mapped_long}
 
@@ -125,6 +125,12 @@ module _ (g : Ground) (H : List PlainEntry) (rs : List Record) (s : State) (left
 
   pub deliverable_told : (o : Option ℕ) → IsLowestDeliverable g.settings rs o → o ≡ lowest_deliverable_at s
   deliverable_told o h = h g.rules g.budget ∙ sym (ap (standings.lowest_deliverable (caused_chase g.rules g.budget) g.settings) left.leaves) ∙ ap lowest_deliverable_at same
+
+  pub next_told : (o : Option ℕ) → IsNextDeliverable g.settings rs o → o ≡ next_deliverable_at s
+  next_told o h =
+      h g.rules g.budget
+      ∙ sym (ap (λ (us : List (Update (caused_chase g.rules g.budget))). only (suc (committed (caused_chase g.rules g.budget) us)) (standings.lowest_deliverable (caused_chase g.rules g.budget) g.settings us)) left.leaves)
+      ∙ ap next_deliverable_at same
 
   pub besides_told : (ns : List ℕ) (o : Option ℕ) → IsLowestBesides ns g.settings rs o → o ≡ lowest_ready_besides_at s ns
   besides_told ns o h =

@@ -10,6 +10,7 @@ use Rattle.yt_history.specs.Cores.{Ground, machine, updates_after}
 use Rattle.yt_grammar.specs.Sessions.{SessionData}
 use Rattle.yt_grammar.specs.Checks.{rules_of}
 use Rattle.yt_session.specs.Meanings.{requests_in}
+use Rattle.yt_queue.specs.Walks.{only}
 
 -- What its history is over, and the entries of that history.
 pub record State : Type 0 where
@@ -61,6 +62,10 @@ lowest_ready_at s = standings.lowest_ready (machine s.over) s.over.settings (upd
 
 abbrev pub lowest_deliverable_at : State → Option ℕ
 lowest_deliverable_at s = standings.lowest_deliverable (machine s.over) s.over.settings (updates_at s)
+
+-- The first update that is not committed, if an answer can be delivered to it.
+abbrev pub next_deliverable_at : State → Option ℕ
+next_deliverable_at s = only (suc (committed_at s)) (lowest_deliverable_at s)
 
 -- Nothing is ready, and nothing deliverable.
 abbrev pub is_quiet_at : State → Bool

@@ -10,7 +10,7 @@ ghost use Rattle.yt_model.specs.Repository.{IsRepository};
 ghost use Rattle.yt_grammar.specs.Validity.{IsSession};
 ghost use Rattle.yt_session.specs.Meanings.{session_of};
 ghost use Rattle.yt_queue.specs.Settings.{settings_of};
-ghost use Rattle.yt_core.specs.States.{opened, updates_at, committed_at, standing_at, question_at, has_waiting as has_waiting_lem, lowest_ready_at, lowest_ready_besides_at, lowest_deliverable_at, is_quiet_at};
+ghost use Rattle.yt_core.specs.States.{opened, updates_at, committed_at, standing_at, question_at, has_waiting as has_waiting_lem, lowest_ready_at, lowest_ready_besides_at, lowest_deliverable_at, next_deliverable_at, is_quiet_at};
 ghost use Rattle.yt_core.specs.Events.{HasMade, AnswersStep, AnswersDelivery};
 ghost use Rattle.yt_core.specs.Planned.{IsStepAt};
 
@@ -200,6 +200,7 @@ impl<'s> Core<'s> {
 
     /// The first update that is not committed, if a recorded answer can be delivered to it. It takes no memory.
     pub fn next_deliverable(&self) -> Option<u32>
+        ensures next { result ≡ next_deliverable_at self.now }
         ensures lowest { IfSome result (λ n. lowest_deliverable_at self.now ≡ Some n) }
     {
         next_deliverable(&self.queue, self.settings, self.least)

@@ -1,18 +1,20 @@
 -- Walks over a queue, record by record.
 use Rattle.std.proofs.Common.{◌≡◌, ◌∙◌, ap, refl, sym, subst, ℕ, zero, suc, [], map, ◌&&◌, not, ◌≤◌, ◌<◌, ◌+◌, Bool, true, false, Option, Some, None, List, ◌∷◌, length, get_or, drop, arith}
 use Rattle.std.specs.Prelude.{if◌then◌else◌}
-use Rattle.std.proofs.lemmas.Bool.{both_ways}
+use Rattle.std.proofs.lemmas.Bool.{both_ways, eq-eqb, ne_eqb}
 use Rattle.std.proofs.lemmas.List.{drop_more, drop_all}
+use Rattle.std.proofs.lemmas.Option.{same_Some}
 use Rattle.yt_machine.specs.Machine.{Machine}
 use Rattle.yt_machine.specs.Cascade.{has_number}
 use Rattle.yt_machine.specs.Updates.{Settings, Update, committed, is_over}
 use Rattle.yt_machine.specs.Standings.{is_deliverable, is_nil, is_pending, is_ready, lowest_that, standing}
 use Rattle.yt_machine.proofs.Standing.{not_over, pending_parts, ready_parts}
 use Rattle.yt_model.specs.Mappings.{Rule}
+use Rattle.yt_model.proofs.Bools.{none_some}
 use Rattle.yt_steps.specs.Chase.{caused_chase}
 use Rattle.yt_queue.specs.Queues.{update_of, updates_of, StandsAt, AreFrom}
 use Rattle.yt_queue.specs.Records.{IsOver}
-use Rattle.yt_queue.specs.Walks.{CommitsAtLeast, CommitsOn, HasCommitted}
+use Rattle.yt_queue.specs.Walks.{CommitsAtLeast, CommitsOn, HasCommitted, IsNextDeliverable, IsNextOf, only}
 use Rattle.yt_queue.specs.declared.records.Record.{Record}
 
 -- What is left of a queue is the record at the place, and what is left behind it.
@@ -67,6 +69,40 @@ passed p rs i n m k r b o h e a q t f j first = λ ms B.
 -- No record is left.
 pub ended : (p : Test) (rs : List Record) (i n : ℕ) → length rs ≤ i → IsFirst p n (drop i rs) None
 ended p rs i n h = λ ms B. sym (ap (λ (xs : List Record). lowest_that {M = caused_chase ms B} (p ms B) n (updates_of ms B xs)) (drop_all i rs h))
+
+-- The least number that passes is not below the first.
+least_number : (M : Machine) (p : ℕ → Update M → Bool) (n k : ℕ) (us : List (Update M)) → lowest_that {M = M} p n us ≡ Some k → n ≤ k
+least_number M p n k [] e = absurd (none_some k e)
+least_number M p n k (u ∷ us) e = by (p n u) e (least_number M p (suc n) k us)
+  where
+    by : (b : Bool) → (if b then Some n else lowest_that {M = M} p (suc n) us) ≡ Some k → (lowest_that {M = M} p (suc n) us ≡ Some k → suc n ≤ k) → n ≤ k
+    by true f rest = let same : n ≡ k = same_Some n k f in omega (arith, same)
+    by false f rest = let less = rest f in omega (arith, less)
+
+-- Of the numbers from the first on, only the first is asked for.
+pub first_only : (M : Machine) (p : ℕ → Update M → Bool) (n : ℕ) (u : Update M) (us : List (Update M)) (b : Bool) → b ≡ p n u → (if b then Some n else None) ≡ only n (lowest_that {M = M} p n (u ∷ us))
+first_only M p n u us b e = by b ∙ ap (λ (x : Bool). only n (if x then Some n else lowest_that {M = M} p (suc n) us)) e
+  where
+    later : (o : Option ℕ) → lowest_that {M = M} p (suc n) us ≡ o → None ≡ only n o
+    later None f = refl
+    later (Some k) f =
+        let less = least_number M p (suc n) k us f in
+        ap (λ (x : Bool). if x then Some k else None) (sym (ne_eqb k n (λ q. omega (arith, q, less))))
+
+    by : (x : Bool) → (if x then Some n else None) ≡ only n (if x then Some n else lowest_that {M = M} p (suc n) us)
+    by true = ap (λ (x : Bool). if x then Some n else None) (sym (eq-eqb n n refl))
+    by false = later (lowest_that {M = M} p (suc n) us) refl
+
+-- Of those behind the committed ones only the first is asked for: its number is told where it passes.
+pub next_of : (p : Test) (rs : List Record) (c k : ℕ) (r : Record) (b : Bool) → 0 < length rs → r ≡ get_or rs 0 r → AreFrom (suc c) rs → k ≡ r.program.attempt.number → Tells p k r b
+    → (o : Option ℕ) → o ≡ (if b then Some k else None) → (ms : List Rule) (B : ℕ) → o ≡ only (suc c) (lowest_that {M = caused_chase ms B} (p ms B) (suc c) (updates_of ms B rs))
+next_of p rs c k r b h e a q t o f ms B =
+    let M = caused_chase ms B in
+    let number : k ≡ suc c = q ∙ (stands_here rs 0 (suc c) r h e a).number in
+    let told : b ≡ p ms B (suc c) (update_of ms B r) = t ms B ∙ ap (λ (m : ℕ). p ms B m (update_of ms B r)) number in
+    f ∙ ap (λ (m : ℕ). if b then Some m else None) number
+    ∙ first_only M (p ms B) (suc c) (update_of ms B r) (updates_of ms B (drop 1 rs)) b told
+    ∙ sym (ap (λ (xs : List Record). only (suc c) (lowest_that {M = M} (p ms B) (suc c) (updates_of ms B xs))) (left_of rs 0 r h e))
 
 -- ---- how many are committed
 
@@ -176,15 +212,19 @@ skipped M p over (u ∷ us) n (suc c) h = by (is_over M u) refl h (skipped M p o
 abbrev pub FailsOver : Test → Type 0
 FailsOver p = (ms : List Rule) (B n : ℕ) (u : Update (caused_chase ms B)) → is_over (caused_chase ms B) u ≡ true → p ms B n u ≡ false
 
-pub first_behind : (p : Test) → FailsOver p → (rs rest : List Record) (c : ℕ) (o : Option ℕ) → CommitsAtLeast rs c → rest ≡ drop c rs → IsFirst p (suc c) rest o → IsFirst p 1 rs o
-first_behind p over rs rest c o h e first ms B =
+-- The first that passes it is the same over all, and over those that come behind.
+pub same_behind : (p : Test) → FailsOver p → (rs rest : List Record) (c : ℕ) → CommitsAtLeast rs c → rest ≡ drop c rs → (ms : List Rule) (B : ℕ)
+    → lowest_that {M = caused_chase ms B} (p ms B) (suc c) (updates_of ms B rest) ≡ lowest_that {M = caused_chase ms B} (p ms B) 1 (updates_of ms B rs)
+same_behind p over rs rest c h e ms B =
     let M = caused_chase ms B in
     let one : suc c ≡ 1 + c = omega arith in
-    first ms B
-    ∙ ap (λ (xs : List Record). lowest_that {M = M} (p ms B) (suc c) (updates_of ms B xs)) e
+    ap (λ (xs : List Record). lowest_that {M = M} (p ms B) (suc c) (updates_of ms B xs)) e
     ∙ ap (λ (us : List (Update M)). lowest_that {M = M} (p ms B) (suc c) us) (dropped (update_of ms B) rs c)
     ∙ ap (λ (m : ℕ). lowest_that {M = M} (p ms B) m (drop c (updates_of ms B rs))) one
     ∙ sym (skipped M (p ms B) (over ms B) (updates_of ms B rs) 1 c (h ms B))
+
+pub first_behind : (p : Test) → FailsOver p → (rs rest : List Record) (c : ℕ) (o : Option ℕ) → CommitsAtLeast rs c → rest ≡ drop c rs → IsFirst p (suc c) rest o → IsFirst p 1 rs o
+first_behind p over rs rest c o h e first ms B = first ms B ∙ same_behind p over rs rest c h e ms B
 
 -- What is over is neither ready nor deliverable.
 pub ready_fails : (M : Machine) (s : Settings) (c n : ℕ) (u : Update M) → is_over M u ≡ true → is_ready (standing M s c n u) ≡ false
@@ -215,6 +255,14 @@ ready_behind s rs rest c o h e first = first_behind (ready_test s c) (λ ms B n 
 
 pub deliverable_behind : (s : Settings) (rs rest : List Record) (c : ℕ) (o : Option ℕ) → HasCommitted rs c → rest ≡ drop c rs → IsFirst (deliverable_test s c) (suc c) rest o → IsFirst (deliverable_test s c) 1 rs o
 deliverable_behind s rs rest c o h e first = first_behind (deliverable_test s c) (λ ms B n u. deliverable_fails (caused_chase ms B) s c n u) rs rest c o (commits_so rs c h) e first
+
+-- The first behind those that are committed is told, where it is deliverable.
+pub next_behind : (s : Settings) (rs rest : List Record) (c : ℕ) (o : Option ℕ) → HasCommitted rs c → rest ≡ drop c rs → IsNextOf s c rest o → IsNextDeliverable s rs o
+next_behind s rs rest c o h e next ms B =
+    let M = caused_chase ms B in
+    next ms B
+    ∙ ap (only (suc c)) (same_behind (deliverable_test s c) (λ ms B n u. deliverable_fails (caused_chase ms B) s c n u) rs rest c (commits_so rs c h) e ms B)
+    ∙ ap (λ (k : ℕ). only (suc k) (lowest_that {M = M} (λ i u. is_deliverable M s k i u) 1 (updates_of ms B rs))) (h ms B)
 
 -- The next place and the next number.
 pub next_number : (i c : ℕ) → i + 1 + suc c ≡ suc (i + suc c)

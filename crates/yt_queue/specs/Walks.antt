@@ -1,5 +1,5 @@
 -- What is told of a queue, for the machine of any mappings and any budget.
-use Rattle.std.specs.Prelude.{◌≡◌, ◌+◌, ◌≤◌, ℕ, zero, suc, Bool, not, ◌&&◌, List, [], ◌∷◌, drop, Option}
+use Rattle.std.specs.Prelude.{◌≡◌, ◌==◌, ◌+◌, ◌≤◌, ℕ, zero, suc, Bool, not, ◌&&◌, List, [], ◌∷◌, drop, Option, None, Some, if◌then◌else◌}
 use Rattle.yt_machine.specs.Cascade.{has_number}
 use Rattle.yt_machine.specs.Machine.{Machine}
 use Rattle.yt_machine.specs.Standings.{standing, is_ready, is_deliverable, lowest_that, lowest_ready, lowest_deliverable, is_quiet}
@@ -51,6 +51,16 @@ abbrev pub IsFirstDeliverable : Settings → ℕ → ℕ → List Record → Opt
 IsFirstDeliverable s c n rs o =
     (ms : List Rule) (B : ℕ) → o ≡ lowest_that (λ i u. is_deliverable (caused_chase ms B) s c i u) n (updates_of ms B rs)
 
+-- The number, if it is this one.
+abbrev pub only : ℕ → Option ℕ → Option ℕ
+only n None = None
+only n (Some k) = if k == n then Some k else None
+
+-- The number of the first of them, if it is deliverable.
+abbrev pub IsNextOf : Settings → ℕ → List Record → Option ℕ → Type 0
+IsNextOf s c rs o =
+    (ms : List Rule) (B : ℕ) → o ≡ only (suc c) (lowest_that (λ i u. is_deliverable (caused_chase ms B) s c i u) (suc c) (updates_of ms B rs))
+
 -- Whether it is ready, and its number n none of these.
 abbrev pub IsReadyBesides : List ℕ → Settings → ℕ → ℕ → Record → Bool → Type 0
 IsReadyBesides ns s c n r b =
@@ -68,6 +78,11 @@ IsLowestReady s rs o = (ms : List Rule) (B : ℕ) → o ≡ lowest_ready (caused
 -- The least number of a deliverable update, if one is deliverable.
 abbrev pub IsLowestDeliverable : Settings → List Record → Option ℕ → Type 0
 IsLowestDeliverable s rs o = (ms : List Rule) (B : ℕ) → o ≡ lowest_deliverable (caused_chase ms B) s (updates_of ms B rs)
+
+-- That number, if it is the one behind those that are committed: of a lower one nothing can be delivered.
+abbrev pub IsNextDeliverable : Settings → List Record → Option ℕ → Type 0
+IsNextDeliverable s rs o =
+    (ms : List Rule) (B : ℕ) → o ≡ only (suc (committed (caused_chase ms B) (updates_of ms B rs))) (lowest_deliverable (caused_chase ms B) s (updates_of ms B rs))
 
 -- The least number of a ready update that is none of these, if there is one.
 abbrev pub IsLowestBesides : List ℕ → Settings → List Record → Option ℕ → Type 0

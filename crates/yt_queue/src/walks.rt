@@ -4,7 +4,7 @@ ghost use Rattle.yt_machine.specs.Cascade.{has_number};
 ghost use Rattle.yt_queue.specs.Settings.{settings_of};
 ghost use Rattle.yt_queue.specs.Queues.{AreFrom};
 ghost use Rattle.yt_queue.specs.Programs.{IsBetween};
-ghost use Rattle.yt_queue.specs.Walks.{HasCommitted, CommitsAtLeast, CommitsOn, IsFirstReady, IsFirstDeliverable, IsFirstBesides, IsReadyBesides, IsLowestReady, IsLowestDeliverable, IsLowestBesides, IsQuiet, UnreadyUpTo};
+ghost use Rattle.yt_queue.specs.Walks.{HasCommitted, CommitsAtLeast, CommitsOn, IsFirstReady, IsFirstDeliverable, IsFirstBesides, IsNextDeliverable, IsNextOf, IsReadyBesides, IsLowestReady, IsLowestDeliverable, IsLowestBesides, IsQuiet, UnreadyUpTo};
 
 use crate::records::Record;
 use crate::settings::Settings;
@@ -52,6 +52,7 @@ pub fn lowest_deliverable(queue: &[Record], settings: Settings, least: u32) -> O
 pub fn next_deliverable(queue: &[Record], settings: Settings, least: u32) -> Option<u32>
     requires from { AreFrom 1 queue.now }
     requires least { CommitsAtLeast queue.now least }
+    ensures next { IsNextDeliverable (settings_of settings) queue.now result }
     ensures lowest { IfSome result
         (λ n. IsLowestDeliverable (settings_of settings) queue.now (Some n)) }
 {
@@ -154,6 +155,7 @@ fn first_deliverable(rest: &[Record], settings: Settings, committed: u32) -> Opt
 // The first of these updates, if it is deliverable, where so many are committed, and these come behind them.
 fn deliverable_at_once(rest: &[Record], settings: Settings, committed: u32) -> Option<u32>
     requires from { AreFrom (suc committed) rest.now }
+    ensures next { IsNextOf (settings_of settings) committed rest.now result }
     ensures first { IfSome result
         (λ n. IsFirstDeliverable (settings_of settings) committed (suc committed) rest.now
         (Some n)) }
