@@ -74,7 +74,8 @@ fn push_two(out: &mut Vec<u8>, number: u32) -> Result<(), AllocError>
     ensures ok { OnOk result (out.new.items ≡ out.old.items ++ decimal number) }
     ensures err { OnErr result (StartsWith out.old.items out.new.items) }
 {
-    out.extend_from_slice(&[glyph(number / 10), glyph(number % 10)])
+    push_one(out, number / 10)?;
+    push_one(out, number % 10)
 }
 
 // A number of three digits.
@@ -84,8 +85,8 @@ fn push_three(out: &mut Vec<u8>, number: u32) -> Result<(), AllocError>
     ensures ok { OnOk result (out.new.items ≡ out.old.items ++ decimal number) }
     ensures err { OnErr result (StartsWith out.old.items out.new.items) }
 {
-    let front = number / 10;
-    out.extend_from_slice(&[glyph(front / 10), glyph(front % 10), glyph(number % 10)])
+    push_two(out, number / 10)?;
+    push_one(out, number % 10)
 }
 
 // A number of four digits.
@@ -95,12 +96,6 @@ fn push_four(out: &mut Vec<u8>, number: u32) -> Result<(), AllocError>
     ensures ok { OnOk result (out.new.items ≡ out.old.items ++ decimal number) }
     ensures err { OnErr result (StartsWith out.old.items out.new.items) }
 {
-    let front = number / 10;
-    let first = front / 10;
-    out.extend_from_slice(&[
-        glyph(first / 10),
-        glyph(first % 10),
-        glyph(front % 10),
-        glyph(number % 10),
-    ])
+    push_three(out, number / 10)?;
+    push_one(out, number % 10)
 }
