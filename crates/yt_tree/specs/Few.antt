@@ -13,7 +13,7 @@ pub record Batch (T : Type 0) : Type 0 where
 
 -- How many there are at most.
 abbrev pub most : ℕ
-most = 8
+most = 6
 
 -- No item, and room for as many as there ever is.
 abbrev pub no_item : {T : Type 0} → Batch T

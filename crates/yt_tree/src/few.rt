@@ -6,10 +6,10 @@ ghost use Rattle.yt_tree.specs.Few.{no_item, with_first};
 use arrayvec::ArrayVec;
 use std::marker::Model;
 
-/// At most eight items, which are given one by one. Contracts see those still to be given, and how many more there is room for.
+/// At most six items, which are given one by one. Contracts see those still to be given, and how many more there is room for.
 #[derive(Drop)]
 pub struct Few<'a, T> {
-    items: ArrayVec<Option<&'a T>, 8>,
+    items: ArrayVec<Option<&'a T>, 6>,
     given: usize,
 }
 
