@@ -14,6 +14,7 @@ use yt_tree::Few;
 
 /// The candidates without what is gone and with what is added, where the set has these at hand, and `few` of them are added:
 /// a few of them. They stand apart where the set's do, or where it tells but the first of them.
+#[inline(always)]
 pub(crate) fn changed<'a>(
     given: Candidates<'a>,
     gone: &'a Group,
@@ -42,6 +43,7 @@ pub(crate) fn changed<'a>(
 }
 
 // The first of them, where the set has this run.
+#[inline(always)]
 fn first_of_both<'a>(run: Run<'a>, gone: &'a Group, few: Few<'a, Tuple>) -> Few<'a, Tuple>
     ensures first { (D added : List Fact) (r : ℕ) (c : Option (ℕ × Datum)) (past : Option Fact) →
         IsRepository D → IsRepository added → run_of run.entry ≡ further_candidates D r c past →

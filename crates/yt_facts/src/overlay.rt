@@ -184,6 +184,7 @@ impl<'a, F: Facts> Overlay<'a, F> {
 }
 
 // The candidates of the set as writes leave it, of which these are the first that were added.
+#[inline(always)]
 fn with_few<'a, F: Facts>(
     facts: &'a F,
     gone: &'a Group,
