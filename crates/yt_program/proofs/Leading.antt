@@ -4,18 +4,18 @@ use Rattle.std.proofs.lemmas.List.{take_all, drop-map, length-drop}
 use Rattle.yt_base.specs.Meanings.{change_of}
 use Rattle.yt_base.specs.declared.updates.Write.{Write}
 use Rattle.yt_model.specs.Repository.{Change}
-use Rattle.yt_program.specs.Firsts.{BeginWith}
+use mathlib.Core.List.{IsPrefix}
 
 behind : (xs ys : List Change) → drop (length xs) (xs ++ ys) ≡ ys
 behind [] ys = refl
 behind (x ∷ xs) ys = behind xs ys
 
 -- With those that it lacks it has all.
-pub caught_up : (n : ℕ) (first : List Change) (all : List Write) → n ≡ length first → BeginWith first (map change_of all) → first ++ map change_of (take (length all - n) (drop n all)) ≡ map change_of all
+pub caught_up : (n : ℕ) (first : List Change) (all : List Write) → n ≡ length first → IsPrefix first (map change_of all) → first ++ map change_of (take (length all - n) (drop n all)) ≡ map change_of all
 caught_up n first all e h =
     ap (λ ws. first ++ map change_of ws) (take_all (length all - n) (drop n all) (let l = length-drop n all in omega (arith, l)))
     ∙ ap (λ cs. first ++ cs) (sym (drop-map change_of n all))
     ∙ ap (λ k. first ++ drop k (map change_of all)) e
-    ∙ ap (λ cs. first ++ drop (length first) cs) h.1
+    ∙ ap (λ cs. first ++ drop (length first) cs) (sym h.1)
     ∙ ap (λ cs. first ++ cs) (behind first h.0)
-    ∙ sym h.1
+    ∙ h.1

@@ -1,17 +1,13 @@
 -- The first of the writes of an attempt.
-use Rattle.std.specs.Prelude.{◌≡◌, ◌++◌, List, Option, Some, None}
+use Rattle.std.specs.Prelude.{Option, Some, None}
+use mathlib.Core.List.{IsPrefix}
 use Rattle.std.specs.declared.alloc.Global.{Global}
 use Rattle.std.specs.declared.sync.Arc.{Arc}
 use Rattle.yt_base.specs.Contents.{changes_of}
 use Rattle.yt_base.specs.Listed.{Listed}
 use Rattle.yt_base.specs.declared.updates.Write.{Write}
-use Rattle.yt_model.specs.Repository.{Change}
-
--- All of them begin with the first.
-abbrev pub BeginWith : List Change → List Change → Type 0
-BeginWith first all = (rest : List Change) × (all ≡ first ++ rest)
 
 -- Where a list is kept beside that of all, it has the first of them.
 abbrev pub HasFirst : Option (Arc (Listed Write) Global) → Listed Write → Type 0
 HasFirst None all = Unit {0}
-HasFirst (Some first) all = BeginWith (changes_of first.value) (changes_of all)
+HasFirst (Some first) all = IsPrefix (changes_of first.value) (changes_of all)

@@ -4,7 +4,7 @@ ghost use Rattle.yt_steps.specs.Attempts.{Look};
 ghost use Rattle.yt_model.specs.Updates.{direction_of};
 ghost use Rattle.yt_base.specs.Contents.{changes_of};
 ghost use Rattle.yt_base.specs.Meanings.{change_of, heading_of};
-ghost use Rattle.yt_program.specs.Firsts.{BeginWith};
+ghost use mathlib.Core.List.{IsPrefix};
 
 use crate::own::Own;
 use crate::points::Point;
@@ -61,7 +61,7 @@ impl Program {
     /// Lets copies of it share its writes from now on. It keeps those that it had before, to make more. It is refused only for
     /// want of memory. It stays as it is.
     pub fn share(&mut self, alloc: Global, before: &Program) -> Result<(), Memory>
-        requires first { BeginWith before.now.attempt.own self.old.attempt.own }
+        requires first { IsPrefix before.now.attempt.own self.old.attempt.own }
         ensures same { self.new ≡ self.old }
     {
         self.parts.own.share(alloc, &before.parts.own)?;

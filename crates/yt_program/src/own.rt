@@ -5,7 +5,7 @@ ghost use Rattle.yt_base.specs.Meanings.{choice_of, operation_of};
 ghost use Rattle.yt_query.specs.Meanings.{reply_of};
 ghost use Rattle.yt_chase.specs.Stands.{wanted, TakesReply, TakesChoice};
 ghost use Rattle.yt_chase.specs.Transitions.{AsksAs, HasAnswered, HasChosen};
-ghost use Rattle.yt_program.specs.Firsts.{BeginWith};
+ghost use mathlib.Core.List.{IsPrefix};
 ghost use Rattle.yt_program.specs.PointMeanings.{HasWritten, IsWriting, tuple_at};
 
 use crate::points::Point;
@@ -105,7 +105,7 @@ impl Own {
     /// Lets copies share the writes from now on, of which the first may be kept where they are shared already. It is refused
     /// only for want of memory. The writes stay as they are.
     pub(crate) fn share(&mut self, alloc: Global, first: &Own) -> Result<(), Memory>
-        requires first { BeginWith (changes_of first.now) (changes_of self.old) }
+        requires first { IsPrefix (changes_of first.now) (changes_of self.old) }
         ensures same { self.new.items ≡ self.old.items }
     {
         self.share_all(alloc)?;
@@ -134,7 +134,7 @@ impl Own {
 
     // Keeps the first of the writes, where both are shared.
     fn keep(&mut self, first: &Own) -> Result<(), Memory>
-        requires first { BeginWith (changes_of first.now) (changes_of self.old) }
+        requires first { IsPrefix (changes_of first.now) (changes_of self.old) }
         ensures same { self.new.items ≡ self.old.items }
     {
         let Held::Shared(first) = &first.held else {

@@ -4,7 +4,8 @@ ghost use Rattle.yt_base.specs.Contents.{changes_of};
 ghost use Rattle.yt_base.specs.Listed.{Listed};
 ghost use Rattle.yt_base.specs.Meanings.{change_of};
 ghost use Rattle.yt_base.specs.declared.updates.Write.{Write as WriteOfProgram};
-ghost use Rattle.yt_program.specs.Firsts.{BeginWith, HasFirst};
+ghost use Rattle.yt_program.specs.Firsts.{HasFirst};
+ghost use mathlib.Core.List.{IsPrefix};
 
 use std::alloc::Global;
 use std::marker::Model;
@@ -77,7 +78,7 @@ impl SharedWrites {
 
     /// Keeps the list of the other, which are the first of the writes, if they are fewer. It is refused only for want of memory.
     pub(crate) fn keep(&mut self, first: &SharedWrites) -> Result<(), Memory>
-        requires first { BeginWith (changes_of first.now) (changes_of self.old) }
+        requires first { IsPrefix (changes_of first.now) (changes_of self.old) }
         ensures stays { self.new ≡ self.old }
     {
         if first.list().len() < self.list().len() {
@@ -90,7 +91,7 @@ impl SharedWrites {
 // The list, if nobody else has it, and else an empty one. It takes no memory.
 fn unshared(alloc: Global, first: Option<Arc<WriteList>>) -> WriteList
     ensures first { (all : Listed WriteOfProgram) →
-        HasFirst first all → BeginWith (changes_of result) (changes_of all) }
+        HasFirst first all → IsPrefix (changes_of result) (changes_of all) }
 {
     let Some(first) = first else {
         return WriteList::new(alloc);
@@ -103,7 +104,7 @@ fn unshared(alloc: Global, first: Option<Arc<WriteList>>) -> WriteList
 
 // Puts copies of the writes that the list lacks at its end, with room for one more. It is refused only for want of memory.
 fn catch_up(first: &mut WriteList, alloc: Global, all: &[Write]) -> Result<(), Memory>
-    requires first { BeginWith (changes_of first.old) (map change_of all.now) }
+    requires first { IsPrefix (changes_of first.old) (map change_of all.now) }
     ensures all { OnOk result (changes_of first.new ≡ map change_of all.now) }
 {
     let rest = &all[first.len()..];

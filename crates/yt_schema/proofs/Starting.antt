@@ -1,12 +1,12 @@
 -- A text that is added to still starts with what it had.
 use Rattle.std.proofs.Common.{◌≡◌, ◌∙◌, ap, sym, append_assoc, ℕ, List, ◌++◌}
 use Rattle.std.specs.Prelude.{Result, Ok, Err, OnOk, OnErr}
-use Rattle.yt_schema.specs.Pages.{StartsWith}
+use mathlib.Core.List.{IsPrefix}
 
 -- What goes on from a text that started so starts so.
-pub still_starts : {T E : Type 0} (r : Result T E) (had more mid text : List ℕ) → mid ≡ had ++ more → StartsWith mid text → OnErr r (StartsWith had text)
+pub still_starts : {T E : Type 0} (r : Result T E) (had more mid text : List ℕ) → mid ≡ had ++ more → IsPrefix mid text → OnErr r (IsPrefix had text)
 still_starts (Ok x) had more mid text is s = tt
-still_starts (Err e) had more mid text is s = (more ++ s.0, s.1 ∙ ap (λ (xs : List ℕ). xs ++ s.0) is ∙ append_assoc had more s.0)
+still_starts (Err e) had more mid text is s = (more ++ s.0, sym (append_assoc had more s.0) ∙ ap (λ (xs : List ℕ). xs ++ s.0) (sym is) ∙ s.1)
 
 -- What is added in two parts is added whole.
 pub both_added : {T E : Type 0} (r : Result T E) (had mid text front last whole : List ℕ) → whole ≡ front ++ last → mid ≡ had ++ front → OnOk r (text ≡ mid ++ last) → OnOk r (text ≡ had ++ whole)

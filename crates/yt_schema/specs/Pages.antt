@@ -1,5 +1,5 @@
 -- Text to which words are added, laid out as on a line.
-use Rattle.std.specs.Prelude.{◌≡◌, ℕ, Bool, false, ◌&&◌, ◌==◌, not, List, [], ◌∷◌, ◌++◌, fold, if◌then◌else◌}
+use Rattle.std.specs.Prelude.{ℕ, Bool, false, ◌&&◌, ◌==◌, not, List, [], ◌∷◌, ◌++◌, fold, if◌then◌else◌}
 use Rattle.yt_grammar.specs.Words.{Word}
 use Rattle.yt_grammar.specs.Layout.{spelled, is_open, is_tight}
 
@@ -27,10 +27,6 @@ with_words page words = fold with_word page words
 -- the text with a line feed
 abbrev pub with_line_feed : Written → Written
 with_line_feed page = record { text = page.text ++ 10 ∷ []; apart = false }
-
--- The text is what it had, and maybe more behind that.
-abbrev pub StartsWith : List ℕ → List ℕ → Type 0
-StartsWith had text = (more : List ℕ) × text ≡ had ++ more
 
 -- a byte of a text that is written as it is
 abbrev pub is_plain : ℕ → Bool

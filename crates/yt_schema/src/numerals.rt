@@ -2,7 +2,7 @@
 
 ghost use Rattle.std.specs.Prelude.{◌≡◌, ◌+◌, ◌++◌, ◌<◌, ◌≤◌, OnOk, OnErr};
 ghost use Rattle.std.specs.Fmt.{decimal, signed_decimal};
-ghost use Rattle.yt_schema.specs.Pages.{StartsWith};
+ghost use mathlib.Core.List.{IsPrefix};
 
 use itoa::Buffer;
 use std::alloc::AllocError;
@@ -10,7 +10,7 @@ use std::alloc::AllocError;
 /// A number in plain decimal.
 pub(crate) fn push_number(out: &mut Vec<u8>, number: i64) -> Result<(), AllocError>
     ensures ok { OnOk result (out.new.items ≡ out.old.items ++ signed_decimal number) }
-    ensures err { OnErr result (StartsWith out.old.items out.new.items) }
+    ensures err { OnErr result (IsPrefix out.old.items out.new.items) }
 {
     if let Ok(natural) = u32::try_from(number) {
         return push_natural(out, natural);
@@ -22,7 +22,7 @@ pub(crate) fn push_number(out: &mut Vec<u8>, number: i64) -> Result<(), AllocErr
 /// from it.
 pub(crate) fn push_natural(out: &mut Vec<u8>, number: u32) -> Result<(), AllocError>
     ensures ok { OnOk result (out.new.items ≡ out.old.items ++ decimal number) }
-    ensures err { OnErr result (StartsWith out.old.items out.new.items) }
+    ensures err { OnErr result (IsPrefix out.old.items out.new.items) }
 {
     if number < 10 {
         return push_one(out, number);
@@ -43,7 +43,7 @@ pub(crate) fn push_natural(out: &mut Vec<u8>, number: u32) -> Result<(), AllocEr
 #[inline(never)]
 fn push_long(out: &mut Vec<u8>, number: i64) -> Result<(), AllocError>
     ensures ok { OnOk result (out.new.items ≡ out.old.items ++ signed_decimal number) }
-    ensures err { OnErr result (StartsWith out.old.items out.new.items) }
+    ensures err { OnErr result (IsPrefix out.old.items out.new.items) }
 {
     let mut spelled = Buffer::new();
     out.extend_from_slice(spelled.format(number).as_bytes())
@@ -61,7 +61,7 @@ fn glyph(digit: u32) -> u8
 fn push_one(out: &mut Vec<u8>, number: u32) -> Result<(), AllocError>
     requires { number < 10 }
     ensures ok { OnOk result (out.new.items ≡ out.old.items ++ decimal number) }
-    ensures err { OnErr result (StartsWith out.old.items out.new.items) }
+    ensures err { OnErr result (IsPrefix out.old.items out.new.items) }
 {
     out.push(glyph(number))?;
     Ok(())
@@ -72,7 +72,7 @@ fn push_two(out: &mut Vec<u8>, number: u32) -> Result<(), AllocError>
     requires low { 10 ≤ number }
     requires high { number < 100 }
     ensures ok { OnOk result (out.new.items ≡ out.old.items ++ decimal number) }
-    ensures err { OnErr result (StartsWith out.old.items out.new.items) }
+    ensures err { OnErr result (IsPrefix out.old.items out.new.items) }
 {
     push_one(out, number / 10)?;
     push_one(out, number % 10)
@@ -83,7 +83,7 @@ fn push_three(out: &mut Vec<u8>, number: u32) -> Result<(), AllocError>
     requires low { 100 ≤ number }
     requires high { number < 1000 }
     ensures ok { OnOk result (out.new.items ≡ out.old.items ++ decimal number) }
-    ensures err { OnErr result (StartsWith out.old.items out.new.items) }
+    ensures err { OnErr result (IsPrefix out.old.items out.new.items) }
 {
     push_two(out, number / 10)?;
     push_one(out, number % 10)
@@ -94,7 +94,7 @@ fn push_four(out: &mut Vec<u8>, number: u32) -> Result<(), AllocError>
     requires low { 1000 ≤ number }
     requires high { number < 10000 }
     ensures ok { OnOk result (out.new.items ≡ out.old.items ++ decimal number) }
-    ensures err { OnErr result (StartsWith out.old.items out.new.items) }
+    ensures err { OnErr result (IsPrefix out.old.items out.new.items) }
 {
     push_three(out, number / 10)?;
     push_one(out, number % 10)

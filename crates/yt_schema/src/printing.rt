@@ -3,7 +3,7 @@
 ghost use Rattle.std.specs.Prelude.{◌≡◌, ◌++◌, ◌∷◌, [], map, flat_map, IfOk, OnOk, OnErr};
 ghost use Rattle.yt_base.specs.Meanings.{datum_of, fact_of};
 ghost use Rattle.yt_grammar.specs.Printing.{joined_text, tuple_text, value_text};
-ghost use Rattle.yt_schema.specs.Pages.{StartsWith};
+ghost use mathlib.Core.List.{IsPrefix};
 
 use crate::plain::push_plain;
 use crate::schema::Schema;
@@ -14,7 +14,7 @@ use yt_base::{Memory, Tuple, Value};
 fn push_other(out: &mut Vec<u8>, inner: bool, value: &Value) -> Result<(), AllocError>
     ensures ok { OnOk result (out.new.items ≡
         out.old.items ++ 44 ∷ 32 ∷ value_text inner (datum_of value.now)) }
-    ensures err { OnErr result (StartsWith out.old.items out.new.items) }
+    ensures err { OnErr result (IsPrefix out.old.items out.new.items) }
 {
     out.push(b',')?;
     out.push(b' ')?;
@@ -24,7 +24,7 @@ fn push_other(out: &mut Vec<u8>, inner: bool, value: &Value) -> Result<(), Alloc
 fn push_others(out: &mut Vec<u8>, inner: bool, values: &[Value]) -> Result<(), AllocError>
     ensures ok { OnOk result (out.new.items ≡
         out.old.items ++ flat_map (λ d. 44 ∷ 32 ∷ value_text inner d) (map datum_of values.now)) }
-    ensures err { OnErr result (StartsWith out.old.items out.new.items) }
+    ensures err { OnErr result (IsPrefix out.old.items out.new.items) }
 {
     for value in values {
         push_other(out, inner, value)?;
@@ -36,7 +36,7 @@ fn push_others(out: &mut Vec<u8>, inner: bool, values: &[Value]) -> Result<(), A
 fn push_all(out: &mut Vec<u8>, inner: bool, values: &[Value]) -> Result<(), AllocError>
     ensures ok { OnOk result (out.new.items ≡
         out.old.items ++ joined_text (value_text inner) (map datum_of values.now)) }
-    ensures err { OnErr result (StartsWith out.old.items out.new.items) }
+    ensures err { OnErr result (IsPrefix out.old.items out.new.items) }
 {
     match values {
         [] => Ok(()),

@@ -5,7 +5,8 @@ ghost use Rattle.std.specs.List.{list_all};
 ghost use Rattle.yt_grammar.specs.Layout.{null_text, quoted, written_byte};
 ghost use Rattle.yt_grammar.specs.Printing.{null_name_text, value_text};
 ghost use Rattle.yt_base.specs.Meanings.{datum_of, null_of};
-ghost use Rattle.yt_schema.specs.Pages.{StartsWith, is_plain};
+ghost use Rattle.yt_schema.specs.Pages.{is_plain};
+ghost use mathlib.Core.List.{IsPrefix};
 
 use crate::numerals::{push_natural, push_number};
 use crate::plain::push_plain;
@@ -15,7 +16,7 @@ use yt_base::{Null, Value};
 /// The null of an update and a place.
 pub(crate) fn push_null(out: &mut Vec<u8>, update: u32, place: u32) -> Result<(), AllocError>
     ensures ok { OnOk result (out.new.items ≡ out.old.items ++ null_text update place) }
-    ensures err { OnErr result (StartsWith out.old.items out.new.items) }
+    ensures err { OnErr result (IsPrefix out.old.items out.new.items) }
 {
     out.push(b'?')?;
     push_natural(out, update)?;
@@ -28,7 +29,7 @@ pub(crate) fn push_null(out: &mut Vec<u8>, update: u32, place: u32) -> Result<()
 fn push_null_name(out: &mut Vec<u8>, inner: bool, null: Null) -> Result<(), AllocError>
     ensures ok { OnOk result (out.new.items ≡
         out.old.items ++ null_name_text inner (null_of null)) }
-    ensures err { OnErr result (StartsWith out.old.items out.new.items) }
+    ensures err { OnErr result (IsPrefix out.old.items out.new.items) }
 {
     push_null(out, null.update, null.place)?;
     if !inner {
@@ -41,7 +42,7 @@ fn push_null_name(out: &mut Vec<u8>, inner: bool, null: Null) -> Result<(), Allo
 // A byte of a text.
 fn push_byte(out: &mut Vec<u8>, byte: u8) -> Result<(), AllocError>
     ensures ok { OnOk result (out.new.items ≡ out.old.items ++ written_byte byte) }
-    ensures err { OnErr result (StartsWith out.old.items out.new.items) }
+    ensures err { OnErr result (IsPrefix out.old.items out.new.items) }
 {
     if byte == b'"' {
         return out.extend_from_slice(b"\\\"");
@@ -59,7 +60,7 @@ fn push_byte(out: &mut Vec<u8>, byte: u8) -> Result<(), AllocError>
 // The bytes of a text one by one.
 fn push_bytes(out: &mut Vec<u8>, text: &[u8]) -> Result<(), AllocError>
     ensures ok { OnOk result (out.new.items ≡ out.old.items ++ flat_map written_byte text.now) }
-    ensures err { OnErr result (StartsWith out.old.items out.new.items) }
+    ensures err { OnErr result (IsPrefix out.old.items out.new.items) }
 {
     for byte in text {
         push_byte(out, *byte)?;
@@ -84,7 +85,7 @@ fn is_plain_text(text: &[u8]) -> bool
 // A text without its quotes.
 fn push_inside(out: &mut Vec<u8>, text: &[u8]) -> Result<(), AllocError>
     ensures ok { OnOk result (out.new.items ≡ out.old.items ++ flat_map written_byte text.now) }
-    ensures err { OnErr result (StartsWith out.old.items out.new.items) }
+    ensures err { OnErr result (IsPrefix out.old.items out.new.items) }
 {
     if is_plain_text(text) {
         return push_plain(out, text);
@@ -96,7 +97,7 @@ fn push_inside(out: &mut Vec<u8>, text: &[u8]) -> Result<(), AllocError>
 #[inline(never)]
 pub(crate) fn push_text(out: &mut Vec<u8>, text: &[u8]) -> Result<(), AllocError>
     ensures ok { OnOk result (out.new.items ≡ out.old.items ++ quoted text.now) }
-    ensures err { OnErr result (StartsWith out.old.items out.new.items) }
+    ensures err { OnErr result (IsPrefix out.old.items out.new.items) }
 {
     out.push(b'"')?;
     push_inside(out, text)?;
@@ -108,7 +109,7 @@ pub(crate) fn push_text(out: &mut Vec<u8>, text: &[u8]) -> Result<(), AllocError
 pub(crate) fn push_value(out: &mut Vec<u8>, inner: bool, value: &Value) -> Result<(), AllocError>
     ensures ok { OnOk result (out.new.items ≡
         out.old.items ++ value_text inner (datum_of value.now)) }
-    ensures err { OnErr result (StartsWith out.old.items out.new.items) }
+    ensures err { OnErr result (IsPrefix out.old.items out.new.items) }
 {
     match value {
         Value::Int(number) => push_number(out, *number),

@@ -1,4 +1,4 @@
-use Rattle.std.proofs.Common.{◌∙◌, ap, subst}
+use Rattle.std.proofs.Common.{◌∙◌, ap, subst, sym}
 use Rattle.std.specs.Option.{option_map, option_copied}
 use Rattle.yt_base.specs.Meanings.{choice_of, heading_of}
 use Rattle.yt_eval.specs.Seen.{Seen}
@@ -20,10 +20,10 @@ share-requires g c =
     record {
       first = (
         _,
-        ap (λ (s : State). s.attempt.own) (c.in_ok-reads.ensures.answered
+        sym (ap (λ (s : State). s.attempt.own) (c.in_ok-reads.ensures.answered
             ∙ ap at_rest (planned ms c.args.budget (g.F.Facts.tuples c.args.below.now) P (option_map choice_of (option_copied c.args.choice))
             (course ms c.begin.new.program) c.new-view.result.below c.new-view.result.own (heading_of c.direction-direction.result)
-            (ap (λ (v : Seen). v.below) seen) own c.direction-direction.ensures.heading begun)),
+            (ap (λ (v : Seen). v.below) seen) own c.direction-direction.ensures.heading begun))),
       );
     }
 

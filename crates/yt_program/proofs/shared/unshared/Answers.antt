@@ -1,10 +1,10 @@
-use Rattle.std.proofs.Common.{◌++◌, ap, map, sym}
+use Rattle.std.proofs.Common.{◌++◌, ap, map}
 use Rattle.yt_base.specs.Contents.{changes_of}
 use Rattle.yt_base.specs.Meanings.{change_of}
 use Rattle.yt_program.proofs.shared.unshared.Goals as goal
 
 pub returns-in_default : goal.returns-in_default
-returns-in_default c = record { first = λ all h. (changes_of all, ap (λ ws. map change_of ws ++ changes_of all) (sym c.new.ensures.empty)) }
+returns-in_default c = record { first = λ all h. (changes_of all, ap (λ ws. map change_of ws ++ changes_of all) c.new.ensures.empty) }
 
 pub returns-in-None : goal.returns-in-None
-returns-in-None c = record { first = λ all h. (changes_of all, ap (λ ws. map change_of ws ++ changes_of all) (sym c.new-in-None.ensures.empty)) }
+returns-in-None c = record { first = λ all h. (changes_of all, ap (λ ws. map change_of ws ++ changes_of all) c.new-in-None.ensures.empty) }
