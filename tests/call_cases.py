@@ -1,5 +1,5 @@
 #!/usr/bin/env python3
-"""Writes the stdin and the stdout of crates/yt_core_table and crates/yt_desk_table: worked lists of calls on a core and on a desk, and
+"""Writes the stdin and the stdout of crates/try_core and crates/try_desk: worked lists of calls on a core and on a desk, and
 what the reference tells of them.
 
 The rows on a core show conflicts, cascades, holds and withdrawals; then come all pairs of a standing and a call, whose answers have to
@@ -233,8 +233,8 @@ def write(crate, cases):
 
 
 def main():
-    write("yt_core_table", [*rows(), *pairs(), *full()])
-    write("yt_desk_table", [*desk_rows(), *explorations()])
+    write("try_core", [*rows(), *pairs(), *full()])
+    write("try_desk", [*desk_rows(), *explorations()])
 
 
 if __name__ == "__main__":

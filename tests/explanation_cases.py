@@ -1,5 +1,5 @@
 #!/usr/bin/env python3
-"""Writes the stdin and the stdout of crates/yt_explanation_table: the sessions of the rows, and which explanations are right.
+"""Writes the stdin and the stdout of crates/try_explanation: the sessions of the rows, and which explanations are right.
 
 What is right comes from the reference alone: a list of reasons is taken exactly where it is not empty and is the reference's
 explanation of its first tuple. Each explanation of a tuple that a run leaves is broken at each of its reasons in each way.
@@ -78,7 +78,7 @@ def main():
     for text, session in sessions():
         texts.append(text)
         lines += ["session", *told(session)]
-    crate = TESTS.parent / "crates" / "yt_explanation_table"
+    crate = TESTS.parent / "crates" / "try_explanation"
     (crate / "stdin").write_bytes(b"".join(texts))
     (crate / "stdout").write_text("".join(line + "\n" for line in lines))
     print(f"{sum(line.endswith('refused') for line in lines)} refused, {sum(line.endswith('taken') for line in lines)} taken")

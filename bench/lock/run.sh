@@ -1,6 +1,6 @@
 #!/bin/sh
-# Measures the lock on two processors: the baseline and the ways to wait, and, where it was built, yt_ticket_demo's bare turns.
-# usage: bench/lock/run.sh        (from the top of the repository; `rt run` in crates/yt_ticket_demo builds the program)
+# Measures the lock on two processors: the baseline and the ways to wait, and, where it was built, try_lock's bare turns.
+# usage: bench/lock/run.sh        (from the top of the repository; `rt run` in crates/try_lock builds the program)
 set -eu
 tool=$(mktemp)
 rustc -O bench/lock/waits.rs -o "$tool"
@@ -13,7 +13,7 @@ for way in mutex near yield backoff; do
     done
 done
 rm "$tool"
-demo=crates/yt_ticket_demo/out/yt_ticket_demo
+demo=crates/try_lock/out/try_lock
 if [ -x "$demo" ]; then
     for threads in 1 2 4; do
         for round in 1 2 3; do

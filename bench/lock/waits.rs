@@ -1,4 +1,4 @@
-//! The baseline of the lock's measurements: a plain mutex, and a ticket lock with the atomic steps of `yt_stamp` under several ways to wait.
+//! The baseline of the lock's measurements: a plain mutex, and a ticket lock with the atomic steps of `work_lock` under several ways to wait.
 //!
 //! Words: WAY THREADS TURNS, where WAY is mutex, spin, backoff, yield or near. Each thread takes TURNS turns. It prints the turns a second, and the processor time of a turn in nanoseconds.
 
@@ -18,7 +18,7 @@ enum Way {
     Backoff,
     /// Yields at once.
     Yield,
-    /// Spins for 32 looks where it is next in line, and else yields at once, as `yt_stamp` does.
+    /// Spins for 32 looks where it is next in line, and else yields at once, as `work_lock` does.
     Near,
 }
 

@@ -1,7 +1,7 @@
 #!/usr/bin/env python3
 """schedules.py PROGRAM TWO THREE: every order in which two and three seats of a desk come, over small sessions whose updates meet.
 
-The program is that of crates/yt_desk_table, which makes the schedules on one thread: a seat asks for a ticket, works its step out, and
+The program is that of crates/try_desk, which makes the schedules on one thread: a seat asks for a ticket, works its step out, and
 hands it in. Two seats come in every order for their first TWO calls, three for THREE, and then by turns. Each end that is reached has
 to be the result of the serial machine and a history of which the reference's auditor says that it is legal and ends quiet. The last
 line is 'N passed, M failed'.

@@ -1,4 +1,4 @@
-"""Lists of calls on a core, as `crates/yt_core_table` takes them: what each answers, and lists that are drawn at random."""
+"""Lists of calls on a core, as `crates/try_core` takes them: what each answers, and lists that are drawn at random."""
 from .checks import Schema, choice_of
 from .core import Core, Refusal
 from .printing import choice_text, operation_text, session_text

@@ -19,4 +19,4 @@ check 'the trace of two curators who collide is one that the reference takes' \
 check 'the example of travel data' \
   "$("$program" run < examples/travel/travel.session 2>&1 | diff examples/travel/travel.result - 2>&1)"
 check 'the must-fail edit that CONTRIBUTING shows is there' \
-  "$(diff <(sed -n '/^file: /,/^```/p' CONTRIBUTING.md | sed '$d') crates/yt_tree/must-fail/skips_the_key_that_it_begins_at.edit 2>&1)"
+  "$(diff <(sed -n '/^file: /,/^```/p' CONTRIBUTING.md | sed '$d') crates/base_tree/must-fail/skips_the_key_that_it_begins_at.edit 2>&1)"

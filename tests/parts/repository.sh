@@ -19,22 +19,22 @@ check 'each source and definition, tests aside, opens with a sentence on its job
 check 'each must-fail edit can be made' "$(python3 tests/edits_fit.py 2>&1)"
 
 # The stored cases of violations are those that the brute-force script writes.
-cp crates/yt_violation_table/stdin crates/yt_violation_table/stdout "$stored"
+cp crates/try_violation/stdin crates/try_violation/stdout "$stored"
 check 'the brute-force script writes the stored cases of violations' \
   "$(python3 tests/violation_cases.py 2>&1 > /dev/null
-     for file in stdin stdout; do cmp "$stored/$file" "crates/yt_violation_table/$file" 2>&1; done)"
-cp "$stored"/std* crates/yt_violation_table/
+     for file in stdin stdout; do cmp "$stored/$file" "crates/try_violation/$file" 2>&1; done)"
+cp "$stored"/std* crates/try_violation/
 
 # The stored explanations are judged as the reference does.
-cp crates/yt_explanation_table/stdin crates/yt_explanation_table/stdout "$stored"
+cp crates/try_explanation/stdin crates/try_explanation/stdout "$stored"
 check 'the reference judges the stored explanations, whole and broken, as it is stored' \
   "$(python3 tests/explanation_cases.py 2>&1 > /dev/null
-     for file in stdin stdout; do cmp "$stored/$file" "crates/yt_explanation_table/$file" 2>&1; done)"
-cp "$stored"/std* crates/yt_explanation_table/
+     for file in stdin stdout; do cmp "$stored/$file" "crates/try_explanation/$file" 2>&1; done)"
+cp "$stored"/std* crates/try_explanation/
 
 # The stored calls on a core and on a desk are those that their script writes, with what the reference tells of them.
-for crate in yt_core_table yt_desk_table; do mkdir "$stored/$crate"; cp crates/$crate/stdin crates/$crate/stdout "$stored/$crate"; done
+for crate in try_core try_desk; do mkdir "$stored/$crate"; cp crates/$crate/stdin crates/$crate/stdout "$stored/$crate"; done
 check 'the script of calls writes the stored ones, and the reference tells of them what is stored' \
   "$(python3 tests/call_cases.py 2>&1 > /dev/null
-     for crate in yt_core_table yt_desk_table; do for file in stdin stdout; do cmp "$stored/$crate/$file" "crates/$crate/$file" 2>&1; done; done)"
-for crate in yt_core_table yt_desk_table; do cp "$stored/$crate"/std* crates/$crate/; done
+     for crate in try_core try_desk; do for file in stdin stdout; do cmp "$stored/$crate/$file" "crates/$crate/$file" 2>&1; done; done)"
+for crate in try_core try_desk; do cp "$stored/$crate"/std* crates/$crate/; done

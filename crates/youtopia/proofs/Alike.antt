@@ -1,22 +1,22 @@
 -- Options that are alike make the same, and write the same.
 use Rattle.std.proofs.Common.{◌≡◌, ◌∙◌, ℕ, Bool, List, ap, ap₂, sym, subst}
-use Rattle.yt_command.specs.Devices.{Change}
-use Rattle.yt_command.specs.Outputs.{OutputView}
-use Rattle.yt_auditing.specs.Audited.{audited}
-use Rattle.yt_commands.specs.Asked.{asked}
-use Rattle.yt_commands.specs.Commands.{on_session, on_session_by}
-use Rattle.yt_commands.specs.Journaled.{journaled}
-use Rattle.yt_commands.specs.Runs.{kept, ran}
-use Rattle.yt_commands.specs.Written.{WroteWhatHolds}
-use Rattle.yt_drilling.specs.Drilling.{drilling}
-use Rattle.yt_explaining.specs.Explained.{explained}
-use Rattle.yt_machine.specs.Updates.{Deps as Test, Settings}
-use Rattle.yt_run.specs.Runs.{running}
-use Rattle.yt_run.specs.Written.{WroteRun}
-use Rattle.yt_words.specs.Alike.{AreAlike}
-use Rattle.yt_words.specs.declared.names.CommandName.{CommandName}
-use Rattle.yt_words.specs.declared.names.CommandName.TheVariants.{Run, Serial, Format, Save, Ask, Explain, Audit, Drill, Journal}
-use Rattle.yt_words.specs.declared.reading.Options.{Options}
+use Rattle.cmd_frame.specs.Devices.{Change}
+use Rattle.cmd_frame.specs.Outputs.{OutputView}
+use Rattle.cmd_plain.specs.Audited.{audited}
+use Rattle.cmd_plain.specs.Asked.{asked}
+use Rattle.cmd_plain.specs.Commands.{on_session, on_session_by}
+use Rattle.cmd_plain.specs.Journaled.{journaled}
+use Rattle.cmd_plain.specs.Runs.{kept, ran}
+use Rattle.cmd_plain.specs.Written.{WroteWhatHolds}
+use Rattle.cmd_threads.specs.Drilling.{drilling}
+use Rattle.cmd_plain.specs.Explained.{explained}
+use Rattle.def_machine.specs.Updates.{Deps as Test, Settings}
+use Rattle.cmd_threads.specs.Runs.{running}
+use Rattle.cmd_threads.specs.Written.{WroteRun}
+use Rattle.cmd_words.specs.Alike.{AreAlike}
+use Rattle.cmd_words.specs.declared.names.CommandName.{CommandName}
+use Rattle.cmd_words.specs.declared.names.CommandName.TheVariants.{Run, Serial, Format, Save, Ask, Explain, Audit, Drill, Journal}
+use Rattle.cmd_words.specs.declared.reading.Options.{Options}
 use Rattle.youtopia.specs.Calls.{deps_of, makes, settings_in}
 use Rattle.youtopia.specs.Promises.{HasQuery, Wrote}
 

@@ -1,23 +1,23 @@
 -- The laws that are used, and what a call does, as what was asked for.
 use Rattle.std.proofs.Common.{◌≡◌, ◌≤◌, ◌⊎◌, ℕ, Bool, true, false, List, Option, Some, IfSome, inl, inr, sym, subst}
 use Rattle.clap.specs.Words.{Text as Letters}
-use Rattle.yt_command.specs.Devices.{Change}
-use Rattle.yt_command.specs.Outputs.{OutputView}
-use Rattle.yt_command.specs.Rows.{Row}
-use Rattle.yt_command.specs.Statuses.{status_of}
-use Rattle.yt_command.specs.declared.statuses.Status.{Status}
-use Rattle.yt_command.specs.declared.statuses.Status.TheVariants.{OutOfMemory}
-use Rattle.yt_auditing.specs.Audited.{audited}
-use Rattle.yt_commands.specs.Commands.{on_session, on_session_by}
-use Rattle.yt_commands.specs.Journaled.{recovering}
-use Rattle.yt_commands.specs.Runs.{ran}
-use Rattle.yt_commands.specs.Written.{HasWritten, WroteWhatHolds}
-use Rattle.yt_machine.specs.Updates.{Settings}
-use Rattle.yt_run.specs.Runs.{running}
-use Rattle.yt_run.specs.Written.{WroteRun}
-use Rattle.yt_words.specs.Alike.{AskTheSame}
-use Rattle.yt_words.specs.Meaning.{Answers, is_refused}
-use Rattle.yt_words.specs.declared.reading.Request.{Request}
+use Rattle.cmd_frame.specs.Devices.{Change}
+use Rattle.cmd_frame.specs.Outputs.{OutputView}
+use Rattle.cmd_frame.specs.Rows.{Row}
+use Rattle.cmd_frame.specs.Statuses.{status_of}
+use Rattle.cmd_frame.specs.declared.statuses.Status.{Status}
+use Rattle.cmd_frame.specs.declared.statuses.Status.TheVariants.{OutOfMemory}
+use Rattle.cmd_plain.specs.Audited.{audited}
+use Rattle.cmd_plain.specs.Commands.{on_session, on_session_by}
+use Rattle.cmd_plain.specs.Journaled.{recovering}
+use Rattle.cmd_plain.specs.Runs.{ran}
+use Rattle.cmd_plain.specs.Written.{HasWritten, WroteWhatHolds}
+use Rattle.def_machine.specs.Updates.{Settings}
+use Rattle.cmd_threads.specs.Runs.{running}
+use Rattle.cmd_threads.specs.Written.{WroteRun}
+use Rattle.cmd_words.specs.Alike.{AskTheSame}
+use Rattle.cmd_words.specs.Meaning.{Answers, is_refused}
+use Rattle.cmd_words.specs.declared.reading.Request.{Request}
 use Rattle.youtopia.specs.Calls.{Calls, Performs}
 
 -- words that are answered are not refused, and ask for one thing

@@ -1,18 +1,18 @@
 -- Where nothing fails, a call has the status that is due.
 use Rattle.std.proofs.Common.{◌≡◌, ◌⊎◌, ◌∙◌, ℕ, List, inl, inr, ap, sym, subst}
 use Rattle.clap.specs.Words.{Text as Letters}
-use Rattle.yt_command.specs.Devices.{Change, no_input}
-use Rattle.yt_command.specs.Outputs.{OutputView}
-use Rattle.yt_command.specs.Rows.{Row}
-use Rattle.yt_command.specs.Statuses.{status_of}
-use Rattle.yt_command.specs.declared.statuses.Status.{Status}
-use Rattle.yt_command.specs.declared.statuses.Status.TheVariants.{OutOfMemory}
-use Rattle.yt_words.specs.Alike.{AskTheSame}
-use Rattle.yt_words.specs.declared.names.CommandName.{CommandName}
-use Rattle.yt_words.specs.declared.names.CommandName.TheVariants.{Run, Ask, Explain, Drill}
-use Rattle.yt_words.specs.declared.reading.Options.{Options}
-use Rattle.yt_words.specs.declared.reading.Request.{Request}
-use Rattle.yt_words.specs.declared.reading.Request.TheVariants.{Command, Help, Version}
+use Rattle.cmd_frame.specs.Devices.{Change, no_input}
+use Rattle.cmd_frame.specs.Outputs.{OutputView}
+use Rattle.cmd_frame.specs.Rows.{Row}
+use Rattle.cmd_frame.specs.Statuses.{status_of}
+use Rattle.cmd_frame.specs.declared.statuses.Status.{Status}
+use Rattle.cmd_frame.specs.declared.statuses.Status.TheVariants.{OutOfMemory}
+use Rattle.cmd_words.specs.Alike.{AskTheSame}
+use Rattle.cmd_words.specs.declared.names.CommandName.{CommandName}
+use Rattle.cmd_words.specs.declared.names.CommandName.TheVariants.{Run, Ask, Explain, Drill}
+use Rattle.cmd_words.specs.declared.reading.Options.{Options}
+use Rattle.cmd_words.specs.declared.reading.Request.{Request}
+use Rattle.cmd_words.specs.declared.reading.Request.TheVariants.{Command, Help, Version}
 use Rattle.youtopia.proofs.Alike.{same_makes}
 use Rattle.youtopia.proofs.Asked.{NeverBoth, OneThing, StatusLaws, done}
 use Rattle.youtopia.proofs.Due.{complete}

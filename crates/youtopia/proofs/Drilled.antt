@@ -1,24 +1,24 @@
 -- What `drill` writes.
 use Rattle.std.proofs.Common.{◌≡◌, ◌∙◌, ◌≤◌, ◌⊎◌, ℕ, List, [], inl, inr, refl, ap, sym, subst, arith}
 use Rattle.clap.specs.Words.{Text as Letters}
-use Rattle.yt_command.specs.Devices.{Change, Fails, Takes, no_input}
-use Rattle.yt_command.specs.Outputs.{OutputView, Text}
-use Rattle.yt_command.specs.Rows.{Row, Ends}
-use Rattle.yt_command.specs.Statuses.{status_of, status_of_ending}
-use Rattle.yt_command.specs.declared.outputs.Ending.{Ending}
-use Rattle.yt_command.specs.declared.outputs.Ending.TheVariants.{Ended, Stuck, Refuted}
-use Rattle.yt_command.specs.declared.performing.TheConstants.{INPUT_LIMIT}
-use Rattle.yt_command.specs.declared.statuses.Status.{Status}
-use Rattle.yt_command.specs.declared.statuses.Status.TheVariants.{OutOfMemory}
-use Rattle.yt_commands.specs.Runs.{ending_by}
-use Rattle.yt_drilling.specs.Drilling.{drill_told, drilling, summary_output}
-use Rattle.yt_summary.specs.Summaries.{summary_text}
-use Rattle.yt_words.specs.Alike.{AskTheSame}
-use Rattle.yt_words.specs.declared.names.CommandName.{CommandName}
-use Rattle.yt_words.specs.declared.names.CommandName.TheVariants.{Drill}
-use Rattle.yt_words.specs.declared.reading.Options.{Options}
-use Rattle.yt_words.specs.declared.reading.Request.{Request}
-use Rattle.yt_words.specs.declared.reading.Request.TheVariants.{Command, Help, Version}
+use Rattle.cmd_frame.specs.Devices.{Change, Fails, Takes, no_input}
+use Rattle.cmd_frame.specs.Outputs.{OutputView, Text}
+use Rattle.cmd_frame.specs.Rows.{Row, Ends}
+use Rattle.cmd_frame.specs.Statuses.{status_of, status_of_ending}
+use Rattle.cmd_frame.specs.declared.outputs.Ending.{Ending}
+use Rattle.cmd_frame.specs.declared.outputs.Ending.TheVariants.{Ended, Stuck, Refuted}
+use Rattle.cmd_frame.specs.declared.performing.TheConstants.{INPUT_LIMIT}
+use Rattle.cmd_frame.specs.declared.statuses.Status.{Status}
+use Rattle.cmd_frame.specs.declared.statuses.Status.TheVariants.{OutOfMemory}
+use Rattle.cmd_plain.specs.Runs.{ending_by}
+use Rattle.cmd_threads.specs.Drilling.{drill_told, drilling, summary_output}
+use Rattle.run_drill.specs.Summaries.{summary_text}
+use Rattle.cmd_words.specs.Alike.{AskTheSame}
+use Rattle.cmd_words.specs.declared.names.CommandName.{CommandName}
+use Rattle.cmd_words.specs.declared.names.CommandName.TheVariants.{Drill}
+use Rattle.cmd_words.specs.declared.reading.Options.{Options}
+use Rattle.cmd_words.specs.declared.reading.Request.{Request}
+use Rattle.cmd_words.specs.declared.reading.Request.TheVariants.{Command, Help, Version}
 use Rattle.youtopia.proofs.Alike.{drill_back}
 use Rattle.youtopia.proofs.Asked.{NeverBoth, OneThing, done}
 use Rattle.youtopia.proofs.Due.{complete}

@@ -2,16 +2,16 @@
 use Rattle.std.proofs.Common.{◌≡◌, ◌≤◌, ◌<◌, ◌++◌, ◌∙◌, ◌⊎◌, ℕ, List, Option, None, Some, length, inl, inr, refl, sym, ap, subst, append-nil, arith}
 use Rattle.std.proofs.lemmas.List.{length-append}
 use Rattle.std.specs.Io.KnownBytes.{Consumes, IsAtEnd}
-use Rattle.yt_command.specs.Completeness.{IsComplete}
-use Rattle.yt_command.specs.Devices.{Change, Fails, Gives}
-use Rattle.yt_command.specs.Outputs.{Meaning, OutputView, Text, Refused}
-use Rattle.yt_command.specs.Rows.{Row, Ends, Refuses}
-use Rattle.yt_command.specs.Statuses.{status_of, status_of_ending, status_of_refusal}
-use Rattle.yt_command.specs.declared.performing.TheConstants.{INPUT_LIMIT}
-use Rattle.yt_command.specs.declared.outputs.Ending.{Ending}
-use Rattle.yt_command.specs.declared.outputs.Refusal.{Refusal}
-use Rattle.yt_command.specs.declared.statuses.Status.{Status}
-use Rattle.yt_command.specs.declared.statuses.Status.TheVariants.{Ended, Stuck, Usage, SessionRefused, BaseViolates, ReadFault, WriteFault, OutOfMemory, TooLong, TooLarge, Refuted, QueryRefused, Damaged}
+use Rattle.cmd_frame.specs.Completeness.{IsComplete}
+use Rattle.cmd_frame.specs.Devices.{Change, Fails, Gives}
+use Rattle.cmd_frame.specs.Outputs.{Meaning, OutputView, Text, Refused}
+use Rattle.cmd_frame.specs.Rows.{Row, Ends, Refuses}
+use Rattle.cmd_frame.specs.Statuses.{status_of, status_of_ending, status_of_refusal}
+use Rattle.cmd_frame.specs.declared.performing.TheConstants.{INPUT_LIMIT}
+use Rattle.cmd_frame.specs.declared.outputs.Ending.{Ending}
+use Rattle.cmd_frame.specs.declared.outputs.Refusal.{Refusal}
+use Rattle.cmd_frame.specs.declared.statuses.Status.{Status}
+use Rattle.cmd_frame.specs.declared.statuses.Status.TheVariants.{Ended, Stuck, Usage, SessionRefused, BaseViolates, ReadFault, WriteFault, OutOfMemory, TooLong, TooLarge, Refuted, QueryRefused, Damaged}
 
 -- the source gave the whole input
 pub whole : (input given : List ℕ) (after : Option (List ℕ)) → Consumes (Some input) after given → IsAtEnd after → given ≡ input

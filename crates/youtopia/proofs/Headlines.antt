@@ -2,29 +2,29 @@
 use Rattle.std.proofs.Common.{◌≡◌, ◌∙◌, ◌≤◌, ◌⊎◌, ℕ, List, None, inl, inr, ap, sym, subst}
 use Rattle.clap.specs.Words.{Text as Letters}
 use Rattle.std.specs.Io.KnownBytes.{Consumes}
-use Rattle.yt_command.specs.Devices.{Change, Takes}
-use Rattle.yt_command.specs.Rows.{Row}
-use Rattle.yt_command.specs.Statuses.{status_of, status_of_ending}
-use Rattle.yt_command.specs.declared.statuses.Status.{Status}
-use Rattle.yt_command.specs.declared.statuses.Status.TheVariants.{OutOfMemory}
-use Rattle.yt_commands.specs.Commands.{on_session_by, unless_violated}
-use Rattle.yt_commands.specs.Runs.{ending_by, ran, result_output}
-use Rattle.yt_commands.specs.Written.{HasWritten}
-use Rattle.yt_grammar.specs.Lines.{Spells}
-use Rattle.yt_grammar.specs.Sessions.{SessionData}
-use Rattle.yt_kept.specs.Kept.{InForceHold}
-use Rattle.yt_report.specs.Results.{serial_told}
-use Rattle.yt_run.specs.Runs.{run_text, running}
-use Rattle.yt_run.specs.Written.{WroteRun}
-use Rattle.yt_seated.specs.Runs.{IsRunOf}
-use Rattle.yt_session.specs.Base.{base_violation}
-use Rattle.yt_words.specs.Alike.{AskTheSame}
-use Rattle.yt_words.specs.Meaning.{Answers}
-use Rattle.yt_words.specs.declared.names.CommandName.{CommandName}
-use Rattle.yt_words.specs.declared.names.CommandName.TheVariants.{Run, Serial}
-use Rattle.yt_words.specs.declared.reading.Options.{Options}
-use Rattle.yt_words.specs.declared.reading.Request.{Request}
-use Rattle.yt_words.specs.declared.reading.Request.TheVariants.{Command, Help, Version}
+use Rattle.cmd_frame.specs.Devices.{Change, Takes}
+use Rattle.cmd_frame.specs.Rows.{Row}
+use Rattle.cmd_frame.specs.Statuses.{status_of, status_of_ending}
+use Rattle.cmd_frame.specs.declared.statuses.Status.{Status}
+use Rattle.cmd_frame.specs.declared.statuses.Status.TheVariants.{OutOfMemory}
+use Rattle.cmd_plain.specs.Commands.{on_session_by, unless_violated}
+use Rattle.cmd_plain.specs.Runs.{ending_by, ran, result_output}
+use Rattle.cmd_plain.specs.Written.{HasWritten}
+use Rattle.def_language.specs.Lines.{Spells}
+use Rattle.def_language.specs.Sessions.{SessionData}
+use Rattle.run_laws.specs.Kept.{InForceHold}
+use Rattle.lang_report.specs.Results.{serial_told}
+use Rattle.cmd_threads.specs.Runs.{run_text, running}
+use Rattle.cmd_threads.specs.Written.{WroteRun}
+use Rattle.work_session.specs.Runs.{IsRunOf}
+use Rattle.lang_session.specs.Base.{base_violation}
+use Rattle.cmd_words.specs.Alike.{AskTheSame}
+use Rattle.cmd_words.specs.Meaning.{Answers}
+use Rattle.cmd_words.specs.declared.names.CommandName.{CommandName}
+use Rattle.cmd_words.specs.declared.names.CommandName.TheVariants.{Run, Serial}
+use Rattle.cmd_words.specs.declared.reading.Options.{Options}
+use Rattle.cmd_words.specs.declared.reading.Request.{Request}
+use Rattle.cmd_words.specs.declared.reading.Request.TheVariants.{Command, Help, Version}
 use Rattle.youtopia.proofs.Alike.{run_back, same_wrote}
 use Rattle.youtopia.proofs.Asked.{NeverBoth, OneThing, OneRun, Held, RunHeld, done}
 use Rattle.youtopia.proofs.Due.{complete, whole}

@@ -1,38 +1,38 @@
 -- How a command may end on a session whose base meets its mappings.
 use Rattle.std.proofs.Common.{◌≡◌, ◌⊎◌, ℕ, List, Option, Some, None, Result, Ok, Err, refl, inl, inr, sym, subst, true, false, Bool, if◌then◌else◌}
 use Rattle.clap.specs.Words.{Text as Letters}
-use Rattle.yt_ask.specs.Bound.{bound_ask}
-use Rattle.yt_auditing.specs.Audited.{IsAudited, IsAuditedUnless, auditing, verdict_output}
-use Rattle.yt_claims.specs.Parts.{behind_session, session_in}
-use Rattle.yt_certain.specs.Certain.{ConjunctiveQuery}
-use Rattle.yt_command.specs.Devices.{Change}
-use Rattle.yt_command.specs.Outputs.{OutputView}
-use Rattle.yt_command.specs.Rows.{Row}
-use Rattle.yt_command.specs.Statuses.{status_of, status_of_ending}
-use Rattle.yt_command.specs.declared.statuses.Status.{Status}
-use Rattle.yt_command.specs.declared.statuses.Status.TheVariants.{Ended, Stuck, OutOfMemory, TooLarge, Refuted, QueryRefused}
-use Rattle.yt_commands.specs.Asked.{asked, asked_over}
-use Rattle.yt_commands.specs.Commands.{MadeOf, formatted, upgraded_text, checked, unless_violated}
-use Rattle.yt_commands.specs.Journaled.{is_too_long, journal_output, journaled, left_of}
-use Rattle.yt_commands.specs.Runs.{ending_by, kept, ran, saved_output}
-use Rattle.yt_explaining.specs.Explained.{explained}
-use Rattle.yt_grammar.specs.Faults.{Kind, Wrong}
-use Rattle.yt_grammar.specs.Lines.{Spells}
-use Rattle.yt_grammar.specs.Sessions.{SessionData}
-use Rattle.yt_logged.specs.Logged.{journal_of}
-use Rattle.yt_program.specs.Results.{ResultTold, StopTold}
-use Rattle.yt_report.specs.Results.{serial_told}
-use Rattle.yt_report.specs.Saved.{is_too_large, saved}
-use Rattle.yt_serial.specs.Trails.{TrailsTold}
-use Rattle.yt_machine.specs.Updates.{Settings}
-use Rattle.yt_session.specs.Base.{Violated, base_violation}
-use Rattle.yt_verdicts.specs.Verdicts.{Verdict, Yes, No}
-use Rattle.yt_words.specs.Alike.{AskTheSame}
-use Rattle.yt_words.specs.declared.names.CommandName.{CommandName}
-use Rattle.yt_words.specs.declared.names.CommandName.TheVariants.{Run, Serial, Format, Check, Save, Upgrade, Ask, Explain, Audit, Drill, Journal, Recover}
-use Rattle.yt_words.specs.declared.reading.Options.{Options}
-use Rattle.yt_words.specs.declared.reading.Request.{Request}
-use Rattle.yt_words.specs.declared.reading.Request.TheVariants.{Command, Help, Version}
+use Rattle.run_ask.specs.Bound.{bound_ask}
+use Rattle.cmd_plain.specs.Audited.{IsAudited, IsAuditedUnless, auditing, verdict_output}
+use Rattle.audit_claims.specs.Parts.{behind_session, session_in}
+use Rattle.run_ask.specs.Certain.{ConjunctiveQuery}
+use Rattle.cmd_frame.specs.Devices.{Change}
+use Rattle.cmd_frame.specs.Outputs.{OutputView}
+use Rattle.cmd_frame.specs.Rows.{Row}
+use Rattle.cmd_frame.specs.Statuses.{status_of, status_of_ending}
+use Rattle.cmd_frame.specs.declared.statuses.Status.{Status}
+use Rattle.cmd_frame.specs.declared.statuses.Status.TheVariants.{Ended, Stuck, OutOfMemory, TooLarge, Refuted, QueryRefused}
+use Rattle.cmd_plain.specs.Asked.{asked, asked_over}
+use Rattle.cmd_plain.specs.Commands.{MadeOf, formatted, upgraded_text, checked, unless_violated}
+use Rattle.cmd_plain.specs.Journaled.{is_too_long, journal_output, journaled, left_of}
+use Rattle.cmd_plain.specs.Runs.{ending_by, kept, ran, saved_output}
+use Rattle.cmd_plain.specs.Explained.{explained}
+use Rattle.def_language.specs.Faults.{Kind, Wrong}
+use Rattle.def_language.specs.Lines.{Spells}
+use Rattle.def_language.specs.Sessions.{SessionData}
+use Rattle.run_laws.specs.Logged.{journal_of}
+use Rattle.chase_update.specs.Results.{ResultTold, StopTold}
+use Rattle.lang_report.specs.Results.{serial_told}
+use Rattle.lang_report.specs.Saved.{is_too_large, saved}
+use Rattle.run_serial.specs.Trails.{TrailsTold}
+use Rattle.def_machine.specs.Updates.{Settings}
+use Rattle.lang_session.specs.Base.{Violated, base_violation}
+use Rattle.audit_claims.specs.Verdicts.{Verdict, Yes, No}
+use Rattle.cmd_words.specs.Alike.{AskTheSame}
+use Rattle.cmd_words.specs.declared.names.CommandName.{CommandName}
+use Rattle.cmd_words.specs.declared.names.CommandName.TheVariants.{Run, Serial, Format, Check, Save, Upgrade, Ask, Explain, Audit, Drill, Journal, Recover}
+use Rattle.cmd_words.specs.declared.reading.Options.{Options}
+use Rattle.cmd_words.specs.declared.reading.Request.{Request}
+use Rattle.cmd_words.specs.declared.reading.Request.TheVariants.{Command, Help, Version}
 use Rattle.youtopia.proofs.Alike.{same_query}
 use Rattle.youtopia.proofs.Asked.{NeverBoth, OneThing, StatusLaws, done}
 use Rattle.youtopia.proofs.Completed.{row_done}

@@ -1,23 +1,23 @@
 -- A command with its options has one status for an input.
 use Rattle.std.proofs.Common.{◌≡◌, ◌∙◌, ℕ, List, Some, Result, Ok, Err, refl, ap, sym, subst}
-use Rattle.yt_ask.specs.Written.{WrittenAsk, SpellsAsk, ask_at}
-use Rattle.yt_command.specs.Outputs.{OutputView, Refused}
-use Rattle.yt_command.specs.Statuses.{status_of}
-use Rattle.yt_command.specs.declared.outputs.Refusal.TheVariants.{SessionRefused}
-use Rattle.yt_commands.specs.Asked.{asked}
-use Rattle.yt_commands.specs.Commands.{MadeOf, on_session, fault_line, formatted, upgraded_text, checked}
-use Rattle.yt_commands.specs.Journaled.{journaled}
-use Rattle.yt_commands.specs.Runs.{kept, ran}
-use Rattle.yt_drilling.specs.Drilling.{drilling}
-use Rattle.yt_explaining.specs.Explained.{explained}
-use Rattle.yt_grammar.specs.Faults.{Wrong}
-use Rattle.yt_grammar.specs.Lines.{Spells, read}
-use Rattle.yt_grammar.specs.Sessions.{SessionData}
-use Rattle.yt_grammar.specs.Statements.{WrittenFact}
-use Rattle.yt_reader.specs.Facts.{SpellsFact}
-use Rattle.yt_words.specs.declared.names.CommandName.{CommandName}
-use Rattle.yt_words.specs.declared.names.CommandName.TheVariants.{Run, Serial, Format, Check, Save, Upgrade, Ask, Explain, Audit, Drill, Journal, Recover}
-use Rattle.yt_words.specs.declared.reading.Options.{Options}
+use Rattle.run_ask.specs.Written.{WrittenAsk, SpellsAsk, ask_at}
+use Rattle.cmd_frame.specs.Outputs.{OutputView, Refused}
+use Rattle.cmd_frame.specs.Statuses.{status_of}
+use Rattle.cmd_frame.specs.declared.outputs.Refusal.TheVariants.{SessionRefused}
+use Rattle.cmd_plain.specs.Asked.{asked}
+use Rattle.cmd_plain.specs.Commands.{MadeOf, on_session, fault_line, formatted, upgraded_text, checked}
+use Rattle.cmd_plain.specs.Journaled.{journaled}
+use Rattle.cmd_plain.specs.Runs.{kept, ran}
+use Rattle.cmd_threads.specs.Drilling.{drilling}
+use Rattle.cmd_plain.specs.Explained.{explained}
+use Rattle.def_language.specs.Faults.{Wrong}
+use Rattle.def_language.specs.Lines.{Spells, read}
+use Rattle.def_language.specs.Sessions.{SessionData}
+use Rattle.def_language.specs.Statements.{WrittenFact}
+use Rattle.lang_reader.specs.Facts.{SpellsFact}
+use Rattle.cmd_words.specs.declared.names.CommandName.{CommandName}
+use Rattle.cmd_words.specs.declared.names.CommandName.TheVariants.{Run, Serial, Format, Check, Save, Upgrade, Ask, Explain, Audit, Drill, Journal, Recover}
+use Rattle.cmd_words.specs.declared.reading.Options.{Options}
 use Rattle.youtopia.proofs.Asked.{OneRun, StatusLaws}
 use Rattle.youtopia.specs.Calls.{AsksFor, AsksWhy, makes, settings_in}
 

@@ -1,15 +1,15 @@
 -- Which work the words ask for, and that it is done.
 use Rattle.std.proofs.Common.{◌≡◌, ◌∙◌, Bool, true, false, List, Option, Some, None, IfSome, IfNone, inl, inr, ap, sym, subst}
 use Rattle.clap.specs.Words.{Text as Letters}
-use Rattle.yt_command.specs.Devices.{Change}
-use Rattle.yt_command.specs.declared.statuses.Status.{Status}
-use Rattle.yt_words.specs.Alike.{AskTheSame}
-use Rattle.yt_words.specs.Meaning.{Answers, AreInRange, HasRanges}
-use Rattle.yt_words.specs.declared.names.CommandName.{CommandName}
-use Rattle.yt_words.specs.declared.names.CommandName.TheVariants.{Run, Drill}
-use Rattle.yt_words.specs.declared.reading.Options.{Options}
-use Rattle.yt_words.specs.declared.reading.Request.{Request}
-use Rattle.yt_words.specs.declared.reading.Request.TheVariants.{Command, Help, Version}
+use Rattle.cmd_frame.specs.Devices.{Change}
+use Rattle.cmd_frame.specs.declared.statuses.Status.{Status}
+use Rattle.cmd_words.specs.Alike.{AskTheSame}
+use Rattle.cmd_words.specs.Meaning.{Answers, AreInRange, HasRanges}
+use Rattle.cmd_words.specs.declared.names.CommandName.{CommandName}
+use Rattle.cmd_words.specs.declared.names.CommandName.TheVariants.{Run, Drill}
+use Rattle.cmd_words.specs.declared.reading.Options.{Options}
+use Rattle.cmd_words.specs.declared.reading.Request.{Request}
+use Rattle.cmd_words.specs.declared.reading.Request.TheVariants.{Command, Help, Version}
 use Rattle.youtopia.proofs.Asked.{NeverBoth, OneThing}
 use Rattle.youtopia.specs.declared.workers.ByWorkers.{ByWorkers}
 use Rattle.youtopia.specs.declared.workers.ByWorkers.TheVariants as workers

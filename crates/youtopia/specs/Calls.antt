@@ -2,37 +2,37 @@
 use Rattle.std.specs.Prelude.{◌≡◌, ◌⊎◌, ℕ, Bool, true, false, List, Some}
 use Rattle.std.specs.Io.KnownBytes.{Keeps}
 use Rattle.clap.specs.Words.{Text as Letters}
-use Rattle.yt_command.specs.Devices.{Change, no_input, TakesNothing, Tells}
-use Rattle.yt_command.specs.Outputs.{Meaning, Text}
-use Rattle.yt_command.specs.Rows.{Row}
-use Rattle.yt_command.specs.Statuses.{line_of}
-use Rattle.yt_command.specs.declared.outputs.Ending.TheVariants.{Ended}
-use Rattle.yt_command.specs.declared.failures.Failure.{Failure}
-use Rattle.yt_command.specs.declared.failures.Failure.TheVariants as failures
-use Rattle.yt_command.specs.declared.statuses.Status.{Status}
-use Rattle.yt_command.specs.declared.statuses.Status.TheVariants.{Usage, OutOfMemory}
-use Rattle.yt_ask.specs.Written.{WrittenAsk, SpellsAsk}
-use Rattle.yt_auditing.specs.Audited.{audited}
-use Rattle.yt_commands.specs.Asked.{asked}
-use Rattle.yt_commands.specs.Commands.{on_session, on_session_by, formatted, upgraded_text, checked}
-use Rattle.yt_commands.specs.Journaled.{journaled, recovering}
-use Rattle.yt_commands.specs.Runs.{ran, kept}
-use Rattle.yt_drilling.specs.Drilling.{drilling}
-use Rattle.yt_explaining.specs.Explained.{explained}
-use Rattle.yt_grammar.specs.Statements.{WrittenFact}
-use Rattle.yt_machine.specs.Updates as machine
-use Rattle.yt_reader.specs.Facts.{SpellsFact}
-use Rattle.yt_run.specs.Runs.{running}
-use Rattle.yt_words.specs.Alike.{text_of}
-use Rattle.yt_words.specs.Meaning.{Answers, AreInRange, is_refused}
-use Rattle.yt_words.specs.declared.help.TheConstants.{HELP, VERSION_LINE}
-use Rattle.yt_words.specs.declared.names.CommandName.{CommandName}
-use Rattle.yt_words.specs.declared.names.CommandName.TheVariants.{Run, Serial, Format, Check, Save, Upgrade, Ask, Explain, Audit, Drill, Journal, Recover}
-use Rattle.yt_words.specs.declared.names.Deps.{Deps}
-use Rattle.yt_words.specs.declared.names.Deps.TheVariants.{Coarse, Precise}
-use Rattle.yt_words.specs.declared.reading.Options.{Options}
-use Rattle.yt_words.specs.declared.reading.Request.{Request}
-use Rattle.yt_words.specs.declared.reading.Request.TheVariants.{Command, Help, Version}
+use Rattle.cmd_frame.specs.Devices.{Change, no_input, TakesNothing, Tells}
+use Rattle.cmd_frame.specs.Outputs.{Meaning, Text}
+use Rattle.cmd_frame.specs.Rows.{Row}
+use Rattle.cmd_frame.specs.Statuses.{line_of}
+use Rattle.cmd_frame.specs.declared.outputs.Ending.TheVariants.{Ended}
+use Rattle.cmd_frame.specs.declared.failures.Failure.{Failure}
+use Rattle.cmd_frame.specs.declared.failures.Failure.TheVariants as failures
+use Rattle.cmd_frame.specs.declared.statuses.Status.{Status}
+use Rattle.cmd_frame.specs.declared.statuses.Status.TheVariants.{Usage, OutOfMemory}
+use Rattle.run_ask.specs.Written.{WrittenAsk, SpellsAsk}
+use Rattle.cmd_plain.specs.Audited.{audited}
+use Rattle.cmd_plain.specs.Asked.{asked}
+use Rattle.cmd_plain.specs.Commands.{on_session, on_session_by, formatted, upgraded_text, checked}
+use Rattle.cmd_plain.specs.Journaled.{journaled, recovering}
+use Rattle.cmd_plain.specs.Runs.{ran, kept}
+use Rattle.cmd_threads.specs.Drilling.{drilling}
+use Rattle.cmd_plain.specs.Explained.{explained}
+use Rattle.def_language.specs.Statements.{WrittenFact}
+use Rattle.def_machine.specs.Updates as machine
+use Rattle.lang_reader.specs.Facts.{SpellsFact}
+use Rattle.cmd_threads.specs.Runs.{running}
+use Rattle.cmd_words.specs.Alike.{text_of}
+use Rattle.cmd_words.specs.Meaning.{Answers, AreInRange, is_refused}
+use Rattle.cmd_words.specs.declared.help.TheConstants.{HELP, VERSION_LINE}
+use Rattle.cmd_words.specs.declared.names.CommandName.{CommandName}
+use Rattle.cmd_words.specs.declared.names.CommandName.TheVariants.{Run, Serial, Format, Check, Save, Upgrade, Ask, Explain, Audit, Drill, Journal, Recover}
+use Rattle.cmd_words.specs.declared.names.Deps.{Deps}
+use Rattle.cmd_words.specs.declared.names.Deps.TheVariants.{Coarse, Precise}
+use Rattle.cmd_words.specs.declared.reading.Options.{Options}
+use Rattle.cmd_words.specs.declared.reading.Request.{Request}
+use Rattle.cmd_words.specs.declared.reading.Request.TheVariants.{Command, Help, Version}
 use Rattle.youtopia.specs.declared.workers.ByWorkers.{ByWorkers}
 use Rattle.youtopia.specs.declared.workers.ByWorkers.TheVariants as workers
 

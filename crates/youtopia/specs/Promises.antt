@@ -1,35 +1,35 @@
 -- What one call of the program promises beside its rows: its status where nothing fails, and what its runs leave.
 use Rattle.std.specs.Prelude.{◌≡◌, ◌⊎◌, ◌≤◌, ◌++◌, ℕ, List, Some, None, length}
 use Rattle.clap.specs.Words.{Text as Letters}
-use Rattle.yt_ask.specs.Written.{WrittenAsk}
-use Rattle.yt_claims.specs.Parts.{session_in}
-use Rattle.yt_command.specs.Devices.{Change, Fails, Takes, no_input}
-use Rattle.yt_command.specs.Outputs.{Meaning, OutputView}
-use Rattle.yt_command.specs.Statuses.{status_of, status_of_ending}
-use Rattle.yt_command.specs.declared.performing.TheConstants.{INPUT_LIMIT}
-use Rattle.yt_command.specs.declared.statuses.Status.{Status}
-use Rattle.yt_command.specs.declared.statuses.Status.TheVariants.{Ended, Stuck, OutOfMemory, TooLarge, Refuted, QueryRefused}
-use Rattle.yt_commands.specs.Runs.{ending_by}
-use Rattle.yt_commands.specs.Written.{HasWritten, WroteWhatHolds}
-use Rattle.yt_drilling.specs.Drilling.{drill_told}
-use Rattle.yt_grammar.specs.Lines.{Spells}
-use Rattle.yt_grammar.specs.Sessions.{SessionData}
-use Rattle.yt_grammar.specs.Statements.{WrittenFact}
-use Rattle.yt_history.specs.PlainEntries.{PlainEntry}
-use Rattle.yt_kept.specs.Kept.{InForceHold}
-use Rattle.yt_report.specs.Results.{result_text, serial_told}
-use Rattle.yt_run.specs.Runs.{trace_part}
-use Rattle.yt_run.specs.Written.{WroteRun}
-use Rattle.yt_seated.specs.Runs.{IsRunOf}
-use Rattle.yt_session.specs.Base.{base_violation}
-use Rattle.yt_summary.specs.Summaries.{summary_text}
-use Rattle.yt_words.specs.Meaning.{Answers}
-use Rattle.yt_words.specs.declared.help.TheConstants.{HELP, VERSION_LINE}
-use Rattle.yt_words.specs.declared.names.CommandName.{CommandName}
-use Rattle.yt_words.specs.declared.names.CommandName.TheVariants.{Run, Serial, Save, Ask, Explain, Audit, Drill, Journal, Recover}
-use Rattle.yt_words.specs.declared.reading.Options.{Options}
-use Rattle.yt_words.specs.declared.reading.Request.{Request}
-use Rattle.yt_words.specs.declared.reading.Request.TheVariants.{Command, Help, Version}
+use Rattle.run_ask.specs.Written.{WrittenAsk}
+use Rattle.audit_claims.specs.Parts.{session_in}
+use Rattle.cmd_frame.specs.Devices.{Change, Fails, Takes, no_input}
+use Rattle.cmd_frame.specs.Outputs.{Meaning, OutputView}
+use Rattle.cmd_frame.specs.Statuses.{status_of, status_of_ending}
+use Rattle.cmd_frame.specs.declared.performing.TheConstants.{INPUT_LIMIT}
+use Rattle.cmd_frame.specs.declared.statuses.Status.{Status}
+use Rattle.cmd_frame.specs.declared.statuses.Status.TheVariants.{Ended, Stuck, OutOfMemory, TooLarge, Refuted, QueryRefused}
+use Rattle.cmd_plain.specs.Runs.{ending_by}
+use Rattle.cmd_plain.specs.Written.{HasWritten, WroteWhatHolds}
+use Rattle.cmd_threads.specs.Drilling.{drill_told}
+use Rattle.def_language.specs.Lines.{Spells}
+use Rattle.def_language.specs.Sessions.{SessionData}
+use Rattle.def_language.specs.Statements.{WrittenFact}
+use Rattle.def_history.specs.PlainEntries.{PlainEntry}
+use Rattle.run_laws.specs.Kept.{InForceHold}
+use Rattle.lang_report.specs.Results.{result_text, serial_told}
+use Rattle.cmd_threads.specs.Runs.{trace_part}
+use Rattle.cmd_threads.specs.Written.{WroteRun}
+use Rattle.work_session.specs.Runs.{IsRunOf}
+use Rattle.lang_session.specs.Base.{base_violation}
+use Rattle.run_drill.specs.Summaries.{summary_text}
+use Rattle.cmd_words.specs.Meaning.{Answers}
+use Rattle.cmd_words.specs.declared.help.TheConstants.{HELP, VERSION_LINE}
+use Rattle.cmd_words.specs.declared.names.CommandName.{CommandName}
+use Rattle.cmd_words.specs.declared.names.CommandName.TheVariants.{Run, Serial, Save, Ask, Explain, Audit, Drill, Journal, Recover}
+use Rattle.cmd_words.specs.declared.reading.Options.{Options}
+use Rattle.cmd_words.specs.declared.reading.Request.{Request}
+use Rattle.cmd_words.specs.declared.reading.Request.TheVariants.{Command, Help, Version}
 use Rattle.youtopia.specs.Calls.{AsksFor, AsksWhy, makes, settings_in, telling}
 
 -- what a request makes of an input

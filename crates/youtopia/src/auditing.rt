@@ -1,17 +1,17 @@
 //! The command `audit` by the terms that its options say.
 ghost use Rattle.std.specs.Prelude.{◌≡◌, ◌≤◌};
-ghost use Rattle.yt_command.specs.Devices.{change};
-ghost use Rattle.yt_seats.specs.Settings.{settings_of};
+ghost use Rattle.cmd_frame.specs.Devices.{change};
+ghost use Rattle.audit_updates.specs.Settings.{settings_of};
 ghost use Rattle.youtopia.specs.Calls.{Does, settings_in};
 
+use audit_updates::Settings;
+use audit_verdict::Terms;
+use base_devices::{Sink, Source};
+use base_limits::Budget;
+use cmd_frame::{Status, perform};
+use cmd_plain::Audit;
+use cmd_words::{CommandName, Deps, Options};
 use std::alloc::Global;
-use yt_audit::Terms;
-use yt_auditing::Audit;
-use yt_command::{Status, perform};
-use yt_limits::Budget;
-use yt_seats::Settings;
-use yt_text::{Sink, Source};
-use yt_words::{CommandName, Deps, Options};
 
 // The terms that the options say.
 fn terms_in(options: &Options<'_>) -> Terms
@@ -22,8 +22,8 @@ fn terms_in(options: &Options<'_>) -> Terms
     ensures settings { settings_of result.settings ≡ settings_in options.now }
 {
     let deps = match options.deps {
-        Deps::Coarse => yt_seats::Deps::Coarse,
-        Deps::Precise => yt_seats::Deps::Precise,
+        Deps::Coarse => audit_updates::Deps::Coarse,
+        Deps::Precise => audit_updates::Deps::Precise,
     };
     let settings = Settings {
         retries: options.retries,

@@ -1,18 +1,17 @@
 //! The command `explain` with the fact that its option spells.
 ghost use Rattle.std.specs.Prelude.{◌≤◌, IfNone, IfOk, IfSome};
-ghost use Rattle.yt_command.specs.Devices.{change};
-ghost use Rattle.yt_forms.specs.Views.{fact_of as fact_meant};
+ghost use Rattle.cmd_frame.specs.Devices.{change};
+ghost use Rattle.lang_forms.specs.Views.{fact_of as fact_meant};
 ghost use Rattle.youtopia.specs.Calls.{AsksWhy, Does, LacksFact};
 
+use base_devices::{Sink, Source};
+use base_limits::Budget;
+use base_types::Memory;
+use cmd_frame::{Failure, Status, fail, perform};
+use cmd_plain::{Explain, OnSession};
+use cmd_words::{CommandName, Options};
+use lang_reader::{RawFact, read_fact};
 use std::alloc::Global;
-use yt_base::Memory;
-use yt_command::{Failure, Status, fail, perform};
-use yt_commands::OnSession;
-use yt_explaining::Explain;
-use yt_limits::Budget;
-use yt_reader::{RawFact, read_fact};
-use yt_text::{Sink, Source};
-use yt_words::{CommandName, Options};
 
 // The fact that the option spells, if it spells one.
 fn fact_in(alloc: Global, options: &Options<'_>) -> Result<Option<RawFact>, Memory>

@@ -9,12 +9,12 @@ mod top;
 mod workers;
 
 use crate::top::youtopia;
+use base_devices::{StdSink, StdSource};
+use cmd_frame::{Failure, Status, fail};
 use std::env;
 use std::io::{self, ErrorKind};
 use std::process::ExitCode;
-use yt_command::{Failure, Status, fail};
-use yt_gate::OpenGate;
-use yt_text::{StdSink, StdSource};
+use work_loop::OpenGate;
 
 // The words after the program's name. Where one of them is not UTF-8 there are none, which is refused as no words are.
 fn words(rt: &HostRuntime) -> io::Result<Vec<String>> {

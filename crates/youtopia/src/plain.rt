@@ -1,21 +1,21 @@
 //! The commands that need no threads.
 ghost use Rattle.std.specs.Prelude.{◌≤◌, IfNone, IfOk, IfSome, map, string_bytes};
-ghost use Rattle.yt_ask.specs.Bound.{written_of};
-ghost use Rattle.yt_command.specs.Devices.{change};
-ghost use Rattle.yt_words.specs.Meaning.{HasRanges};
+ghost use Rattle.run_ask.specs.Bound.{written_of};
+ghost use Rattle.cmd_frame.specs.Devices.{change};
+ghost use Rattle.cmd_words.specs.Meaning.{HasRanges};
 ghost use Rattle.youtopia.specs.Calls.{AsksFor, CallsPlainly, Does, DoesPlainly, LacksQuery, PerformsPlainly};
 
 use crate::auditing::audit_trace;
 use crate::explaining::explain_fact;
 use crate::telling::Telling;
+use base_devices::{Sink, Source};
+use base_limits::Budget;
+use base_types::Memory;
+use cmd_frame::{Failure, Status, fail, perform, perform_alone};
+use cmd_plain::{Ask, Check, Format, Journal, OnSession, Recover, Save, Serial, Upgrade};
+use cmd_words::{CommandName, HELP, Options, Request, VERSION_LINE, WordsRefusal, read_words};
+use run_ask::{RawAsk, parse_ask};
 use std::alloc::Global;
-use yt_ask::{RawAsk, parse_ask};
-use yt_base::Memory;
-use yt_command::{Failure, Status, fail, perform, perform_alone};
-use yt_commands::{Ask, Check, Format, Journal, OnSession, Recover, Save, Serial, Upgrade};
-use yt_limits::Budget;
-use yt_text::{Sink, Source};
-use yt_words::{CommandName, HELP, Options, Request, VERSION_LINE, WordsRefusal, read_words};
 
 // The query that the option spells, if it spells one.
 fn query_of(alloc: Global, options: &Options<'_>) -> Result<Option<RawAsk>, Memory>

@@ -2,8 +2,8 @@
 ghost use Rattle.std.specs.Prelude.{◌≡◌};
 ghost use Rattle.youtopia.specs.Calls.{telling};
 
+use cmd_frame::{Command, Ending, Memory, Output};
 use std::alloc::Global;
-use yt_command::{Command, Ending, Memory, Output};
 
 /// Tells the text.
 #[derive(Drop)]

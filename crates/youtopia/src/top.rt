@@ -1,25 +1,27 @@
 //! The top call: `run` and `drill` by workers, and every other command as `plain` does it.
 ghost use Rattle.std.specs.Prelude.{IfNone, IfOk, IfSome, map, string_bytes};
-ghost use Rattle.yt_command.specs.Devices.{change};
+ghost use Rattle.cmd_frame.specs.Devices.{change};
 ghost use Rattle.youtopia.specs.Calls.{AskForNoWork, AskForWork, Calls};
 ghost use Rattle.youtopia.specs.Promises.{Completes, Drills, Headline, LeavesWhatHolds, Serves};
 
 use crate::plain::plain;
 use crate::workers::{ByWorkers, by_workers, work};
+use base_devices::{Sink, Source};
+use base_types::Memory;
+use cmd_frame::{Failure, Status, fail};
+use cmd_plain::{
+    audited_inputs_have_one_output, performed_runs_write_what_holds,
+    recovered_inputs_have_one_status,
+};
+use cmd_threads::{performed_runs_write_their_trace, runs_have_the_serial_status};
+use cmd_words::{
+    Request, WordsRefusal, read_words, words_are_answered_or_refused, words_ask_for_one_thing,
+};
 use std::alloc::Global;
 use std::sync::Wait;
 use std::thread::Threads;
 use std::time::Clock;
-use yt_auditing::audited_inputs_have_one_output;
-use yt_base::Memory;
-use yt_command::{Failure, Status, fail};
-use yt_commands::{performed_runs_write_what_holds, recovered_inputs_have_one_status};
-use yt_gate::Gate;
-use yt_run::{performed_runs_write_their_trace, runs_have_the_serial_status};
-use yt_text::{Sink, Source};
-use yt_words::{
-    Request, WordsRefusal, read_words, words_are_answered_or_refused, words_ask_for_one_thing,
-};
+use work_loop::Gate;
 
 // The work that the words ask for, if they ask for a command that is done by workers.
 fn work_asked_for<'a>(alloc: Global, words: &'a [String]) -> Result<Option<ByWorkers<'a>>, Memory>

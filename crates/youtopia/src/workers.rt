@@ -1,24 +1,24 @@
 //! The commands that are done by workers.
 ghost use Rattle.std.specs.Prelude.{◌≡◌, IfNone, IfSome, false};
-ghost use Rattle.yt_command.specs.Devices.{change, no_input};
-ghost use Rattle.yt_command.specs.Rows.{Row};
-ghost use Rattle.yt_queue.specs.Settings.{settings_of};
-ghost use Rattle.yt_words.specs.Meaning.{AreInRange};
-ghost use Rattle.yt_words.specs.declared.names.CommandName.TheVariants.{Drill, Run};
+ghost use Rattle.cmd_frame.specs.Devices.{change, no_input};
+ghost use Rattle.cmd_frame.specs.Rows.{Row};
+ghost use Rattle.core_queue.specs.Settings.{settings_of};
+ghost use Rattle.cmd_words.specs.Meaning.{AreInRange};
+ghost use Rattle.cmd_words.specs.declared.names.CommandName.TheVariants.{Drill, Run};
 ghost use Rattle.youtopia.specs.Calls.{Does, DoesWork, HasRangesIn, IsNamedBy, is_by_workers, makes, settings_in};
 
+use base_devices::{Sink, Source};
+use base_limits::Budget;
+use cmd_frame::Status;
+use cmd_threads::Crew;
+use cmd_words::{CommandName, Deps, Options};
+use core_queue::Settings;
+use run_drill::Count;
 use std::alloc::Global;
 use std::sync::Wait;
 use std::thread::Threads;
 use std::time::Clock;
-use yt_command::Status;
-use yt_drill::Count;
-use yt_gate::Gate;
-use yt_limits::Budget;
-use yt_queue::Settings;
-use yt_run::Crew;
-use yt_text::{Sink, Source};
-use yt_words::{CommandName, Deps, Options};
+use work_loop::Gate;
 
 /// A command that is done by workers, with its options.
 #[derive(Drop)]
@@ -47,8 +47,8 @@ fn settings_in(options: &Options<'_>) -> Settings
     ensures retries { result.retries ≡ options.now.retries }
 {
     let deps = match options.deps {
-        Deps::Coarse => yt_queue::Deps::Coarse,
-        Deps::Precise => yt_queue::Deps::Precise,
+        Deps::Coarse => core_queue::Deps::Coarse,
+        Deps::Precise => core_queue::Deps::Precise,
     };
     Settings {
         retries: options.retries,
@@ -94,7 +94,7 @@ fn run<R: Threads + Wait + Clock + Sync, G: Gate + Sync, S: Source, O: Sink, E: 
         (change O.taken O.fault_count out.old out.new)
         (change E.taken E.fault_count err.old err.new) }
 {
-    let command = yt_run::Run {
+    let command = cmd_threads::Run {
         crew: Crew::new(options.workers, settings_in(options)),
         budget: Budget::new(options.steps),
         trace: options.trace,
@@ -116,7 +116,7 @@ fn drill<R: Threads + Wait + Clock + Sync, G: Gate + Sync, O: Sink, E: Sink>(
         (change O.taken O.fault_count out.old out.new)
         (change E.taken E.fault_count err.old err.new) }
 {
-    let command = yt_drilling::Drill {
+    let command = cmd_threads::Drill {
         crew: Crew::new(options.workers, settings_in(options)),
         budget: Budget::new(options.steps),
         count: Count::new(options.count),

@@ -4,10 +4,10 @@ use Rattle.std.specs.Prelude.{Option}
 use Rattle.std.specs.Io.KnownBytes.{Appends, Consumes}
 use Rattle.std.proofs.KnownBytes.{Appends-trans, Consumes-trans}
 use Rattle.std.proofs.lemmas.List.{append_assoc, length-append}
-use Rattle.yt_command.specs.Devices.{Change}
-use Rattle.yt_grammar.specs.Lines.{lines_of}
-use Rattle.yt_text.specs.Faults.{Rose}
-use Rattle.yt_text.specs.Writing.{TakesPrefix}
+use Rattle.cmd_frame.specs.Devices.{Change}
+use Rattle.def_language.specs.Lines.{lines_of}
+use Rattle.base_devices.specs.Faults.{Rose}
+use Rattle.base_devices.specs.Writing.{TakesPrefix}
 use Rattle.yt_live.specs.Ends.{Due, Ends, Gave, HasEnded, StopsBy, TookPrefix, left_of, of_lines}
 use Rattle.yt_live.specs.Streams.{CutsLines, Ending, Served, whole_lines, with_front}
 use Rattle.yt_live.specs.declared.ends.LiveEnd.{LiveEnd}

@@ -2,9 +2,9 @@
 use Rattle.std.proofs.Common.{◌≡◌, ℕ, suc, ◌+◌, ◌-◌, List, [], ◌∷◌, ◌++◌, length, take, refl, sym, ap, ◌∙◌, arith}
 use Rattle.std.proofs.lemmas.List.{append_assoc}
 use Rattle.std.proofs.lemmas.List.Splits.{length-slice_split, slice_split_at, slice_split_none}
-use Rattle.yt_grammar.specs.Lines.{lines_of}
-use Rattle.yt_lex.specs.Bytes.{is_line_feed}
-use Rattle.yt_lines.specs.Given.{HasNoLineFeed}
+use Rattle.def_language.specs.Lines.{lines_of}
+use Rattle.def_language.specs.Bytes.{is_line_feed}
+use Rattle.base_devices.specs.Given.{HasNoLineFeed}
 use Rattle.yt_live.specs.Streams.{CutsLines, whole_lines}
 
 pub cuts_all : CutsLines lines_of

@@ -2,30 +2,30 @@
 use Rattle.std.proofs.Common.{◌≡◌, ◌≤◌, ℕ, Bool, true, false, List, [], ◌∷◌, ◌++◌, map, length, refl, sym, ap, subst, ◌∙◌, append-nil}
 use Rattle.std.specs.Prelude.{Option, Some, None, option_map, Result, Ok, Err, nat_le, if◌then◌else◌}
 use Rattle.std.proofs.lemmas.Option.{none-some, same_Some}
-use Rattle.yt_admits.specs.Admissible.{admits}
-use Rattle.yt_core.specs.LiveCalls.{fits_at, is_withdrawn}
-use Rattle.yt_core.specs.States.{State, admissions_from, committed_at, ground_of, lowest_deliverable_at, lowest_ready_at, standing_at, updates_at}
-use Rattle.yt_core.proofs.Following.{mapped_long}
-use Rattle.yt_core.proofs.Opening.{all_admitted}
-use Rattle.yt_grammar.specs.Faults.{Wrong}
-use Rattle.yt_grammar.specs.Lines.{lines_of, read}
-use Rattle.yt_grammar.specs.Names.{Name, is_one_of}
-use Rattle.yt_grammar.specs.Sessions.{SessionData}
-use Rattle.yt_history.specs.CoreLaws.{handed}
-use Rattle.yt_history.specs.Cores.{Ground, IsLegalOver, effect_after, grown, machine, session_over}
-use Rattle.yt_history.specs.PlainEntries.{PlainEntry, plain_entry}
-use Rattle.yt_history.proofs.Keeping.{histories_are_kept}
-use Rattle.yt_machine.specs.Effects.{Admits, Answers, Delivers, Effect, Event, Steps, Withdraws}
-use Rattle.yt_machine.specs.Standings.{Standing, Withdrawn, is_paused}
-use Rattle.yt_machine.specs.Updates.{Settings}
-use Rattle.yt_model.specs.Updates.{Choice, Operation}
-use Rattle.yt_replies.specs.Commands.{Asked, AskUpdate, AskStep, AskDelivery, AskAnswer, AskWithdrawal, AskQuestion, AskEnd, Asks, NoForm, Nothing, Saying, line_says}
-use Rattle.yt_replies.specs.Known.{known_choice, known_operation}
-use Rattle.yt_replies.specs.Turns.{Live, Turn, admission, answer_known, answer_standing, begun, command_turn, delivery_turn, event, known_label, line_turn, made, number_of, question_turn, refuses, saying_turn, step_turn, update_known, withdrawal_standing, withdrawal_turn}
-use Rattle.yt_replies.specs.Texts.{BadLabel, BadNull, Full, IsCommitted, Misfits, Stands}
-use Rattle.yt_session.specs.Base.{Violated, base_violation}
-use Rattle.yt_session.specs.Meanings.{request_of, requests_in}
-use Rattle.yt_steps.specs.Serial.{Request}
+use Rattle.lang_session.specs.Admissible.{admits}
+use Rattle.core_engine.specs.LiveCalls.{fits_at, is_withdrawn}
+use Rattle.core_engine.specs.States.{State, admissions_from, committed_at, ground_of, lowest_deliverable_at, lowest_ready_at, standing_at, updates_at}
+use Rattle.core_engine.proofs.Following.{mapped_long}
+use Rattle.core_engine.proofs.Opening.{all_admitted}
+use Rattle.def_language.specs.Faults.{Wrong}
+use Rattle.def_language.specs.Lines.{lines_of, read}
+use Rattle.def_language.specs.Names.{Name, is_one_of}
+use Rattle.def_language.specs.Sessions.{SessionData}
+use Rattle.def_history.specs.CoreLaws.{handed}
+use Rattle.def_history.specs.Cores.{Ground, IsLegalOver, effect_after, grown, machine, session_over}
+use Rattle.def_history.specs.PlainEntries.{PlainEntry, plain_entry}
+use Rattle.def_history.proofs.Keeping.{histories_are_kept}
+use Rattle.def_machine.specs.Effects.{Admits, Answers, Delivers, Effect, Event, Steps, Withdraws}
+use Rattle.def_machine.specs.Standings.{Standing, Withdrawn, is_paused}
+use Rattle.def_machine.specs.Updates.{Settings}
+use Rattle.def_chase.specs.Updates.{Choice, Operation}
+use Rattle.live_replies.specs.Commands.{Asked, AskUpdate, AskStep, AskDelivery, AskAnswer, AskWithdrawal, AskQuestion, AskEnd, Asks, NoForm, Nothing, Saying, line_says}
+use Rattle.live_replies.specs.Known.{known_choice, known_operation}
+use Rattle.live_replies.specs.Turns.{Live, Turn, admission, answer_known, answer_standing, begun, command_turn, delivery_turn, event, known_label, line_turn, made, number_of, question_turn, refuses, saying_turn, step_turn, update_known, withdrawal_standing, withdrawal_turn}
+use Rattle.live_replies.specs.Texts.{BadLabel, BadNull, Full, IsCommitted, Misfits, Stands}
+use Rattle.lang_session.specs.Base.{Violated, base_violation}
+use Rattle.lang_session.specs.Meanings.{request_of, requests_in}
+use Rattle.def_steps.specs.Serial.{Request}
 use Rattle.yt_live.specs.Streams.{IsLegal, MakesLegalHistories, Parted, of_parts, opened_with, parted, parting, served, unless_violated, with_front}
 
 -- Each attempt may make a step, and the history is legal.

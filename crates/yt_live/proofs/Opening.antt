@@ -6,13 +6,13 @@ use Rattle.std.specs.declared.alloc.Global.{Global}
 use Rattle.std.specs.declared.vec.Vec.{Vec}
 use Rattle.std.proofs.KnownBytes.{Consumes-nil, Consumes-trans}
 use Rattle.std.proofs.lemmas.List.{append_assoc, length-append}
-use Rattle.yt_grammar.specs.Lines.{lines_of, read}
-use Rattle.yt_lines.specs.Given.{Kept, HasGiven, HasNoLineFeed, IsLine, IsLost}
-use Rattle.yt_lines.specs.declared.lines.LineRefusal.{LineRefusal}
-use Rattle.yt_lines.specs.declared.lines.LineRefusal.TheVariants as lines
-use Rattle.yt_lines.specs.declared.lines.NextLine.{NextLine}
-use Rattle.yt_lines.specs.declared.lines.NextLine.TheVariants.{Whole, Last}
-use Rattle.yt_machine.specs.Updates.{Settings}
+use Rattle.def_language.specs.Lines.{lines_of, read}
+use Rattle.base_devices.specs.Given.{Kept, HasGiven, HasNoLineFeed, IsLine, IsLost}
+use Rattle.base_devices.specs.declared.lines.LineRefusal.{LineRefusal}
+use Rattle.base_devices.specs.declared.lines.LineRefusal.TheVariants as lines
+use Rattle.base_devices.specs.declared.lines.NextLine.{NextLine}
+use Rattle.base_devices.specs.declared.lines.NextLine.TheVariants.{Whole, Last}
+use Rattle.def_machine.specs.Updates.{Settings}
 use Rattle.yt_live.specs.Ends.{HasOpened, HasReadAll, OpensNothing}
 use Rattle.yt_live.specs.Streams.{CutsLines, Parted, is_end, last_line, live, of_parts, opened_with, parted, whole_lines, with_line}
 use Rattle.yt_live.specs.declared.serving.TheConstants.{INPUT_LIMIT}

@@ -3,7 +3,7 @@ use Rattle.std.proofs.Common.{◌≡◌, ℕ, zero, suc, ◌+◌, List, [], ◌�
 use Rattle.std.specs.Prelude.{Option, Some, None}
 use Rattle.std.specs.Io.KnownBytes.{Appends, Keeps}
 use Rattle.std.proofs.KnownBytes.{Appends-trans}
-use Rattle.yt_text.specs.Writing.{TakesPrefix}
+use Rattle.base_devices.specs.Writing.{TakesPrefix}
 
 -- the front, and then some of what follows
 take_behind : (front ys : List ℕ) (k : ℕ) → take (length front + k) (front ++ ys) ≡ front ++ take k ys

@@ -3,19 +3,19 @@ use Rattle.std.proofs.Common.{◌≡◌, ℕ, ◌+◌, ◌≤◌, Bool, true, fa
 use Rattle.std.specs.Prelude.{Option, Some, None, Result, Ok, Err, map, OnOk, IfErr}
 use Rattle.std.specs.Io.KnownBytes.{Appends, Consumes, IsAtEnd}
 use Rattle.std.proofs.KnownBytes.{Appends-nil, Consumes-nil, Keeps-refl}
-use Rattle.yt_base.specs.Meanings.{fact_of}
-use Rattle.yt_command.specs.Devices.{Change, Fails, Takes, TakesSome}
-use Rattle.yt_grammar.specs.Faults.{Wrong}
-use Rattle.yt_grammar.specs.Lines.{lines_of, read, Spells}
-use Rattle.yt_grammar.specs.Sessions.{SessionData}
-use Rattle.yt_lines.specs.Given.{Kept}
-use Rattle.yt_lines.specs.declared.lines.LineRefusal.{LineRefusal}
-use Rattle.yt_lines.specs.declared.lines.LineRefusal.TheVariants as lines
-use Rattle.yt_machine.specs.Updates.{Settings}
-use Rattle.yt_reader.specs.Answers.{wrong_of}
-use Rattle.yt_replies.specs.Turns.{Live, begun}
-use Rattle.yt_session.specs.Base.{Violated, base_violation}
-use Rattle.yt_session.specs.Meanings.{session_of}
+use Rattle.base_types.specs.Meanings.{fact_of}
+use Rattle.cmd_frame.specs.Devices.{Change, Fails, Takes, TakesSome}
+use Rattle.def_language.specs.Faults.{Wrong}
+use Rattle.def_language.specs.Lines.{lines_of, read, Spells}
+use Rattle.def_language.specs.Sessions.{SessionData}
+use Rattle.base_devices.specs.Given.{Kept}
+use Rattle.base_devices.specs.declared.lines.LineRefusal.{LineRefusal}
+use Rattle.base_devices.specs.declared.lines.LineRefusal.TheVariants as lines
+use Rattle.def_machine.specs.Updates.{Settings}
+use Rattle.lang_reader.specs.Answers.{wrong_of}
+use Rattle.live_replies.specs.Turns.{Live, begun}
+use Rattle.lang_session.specs.Base.{Violated, base_violation}
+use Rattle.lang_session.specs.Meanings.{session_of}
 use Rattle.yt_live.specs.Ends.{Due, Ends, EndsAlone, FailsReply, HasEnded, HasOpened, HasReadAll, IsOver, Opened, Opens, OpensNothing, end_of, RefusesText, Serves, StopsBy, left_of, of_line_refusal, of_lines, of_stream, violation}
 use Rattle.yt_live.specs.Streams.{Served, Parted, Ending, GoesOn, RefusesSession, attended, live, of_parts, of_parts_so_far, opened_with, parted, ready_line, served, so_far, unless_violated, whole_lines}
 use Rattle.yt_live.specs.declared.ends.LiveEnd.{LiveEnd}

@@ -6,16 +6,16 @@ use Rattle.std.specs.declared.alloc.Global.{Global}
 use Rattle.std.specs.declared.vec.Vec.{Vec}
 use Rattle.std.proofs.KnownBytes.{Appends-nil, Appends-trans, Consumes-nil, Consumes-trans, Keeps-refl}
 use Rattle.std.proofs.lemmas.List.{append_assoc, length-append}
-use Rattle.yt_command.specs.Devices.{Change, Fails}
-use Rattle.yt_grammar.specs.Lines.{lines_of}
-use Rattle.yt_lines.specs.Given.{Kept, HasGiven, IsLine, IsLost}
-use Rattle.yt_lines.specs.declared.lines.LineRefusal.{LineRefusal}
-use Rattle.yt_lines.specs.declared.lines.LineRefusal.TheVariants as lines
-use Rattle.yt_lines.specs.declared.lines.NextLine.{NextLine}
-use Rattle.yt_lines.specs.declared.lines.NextLine.TheVariants.{Whole, Last}
-use Rattle.yt_replies.specs.Turns.{Live, Turn, line_turn}
-use Rattle.yt_text.specs.Faults.{Rose}
-use Rattle.yt_text.specs.Writing.{TakesPrefix}
+use Rattle.cmd_frame.specs.Devices.{Change, Fails}
+use Rattle.def_language.specs.Lines.{lines_of}
+use Rattle.base_devices.specs.Given.{Kept, HasGiven, IsLine, IsLost}
+use Rattle.base_devices.specs.declared.lines.LineRefusal.{LineRefusal}
+use Rattle.base_devices.specs.declared.lines.LineRefusal.TheVariants as lines
+use Rattle.base_devices.specs.declared.lines.NextLine.{NextLine}
+use Rattle.base_devices.specs.declared.lines.NextLine.TheVariants.{Whole, Last}
+use Rattle.live_replies.specs.Turns.{Live, Turn, line_turn}
+use Rattle.base_devices.specs.Faults.{Rose}
+use Rattle.base_devices.specs.Writing.{TakesPrefix}
 use Rattle.yt_live.specs.Ends.{Due, Ends, FailsReply, HasEnded, HasReplied, StopsBy, left_of, of_line_refusal, of_lines}
 use Rattle.yt_live.specs.Streams.{Served, GoesOn, parting, served, whole_lines, with_front}
 use Rattle.yt_live.specs.declared.ends.LiveEnd.{LiveEnd}

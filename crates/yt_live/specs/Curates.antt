@@ -1,21 +1,21 @@
 -- The top call: its words, its status, and the line that tells people how the stream ended.
 use Rattle.std.specs.Prelude.{◌≡◌, ◌⊎◌, ℕ, List, [], ◌∷◌, ◌++◌, codes}
 use Rattle.std.specs.Io.KnownBytes.{Keeps}
-use Rattle.yt_base.specs.Meanings.{fact_of}
-use Rattle.yt_base.specs.declared.tuples.Tuple.{Tuple}
-use Rattle.yt_command.specs.Devices.{Change, TakesNothing, Tells}
-use Rattle.yt_command.specs.declared.statuses.Status.{Status}
-use Rattle.yt_command.specs.declared.statuses.Status.TheVariants.{Usage, OutOfMemory}
-use Rattle.yt_grammar.specs.Faults.{Wrong, wrong_text}
-use Rattle.yt_grammar.specs.Grammar.{fact_words, separated}
-use Rattle.yt_grammar.specs.Names.{Name}
-use Rattle.yt_grammar.specs.Printing.{written_fact}
-use Rattle.yt_grammar.specs.Sessions.{RelationSchema}
-use Rattle.yt_grammar.specs.Words.{Word, colon, name}
-use Rattle.yt_machine.specs.Updates.{Settings, Precise}
-use Rattle.yt_print.specs.Lines.{with_line}
-use Rattle.yt_reader.specs.Answers.{wrong_of}
-use Rattle.yt_schema.specs.Pages.{blank}
+use Rattle.base_types.specs.Meanings.{fact_of}
+use Rattle.base_types.specs.declared.tuples.Tuple.{Tuple}
+use Rattle.cmd_frame.specs.Devices.{Change, TakesNothing, Tells}
+use Rattle.cmd_frame.specs.declared.statuses.Status.{Status}
+use Rattle.cmd_frame.specs.declared.statuses.Status.TheVariants.{Usage, OutOfMemory}
+use Rattle.def_language.specs.Faults.{Wrong, wrong_text}
+use Rattle.def_language.specs.Grammar.{fact_words, separated}
+use Rattle.def_language.specs.Names.{Name}
+use Rattle.def_language.specs.Printing.{written_fact}
+use Rattle.def_language.specs.Sessions.{RelationSchema}
+use Rattle.def_language.specs.Words.{Word, colon, name}
+use Rattle.def_machine.specs.Updates.{Settings, Precise}
+use Rattle.lang_print.specs.Lines.{with_line}
+use Rattle.lang_reader.specs.Answers.{wrong_of}
+use Rattle.lang_schema.specs.Pages.{blank}
 use Rattle.yt_live.specs.Ends.{Serves, status_of}
 use Rattle.yt_live.specs.declared.ends.LiveEnd.{LiveEnd}
 use Rattle.yt_live.specs.declared.ends.LiveEnd.TheVariants as ends

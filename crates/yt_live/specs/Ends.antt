@@ -1,23 +1,23 @@
 -- What a stream's source gave and its sink took, for each way in which the stream may end.
 use Rattle.std.specs.Prelude.{◌≡◌, ℕ, ◌+◌, ◌≤◌, Bool, true, false, not, List, [], ◌∷◌, ◌++◌, length, map, Option, Some, None, Result, Ok, Err}
 use Rattle.std.specs.Io.KnownBytes.{Consumes, IsAtEnd}
-use Rattle.yt_base.specs.Meanings.{fact_of}
-use Rattle.yt_command.specs.Devices.{Change, Fails, Takes, TakesNothing, TakesSome}
-use Rattle.yt_command.specs.declared.statuses.Status.{Status}
-use Rattle.yt_command.specs.declared.statuses.Status.TheVariants as statuses
-use Rattle.yt_grammar.specs.Lines.{lines_of, read, IsFirstFault, Spells}
-use Rattle.yt_grammar.specs.Sessions.{SessionData}
-use Rattle.yt_lines.specs.Given.{Kept}
-use Rattle.yt_lines.specs.declared.lines.LineRefusal.{LineRefusal}
-use Rattle.yt_lines.specs.declared.lines.LineRefusal.TheVariants as lines
-use Rattle.yt_machine.specs.Updates.{Settings}
-use Rattle.yt_model.specs.Values.{Fact}
-use Rattle.yt_reader.specs.Answers.{wrong_of}
-use Rattle.yt_reader.specs.declared.faults.ReadFailure.{ReadFailure}
-use Rattle.yt_reader.specs.declared.faults.ReadFailure.TheVariants as reading
-use Rattle.yt_replies.specs.Turns.{Live, Turn}
-use Rattle.yt_session.specs.Base.{Violated, base_violation}
-use Rattle.yt_session.specs.Meanings.{session_of}
+use Rattle.base_types.specs.Meanings.{fact_of}
+use Rattle.cmd_frame.specs.Devices.{Change, Fails, Takes, TakesNothing, TakesSome}
+use Rattle.cmd_frame.specs.declared.statuses.Status.{Status}
+use Rattle.cmd_frame.specs.declared.statuses.Status.TheVariants as statuses
+use Rattle.def_language.specs.Lines.{lines_of, read, IsFirstFault, Spells}
+use Rattle.def_language.specs.Sessions.{SessionData}
+use Rattle.base_devices.specs.Given.{Kept}
+use Rattle.base_devices.specs.declared.lines.LineRefusal.{LineRefusal}
+use Rattle.base_devices.specs.declared.lines.LineRefusal.TheVariants as lines
+use Rattle.def_machine.specs.Updates.{Settings}
+use Rattle.def_chase.specs.Values.{Fact}
+use Rattle.lang_reader.specs.Answers.{wrong_of}
+use Rattle.lang_reader.specs.declared.faults.ReadFailure.{ReadFailure}
+use Rattle.lang_reader.specs.declared.faults.ReadFailure.TheVariants as reading
+use Rattle.live_replies.specs.Turns.{Live, Turn}
+use Rattle.lang_session.specs.Base.{Violated, base_violation}
+use Rattle.lang_session.specs.Meanings.{session_of}
 use Rattle.yt_live.specs.Streams.{Ending, GoesOn, Quits, RefusesSession, Violates, Served, Parted, CutsLines, live, served, opened_with, parted, so_far, whole_lines}
 use Rattle.yt_live.specs.declared.ends.LiveEnd.{LiveEnd}
 use Rattle.yt_live.specs.declared.ends.LiveEnd.TheVariants as ends

@@ -1,18 +1,18 @@
 -- What is replied to a stream: a session, and the lines of commands behind it.
 use Rattle.std.specs.Prelude.{◌≡◌, ◌-◌, ℕ, Bool, true, false, List, [], ◌∷◌, ◌++◌, codes, length, take, Option, Some, None, option_map, Result, Ok, Err, if◌then◌else◌}
 use Rattle.std.specs.Fmt.{decimal}
-use Rattle.yt_core.specs.States.{State, updates_at}
-use Rattle.yt_grammar.specs.Faults.{Wrong}
-use Rattle.yt_grammar.specs.Lines.{lines_of, read}
-use Rattle.yt_grammar.specs.Names.{same_name}
-use Rattle.yt_grammar.specs.Sessions.{SessionData}
-use Rattle.yt_grammar.specs.Words.{Word, name, words_at}
-use Rattle.yt_history.specs.Cores.{IsLegalOver}
-use Rattle.yt_lex.specs.declared.LexRefusal.{LexRefusal}
-use Rattle.yt_lines.specs.Given.{HasNoLineFeed}
-use Rattle.yt_machine.specs.Updates.{Settings}
-use Rattle.yt_replies.specs.Turns.{Live, Turn, begun, line_turn}
-use Rattle.yt_session.specs.Base.{Violated, base_violation}
+use Rattle.core_engine.specs.States.{State, updates_at}
+use Rattle.def_language.specs.Faults.{Wrong}
+use Rattle.def_language.specs.Lines.{lines_of, read}
+use Rattle.def_language.specs.Names.{same_name}
+use Rattle.def_language.specs.Sessions.{SessionData}
+use Rattle.def_language.specs.Words.{Word, name, words_at}
+use Rattle.def_history.specs.Cores.{IsLegalOver}
+use Rattle.def_language.specs.declared.tokens.LexRefusal.{LexRefusal}
+use Rattle.base_devices.specs.Given.{HasNoLineFeed}
+use Rattle.def_machine.specs.Updates.{Settings}
+use Rattle.live_replies.specs.Turns.{Live, Turn, begun, line_turn}
+use Rattle.lang_session.specs.Base.{Violated, base_violation}
 
 -- ---- the session at the front
 

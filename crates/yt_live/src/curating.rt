@@ -1,16 +1,16 @@
 //! The top call.
 ghost use Rattle.std.specs.Prelude.{[], map, string_bytes};
-ghost use Rattle.yt_command.specs.Devices.{change};
+ghost use Rattle.cmd_frame.specs.Devices.{change};
 ghost use Rattle.yt_live.specs.Curates.{Curates, default_settings};
 ghost use Rattle.yt_live.specs.Streams.{MakesLegalHistories};
 
 use crate::serving::serve;
 use crate::telling::{refuse_words, tell};
+use base_devices::{Sink, Source};
+use base_limits::Budget;
+use cmd_frame::Status;
+use core_queue::{Deps, Settings};
 use std::alloc::Global;
-use yt_command::Status;
-use yt_limits::Budget;
-use yt_queue::{Deps, Settings};
-use yt_text::{Sink, Source};
 
 /// Serves the stream by the default settings, where there is no word; a word is refused before the source is read. Whatever
 /// bytes the stream has, the events that they lead to form one legal history.

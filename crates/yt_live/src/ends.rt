@@ -3,11 +3,11 @@ ghost use Rattle.std.specs.Prelude.{◌≡◌};
 ghost use Rattle.yt_live.specs.Ends.{of_line_refusal, of_read_failure, status_of};
 ghost use Rattle.yt_live.specs.declared.ends.LiveEnd.TheVariants.{Memory as WantOfMemory};
 
-use yt_base::{Memory, Name, TupleList};
-use yt_command::Status;
-use yt_lines::LineRefusal;
-use yt_reader::{ReadFailure, SessionFault};
-use yt_session::Session;
+use base_devices::LineRefusal;
+use base_types::{Memory, Name, TupleList};
+use cmd_frame::Status;
+use lang_reader::{ReadFailure, SessionFault};
+use lang_session::Session;
 
 /// How a stream of lines ends.
 #[derive(Drop)]

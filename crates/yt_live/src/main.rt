@@ -10,10 +10,10 @@ mod telling;
 use crate::curating::curate;
 use crate::ends::LiveEnd;
 use crate::telling::tell;
+use base_devices::{StdSink, StdSource};
 use std::env;
 use std::io::{self, ErrorKind};
 use std::process::ExitCode;
-use yt_text::{StdSink, StdSource};
 
 // The words after the program's name. Where one of them is not UTF-8 there is one empty word, which is refused as any is.
 fn words(rt: &HostRuntime) -> io::Result<Vec<String>> {

@@ -1,26 +1,25 @@
 //! The session at the front of a stream.
 ghost use Rattle.std.specs.Prelude.{◌≡◌, ◌+◌, ◌≤◌, [], ◌∷◌, ◌++◌, None, codes, length, IfErr, IfOk, IsErrOf, OnOk};
-ghost use Rattle.yt_forms.specs.Views.{words_of};
-ghost use Rattle.yt_grammar.specs.Lines.{Spells};
-ghost use Rattle.yt_grammar.specs.Names.{same_name};
-ghost use Rattle.yt_grammar.specs.Validity.{IsSession};
-ghost use Rattle.yt_session.specs.Base.{base_violation};
-ghost use Rattle.yt_session.specs.Meanings.{session_of};
-ghost use Rattle.yt_text.specs.Faults.{Rose};
+ghost use Rattle.lang_forms.specs.Views.{words_of};
+ghost use Rattle.def_language.specs.Lines.{Spells};
+ghost use Rattle.def_language.specs.Names.{same_name};
+ghost use Rattle.def_language.specs.Validity.{IsSession};
+ghost use Rattle.lang_session.specs.Base.{base_violation};
+ghost use Rattle.lang_session.specs.Meanings.{session_of};
+ghost use Rattle.base_devices.specs.Faults.{Rose};
 ghost use Rattle.yt_live.specs.Ends.{Opens, OpensNothing, RefusesBase, RefusesText};
 ghost use Rattle.yt_live.specs.Streams.{is_end, is_end_alone, last_line};
 ghost use Rattle.yt_live.specs.declared.serving.TheConstants.{INPUT_LIMIT};
 
 use crate::ends::LiveEnd;
+use base_devices::{LineRefusal, Lines, NextLine, Source};
+use base_types::TryCopy;
+use cmd_plain::{Violated, base_violation};
+use lang_forms::{Word, Words};
+use lang_reader::read_session;
+use lang_session::Session;
+use run_serial::base_of;
 use std::alloc::Global;
-use yt_base::TryCopy;
-use yt_commands::{Violated, base_violation};
-use yt_forms::{Word, Words};
-use yt_lines::{LineRefusal, Lines, NextLine};
-use yt_reader::read_session;
-use yt_serial::base_of;
-use yt_session::Session;
-use yt_text::Source;
 
 /// The text of a session, and whether lines may follow it.
 #[derive(Drop)]

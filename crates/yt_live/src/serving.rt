@@ -1,23 +1,22 @@
 //! A stream of lines, served.
 ghost use Rattle.std.specs.Prelude.{◌≡◌, ◌+◌, ◌≤◌, ◌++◌, ◌∷◌, [], codes, length, IfErr, IfOk, OnOk};
 ghost use Rattle.std.specs.Fmt.{decimal};
-ghost use Rattle.yt_command.specs.Devices.{Takes, change};
-ghost use Rattle.yt_grammar.specs.Lines.{read};
-ghost use Rattle.yt_queue.specs.Settings.{settings_of};
-ghost use Rattle.yt_replies.specs.Meanings.{live_of};
-ghost use Rattle.yt_replies.specs.Turns.{line_turn};
+ghost use Rattle.cmd_frame.specs.Devices.{Takes, change};
+ghost use Rattle.def_language.specs.Lines.{read};
+ghost use Rattle.core_queue.specs.Settings.{settings_of};
+ghost use Rattle.live_replies.specs.Meanings.{live_of};
+ghost use Rattle.live_replies.specs.Turns.{line_turn};
 ghost use Rattle.yt_live.specs.Ends.{Ends, EndsAlone, FailsReply, HasReplied, Serves, end_of, of_lines};
 ghost use Rattle.yt_live.specs.Streams.{MakesLegalHistories, attended, opened_with, ready_line, served};
 
 use crate::ends::LiveEnd;
 use crate::openings::{read_opening, session_in};
+use base_devices::{Lines, NextLine, Sink, Source, write_all};
+use base_limits::Budget;
+use base_types::Memory;
+use core_queue::Settings;
+use live_replies::Conversation;
 use std::alloc::Global;
-use yt_base::Memory;
-use yt_limits::Budget;
-use yt_lines::{Lines, NextLine};
-use yt_queue::Settings;
-use yt_replies::Conversation;
-use yt_text::{Sink, Source, write_all};
 
 /// The most bytes that an input may have.
 pub const INPUT_LIMIT: usize = 16_777_216;

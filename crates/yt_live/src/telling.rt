@@ -1,20 +1,20 @@
 //! The lines that tell people how a stream ended.
 ghost use Rattle.std.specs.Prelude.{◌≡◌, IfOk};
-ghost use Rattle.yt_command.specs.Devices.{Tells, change};
-ghost use Rattle.yt_reader.specs.Answers.{wrong_of};
+ghost use Rattle.cmd_frame.specs.Devices.{Tells, change};
+ghost use Rattle.lang_reader.specs.Answers.{wrong_of};
 ghost use Rattle.yt_live.specs.Curates.{IsTold, base_line, fault_line, line_of, usage_line};
-ghost use Rattle.yt_command.specs.declared.statuses.Status.TheVariants.{OutOfMemory, Usage};
+ghost use Rattle.cmd_frame.specs.declared.statuses.Status.TheVariants.{OutOfMemory, Usage};
 ghost use Rattle.yt_live.specs.declared.ends.LiveEnd.TheVariants.{Memory as WantOfMemory};
 
 use crate::ends::LiveEnd;
+use base_devices::{Sink, write_all};
+use base_types::{Memory, Name, TupleList};
+use cmd_frame::Status;
+use lang_print::with_separated;
+use lang_reader::{SessionFault, fault_text};
+use lang_schema::{Page, Schema};
+use lang_session::Session;
 use std::alloc::Global;
-use yt_base::{Memory, Name, TupleList};
-use yt_command::Status;
-use yt_print::with_separated;
-use yt_reader::{SessionFault, fault_text};
-use yt_schema::{Page, Schema};
-use yt_session::Session;
-use yt_text::{Sink, write_all};
 
 // The line of a session's first fault.
 fn fault_line(alloc: Global, fault: &SessionFault) -> Result<Vec<u8>, Memory>

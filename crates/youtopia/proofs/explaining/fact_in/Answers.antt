@@ -1,7 +1,7 @@
 use Rattle.std.proofs.Common.{◌∙◌, Some, ap, sym}
 use Rattle.clap.specs.Words.{Text as Letters}
-use Rattle.yt_reader.specs.Facts.{SpellsFact}
-use Rattle.yt_words.specs.Alike.{text_of}
+use Rattle.lang_reader.specs.Facts.{SpellsFact}
+use Rattle.cmd_words.specs.Alike.{text_of}
 use Rattle.youtopia.proofs.Asking.{lacking}
 use Rattle.youtopia.proofs.explaining.fact_in.Goals as goal
 

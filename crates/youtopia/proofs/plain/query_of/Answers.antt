@@ -1,7 +1,7 @@
 use Rattle.std.proofs.Common.{◌∙◌, Some, ap, sym}
 use Rattle.clap.specs.Words.{Text as Letters}
-use Rattle.yt_ask.specs.Written.{SpellsAsk}
-use Rattle.yt_words.specs.Alike.{text_of}
+use Rattle.run_ask.specs.Written.{SpellsAsk}
+use Rattle.cmd_words.specs.Alike.{text_of}
 use Rattle.youtopia.proofs.Asking.{lacking}
 use Rattle.youtopia.proofs.plain.query_of.Goals as goal
 

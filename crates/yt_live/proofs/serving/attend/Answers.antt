@@ -1,7 +1,7 @@
 -- What is due to the lines is due behind the first reply.
 use Rattle.std.proofs.lemmas.Result.{err_from_is_err_and}
-use Rattle.yt_command.specs.Devices.{change}
-use Rattle.yt_replies.specs.Meanings.{live_of}
+use Rattle.cmd_frame.specs.Devices.{change}
+use Rattle.live_replies.specs.Meanings.{live_of}
 use Rattle.yt_live.specs.Ends.{end_of}
 use Rattle.yt_live.proofs.Texts.{greeted, greets_not}
 use Rattle.yt_live.proofs.serving.attend.Goals as goal

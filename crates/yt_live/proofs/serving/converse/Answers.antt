@@ -1,8 +1,8 @@
 -- Each line is served at the session that those before it left, and whatever ends the conversation ends the whole of it.
 use Rattle.std.proofs.Common.{◌+◌, ◌≤◌, length, refl, sym, ap, ◌∙◌, arith}
 use Rattle.std.proofs.lemmas.Result.{err_from_is_err_and}
-use Rattle.yt_command.specs.Devices.{change}
-use Rattle.yt_replies.specs.Meanings.{live_of}
+use Rattle.cmd_frame.specs.Devices.{change}
+use Rattle.live_replies.specs.Meanings.{live_of}
 use Rattle.yt_live.specs.Ends.{end_of, of_line_refusal}
 use Rattle.yt_live.proofs.Turning.{before_lines, goes_now, less_left, line_in, lost_now, quits_now, rests_now, torn_now}
 use Rattle.yt_live.proofs.serving.converse.Goals as goal

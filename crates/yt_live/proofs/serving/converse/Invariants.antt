@@ -1,6 +1,6 @@
 -- The lines so far asked for no end: the sink took what was told, and what follows is served at the session that they left.
 use Rattle.std.proofs.Common.{◌+◌, ◌≤◌, length}
-use Rattle.yt_replies.specs.Meanings.{live_of}
+use Rattle.live_replies.specs.Meanings.{live_of}
 use Rattle.yt_live.proofs.Turning.{IsServing}
 use Rattle.yt_live.proofs.serving.converse.Given as goal
 

@@ -2,7 +2,7 @@
 use Rattle.std.proofs.Common.{◌++◌, ◌∷◌, [], ℕ, List, subst, ap, ◌∙◌}
 use Rattle.std.specs.Prelude.{IfErr, codes}
 use Rattle.std.specs.Fmt.{decimal}
-use Rattle.yt_command.specs.Devices.{change}
+use Rattle.cmd_frame.specs.Devices.{change}
 use Rattle.yt_live.specs.Ends.{FailsReply}
 use Rattle.yt_live.proofs.serving.greet.Goals as goal
 

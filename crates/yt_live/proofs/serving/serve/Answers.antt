@@ -1,5 +1,5 @@
 -- Whatever the bytes are, their events are a legal history.
-use Rattle.yt_queue.specs.Settings.{settings_of}
+use Rattle.core_queue.specs.Settings.{settings_of}
 use Rattle.yt_live.proofs.Legal.{histories_legal}
 use Rattle.yt_live.proofs.serving.serve.Goals as goal
 

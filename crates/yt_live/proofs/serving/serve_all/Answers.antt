@@ -2,10 +2,10 @@
 use Rattle.std.proofs.Common.{◌+◌, ◌≤◌, ℕ, List, [], length, sym, ap, subst}
 use Rattle.std.specs.Prelude.{OnOk}
 use Rattle.std.proofs.lemmas.Result.{err_from_is_err_and}
-use Rattle.yt_command.specs.Devices.{change}
-use Rattle.yt_grammar.specs.Lines.{read}
-use Rattle.yt_lines.specs.Given.{Kept}
-use Rattle.yt_queue.specs.Settings.{settings_of}
+use Rattle.cmd_frame.specs.Devices.{change}
+use Rattle.def_language.specs.Lines.{read}
+use Rattle.base_devices.specs.Given.{Kept}
+use Rattle.core_queue.specs.Settings.{settings_of}
 use Rattle.yt_live.specs.Ends.{Ends, EndsAlone, end_of, of_lines}
 use Rattle.yt_live.specs.Streams.{opened_with}
 use Rattle.yt_live.specs.declared.serving.TheConstants.{INPUT_LIMIT}

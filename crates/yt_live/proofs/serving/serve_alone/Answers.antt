@@ -1,9 +1,9 @@
 -- The session is refused, or it is told to be ready and nothing follows.
 use Rattle.std.proofs.lemmas.Result.{err_from_is_err_and}
-use Rattle.yt_command.specs.Devices.{change}
-use Rattle.yt_queue.specs.Settings.{settings_of}
-use Rattle.yt_replies.specs.Meanings.{live_of}
-use Rattle.yt_session.specs.Meanings.{session_of}
+use Rattle.cmd_frame.specs.Devices.{change}
+use Rattle.core_queue.specs.Settings.{settings_of}
+use Rattle.live_replies.specs.Meanings.{live_of}
+use Rattle.lang_session.specs.Meanings.{session_of}
 use Rattle.yt_live.specs.declared.ends.LiveEnd.TheVariants as ends
 use Rattle.yt_live.proofs.Texts.{alone_greeted, alone_refused}
 use Rattle.yt_live.proofs.serving.serve_alone.Goals as goal

@@ -1,9 +1,9 @@
 -- The session is refused, or what is served of it is what is served behind its opening.
 use Rattle.std.proofs.lemmas.Result.{err_from_is_err_and}
-use Rattle.yt_command.specs.Devices.{change}
-use Rattle.yt_queue.specs.Settings.{settings_of}
-use Rattle.yt_replies.specs.Meanings.{live_of}
-use Rattle.yt_session.specs.Meanings.{session_of}
+use Rattle.cmd_frame.specs.Devices.{change}
+use Rattle.core_queue.specs.Settings.{settings_of}
+use Rattle.live_replies.specs.Meanings.{live_of}
+use Rattle.lang_session.specs.Meanings.{session_of}
 use Rattle.yt_live.specs.Ends.{end_of}
 use Rattle.yt_live.specs.declared.ends.LiveEnd.TheVariants as ends
 use Rattle.yt_live.proofs.Texts.{attended_so, text_refused}

@@ -1,11 +1,11 @@
 -- The words of the line are written one by one.
 use Rattle.std.proofs.Common.{ap, ◌∙◌}
 use Rattle.std.specs.Prelude.{codes}
-use Rattle.yt_base.specs.Meanings.{fact_of}
-use Rattle.yt_grammar.specs.Grammar.{fact_words, separated}
-use Rattle.yt_grammar.specs.Printing.{written_fact}
-use Rattle.yt_grammar.specs.Words.{colon, name}
-use Rattle.yt_schema.specs.Pages.{Written, with_line_feed, with_word, with_words}
+use Rattle.base_types.specs.Meanings.{fact_of}
+use Rattle.def_language.specs.Grammar.{fact_words, separated}
+use Rattle.def_language.specs.Printing.{written_fact}
+use Rattle.def_language.specs.Words.{colon, name}
+use Rattle.lang_schema.specs.Pages.{Written, with_line_feed, with_word, with_words}
 use Rattle.yt_live.proofs.telling.base_line.Goals as goal
 
 pub returns : goal.returns

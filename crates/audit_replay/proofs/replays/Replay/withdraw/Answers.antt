@@ -1,0 +1,29 @@
+use Rattle.std.proofs.Common.{rules}
+use Rattle.audit_replay.specs.declared.events.Event.TheVariants as events
+use Rattle.audit_replay.proofs.Deciding.{counted, is_there, it_is_within, made_at, not_live, live_there}
+use Rattle.audit_replay.proofs.Done.{nothing_made}
+use Rattle.audit_replay.proofs.Going.{its_numbers}
+use Rattle.audit_replay.proofs.replays.Replay.withdraw.Goals as goal
+
+pub returns-in_default : goal.returns-in_default
+returns-in_default c = record { made = (nothing_made c.args.self.now c.args.update c.in_default.ensures.place).1; err = tt }
+
+pub committed-before-requires : goal.committed-before-requires
+committed-before-requires c = record { from = its_numbers c.args.self.now c.requires.replay c.as_slice-seats.result.now c.as_slice-seats.ensures.value }
+
+pub bounds-seats-place : goal.bounds-seats-place
+bounds-seats-place c = is_there c.args.self.now c.args.update c.in-Some.place c.as_slice-seats.result.now c.as_slice-seats.ensures.value c.in-Some.ensures.place
+
+pub returns-then-not-is_live : goal.returns-then-not-is_live
+returns-then-not-is_live c = record { made = not_live c.args.self.now c.args.update c.in-Some.place c.committed-before.result c.index-seats-place.result c.in-Some.ensures.place c.as_slice-seats.result.now c.as_slice-seats.ensures.value c.index-seats-place.is c.committed-before.ensures.committed c.is_live.result c.is_live.ensures.live (search rules); err = tt }
+
+pub withdraw_at-requires : goal.withdraw_at-requires
+withdraw_at-requires c = record {
+  replay = c.requires.replay;
+  within = it_is_within c.args.self.now c.args.update c.in-Some.place c.committed-before.result c.index-seats-place.result c.in-Some.ensures.place c.as_slice-seats.result.now c.as_slice-seats.ensures.value c.index-seats-place.is c.committed-before.ensures.committed;
+  committed = counted c.args.self.now c.args.update c.in-Some.place c.committed-before.result c.index-seats-place.result c.in-Some.ensures.place c.as_slice-seats.result.now c.as_slice-seats.ensures.value c.index-seats-place.is c.committed-before.ensures.committed;
+  live = live_there c.args.self.now c.args.update c.in-Some.place c.committed-before.result c.index-seats-place.result c.in-Some.ensures.place c.as_slice-seats.result.now c.as_slice-seats.ensures.value c.index-seats-place.is c.committed-before.ensures.committed c.is_live.result c.is_live.ensures.live (search rules);
+}
+
+pub returns : goal.returns
+returns c = record { made = made_at events.Withdraws c.args.self.now c.withdraw_at.new.self c.args.update c.in-Some.place c.in_ok-entry.entry c.in-Some.ensures.place c.in_ok-entry.ensures.made; err = tt }

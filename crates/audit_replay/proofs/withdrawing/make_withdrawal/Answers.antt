@@ -1,0 +1,21 @@
+use Rattle.std.proofs.Common.{arith}
+use Rattle.audit_replay.proofs.Placing.{removal_made}
+use Rattle.audit_replay.proofs.Restarting.{more_above, more_behind, put_with, set_long}
+use Rattle.audit_replay.proofs.withdrawing.make_withdrawal.Goals as goal
+
+pub restart_named-requires : goal.restart_named-requires
+restart_named-requires c =
+    let rs = c.args.seats.now in
+    let k = c.args.place in
+    let r = c.index-seats-place.result in
+    let v = c.withdraw.new.self in
+    let long = set_long rs k v in
+    record {
+      place = omega (arith, long, c.requires.within);
+      numbers = put_with rs k r v c.requires.numbers c.requires.within c.index-seats-place.is c.withdraw.ensures.place;
+      more = more_behind rs k r v c.requires.within c.index-seats-place.is (more_above rs k c.requires.more);
+    }
+
+pub returns-clause-made : goal.returns-clause-made
+returns-clause-made c =
+    removal_made c.args.seats.now c.restart_named.new.seats c.args.place c.index-seats-place.result c.withdraw.new.self c.args.causes.now.items c.requires.within c.index-seats-place.is c.withdraw.ensures.withdrawn c.in_ok-restart_named.ensures.restarted

@@ -1,0 +1,57 @@
+//! Deliveries of recorded answers, and answers by people, at a place among the seats.
+ghost use Rattle.std.specs.Prelude.{◌<◌, length, IfOk, OnOk, OnErr};
+ghost use Rattle.base_types.specs.Meanings.{choice_of};
+ghost use Rattle.audit_updates.specs.Seatings.{AreFrom};
+ghost use Rattle.audit_updates.specs.Settings.{settings_of};
+ghost use Rattle.audit_replay.specs.Steps.{IsAnswered, IsDelivered};
+
+use crate::places::standing_at;
+use audit_updates::{Seat, Settings};
+use base_types::{Choice, Memory, TryCopy};
+use core_entries::Entry;
+use std::alloc::Global;
+
+/// Delivers the first recorded answer to the update at the place, and gives the entry. It is refused only for want of memory.
+pub(crate) fn deliver_to(
+    seats: &mut [Seat],
+    settings: Settings,
+    place: usize,
+) -> Result<Entry, Memory>
+    requires within { place < length seats.old }
+    requires numbers { AreFrom 1 seats.old }
+    ensures delivered { IfOk result
+        (IsDelivered (settings_of settings) place seats.old seats.new) }
+    ensures numbers { OnOk result (AreFrom 1 seats.new) }
+    ensures err { OnErr result (AreFrom 1 seats.new) }
+{
+    seats[place].deliver()?;
+    let update = seats[place].number();
+    let standing = standing_at(seats, settings, place);
+    Ok(Entry::Delivered { update, standing })
+}
+
+/// Answers the question of the update at the place, and gives the entry. It is refused only for want of memory.
+pub(crate) fn answer_to(
+    alloc: Global,
+    seats: &mut [Seat],
+    settings: Settings,
+    place: usize,
+    choice: Choice,
+) -> Result<Entry, Memory>
+    requires within { place < length seats.old }
+    requires numbers { AreFrom 1 seats.old }
+    ensures answered { IfOk result
+        (IsAnswered (settings_of settings) place (choice_of choice) seats.old seats.new) }
+    ensures numbers { OnOk result (AreFrom 1 seats.new) }
+    ensures err { OnErr result (AreFrom 1 seats.new) }
+{
+    let copy = choice.copy(alloc)?;
+    seats[place].answer(alloc, copy)?;
+    let update = seats[place].number();
+    let standing = standing_at(seats, settings, place);
+    Ok(Entry::Answered {
+        update,
+        choice,
+        standing,
+    })
+}

@@ -1,0 +1,160 @@
+//! The updates that are in conflict with the writes of a step.
+ghost use Rattle.std.specs.Prelude.{◌≡◌, ◌≤◌, ◌++◌, drop, length, option_to_list, IfOk, OnOk};
+ghost use Rattle.std.specs.Option.{option_map};
+ghost use Rattle.base_types.specs.Contents.{rules_in};
+ghost use Rattle.core_entries.specs.Meanings.{cause_of};
+ghost use Rattle.chase_query.specs.Meanings.{reads_in};
+ghost use Rattle.audit_replay.specs.Causes.{AreMetConflicts, AreUnmet, IsMetConflict, conflict_meant, may_conflict as may_conflict_lem};
+ghost use Rattle.audit_replay.specs.Changes.{any_met as any_met_lem, change_meant};
+ghost use Rattle.audit_replay.specs.Levels.{RisesFrom, top};
+ghost use Rattle.audit_replay.specs.Places.{AreBetween};
+
+use crate::changes::{Change, changed_read};
+use crate::levels::Levels;
+use crate::relations::is_any_met;
+use audit_updates::Seat;
+use base_types::{MappingList, Memory};
+use chase_query::Logged;
+use core_entries::{Cause, CauseList};
+use std::alloc::Global;
+
+/// What an event finds: the mappings, and how many updates were committed when it began.
+#[derive(Clone, Copy)]
+pub(crate) struct Scene<'a> {
+    pub(crate) mappings: &'a MappingList,
+    pub(crate) committed: u32,
+}
+
+/// The conflicts of the updates with what the writer wrote just now, of these relations. The uppermost level lies below the
+/// first of them, with the writes; it does so at the end. It is refused only for want of memory.
+pub(crate) fn conflicts(
+    alloc: Global,
+    levels: &mut Levels,
+    upper: &[Seat],
+    scene: Scene<'_>,
+    writer: u32,
+    relations: &[u16],
+) -> Result<CauseList, Memory>
+    requires between { AreBetween upper.now }
+    ensures causes { IfOk result (λ causes. AreMetConflicts (rules_in scene.entry.mappings.now)
+        scene.entry.committed writer relations.now (top levels.old) upper.now causes.items) }
+    ensures levels { OnOk result (levels.new ≡ levels.old) }
+{
+    let height = levels.height();
+    let reach = reach(upper, scene, relations);
+    let causes = conflicts_above(alloc, levels, &upper[..reach], scene, writer, relations)?;
+    levels.sink_to(height)?;
+    Ok(causes)
+}
+
+// The conflicts of the updates, of each of which the trail is put above the others.
+fn conflicts_above(
+    alloc: Global,
+    levels: &mut Levels,
+    upper: &[Seat],
+    scene: Scene<'_>,
+    writer: u32,
+    relations: &[u16],
+) -> Result<CauseList, Memory>
+    requires between { AreBetween upper.now }
+    ensures causes { IfOk result (λ causes. AreMetConflicts (rules_in scene.entry.mappings.now)
+        scene.entry.committed writer relations.now (top levels.old) upper.now causes.items) }
+    ensures levels { OnOk result (RisesFrom levels.old levels.new) }
+{
+    let mut causes = CauseList::new(alloc);
+    'seats: for seat in upper {
+        let found = conflict_of(alloc, levels, seat, scene, writer, relations)?;
+        put(&mut causes, found)?;
+        levels.rise(alloc, seat.trail())?;
+    }
+    Ok(causes)
+}
+
+/// Puts the cause behind the others, if there is one. It is refused only for want of memory.
+pub(crate) fn put(causes: &mut CauseList, found: Option<Cause>) -> Result<(), Memory>
+    ensures put { OnOk result (causes.new.items ≡ causes.old.items ++ option_to_list found) }
+{
+    if let Some(cause) = found {
+        causes.push(cause)?;
+        return Ok(());
+    }
+    Ok(())
+}
+
+// The conflict of the update with what the writer wrote, if there is one, where the uppermost level lies below it.
+fn conflict_of(
+    alloc: Global,
+    levels: &Levels,
+    seat: &Seat,
+    scene: Scene<'_>,
+    writer: u32,
+    relations: &[u16],
+) -> Result<Option<Cause>, Memory>
+    ensures cause { IfOk result (IsMetConflict (rules_in scene.entry.mappings.now)
+        scene.entry.committed writer relations.now (top levels.now) seat.now) }
+{
+    let reader = seat.number();
+    if !seat.is_live(scene.committed, reader) {
+        return Ok(None);
+    }
+    let below = levels.facts();
+    let change = changed_read(alloc, seat, scene.mappings, below, relations)?;
+    let cause = conflict_by(reader, writer, change);
+    Ok(cause)
+}
+
+// The conflict by the read that has another value, if there is one.
+fn conflict_by(reader: u32, writer: u32, change: Option<Change>) -> Option<Cause>
+    ensures conflict { option_map cause_of result ≡
+        option_map (conflict_meant writer reader) (option_map change_meant change) }
+{
+    match change {
+        Some(change) => {
+            let Change { number, read, now } = change;
+            Some(Cause::Conflict {
+                reader,
+                read: number,
+                writer,
+                old: read.answer,
+                new: now,
+            })
+        }
+        None => None,
+    }
+}
+
+// How many of the updates stand up to the last one that may be in conflict.
+fn reach(upper: &[Seat], scene: Scene<'_>, relations: &[u16]) -> usize
+    ensures within { result ≤ length upper.now }
+    ensures none { AreUnmet (rules_in scene.entry.mappings.now) scene.entry.committed relations.now
+        (drop result upper.now) }
+{
+    let mut reach = 0;
+    let mut place = 0;
+    'seats: for seat in upper {
+        place += 1;
+        if !may_conflict(seat, scene, relations) {
+            continue;
+        }
+        reach = place;
+    }
+    reach
+}
+
+// Whether the update is live, and a read of it mentions one of the relations.
+fn may_conflict(seat: &Seat, scene: Scene<'_>, relations: &[u16]) -> bool
+    ensures met { result ≡ may_conflict_lem (rules_in scene.entry.mappings.now)
+        scene.entry.committed relations.now seat.now }
+{
+    let live = seat.is_live(scene.committed, seat.number());
+    let met = any_met(seat.log.as_slice(), scene.mappings, relations);
+    live && met
+}
+
+// Whether one of the reads mentions one of the relations.
+fn any_met(log: &[Logged], mappings: &MappingList, relations: &[u16]) -> bool
+    ensures met { result ≡ any_met_lem (rules_in mappings.now) relations.now (reads_in log.now) }
+{
+    log.iter()
+        .any(|entry| is_any_met(entry, mappings, relations))
+}

@@ -1,0 +1,14 @@
+//! What may happen in a history.
+
+use base_types::Choice;
+
+/// What may happen: the next update handed in is admitted, the update of this number makes a step, its first recorded answer
+/// is delivered, a person answers its question, or it is withdrawn.
+#[derive(Debug, Drop)]
+pub enum Event {
+    Admits,
+    Steps(u32),
+    Delivers(u32),
+    Answers(u32, Choice),
+    Withdraws(u32),
+}

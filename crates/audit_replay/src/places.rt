@@ -1,0 +1,71 @@
+//! Where the levels of a replay stand among its updates, and what the update at a place may do next.
+ghost use Rattle.std.specs.Prelude.{◌≡◌, ◌≤◌, ◌<◌, ◌+◌, drop, length, suc, OnOk};
+ghost use Rattle.audit_updates.specs.Seatings.{AreFrom};
+ghost use Rattle.audit_updates.specs.Settings.{settings_of};
+ghost use Rattle.audit_replay.specs.Places.{AreBetween, HaveCome, HaveRisen, StandStill};
+ghost use Rattle.audit_replay.specs.Replays.{HasStandingAt};
+
+use crate::levels::Levels;
+use audit_updates::{Seat, Settings, committed};
+use base_types::Memory;
+use core_entries::Standing;
+use std::alloc::Global;
+
+/// Goes to where the uppermost level lies below the update at the place. It is refused only for want of memory.
+pub(crate) fn go_to(
+    alloc: Global,
+    levels: &mut Levels,
+    seats: &[Seat],
+    place: usize,
+) -> Result<(), Memory>
+    requires within { place ≤ length seats.now }
+    requires between { AreBetween seats.now }
+    ensures there { OnOk result (HaveCome place seats.now levels.old levels.new) }
+{
+    sink_below(levels, place)?;
+    rise_to(alloc, levels, seats, place)?;
+    Ok(())
+}
+
+// Sinks until no more than so many levels are left above the lowest. It is refused only for want of memory.
+fn sink_below(levels: &mut Levels, place: usize) -> Result<(), Memory>
+    ensures stand { OnOk result (StandStill levels.old levels.new) }
+    ensures most { OnOk result (length levels.new ≤ place + 1) }
+{
+    'down: while levels.height() > place {
+        levels.sink()?;
+    }
+    Ok(())
+}
+
+// Rises until so many levels are there above the lowest. It is refused only for want of memory.
+fn rise_to(alloc: Global, levels: &mut Levels, seats: &[Seat], place: usize) -> Result<(), Memory>
+    requires within { place ≤ length seats.now }
+    requires between { AreBetween seats.now }
+    requires most { length levels.old ≤ place + 1 }
+    ensures there { OnOk result (HaveRisen place seats.now levels.old levels.new) }
+{
+    'up: while levels.height() < place {
+        let next = levels.height();
+        levels.rise(alloc, seats[next].trail())?;
+    }
+    Ok(())
+}
+
+/// What the update at the place may do next. It takes no memory.
+pub(crate) fn standing_at(seats: &[Seat], settings: Settings, place: usize) -> Standing
+    requires within { place < length seats.now }
+    requires numbers { AreFrom 1 seats.now }
+    ensures standing { HasStandingAt (settings_of settings) seats.now place result }
+{
+    let seat = &seats[place];
+    seat.standing(settings, committed(seats), seat.number())
+}
+
+/// The updates above the one at the place. It takes no memory.
+pub(crate) fn above(seats: &[Seat], place: usize) -> &[Seat]
+    requires within { place < length seats.now }
+    ensures above { result.now ≡ drop (suc place) seats.now }
+{
+    &seats[place + 1..]
+}

@@ -1,0 +1,75 @@
+//! A replay, and what it tells.
+ghost use Rattle.std.specs.Prelude.{◌≡◌, IfOk, OnErr};
+ghost use Rattle.audit_replay.specs.Replays.{HasMade, HasCount, IsLeftOf, IsQuietReplay, IsReplay, IsWholeReplay, place_in};
+
+use crate::events::Event;
+use crate::levels::Levels;
+use audit_updates::{Seat, Settings, is_quiet};
+use base_limits::{Budget, Mappings};
+use base_types::Memory;
+use core_entries::Entry;
+use lang_session::SessionUpdate;
+use std::alloc::Global;
+
+/// A history of a session as far as it was replayed: the mappings, the budget of an attempt, the settings, the updates handed
+/// in, those admitted with their present attempts, and the base with the trails of the lowest of them.
+#[derive(Drop)]
+pub struct Replay<'s> {
+    pub mappings: Mappings<'s>,
+    pub budget: Budget,
+    pub settings: Settings,
+    pub handed: &'s [SessionUpdate],
+    pub seats: Vec<Seat>,
+    pub levels: Levels,
+}
+
+impl<'s> Replay<'s> {
+    /// How many updates are admitted. It takes no memory.
+    pub fn count(&self) -> usize
+        ensures count { HasCount self.now result }
+    {
+        self.seats.len()
+    }
+
+    /// Whether all updates that were handed in are admitted. It takes no memory.
+    pub fn is_whole(&self) -> bool
+        ensures whole { IsWholeReplay self.now result }
+    {
+        self.seats.len() == self.handed.len()
+    }
+
+    /// Whether nothing is ready, and nothing is deliverable. It takes no memory.
+    pub fn is_quiet(&self) -> bool
+        requires replay { IsReplay self.now }
+        ensures quiet { IsQuietReplay self.now result }
+    {
+        is_quiet(self.seats.as_slice(), self.settings)
+    }
+
+    /// What the event does, and its entry; None exactly where it is not allowed, and then nothing is done. It is refused only
+    /// for want of memory; the replay is then one to be let go, of the same session, with its updates at their places.
+    pub fn make(&mut self, alloc: Global, event: Event) -> Result<Option<Entry>, Memory>
+        requires replay { IsReplay self.old }
+        ensures made { IfOk result (HasMade event self.old self.new) }
+        ensures err { OnErr result (IsLeftOf self.old self.new) }
+    {
+        match event {
+            Event::Admits => self.admit(alloc),
+            Event::Steps(update) => self.step(alloc, update),
+            Event::Delivers(update) => self.deliver(update),
+            Event::Answers(update, choice) => self.answer(alloc, update, choice),
+            Event::Withdraws(update) => self.withdraw(alloc, update),
+        }
+    }
+
+    // The place of the update of this number, where there is one.
+    pub(crate) fn place_of(&self, update: u32) -> Option<usize>
+        ensures place { result ≡ place_in self.now.seats.items update }
+    {
+        if 0 < update && update as usize <= self.seats.len() {
+            Some(update as usize - 1)
+        } else {
+            None
+        }
+    }
+}

@@ -1,0 +1,314 @@
+//! Steps.
+ghost use Rattle.std.specs.Prelude.{◌≡◌, ◌<◌, ◌≤◌, drop, map, length, suc, IfOk, OnOk, OnErr};
+ghost use Rattle.base_types.specs.Contents.{rules_in};
+ghost use Rattle.base_types.specs.Meanings.{change_of};
+ghost use Rattle.audit_updates.specs.Programs.{HasWritten, IsBetween, IsPlanOf};
+ghost use Rattle.audit_updates.specs.Seatings.{AreFrom};
+ghost use Rattle.audit_updates.specs.Settings.{deps_of, settings_of};
+ghost use Rattle.audit_updates.specs.Walks.{HasCommitted};
+ghost use Rattle.audit_replay.specs.declared.events.Event.TheVariants as events;
+ghost use Rattle.audit_replay.specs.Levels.{top};
+ghost use Rattle.audit_replay.specs.Places.{AreBetween};
+ghost use Rattle.audit_replay.specs.Restarts.{AllHaveOneMore};
+ghost use Rattle.audit_replay.specs.Replays.{HasMade, HasMadeAt, IsLeftOf, IsReplay};
+ghost use Rattle.audit_replay.specs.Steps.{AreOfStep, AtPlace, IsPlanSomewhere, IsReadyOf, IsReadySomewhere, IsStepMade, TellsStep};
+ghost use Rattle.audit_replay.specs.Prepared.{IsInstalled, IsPreparedFor};
+
+use crate::causes::{causes_of_loss, causes_of_writes};
+use crate::conflicts::Scene;
+use crate::levels::Levels;
+use crate::places::{above, go_to, standing_at};
+use crate::replays::Replay;
+use crate::restarts::restart_named;
+use audit_updates::{Deps, Seat, Settings, committed, has_spent, shown};
+use base_limits::{Budget, Mappings};
+use base_types::{Memory, TryCopy, Write, WriteList};
+use chase_eval::Settled;
+use chase_plan::{Plan, plan_step};
+use core_entries::{CauseList, Entry};
+use set_facts::{IndexedFacts, Overlay};
+use std::alloc::Global;
+
+impl<'s> Replay<'s> {
+    // Makes the next step of the update, where it is ready.
+    pub(crate) fn step(&mut self, alloc: Global, update: u32) -> Result<Option<Entry>, Memory>
+        requires replay { IsReplay self.old }
+        ensures made { IfOk result (HasMade (events.Steps update) self.old self.new) }
+        ensures err { OnErr result (IsLeftOf self.old self.new) }
+    {
+        let Some(place) = self.place_of(update) else {
+            return Ok(None);
+        };
+        let seats = self.seats.as_slice();
+        let before = committed(seats);
+        if !seats[place].is_ready(self.settings, before, update) {
+            return Ok(None);
+        }
+        let entry = self.step_at(alloc, place, before)?;
+        Ok(Some(entry))
+    }
+
+    // Makes the next step of the update at the place, which is ready, where so many updates are committed.
+    fn step_at(&mut self, alloc: Global, place: usize, before: u32) -> Result<Entry, Memory>
+        requires replay { IsReplay self.old }
+        requires within { place < length self.old.seats.items }
+        requires committed { HasCommitted self.old.seats.items before }
+        requires ready { AtPlace place self.old.seats.items
+            (IsReadyOf (settings_of self.old.settings) before (suc place)) }
+        ensures made { IfOk result (HasMadeAt events.Steps place self.old self.new) }
+        ensures err { OnErr result (IsLeftOf self.old self.new) }
+    {
+        let settings = self.settings;
+        let mappings = &self.mappings;
+        let budget = self.budget;
+        let seats = self.seats.as_slice();
+        go_to(alloc, &mut self.levels, seats, place)?;
+        let levels = &mut self.levels;
+        let deps = settings.deps;
+        let prepared = prepare(alloc, levels, seats, place, mappings, budget, deps, before)?;
+        let entry = install(alloc, self.seats.as_mut_slice(), settings, place, prepared)?;
+        Ok(entry)
+    }
+}
+
+/// A step that is to be made: its plan, the attempt that makes it, the writes that it shows, and why others are restarted.
+#[derive(Drop)]
+pub(crate) struct Prepared {
+    pub(crate) plan: Plan,
+    pub(crate) attempt: u32,
+    pub(crate) writes: WriteList,
+    pub(crate) causes: CauseList,
+}
+
+// The next step of the update at the place, which is ready and below which the uppermost level lies. It is refused only for
+// want of memory.
+fn prepare(
+    alloc: Global,
+    levels: &mut Levels,
+    seats: &[Seat],
+    place: usize,
+    mappings: &Mappings<'_>,
+    budget: Budget,
+    deps: Deps,
+    before: u32,
+) -> Result<Prepared, Memory>
+    requires within { place < length seats.now }
+    requires numbers { AreFrom 1 seats.now }
+    requires ready { AtPlace place seats.now IsReadySomewhere }
+    requires left { AtPlace place seats.now (λ r. r.program.attempt.steps < budget) }
+    ensures prepared { IfOk result (λ prepared. AtPlace place seats.now (λ r. IsPreparedFor
+        mappings.now budget (deps_of deps) before r (top levels.old) (drop (suc place) seats.now)
+        prepared)) }
+    ensures levels { OnOk result (levels.new ≡ levels.old) }
+{
+    let seat = &seats[place];
+    let upper = above(seats, place);
+    let plan = planned(alloc, mappings, budget, levels.facts(), seat)?;
+    let scene = Scene {
+        mappings: mappings.list(),
+        committed: before,
+    };
+    match told_of_step(alloc, levels, seat, upper, scene, deps, &plan) {
+        Ok((writes, causes)) => Ok(Prepared {
+            plan,
+            attempt: seat.program.attempt(),
+            writes,
+            causes,
+        }),
+        Err(memory) => {
+            drop(plan);
+            Err(memory)
+        }
+    }
+}
+
+// The writes that the step of the plan shows, and why it restarts others, where the uppermost level lies below the update. It
+// is refused only for want of memory.
+fn told_of_step(
+    alloc: Global,
+    levels: &mut Levels,
+    seat: &Seat,
+    upper: &[Seat],
+    scene: Scene<'_>,
+    deps: Deps,
+    plan: &Plan,
+) -> Result<(WriteList, CauseList), Memory>
+    requires between { IsBetween seat.now.program }
+    requires planned { IsBetween plan.now.program }
+    requires above { AreBetween upper.now }
+    ensures writes { IfOk result (λ told. HasWritten seat.now plan.now told.0.items) }
+    ensures causes { IfOk result (λ told. AreOfStep (rules_in scene.entry.mappings.now)
+        (deps_of deps) scene.entry.committed seat.now plan.now (top levels.old) upper.now
+        told.1.items) }
+    ensures levels { OnOk result (levels.new ≡ levels.old) }
+{
+    let writes = copies(alloc, seat.written(plan))?;
+    let causes = causes_of_step(alloc, levels, seat, upper, scene, deps, plan)?;
+    Ok((writes, causes))
+}
+
+// Makes the step at the place, and gives its entry. It is refused only for want of memory.
+fn install(
+    alloc: Global,
+    seats: &mut [Seat],
+    settings: Settings,
+    place: usize,
+    prepared: Prepared,
+) -> Result<Entry, Memory>
+    requires within { place < length seats.old }
+    requires numbers { AreFrom 1 seats.old }
+    requires more { AllHaveOneMore seats.old }
+    requires planned { AtPlace place seats.old (IsPlanSomewhere prepared.plan) }
+    ensures made { IfOk result
+        (IsInstalled (settings_of settings) place prepared seats.old seats.new) }
+    ensures numbers { OnOk result (AreFrom 1 seats.new) }
+    ensures err { OnErr result (AreFrom 1 seats.new) }
+{
+    let Prepared {
+        plan,
+        attempt,
+        writes,
+        causes,
+    } = prepared;
+    make_step(alloc, seats, place, plan, &causes)?;
+    let entry = step_entry(seats, settings, place, attempt, writes, causes);
+    Ok(entry)
+}
+
+// The next step of the update, which is ready, over the facts below it. It is refused only for want of memory.
+fn planned(
+    alloc: Global,
+    mappings: &Mappings<'_>,
+    budget: Budget,
+    facts: &IndexedFacts,
+    seat: &Seat,
+) -> Result<Plan, Memory>
+    requires between { IsBetween seat.now.program }
+    requires ready { IsReadySomewhere seat.now }
+    requires left { seat.now.program.attempt.steps < budget }
+    ensures planned { IfOk result (IsPlanOf mappings.now budget facts.now seat.now) }
+{
+    let mut with = Overlay::new(alloc, facts);
+    planned_over(alloc, mappings, budget, facts, &mut with, seat)
+}
+
+// The next step of the update, which is ready, over the facts below it, where its own writes are made in an overlay of them. It
+// is refused only for want of memory; the overlay is then one to be let go.
+fn planned_over<'f>(
+    alloc: Global,
+    mappings: &Mappings<'_>,
+    budget: Budget,
+    facts: &'f IndexedFacts,
+    with: &mut Overlay<'f, IndexedFacts>,
+    seat: &Seat,
+) -> Result<Plan, Memory>
+    requires between { IsBetween seat.now.program }
+    requires ready { IsReadySomewhere seat.now }
+    requires left { seat.now.program.attempt.steps < budget }
+    requires with { with.old ≡ facts.now }
+    ensures planned { IfOk result (IsPlanOf mappings.now budget facts.now seat.now) }
+{
+    with.write_all(alloc, seat.program.own().as_slice())?;
+    let mut settled = Settled::none(alloc, mappings.list().len())?;
+    let answer = seat.next_answer();
+    let program = &seat.program;
+    let below = Overlay::new(alloc, facts);
+    let branch = program.copy(alloc)?;
+    plan_step(
+        alloc,
+        program,
+        branch,
+        answer,
+        mappings,
+        budget,
+        &below,
+        with,
+        &mut settled,
+    )
+}
+
+// Why the step of the plan restarts others, where the uppermost level lies below the update. It is refused only for want of
+// memory.
+fn causes_of_step(
+    alloc: Global,
+    levels: &mut Levels,
+    seat: &Seat,
+    upper: &[Seat],
+    scene: Scene<'_>,
+    deps: Deps,
+    plan: &Plan,
+) -> Result<CauseList, Memory>
+    requires between { IsBetween seat.now.program }
+    requires planned { IsBetween plan.now.program }
+    requires above { AreBetween upper.now }
+    ensures causes { IfOk result (λ causes. AreOfStep (rules_in scene.entry.mappings.now)
+        (deps_of deps) scene.entry.committed seat.now plan.now (top levels.old) upper.now
+        causes.items) }
+    ensures levels { OnOk result (levels.new ≡ levels.old) }
+{
+    let number = seat.number();
+    if has_spent(&plan.program) {
+        let trail = seat.trail();
+        let causes = causes_of_loss(alloc, levels, upper, scene, deps, number, trail)?;
+        return Ok(causes);
+    }
+    let trail = shown(&plan.program);
+    let writes = seat.written(plan);
+    let causes = causes_of_writes(alloc, levels, upper, scene, deps, number, trail, writes)?;
+    Ok(causes)
+}
+
+// Makes the step of the plan at the place, which restarts others for these causes. It is refused only for want of memory.
+fn make_step(
+    alloc: Global,
+    seats: &mut [Seat],
+    place: usize,
+    plan: Plan,
+    causes: &CauseList,
+) -> Result<(), Memory>
+    requires within { place < length seats.old }
+    requires numbers { AreFrom 1 seats.old }
+    requires more { AllHaveOneMore seats.old }
+    requires planned { AtPlace place seats.old (IsPlanSomewhere plan) }
+    ensures made { OnOk result (IsStepMade place plan causes.now.items seats.old seats.new) }
+    ensures numbers { OnOk result (AreFrom 1 seats.new) }
+    ensures err { OnErr result (AreFrom 1 seats.new) }
+{
+    seats[place].step(plan)?;
+    restart_named(alloc, seats, place + 1, causes)?;
+    Ok(())
+}
+
+// The entry of a step of the update at the place, by this attempt, with these writes and causes.
+fn step_entry(
+    seats: &[Seat],
+    settings: Settings,
+    place: usize,
+    attempt: u32,
+    writes: WriteList,
+    causes: CauseList,
+) -> Entry
+    requires within { place < length seats.now }
+    requires numbers { AreFrom 1 seats.now }
+    ensures told { TellsStep (settings_of settings) place attempt writes causes seats.now result }
+{
+    Entry::Stepped {
+        update: seats[place].number(),
+        attempt,
+        standing: standing_at(seats, settings, place),
+        writes,
+        causes,
+        committed: committed(seats),
+    }
+}
+
+// Copies of the writes. It is refused only for want of memory.
+fn copies(alloc: Global, writes: &[Write]) -> Result<WriteList, Memory>
+    ensures same { IfOk result (λ copies. map change_of copies.items ≡ map change_of writes.now) }
+{
+    let mut copies = WriteList::new(alloc);
+    for write in writes {
+        copies.push(write.copy(alloc)?)?;
+    }
+    Ok(copies)
+}

@@ -1,0 +1,145 @@
+//! Withdrawals.
+ghost use Rattle.std.specs.Prelude.{◌≡◌, ◌<◌, drop, length, suc, IfOk, OnOk, OnErr};
+ghost use Rattle.base_types.specs.Contents.{rules_in};
+ghost use Rattle.audit_updates.specs.Seatings.{AreFrom};
+ghost use Rattle.audit_updates.specs.Settings.{deps_of};
+ghost use Rattle.audit_updates.specs.Walks.{HasCommitted};
+ghost use Rattle.audit_replay.specs.Causes.{AreOfLoss};
+ghost use Rattle.audit_replay.specs.Levels.{top};
+ghost use Rattle.audit_replay.specs.Places.{trail_of};
+ghost use Rattle.audit_replay.specs.Prepared.{IsWithdrawal};
+ghost use Rattle.audit_replay.specs.declared.events.Event.TheVariants as events;
+ghost use Rattle.audit_replay.specs.Restarts.{AllHaveOneMore};
+ghost use Rattle.audit_replay.specs.Replays.{HasMade, HasMadeAt, IsLeftOf, IsReplay};
+ghost use Rattle.audit_replay.specs.Steps.{AtPlace, IsLiveOf, IsRemoved, TellsWithdrawal};
+
+use crate::causes::causes_of_loss;
+use crate::conflicts::Scene;
+use crate::levels::Levels;
+use crate::places::{above, go_to};
+use crate::replays::Replay;
+use crate::restarts::restart_named;
+use audit_updates::{Deps, Seat, committed};
+use base_types::{MappingList, Memory};
+use core_entries::{CauseList, Entry};
+use std::alloc::Global;
+
+impl<'s> Replay<'s> {
+    // Withdraws the update, where it is neither committed nor withdrawn.
+    pub(crate) fn withdraw(&mut self, alloc: Global, update: u32) -> Result<Option<Entry>, Memory>
+        requires replay { IsReplay self.old }
+        ensures made { IfOk result (HasMade (events.Withdraws update) self.old self.new) }
+        ensures err { OnErr result (IsLeftOf self.old self.new) }
+    {
+        let Some(place) = self.place_of(update) else {
+            return Ok(None);
+        };
+        let seats = self.seats.as_slice();
+        let before = committed(seats);
+        if !seats[place].is_live(before, update) {
+            return Ok(None);
+        }
+        let entry = self.withdraw_at(alloc, place, before)?;
+        Ok(Some(entry))
+    }
+
+    // Withdraws the update at the place, which is live, where so many updates are committed.
+    fn withdraw_at(&mut self, alloc: Global, place: usize, before: u32) -> Result<Entry, Memory>
+        requires replay { IsReplay self.old }
+        requires within { place < length self.old.seats.items }
+        requires committed { HasCommitted self.old.seats.items before }
+        requires live { AtPlace place self.old.seats.items (IsLiveOf before (suc place)) }
+        ensures made { IfOk result (HasMadeAt events.Withdraws place self.old self.new) }
+        ensures err { OnErr result (IsLeftOf self.old self.new) }
+    {
+        let mappings = self.mappings.list();
+        let deps = self.settings.deps;
+        let seats = self.seats.as_slice();
+        go_to(alloc, &mut self.levels, seats, place)?;
+        let levels = &mut self.levels;
+        let causes = prepare(alloc, levels, seats, place, mappings, deps, before)?;
+        let entry = remove(alloc, self.seats.as_mut_slice(), place, causes)?;
+        Ok(entry)
+    }
+}
+
+// Why the withdrawal of the update at the place, below which the uppermost level lies, restarts others. It is refused only
+// for want of memory.
+fn prepare(
+    alloc: Global,
+    levels: &mut Levels,
+    seats: &[Seat],
+    place: usize,
+    mappings: &MappingList,
+    deps: Deps,
+    before: u32,
+) -> Result<CauseList, Memory>
+    requires within { place < length seats.now }
+    requires numbers { AreFrom 1 seats.now }
+    ensures causes { IfOk result (λ causes. AtPlace place seats.now (λ r. AreOfLoss
+        (rules_in mappings.now) (deps_of deps) before (suc place) (trail_of r) (top levels.old)
+        (drop (suc place) seats.now) causes.items)) }
+    ensures levels { OnOk result (levels.new ≡ levels.old) }
+{
+    let seat = &seats[place];
+    let upper = above(seats, place);
+    let scene = Scene {
+        mappings,
+        committed: before,
+    };
+    let number = seat.number();
+    let trail = seat.trail();
+    let causes = causes_of_loss(alloc, levels, upper, scene, deps, number, trail)?;
+    Ok(causes)
+}
+
+// Withdraws the update at the place, and gives the entry. It is refused only for want of memory.
+fn remove(
+    alloc: Global,
+    seats: &mut [Seat],
+    place: usize,
+    causes: CauseList,
+) -> Result<Entry, Memory>
+    requires within { place < length seats.old }
+    requires numbers { AreFrom 1 seats.old }
+    requires more { AllHaveOneMore seats.old }
+    ensures removed { IfOk result (IsWithdrawal place causes seats.old seats.new) }
+    ensures numbers { OnOk result (AreFrom 1 seats.new) }
+    ensures err { OnErr result (AreFrom 1 seats.new) }
+{
+    make_withdrawal(alloc, seats, place, &causes)?;
+    let entry = withdrawal_entry(seats, place, causes);
+    Ok(entry)
+}
+
+// Withdraws the update at the place, which restarts others for these causes. It is refused only for want of memory.
+fn make_withdrawal(
+    alloc: Global,
+    seats: &mut [Seat],
+    place: usize,
+    causes: &CauseList,
+) -> Result<(), Memory>
+    requires within { place < length seats.old }
+    requires numbers { AreFrom 1 seats.old }
+    requires more { AllHaveOneMore seats.old }
+    ensures made { OnOk result (IsRemoved place causes.now.items seats.old seats.new) }
+    ensures numbers { OnOk result (AreFrom 1 seats.new) }
+    ensures err { OnErr result (AreFrom 1 seats.new) }
+{
+    seats[place].withdraw();
+    restart_named(alloc, seats, place + 1, causes)?;
+    Ok(())
+}
+
+// The entry of a withdrawal of the update at the place, with these causes.
+fn withdrawal_entry(seats: &[Seat], place: usize, causes: CauseList) -> Entry
+    requires within { place < length seats.now }
+    requires numbers { AreFrom 1 seats.now }
+    ensures told { TellsWithdrawal place causes seats.now result }
+{
+    Entry::Withdrawn {
+        update: seats[place].number(),
+        causes,
+        committed: committed(seats),
+    }
+}

@@ -1,0 +1,161 @@
+//! What an event does to one seat.
+ghost use Rattle.std.specs.Prelude.{◌≡◌, ◌≤◌, ◌++◌, [], ◌∷◌, length, map, take, IfOk, OnOk, OnErr, IsOk};
+ghost use Rattle.base_types.specs.Meanings.{choice_of};
+ghost use Rattle.audit_updates.specs.Seatings.{StandsAt};
+ghost use Rattle.audit_updates.specs.Events.{IsAdmitted, IsSame, KeepsPlace, KeepsPlaceBy, HasStepped, HasDelivered, HasAnswered, HasWithdrawn};
+
+use crate::seats::Seat;
+use base_types::{Choice, ChoiceList, List, Memory, TryCopy, Update};
+use chase_plan::Plan;
+use chase_query::ReadLog;
+use chase_update::Program;
+use std::alloc::Global;
+use std::collections::VecDeque;
+use std::mem;
+
+impl Seat {
+    /// The update of this number as it is when it is admitted, with these answers recorded for it. It is refused only for
+    /// want of memory.
+    pub fn admit(
+        alloc: Global,
+        update: &Update,
+        number: u32,
+        answers: &ChoiceList,
+    ) -> Result<Seat, Memory>
+        ensures admitted { IfOk result (IsAdmitted number update.now answers.now) }
+        ensures place { IfOk result (StandsAt number) }
+    {
+        let inbox = queued(alloc, answers)?;
+        Ok(Seat {
+            program: Program::start(alloc, update, number, 0)?,
+            log: ReadLog::new(alloc),
+            withdrawn: false,
+            answers: ChoiceList::new(alloc),
+            inbox,
+        })
+    }
+
+    /// Makes the step of the plan: its attempt and its reads are taken over. It is refused only for want of memory; the update is
+    /// then as it was.
+    pub fn step(&mut self, plan: Plan) -> Result<(), Memory>
+        ensures stepped { OnOk result (HasStepped plan self.old self.new) }
+        ensures place { OnOk result (KeepsPlaceBy plan self.old self.new) }
+        ensures err { OnErr result (IsSame self.old self.new) }
+    {
+        match self.log.reserve(plan.reads.len()) {
+            Ok(()) => self.follow(plan),
+            Err(memory) => {
+                drop(plan);
+                Err(memory)
+            }
+        }
+    }
+
+    // Makes the step of the plan, where there is room for its reads.
+    fn follow(&mut self, plan: Plan) -> Result<(), Memory>
+        requires room { length plan.reads.items ≤ self.old.log.spare }
+        ensures ok { IsOk result }
+        ensures stepped { HasStepped plan self.old self.new }
+        ensures place { KeepsPlaceBy plan self.old self.new }
+    {
+        let Plan { program, reads } = plan;
+        renew(&mut self.program, program);
+        take_over(&mut self.log, reads)
+    }
+
+    /// Delivers the first recorded answer, if there is one. It is refused only for want of memory; the update is then as it was.
+    pub fn deliver(&mut self) -> Result<(), Memory>
+        ensures delivered { OnOk result (HasDelivered self.old self.new) }
+        ensures place { OnOk result (KeepsPlace self.old self.new) }
+        ensures err { OnErr result (IsSame self.old self.new) }
+    {
+        self.answers.reserve(1)?;
+        if let Some(choice) = self.inbox.pop_front() {
+            self.answers.push(choice)?;
+            return Ok(());
+        }
+        Ok(())
+    }
+
+    /// Puts the choice where the attempt waits for an answer; answers that were delivered for later questions are
+    /// dropped. It is refused only for want of memory; the update is then as it was.
+    pub fn answer(&mut self, alloc: Global, choice: Choice) -> Result<(), Memory>
+        ensures answered { OnOk result (HasAnswered choice self.old self.new) }
+        ensures place { OnOk result (KeepsPlace self.old self.new) }
+        ensures err { OnErr result (IsSame self.old self.new) }
+    {
+        let taken = self.program.taken() as usize;
+        put_at(alloc, &mut self.answers, taken, choice)?;
+        Ok(())
+    }
+
+    /// Withdraws the update: it loses its trail and its log. It takes no memory.
+    pub fn withdraw(&mut self)
+        ensures withdrawn { HasWithdrawn self.old self.new }
+        ensures place { KeepsPlace self.old self.new }
+    {
+        self.log.clear();
+        self.withdrawn = true;
+    }
+}
+
+// Puts the attempt in the place of another one, which is let go. It takes no memory.
+pub(crate) fn renew(place: &mut Program, fresh: Program)
+    ensures fresh { place.new ≡ fresh }
+{
+    drop(mem::replace(place, fresh));
+}
+
+// Copies of the answers as a queue. It is refused only for want of memory.
+fn queued(alloc: Global, answers: &ChoiceList) -> Result<VecDeque<Choice>, Memory>
+    ensures same { IfOk result (λ queue.
+        map choice_of queue.items ≡ map choice_of answers.now.items) }
+{
+    let mut queue = VecDeque::new(alloc);
+    for answer in answers.as_slice() {
+        queue.push_back(answer.copy(alloc)?)?;
+    }
+    Ok(queue)
+}
+
+// Puts the reads at the end of the log, which has room for them.
+fn take_over(log: &mut ReadLog, reads: ReadLog) -> Result<(), Memory>
+    requires room { length reads.items ≤ log.old.spare }
+    ensures ok { IsOk result }
+    ensures all { log.new.items ≡ log.old.items ++ reads.items }
+{
+    for entry in reads.into_vec() {
+        log.push(entry)?;
+    }
+    Ok(())
+}
+
+// Puts the choice behind so many of the answers, in place of all others. It is refused only for want of memory; the answers
+// are then as they were.
+fn put_at(
+    alloc: Global,
+    answers: &mut ChoiceList,
+    many: usize,
+    choice: Choice,
+) -> Result<(), Memory>
+    ensures put { OnOk result
+        (answers.new.items ≡ take many answers.old.items ++ choice ∷ []) }
+    ensures err { OnErr result (answers.new.items ≡ answers.old.items) }
+{
+    if many < answers.len() {
+        keep(alloc, answers, many + 1);
+        answers.put(many, choice);
+        return Ok(());
+    }
+    answers.push(choice)?;
+    Ok(())
+}
+
+// Drops the answers behind so many.
+fn keep(alloc: Global, answers: &mut ChoiceList, many: usize)
+    ensures first { answers.new.items ≡ take many answers.old.items }
+{
+    let mut items = mem::replace(answers, List::new(alloc)).into_vec();
+    items.truncate(many);
+    *answers = List::from_vec(items);
+}

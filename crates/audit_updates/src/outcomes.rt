@@ -1,0 +1,90 @@
+//! How an attempt between two steps stands: how it ended, what it asks, and which of its writes it shows.
+ghost use Rattle.std.specs.Prelude.{◌≡◌};
+ghost use Rattle.std.specs.Option.{option_map, option_copied};
+ghost use Rattle.chase_question.specs.Inquiries.{inquiry_of};
+ghost use Rattle.chase_update.specs.PointMeanings.{end_of, want_of};
+ghost use Rattle.audit_updates.specs.Programs.{IsBetween, HasAsked, HasEnded, HasSpent, HasShown, end_wished, inquiry_wished, is_spent_end, hides_end};
+
+use base_types::Write;
+use chase_question::Question;
+use chase_update::{Outcome, Program, Want};
+
+/// How the attempt ended, if it did. It takes no memory.
+pub fn outcome(program: &Program) -> Option<Outcome>
+    requires between { IsBetween program.now }
+    ensures ended { HasEnded program.now (option_map end_of result) }
+{
+    outcome_in(program.wants())
+}
+
+/// The question that the attempt is at, if it is at one. It takes no memory.
+pub fn asked(program: &Program) -> Option<&Question>
+    requires between { IsBetween program.now }
+    ensures asked { HasAsked program.now (option_map inquiry_of (option_copied result)) }
+{
+    question_in(program.wants())
+}
+
+/// Whether the attempt ended out of its budget of steps. It takes no memory.
+pub fn has_spent(program: &Program) -> bool
+    requires between { IsBetween program.now }
+    ensures spent { HasSpent program.now result }
+{
+    is_spent(outcome(program))
+}
+
+/// The writes that the attempt shows to others: its own, and none where it ended spent or refused. It takes no memory.
+pub fn shown(program: &Program) -> &[Write]
+    requires between { IsBetween program.now }
+    ensures shown { HasShown program.now result.now }
+{
+    if hides(outcome(program)) {
+        &[]
+    } else {
+        program.own().as_slice()
+    }
+}
+
+// How an attempt ended that wants this.
+fn outcome_in(want: Want<'_>) -> Option<Outcome>
+    ensures ended { option_map end_of result ≡ end_wished (want_of want.entry) }
+{
+    match want {
+        Want::Ended(outcome) => Some(outcome),
+        Want::Read(_) => None,
+        Want::Choice(_) => None,
+        Want::NextStep => None,
+    }
+}
+
+// The question that is asked by an attempt that wants this.
+fn question_in<'a>(want: Want<'a>) -> Option<&'a Question>
+    ensures asked { option_map inquiry_of (option_copied result) ≡
+        inquiry_wished (want_of want.entry) }
+{
+    match want {
+        Want::Choice(question) => Some(question),
+        Want::Read(_) => None,
+        Want::Ended(_) => None,
+        Want::NextStep => None,
+    }
+}
+
+// Whether this is the end of an attempt out of its budget.
+fn is_spent(outcome: Option<Outcome>) -> bool
+    ensures spent { result ≡ is_spent_end (option_map end_of outcome) }
+{
+    matches!(outcome, Some(Outcome::Spent))
+}
+
+// Whether an attempt that ended so, or has not ended, hides its writes.
+fn hides(outcome: Option<Outcome>) -> bool
+    ensures hidden { result ≡ hides_end (option_map end_of outcome) }
+{
+    match outcome {
+        Some(Outcome::Spent) => true,
+        Some(Outcome::Refused { .. }) => true,
+        Some(Outcome::Done) => false,
+        None => false,
+    }
+}

@@ -1,0 +1,52 @@
+//! What is told of a trace.
+ghost use Rattle.std.specs.Prelude.{◌≡◌, IfOk};
+ghost use Rattle.audit_verdict.specs.Verdicts.{verdict_of};
+ghost use Rattle.audit_claims.specs.Verdicts.{verdict_text};
+
+use base_types::Memory;
+use std::alloc::Global;
+
+/// What is wrong with a line, the first of these that is: its form, the event that it tells, or what it tells of its effect.
+#[derive(Clone, Copy, Debug, PartialEq, Eq)]
+pub enum Why {
+    Form,
+    Event,
+    Effect,
+}
+
+/// What is told of a trace: it is the text of a legal history, with so many entries, after which it is quiet or not; or the
+/// first line at fault, counted from 1.
+#[derive(Clone, Copy, Debug, PartialEq, Eq)]
+pub enum Verdict {
+    Yes { entries: u64, quiet: bool },
+    No { line: u64, why: Why },
+}
+
+/// The line that tells the verdict, without its line feed. It is refused only for want of memory.
+pub fn verdict_line(alloc: Global, verdict: Verdict) -> Result<Vec<u8>, Memory>
+    ensures line { IfOk result (λ line. line.items ≡ verdict_text (verdict_of verdict)) }
+{
+    let words = match verdict {
+        Verdict::Yes {
+            entries,
+            quiet: true,
+        } => format!(in alloc; "yes entries {entries} quiet")?,
+        Verdict::Yes {
+            entries,
+            quiet: false,
+        } => format!(in alloc; "yes entries {entries} open")?,
+        Verdict::No {
+            line,
+            why: Why::Form,
+        } => format!(in alloc; "no line {line} form")?,
+        Verdict::No {
+            line,
+            why: Why::Event,
+        } => format!(in alloc; "no line {line} event")?,
+        Verdict::No {
+            line,
+            why: Why::Effect,
+        } => format!(in alloc; "no line {line} effect")?,
+    };
+    Ok(words.into_bytes())
+}

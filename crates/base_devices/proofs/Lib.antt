@@ -1,0 +1,5 @@
+pub mod Pieces
+pub mod Going
+mod Places
+mod Images
+mod Moments

@@ -1,0 +1,10 @@
+pub mod Adapters
+pub mod Faults
+pub mod Reading
+pub mod Writing
+pub mod Given
+pub mod States
+pub mod Torn
+pub mod Logs
+pub mod InMemory
+pub mod Counted

@@ -1,0 +1,181 @@
+//! Ordered maps.
+ghost use Rattle.std.specs.Prelude.{◌≡◌, [], length, IfOk, OnOk, OnErr, IfErr};
+ghost use Rattle.std.specs.Option.{option_copied, is_some};
+ghost use Rattle.std.specs.BTreeMap.{insert_entry};
+ghost use Rattle.base_tree.specs.Orders.{IsOrdered, entry_at, value_at, reached, first_reached, first_sought, without};
+ghost use Rattle.base_tree.specs.Few.{all_shown, no_item, with_first};
+
+use crate::bounds::Bounds;
+use crate::branch::Branch;
+use crate::cursors::Cursor;
+use crate::cuts::Cut;
+use crate::few::Few;
+use crate::searches::{Search, Show, Sought};
+use crate::shares::Share;
+use std::alloc::{AllocError, Global};
+use std::marker::Model;
+
+/// An ordered map. Contracts see the list of its entries, in the order of their keys.
+///
+/// `share` gives another handle at once. Two handles stand for two maps: what is put into one is not in the other. What
+/// both have in common is kept once, and copied only along the way to a change.
+#[derive(Drop)]
+pub struct TreeMap<K: Ord, V> {
+    entries: Branch<K, V>,
+    count: usize,
+}
+
+impl<K: Ord, V> Model for TreeMap<K, V> {
+    ghost use Rattle.std.specs.Prelude.{◌≡◌, List, length};
+
+    ghost Value = { List (K × V) };
+
+    ghost use Rattle.base_tree.specs.Orders.{IsOrdered};
+
+    ghost view = { λ m. m.entries };
+
+    ghost invariant = { λ m. IsOrdered K.cmp m.entries × (length m.entries ≡ m.count) };
+}
+
+impl<K: Ord + Share, V: Share> TreeMap<K, V> {
+    /// The empty map. It takes no memory.
+    pub fn new() -> TreeMap<K, V>
+        ensures empty { result ≡ [] }
+        ensures in_order { IsOrdered K.cmp result }
+    {
+        TreeMap {
+            entries: Branch::new(),
+            count: 0,
+        }
+    }
+
+    /// The map of these entries, made in as many steps as there are. It is refused only for want of memory.
+    pub fn from_sorted(alloc: Global, entries: Vec<(K, V)>) -> Result<TreeMap<K, V>, AllocError>
+        requires in_order { IsOrdered K.cmp entries.items }
+        ensures same { IfOk result (λ map. map ≡ entries.items) }
+    {
+        let count = entries.len();
+        let (_, all) = Branch::of_last(alloc, entries, count)?;
+        Ok(TreeMap {
+            entries: all,
+            count,
+        })
+    }
+
+    /// How many entries there are.
+    pub fn len(&self) -> usize
+        ensures length { result ≡ length self.now }
+    {
+        self.count
+    }
+
+    /// The entry at the key.
+    pub fn get(&self, key: &K) -> Option<&(K, V)>
+        ensures found { option_copied result ≡ entry_at K.cmp key.now self.now }
+        ensures in_order { IsOrdered K.cmp self.now }
+    {
+        self.entries.get(key)
+    }
+
+    /// The entry at the key that is sought.
+    pub fn find_at<S: Sought<K>>(&self, sought: &S) -> Option<&(K, V)>
+        ensures found { option_copied result ≡ entry_at K.cmp (S.key sought.now) self.now }
+        ensures in_order { IsOrdered K.cmp self.now }
+    {
+        self.entries.find_at(sought)
+    }
+
+    /// The first entry behind the cut.
+    pub fn seek<C: Cut<K>>(&self, cut: &C) -> Option<&(K, V)>
+        ensures found { option_copied result ≡ first_reached (C.reaches cut.now) self.now }
+        ensures in_order { IsOrdered K.cmp self.now }
+    {
+        self.entries.seek(cut)
+    }
+
+    /// The first entry that is sought.
+    pub fn find_in<S: Search<K, V>>(&self, search: &S) -> Option<&(K, V)>
+        ensures found { option_copied result ≡
+            first_sought (S.place search.now) (S.passes search.now) self.now }
+        ensures in_order { IsOrdered K.cmp self.now }
+    {
+        self.entries.find_in(search)
+    }
+
+    /// What is shown of the first entries that are sought: of all of them, or of as many as there is room for.
+    pub fn gather<T, S: Search<K, V> + Show<K, V, T>>(&self, search: &S) -> Few<'_, T>
+        ensures first { result ≡ with_first no_item
+            (all_shown S.shown (S.place search.now) (S.passes search.now) self.now) }
+        ensures in_order { IsOrdered K.cmp self.now }
+    {
+        let mut found = Few::new();
+        self.entries.gather(search, Bounds::none(), &mut found);
+        found
+    }
+
+    /// A cursor before the first entry behind the cut.
+    pub fn cursor<C: Cut<K>>(&self, cut: &C) -> Cursor<'_, K, V>
+        ensures rest { result ≡ reached (C.reaches cut.now) self.now }
+        ensures in_order { IsOrdered K.cmp self.now }
+    {
+        let mut cursor = Cursor::new();
+        cursor.place(&self.entries, cut);
+        cursor
+    }
+
+    /// Puts a cursor before the first entry behind the cut. It costs less than another cursor.
+    pub fn place<'a, C: Cut<K>>(&'a self, cursor: &mut Cursor<'a, K, V>, cut: &C)
+        ensures rest { cursor.new ≡ reached (C.reaches cut.now) self.now }
+        ensures in_order { IsOrdered K.cmp self.now }
+    {
+        cursor.place(&self.entries, cut);
+    }
+
+    /// Puts the value at the key, where an equal key stays, and gives the value that was there. For want of memory, or of
+    /// numbers to count more entries, both come back, and the entries are as they were.
+    pub fn put(&mut self, alloc: Global, key: K, value: V) -> Result<Option<V>, (K, V)>
+        ensures ok { OnOk result (self.new ≡ insert_entry K.cmp self.old key value) }
+        ensures before { IfOk result (λ before. before ≡ value_at K.cmp key self.old) }
+        ensures err { OnErr result (self.new ≡ self.old) }
+        ensures given_back { IfErr result (λ e. e ≡ (key, value)) }
+        ensures in_order { IsOrdered K.cmp self.new }
+    {
+        if self.count == usize::MAX {
+            return Err((key, value));
+        }
+        match self.entries.put(alloc, key, value)? {
+            Some(before) => Ok(Some(before)),
+            None => {
+                self.count += 1;
+                Ok(None)
+            }
+        }
+    }
+
+    /// Takes the entry at the key out, and tells whether there was one. For want of memory the entries are as they were.
+    pub fn remove(&mut self, key: &K) -> Result<bool, AllocError>
+        ensures ok { OnOk result (self.new ≡ without K.cmp key.now self.old) }
+        ensures changed { IfOk result (λ b. b ≡ is_some (entry_at K.cmp key.now self.old)) }
+        ensures err { OnErr result (self.new ≡ self.old) }
+        ensures in_order { IsOrdered K.cmp self.new }
+    {
+        let None = self.entries.get(key) else {
+            self.entries.remove(key)?;
+            self.count -= 1;
+            return Ok(true);
+        };
+        Ok(false)
+    }
+}
+
+impl<K: Ord + Share, V: Share> Share for TreeMap<K, V> {
+    /// Another handle to the same entries, in constant time.
+    fn share(&self) -> Result<TreeMap<K, V>, AllocError>
+        ensures same { IfOk result (λ copy. copy ≡ self.now) }
+    {
+        Ok(TreeMap {
+            entries: self.entries.share()?,
+            count: self.count,
+        })
+    }
+}

@@ -1,0 +1,10 @@
+-- What a hasher is fed of a value.
+use Rattle.std.specs.Prelude.{ℕ, List, [], ◌∷◌, ◌++◌}
+use Rattle.std.specs.Hash.{i64, u32}
+use Rattle.def_chase.specs.Values.{Datum, Number, Text, Unknown}
+
+-- A number, the bytes of a word, or of a null what mostly tells it from others: its update and its place.
+abbrev pub fed_of : Datum → List (List ℕ)
+fed_of (Number i) = i64 i
+fed_of (Text w) = w ∷ []
+fed_of (Unknown n) = u32 n.update ++ u32 n.place

@@ -1,0 +1,122 @@
+//! Outer forms: what of a null is told to people, which is its update and its place, and not its attempt.
+ghost use Rattle.std.specs.Prelude.{◌≡◌, ◌↔◌, map, IsTrue, IfOk};
+ghost use Rattle.def_chase.specs.Values.{outer_datum, outer, same_datum, same_fact};
+ghost use Rattle.base_types.specs.Meanings.{datum_of, fact_of};
+
+use crate::copying::TryCopy;
+use crate::lists::List;
+use crate::nulls::Null;
+use crate::tuples::Tuple;
+use crate::values::Value;
+use def_memory::Memory;
+use std::alloc::Global;
+
+impl Value {
+    /// The outer form: the same value, with attempt 0 in a null. It is refused only for want of memory.
+    pub fn outer(&self, alloc: Global) -> Result<Value, Memory>
+        ensures same { IfOk result (λ form. datum_of form ≡ outer_datum (datum_of self.now)) }
+    {
+        match self {
+            Value::Int(number) => Ok(Value::Int(*number)),
+            Value::Word(word) => Ok(Value::Word(word.copy(alloc)?)),
+            Value::Null(null) => Ok(Value::Null(Null {
+                update: null.update,
+                attempt: 0,
+                place: null.place,
+            })),
+        }
+    }
+
+    /// Whether the two have one outer form. It takes no memory.
+    pub fn outer_eq(&self, other: &Value) -> bool
+        ensures answer { result ≡ same_datum (outer_datum (datum_of self.now))
+            (outer_datum (datum_of other.now)) }
+    {
+        match (self, other) {
+            (Value::Null(m), Value::Null(n)) => m.update == n.update && m.place == n.place,
+            (Value::Null(_), Value::Int(_)) => false,
+            (Value::Null(_), Value::Word(_)) => false,
+            (Value::Int(i), Value::Int(j)) => i == j,
+            (Value::Int(_), Value::Word(_)) => false,
+            (Value::Int(_), Value::Null(_)) => false,
+            (Value::Word(_), Value::Int(_)) => false,
+            (Value::Word(v), Value::Word(w)) => v.cmp(w).is_eq(),
+            (Value::Word(_), Value::Null(_)) => false,
+        }
+    }
+}
+
+impl Tuple {
+    /// The outer form: the same tuple, with attempt 0 in each null. It is refused only for want of memory.
+    /// A tuple that is its own outer form is shared.
+    pub fn outer(&self, alloc: Global) -> Result<Tuple, Memory>
+        ensures same { IfOk result (λ form. fact_of form ≡ outer (fact_of self.now)) }
+    {
+        if are_outer(self.values.as_slice()) {
+            let same = self.share()?;
+            return Ok(same);
+        }
+        self.renamed(alloc)
+    }
+
+    // The outer form, with values of its own.
+    fn renamed(&self, alloc: Global) -> Result<Tuple, Memory>
+        ensures same { IfOk result (λ form. fact_of form ≡ outer (fact_of self.now)) }
+    {
+        let mut values = List::new(alloc);
+        values.reserve(self.values.len())?;
+        for value in self.values.as_slice() {
+            values.push(value.outer(alloc)?)?;
+        }
+        Tuple::new(alloc, self.relation, values)
+    }
+
+    /// Whether the two have one outer form. It takes no memory.
+    pub fn outer_eq(&self, other: &Tuple) -> bool
+        ensures answer { result ≡ same_fact (outer (fact_of self.now)) (outer (fact_of other.now)) }
+    {
+        if self.relation != other.relation {
+            return false;
+        }
+        are_outer_eq(self.values.as_slice(), other.values.as_slice())
+    }
+}
+
+// Whether each value is its own outer form.
+fn are_outer(values: &[Value]) -> bool
+    ensures outer { IsTrue result →
+        (map outer_datum (map datum_of values.now) ≡ map datum_of values.now) }
+{
+    for value in values {
+        if !is_outer(value) {
+            return false;
+        }
+    }
+    true
+}
+
+// Whether the value is its own outer form.
+fn is_outer(value: &Value) -> bool
+    ensures outer { IsTrue result → (outer_datum (datum_of value.now) ≡ datum_of value.now) }
+{
+    match value {
+        Value::Null(null) => null.attempt == 0,
+        Value::Int(_) => true,
+        Value::Word(_) => true,
+    }
+}
+
+// Whether there are as many values, each with the outer form of the one in its place.
+fn are_outer_eq(values: &[Value], others: &[Value]) -> bool
+    ensures answer { IsTrue result ↔
+        (map (λ v. outer_datum (datum_of v)) values.now ≡
+        map (λ v. outer_datum (datum_of v)) others.now) }
+{
+    if values.len() != others.len() {
+        return false;
+    }
+    values
+        .iter()
+        .zip(others)
+        .all(|(value, other)| value.outer_eq(other))
+}

@@ -1,0 +1,67 @@
+//! The value of a query over a set in which the own writes stand.
+ghost use Rattle.std.specs.Prelude.{◌≡◌, if◌then◌else◌, IfOk};
+ghost use Rattle.def_chase.specs.Queries.{value, Yes, No};
+ghost use Rattle.def_chase.specs.Repository.{has, apply};
+ghost use Rattle.base_types.specs.Meanings.{fact_of};
+ghost use Rattle.chase_query.specs.Meanings.{query_of, reply_of};
+ghost use Rattle.chase_eval.specs.Counted.{scope_meant};
+ghost use Rattle.chase_eval.specs.Seen.{IsValueWith};
+ghost use Rattle.chase_eval.specs.Watched.{AreForceless};
+ghost use Rattle.base_types.specs.Contents.{changes_of, rules_in};
+
+use crate::occurrences::occurrences;
+use crate::scopes::{Counted, first_image, scope_at};
+use base_types::{Facts, MappingList, Memory, Tuple, WriteList};
+use chase_query::{Answer, Query};
+use chase_unifier::candidates;
+use std::alloc::Global;
+
+/// An update's own writes, and whether one of them may put a mapping in force.
+#[derive(Clone, Copy)]
+pub(crate) struct Writes<'a> {
+    pub(crate) own: &'a WriteList,
+    pub(crate) enacts: bool,
+}
+
+/// The value of the query over the set, where these violations count. The own writes stand in it. It is refused only for
+/// want of memory.
+pub(crate) fn value_over<F: Facts>(
+    alloc: Global,
+    query: &Query,
+    mappings: &MappingList,
+    facts: &F,
+    writes: Writes<'_>,
+    counted: Counted,
+) -> Result<Answer, Memory>
+    requires forceless { AreForceless writes.enacts (changes_of writes.own.now) }
+    ensures value { IfOk result (λ answer. IsValueWith (rules_in mappings.now) (query_of query.now)
+        (F.tuples facts.now) (changes_of writes.entry.own.now) (scope_meant counted) (reply_of answer)) }
+{
+    match query {
+        Query::Present(tuple) => Ok(presence(tuple, facts)),
+        Query::Violation(number) => {
+            let scope = scope_at(counted, writes.own, writes.enacts, *number);
+            first_image(alloc, mappings.get(*number as usize), facts, scope)
+        }
+        Query::Specific(tuple) => {
+            let found = candidates(alloc, tuple, facts)?;
+            Ok(Answer::Tuples(found))
+        }
+        Query::Occurs(update, place) => {
+            let found = occurrences(alloc, *update, *place, facts)?;
+            Ok(Answer::Tuples(found))
+        }
+    }
+}
+
+// Whether the tuple is in the set.
+fn presence<F: Facts>(tuple: &Tuple, facts: &F) -> Answer
+    ensures answer { reply_of result ≡ (if has (F.tuples facts.now)
+        (fact_of tuple.now) then Yes else No) }
+{
+    if facts.contains(tuple) {
+        Answer::Yes
+    } else {
+        Answer::No
+    }
+}

@@ -1,0 +1,41 @@
+//! What answers to queries tell a step.
+ghost use Rattle.std.specs.Prelude.{◌≡◌, map, IfOk};
+ghost use Rattle.base_types.specs.Meanings.{fact_of};
+ghost use Rattle.chase_query.specs.Meanings.{reply_of};
+ghost use Rattle.def_steps.specs.Steps.{is_yes as is_yes_lem, tuples_of as tuples_of_lem};
+
+use base_types::{List, Memory, TryCopy, Tuple, TupleList};
+use chase_query::Answer;
+use std::alloc::Global;
+
+/// Whether the answer is yes.
+pub(crate) fn is_yes(answer: &Answer) -> bool
+    ensures answer { result ≡ is_yes_lem (reply_of answer.now) }
+{
+    matches!(answer, Answer::Yes)
+}
+
+/// The tuples of an answer to `Specific` or `Occurs`; none where it is another.
+pub(crate) fn tuples_of(answer: &Answer) -> &[Tuple]
+    ensures tuples { map fact_of result.now ≡ tuples_of_lem (reply_of answer.now) }
+{
+    match answer {
+        Answer::Tuples(tuples) => tuples.as_slice(),
+        Answer::Yes => &[],
+        Answer::No => &[],
+        Answer::Image(_) => &[],
+        Answer::Nothing => &[],
+    }
+}
+
+/// Copies of the tuples. It is refused only for want of memory.
+pub(crate) fn copies(alloc: Global, tuples: &[Tuple]) -> Result<TupleList, Memory>
+    ensures same { IfOk result (λ copies. map fact_of copies.items ≡ map fact_of tuples.now) }
+{
+    let mut copies = List::new(alloc);
+    copies.reserve(tuples.len())?;
+    for tuple in tuples {
+        copies.push(tuple.copy(alloc)?)?;
+    }
+    Ok(copies)
+}

@@ -1,0 +1,83 @@
+//! The step of an answer `Unify`: the tuples that hold the nulls which move, and their rewriting by the unifier.
+ghost use Rattle.std.specs.Prelude.{◌≡◌, ◌<◌, ◌++◌, false, length, map, IfOk, OnOk, OnErr};
+ghost use Rattle.base_types.specs.Contents.{changes_of, facts_of};
+ghost use Rattle.base_types.specs.Meanings.{fact_of};
+ghost use Rattle.base_types.specs.Maps.{images_of, moved_by};
+ghost use Rattle.def_steps.specs.Rewriting.{in_order, rewrite as rewrite_lem, next_atom};
+ghost use Rattle.chase_repair.specs.Repairs.{phase_of, is_asking, moved_repair};
+ghost use Rattle.chase_repair.specs.Stages.{repair_of, gathering_of, repairing_of, HasKept, IsSound};
+
+use crate::answers::copies;
+use crate::generating::go_on;
+use crate::ordering::{listed, put_copies};
+use crate::rewriting::rewrite;
+use crate::stages::{Gathering, Generation, Stage};
+use crate::writes::append;
+use base_limits::Mappings;
+use base_types::{List, Memory, Sub, Tuple, TupleList, WriteList};
+use chase_query::Query;
+use chase_unifier::apply_row;
+use std::alloc::Global;
+use std::collections::BTreeSet;
+
+/// Keeps the tuples that were found, and asks for the next null. It is refused only for want of memory; the step is then
+/// where it was.
+pub(crate) fn ask_next(
+    alloc: Global,
+    gathering: &mut Gathering,
+    tuples: &[Tuple],
+) -> Result<(), Memory>
+    requires { 0 < length gathering.old.later.items }
+    ensures ok { OnOk result (HasKept gathering.old (map fact_of tuples.now) gathering.new) }
+    ensures err { OnErr result (gathering_of gathering.new ≡ gathering_of gathering.old) }
+{
+    gathering.found.push(copies(alloc, tuples)?)?;
+    let null = gathering.later.remove(0);
+    gathering.query = Query::Occurs(null.update, null.place);
+    Ok(())
+}
+
+/// The tuples found in the step, with the last ones, in order. It is refused only for want of memory.
+pub(crate) fn all_found(
+    alloc: Global,
+    gathering: &Gathering,
+    last: &[Tuple],
+) -> Result<TupleList, Memory>
+    ensures value { IfOk result (λ list.
+        facts_of list ≡ in_order ((gathering_of gathering.now).found ++ map fact_of last.now)) }
+{
+    let mut set = BTreeSet::new(alloc);
+    for tuples in gathering.found.as_slice() {
+        put_copies(alloc, &mut set, tuples.as_slice())?;
+    }
+    put_copies(alloc, &mut set, last)?;
+    listed(alloc, set)
+}
+
+/// The end of the step: the unifier goes through the tuples, by writes behind the own ones, and through the values of the
+/// repair in hand. It is refused only for want of memory; the repair in hand and the own writes are then unchanged.
+pub(crate) fn unify(
+    alloc: Global,
+    generation: &mut Generation,
+    own: &mut WriteList,
+    sub: &Sub,
+    tuples: &TupleList,
+    mappings: &Mappings<'_>,
+) -> Result<Stage, Memory>
+    ensures writes { OnOk result (
+        changes_of own.new ≡ changes_of own.old ++
+        rewrite_lem (moved_by (images_of sub.now)) (facts_of tuples.now)) }
+    ensures phase { IfOk result (λ stage. phase_of (repairing_of generation.new stage) ≡
+        next_atom mappings.now
+        (moved_repair (moved_by (images_of sub.now)) (repair_of generation.old))) }
+    ensures rests { IfOk result (λ stage. is_asking (repairing_of generation.new stage) ≡ false) }
+    ensures sound { IfOk result (λ stage. IsSound generation.new stage) }
+    ensures err { OnErr result (generation.new ≡ generation.old) }
+    ensures own { OnErr result (own.new.items ≡ own.old.items) }
+{
+    let writes = rewrite(alloc, sub, tuples)?;
+    let binding = apply_row(alloc, sub, generation.binding.as_slice())?;
+    append(alloc, own, writes)?;
+    generation.binding = binding;
+    Ok(go_on(generation, mappings))
+}

@@ -1,0 +1,67 @@
+-- What a program is to its callers: an attempt, and the course of the step in hand, as a tree of queries that ends in the attempt after it.
+use Rattle.std.specs.Prelude.{ℕ, suc, ◌+◌, nat_lt, Bool, ◌||◌, if◌then◌else◌, Option, Some, None, is_some, List}
+use Rattle.def_machine.specs.Trees.{Tree, Leaf, Node, then_tree}
+use Rattle.def_chase.specs.Mappings.{Rule}
+use Rattle.def_chase.specs.Queries.{Query, Reply}
+use Rattle.def_steps.specs.Attempts.{Attempt, Phase, Ended, Spent, outcome_in}
+use Rattle.def_steps.specs.Steps.{Asking, moved}
+use Rattle.chase_update.specs.Rows.{Row, row_tree}
+
+-- A step in hand: its budget, and where it stands.
+pub record Reading : Type 0 where
+  pub budget : ℕ
+  pub row : Row
+
+-- An attempt between two steps; or as it was when the step in hand began, with that step.
+pub record State : Type 0 where
+  pub attempt : Attempt
+  pub reading : Option Reading
+
+-- An attempt between two steps.
+abbrev pub between : Attempt → State
+between P = record { attempt = P; reading = None }
+
+-- The queries that are asked, in turn by their answers, up to the attempt after the step.
+abbrev pub Course : Type 0
+Course = Tree Query Reply Attempt
+
+-- A step of P with this budget that asks and does this: it leads to the attempt after the step.
+abbrev pub coming_to : ℕ → Attempt → Asking → Course
+coming_to B P tree = then_tree tree (λ m. Leaf (moved B P m))
+
+-- How it goes on by the answer to the first query.
+abbrev pub by_reply : Course → Reply → Course
+by_reply (Leaf P) a = Leaf P
+by_reply (Node q k) a = k a
+
+-- The query that is asked first, if one is.
+abbrev pub first_asked : Course → Option Query
+first_asked (Leaf P) = None
+first_asked (Node q k) = Some q
+
+-- The course of the step in hand of P, if there is one.
+abbrev pub course_by : List Rule → Attempt → Option Reading → Course
+course_by ms P None = Leaf P
+course_by ms P (Some r) = coming_to r.budget P (row_tree ms P r.row)
+
+-- The course of the step in hand by these mappings; between two steps the attempt itself.
+abbrev pub course : List Rule → State → Course
+course ms s = course_by ms s.attempt s.reading
+
+-- The phase that is left with so many steps made: spent, where that is all B, and the attempt has not ended.
+abbrev pub unless_spent : ℕ → ℕ → Phase → Phase
+unless_spent B steps p = if is_some (outcome_in p) || nat_lt steps B then p else Ended Spent
+
+-- An attempt that its step has left in this phase and with these own writes, once the step is counted: with what it has drawn, and the answer that it took, if it took one.
+abbrev pub counted : ℕ → Bool → ℕ → Attempt → Attempt
+counted B answers drawn P =
+    record {
+      number = P.number;
+      attempt = P.attempt;
+      operation = P.operation;
+      phase = unless_spent B (suc P.steps) P.phase;
+      own = P.own;
+      steps = suc P.steps;
+      nulls = P.nulls + drawn;
+      taken = if answers then suc P.taken else P.taken;
+    }

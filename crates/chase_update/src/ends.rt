@@ -1,0 +1,51 @@
+//! How an attempt ends, and what a program wants.
+ghost use Rattle.std.specs.Prelude.{◌≡◌};
+ghost use Rattle.chase_update.specs.Wishes.{end_in};
+ghost use Rattle.chase_update.specs.PointMeanings.{outcome_of, end_of};
+
+use base_types::Null;
+use chase_query::Query;
+use chase_question::Question;
+
+/// How an attempt ended: all mappings in force hold; its budget of steps has run out; or a null that the update names,
+/// of this update and place, is nowhere in the repository.
+#[derive(Clone, Copy, Debug, PartialEq, Eq)]
+pub enum Outcome {
+    Done,
+    Spent,
+    Refused { update: u32, place: u32 },
+}
+
+/// What a program wants next: the answer to a query, the answer to a question, nothing any more, since it has ended, or
+/// that its next step is begun.
+#[derive(Clone, Copy)]
+pub enum Want<'a> {
+    Read(&'a Query),
+    Choice(&'a Question),
+    Ended(Outcome),
+    NextStep,
+}
+
+/// How an attempt ended, with the whole name of the null that was refused.
+#[derive(Clone, Copy, Debug)]
+pub(crate) enum End {
+    Done,
+    Spent,
+    Refused(Null),
+}
+
+impl End {
+    /// What people are told of it.
+    pub(crate) fn told(self) -> Outcome
+        ensures told { end_of result ≡ end_in (outcome_of self) }
+    {
+        match self {
+            End::Done => Outcome::Done,
+            End::Spent => Outcome::Spent,
+            End::Refused(null) => Outcome::Refused {
+                update: null.update,
+                place: null.place,
+            },
+        }
+    }
+}

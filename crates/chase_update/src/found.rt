@@ -1,0 +1,154 @@
+//! The named nulls of an operation, and the values that they stand for.
+ghost use Rattle.std.specs.Prelude.{◌≡◌, map, find, IfOk};
+ghost use Rattle.std.specs.Option.{option_map, option_copied};
+ghost use Rattle.def_chase.specs.Queries.{is_named as is_named_lem};
+ghost use Rattle.def_chase.specs.Values.{under};
+ghost use Rattle.base_types.specs.Contents.{facts_of};
+ghost use Rattle.base_types.specs.Meanings.{null_of, datum_of, fact_of};
+ghost use Rattle.chase_query.specs.Meanings.{reply_of};
+ghost use Rattle.def_steps.specs.Rewriting.{standing_for as standing_for_lem};
+ghost use Rattle.chase_update.specs.Found.{settled as settled_lem, stands_for as stands_for_lem, first_named as first_named_lem, is_found, some_of as some_of_lem, holders_in};
+ghost use Rattle.chase_update.specs.RowMeanings.{standing_of};
+
+use base_types::{List, Memory, Null, TryCopy, Tuple, TupleList, Value};
+use chase_query::Answer;
+use std::alloc::Global;
+
+/// A named null of an operation, and the value that it stands for.
+#[derive(Debug, Drop)]
+pub(crate) struct Standing {
+    pub(crate) name: Null,
+    pub(crate) value: Value,
+}
+
+impl TryCopy for Standing {
+    ghost use Rattle.def_chase.specs.Values.{NullName, Datum};
+    ghost use Rattle.chase_update.specs.RowMeanings.{standing_of};
+
+    ghost Meaning = { NullName × Datum };
+
+    ghost meaning = { standing_of };
+
+    fn copy(&self, alloc: Global) -> Result<Standing, Memory>
+        ensures same { IfOk result (λ copy. standing_of copy ≡ standing_of self.now) }
+    {
+        Ok(Standing {
+            name: self.name,
+            value: self.value.copy(alloc)?,
+        })
+    }
+}
+
+/// Named nulls, each with the value that it stands for.
+pub(crate) type StandingList = List<Standing>;
+
+/// The tuples of an answer to `Occurs`; None exactly where there are none.
+pub(crate) fn holders(answer: &Answer) -> Option<&TupleList>
+    ensures found { option_map facts_of (option_copied result) ≡ holders_in (reply_of answer.now) }
+{
+    match answer {
+        Answer::Tuples(tuples) => some_of(tuples),
+        Answer::Yes => None,
+        Answer::No => None,
+        Answer::Image(_) => None,
+        Answer::Nothing => None,
+    }
+}
+
+// The tuples, if there are any.
+fn some_of(tuples: &TupleList) -> Option<&TupleList>
+    ensures found { option_map facts_of (option_copied result) ≡ some_of_lem (facts_of tuples.now) }
+{
+    if tuples.is_empty() {
+        None
+    } else {
+        Some(tuples)
+    }
+}
+
+/// What the named null stands for: the value of that outer name which stands first in the first of the tuples. It is
+/// the number 0 where none does. It is refused only for want of memory.
+pub fn standing_for(alloc: Global, name: Null, tuples: &TupleList) -> Result<Value, Memory>
+    ensures value { IfOk result (λ value. datum_of value ≡
+        standing_for_lem (null_of name) (facts_of tuples.now)) }
+{
+    match tuples.get(0) {
+        Some(tuple) => first_named(alloc, name, tuple.values.as_slice()),
+        None => Ok(Value::Int(0)),
+    }
+}
+
+// A copy of the first of the values that is a null of that outer name; the number 0 where none is.
+fn first_named(alloc: Global, name: Null, values: &[Value]) -> Result<Value, Memory>
+    ensures value { IfOk result (λ value. datum_of value ≡
+        first_named_lem (null_of name) (map datum_of values.now)) }
+{
+    match find_named(name, values) {
+        Some(value) => value.copy(alloc),
+        None => Ok(Value::Int(0)),
+    }
+}
+
+// The first of the values that is a null of that outer name.
+fn find_named(name: Null, values: &[Value]) -> Option<&Value>
+    ensures found { option_map datum_of (option_copied result) ≡
+        find (is_named_lem name.update name.place) (map datum_of values.now) }
+{
+    values.iter().find(|value| is_named(value, name))
+}
+
+// Whether the value is a null of that outer name.
+fn is_named(value: &Value, name: Null) -> bool
+    ensures answer { result ≡ is_named_lem name.update name.place (datum_of value.now) }
+{
+    match value {
+        Value::Null(null) => null.update == name.update && null.place == name.place,
+        Value::Int(_) => false,
+        Value::Word(_) => false,
+    }
+}
+
+/// The tuple with each null replaced by what it stands for, and by the number 0 where it was not found. It is refused
+/// only for want of memory.
+pub(crate) fn resolved(alloc: Global, found: &[Standing], tuple: &Tuple) -> Result<Tuple, Memory>
+    ensures value { IfOk result (λ known. fact_of known ≡
+        under (settled_lem (map standing_of found.now)) (fact_of tuple.now)) }
+{
+    let mut values = List::new(alloc);
+    values.reserve(tuple.values.len())?;
+    for value in tuple.values.as_slice() {
+        values.push(settled(alloc, found, value)?)?;
+    }
+    Tuple::new(alloc, tuple.relation, values)
+}
+
+// What the value stands for: itself, where it is no null.
+fn settled(alloc: Global, found: &[Standing], value: &Value) -> Result<Value, Memory>
+    ensures value { IfOk result (λ known. datum_of known ≡
+        settled_lem (map standing_of found.now) (datum_of value.now)) }
+{
+    match value {
+        Value::Null(name) => stands_for(alloc, found, *name),
+        Value::Int(_) => value.copy(alloc),
+        Value::Word(_) => value.copy(alloc),
+    }
+}
+
+// A copy of what the named null stands for; the number 0 where it was not found.
+fn stands_for(alloc: Global, found: &[Standing], name: Null) -> Result<Value, Memory>
+    ensures value { IfOk result (λ value. datum_of value ≡
+        stands_for_lem (map standing_of found.now) (null_of name)) }
+{
+    match find_standing(found, name) {
+        Some(standing) => standing.value.copy(alloc),
+        None => Ok(Value::Int(0)),
+    }
+}
+
+// The first pair of the named null.
+fn find_standing(found: &[Standing], name: Null) -> Option<&Standing>
+    ensures pair { option_map standing_of (option_copied result) ≡
+        find (is_found (null_of name)) (map standing_of found.now) }
+{
+    found.iter().find(|standing| standing.name == name)
+}

@@ -1,0 +1,68 @@
+//! What a program tells of the step that it takes next: its update, and the forward repair in hand.
+ghost use Rattle.std.specs.Prelude.{◌≡◌, None, IfOk};
+ghost use Rattle.std.specs.Option.{option_map};
+ghost use Rattle.def_chase.specs.Updates.{Unify};
+ghost use Rattle.base_types.specs.Meanings.{fact_of, operation_of};
+ghost use Rattle.base_types.specs.Maps.{images_of, moved_by};
+ghost use Rattle.chase_repair.specs.Bound.{bound_in, unifier_in};
+ghost use Rattle.chase_repair.specs.BoundMeanings.{bound_of};
+ghost use Rattle.chase_update.specs.Wishes.{wish, Fits};
+ghost use Rattle.chase_update.specs.Starting.{is_start};
+
+use crate::points::Point;
+use crate::programs::Program;
+use base_types::{Memory, Operation, Sub, Tuple};
+use chase_repair::Bound;
+use std::alloc::Global;
+
+impl Program {
+    /// The number of its update. It takes no memory.
+    pub fn number(&self) -> u32
+        ensures number { result ≡ self.now.attempt.number }
+    {
+        self.parts.number
+    }
+
+    /// What its update is to do. It takes no memory.
+    pub fn operation(&self) -> &Operation
+        ensures operation { operation_of result.now ≡ self.now.attempt.operation }
+    {
+        &self.parts.operation
+    }
+
+    /// Whether its next step is the first, that of the operation. It takes no memory.
+    pub fn is_at_start(&self) -> bool
+        requires between { self.now.reading ≡ None }
+        ensures start { result ≡ is_start self.now.attempt.phase }
+    {
+        matches!(&self.parts.point, Point::Start)
+    }
+
+    /// The mapping of the forward repair in hand, and the values of its variables; None exactly where none is in hand.
+    /// It takes no memory.
+    pub fn bound(&self) -> Option<Bound<'_>>
+        ensures bound { option_map bound_of result ≡ bound_in self.now.attempt.phase }
+    {
+        match &self.parts.point {
+            Point::Repair(repair) => repair.bound(),
+            Point::Start => None,
+            Point::Look => None,
+            Point::Ended(_) => None,
+            Point::Reading(_) => None,
+        }
+    }
+
+    /// The unifier of the generated tuple in question and the candidate of this form, which fits the question. It is
+    /// refused only for want of memory.
+    pub fn unifier_with(&self, alloc: Global, form: &Tuple) -> Result<Sub, Memory>
+        requires { Fits (wish self.now) (Unify (fact_of form.now)) }
+        ensures unifier { IfOk result
+            (λ sub. moved_by (images_of sub) ≡
+            unifier_in self.now.attempt.phase (fact_of form.now)) }
+    {
+        match &self.parts.point {
+            Point::Repair(repair) => repair.unifier_with(alloc, form),
+            _ => unreachable!(),
+        }
+    }
+}

@@ -1,0 +1,116 @@
+//! The writes of an attempt where copies of it share them.
+ghost use Rattle.std.specs.Prelude.{◌≡◌, map, IfOk, OnOk};
+ghost use Rattle.base_types.specs.Contents.{changes_of};
+ghost use Rattle.base_types.specs.Listed.{Listed};
+ghost use Rattle.base_types.specs.Meanings.{change_of};
+ghost use Rattle.base_types.specs.declared.updates.Write.{Write as WriteOfProgram};
+ghost use Rattle.chase_update.specs.Firsts.{HasFirst};
+ghost use mathlib.Core.List.{IsPrefix};
+
+use base_types::{Memory, TryCopy, Write, WriteList};
+use std::alloc::Global;
+use std::marker::Model;
+use std::sync::Arc;
+
+/// The writes of an attempt as a list that copies of it share. Beside it there may be a list of the first of them, in which the
+/// attempt goes on where it makes more writes: it lacks only the last ones. Contracts see the list of all.
+#[derive(Debug, Drop)]
+pub(crate) struct SharedWrites {
+    all: Arc<WriteList>,
+    first: Option<Arc<WriteList>>,
+}
+
+impl Model for SharedWrites {
+    ghost use Rattle.base_types.specs.Listed.{Listed};
+    ghost use Rattle.base_types.specs.declared.updates.Write.{Write};
+    ghost use Rattle.chase_update.specs.Firsts.{HasFirst};
+
+    ghost Value = { Listed Write };
+
+    ghost view = { λ s. s.all.value };
+
+    ghost invariant = { λ s. HasFirst s.first s.all.value };
+}
+
+impl SharedWrites {
+    /// The writes of the list. It takes no memory.
+    pub(crate) fn of(all: Arc<WriteList>) -> SharedWrites
+        ensures same { result ≡ all.value }
+    {
+        SharedWrites { all, first: None }
+    }
+
+    /// The writes as a list. It takes no memory.
+    pub(crate) fn list(&self) -> &WriteList
+        ensures same { result.now ≡ self.now }
+    {
+        &self.all
+    }
+
+    /// The same writes. It is refused only for want of memory.
+    pub(crate) fn copy(&self) -> Result<SharedWrites, Memory>
+        ensures same { IfOk result (λ copy. copy ≡ self.now) }
+    {
+        let all = Arc::try_clone(&self.all)?;
+        Ok(SharedWrites { all, first: None })
+    }
+
+    /// The same writes, with the list of the first of them where there is one. It is refused only for want of memory.
+    pub(crate) fn branch(&mut self) -> Result<SharedWrites, Memory>
+        ensures same { IfOk result (λ branch. branch ≡ self.old) }
+        ensures stays { self.new ≡ self.old }
+    {
+        let all = Arc::try_clone(&self.all)?;
+        let first = self.first.take();
+        Ok(SharedWrites { all, first })
+    }
+
+    /// The writes as a list of which nobody else has a part: that of the first of them, if nobody else has it, with copies of those
+    /// that it lacks. It is refused only for want of memory.
+    pub(crate) fn alone(&mut self, alloc: Global) -> Result<WriteList, Memory>
+        ensures same { IfOk result (λ writes. changes_of writes ≡ changes_of self.old) }
+        ensures stays { self.new ≡ self.old }
+    {
+        let mut writes = unshared(alloc, self.first.take());
+        catch_up(&mut writes, alloc, self.list().as_slice())?;
+        Ok(writes)
+    }
+
+    /// Keeps the list of the other, which are the first of the writes, if they are fewer. It is refused only for want of memory.
+    pub(crate) fn keep(&mut self, first: &SharedWrites) -> Result<(), Memory>
+        requires first { IsPrefix (changes_of first.now) (changes_of self.old) }
+        ensures stays { self.new ≡ self.old }
+    {
+        if first.list().len() < self.list().len() {
+            self.first = Some(Arc::try_clone(&first.all)?);
+        }
+        Ok(())
+    }
+}
+
+// The list, if nobody else has it, and else an empty one. It takes no memory.
+fn unshared(alloc: Global, first: Option<Arc<WriteList>>) -> WriteList
+    ensures first { (all : Listed WriteOfProgram) →
+        HasFirst first all → IsPrefix (changes_of result) (changes_of all) }
+{
+    let Some(first) = first else {
+        return WriteList::new(alloc);
+    };
+    match Arc::into_inner(first) {
+        Some(writes) => writes,
+        None => WriteList::new(alloc),
+    }
+}
+
+// Puts copies of the writes that the list lacks at its end, with room for one more. It is refused only for want of memory.
+fn catch_up(first: &mut WriteList, alloc: Global, all: &[Write]) -> Result<(), Memory>
+    requires first { IsPrefix (changes_of first.old) (map change_of all.now) }
+    ensures all { OnOk result (changes_of first.new ≡ map change_of all.now) }
+{
+    let rest = &all[first.len()..];
+    first.reserve(rest.len().saturating_add(1))?;
+    for write in rest {
+        first.push(write.copy(alloc)?)?;
+    }
+    Ok(())
+}

@@ -1,0 +1,55 @@
+//! The end of the step of an insertion or a deletion, once it is known whether its tuple is there.
+ghost use Rattle.std.specs.Prelude.{◌≡◌, OnOk, OnErr};
+ghost use Rattle.std.specs.Option.{option_map};
+ghost use Rattle.base_types.specs.Meanings.{fact_of, operation_of};
+ghost use Rattle.chase_query.specs.Meanings.{query_of};
+ghost use Rattle.chase_update.specs.PointMeanings.{HasWritten, IsWriting, tuple_asked_at, tuple_at, tuple_in};
+
+use crate::points::Point;
+use base_types::{Memory, Operation, Tuple, Write, WriteList};
+use chase_query::Query;
+use std::mem;
+
+/// An insertion writes the tuple that is asked about where it is not there, a deletion where it is, behind the own writes.
+/// A look comes next. It is refused only for want of memory; everything is then unchanged.
+pub(crate) fn write(
+    operation: &Operation,
+    point: &mut Point,
+    own: &mut WriteList,
+    there: bool,
+) -> Result<(), Memory>
+    requires { IsWriting point.old }
+    ensures written { OnOk result
+        (HasWritten (operation_of operation.now) (tuple_at point.old) there own.old own.new) }
+    ensures look { OnOk result (point.new ≡ Point.Look) }
+    ensures stays { OnErr result (point.new ≡ point.old) }
+    ensures own { OnErr result (own.new.items ≡ own.old.items) }
+{
+    own.reserve(1)?;
+    match (operation, there, asked(mem::replace(point, Point::Look))) {
+        (Operation::Insert(_), false, Some(tuple)) => own.push(Write::Insert(tuple))?,
+        (Operation::Delete(_), true, Some(tuple)) => own.push(Write::Delete(tuple))?,
+        _ => {}
+    }
+    Ok(())
+}
+
+// The tuple that is asked about, if one is.
+fn asked(point: Point) -> Option<Tuple>
+    ensures { option_map fact_of result ≡ tuple_asked_at point }
+{
+    match point {
+        Point::Reading(reading) => tuple_of(reading.query),
+        _ => None,
+    }
+}
+
+// The tuple that the query asks for, if it asks whether one is there.
+fn tuple_of(query: Query) -> Option<Tuple>
+    ensures { option_map fact_of result ≡ tuple_in (query_of query) }
+{
+    match query {
+        Query::Present(tuple) => Some(tuple),
+        _ => None,
+    }
+}

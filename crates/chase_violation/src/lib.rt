@@ -1,0 +1,13 @@
+//! The first violation of a mapping in a set of tuples: of all, or of those that an update's own writes caused.
+#![tactic(auto)]
+
+mod caused;
+mod first;
+mod least;
+mod remembered;
+mod scope;
+mod unmet;
+
+pub use crate::first::{first_image, first_violation, holds};
+pub use crate::scope::Scope;
+pub use chase_match::Matched;

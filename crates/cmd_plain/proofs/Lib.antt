@@ -1,0 +1,7 @@
+mod JournalOutputs
+mod Journals
+mod Performed
+mod RecoverOutputs
+mod Audits
+mod Fronts
+mod OneOutput

@@ -1,0 +1,64 @@
+-- A run that has written its text was one of a session whose base meets its mappings.
+use Rattle.std.proofs.Common.{◌≡◌, ◌≤◌, ℕ, List, Option, Some, None, Result, Ok, Err, refl, inl, inr, subst}
+use Rattle.cmd_frame.specs.Devices.{Change, Takes}
+use Rattle.cmd_frame.specs.Outputs.{OutputView, Text, Refused}
+use Rattle.cmd_frame.specs.Rows.{Row, Ends}
+use Rattle.cmd_frame.specs.declared.outputs.Ending.{Ending}
+use Rattle.cmd_frame.specs.declared.outputs.Refusal.{Refusal}
+use Rattle.cmd_frame.specs.declared.statuses.Status.{Status}
+use Rattle.def_language.specs.Faults.{Wrong}
+use Rattle.def_language.specs.Lines.{Spells, read}
+use Rattle.def_language.specs.Sessions.{SessionData}
+use Rattle.def_language.specs.Validity.{IsSession}
+use Rattle.run_laws.specs.Kept.{InForceHold, IsRunnable}
+use Rattle.lang_report.specs.Results.{result_text, serial_told}
+use Rattle.lang_session.specs.Base.{Violated, base_violation}
+use Rattle.cmd_plain.specs.Commands.{MadeOf, on_session, unless_violated}
+use Rattle.cmd_plain.specs.Runs.{ending_by, ran, result_output}
+use Rattle.cmd_plain.specs.Written.{HasWritten, WroteWhatHolds}
+
+no_text : (e : Ending) (t : List ℕ) (r : Refusal) (line : List ℕ) → Text e t ≡ Refused r line → ⊥
+no_text e t r line is = cc
+
+one_text : (e f : Ending) (t u : List ℕ) → Text e t ≡ Text f u → t ≡ u
+one_text e f t u is = cc
+
+-- where a text is made of what was read, a session was read
+read_one : (n : ℕ) (e : Ending) (t : List ℕ) (given : Result SessionData Wrong) → MadeOf (λ s output. output ≡ ran n s) given (Text e t)
+    → (s : SessionData) × (given ≡ Ok s) × (Text e t ≡ ran n s)
+read_one n e t (Ok s) is = (s, refl, is)
+read_one n e t (Err wrong) is = absurd (no_text e t _ _ is)
+
+-- where a text is made of a session, its base violates no mapping
+met_one : (s : SessionData) (e : Ending) (t : List ℕ) (output : OutputView) (found : Option Violated) → Text e t ≡ unless_violated s output found
+    → (found ≡ None) × (Text e t ≡ output)
+met_one s e t output None is = (refl, is)
+met_one s e t output (Some v) is = absurd (no_text e t _ _ is)
+
+-- The laws that are used: what is spelled is a session, and a run leaves what meets the mappings.
+abbrev Valid : Type 0
+Valid = (bytes : List ℕ) (s : SessionData) → Spells bytes s → IsSession s
+
+abbrev Leaves : Type 0
+Leaves = (n : ℕ) (s : SessionData) → IsRunnable n s → InForceHold s (serial_told n s)
+
+ended : Valid → Leaves → (n : ℕ) (e : Ending) (source out err : Change) → 1 ≤ n → n ≤ 300 → Ends e (on_session (ran n)) source out err → WroteWhatHolds n source out
+ended valid leaves n e source out err some most row =
+    let all = row.0 in
+    let made = all.4 in
+    let one = read_one n e made.0 (read all.0) made.1 in
+    let s = one.0 in
+    let met = met_one s e made.0 (result_output s (serial_told n s)) (base_violation s) one.2 in
+    let text = one_text e (ending_by (serial_told n s).stop) made.0 (result_text s (serial_told n s)) met.1 in
+    record {
+      input = all.0;
+      session = s;
+      given = all.1;
+      spelled = one.1;
+      taken = subst (λ (t : List ℕ). Takes out t) text made.2;
+      hold = leaves n s (record { session = valid all.0 s one.1; met = met.0; some = some; most = most });
+    }
+
+pub written : Valid → Leaves → (n : ℕ) (status : Status) (source out err : Change) → 1 ≤ n → n ≤ 300 → HasWritten status → Row status (on_session (ran n)) source out err → WroteWhatHolds n source out
+written valid leaves n status source out err some most (inl is) row = ended valid leaves n _ source out err some most (subst (λ (k : Status). Row k (on_session (ran n)) source out err) is row)
+written valid leaves n status source out err some most (inr is) row = ended valid leaves n _ source out err some most (subst (λ (k : Status). Row k (on_session (ran n)) source out err) is row)

@@ -1,0 +1,46 @@
+//! Laws of what the commands write that run the updates.
+ghost use Rattle.std.specs.Prelude.{◌≡◌, ◌≤◌, ℕ, List};
+ghost use Rattle.cmd_frame.specs.Devices.{Change};
+ghost use Rattle.cmd_frame.specs.Outputs.{OutputView};
+ghost use Rattle.cmd_frame.specs.Rows.{Row};
+ghost use Rattle.cmd_frame.specs.Statuses.{status_of};
+ghost use Rattle.cmd_frame.specs.declared.statuses.Status.{Status};
+ghost use Rattle.cmd_plain.specs.Commands.{on_session};
+ghost use Rattle.cmd_plain.specs.Journaled.{recovering};
+ghost use Rattle.cmd_plain.specs.Runs.{ran};
+ghost use Rattle.cmd_plain.specs.Written.{EndsOrStops, HasWritten, WritesWhatHolds, WroteWhatHolds};
+ghost use Rattle.def_language.specs.Sessions.{SessionData};
+ghost use Rattle.run_laws.specs.Kept.{IsRunnable};
+
+use def_language::spelled_sessions_are_valid;
+use run_journal::damaged_bytes_are_no_journal;
+use run_laws::runs_meet_their_mappings;
+
+/// Of a valid session whose base meets its mappings, `serial` writes a repository in which every mapping in force
+/// holds: those in force from the start, and those that an update which is done has put in force. It ends with status 0, or
+/// stops at a question with status 1.
+pub fn runs_write_what_holds()
+    ensures written { (steps : ℕ) (s : SessionData) → IsRunnable steps s → WritesWhatHolds steps s }
+    ensures status { (steps : ℕ) (s : SessionData) → IsRunnable steps s → EndsOrStops steps s }
+{
+    runs_meet_their_mappings();
+}
+
+/// Where `serial`, performed with a budget, ends or stops, the repository that it has written is one in which every
+/// mapping in force holds.
+pub fn performed_runs_write_what_holds()
+    ensures { (steps : ℕ) (status : Status) (source out err : Change) → 1 ≤ steps → steps ≤ 300 →
+        HasWritten status → Row status (on_session (ran steps)) source out err →
+        WroteWhatHolds steps source out }
+{
+    spelled_sessions_are_valid();
+    runs_meet_their_mappings();
+}
+
+/// An input is a journal or damaged and never both, so that `recover` has one status for it.
+pub fn recovered_inputs_have_one_status()
+    ensures { (input : List ℕ) (output other : OutputView) → recovering input output →
+        recovering input other → status_of output ≡ status_of other }
+{
+    damaged_bytes_are_no_journal();
+}

@@ -1,0 +1,34 @@
+//! The commands on a session: what each makes of its input.
+//!
+//! `specs/Commands.antt` says it in the terms of the language of sessions: `on_session_by makes` is what a command
+//! makes of the session that the input spells, or the refusal of an input that spells none. `specs/Runs.antt` says it of
+//! those that run the updates, in the terms of the serial machine; `specs/Asked.antt` of the one that asks a
+//! query, `specs/Journaled.antt` of those on journals.
+#![tactic(auto)]
+
+mod asking;
+mod audit_laws;
+mod auditing;
+mod base;
+mod counts;
+mod explaining;
+mod journaling;
+mod laws;
+mod reading;
+mod recovering;
+mod runs;
+mod sessions;
+
+pub use crate::asking::Ask;
+pub use crate::audit_laws::audited_inputs_have_one_output;
+pub use crate::auditing::Audit;
+pub use crate::base::{Violated, base_refusal, base_violation};
+pub use crate::explaining::Explain;
+pub use crate::journaling::Journal;
+pub use crate::laws::{
+    performed_runs_write_what_holds, recovered_inputs_have_one_status, runs_write_what_holds,
+};
+pub use crate::reading::{OnSession, SessionCommand};
+pub use crate::recovering::Recover;
+pub use crate::runs::{Save, Serial, ending_by};
+pub use crate::sessions::{Check, Format, Upgrade};

@@ -1,0 +1,59 @@
+//! A command on a session, as a command on the bytes that spell it.
+ghost use Rattle.std.specs.Prelude.{◌≡◌, ◌++◌, ◌∷◌, [], codes, IfOk};
+ghost use Rattle.cmd_frame.specs.Outputs.{view_of};
+ghost use Rattle.def_language.specs.Faults.{wrong_text};
+ghost use Rattle.def_language.specs.Sessions.{SessionData};
+ghost use Rattle.def_language.specs.Validity.{IsSession};
+ghost use Rattle.cmd_frame.specs.Outputs.{OutputView};
+ghost use Rattle.lang_reader.specs.Answers.{wrong_of};
+ghost use Rattle.lang_session.specs.Meanings.{session_of};
+ghost use Rattle.cmd_plain.specs.Commands.{fault_line, on_session_by};
+
+use base_types::Memory;
+use cmd_frame::{Command, Output, Refusal};
+use lang_reader::{ReadFailure, SessionFault, fault_text, read_session};
+use lang_session::Session;
+use std::alloc::Global;
+
+/// What a command makes of a session.
+pub trait SessionCommand {
+    /// What it may make of a session: one output where it is a function, and any of several where threads decide.
+    ghost makes: { Self → SessionData → OutputView → Type 0 };
+
+    /// An output for a valid session. Memory for the whole of it is taken here.
+    fn make(&self, alloc: Global, session: Session) -> Result<Output, Memory>
+        requires valid { IsSession (session_of session) }
+        ensures output { IfOk result (λ output. makes self.now (session_of session)
+            (view_of output)) };
+}
+
+/// A command on the session that the input spells. An input that spells none is refused with its first fault.
+#[derive(Drop)]
+pub struct OnSession<C: SessionCommand>(pub C);
+
+// The line that tells the first fault of an input.
+fn fault_line(alloc: Global, fault: &SessionFault) -> Result<Vec<u8>, Memory>
+    ensures { IfOk result (λ line. line.items ≡ fault_line (wrong_of fault.now)) }
+{
+    let text = fault_text(alloc, fault)?;
+    let mut line = Vec::new(alloc);
+    line.extend_from_slice(b"youtopia: ")?;
+    line.extend_from_slice(&text)?;
+    line.push(b'\n')?;
+    Ok(line)
+}
+
+impl<C: SessionCommand> Command for OnSession<C> {
+    ghost gives = { λ c. on_session_by (C.makes c.0) };
+
+    fn run(&self, alloc: Global, input: &[u8]) -> Result<Output, Memory> {
+        match read_session(alloc, input) {
+            Ok(session) => self.0.make(alloc, session),
+            Err(ReadFailure::Fault(fault)) => Ok(Output::Refused(
+                Refusal::SessionRefused,
+                fault_line(alloc, &fault)?,
+            )),
+            Err(ReadFailure::Memory) => Err(Memory),
+        }
+    }
+}

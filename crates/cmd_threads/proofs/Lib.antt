@@ -1,0 +1,5 @@
+mod Made
+mod Outputs
+mod Performed
+mod Delivered
+mod Told

@@ -1,0 +1,25 @@
+-- What the command `drill` makes.
+use Rattle.std.specs.Prelude.{◌≡◌, ℕ}
+use Rattle.cmd_frame.specs.Outputs.{Meaning, OutputView, Text}
+use Rattle.cmd_plain.specs.Runs.{ending_by}
+use Rattle.run_drill.specs.Drilled.{drilled}
+use Rattle.def_language.specs.Sessions.{SessionData}
+use Rattle.chase_update.specs.Results.{ResultTold}
+use Rattle.lang_report.specs.Results.{serial_told}
+use Rattle.run_drill.specs.Summaries.{summary_text}
+
+-- the generated session, behind a word that unfolds by name alone: its mappings are known, and a run of it would be computed
+unfoldable pub generated : ℕ → ℕ → SessionData
+generated count seed = drilled count seed
+
+-- what the serial machine tells of the generated session, with so many steps for each update
+unfoldable pub drill_told : ℕ → ℕ → ℕ → ResultTold
+drill_told steps count seed = serial_told steps (generated count seed)
+
+-- what is printed of a run of the generated session that told this: its summary
+unfoldable pub summary_output : ℕ → ℕ → ResultTold → OutputView
+summary_output count seed told = Text (ending_by told.stop) (summary_text count seed told)
+
+-- `drill` with so many steps for each update: that of the serial machine, whatever the input
+unfoldable pub drilling : ℕ → ℕ → ℕ → Meaning
+drilling steps count seed input output = output ≡ summary_output count seed (drill_told steps count seed)

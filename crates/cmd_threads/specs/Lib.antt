@@ -1,0 +1,5 @@
+pub mod Crews
+pub mod Refusals
+pub mod Runs
+pub mod Written
+pub mod Drilling

@@ -1,0 +1,123 @@
+//! The commands and the kinds of dependencies, by name.
+
+ghost use Rattle.std.specs.Prelude.{◌≡◌, None, Some, false};
+ghost use Rattle.cmd_words.specs.Names.{command_text, deps_text, first_commands, is_command, is_deps, is_one_of, later_commands};
+
+/// The commands that there are. Each stands in the table `command_text` and in one of the lists
+/// of specs/, and in `first_named` or `later_named`.
+#[derive(Clone, Copy, Debug, PartialEq, Eq)]
+pub enum CommandName {
+    /// Runs a session's updates.
+    Run,
+    /// Runs a session's updates one after the other.
+    Serial,
+    /// Prints a session.
+    Format,
+    /// Checks a session and its base.
+    Check,
+    /// Runs a session's updates one after the other, and prints what they left as a session.
+    Save,
+    /// Prints a session in the newest format.
+    Upgrade,
+    /// Runs a session's updates one after the other, and prints the certain answers to a query over what they left.
+    Ask,
+    /// Runs a session's updates one after the other, and prints why a tuple is in what they left.
+    Explain,
+    /// Tells whether a trace is that of a legal history of a session.
+    Audit,
+    /// Runs the updates of a session that is generated from a seed, and prints what that comes to.
+    Drill,
+    /// Runs a session's updates one after the other, and writes what they commit as a journal.
+    Journal,
+    /// Tells what a journal stands for.
+    Recover,
+}
+
+/// Which of the values that a read depends on count.
+#[derive(Clone, Copy, Debug, PartialEq, Eq)]
+pub enum Deps {
+    /// All writes to the relations that it reads.
+    Coarse,
+    /// The writes that change its answer.
+    Precise,
+}
+
+// The command of a name, among those that run, read or keep a session.
+fn first_named(text: &str) -> Option<CommandName>
+    ensures some { (command : CommandName) → result ≡ Some command →
+        text.now ≡ command_text command }
+    ensures none { result ≡ None → is_one_of first_commands text.now ≡ false }
+{
+    if text == "run" {
+        return Some(CommandName::Run);
+    }
+    if text == "serial" {
+        return Some(CommandName::Serial);
+    }
+    if text == "format" {
+        return Some(CommandName::Format);
+    }
+    if text == "check" {
+        return Some(CommandName::Check);
+    }
+    if text == "save" {
+        return Some(CommandName::Save);
+    }
+    if text == "upgrade" {
+        return Some(CommandName::Upgrade);
+    }
+    None
+}
+
+// The command of a name, among the others.
+fn later_named(text: &str) -> Option<CommandName>
+    ensures some { (command : CommandName) → result ≡ Some command →
+        text.now ≡ command_text command }
+    ensures none { result ≡ None → is_one_of later_commands text.now ≡ false }
+{
+    if text == "ask" {
+        return Some(CommandName::Ask);
+    }
+    if text == "explain" {
+        return Some(CommandName::Explain);
+    }
+    if text == "audit" {
+        return Some(CommandName::Audit);
+    }
+    if text == "drill" {
+        return Some(CommandName::Drill);
+    }
+    if text == "journal" {
+        return Some(CommandName::Journal);
+    }
+    if text == "recover" {
+        return Some(CommandName::Recover);
+    }
+    None
+}
+
+/// The command of a name.
+pub(crate) fn command_named(text: &str) -> Option<CommandName>
+    ensures some { (command : CommandName) → result ≡ Some command →
+        text.now ≡ command_text command }
+    ensures none { result ≡ None → is_command text.now ≡ false }
+{
+    match first_named(text) {
+        Some(command) => Some(command),
+        None => later_named(text),
+    }
+}
+
+/// The kind of dependencies of a name.
+pub(crate) fn deps_named(text: &str) -> Option<Deps>
+    ensures some { (deps : Deps) → result ≡ Some deps → text.now ≡ deps_text deps }
+    ensures none { result ≡ None → is_deps text.now ≡ false }
+{
+    if text == "coarse" {
+        return Some(Deps::Coarse);
+    }
+    if text == "precise" {
+        return Some(Deps::Precise);
+    }
+    None
+}

@@ -1,0 +1,23 @@
+-- What is looked for while the reads of an attempt are gone through, and what its view is then.
+use Rattle.std.specs.Prelude.{◌≡◌, ◌≤◌, ℕ, List, take, length, map, Option}
+use Rattle.base_types.specs.Contents.{rules_in}
+use Rattle.base_types.specs.Meanings.{change_of, heading_of}
+use Rattle.chase_eval.specs.Seen.{Seen}
+use Rattle.def_chase.specs.Values.{Fact}
+use Rattle.def_chase.specs.Repository.{Change}
+use Rattle.chase_query.specs.Meanings.{Read}
+use Rattle.core_conflict.specs.Changes.{Changed, first_changed_from}
+use Rattle.core_conflict.specs.Trails.{trails_of}
+use Rattle.core_conflict.specs.declared.concerns.Reader.{Reader}
+use Rattle.core_conflict.specs.declared.concerns.Trail.{Trail}
+
+-- The view is over D, with the first n of these own writes.
+pub record SeesFirst (D : List Fact) (own : List Change) (n : ℕ) (v : Seen) : Type 0 where
+  pub few : n ≤ length own
+  pub seen : v ≡ record { below = D; own = take n own }
+
+-- The first of these reads, of which the first has number n, that the trails meet and that has another value over D, by what
+-- the reader is.
+abbrev pub changed_from : Reader → List Trail → List Fact → ℕ → List Read → Option Changed
+changed_from r trails D n rs =
+    first_changed_from (rules_in r.mappings.now) (heading_of r.direction) D (map change_of r.own.now) r.sense (trails_of trails) n rs

@@ -1,0 +1,235 @@
+//! The first of an attempt's logged reads that has another value now.
+ghost use Rattle.std.specs.Prelude.{◌≡◌, ◌+◌, ◌-◌, ◌<◌, ◌^◌, [], ◌∷◌, length, map, IfOk, OnOk};
+ghost use Rattle.std.specs.Option.{option_map};
+ghost use Rattle.base_types.specs.Meanings.{change_of, heading_of};
+ghost use Rattle.chase_query.specs.Meanings.{finds_none as finds_none_lem, passing, read_of, reads_in, reads_of};
+ghost use Rattle.core_conflict.specs.Changes.{first_changed as first_changed_lem};
+ghost use Rattle.core_conflict.specs.Meanings.{changed_of};
+ghost use Rattle.core_conflict.specs.Looking.{SeesFirst, changed_from};
+ghost use Rattle.core_conflict.specs.Trails.{trails_of};
+ghost use Rattle.base_types.specs.Contents.{changes_of, rules_in};
+
+use crate::concerns::{Reader, Sense, Trail};
+use crate::views::{see, standing_then};
+use base_types::{Direction, Facts, MappingList, Memory, TryCopy, Write, WriteList};
+use chase_eval::View;
+use chase_query::{Answer, Logged, LoggedRead, Passage, ReadLog, finds_none};
+use std::alloc::Global;
+
+/// A logged read that has another value now: its number in the log, from 1, the read with the answer that it had, and its
+/// value now.
+#[derive(Drop)]
+pub struct Changed {
+    pub number: u64,
+    pub read: LoggedRead,
+    pub now: Answer,
+}
+
+/// The first read of the log that a write of these trails meets and that has another value now, by an attempt in this
+/// direction with these own writes, where the facts lie below it; the writes came since the reads were made, or went.
+/// It is refused only for want of memory.
+pub fn first_changed<F: Facts>(
+    alloc: Global,
+    log: &ReadLog,
+    mappings: &MappingList,
+    below: &F,
+    own: &WriteList,
+    direction: Direction,
+    sense: Sense,
+    trails: &[Trail<'_>],
+) -> Result<Option<Changed>, Memory>
+    ensures first { IfOk result (λ found. option_map changed_of found ≡
+        first_changed_lem (rules_in mappings.now) (heading_of direction) (F.tuples below.now)
+        (changes_of own.now) sense (trails_of trails.now) (reads_in log.now.items)) }
+{
+    let log = log.as_slice();
+    let own = own.as_slice();
+    first_in(alloc, log, mappings, below, own, direction, sense, trails)
+}
+
+// The same of a slice.
+fn first_in<F: Facts>(
+    alloc: Global,
+    log: &[Logged],
+    mappings: &MappingList,
+    below: &F,
+    own: &[Write],
+    direction: Direction,
+    sense: Sense,
+    trails: &[Trail<'_>],
+) -> Result<Option<Changed>, Memory>
+    ensures first { IfOk result (λ found. option_map changed_of found ≡
+        first_changed_lem (rules_in mappings.now) (heading_of direction) (F.tuples below.now)
+        (map change_of own.now) sense (trails_of trails.now) (reads_in log.now)) }
+{
+    let reader = Reader {
+        mappings,
+        direction,
+        own,
+        sense,
+    };
+    if !reader.may_be_met(trails, log) {
+        return Ok(None);
+    }
+    let mut view = View::new(alloc, below);
+    let found = changed_in(alloc, &reader, trails, below, &mut view, log)?;
+    Ok(found)
+}
+
+// The first read of the log that is met and has another value now. The view has no own write yet.
+fn changed_in<'a, F: Facts>(
+    alloc: Global,
+    reader: &Reader<'_>,
+    trails: &[Trail<'_>],
+    below: &'a F,
+    view: &mut View<'a, F>,
+    log: &[Logged],
+) -> Result<Option<Changed>, Memory>
+    requires sees { SeesFirst (F.tuples below.now) (map change_of reader.now.own.now) 0 view.old }
+    ensures first { IfOk result (λ found. option_map changed_of found ≡
+        changed_from reader.now trails.now (F.tuples below.now) 1 (reads_in log.now)) }
+{
+    let mut seen = 0;
+    let mut number = 0;
+    'entries: for entry in log {
+        let all = entry.count_on(number)?;
+        let found = changed_by(alloc, reader, trails, below, view, &mut seen, number, entry)?;
+        if let Some(changed) = found {
+            return Ok(Some(changed));
+        }
+        number = all;
+    }
+    Ok(None)
+}
+
+// The first of the entry's reads that is met and has another value now, where so many reads come before it. The view is as the
+// attempt saw it when it had made the first `seen` of its writes.
+fn changed_by<'a, F: Facts>(
+    alloc: Global,
+    reader: &Reader<'_>,
+    trails: &[Trail<'_>],
+    below: &'a F,
+    view: &mut View<'a, F>,
+    seen: &mut usize,
+    before: u64,
+    entry: &Logged,
+) -> Result<Option<Changed>, Memory>
+    requires sees { SeesFirst (F.tuples below.now) (map change_of reader.now.own.now)
+        seen.old view.old }
+    requires fits { before + length (reads_of entry.now) < 2 ^ 64 }
+    ensures sees { OnOk result
+        (SeesFirst (F.tuples below.now) (map change_of reader.now.own.now) seen.new view.new) }
+    ensures first { IfOk result (λ found. option_map changed_of found ≡
+        changed_from reader.now trails.now (F.tuples below.now) (before + 1) (reads_of entry.now)) }
+{
+    match entry {
+        Logged::Asked(read) => {
+            changed_read(alloc, reader, trails, below, view, seen, before + 1, read)
+        }
+        Logged::Passed(passage) => {
+            changed_in_passage(alloc, reader, trails, below, view, seen, before, passage)
+        }
+    }
+}
+
+// The same of the reads of a passage.
+fn changed_in_passage<'a, F: Facts>(
+    alloc: Global,
+    reader: &Reader<'_>,
+    trails: &[Trail<'_>],
+    below: &'a F,
+    view: &mut View<'a, F>,
+    seen: &mut usize,
+    before: u64,
+    passage: &Passage,
+) -> Result<Option<Changed>, Memory>
+    requires sees { SeesFirst (F.tuples below.now) (map change_of reader.now.own.now)
+        seen.old view.old }
+    requires fits { before + (passage.now.end - passage.now.start) < 2 ^ 64 }
+    ensures sees { OnOk result
+        (SeesFirst (F.tuples below.now) (map change_of reader.now.own.now) seen.new view.new) }
+    ensures first { IfOk result (λ found. option_map changed_of found ≡
+        changed_from reader.now trails.now (F.tuples below.now) (before + 1)
+        (passing passage.now.start (passage.now.end - passage.now.start) passage.now.own)) }
+{
+    let mut number = before;
+    for mapping in passage.start..passage.end {
+        number += 1;
+        let found = changed_mapping(
+            alloc,
+            reader,
+            trails,
+            below,
+            view,
+            seen,
+            number,
+            mapping,
+            passage.own,
+        )?;
+        if let Some(changed) = found {
+            return Ok(Some(changed));
+        }
+    }
+    Ok(None)
+}
+
+// The read of this number, that the mapping has no violation by an attempt that had made so many writes, if it is met and has
+// another value now.
+fn changed_mapping<'a, F: Facts>(
+    alloc: Global,
+    reader: &Reader<'_>,
+    trails: &[Trail<'_>],
+    below: &'a F,
+    view: &mut View<'a, F>,
+    seen: &mut usize,
+    number: u64,
+    mapping: u16,
+    made: u64,
+) -> Result<Option<Changed>, Memory>
+    requires sees { SeesFirst (F.tuples below.now) (map change_of reader.now.own.now)
+        seen.old view.old }
+    ensures sees { OnOk result
+        (SeesFirst (F.tuples below.now) (map change_of reader.now.own.now) seen.new view.new) }
+    ensures first { IfOk result (λ found. option_map changed_of found ≡
+        changed_from reader.now trails.now (F.tuples below.now) number
+        (finds_none_lem mapping made ∷ [])) }
+{
+    let read = finds_none(mapping, made);
+    let changed = changed_read(alloc, reader, trails, below, view, seen, number, &read)?;
+    Ok(changed)
+}
+
+// The read of this number, if it is met and has another value now.
+fn changed_read<'a, F: Facts>(
+    alloc: Global,
+    reader: &Reader<'_>,
+    trails: &[Trail<'_>],
+    below: &'a F,
+    view: &mut View<'a, F>,
+    seen: &mut usize,
+    number: u64,
+    read: &LoggedRead,
+) -> Result<Option<Changed>, Memory>
+    requires sees { SeesFirst (F.tuples below.now) (map change_of reader.now.own.now)
+        seen.old view.old }
+    ensures sees { OnOk result
+        (SeesFirst (F.tuples below.now) (map change_of reader.now.own.now) seen.new view.new) }
+    ensures first { IfOk result (λ found. option_map changed_of found ≡
+        changed_from reader.now trails.now (F.tuples below.now) number (read_of read.now ∷ [])) }
+{
+    if !reader.is_met(trails, read) {
+        return Ok(None);
+    }
+    let count = standing_then(read.own, reader.own);
+    see(alloc, view, below, reader.own, *seen, count)?;
+    *seen = count;
+    let now = view.eval(&read.query, reader.mappings, reader.direction, alloc)?;
+    if now.is_same(&read.answer) {
+        return Ok(None);
+    }
+    Ok(Some(Changed {
+        number,
+        read: read.copy(alloc)?,
+        now,
+    }))
+}

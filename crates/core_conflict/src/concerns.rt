@@ -1,0 +1,232 @@
+//! Which writes may change the value of a read.
+ghost use Rattle.std.specs.List.{list_any};
+ghost use Rattle.std.specs.Prelude.{◌≡◌, false, map};
+ghost use Rattle.base_types.specs.Contents.{rules_in};
+ghost use Rattle.base_types.specs.Meanings.{change_of, datum_of, fact_of, heading_of};
+ghost use Rattle.def_chase.specs.Queries.{holds_null as holds_null_lem, is_named as is_named_lem};
+ghost use Rattle.chase_query.specs.Meanings.{query_of, read_of, reads_in, reads_of};
+ghost use Rattle.core_conflict.specs.Changes.{meets_any, meets_any_apart};
+ghost use Rattle.core_conflict.specs.Concerns.{breaks_some as breaks_some_lem, concerns as concerns_lem, found_none as found_none_lem, is_hit, is_met as is_met_lem, is_met_apart, may_violate as may_violate_lem, meets as meets_lem, tuple_of as tuple_of_lem};
+ghost use Rattle.core_conflict.specs.Trails.{trails_of};
+
+use crate::impacts::Impact;
+use crate::joins::{breaks_some, counts_all, may_decide, may_make};
+use base_types::{Direction, MappingList, Tuple, Value, Write};
+use chase_query::{Answer, Logged, LoggedRead, Query};
+use chase_unifier::is_more_specific;
+
+/// Writes of one update, with its number, and what an attempt must have to do with them for one to meet a read of it.
+#[derive(Drop)]
+pub struct Trail<'r> {
+    pub update: u32,
+    pub writes: &'r [Write],
+    pub impact: Impact,
+}
+
+/// How the writes of a trail turned what lies below a reader: they came since it asked, or were there then and went.
+#[derive(Clone, Copy, Debug, PartialEq, Eq)]
+pub enum Sense {
+    Came,
+    Went,
+}
+
+/// What the reads of an attempt are asked by: the mappings, the direction of the attempt, its own writes, and how the
+/// writes of the trails turned what lies below it.
+#[derive(Drop)]
+pub(crate) struct Reader<'r> {
+    pub(crate) mappings: &'r MappingList,
+    pub(crate) direction: Direction,
+    pub(crate) own: &'r [Write],
+    pub(crate) sense: Sense,
+}
+
+impl<'r> Reader<'r> {
+    /// Whether a write of one of the trails may meet a read of the log. Where it says no, none does. It goes by the
+    /// mappings once, and not by each read that found no violation. It takes no memory.
+    pub(crate) fn may_be_met(&self, trails: &[Trail<'_>], log: &[Logged]) -> bool
+        ensures unmet { result ≡ false → meets_any (rules_in self.now.mappings.now)
+            (heading_of self.now.direction) (map change_of self.now.own.now) self.now.sense
+            (trails_of trails.now) (reads_in log.now) ≡ false }
+    {
+        if counts_all(self.direction, self.own) {
+            return true;
+        }
+        if self.is_broken(trails) {
+            return true;
+        }
+        self.meets_apart(trails, log)
+    }
+
+    // Whether a write of one of the trails may break one of the mappings, with an own write.
+    fn is_broken(&self, trails: &[Trail<'_>]) -> bool
+        ensures { result ≡ is_hit (breaks_some_lem (rules_in self.now.mappings.now)
+            (heading_of self.now.direction) self.now.sense (map change_of self.now.own.now))
+            (trails_of trails.now) }
+    {
+        trails.iter().any(|trail| self.is_broken_by(trail.writes))
+    }
+
+    // Whether one of the writes may break one of the mappings, with an own write.
+    fn is_broken_by(&self, writes: &[Write]) -> bool
+        ensures { result ≡ list_any (breaks_some_lem (rules_in self.now.mappings.now)
+            (heading_of self.now.direction) self.now.sense (map change_of self.now.own.now))
+            (map change_of writes.now) }
+    {
+        writes.iter().any(|write| breaks_some(
+            self.mappings,
+            self.direction,
+            self.sense,
+            self.own,
+            write,
+        ))
+    }
+
+    // Whether a write of one of the trails meets a read of the log, of those that asked for no violation or found one.
+    fn meets_apart(&self, trails: &[Trail<'_>], log: &[Logged]) -> bool
+        ensures { result ≡ meets_any_apart (rules_in self.now.mappings.now)
+            (heading_of self.now.direction) (map change_of self.now.own.now) self.now.sense
+            (trails_of trails.now) (reads_in log.now) }
+    {
+        log.iter()
+            .any(|entry| self.meets_entry_apart(trails, entry))
+    }
+
+    // Whether one meets a read of the entry. Those that a look passed found none.
+    fn meets_entry_apart(&self, trails: &[Trail<'_>], entry: &Logged) -> bool
+        ensures { result ≡ meets_any_apart (rules_in self.now.mappings.now)
+            (heading_of self.now.direction) (map change_of self.now.own.now) self.now.sense
+            (trails_of trails.now) (reads_of entry.now) }
+    {
+        match entry {
+            Logged::Asked(read) => self.is_met_apart(trails, read),
+            Logged::Passed(_) => false,
+        }
+    }
+
+    // Whether the read asked for no violation or found one, and a write of one of the trails meets it.
+    fn is_met_apart(&self, trails: &[Trail<'_>], read: &LoggedRead) -> bool
+        ensures { result ≡ is_met_apart (rules_in self.now.mappings.now)
+            (heading_of self.now.direction) (map change_of self.now.own.now) self.now.sense
+            (trails_of trails.now) (read_of read.now) }
+    {
+        if found_none(read) {
+            return false;
+        }
+        self.is_met(trails, read)
+    }
+
+    /// Whether a write of one of the trails meets the read. It takes no memory.
+    pub(crate) fn is_met(&self, trails: &[Trail<'_>], read: &LoggedRead) -> bool
+        ensures { result ≡ is_met_lem (rules_in self.now.mappings.now)
+            (heading_of self.now.direction) (map change_of self.now.own.now) self.now.sense
+            (trails_of trails.now) (read_of read.now) }
+    {
+        trails
+            .iter()
+            .any(|trail| self.is_met_by(trail.writes, read))
+    }
+
+    // Whether one of the writes meets the read.
+    fn is_met_by(&self, writes: &[Write], read: &LoggedRead) -> bool
+        ensures { result ≡ list_any (meets_lem (rules_in self.now.mappings.now)
+            (heading_of self.now.direction) (map change_of self.now.own.now) self.now.sense
+            (read_of read.now)) (map change_of writes.now) }
+    {
+        writes.iter().any(|write| self.meets(write, read))
+    }
+
+    // Whether the write meets the read: it may make a violation where the read found none, and else its tuple concerns the
+    // query.
+    fn meets(&self, write: &Write, read: &LoggedRead) -> bool
+        ensures { result ≡ meets_lem (rules_in self.now.mappings.now)
+            (heading_of self.now.direction) (map change_of self.now.own.now) self.now.sense
+            (read_of read.now) (change_of write.now) }
+    {
+        match &read.answer {
+            Answer::Nothing => self.may_violate(&read.query, write),
+            Answer::Yes => self.concerns(&read.query, tuple_of(write)),
+            Answer::No => self.concerns(&read.query, tuple_of(write)),
+            Answer::Image(_) => self.concerns(&read.query, tuple_of(write)),
+            Answer::Tuples(_) => self.concerns(&read.query, tuple_of(write)),
+        }
+    }
+
+    // Whether the write may make a violation that the query asks for, or its tuple concerns another query.
+    fn may_violate(&self, query: &Query, write: &Write) -> bool
+        ensures { result ≡ may_violate_lem (rules_in self.now.mappings.now)
+            (heading_of self.now.direction) (map change_of self.now.own.now) self.now.sense
+            (query_of query.now) (change_of write.now) }
+    {
+        match query {
+            Query::Violation(number) => {
+                let mapping = self.mappings.get(*number as usize);
+                may_make(mapping, self.direction, self.own, self.sense, write)
+            }
+            Query::Present(_) => self.concerns(query, tuple_of(write)),
+            Query::Specific(_) => self.concerns(query, tuple_of(write)),
+            Query::Occurs(_, _) => self.concerns(query, tuple_of(write)),
+        }
+    }
+
+    // Whether the tuple concerns the query: it is the one asked for, it may decide the violation asked for, it is more
+    // specific than the one asked for, or it holds the null asked for.
+    fn concerns(&self, query: &Query, tuple: &Tuple) -> bool
+        ensures { result ≡ concerns_lem (rules_in self.now.mappings.now)
+            (heading_of self.now.direction) (map change_of self.now.own.now)
+            (query_of query.now) (fact_of tuple.now) }
+    {
+        match query {
+            Query::Present(asked) => asked == tuple,
+            Query::Violation(number) => {
+                let mapping = self.mappings.get(*number as usize);
+                may_decide(mapping, self.direction, self.own, tuple)
+            }
+            Query::Specific(asked) => is_more_specific(asked, tuple),
+            Query::Occurs(update, place) => holds_null(tuple, *update, *place),
+        }
+    }
+}
+
+// Whether the read asked for a violation, and was answered that there is none.
+fn found_none(read: &LoggedRead) -> bool
+    ensures { result ≡ found_none_lem (read_of read.now) }
+{
+    match &read.query {
+        Query::Violation(_) => matches!(read.answer, Answer::Nothing),
+        Query::Present(_) => false,
+        Query::Specific(_) => false,
+        Query::Occurs(_, _) => false,
+    }
+}
+
+/// The tuple that is written.
+pub(crate) fn tuple_of(write: &Write) -> &Tuple
+    ensures { fact_of result.now ≡ tuple_of_lem (change_of write.now) }
+{
+    match write {
+        Write::Insert(tuple) => tuple,
+        Write::Delete(tuple) => tuple,
+    }
+}
+
+// Whether the tuple holds a null drawn by this update at this place.
+fn holds_null(tuple: &Tuple, update: u32, place: u32) -> bool
+    ensures { result ≡ holds_null_lem update place (fact_of tuple.now) }
+{
+    tuple
+        .values
+        .as_slice()
+        .iter()
+        .any(|value| is_named(value, update, place))
+}
+
+// Whether the value is a null drawn by this update at this place.
+fn is_named(value: &Value, update: u32, place: u32) -> bool
+    ensures { result ≡ is_named_lem update place (datum_of value.now) }
+{
+    match value {
+        Value::Null(null) => null.update == update && null.place == place,
+        Value::Int(_) => false,
+        Value::Word(_) => false,
+    }
+}

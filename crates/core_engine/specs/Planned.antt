@@ -1,0 +1,36 @@
+-- The step that a plan is of.
+use Rattle.std.specs.Prelude.{◌≡◌, ℕ, zero, suc, List, Option, Some, None, slice_get}
+use Rattle.def_machine.specs.Updates.{Update, below}
+use Rattle.def_machine.specs.Standings.{next_answer}
+use Rattle.def_chase.specs.Mappings.{Rule}
+use Rattle.def_chase.specs.Values.{Fact}
+use Rattle.chase_query.specs.Meanings.{Read}
+use Rattle.def_steps.specs.Chase.{caused_chase}
+use Rattle.chase_update.specs.Courses.{State as ProgramState}
+use Rattle.chase_plan.specs.Planned.{at_rest, next_attempt, next_reads}
+use Rattle.core_engine.specs.States.{State, updates_at}
+
+-- The next step of an update: the update's number, the attempt after the step, and its reads.
+pub record PlanMeant : Type 0 where
+  pub update : ℕ
+  pub program : ProgramState
+  pub reads : List Read
+
+-- It is the next step of this update over D.
+pub record IsStepOver (ms : List Rule) (B : ℕ) (D : List Fact) (u : Update (caused_chase ms B)) (p : PlanMeant) : Type 0 where
+  pub program : p.program ≡ at_rest (next_attempt ms B D u.state (next_answer (caused_chase ms B) u.answers u.state))
+  pub reads : p.reads ≡ next_reads ms D u.state (next_answer (caused_chase ms B) u.answers u.state)
+
+-- There is a value, and it meets this.
+abbrev pub IsSomeThat : {A : Type 0} → (A → Type 0) → Option A → Type 0
+IsSomeThat P None = ⊥
+IsSomeThat P (Some a) = P a
+
+-- It is the next step of the update of this number over what lies below that.
+abbrev pub IsStepAmong : (ms : List Rule) (B : ℕ) → List Fact → List (Update (caused_chase ms B)) → ℕ → PlanMeant → Type 0
+IsStepAmong ms B D us zero p = ⊥
+IsStepAmong ms B D us (suc k) p = IsSomeThat (λ u. IsStepOver ms B (below (caused_chase ms B) D us k) u p) (slice_get us k)
+
+-- It is the next step of its update at the state.
+abbrev pub IsStepAt : State → PlanMeant → Type 0
+IsStepAt s p = IsStepAmong s.over.rules s.over.budget s.over.base (updates_at s) p.update p

@@ -1,0 +1,65 @@
+//! Updates that are admitted while others go on.
+ghost use Rattle.std.specs.Prelude.{◌≡◌, ◌<◌, suc, length, IfOk, IfErr, OnOk, OnErr};
+ghost use Rattle.base_types.specs.Meanings.{operation_of};
+ghost use Rattle.core_engine.specs.LiveCalls.{AnswersAdmission, HasAdmitted, admits_at};
+ghost use Rattle.core_engine.specs.States.{updates_at};
+
+use crate::admissions::admit_at;
+use crate::cores::Core;
+use crate::refusals::AdmitRefusal;
+use base_types::Update;
+use lang_schema::Schema;
+use lang_session::admits;
+use std::alloc::Global;
+
+impl<'s> Core<'s> {
+    /// Whether the update may be admitted next, over the relations of this schema: it fits them, its words are at most 256
+    /// bytes of UTF-8, its nulls come from updates that are there, and it puts no mapping in force. It takes no memory.
+    pub fn admits(&self, schema: &Schema, update: &Update) -> bool
+        ensures admits { result ≡ admits_at self.now schema.now
+            (operation_of update.now.operation) }
+    {
+        admits(schema, self.count(), &update.operation)
+    }
+
+    /// Admits one more update, behind the others and with no recorded answers. It gives its number. Where it is refused the
+    /// update is handed back, and the core is unchanged. Whether it may be admitted, as `admits` tells, is for the caller to
+    /// test.
+    pub fn admit(&mut self, alloc: Global, update: Update) -> Result<u32, (AdmitRefusal, Update)>
+        ensures made { OnOk result (HasAdmitted self.old (operation_of update.operation) self.new) }
+        ensures kept { OnErr result (self.new ≡ self.old) }
+        ensures answer { AnswersAdmission (length (updates_at self.old)) result }
+        ensures back { IfErr result (λ refused. refused.1 ≡ update) }
+    {
+        if self.count() >= 1000 {
+            return Err((AdmitRefusal::Full, update));
+        }
+        match self.make_admission(alloc, update) {
+            Ok(number) => Ok(number),
+            Err(update) => Err((AdmitRefusal::Memory, update)),
+        }
+    }
+
+    // Admits one more update; there are fewer than the most. It is refused only for want of memory, and then hands the
+    // update back.
+    fn make_admission(&mut self, alloc: Global, update: Update) -> Result<u32, Update>
+        requires few { length (updates_at self.old) < 1000 }
+        ensures made { OnOk result (HasAdmitted self.old (operation_of update.operation) self.new) }
+        ensures number { IfOk result (λ n. n ≡ suc (length (updates_at self.old))) }
+        ensures kept { OnErr result (self.new ≡ self.old) }
+        ensures back { IfErr result (λ back. back ≡ update) }
+    {
+        self.least = 0;
+        self.most = u32::MAX;
+        self.unready = 0;
+        self.known.update = 0;
+        let number = admit_at(
+            alloc,
+            &mut self.queue,
+            &mut self.history,
+            &mut self.later,
+            update,
+        )?;
+        Ok(number)
+    }
+}

@@ -1,0 +1,58 @@
+//! A step above which nobody has read anything: its writes go in place, and no update restarts.
+ghost use Rattle.std.specs.Prelude.{◌≡◌, [], false, IsTrue, IfOk, OnErr};
+ghost use Rattle.core_queue.specs.Programs.{HasSpent, IsBetween};
+ghost use Rattle.core_engine.specs.Steps.{HasHidden, IsPreparedAlone};
+
+use crate::aftermaths::Aftermath;
+use crate::stepping::{Prepared, copied, hides};
+use base_types::Memory;
+use chase_plan::Plan;
+use chase_update::Program;
+use core_entries::CauseList;
+use core_queue::{Record, has_spent};
+use set_versions::Versions;
+use std::alloc::Global;
+
+/// Whether nobody above has read anything, of so many that may have, and the attempt is not ended spent or refused.
+pub(crate) fn is_alone(readers: usize, program: &Program) -> bool
+    requires between { IsBetween program.now }
+    ensures unread { IsTrue result → readers ≡ 0 }
+    ensures shown { IsTrue result → HasHidden program.now false }
+    ensures unspent { IsTrue result → HasSpent program.now false }
+{
+    if readers != 0 {
+        return false;
+    }
+    if hides(program) {
+        return false;
+    }
+    !has_spent(program)
+}
+
+/// What the step of the plan leaves, where none of the updates above has read anything. Its writes go into the versions, which
+/// is the last that can fail. It is refused only for want of memory; the versions are then as they were.
+pub(crate) fn prepare_alone(
+    alloc: Global,
+    versions: &mut Versions,
+    item: &Record,
+    plan: &Plan,
+) -> Result<Prepared, Memory>
+    requires between { IsBetween item.now.program }
+    requires after { IsBetween plan.now.program }
+    requires shown { HasHidden plan.now.program false }
+    requires unspent { HasSpent plan.now.program false }
+    ensures prepared { IfOk result (IsPreparedAlone versions.old item.now plan.now versions.new) }
+    ensures fresh { IfOk result (λ p. p.left.fresh.items ≡ []) }
+    ensures err { OnErr result (versions.new ≡ versions.old) }
+{
+    let written = item.written(plan);
+    let writes = copied(alloc, written)?;
+    versions.publish(alloc, item.number(), written)?;
+    Ok(Prepared {
+        writes,
+        left: Aftermath {
+            fresh: Vec::new(alloc),
+            causes: CauseList::new(alloc),
+        },
+    })
+}

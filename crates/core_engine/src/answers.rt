@@ -1,0 +1,106 @@
+//! An answer by a person.
+ghost use Rattle.std.specs.Prelude.{◌≡◌, ◌<◌, ◌≤◌, length, IfOk, IfErr, OnOk, OnErr};
+ghost use Rattle.base_types.specs.Meanings.{choice_of};
+ghost use Rattle.core_queue.specs.Queues.{AreFrom};
+ghost use Rattle.core_queue.specs.Settings.{settings_of};
+ghost use Rattle.core_engine.specs.Answered.{AnswersTo, TellsAnswer};
+ghost use Rattle.core_engine.specs.Follows.{AreSame, HasAnswerRoomAt};
+
+use crate::deliveries::reserve_delivery;
+use crate::stepping::put_last;
+use base_types::{Choice, Memory, TryCopy};
+use core_entries::{Entry, EntryList};
+use core_queue::{Record, Settings, committed};
+use std::alloc::Global;
+
+/// Puts the choice where the update at the place waits for an answer. It is refused only for want of memory: it then hands
+/// the choice back, and what the queue and the history mean stays.
+pub(crate) fn answer_at(
+    alloc: Global,
+    settings: Settings,
+    queue: &mut [Record],
+    history: &mut EntryList,
+    place: usize,
+    choice: Choice,
+) -> Result<(), Choice>
+    requires place { place < length queue.old }
+    requires numbers { AreFrom 1 queue.old }
+    ensures made { OnOk result (AnswersTo (settings_of settings) place (choice_of choice) queue.old
+        history.old.items queue.new history.new.items) }
+    ensures queue { OnErr result (AreSame queue.old queue.new) }
+    ensures history { OnErr result (history.new.items ≡ history.old.items) }
+    ensures long { length queue.new ≡ length queue.old }
+    ensures back { IfErr result (λ back. choice_of back ≡ choice_of choice) }
+{
+    match prepare_answer(alloc, queue, history, place, &choice) {
+        Ok(told) => {
+            put_answer(alloc, settings, queue, history, place, choice, told);
+            Ok(())
+        }
+        Err(_) => Err(choice),
+    }
+}
+
+// Makes room for the answer, and a copy of the choice for its entry. It is refused only for want of memory. What queue and
+// history mean stays.
+fn prepare_answer(
+    alloc: Global,
+    queue: &mut [Record],
+    history: &mut EntryList,
+    place: usize,
+    choice: &Choice,
+) -> Result<Choice, Memory>
+    requires place { place < length queue.old }
+    ensures room { OnOk result (HasAnswerRoomAt place queue.new) }
+    ensures spare { OnOk result (1 ≤ history.new.spare) }
+    ensures told { IfOk result (λ told. choice_of told ≡ choice_of choice.now) }
+    ensures same { AreSame queue.old queue.new }
+    ensures long { length queue.new ≡ length queue.old }
+    ensures history { history.new.items ≡ history.old.items }
+{
+    reserve_delivery(queue, history, place)?;
+    let told = choice.copy(alloc)?;
+    Ok(told)
+}
+
+// Puts the choice where the update at the place waits for an answer, and tells the other, which is the same. There is room
+// for it.
+fn put_answer(
+    alloc: Global,
+    settings: Settings,
+    queue: &mut [Record],
+    history: &mut EntryList,
+    place: usize,
+    choice: Choice,
+    told: Choice,
+)
+    requires place { place < length queue.old }
+    requires numbers { AreFrom 1 queue.old }
+    requires room { HasAnswerRoomAt place queue.old }
+    requires spare { 1 ≤ history.old.spare }
+    requires told { choice_of told ≡ choice_of choice }
+    ensures made { AnswersTo (settings_of settings) place (choice_of choice) queue.old
+        history.old.items queue.new history.new.items }
+    ensures long { length queue.new ≡ length queue.old }
+{
+    queue[place].answer(alloc, choice);
+    let entry = answer_entry(settings, queue, place, told);
+    put_last(history, entry);
+}
+
+// The entry of the answer to the update at the place.
+fn answer_entry(settings: Settings, queue: &[Record], place: usize, choice: Choice) -> Entry
+    requires place { place < length queue.now }
+    requires numbers { AreFrom 1 queue.now }
+    ensures told { TellsAnswer (settings_of settings) place (choice_of choice) queue.now result }
+{
+    let committed = committed(queue);
+    let record = &queue[place];
+    let update = record.number();
+    let standing = record.standing(settings, committed, update);
+    Entry::Answered {
+        update,
+        choice,
+        standing,
+    }
+}

@@ -1,0 +1,396 @@
+//! A core, and what it is made of.
+ghost use Rattle.std.specs.Prelude.{◌≡◌, ◌≤◌, length, map, true, Some, IfSome, IfOk, OnOk, OnErr};
+ghost use Rattle.std.specs.Option.{option_map, option_copied};
+ghost use Rattle.chase_question.specs.Inquiries.{inquiry_of, inquiry_in};
+ghost use Rattle.def_history.specs.Cores.{IsLegalOver};
+ghost use Rattle.def_machine.specs.Effects.{Steps, Delivers};
+ghost use Rattle.def_machine.specs.Standings.{Ready, Paused, Missing};
+ghost use Rattle.core_entries.specs.Meanings.{standing_of, entry_of};
+ghost use Rattle.def_chase.specs.Repository.{IsRepository};
+ghost use Rattle.def_language.specs.Validity.{IsSession};
+ghost use Rattle.lang_session.specs.Meanings.{session_of};
+ghost use Rattle.core_queue.specs.Settings.{settings_of};
+ghost use Rattle.core_engine.specs.States.{opened, updates_at, committed_at, standing_at, question_at, has_waiting as has_waiting_lem, lowest_ready_at, lowest_ready_besides_at, lowest_deliverable_at, next_deliverable_at, is_quiet_at};
+ghost use Rattle.core_engine.specs.Events.{HasMade, AnswersStep, AnswersDelivery};
+ghost use Rattle.core_engine.specs.Planned.{IsStepAt};
+
+use crate::admitting::{admissions, admitted};
+use crate::deliveries::deliver_at;
+use crate::known::Known;
+use crate::plans::{Plan, Snapshot, plan_at, snapshot_at};
+use crate::putting::{least_below, step_at};
+use crate::refusals::{DeliverRefusal, StepRefusal};
+use crate::standings::{has_waiting, place_of, question, standing};
+use crate::stepping::{lesser, raised};
+use base_limits::Budget;
+use base_types::{Memory, TupleList, UpdateList};
+use chase_plan::TouchedMappings;
+use chase_question::Question;
+use core_entries::{Entry, EntryList, Standing};
+use core_queue::{
+    Record, Settings, committed_from, is_quiet, lowest_deliverable, lowest_ready,
+    lowest_ready_besides, next_deliverable, reads_at_most, unready_from,
+};
+use lang_session::{Session, SessionUpdates};
+use run_serial::{base_of, mappings_of};
+use set_facts::IndexedFacts;
+use set_versions::Versions;
+use std::alloc::Global;
+use std::marker::Model;
+
+/// The updates of a session with all that was done to them. Contracts see what its history is over, and the entries of
+/// that history.
+#[derive(Drop)]
+pub struct Core<'s> {
+    pub(crate) mappings: TouchedMappings<'s>,
+    pub(crate) budget: Budget,
+    pub(crate) settings: Settings,
+    pub(crate) base: &'s TupleList,
+    pub(crate) updates: &'s SessionUpdates,
+    pub(crate) later: UpdateList,
+    pub(crate) versions: Versions,
+    pub(crate) queue: Vec<Record>,
+    pub(crate) history: EntryList,
+    // At least so many updates are committed; the walks over the queue begin behind them.
+    pub(crate) least: u32,
+    // At most the first so many have read something; the walks upwards from an event end with them.
+    pub(crate) most: u32,
+    // The first so many are unready; the search for a ready one begins behind them.
+    pub(crate) unready: usize,
+    // The marks of the update that made the last step, by which its next one is planned.
+    pub(crate) known: Known,
+}
+
+impl<'s> Model for Core<'s> {
+    ghost use Rattle.std.specs.Prelude.{map};
+    ghost use Rattle.core_entries.specs.Meanings.{entry_of};
+    ghost use Rattle.core_queue.specs.Settings.{settings_of};
+    ghost use Rattle.core_engine.specs.States.{State};
+    ghost use Rattle.core_queue.specs.Walks.{CommitsAtLeast, ReadsAtMost, UnreadyUpTo};
+    ghost use Rattle.core_engine.specs.Kept.{ground_by, IsKept};
+    ghost use Rattle.core_engine.specs.Known.{IsKnown};
+
+    ghost Value = { State };
+
+    ghost view = { λ c. record { over = ground_by c.mappings c.budget (settings_of c.settings) c.base.now c.updates.now c.later; history = map entry_of c.history.items } };
+
+    ghost invariant = { λ c. IsKept (ground_by c.mappings c.budget (settings_of c.settings) c.base.now c.updates.now c.later) c.versions c.queue.items (map entry_of c.history.items) × CommitsAtLeast c.queue.items c.least × ReadsAtMost c.queue.items c.most × UnreadyUpTo c.queue.items c.unready × IsKnown c.mappings c.versions c.queue.items c.known };
+}
+
+impl<'s> Core<'s> {
+    /// The core of a session to which all its updates are admitted, each with its recorded answers. It is refused only
+    /// for want of memory.
+    pub fn open(
+        alloc: Global,
+        session: &'s Session,
+        settings: Settings,
+        budget: Budget,
+    ) -> Result<Core<'s>, Memory>
+        requires valid { IsSession (session_of session.now) }
+        requires retries { settings.retries ≤ 4 }
+        ensures opened { IfOk result (λ core. core ≡ opened (session_of session.now) budget
+            (settings_of settings) (length session.now.updates.items)) }
+    {
+        let base = base_of(alloc, session)?;
+        Core::open_over(alloc, session, base, settings, budget)
+    }
+
+    /// The same over its base, which is handed over as a set of tuples (`base_of`). It is refused only for want of memory.
+    pub fn open_over(
+        alloc: Global,
+        session: &'s Session,
+        base: IndexedFacts,
+        settings: Settings,
+        budget: Budget,
+    ) -> Result<Core<'s>, Memory>
+        requires valid { IsSession (session_of session.now) }
+        requires retries { settings.retries ≤ 4 }
+        requires base { base ≡ (session_of session.now).base }
+        ensures opened { IfOk result (λ core. core ≡ opened (session_of session.now) budget
+            (settings_of settings) (length session.now.updates.items)) }
+    {
+        budget.is_within();
+        let versions = Versions::of(alloc, base)?;
+        let updates = session.updates.as_slice();
+        let queue = admitted(alloc, updates)?;
+        let history = admissions(alloc, updates)?;
+        let mappings = TouchedMappings::of(alloc, mappings_of(session))?;
+        let later = UpdateList::new(alloc);
+        let known = Known::none(alloc)?;
+        Ok(Core {
+            mappings,
+            budget,
+            settings,
+            base: &session.base,
+            updates: &session.updates,
+            later,
+            versions,
+            queue,
+            history,
+            least: 0,
+            most: u32::MAX,
+            unready: 0,
+            known,
+        })
+    }
+
+    /// How many updates there are. It takes no memory.
+    pub fn count(&self) -> u32
+        ensures count { result ≡ length (updates_at self.now) }
+    {
+        self.queue.as_slice().len() as u32
+    }
+
+    /// How many updates are committed. It takes no memory.
+    pub fn committed(&self) -> u32
+        ensures committed { result ≡ committed_at self.now }
+    {
+        committed_from(&self.queue, self.least)
+    }
+
+    /// What the update of this number may do next; None exactly where there is none. It takes no memory.
+    pub fn standing(&self, update: u32) -> Option<Standing>
+        ensures standing { option_map standing_of result ≡ standing_at self.now update }
+    {
+        standing(&self.queue, self.settings, update)
+    }
+
+    /// The question that is put to people for the update of this number: there is one exactly where it is paused. It
+    /// takes no memory.
+    pub fn question(&self, update: u32) -> Option<&Question>
+        ensures question { option_map inquiry_of (option_copied result) ≡ option_map inquiry_in
+            (question_at self.now update) }
+    {
+        question(&self.queue, self.settings, update)
+    }
+
+    /// Whether an answer is recorded for the update of this number that was not delivered yet. It takes no memory.
+    pub fn has_waiting(&self, update: u32) -> bool
+        ensures waiting { result ≡ has_waiting_lem self.now update }
+    {
+        has_waiting(&self.queue, update)
+    }
+
+    /// The lowest update that is ready, if one is. It takes no memory.
+    pub fn lowest_ready(&self) -> Option<u32>
+        ensures lowest { result ≡ lowest_ready_at self.now }
+    {
+        lowest_ready(&self.queue, self.settings, self.least)
+    }
+
+    /// The lowest update that is ready and is none of these, if there is one. It takes no memory.
+    pub fn lowest_ready_besides(&self, numbers: &[u32]) -> Option<u32>
+        ensures lowest { result ≡ lowest_ready_besides_at self.now numbers.now }
+    {
+        lowest_ready_besides(
+            &self.queue,
+            self.settings,
+            self.least,
+            self.unready,
+            numbers,
+        )
+    }
+
+    /// The lowest update to which a recorded answer can be delivered, if there is one. It takes no memory.
+    pub fn lowest_deliverable(&self) -> Option<u32>
+        ensures lowest { result ≡ lowest_deliverable_at self.now }
+    {
+        lowest_deliverable(&self.queue, self.settings, self.least)
+    }
+
+    /// The first update that is not committed, if a recorded answer can be delivered to it. It takes no memory.
+    pub fn next_deliverable(&self) -> Option<u32>
+        ensures next { result ≡ next_deliverable_at self.now }
+        ensures lowest { IfSome result (λ n. lowest_deliverable_at self.now ≡ Some n) }
+    {
+        next_deliverable(&self.queue, self.settings, self.least)
+    }
+
+    /// Whether nothing is ready, and nothing deliverable. It takes no memory.
+    pub fn is_quiet(&self) -> bool
+        ensures quiet { result ≡ is_quiet_at self.now }
+    {
+        is_quiet(&self.queue, self.settings, self.least)
+    }
+
+    /// The entries of the history. It takes no memory.
+    pub fn history(&self) -> &[Entry]
+        ensures history { map entry_of result.now ≡ self.now.history }
+    {
+        self.history.as_slice()
+    }
+
+    /// What is always true of a core: its history is legal over what it is over. It does nothing but say so.
+    pub fn is_legal(&self)
+        ensures legal { IsLegalOver self.now.over self.now.history }
+        ensures sorted { IsRepository self.now.over.base }
+        ensures budget { 1 ≤ self.now.over.budget }
+    {
+        let _ = &self.queue;
+    }
+
+    /// What is needed to plan the next step of an update that is ready, whatever is done meanwhile. It is refused only for
+    /// want of memory.
+    pub fn snapshot(&self, alloc: Global, update: u32) -> Result<Snapshot<'s>, Memory>
+        requires ready { standing_at self.now update ≡ Some Ready }
+        ensures update { IfOk result (λ snapshot. snapshot.update ≡ update) }
+        ensures step { IfOk result (IsStepAt self.now) }
+    {
+        let place = place_of(update);
+        let mappings = &self.mappings;
+        let versions = &self.versions;
+        let snapshot = snapshot_at(alloc, mappings, self.budget, versions, &self.queue, place)?;
+        Ok(snapshot)
+    }
+
+    /// The next step of an update that is ready, planned without a snapshot. The core keeps what the step tells of mappings, which
+    /// nobody sees. It is refused only for want of memory.
+    pub fn next_plan(&mut self, alloc: Global, update: u32) -> Result<Plan, Memory>
+        requires ready { standing_at self.old update ≡ Some Ready }
+        ensures same { self.new ≡ self.old }
+        ensures update { IfOk result (λ plan. plan.update ≡ update) }
+        ensures step { IfOk result (IsStepAt self.old) }
+    {
+        let place = place_of(update);
+        let mappings = &self.mappings;
+        let versions = &self.versions;
+        let queue = &mut self.queue;
+        let known = &mut self.known;
+        plan_at(alloc, mappings, self.budget, versions, queue, place, known)
+    }
+
+    /// Makes the step of the plan, which is the next one of its update at the present state. It gives the number of the
+    /// entry. It is refused only for want of memory; the core is then unchanged.
+    pub fn install(&mut self, alloc: Global, plan: Plan) -> Result<u64, Memory>
+        requires ready { standing_at self.old plan.update ≡ Some Ready }
+        requires step { IsStepAt self.old plan }
+        ensures made { OnOk result (HasMade self.old (Steps plan.update) self.new) }
+        ensures number { IfOk result (λ n. n ≡ length self.new.history) }
+        ensures kept { OnErr result (self.new ≡ self.old) }
+    {
+        let Plan { update, step } = plan;
+        let place = place_of(update);
+        let least = self.least;
+        let most = reads_at_most(&self.queue, self.most);
+        let below = lesser(self.unready, place);
+        self.least = 0;
+        self.most = u32::MAX;
+        self.unready = 0;
+        let known = self.known.number_of(update);
+        self.known.update = 0;
+        let committed = step_at(
+            alloc,
+            self.mappings.all(),
+            self.settings,
+            least,
+            most,
+            &mut self.versions,
+            &mut self.queue,
+            &mut self.history,
+            place,
+            step,
+        )?;
+        self.least = committed;
+        self.most = raised(most, update);
+        self.unready = unready_from(&self.queue, below);
+        self.known.update = known;
+        Ok(self.history.len() as u64)
+    }
+
+    /// Makes the next step of the update. It gives the number of the entry. Where it is refused the core is unchanged.
+    pub fn step(&mut self, alloc: Global, update: u32) -> Result<u64, StepRefusal>
+        ensures made { OnOk result (HasMade self.old (Steps update) self.new) }
+        ensures number { IfOk result (λ n. n ≡ length self.new.history) }
+        ensures kept { OnErr result (self.new ≡ self.old) }
+        ensures answer { AnswersStep (standing_at self.old update) result }
+    {
+        match self.standing(update) {
+            None => Err(StepRefusal::NoSuchUpdate),
+            Some(Standing::Ready) => self.step_ready(alloc, update),
+            Some(standing) => Err(StepRefusal::NotReady(standing)),
+        }
+    }
+
+    /// Delivers the first of the answers that wait for the update. It gives the number of the entry. Where it is refused
+    /// the core is unchanged.
+    pub fn deliver(&mut self, update: u32) -> Result<u64, DeliverRefusal>
+        ensures made { OnOk result (HasMade self.old (Delivers update) self.new) }
+        ensures number { IfOk result (λ n. n ≡ length self.new.history) }
+        ensures kept { OnErr result (self.new ≡ self.old) }
+        ensures answer { AnswersDelivery (standing_at self.old update)
+            (has_waiting_lem self.old update) result }
+    {
+        match self.standing(update) {
+            None => Err(DeliverRefusal::NoSuchUpdate),
+            Some(Standing::Pending) => self.deliver_pending(update),
+            Some(standing) => Err(DeliverRefusal::NotPending(standing)),
+        }
+    }
+
+    // Makes the next step of the update, which is ready.
+    fn step_ready(&mut self, alloc: Global, update: u32) -> Result<u64, StepRefusal>
+        requires ready { standing_at self.old update ≡ Some Ready }
+        ensures made { OnOk result (HasMade self.old (Steps update) self.new) }
+        ensures number { IfOk result (λ n. n ≡ length self.new.history) }
+        ensures kept { OnErr result (self.new ≡ self.old) }
+        ensures answer { AnswersStep (standing_at self.old update) result }
+    {
+        match self.make_step(alloc, update) {
+            Ok(number) => Ok(number),
+            Err(_) => Err(StepRefusal::Memory),
+        }
+    }
+
+    // Makes the next step of the update, which is ready.
+    pub(crate) fn make_step(&mut self, alloc: Global, update: u32) -> Result<u64, Memory>
+        requires ready { standing_at self.old update ≡ Some Ready }
+        ensures made { OnOk result (HasMade self.old (Steps update) self.new) }
+        ensures number { IfOk result (λ n. n ≡ length self.new.history) }
+        ensures kept { OnErr result (self.new ≡ self.old) }
+    {
+        let plan = self.next_plan(alloc, update)?;
+        let number = self.install(alloc, plan)?;
+        Ok(number)
+    }
+
+    // Delivers the first of the answers that wait for the update, which is pending, if there is one.
+    fn deliver_pending(&mut self, update: u32) -> Result<u64, DeliverRefusal>
+        requires pending { standing_at self.old update ≡ Some (Paused Missing) }
+        ensures made { OnOk result (HasMade self.old (Delivers update) self.new) }
+        ensures number { IfOk result (λ n. n ≡ length self.new.history) }
+        ensures kept { OnErr result (self.new ≡ self.old) }
+        ensures answer { AnswersDelivery (standing_at self.old update)
+            (has_waiting_lem self.old update) result }
+    {
+        if !self.has_waiting(update) {
+            return Err(DeliverRefusal::NoAnswer);
+        }
+        match self.make_delivery(update) {
+            Ok(number) => Ok(number),
+            Err(_) => Err(DeliverRefusal::Memory),
+        }
+    }
+
+    // Delivers the first of the answers that wait for the update, which is pending.
+    pub(crate) fn make_delivery(&mut self, update: u32) -> Result<u64, Memory>
+        requires pending { standing_at self.old update ≡ Some (Paused Missing) }
+        requires waits { has_waiting_lem self.old update ≡ true }
+        ensures made { OnOk result (HasMade self.old (Delivers update) self.new) }
+        ensures number { IfOk result (λ n. n ≡ length self.new.history) }
+        ensures kept { OnErr result (self.new ≡ self.old) }
+    {
+        let place = place_of(update);
+        let least = least_below(self.least, place);
+        let most = raised(self.most, update);
+        let unready = lesser(self.unready, place);
+        self.least = 0;
+        self.most = u32::MAX;
+        self.unready = 0;
+        self.known.update = 0;
+        deliver_at(self.settings, &mut self.queue, &mut self.history, place)?;
+        self.least = least;
+        self.most = most;
+        self.unready = unready;
+        Ok(self.history.len() as u64)
+    }
+}

@@ -1,0 +1,58 @@
+//! What is told of a core, and what a session comes to whose core is drained.
+ghost use Rattle.std.specs.Prelude.{◌≡◌, ◌≤◌, None, true, IfOk, OnOk};
+ghost use Rattle.def_language.specs.Validity.{IsSession};
+ghost use Rattle.lang_session.specs.Base.{base_violation};
+ghost use Rattle.lang_session.specs.Meanings.{session_of};
+ghost use Rattle.run_serial.specs.Meanings.{IsSerialRun};
+ghost use Rattle.core_engine.specs.Drained.{HasTurned};
+ghost use Rattle.core_engine.specs.Results.{IsResultOf};
+ghost use Rattle.core_engine.specs.States.{is_quiet_at};
+
+use crate::cores::Core;
+use base_limits::Budget;
+use base_types::Memory;
+use chase_update::SessionResult;
+use core_queue::Settings;
+use core_result::told;
+use lang_session::Session;
+use std::alloc::Global;
+
+impl<'s> Core<'s> {
+    /// How the committed updates ended, where the lowest that is not committed stops, and the repository that the committed
+    /// ones left, nulls by their outer forms. It is refused only for want of memory.
+    pub fn result(&self, alloc: Global) -> Result<SessionResult, Memory>
+        ensures told { IfOk result (IsResultOf self.now) }
+    {
+        let told = told(alloc, &self.queue, &self.versions)?;
+        Ok(told)
+    }
+}
+
+/// What the session comes to by a core that is drained: whatever the settings, that is the serial run. It is refused only
+/// for want of memory.
+pub fn drained(
+    alloc: Global,
+    session: &Session,
+    settings: Settings,
+    budget: Budget,
+) -> Result<SessionResult, Memory>
+    requires valid { IsSession (session_of session.now) }
+    requires met { base_violation (session_of session.now) ≡ None }
+    requires retries { settings.retries ≤ 4 }
+    ensures told { IfOk result (IsSerialRun budget (session_of session.now)) }
+{
+    let mut core = Core::open(alloc, session, settings, budget)?;
+    core.is_legal();
+    came_to(alloc, &mut core)
+}
+
+// What the core comes to once it is drained. It is refused only for want of memory.
+fn came_to(alloc: Global, core: &mut Core<'_>) -> Result<SessionResult, Memory>
+    ensures turned { HasTurned core.old core.new }
+    ensures quiet { OnOk result (is_quiet_at core.new ≡ true) }
+    ensures told { IfOk result (IsResultOf core.new) }
+{
+    core.drain(alloc)?;
+    let told = core.result(alloc)?;
+    Ok(told)
+}

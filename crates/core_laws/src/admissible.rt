@@ -1,0 +1,21 @@
+//! The theorem on histories, for sessions that were read: what passed the checks of the language, over a base that violates
+//! no mapping, is a session that the theorem is about.
+//!
+//! Each law is the contract of a function that does nothing, so that it is proved and can be cited.
+ghost use Rattle.core_laws.specs.Histories.{CheckedIsAdmissible, MappingsHold, WholeIsSerial};
+
+/// A session that passed its checks, and whose base violates no mapping, is one that the theorem on histories is about.
+pub fn checked_sessions_are_admissible()
+    ensures { CheckedIsAdmissible }
+{}
+
+/// Whatever the order in which the updates of such a session were taken: a legal history in which all of them are admitted,
+/// with no withdrawal and no live answer, and which is quiet, tells what the serial machine tells of the session.
+pub fn whole_histories_are_serial()
+    ensures { WholeIsSerial }
+{}
+
+/// Every mapping in force holds in what the committed updates of any legal history over such a session leave.
+pub fn mappings_hold_in_what_is_left()
+    ensures { MappingsHold }
+{}

@@ -1,0 +1,15 @@
+//! Drains of kept histories: while an update is ready or an answer can be delivered, a step of the lowest ready update, else a
+//! delivery to the lowest that can have it.
+//!
+//! The definitions stand in `specs/`; each function is a law, whose contract is the statement and whose body is empty.
+#![tactic(auto)]
+
+mod admissible;
+mod drains;
+
+pub use crate::admissible::{
+    checked_sessions_are_admissible, mappings_hold_in_what_is_left, whole_histories_are_serial,
+};
+pub use crate::drains::{
+    drained_sessions_are_serial, turns_keep_the_history, turns_lower_the_work,
+};

@@ -1,0 +1,43 @@
+//! How far up the updates have read something. Those above have no cause to restart.
+ghost use Rattle.std.specs.Prelude.{◌≡◌, ◌≤◌, false, [], length};
+ghost use Rattle.core_queue.specs.Walks.{ReadsAtMost};
+
+use crate::records::Record;
+
+/// How many of the first updates may have read something: behind the last that has, none does. At most so many have. It
+/// takes no memory.
+pub fn reads_at_most(queue: &[Record], most: u32) -> u32
+    requires most { ReadsAtMost queue.now most }
+    ensures most { ReadsAtMost queue.now result }
+    ensures within { result ≤ length queue.now }
+{
+    let mut count = within(queue, most);
+    'updates: while count > 0 {
+        if has_read(&queue[count as usize - 1]) {
+            return count;
+        }
+        count -= 1;
+    }
+    0
+}
+
+// So many, or all of the updates where there are fewer.
+fn within(queue: &[Record], most: u32) -> u32
+    requires most { ReadsAtMost queue.now most }
+    ensures most { ReadsAtMost queue.now result }
+    ensures within { result ≤ length queue.now }
+{
+    let all = queue.len();
+    if most as usize <= all {
+        most
+    } else {
+        all as u32
+    }
+}
+
+// Whether the update has logged a read.
+fn has_read(item: &Record) -> bool
+    ensures read { result ≡ false → item.now.log.items ≡ [] }
+{
+    !item.log.is_empty()
+}

@@ -1,0 +1,21 @@
+//! How far up the updates are unready. The search for a ready one begins behind them.
+ghost use Rattle.core_queue.specs.Queues.{AreFrom};
+ghost use Rattle.core_queue.specs.Walks.{UnreadyUpTo};
+
+use crate::records::Record;
+
+/// How many of the first updates are unready, where so many are; those are not looked at. It takes no memory.
+pub fn unready_from(queue: &[Record], first: usize) -> usize
+    requires from { AreFrom 1 queue.now }
+    requires first { UnreadyUpTo queue.now first }
+    ensures unready { UnreadyUpTo queue.now result }
+{
+    let mut count = first;
+    'updates: while count < queue.len() {
+        if !queue[count].is_unready() {
+            return count;
+        }
+        count += 1;
+    }
+    count
+}

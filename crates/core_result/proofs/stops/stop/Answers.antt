@@ -1,0 +1,20 @@
+use Rattle.std.proofs.Common.{◌+◌, add-one, ap}
+use Rattle.core_queue.proofs.Walking.{stand_behind}
+use Rattle.core_result.specs.Told.{stop_told}
+use Rattle.core_result.proofs.Telling.{stop_on, stop_none, stop_told_here}
+use Rattle.core_result.proofs.stops.stop.Goals as goal
+
+pub returns-then-not-is_over : goal.returns-then-not-is_over
+returns-then-not-is_over c = record {
+  told = stop_told_here c.stop_at.result c.args.queue.now c.loop-record.record-index c.number.result c.record-item.result c.is_over.result _ c.loop-record-test.true c.record-item.is c.loop-record.invariant.from
+      c.number.ensures.number c.is_over.ensures.over c.if-not-is_over.true c.lack.ensures.lack c.loop-record.invariant.same c.stop_at.ensures.told;
+}
+
+pub loop-record-preserved : goal.loop-record-preserved
+loop-record-preserved c = record {
+  from = stand_behind c.args.queue.now c.loop-record.record-index _ _ c.record-item.result c.loop-record-test.true c.record-item.is (add-one (c.loop-record.record-index + 1)) c.loop-record.invariant.from;
+  same = λ ms B. stop_on ms B c.args.queue.now c.loop-record.record-index c.record-item.result c.is_over.result c.loop-record-test.true c.record-item.is c.is_over.ensures.over c.if-not-is_over.false (c.loop-record.invariant.same ms B);
+}
+
+pub returns : goal.returns
+returns c = record { told = λ ms B. ap (stop_told ms B) (stop_none ms B c.args.queue.now c.loop-record.record-index c.loop-record-test.false (c.loop-record.invariant.same ms B)) }

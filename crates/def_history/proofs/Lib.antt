@@ -1,0 +1,13 @@
+pub mod Turns
+pub mod Whole
+pub mod Attempts
+pub mod ValueTests
+pub mod Firsts
+pub mod Theorem
+pub mod Nulls
+pub mod Asking
+pub mod Asked
+pub mod Sessions
+pub mod Keeping
+pub mod Staying
+pub mod Touching

@@ -1,0 +1,7 @@
+use Rattle.def_machine.proofs.Theorem.{history_law}
+use Rattle.def_steps.specs.Chase.{caused, caused_chase}
+use Rattle.def_steps.proofs.ChaseLaws.{chase_laws}
+use Rattle.def_history.proofs.laws.attempts_are_runs.Goals as goal
+
+pub returns : goal.returns
+returns c = λ ms budget some. history_law (caused_chase ms budget) (chase_laws caused ms budget some)

@@ -1,0 +1,32 @@
+-- What is kept of a history as plain entries: the updates that they leave, and that the entry of an allowed event makes a longer one.
+use Rattle.std.specs.Prelude.{◌≡◌, ◌≤◌, List, [], ◌∷◌, ◌++◌, Some}
+use Rattle.def_machine.specs.Updates.{Update}
+use Rattle.def_machine.specs.Effects.{Event, Effect}
+use Rattle.def_chase.specs.Updates.{Operation}
+use Rattle.def_history.specs.Histories.{IsLegalHistory}
+use Rattle.def_history.specs.PlainEntries.{PlainEntry, plain_entry}
+use Rattle.def_history.specs.Cores.{Ground, machine, session_over, entries_over, updates_after, IsLegalOver, effect_after}
+
+-- These updates are left by the entries, which are a legal history.
+pub record Leave (g : Ground) (H : List PlainEntry) (us : List (Update (machine g))) : Type 0 where
+  pub legal : IsLegalOver g H
+  pub leaves : updates_after g H ≡ us
+
+-- The same, with one more update handed in.
+abbrev pub handed : Ground → Operation → Ground
+handed g op = record { rules = g.rules; budget = g.budget; settings = g.settings; base = g.base; requests = g.requests; later = g.later ++ op ∷ [] }
+
+-- What holds of the histories over g.
+pub record AreOver (g : Ground) : Type 0 where
+  pub empty : Leave g [] []
+  -- what is a legal history of the machine that leaves these updates is one here
+  pub same : (H : List PlainEntry) (us : List (Update (machine g))) → IsLegalHistory g.rules g.budget g.settings (session_over g) (entries_over g H) us → Leave g H us
+  -- the entry of an allowed event makes a longer one
+  pub grows : (H : List PlainEntry) (e : Event (machine g)) (x : Effect (machine g)) → IsLegalOver g H → effect_after g H e ≡ Some x
+      → Leave g (H ++ plain_entry g.rules g.budget x.entry ∷ []) x.updates
+  -- handing in one more update changes nothing of it
+  pub handing : (H : List PlainEntry) (op : Operation) → IsLegalOver g H → Leave (handed g op) H (updates_after g H)
+
+-- Over every ground.
+abbrev pub HistoriesAreKept : Type 0
+HistoriesAreKept = (g : Ground) → 1 ≤ g.budget → AreOver g

@@ -1,0 +1,15 @@
+pub mod Histories
+pub mod Admissible
+pub mod AnyOrder
+pub mod Nulls
+pub mod Asked
+pub mod Sessions
+pub mod HistoryWords
+pub mod AbortRows
+pub mod CascadeRows
+pub mod PlainEntries
+pub mod Cores
+pub mod CoreLaws
+pub mod Spares
+pub mod Stale
+pub mod Touches

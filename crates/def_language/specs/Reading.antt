@@ -1,0 +1,30 @@
+-- What reading answers: what was read, or the first fault.
+use Rattle.std.specs.Prelude.{ℕ, zero, suc, Bool, Result, Ok, Err, List, [], ◌∷◌, ◌++◌, if◌then◌else◌}
+use Rattle.def_language.specs.declared.Wanted.{Wanted}
+use Rattle.def_language.specs.Faults.{Kind, Expected}
+use Rattle.def_language.specs.Words.{Word}
+
+-- what is read, and then what is made of it
+infixl 10 ◌>>=◌
+abbrev pub ◌>>=◌ : {A B : Type 0} → Result A Kind → (A → Result B Kind) → Result B Kind
+(Ok x) >>= next = next x
+(Err kind) >>= next = Err kind
+
+-- something else stands where this is wanted
+abbrev pub wants : {A : Type 0} → Wanted → Result A Kind
+wants wanted = Err (Expected wanted)
+
+-- some items, and then those that are read
+abbrev pub with_front : {A R : Type 0} → List A → Result (List A × R) Kind → Result (List A × R) Kind
+with_front front read = read >>= (λ x. Ok (front ++ x.0, x.1))
+
+-- An item, and then at most n others, while `one` says that a comma stood behind the last. `one` reads an item and
+-- what stands behind it, and gives the item, whether that was a comma, and the words behind.
+unfoldable pub many : {A : Type 0} → ℕ → (List Word → Result (A × Bool × List Word) Kind) → List Word → Result (List A × List Word) Kind
+many zero one words = one words >>= (λ x. Ok (x.0 ∷ [], x.2))
+many (suc n) one words = one words >>= (λ x. if x.1 then with_front (x.0 ∷ []) (many n one x.2) else Ok (x.0 ∷ [], x.2))
+
+-- each item checked from left to right, up to the first fault
+unfoldable pub each : {A B : Type 0} → (A → Result B Kind) → List A → Result (List B) Kind
+each check [] = Ok []
+each check (x ∷ xs) = check x >>= (λ y. each check xs >>= (λ ys. Ok (y ∷ ys)))

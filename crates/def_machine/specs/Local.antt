@@ -1,0 +1,27 @@
+-- What an event doesn't touch: the updates below the one that it acts on, and what is committed.
+use Rattle.std.specs.Prelude.{◌≡◌, ℕ, suc, ◌<◌, ◌≤◌, List, length, Some, slice_get}
+use Rattle.def_machine.specs.Machine.{Machine}
+use Rattle.def_machine.specs.Updates.{Update, Session, Settings, below, committed}
+use Rattle.def_machine.specs.Effects.{Event, Admits, Steps, Delivers, Answers, Withdraws, Effect, effect}
+
+-- The number of the update that the event acts on.
+abbrev pub acts_on : {M : Machine} → List (Update M) → Event M → ℕ
+acts_on us Admits = suc (length us)
+acts_on us (Steps i) = i
+acts_on us (Delivers i) = i
+acts_on us (Answers i c) = i
+acts_on us (Withdraws i) = i
+
+-- With the event at update j the updates below it stay as they were, and so does what lies below each of them and below it.
+-- Update j wasn't committed, and what was committed stays so.
+pub record IsLocal (M : Machine) (D : M.Repository) (j : ℕ) (us vs : List (Update M)) : Type 0 where
+  pub lower : (k : ℕ) → suc k < j → slice_get vs k ≡ slice_get us k
+  pub below : (k : ℕ) → k < j → below M D vs k ≡ below M D us k
+  pub uncommitted : committed M us < j
+  pub grows : committed M us ≤ committed M vs
+
+-- Of every event where it is allowed.
+abbrev pub LocalLaw : Machine → Type 0
+LocalLaw M =
+    (s : Settings) (S : Session M) (us : List (Update M)) (e : Event M) (x : Effect M) → effect M s S us e ≡ Some x
+    → IsLocal M S.base (acts_on us e) us x.updates

@@ -1,0 +1,14 @@
+pub mod Follows
+pub mod Lowest
+pub mod Resting
+pub mod Marking
+pub mod Answering
+pub mod Staying
+pub mod Legality
+pub mod Calling
+pub mod Beginning
+pub mod Ending
+pub mod Told
+pub mod Parting
+pub mod Holding
+pub mod Giving

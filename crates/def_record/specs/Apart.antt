@@ -1,0 +1,28 @@
+-- Each update has one ticket out at most, and each number is given once.
+use Rattle.std.specs.Prelude.{◌≡◌, ℕ, ◌<◌, ◌≤◌, List, [], ◌∷◌, length, Some, None}
+use Rattle.def_machine.specs.Machine.{Machine}
+use Rattle.def_record.specs.Items.{Record}
+use Rattle.def_record.specs.Tickets.{Ticket, ticket_of, without}
+use Rattle.def_record.specs.Records.{Now, now_of, IsRecord}
+
+-- The tickets have numbers that rise, the first above n, and each stands for another update than those behind it.
+abbrev pub AreApart : ℕ → List Ticket → Type 0
+AreApart n [] = Unit {0}
+AreApart n (t ∷ ts) = (n < t.number) × (ticket_of t.update ts ≡ None) × AreApart t.number ts
+
+-- The tickets have numbers up to n.
+abbrev pub AreGiven : ℕ → List Ticket → Type 0
+AreGiven n [] = Unit {0}
+AreGiven n (t ∷ ts) = (t.number ≤ n) × AreGiven n ts
+
+pub record HasTickets (M : Machine) (n : Now M) (r : Record M) : Type 0 where
+  pub apart : AreApart 0 n.out
+  pub given : AreGiven n.given n.out
+  -- a number is no more than the record is long
+  pub few : n.given < length r
+  -- where one is returned its update is in flight no more
+  pub back : (t : Ticket) → ticket_of t.update n.out ≡ Some t → ticket_of t.update (without t.number t.maker n.out) ≡ None
+
+-- After every record.
+abbrev pub ApartLaw : Machine → Type 0
+ApartLaw M = (r : Record M) (n : Now M) → IsRecord r → now_of r ≡ Some n → HasTickets M n r

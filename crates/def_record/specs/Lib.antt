@@ -1,0 +1,16 @@
+pub mod Items
+pub mod Tickets
+pub mod Marks
+pub mod Records
+pub mod Answers
+pub mod Rests
+pub mod Stays
+pub mod Calls
+pub mod Openings
+pub mod Headline
+pub mod Results
+pub mod Apart
+pub mod SmallRecords
+pub mod Held
+pub mod Given
+pub mod Makers

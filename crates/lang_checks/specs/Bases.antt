@@ -1,0 +1,14 @@
+-- Sets of tuples, one for each relation.
+use Rattle.std.specs.Prelude.{◌≡◌, ℕ, suc, List, [], ◌∷◌, ◌++◌}
+use Rattle.std.specs.List.{AllByRecursion}
+use Rattle.def_chase.specs.Values.{Fact}
+
+-- the tuples of all of them, in order
+abbrev pub gathered : List (List Fact) → List Fact
+gathered [] = []
+gathered (D ∷ Ds) = D ++ gathered Ds
+
+-- each has tuples of its own relation alone, and the first is of this one
+abbrev pub AreApart : ℕ → List (List Fact) → Type 0
+AreApart n [] = Unit {0}
+AreApart n (D ∷ Ds) = AllByRecursion (λ t. t.relation ≡ n) D × AreApart (suc n) Ds

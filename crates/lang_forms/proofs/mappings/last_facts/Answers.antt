@@ -1,0 +1,29 @@
+use Rattle.std.proofs.Common.{◌≡◌, ◌++◌, ◌∷◌, [], length, map, ap, arith}
+use Rattle.std.proofs.lemmas.List.{map_push}
+use Rattle.std.proofs.lemmas.Result.{err_from_is_err_and}
+use Rattle.lang_forms.specs.Views.{fact_of as fact_meant}
+use Rattle.def_language.specs.Parts.{last_fact}
+use Rattle.lang_forms.specs.Views.{words_of}
+use Rattle.lang_forms.proofs.Items.{begins, more, last, fails}
+use Rattle.lang_forms.proofs.mappings.last_facts.Goals as goal
+
+pub items-init : goal.items-init
+items-init c = (begins last_fact _ (words_of c.args.words) (length (words_of c.args.words)) (ap (map fact_meant) c.new-found.ensures.empty), omega arith)
+
+pub returns-in_err-item : goal.returns-in_err-item
+returns-in_err-item c =
+    let p = err_from_is_err_and c.from_residual.result c.from_residual.ensures.1 in
+    record { gives = rw (p.1, p.2) (fails c.in_err-item.field-0.0 last_fact (map fact_meant c.items.found.items) (words_of c.items.rest) (length (words_of c.items.rest)) _ c.items.invariant.0 c.in_err-item.ensures.gives); shorter = rw p.1 tt }
+
+pub items-preserved : goal.items-preserved
+items-preserved c =
+    let grown : map fact_meant c.push.new.self.items ≡ map fact_meant c.items.found.items ++ fact_meant c.in_ok-item.item ∷ [] = rw c.in_ok-push.ensures.ok (map_push fact_meant c.items.found.items c.in_ok-item.item) in
+    (rw grown (more last_fact (map fact_meant c.items.found.items) (words_of c.items.rest) (length (words_of c.items.rest)) _ (fact_meant c.in_ok-item.item) (words_of c.in_ok-item.behind) (length (words_of c.in_ok-item.behind)) c.items.invariant.0 c.in_ok-item.ensures.shorter (rw c.if-not-more.false at c.in_ok-item.ensures.gives)), omega (arith, c.in_ok-item.ensures.shorter, c.items.invariant.1))
+
+pub returns-then-not-more-clause-gives : goal.returns-then-not-more-clause-gives
+returns-then-not-more-clause-gives c =
+    let grown : map fact_meant c.push.new.self.items ≡ map fact_meant c.items.found.items ++ fact_meant c.in_ok-item.item ∷ [] = rw c.in_ok-push.ensures.ok (map_push fact_meant c.items.found.items c.in_ok-item.item) in
+    rw grown (last last_fact (map fact_meant c.items.found.items) (words_of c.items.rest) (length (words_of c.items.rest)) _ (fact_meant c.in_ok-item.item) (words_of c.in_ok-item.behind) c.items.invariant.0 (rw c.if-not-more.true at c.in_ok-item.ensures.gives))
+
+pub returns-then-not-more-clause-shorter : goal.returns-then-not-more-clause-shorter
+returns-then-not-more-clause-shorter c = omega (arith, c.in_ok-item.ensures.shorter, c.items.invariant.1)

@@ -1,0 +1,61 @@
+//! What tokens say: the values of numbers, nulls and texts.
+
+ghost use Rattle.std.specs.Prelude.{◌≡◌, ◌≤◌, IfOk, length, true};
+ghost use Rattle.def_language.specs.Spelling.{null_of, number_of, spells, text_of};
+ghost use Rattle.def_language.specs.declared.tokens.TokenKind.TheVariants.{Null, Number, Text};
+
+use crate::bytes::{behind, digit_run};
+use crate::numbers::magnitude;
+use crate::texts::next_byte;
+use base_types::{List, Memory, Word};
+use std::alloc::{AllocError, Global};
+
+/// The number that a token spells.
+pub fn number_of(spelling: &[u8]) -> i64
+    requires number { spells Number spelling.now ≡ true }
+    ensures value { result ≡ number_of spelling.now }
+{
+    let [b'-', digits @ ..] = spelling else {
+        return magnitude(spelling) as i64;
+    };
+    let value = magnitude(digits);
+    if value == 1 << 63 {
+        i64::MIN
+    } else {
+        -(value as i64)
+    }
+}
+
+/// The update and the place of the null that a token spells.
+pub fn null_of(spelling: &[u8]) -> (u32, u32)
+    requires null { spells Null spelling.now ≡ true }
+    ensures parts { result ≡ null_of spelling.now }
+{
+    let rest = behind(spelling, 1);
+    let count = digit_run(rest);
+    let update = magnitude(&rest[..count]);
+    let place = magnitude(behind(rest, count + 1));
+    (update as u32, place as u32)
+}
+
+/// What the text that a token spells says: at most 256 bytes, without quotes and escapes. It is
+/// refused only for want of memory.
+pub fn text_of(alloc: Global, spelling: &[u8]) -> Result<Word, Memory>
+    requires text { spells Text spelling.now ≡ true }
+    ensures said { IfOk result (λ word. word.items ≡ text_of spelling.now) }
+    ensures short { IfOk result (λ word. length word.items ≤ 256) }
+{
+    let rest = behind(spelling, 1);
+    let mut said = Vec::new(alloc);
+    let mut width = 0;
+    'said: loop {
+        let Ok(next) = next_byte(0, 1 + width, behind(rest, width)) else {
+            unreachable!()
+        };
+        let Some((byte, more)) = next else {
+            return Ok(List::from_vec(said));
+        };
+        said.push(byte)?;
+        width += more;
+    }
+}

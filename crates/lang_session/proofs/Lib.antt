@@ -1,0 +1,4 @@
+pub mod Suiting
+pub mod Meeting
+pub mod Texts
+pub mod Decided

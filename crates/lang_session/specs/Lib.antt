@@ -1,0 +1,4 @@
+pub mod Meanings
+pub mod Base
+pub mod Laws
+pub mod Admissible

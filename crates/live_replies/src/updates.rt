@@ -1,0 +1,97 @@
+//! Updates that are admitted while others go on.
+ghost use Rattle.std.specs.Prelude.{◌≡◌, ◌<◌, false, length, IfOk};
+ghost use Rattle.base_types.specs.Meanings.{operation_of};
+ghost use Rattle.core_engine.specs.States.{updates_at};
+ghost use Rattle.lang_forms.specs.Statements.{operation_of as operation_meant};
+ghost use Rattle.def_language.specs.Names.{is_one_of};
+ghost use Rattle.live_replies.specs.Commands.{AskUpdate};
+ghost use Rattle.live_replies.specs.Known.{known_operation};
+ghost use Rattle.live_replies.specs.Meanings.{IsTold, live_of};
+ghost use Rattle.live_replies.specs.Turns.{admission, command_turn, update_known, update_turn};
+
+use crate::conversations::Conversation;
+use crate::operations::known_operation;
+use crate::refusals::{Refusal, refused};
+use base_types::{Memory, Name, Operation, TryCopy, Update};
+use lang_forms::RawOperation;
+use std::alloc::Global;
+
+impl<'s> Conversation<'s> {
+    /// Admits an update, where its label is new, its relation is known, there is room and it names nulls of lower updates
+    /// alone. It is refused only for want of memory.
+    pub(crate) fn update(
+        &mut self,
+        alloc: Global,
+        label: Name,
+        curator: Name,
+        written: RawOperation,
+    ) -> Result<Vec<u8>, Memory>
+        ensures { IfOk result (λ text. IsTold (command_turn (live_of self.old)
+            (AskUpdate label.items curator.items (operation_meant written))) text.items
+            (live_of self.new)) }
+    {
+        if self.labels.has(&label) {
+            return refused(alloc, Refusal::Label);
+        }
+        self.update_new(alloc, label, curator, written)
+    }
+
+    // The same, where the label is new.
+    fn update_new(
+        &mut self,
+        alloc: Global,
+        label: Name,
+        curator: Name,
+        written: RawOperation,
+    ) -> Result<Vec<u8>, Memory>
+        requires new { is_one_of self.old.labels.items label.items ≡ false }
+        ensures { IfOk result (λ text. IsTold (update_known (live_of self.old) label.items
+            (known_operation self.old.session.now.schema (operation_meant written))) text.items
+            (live_of self.new)) }
+    {
+        match known_operation(alloc, &self.session.schema, written)? {
+            Some(operation) => self.update_known(
+                alloc,
+                Update {
+                    label,
+                    curator,
+                    operation,
+                },
+            ),
+            None => refused(alloc, Refusal::Fact),
+        }
+    }
+
+    // The same, where the relation is known.
+    fn update_known(&mut self, alloc: Global, update: Update) -> Result<Vec<u8>, Memory>
+        requires new { is_one_of self.old.labels.items update.label.items ≡ false }
+        ensures { IfOk result (λ text. IsTold (update_turn (live_of self.old) update.label.items
+            (operation_of update.operation)) text.items (live_of self.new)) }
+    {
+        if self.core.count() >= 1000 {
+            return refused(alloc, Refusal::Full);
+        }
+        if !self.core.admits(&self.session.schema, &update) {
+            return refused(alloc, Refusal::Null);
+        }
+        self.admit(alloc, update)
+    }
+
+    // Admits the update, which has a new label.
+    fn admit(&mut self, alloc: Global, update: Update) -> Result<Vec<u8>, Memory>
+        requires new { is_one_of self.old.labels.items update.label.items ≡ false }
+        requires room { length (updates_at self.old.core) < 1000 }
+        ensures { IfOk result (λ text. IsTold (admission (live_of self.old) update.label.items
+            (operation_of update.operation)) text.items (live_of self.new)) }
+    {
+        let label = update.label.copy(alloc)?;
+        self.labels.reserve()?;
+        match self.core.admit(alloc, update) {
+            Ok(_) => {
+                self.labels.note(label.into_vec())?;
+                self.told(alloc)
+            }
+            Err(_) => Err(Memory),
+        }
+    }
+}

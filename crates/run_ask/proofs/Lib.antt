@@ -1,0 +1,11 @@
+pub mod Cursors
+pub mod Further
+pub mod Settled
+pub mod Gathered
+pub mod Numbered
+pub mod Encoded
+pub mod Worlds
+pub mod Fresh
+pub mod Learned
+pub mod Evaluated
+pub mod Computed

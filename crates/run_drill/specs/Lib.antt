@@ -1,0 +1,9 @@
+pub mod Columns
+pub mod Drilled
+pub mod Meanings
+pub mod Rows
+pub mod Draws
+pub mod SummaryMeanings
+pub mod Totals
+pub mod Summaries
+pub mod SummaryRows

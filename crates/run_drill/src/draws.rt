@@ -1,0 +1,26 @@
+//! Draws.
+ghost use Rattle.std.specs.Prelude.{◌≡◌, ◌<◌};
+ghost use Rattle.run_drill.specs.Draws.{drawn as drawn_lem, next as next_lem};
+
+const MULTIPLIER: u128 = 6364136223846793005;
+
+const INCREMENT: u128 = 1442695040888963407;
+
+// The state after one draw.
+fn next(state: u64) -> u64
+    ensures next { result ≡ next_lem state }
+{
+    let moved = u128::from(state) * MULTIPLIER + INCREMENT;
+    (moved % 18_446_744_073_709_551_616) as u64
+}
+
+/// Draws a number below `most`, and moves the state on. It takes no memory.
+pub fn draw(state: &mut u64, most: u32) -> u32
+    requires some { 0 < most }
+    ensures number { result ≡ drawn_lem most (next_lem state.old) }
+    ensures state { state.new ≡ next_lem state.old }
+{
+    *state = next(*state);
+    let upper = *state / 8_589_934_592;
+    (upper % u64::from(most)) as u32
+}

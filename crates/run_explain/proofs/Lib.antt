@@ -1,0 +1,10 @@
+pub mod Comparing
+pub mod Naming
+pub mod Told
+pub mod OfPhase
+pub mod Writing
+pub mod Noting
+pub mod Turning
+pub mod Alike
+pub mod Sought
+pub mod ReasonsTold

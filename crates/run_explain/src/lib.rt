@@ -1,0 +1,30 @@
+//! Why a tuple is in what the serial run of a session leaves: the reasons for it, back to tuples of the base and to what
+//! curators inserted.
+//!
+//! `specs/Meanings.antt` says which reasons explain a tuple, `specs/Texts.antt` how one is written. `Err` is want of memory, of
+//! which no clause can say when it comes.
+#![tactic(auto)]
+
+mod checking;
+mod explaining;
+mod made;
+mod notes;
+mod reasons;
+mod rewriting;
+mod runs;
+mod sameness;
+mod seeking;
+mod telling;
+mod texts;
+mod ways;
+mod wholes;
+mod writes;
+
+pub use crate::checking::check_explanation;
+pub use crate::explaining::{Explained, explain, explain_over};
+pub use crate::notes::{Note, NoteList, Rewriting, Way};
+pub use crate::reasons::{Explanation, How, Reason};
+pub use crate::runs::{NotedRun, noted_serial};
+pub use crate::sameness::same_reasons;
+pub use crate::telling::told_by;
+pub use crate::texts::explanation_text;

@@ -1,0 +1,34 @@
+-- Where bytes that do not begin with a journal are damaged.
+use Rattle.std.specs.Prelude.{◌≡◌, ℕ, ◌+◌, ◌⊎◌, List, [], ◌∷◌, ◌++◌, length}
+use Rattle.def_chase.specs.Repository.{Change}
+use Rattle.def_language.specs.Printing.{printed}
+use Rattle.def_language.specs.Sessions.{RelationSchema, SessionData}
+use Rattle.run_journal.specs.Format.{framed, commit_text, IsOpening, IsCommit}
+use Rattle.run_journal.specs.Journals.{BeginsWith, gate_of}
+
+-- the bytes do not begin with the session of a journal
+abbrev pub HasNoOpening : List ℕ → Type 0
+HasNoOpening bytes = (s : SessionData) (rest : List ℕ) → IsOpening s → bytes ≡ framed (printed s) ++ rest → ⊥
+
+-- they do not begin with commit n, whole
+abbrev pub HasNoCommit : List RelationSchema → ℕ → List ℕ → Type 0
+HasNoCommit relations n bytes = (writes : List Change) (rest : List ℕ) → IsCommit relations n writes
+    → bytes ≡ framed (commit_text relations n writes) ++ rest → ⊥
+
+-- the gate is missing, or it is open and commit n does not stand behind it
+abbrev pub IsBroken : List RelationSchema → ℕ → List ℕ → Type 0
+IsBroken relations n rest = (rest ≡ []) ⊎ ((behind : List ℕ) × (rest ≡ 1 ∷ behind) × HasNoCommit relations n behind)
+
+-- the bytes are damaged behind whole commits, at the gate that comes next
+pub record BreaksAt (bytes : List ℕ) (gate : ℕ) : Type 0 where
+  pub session : SessionData
+  pub commits : List (List Change)
+  pub rest : List ℕ
+  pub begins : BeginsWith bytes session commits rest
+  pub place : gate ≡ gate_of session commits
+  pub broken : IsBroken session.relations (length commits + 1) rest
+
+-- The bytes are damaged at the place: at 0 where they have no session, else at the gate of the first record that is not
+-- whole or no commit, or of the one that is missing.
+abbrev pub IsDamagedAt : List ℕ → ℕ → Type 0
+IsDamagedAt bytes place = ((place ≡ 0) × HasNoOpening bytes) ⊎ BreaksAt bytes place

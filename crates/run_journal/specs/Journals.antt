@@ -1,0 +1,54 @@
+-- Which bytes are a journal, and what they stand for.
+use Rattle.std.specs.Prelude.{◌≡◌, ℕ, ◌⊎◌, List, [], ◌∷◌, ◌++◌, length}
+use Rattle.base_devices.specs.States.{State, IsSettled}
+use Rattle.def_chase.specs.Values.{Fact}
+use Rattle.def_chase.specs.Repository.{Change, apply}
+use Rattle.def_language.specs.Sessions.{SessionData}
+use Rattle.run_journal.specs.Format.{front, IsOpening, AreCommits}
+
+-- the bytes begin with the session and these commits, and then comes the rest
+pub record BeginsWith (all : List ℕ) (s : SessionData) (those : List (List Change)) (rest : List ℕ) : Type 0 where
+  pub opening : IsOpening s
+  pub commits : AreCommits s.relations 1 those
+  pub bytes : all ≡ front s those ++ rest
+
+-- a byte that is no 1, and whatever follows
+abbrev pub IsClosed : List ℕ → Type 0
+IsClosed rest = (gate : ℕ) × (behind : List ℕ) × (rest ≡ gate ∷ behind) × (gate ≡ 1 → ⊥)
+
+-- The bytes are a journal of the session with these commits: a closed gate stands behind them.
+abbrev pub IsJournal : SessionData → List (List Change) → List ℕ → Type 0
+IsJournal s commits bytes = (rest : List ℕ) × BeginsWith bytes s commits rest × IsClosed rest
+
+-- the place of its gate
+abbrev pub gate_of : SessionData → List (List Change) → ℕ
+gate_of s commits = length (front s commits)
+
+-- a journal with the commits, or with one more
+abbrev pub IsJournalBeforeOrAfter : SessionData → List (List Change) → List Change → List ℕ → Type 0
+IsJournalBeforeOrAfter s commits writes bytes = IsJournal s commits bytes ⊎ IsJournal s (commits ++ writes ∷ []) bytes
+
+-- the place of the gate, and how many commits stand before it
+pub record Hold : Type 0 where
+  pub gate : ℕ
+  pub commits : ℕ
+
+-- What is held of a journal is that of the disk: it is on the disk whole, and nothing is pending.
+pub record IsAt (disk : State) (s : SessionData) (commits : List (List Change)) (hold : Hold) : Type 0 where
+  pub journal : IsJournal s commits disk.bytes
+  pub settled : IsSettled disk
+  pub gate : hold.gate ≡ gate_of s commits
+  pub count : hold.commits ≡ length commits
+
+-- the repository after commits, in turn
+abbrev pub after_commits : List Fact → List (List Change) → List Fact
+after_commits D [] = D
+after_commits D (writes ∷ commits) = after_commits (apply D writes) commits
+
+-- what a journal stands for: the base of its session with its commits
+abbrev pub repository_of : SessionData → List (List Change) → List Fact
+repository_of s commits = after_commits s.base commits
+
+-- it is that of the disk with some commits
+abbrev pub IsInHand : State → SessionData → Hold → Type 0
+IsInHand disk s hold = (commits : List (List Change)) × IsAt disk s commits hold

@@ -1,0 +1,69 @@
+//! Laws of what a run leaves.
+ghost use Rattle.std.specs.Prelude.{◌≡◌, ◌≤◌, ℕ, List, None};
+ghost use Rattle.def_language.specs.Sessions.{SessionData};
+ghost use Rattle.def_language.specs.Validity.{IsSession};
+ghost use Rattle.run_laws.specs.Kept.{InForceHold, IsRunnable, left_by, saved_by, LeavesFacts, SavesSession, SavesSpelled};
+ghost use Rattle.run_laws.specs.Renamed.{IsRenamed};
+ghost use Rattle.def_chase.specs.Laws.{HasNoNull};
+ghost use Rattle.def_chase.specs.Mappings.{Holds, Rule};
+ghost use Rattle.def_chase.specs.Repository.{IsRepository};
+ghost use Rattle.def_chase.specs.Values.{Fact};
+ghost use Rattle.lang_print.specs.Upgrades.{upgraded};
+ghost use Rattle.chase_update.specs.Results.{ResultTold};
+ghost use Rattle.lang_report.specs.Results.{serial_told};
+ghost use Rattle.lang_report.specs.Saved.{saved};
+ghost use Rattle.lang_session.specs.Base.{base_violation};
+
+use def_language::sessions_are_read_again;
+
+/// Every tuple that the serial machine leaves of a valid session is one of a relation of it: as many values as columns, each an
+/// integer of 64 bits, a text of at most 256 bytes of UTF-8, or a null of the base or of an update. They are in order.
+pub fn runs_leave_facts()
+    ensures facts { (budget : ℕ) (s : SessionData) →
+        IsSession s → 1 ≤ budget → budget ≤ 300 → LeavesFacts budget s }
+    ensures in_order { (budget : ℕ) (s : SessionData) →
+        IsSession s → 1 ≤ budget → budget ≤ 300 → IsRepository (left_by budget s) }
+{}
+
+/// What is saved of a run is a session, where it is not too large, and its printed form spells it.
+pub fn saved_sessions_are_sessions()
+    ensures session { (budget : ℕ) (s : SessionData) →
+        IsSession s → 1 ≤ budget → budget ≤ 300 → SavesSession budget s }
+    ensures spelled { (budget : ℕ) (s : SessionData) →
+        IsSession s → 1 ≤ budget → budget ≤ 300 → SavesSpelled budget s }
+{
+    sessions_are_read_again();
+}
+
+/// Every mapping that is in force at the end of a run holds in the repository that the run leaves, where the base of the
+/// session meets the mappings: those in force from the start, and those that an update which is done has put in force.
+pub fn runs_meet_their_mappings()
+    ensures { (budget : ℕ) (s : SessionData) → IsRunnable budget s →
+        InForceHold s (serial_told budget s) }
+{}
+
+/// The base of what is saved is the repository under other names for its nulls, which keep their order and tell them apart.
+pub fn bases_are_renamed()
+    ensures { (s : SessionData) (r : ResultTold) → IsRenamed r.repository (saved s r).base }
+{}
+
+/// The base of what is saved meets its mappings, where that of the session that ran does.
+pub fn bases_meet_their_mappings()
+    ensures { (budget : ℕ) (s : SessionData) →
+        IsRunnable budget s → base_violation (saved_by budget s) ≡ None }
+{}
+
+/// A mapping without a null among its constants holds under other names for the nulls where it holds. Under such names a
+/// repository is one.
+pub fn names_keep_mappings()
+    ensures hold { (m : Rule) (D E : List Fact) → HasNoNull m → IsRenamed D E → Holds m D →
+        Holds m E }
+    ensures in_order { (D E : List Fact) → IsRenamed D E → IsRepository D → IsRepository E }
+{}
+
+/// The same session in format 2 is a session too, and the serial machine tells the same of it.
+pub fn upgrades_tell_the_same()
+    ensures session { (s : SessionData) → IsSession s → IsSession (upgraded s) }
+    ensures told { (budget : ℕ) (s : SessionData) →
+        serial_told budget (upgraded s) ≡ serial_told budget s }
+{}

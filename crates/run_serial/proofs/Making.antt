@@ -1,0 +1,17 @@
+-- Writes that are made one after the other, as a loop that takes a vector apart makes them.
+use Rattle.std.proofs.Common.{◌≡◌, ◌∙◌, ap, refl, List, [], ◌∷◌, ◌++◌}
+use Rattle.std.specs.Vec.Iter.{into_iter_items, into_iter_steps}
+use Rattle.std.specs.declared.vec.IntoIter.{IntoIter}
+use Rattle.std.specs.Iterator.{Yields}
+use Rattle.def_chase.specs.Values.{Fact}
+use Rattle.def_chase.specs.Repository.{Change}
+use Rattle.run_serial.specs.Meanings.{HasMadeSome}
+
+-- What the iterator of a vector has given is a front of its items.
+pub taken_front : {X A : Type 0} (s : IntoIter X A) (xs : List X) (t : IntoIter X A) → Yields into_iter_steps s xs t → into_iter_items s ≡ xs ++ into_iter_items t
+taken_front s [] t y = ap into_iter_items y
+taken_front s (x ∷ xs) t y = y.1.0 ∙ ap (λ ys. x ∷ ys) (taken_front y.0 xs t y.2)
+
+-- Before the first is made none is.
+pub none_made : (D : List Fact) (changes : List Change) → HasMadeSome D changes D
+none_made D changes = ([], changes, refl, refl)

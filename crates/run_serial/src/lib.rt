@@ -1,0 +1,17 @@
+//! The serial run of a session: its updates taken whole over a repository, one after the other in the order of their
+//! numbers, up to the first that stops at a question. `serial` tells what the serial machine of `def_steps` tells, and
+//! `trails` what each update leaves written.
+//!
+//! The parts of a turn are public, so that a run which keeps more of its steps is made of the same.
+#![tactic(auto)]
+
+pub mod endings;
+pub mod repositories;
+mod runs;
+pub mod stepping;
+mod trailing;
+pub mod turns;
+mod wholes;
+
+pub use crate::runs::{base_of, mappings_of, serial, serial_over};
+pub use crate::trailing::{TrailList, Trailed, trails};

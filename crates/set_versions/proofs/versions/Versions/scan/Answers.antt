@@ -1,0 +1,25 @@
+use Rattle.std.proofs.Common.{Some}
+use Rattle.std.specs.Option.{option_map, option_copied}
+use Rattle.base_types.specs.Meanings.{fact_of, datum_of}
+use Rattle.def_chase.specs.Cursors.{is_scanned}
+use Rattle.set_facts.proofs.Courses.{scanned_follows}
+use Rattle.set_facts.specs.Overlaid.{overlaid}
+use Rattle.set_facts.proofs.Overlays.{overlay_found}
+use Rattle.set_versions.specs.Marked.{visible}
+use Rattle.set_versions.specs.Standing.{seen}
+use Rattle.set_versions.proofs.Both.{seen_ordered}
+use Rattle.set_versions.proofs.versions.Versions.scan.Goals as goal
+
+pub returns-clause-found : goal.returns-clause-found
+returns-clause-found c =
+    let n = c.args.number in
+    let r = c.args.relation in
+    let k = c.args.column in
+    let d = datum_of c.args.value.now in
+    let past = option_map fact_of (option_copied c.args.past) in
+    let rows = c.table.result.now in
+    overlay_found (is_scanned r k d past) (λ t. is_scanned r k d (Some t)) c.base-base.result.now c.taken.result.now (visible n rows) (seen n c.args.self.now) _ _ _ _ (scanned_follows r k d past) c.scan-below.ensures.in_order c.scan.ensures.in_order
+    (λ i. overlaid (c.base-base.ensures.base i) (c.taken.ensures.taken i) (visible n (c.table.ensures.rows i))) c.scan-below.ensures.found c.remaining-left.ensures.found c.scan.ensures.found c.least.ensures.least
+
+pub returns-clause-in_order : goal.returns-clause-in_order
+returns-clause-in_order c = seen_ordered c.args.number c.args.self.now c.base-base.ensures.kept

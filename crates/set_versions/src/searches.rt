@@ -1,0 +1,395 @@
+//! What is looked for among the marked tuples and their cells.
+ghost use Rattle.std.specs.Prelude.{◌≡◌, ◌&&◌, None, Some, true};
+ghost use Rattle.std.specs.Option.{option_map, option_copied};
+ghost use Rattle.def_chase.specs.Cursors.{has_at as has_datum_at};
+ghost use Rattle.base_types.specs.Meanings.{fact_of, datum_of};
+ghost use Rattle.set_versions.specs.Indexed.{cell_of};
+ghost use Rattle.set_versions.specs.Marked.{is_marked, stands};
+ghost use Rattle.set_versions.specs.Zones.{place_beyond, place_of, place_in, place_lead};
+ghost use Rattle.set_versions.specs.ZoneLaws.{beyond_before, beyond_past, of_before, of_past, in_before, in_past, lead_before, lead_past};
+
+use crate::cells::{Cell, values_order};
+use crate::handles::Handle;
+use crate::marks::Marks;
+use crate::ranks::{rank, rank_at};
+use base_tree::{Search, Show, Sought};
+use base_types::{Tuple, Value};
+use std::cmp::Ordering;
+use std::marker::Model;
+
+/// The tuple itself, whether or not it is there for an update. Contracts see the tuple.
+#[derive(Drop)]
+pub struct Held<'c> {
+    rank: u64,
+    tuple: &'c Tuple,
+}
+
+impl<'c> Model for Held<'c> {
+    ghost use Rattle.std.specs.Prelude.{◌≡◌};
+    ghost use Rattle.base_types.specs.Meanings.{fact_of};
+    ghost use Rattle.base_types.specs.declared.tuples.Tuple.{Tuple};
+    ghost use Rattle.set_versions.specs.Ranks.{rank_of};
+
+    ghost Value = { Tuple };
+
+    ghost view = { λ s. s.tuple.now };
+
+    ghost invariant = { λ s. s.rank ≡ rank_of (fact_of s.tuple.now) };
+}
+
+impl<'c> Held<'c> {
+    /// A search for the tuple. It takes no memory.
+    pub fn new(tuple: &'c Tuple) -> Held<'c>
+        ensures tuple { result ≡ tuple.now }
+    {
+        Held {
+            rank: rank(tuple),
+            tuple,
+        }
+    }
+}
+
+impl<'c> Sought<Handle> for Held<'c> {
+    ghost key = { λ s. s };
+
+    fn order(&self, other: &Handle) -> Ordering {
+        match self.rank.cmp(&other.rank()) {
+            Ordering::Less => Ordering::Less,
+            Ordering::Equal => self.tuple.cmp(other.get()),
+            Ordering::Greater => Ordering::Greater,
+        }
+    }
+}
+
+/// What comes after a tuple, where one is given, and is there for the update.
+#[derive(Drop)]
+pub struct Beyond<'c> {
+    pub number: u32,
+    pub past: Option<&'c Tuple>,
+}
+
+impl<'c> Search<Handle, Marks> for Beyond<'c> {
+    ghost place = { λ s k. place_beyond (option_map fact_of (option_copied s.past)) (fact_of k) };
+
+    ghost passes = { λ s e. stands s.number e.1 };
+
+    ghost stays_past = { λ s x y. beyond_past (option_map fact_of (option_copied s.past)) (fact_of x) (fact_of y) };
+
+    ghost stays_before = { λ s x y. beyond_before (option_map fact_of (option_copied s.past)) (fact_of x) (fact_of y) };
+
+    fn place(&self, key: &Handle) -> Ordering {
+        place_after(self.past, key.get())
+    }
+
+    fn passes(&self, entry: &(Handle, Marks)) -> bool {
+        entry.1.stands(self.number)
+    }
+}
+
+/// What is of the relation, comes after a tuple, where one is given, and is there for the update.
+#[derive(Drop)]
+pub struct Zone<'c> {
+    pub number: u32,
+    pub relation: u16,
+    pub past: Option<&'c Tuple>,
+}
+
+impl<'c> Search<Handle, Marks> for Zone<'c> {
+    ghost place = { λ s k. place_of s.relation (option_map fact_of (option_copied s.past)) (fact_of k) };
+
+    ghost passes = { λ s e. stands s.number e.1 };
+
+    ghost stays_past = { λ s x y. of_past s.relation (option_map fact_of (option_copied s.past)) (fact_of x) (fact_of y) };
+
+    ghost stays_before = { λ s x y. of_before s.relation (option_map fact_of (option_copied s.past)) (fact_of x) (fact_of y) };
+
+    fn place(&self, key: &Handle) -> Ordering {
+        place_in_relation(self.relation, self.past, key.get())
+    }
+
+    fn passes(&self, entry: &(Handle, Marks)) -> bool {
+        entry.1.stands(self.number)
+    }
+}
+
+impl<'c> Show<Handle, Marks, Tuple> for Zone<'c> {
+    ghost shown = { λ e. e.0 };
+
+    fn show(entry: &(Handle, Marks)) -> &Tuple
+        ensures { result.now ≡ entry.now.0 }
+    {
+        entry.0.get()
+    }
+}
+
+/// What is of the relation, and comes after a tuple, where one is given.
+#[derive(Drop)]
+pub struct Onward<'c> {
+    pub relation: u16,
+    pub past: Option<&'c Tuple>,
+}
+
+impl<'c> Search<Handle, ()> for Onward<'c> {
+    ghost place = { λ s k. place_of s.relation (option_map fact_of (option_copied s.past)) (fact_of k) };
+
+    ghost passes = { λ _ _. true };
+
+    ghost stays_past = { λ s x y. of_past s.relation (option_map fact_of (option_copied s.past)) (fact_of x) (fact_of y) };
+
+    ghost stays_before = { λ s x y. of_before s.relation (option_map fact_of (option_copied s.past)) (fact_of x) (fact_of y) };
+
+    fn place(&self, key: &Handle) -> Ordering {
+        place_in_relation(self.relation, self.past, key.get())
+    }
+
+    fn passes(&self, _entry: &(Handle, ())) -> bool {
+        true
+    }
+}
+
+/// What is of the relation, and was written by the update.
+#[derive(Drop)]
+pub struct Written {
+    pub number: u32,
+    pub relation: u16,
+}
+
+impl Search<Handle, Marks> for Written {
+    ghost place = { λ s k. place_of s.relation None (fact_of k) };
+
+    ghost passes = { λ s e. is_marked s.number e.1 };
+
+    ghost stays_past = { λ s x y. of_past s.relation None (fact_of x) (fact_of y) };
+
+    ghost stays_before = { λ s x y. of_before s.relation None (fact_of x) (fact_of y) };
+
+    fn place(&self, key: &Handle) -> Ordering {
+        place_in_relation(self.relation, None, key.get())
+    }
+
+    fn passes(&self, entry: &(Handle, Marks)) -> bool {
+        entry.1.is_marked(self.number)
+    }
+}
+
+/// What is of the relation, has the value in its first column, comes after a tuple, where one is given, and is there for the
+/// update. Contracts see that as a `Leading`.
+#[derive(Drop)]
+pub struct Lead<'c> {
+    rank: u64,
+    number: u32,
+    relation: u16,
+    value: &'c Value,
+    past: Option<&'c Tuple>,
+}
+
+impl<'c> Model for Lead<'c> {
+    ghost use Rattle.std.specs.Prelude.{◌≡◌, Some};
+    ghost use Rattle.std.specs.Option.{option_map, option_copied};
+    ghost use Rattle.base_types.specs.Meanings.{datum_of, fact_of};
+    ghost use Rattle.set_versions.specs.Ranks.{rank_at};
+    ghost use Rattle.set_versions.specs.Zones.{Leading};
+
+    ghost Value = { Leading };
+
+    ghost view = { λ s. record {
+      number = s.number;
+      relation = s.relation;
+      value = datum_of s.value.now;
+      past = option_map fact_of (option_copied s.past);
+    } };
+
+    ghost invariant = { λ s. s.rank ≡ rank_at s.relation (Some (datum_of s.value.now)) };
+}
+
+impl<'c> Lead<'c> {
+    /// A search for these tuples. It takes no memory.
+    pub fn new(number: u32, relation: u16, value: &'c Value, past: Option<&'c Tuple>) -> Lead<'c>
+        ensures search { result ≡ record {
+          number = number;
+          relation = relation;
+          value = datum_of value.now;
+          past = option_map fact_of (option_copied past.entry);
+        } }
+    {
+        Lead {
+            rank: rank_at(relation, Some(value)),
+            number,
+            relation,
+            value,
+            past,
+        }
+    }
+}
+
+impl<'c> Search<Handle, Marks> for Lead<'c> {
+    ghost place = { λ s k. place_lead s.relation s.value s.past (fact_of k) };
+
+    ghost passes = { λ s e. stands s.number e.1 };
+
+    ghost stays_past = { λ s x y. lead_past s.relation s.value s.past (fact_of x) (fact_of y) };
+
+    ghost stays_before = { λ s x y. lead_before s.relation s.value s.past (fact_of x) (fact_of y) };
+
+    fn place(&self, key: &Handle) -> Ordering {
+        match key.rank().cmp(&self.rank) {
+            Ordering::Less => Ordering::Less,
+            Ordering::Equal => place_at(self.relation, self.value, self.past, key.get()),
+            Ordering::Greater => Ordering::Greater,
+        }
+    }
+
+    fn passes(&self, entry: &(Handle, Marks)) -> bool {
+        entry.1.stands(self.number)
+    }
+}
+
+impl<'c> Show<Handle, Marks, Tuple> for Lead<'c> {
+    ghost shown = { λ e. e.0 };
+
+    fn show(entry: &(Handle, Marks)) -> &Tuple
+        ensures { result.now ≡ entry.now.0 }
+    {
+        entry.0.get()
+    }
+}
+
+/// What is of the relation, has the value in the column, comes after a tuple, where one is given, and is there for the update:
+/// asked of each tuple of the relation.
+#[derive(Drop)]
+pub struct Further<'c> {
+    pub number: u32,
+    pub relation: u16,
+    pub column: usize,
+    pub value: &'c Value,
+    pub past: Option<&'c Tuple>,
+}
+
+impl<'c> Search<Handle, Marks> for Further<'c> {
+    ghost place = { λ s k. place_of s.relation (option_map fact_of (option_copied s.past)) (fact_of k) };
+
+    ghost passes = { λ s e. stands s.number e.1 && has_datum_at s.column (datum_of s.value.now) (fact_of e.0) };
+
+    ghost stays_past = { λ s x y. of_past s.relation (option_map fact_of (option_copied s.past)) (fact_of x) (fact_of y) };
+
+    ghost stays_before = { λ s x y. of_before s.relation (option_map fact_of (option_copied s.past)) (fact_of x) (fact_of y) };
+
+    fn place(&self, key: &Handle) -> Ordering {
+        place_in_relation(self.relation, self.past, key.get())
+    }
+
+    fn passes(&self, entry: &(Handle, Marks)) -> bool {
+        entry.1.stands(self.number) && has_at(entry.0.get(), self.column, self.value)
+    }
+}
+
+impl<'c> Show<Handle, Marks, Tuple> for Further<'c> {
+    ghost shown = { λ e. e.0 };
+
+    fn show(entry: &(Handle, Marks)) -> &Tuple
+        ensures { result.now ≡ entry.now.0 }
+    {
+        entry.0.get()
+    }
+}
+
+/// The cells with the value in the column, whose tuple is of the relation, comes after a tuple, where one is given, and
+/// is there for the update.
+#[derive(Drop)]
+pub struct Scan<'c> {
+    pub number: u32,
+    pub relation: u16,
+    pub column: usize,
+    pub value: &'c Value,
+    pub past: Option<&'c Tuple>,
+}
+
+impl<'c> Search<Cell, Marks> for Scan<'c> {
+    ghost place = { λ s k. place_in s.relation s.column (datum_of s.value.now) (option_map fact_of (option_copied s.past)) (cell_of k) };
+
+    ghost passes = { λ s e. stands s.number e.1 };
+
+    ghost stays_past = { λ s x y. in_past s.relation s.column (datum_of s.value.now) (option_map fact_of (option_copied s.past)) (cell_of x) (cell_of y) };
+
+    ghost stays_before = { λ s x y. in_before s.relation s.column (datum_of s.value.now) (option_map fact_of (option_copied s.past)) (cell_of x) (cell_of y) };
+
+    fn place(&self, key: &Cell) -> Ordering {
+        match key.column.cmp(&self.column) {
+            Ordering::Less => Ordering::Less,
+            Ordering::Equal => match values_order(key.value(), Some(self.value)) {
+                Ordering::Less => Ordering::Less,
+                Ordering::Equal => place_in_relation(self.relation, self.past, key.tuple.get()),
+                Ordering::Greater => Ordering::Greater,
+            },
+            Ordering::Greater => Ordering::Greater,
+        }
+    }
+
+    fn passes(&self, entry: &(Cell, Marks)) -> bool {
+        entry.1.stands(self.number)
+    }
+}
+
+impl<'c> Show<Cell, Marks, Tuple> for Scan<'c> {
+    ghost shown = { λ e. e.0.tuple };
+
+    fn show(entry: &(Cell, Marks)) -> &Tuple
+        ensures { result.now ≡ entry.now.0.tuple }
+    {
+        entry.0.tuple.get()
+    }
+}
+
+// Where the tuple lies to those of the relation with the first value that come after `past`, where that is given.
+fn place_at(relation: u16, value: &Value, past: Option<&Tuple>, tuple: &Tuple) -> Ordering
+    ensures { result ≡ place_lead relation (datum_of value.now)
+        (option_map fact_of (option_copied past.entry)) (fact_of tuple.now) }
+{
+    match tuple.relation.cmp(&relation) {
+        Ordering::Less => Ordering::Less,
+        Ordering::Equal => match values_order(tuple.values.get(0), Some(value)) {
+            Ordering::Less => Ordering::Less,
+            Ordering::Equal => place_after(past, tuple),
+            Ordering::Greater => Ordering::Greater,
+        },
+        Ordering::Greater => Ordering::Greater,
+    }
+}
+
+// Where the tuple lies to what comes after `past`, where that is given.
+fn place_after(past: Option<&Tuple>, tuple: &Tuple) -> Ordering
+    ensures { result
+        ≡ place_beyond (option_map fact_of (option_copied past.entry)) (fact_of tuple.now) }
+{
+    match past {
+        Some(before) => {
+            if before.cmp(tuple).is_lt() {
+                return Ordering::Equal;
+            }
+            return Ordering::Less;
+        }
+        None => return Ordering::Equal,
+    }
+}
+
+// The same among the tuples of the relation.
+fn place_in_relation(relation: u16, past: Option<&Tuple>, tuple: &Tuple) -> Ordering
+    ensures { result
+        ≡ place_of relation (option_map fact_of (option_copied past.entry)) (fact_of tuple.now) }
+{
+    match tuple.relation.cmp(&relation) {
+        Ordering::Less => Ordering::Less,
+        Ordering::Equal => place_after(past, tuple),
+        Ordering::Greater => Ordering::Greater,
+    }
+}
+
+// Whether the tuple has the value in the column.
+fn has_at(tuple: &Tuple, column: usize, value: &Value) -> bool
+    ensures answer { result ≡ has_datum_at column (datum_of value.now) (fact_of tuple.now) }
+{
+    match tuple.values.get(column) {
+        Some(there) => value == there,
+        None => false,
+    }
+}

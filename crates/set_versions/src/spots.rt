@@ -1,0 +1,41 @@
+//! The spots of cells, by which an index is spread over small maps.
+ghost use Rattle.std.specs.Prelude.{◌≡◌, ◌<◌};
+ghost use Rattle.std.specs.Option.{option_map, option_copied};
+ghost use Rattle.base_types.specs.Meanings.{datum_of};
+ghost use Rattle.set_versions.specs.Spots.{digest as digest_lem, digest_from, spot as spot_lem};
+
+use base_types::Value;
+
+/// The spot of a relation, a column, and the value there, where there is one. It takes no memory.
+pub fn spot(relation: u16, column: usize, value: Option<&Value>) -> u32
+    ensures spot { result ≡
+        spot_lem relation column (option_map datum_of (option_copied value.entry)) }
+{
+    let Some(value) = value else {
+        return 0;
+    };
+    let place = column as u64 % 8 * 31 + u64::from(relation) * 37;
+    ((digest(value) % 251 + place) % 256) as u32
+}
+
+// A number by which the value is told from most others.
+fn digest(value: &Value) -> u64
+    ensures digest { result ≡ digest_lem (datum_of value.now) }
+{
+    match value {
+        Value::Int(number) => number.unsigned_abs(),
+        Value::Word(word) => digest_word(word.as_slice()),
+        Value::Null(null) => u64::from(null.update) + u64::from(null.place),
+    }
+}
+
+// The same of a word's bytes.
+fn digest_word(bytes: &[u8]) -> u64
+    ensures digest { result ≡ digest_from 0 bytes.now }
+{
+    let mut sum = 0;
+    for byte in bytes {
+        sum = (sum * 31 + u64::from(*byte)) % 65521;
+    }
+    sum
+}

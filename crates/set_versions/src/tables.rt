@@ -1,0 +1,331 @@
+//! Tuples with their marks, and the same by each column.
+ghost use Rattle.std.specs.Prelude.{◌≡◌, [], length, map, IfOk, OnOk, OnErr};
+ghost use Rattle.base_types.specs.Meanings.{fact_of};
+ghost use Rattle.base_tree.specs.Orders.{IsOrdered};
+ghost use Rattle.set_versions.specs.Chains.{AreMarks, AreRows};
+ghost use Rattle.set_versions.specs.Marked.{marks_at};
+ghost use Rattle.std.specs.Option.{option_map, option_copied};
+
+use crate::edits::set;
+use crate::handles::Handle;
+use crate::indexes::{indexed, shared};
+use crate::marks::Marks;
+use crate::searches::{Beyond, Further, Held, Lead, Scan, Written, Zone};
+use crate::spots::spot;
+use crate::spreads::{Spots, Spread};
+use base_tree::{Cursor, Few, Share, Start, TreeMap};
+use base_types::{Column, Tuple, Value};
+use def_memory::Memory;
+use std::alloc::{AllocError, Global};
+use std::marker::Model;
+use std::mem;
+
+/// Tuples with their marks, in order, and an index of them by cells. Contracts see the tuples with their marks. The index is
+/// changed in place, and let go where memory is wanted in the midst of that; without it the tuples of a relation are gone
+/// through.
+#[derive(Drop)]
+pub struct Table {
+    rows: TreeMap<Handle, Marks>,
+    index: Option<Spots>,
+}
+
+impl Model for Table {
+    ghost use Rattle.std.specs.Prelude.{List};
+    ghost use Rattle.base_types.specs.declared.tuples.Tuple.{Tuple};
+    ghost use Rattle.set_versions.specs.declared.marks.Marks.{Marks};
+
+    ghost Value = { List (Tuple × Marks) };
+
+    ghost use Rattle.set_versions.specs.Chains.{AreRows};
+    ghost use Rattle.set_versions.specs.Indexed.{IsIndexed};
+
+    ghost view = { λ t. t.rows };
+
+    ghost invariant = { λ t. AreRows t.rows × IsIndexed t.rows t.index };
+}
+
+impl Table {
+    ghost use Rattle.std.specs.Prelude.{cond};
+    ghost use Rattle.def_chase.specs.Values.{Fact, same_fact};
+
+    /// The table of no tuple. It takes no memory.
+    pub fn none() -> Table
+        ensures none { result ≡ [] }
+    {
+        Table {
+            rows: TreeMap::new(),
+            index: Some(Spread::none()),
+        }
+    }
+
+    /// How many tuples it has.
+    pub fn len(&self) -> usize
+        ensures length { result ≡ length self.now }
+    {
+        self.rows.len()
+    }
+
+    /// Another handle to the same table.
+    pub fn share(&self) -> Result<Table, AllocError>
+        ensures same { IfOk result (λ copy. copy ≡ self.now) }
+        ensures in_order { IfOk result AreRows }
+    {
+        Ok(Table {
+            rows: self.rows.share()?,
+            index: shared(&self.index)?,
+        })
+    }
+
+    /// The same table with the index, which this one then has no more, so that it may be changed in place.
+    pub fn lend(&mut self) -> Result<Table, AllocError>
+        ensures same { IfOk result (λ lent. lent ≡ self.old) }
+        ensures kept { self.new ≡ self.old }
+    {
+        Ok(Table {
+            rows: self.rows.share()?,
+            index: mem::replace(&mut self.index, None),
+        })
+    }
+
+    /// A handle of the tuple, with what the table tells of it.
+    pub fn entry(&self, tuple: &Tuple) -> Result<(Handle, Marks), Memory>
+        ensures tuple { IfOk result (λ e. fact_of e.0 ≡ fact_of tuple.now) }
+        ensures marks { IfOk result (λ e. e.1 ≡ marks_at self.now (fact_of tuple.now)) }
+        ensures in_order { IfOk result (λ e. AreMarks e.1) }
+    {
+        match self.rows.find_at(&Held::new(tuple)) {
+            Some(entry) => {
+                let key = entry.0.share()?;
+                let marks = entry.1.share()?;
+                return Ok((key, marks));
+            }
+            None => return Ok((Handle::new(tuple.share()?), Marks::new())),
+        }
+    }
+
+    /// Puts these marks of the tuple in, in place where no other handle shares what is changed. It is refused only for want of
+    /// memory; the table is then as it was, without its index.
+    pub fn put(&mut self, alloc: Global, key: Handle, marks: Marks) -> Result<(), Memory>
+        requires in_order { AreMarks marks }
+        ensures marks { OnOk result ((t : Fact) → marks_at self.new t ≡
+            cond (same_fact t (fact_of key)) marks (marks_at self.old t)) }
+        ensures in_order { OnOk result (AreRows self.new) }
+        ensures err { OnErr result (self.new ≡ self.old) }
+    {
+        let index = mem::replace(&mut self.index, None);
+        let index = indexed(index, alloc, &key, &marks)?;
+        set(&mut self.rows, alloc, key, marks)?;
+        self.index = index;
+        Ok(())
+    }
+}
+
+// The tuples of the table that an update sees. No call takes memory.
+impl Table {
+    ghost use Rattle.std.specs.Prelude.{find};
+    ghost use Rattle.std.specs.Option.{is_some};
+    ghost use Rattle.set_versions.specs.Marked.{is_row_by};
+    ghost use Rattle.def_chase.specs.Cursors.{is_beyond, first_of, next_of, scan_of};
+    ghost use Rattle.def_chase.specs.Repository.{has, IsRepository};
+    ghost use Rattle.base_types.specs.Meanings.{datum_of};
+    ghost use Rattle.std.specs.Ordering.{on};
+    ghost use Rattle.def_chase.specs.Values.{fact_cmp};
+    ghost use Rattle.set_versions.specs.Marked.{visible};
+
+    /// The rows in order, as a cursor. It takes no memory.
+    pub fn cursor(&self) -> Cursor<'_, Handle, Marks>
+        ensures rows { result ≡ self.now }
+    {
+        self.rows.cursor(&Start)
+    }
+
+    /// Whether the update sees the tuple.
+    pub fn contains(&self, number: u32, tuple: &Tuple) -> bool
+        ensures answer { result ≡ has (visible number self.now) (fact_of tuple.now) }
+        ensures in_order { IsRepository (visible number self.now) }
+    {
+        match self.rows.find_at(&Held::new(tuple)) {
+            Some(entry) => return entry.1.stands(number),
+            None => return false,
+        }
+    }
+
+    /// Whether the update wrote a tuple of the relation.
+    pub fn is_marked(&self, number: u32, relation: u16) -> bool
+        ensures answer { result ≡ is_some (find (is_row_by number relation) self.now) }
+    {
+        match self.rows.find_in(&Written { number, relation }) {
+            Some(_) => return true,
+            None => return false,
+        }
+    }
+
+    /// The least tuple of any relation that it sees above the given one, or of all where none is given.
+    pub fn beyond(&self, number: u32, past: Option<&Tuple>) -> Option<&Tuple>
+        ensures found { option_map fact_of (option_copied result)
+            ≡ find (is_beyond (option_map fact_of (option_copied past.entry)))
+            (visible number self.now) }
+        ensures in_order { IsRepository (visible number self.now) }
+    {
+        tuple_in(self.rows.find_in(&Beyond { number, past }))
+    }
+
+    /// The least tuple of the relation that it sees.
+    pub fn first(&self, number: u32, relation: u16) -> Option<&Tuple>
+        ensures found { option_map fact_of (option_copied result)
+            ≡ first_of (visible number self.now) relation }
+        ensures in_order { IsRepository (visible number self.now) }
+    {
+        tuple_in(
+            self.rows.find_in(&Zone {
+                number,
+                relation,
+                past: None,
+            }),
+        )
+    }
+
+    /// The least tuple of the same relation that it sees above the given one.
+    pub fn after(&self, number: u32, tuple: &Tuple) -> Option<&Tuple>
+        ensures found { option_map fact_of (option_copied result)
+            ≡ next_of (visible number self.now) (fact_of tuple.now) }
+        ensures in_order { IsRepository (visible number self.now) }
+    {
+        tuple_in(
+            self.rows.find_in(&Zone {
+                number,
+                relation: tuple.relation,
+                past: Some(tuple),
+            }),
+        )
+    }
+
+    /// The least tuple of the relation that it sees with the value in the column, above `past` where that is given.
+    pub fn scan(
+        &self,
+        number: u32,
+        relation: u16,
+        column: u16,
+        value: &Value,
+        past: Option<&Tuple>,
+    ) -> Option<&Tuple>
+        ensures found { option_map fact_of (option_copied result)
+            ≡ scan_of (visible number self.now) relation column (datum_of value.now)
+            (option_map fact_of (option_copied past.entry)) }
+        ensures in_order { IsRepository (visible number self.now) }
+    {
+        if column == 0 {
+            return tuple_in(self.rows.find_in(&Lead::new(number, relation, value, past)));
+        }
+        let column = column as usize;
+        let Some(index) = &self.index else {
+            return tuple_in(
+                self.rows.find_in(&Further {
+                    number,
+                    relation,
+                    column,
+                    value,
+                    past,
+                }),
+            );
+        };
+        let Some(shelf) = index.shelf(spot(relation, column, Some(value))) else {
+            return None;
+        };
+        let found = shelf.cells.find_in(&Scan {
+            number,
+            relation,
+            column,
+            value,
+            past,
+        });
+        match found {
+            Some(entry) => return Some(entry.0.tuple.get()),
+            None => return None,
+        }
+    }
+}
+
+// The candidates that an update sees, a few at a time. No call takes memory.
+impl Table {
+    ghost use Rattle.std.specs.Prelude.{◌≤◌, Some};
+    ghost use Rattle.base_types.specs.Candidates.{column_of, further_candidates, AreFirst};
+    ghost use Rattle.base_types.specs.Meanings.{datum_of};
+    ghost use Rattle.def_chase.specs.Repository.{IsRepository};
+    ghost use Rattle.set_versions.specs.Marked.{visible};
+
+    /// The first tuples of the relation that it sees, with the column's value where a column is given, and above `past` where
+    /// that is given: all of them, or as many as there is room for.
+    pub fn candidates(
+        &self,
+        number: u32,
+        relation: u16,
+        column: Option<Column<'_>>,
+        past: Option<&Tuple>,
+    ) -> Few<'_, Tuple>
+        ensures first { AreFirst result (further_candidates (visible number self.now) relation
+            (option_map column_of column.entry) (option_map fact_of (option_copied past.entry))) }
+        ensures in_order { IsRepository (visible number self.now) }
+    {
+        let Some(column) = column else {
+            return self.rows.gather(&Zone {
+                number,
+                relation,
+                past,
+            });
+        };
+        if column.number == 0 {
+            return self
+                .rows
+                .gather(&Lead::new(number, relation, column.value, past));
+        }
+        self.few_at(number, relation, column, past)
+    }
+
+    // Those of them with the value in the column, which is not the first.
+    #[inline(never)]
+    fn few_at(
+        &self,
+        number: u32,
+        relation: u16,
+        column: Column<'_>,
+        past: Option<&Tuple>,
+    ) -> Few<'_, Tuple>
+        requires further { 1 ≤ column.number }
+        ensures first { AreFirst result (further_candidates (visible number self.now) relation
+            (Some (column_of column.entry)) (option_map fact_of (option_copied past.entry))) }
+        ensures in_order { IsRepository (visible number self.now) }
+    {
+        let value = column.value;
+        let column = column.number as usize;
+        let Some(index) = &self.index else {
+            return self.rows.gather(&Further {
+                number,
+                relation,
+                column,
+                value,
+                past,
+            });
+        };
+        let Some(shelf) = index.shelf(spot(relation, column, Some(value))) else {
+            return Few::new();
+        };
+        shelf.cells.gather(&Scan {
+            number,
+            relation,
+            column,
+            value,
+            past,
+        })
+    }
+}
+
+// The tuple of a row.
+fn tuple_in(found: Option<&(Handle, Marks)>) -> Option<&Tuple>
+    ensures { option_copied result ≡ option_map (λ e. e.0) (option_copied found.entry) }
+{
+    match found {
+        Some(row) => Some(row.0.get()),
+        None => None,
+    }
+}

@@ -1,0 +1,10 @@
+pub mod Joining
+pub mod Flights
+pub mod Growing
+pub mod Boards
+pub mod Passing
+pub mod Closing
+pub mod Counting
+pub mod Stretching
+pub mod Dealing
+pub mod Closed

@@ -1,0 +1,12 @@
+pub mod Shared
+pub mod Flights
+pub mod Marks
+pub mod Turns
+pub mod Cores
+pub mod Tickets
+pub mod Stretches
+pub mod Seats
+pub mod Calls
+pub mod Offers
+pub mod Closing
+pub mod ClosedDesks

@@ -1,0 +1,99 @@
+//! What a desk asks of the core behind its lock.
+
+use def_memory::Memory;
+use std::alloc::Global;
+
+/// A core as a desk works at it: updates that make steps in any order, with the history of all that was done.
+///
+/// Its meaning is given by members that exist in contracts alone: what its history is over, and the entries of that
+/// history. A snapshot stands for an update at the state that some entries leave; a plan is an update's step there.
+pub trait Core {
+    ghost use Rattle.std.specs.Prelude.{◌≡◌, ◌<◌, ◌≤◌, ◌^◌, ℕ, List, Option, Some, length, IfOk, IfErr, IfSome, IfNone};
+    ghost use Rattle.def_history.specs.Cores.{Ground, IsLegalOver};
+    ghost use Rattle.def_history.specs.PlainEntries.{PlainEntry};
+    ghost use Rattle.work_desk.specs.Cores.{lowest_idle, lowest_waiting, IsReady, IsPlanOf, HasDelivered, HasStep, HasStayed};
+
+    /// What is needed to plan an update's next step, whatever is done meanwhile.
+    type Snapshot;
+
+    /// The next step of an update.
+    type Plan;
+
+    /// What the core's history is over.
+    ghost over: { Self → Ground };
+
+    /// The entries of its history.
+    ghost history: { Self → List PlainEntry };
+
+    /// The snapshot stands for the update at the state that these entries leave.
+    ghost is_snapshot: { Self.Snapshot → Ground → List PlainEntry → ℕ → Type 0 };
+
+    /// The plan is the step of the update at the state that these entries leave.
+    ghost is_plan: { Self.Plan → Ground → List PlainEntry → ℕ → Type 0 };
+
+    /// Lets a snapshot go.
+    fn drop_snapshot(snapshot: Self::Snapshot);
+
+    /// Lets a plan go.
+    fn drop_plan(plan: Self::Plan);
+
+    /// The number of the first entry past so many that is in question for the plan.
+    ghost in_question: { Self.Plan → Ground → List PlainEntry → ℕ → Option ℕ };
+
+    /// How many entries the history has. It is legal.
+    fn length(&self) -> u64
+        ensures length { result ≡ length (history self.now) }
+        ensures few { length (history self.now) < 2 ^ 63 }
+        ensures budget { 1 ≤ (over self.now).budget }
+        ensures legal { IsLegalOver (over self.now) (history self.now) };
+
+    /// The lowest ready update that is not among those in flight. It takes no memory.
+    fn lowest_idle(&self, busy: &[u32]) -> Option<u32>
+        ensures { result ≡ lowest_idle (over self.now) (history self.now) busy.now };
+
+    /// The lowest update that an answer can be delivered to. It takes no memory.
+    fn lowest_waiting(&self) -> Option<u32>
+        ensures { result ≡ lowest_waiting (over self.now) (history self.now) };
+
+    /// The lowest update that an answer can be delivered to, where that is to come before any step. It takes no memory.
+    fn first_waiting(&self) -> Option<u32>
+        ensures lowest { IfSome result (λ u. lowest_waiting (over self.now) (history self.now) ≡ Some u) };
+
+    /// Delivers the first of the answers that wait for the update. It is refused only for want of memory; the history is then
+    /// unchanged.
+    fn deliver(&mut self, alloc: Global, update: u32) -> Result<(), Memory>
+        requires waiting { lowest_waiting (over self.old) (history self.old) ≡ Some update }
+        ensures over { over self.new ≡ over self.old }
+        ensures made { IfOk result (λ _. HasDelivered over history self.old self.new update) }
+        ensures kept { IfErr result (λ _. history self.new ≡ history self.old) };
+
+    /// What is needed to plan the update's next step. It is refused only for want of memory.
+    fn snapshot(&self, alloc: Global, update: u32) -> Result<Self::Snapshot, Memory>
+        requires ready { IsReady (over self.now) (history self.now) update }
+        ensures is { IfOk result (λ s. is_snapshot s (over self.now) (history self.now) update) };
+
+    /// The step that the snapshot tells. It needs no core. It is refused only for want of memory.
+    fn plan(alloc: Global, snapshot: &Self::Snapshot) -> Result<Self::Plan, Memory>
+        ensures plan { IfOk result (IsPlanOf is_snapshot is_plan snapshot.now) };
+
+    /// The update's next step, without a snapshot. The core may keep what planning it told, which is seen of none. It is refused
+    /// only for want of memory.
+    fn next_plan(&mut self, alloc: Global, update: u32) -> Result<Self::Plan, Memory>
+        requires ready { IsReady (over self.old) (history self.old) update }
+        ensures over { over self.new ≡ over self.old }
+        ensures history { history self.new ≡ history self.old }
+        ensures plan { IfOk result (λ p. is_plan p (over self.old) (history self.old) update) };
+
+    /// The number of the first entry past so many that is in question for the plan. Where there is none the plan, made at
+    /// the state before them, is the update's step still. It takes no memory.
+    fn touched(&self, plan: &Self::Plan, since: u64) -> Option<u64>
+        ensures entry { result ≡ in_question plan.now (over self.now) (history self.now) since }
+        ensures stays { IfNone result (HasStayed over history self.now (is_plan plan.now) since) };
+
+    /// Makes the step of the plan. It is refused only for want of memory; the history is then unchanged.
+    fn install(&mut self, alloc: Global, plan: Self::Plan) -> Result<(), Memory>
+        requires plan { (u : ℕ) × is_plan plan (over self.old) (history self.old) u }
+        ensures over { over self.new ≡ over self.old }
+        ensures made { IfOk result (λ _. HasStep over history self.old self.new (is_plan plan)) }
+        ensures kept { IfErr result (λ _. history self.new ≡ history self.old) };
+}

@@ -1,0 +1,6 @@
+mod Staying
+mod Serving
+mod Running
+mod Sent
+mod Ran
+mod WorkersSent

@@ -1,0 +1,17 @@
+-- What a plan of a core, and a snapshot seen as the step that it plans, stand for at a desk.
+use Rattle.std.specs.Prelude.{◌≡◌, ℕ, List, Option}
+use Rattle.def_history.specs.Cores.{Ground}
+use Rattle.def_history.specs.PlainEntries.{PlainEntry}
+use Rattle.core_engine.specs.Planned.{PlanMeant, IsStepAt}
+use Rattle.work_desk.specs.Cores.{IsReady}
+use Rattle.work_stale.specs.Questions.{first_in_question}
+
+-- After these entries update n is ready, and this is its next step.
+pub record IsStepOf (p : PlanMeant) (g : Ground) (H : List PlainEntry) (n : ℕ) : Type 0 where
+  pub update : p.update ≡ n
+  pub ready : IsReady g H n
+  pub step : IsStepAt (record { over = g; history = H }) p
+
+-- The number of the first entry, past so many, that is in question for the step.
+abbrev pub first_questioned : PlanMeant → Ground → List PlainEntry → ℕ → Option ℕ
+first_questioned p g H since = first_in_question g.rules p.update p.reads H since

@@ -1,0 +1,142 @@
+//! The core of a session as a desk works at it.
+ghost use Rattle.std.specs.Prelude.{◌≡◌, map};
+ghost use Rattle.base_types.specs.Meanings.{rule_of};
+
+use base_types::{MappingList, Memory};
+use core_engine::{Core, Plan, Snapshot};
+use std::alloc::Global;
+use std::marker::Model;
+use work_stale::first_in_question;
+
+/// A core, and the mappings of its session, by which it is told whether an entry is in question for a plan. Contracts see
+/// what its history is over, and the entries of that history.
+#[derive(Drop)]
+pub struct Seated<'s> {
+    core: Core<'s>,
+    mappings: &'s MappingList,
+    answers: Answers,
+}
+
+/// When a seat that makes several moves in one turn delivers an answer.
+#[derive(Clone, Copy)]
+pub enum Answers {
+    /// To the first update that is not committed, as soon as that waits for one: the updates above then begin anew less often.
+    AtOnce,
+    /// Where no step can be made, as a seat that asks for a ticket does.
+    Last,
+}
+
+impl<'s> Model for Seated<'s> {
+    ghost use Rattle.std.specs.Prelude.{◌≡◌, map};
+    ghost use Rattle.base_types.specs.Meanings.{rule_of};
+    ghost use Rattle.core_engine.specs.States.{State};
+
+    ghost Value = { State };
+
+    ghost view = { λ c. c.core };
+
+    ghost invariant = { λ c. map rule_of c.mappings.now.items ≡ c.core.over.rules };
+}
+
+impl<'s> Seated<'s> {
+    /// The core, with the mappings that its history is over. It takes no memory.
+    pub fn new(core: Core<'s>, mappings: &'s MappingList, answers: Answers) -> Seated<'s>
+        requires same { map rule_of mappings.now.items ≡ core.over.rules }
+        ensures core { result ≡ core.entry }
+    {
+        Seated {
+            core,
+            mappings,
+            answers,
+        }
+    }
+
+    /// The core alone. It takes no memory.
+    pub fn into_core(self) -> Core<'s>
+        ensures core { result ≡ self.entry }
+    {
+        let Seated {
+            core,
+            mappings: _,
+            answers: _,
+        } = self;
+        core
+    }
+}
+
+impl<'s> work_desk::Core for Seated<'s> {
+    ghost use Rattle.work_session.specs.Steps.{IsStepOf, first_questioned};
+
+    type Snapshot = Snapshot<'s>;
+
+    type Plan = Plan;
+
+    ghost over = { λ c. c.over };
+
+    ghost history = { λ c. c.history };
+
+    ghost is_snapshot = { IsStepOf };
+
+    ghost is_plan = { IsStepOf };
+
+    ghost in_question = { first_questioned };
+
+    fn drop_snapshot(snapshot: Snapshot<'s>) {
+        drop(snapshot);
+    }
+
+    fn drop_plan(plan: Plan) {
+        drop(plan);
+    }
+
+    fn length(&self) -> u64 {
+        self.core.is_legal();
+        self.core.history().len() as u64
+    }
+
+    fn lowest_idle(&self, busy: &[u32]) -> Option<u32> {
+        self.core.lowest_ready_besides(busy)
+    }
+
+    fn lowest_waiting(&self) -> Option<u32> {
+        self.core.lowest_deliverable()
+    }
+
+    fn first_waiting(&self) -> Option<u32> {
+        match self.answers {
+            Answers::AtOnce => self.core.next_deliverable(),
+            Answers::Last => None,
+        }
+    }
+
+    fn deliver(&mut self, _alloc: Global, update: u32) -> Result<(), Memory> {
+        match self.core.deliver(update) {
+            Ok(_) => Ok(()),
+            Err(_) => Err(Memory),
+        }
+    }
+
+    fn snapshot(&self, alloc: Global, update: u32) -> Result<Snapshot<'s>, Memory> {
+        self.core.snapshot(alloc, update)
+    }
+
+    fn plan(alloc: Global, snapshot: &Snapshot<'s>) -> Result<Plan, Memory> {
+        snapshot.plan(alloc)
+    }
+
+    fn next_plan(&mut self, alloc: Global, update: u32) -> Result<Plan, Memory> {
+        let plan = self.core.next_plan(alloc, update)?;
+        Ok(plan)
+    }
+
+    fn touched(&self, plan: &Plan, since: u64) -> Option<u64> {
+        self.core.is_legal();
+        let history = self.core.history();
+        first_in_question(self.mappings, history, plan.update(), plan.reads(), since)
+    }
+
+    fn install(&mut self, alloc: Global, plan: Plan) -> Result<(), Memory> {
+        self.core.install(alloc, plan)?;
+        Ok(())
+    }
+}

@@ -1,0 +1,7 @@
+//! Worked rows.
+ghost use Rattle.work_stale.specs.Rows.{Rows};
+
+/// Small histories, in which the entry in question was found by hand.
+pub fn small_histories_compute()
+    ensures { Rows }
+{}

@@ -1,3 +1,0 @@
-mod Audits
-mod Fronts
-mod OneOutput

@@ -1,8 +1,0 @@
-use Rattle.std.proofs.Common.{◌≡◌, map, take}
-use Rattle.yt_model.specs.Values.{outer_datum}
-use Rattle.yt_base.specs.Meanings.{datum_of}
-use Rattle.yt_base.proofs.outer.are_outer.Given as goal
-
--- The values that were gone over are their own outer forms.
-abbrev pub invariant-loop-value : goal.invariant-loop-value
-invariant-loop-value l = map outer_datum (map datum_of (take l.value-index l.values)) ≡ map datum_of (take l.value-index l.values)

@@ -1,8 +1,0 @@
-use Rattle.std.proofs.Common.{◌≡◌, map, take}
-use Rattle.yt_model.specs.Values.{outer_datum}
-use Rattle.yt_base.specs.Meanings.{datum_of}
-use Rattle.yt_base.proofs.tuples.Tuple.renamed.Given as goal
-
--- The outer forms so far are those of the values that were gone over.
-abbrev pub invariant-loop-value : goal.invariant-loop-value
-invariant-loop-value l = map datum_of l.values.items ≡ map outer_datum (map datum_of (take l.value-index l.value-items))

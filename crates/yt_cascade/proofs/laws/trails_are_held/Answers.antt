@@ -1,5 +1,0 @@
-use Rattle.yt_cascade.proofs.Holding.{trails_held}
-use Rattle.yt_cascade.proofs.laws.trails_are_held.Goals as goal
-
-pub returns : goal.returns
-returns c = trails_held

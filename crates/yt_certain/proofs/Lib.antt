@@ -1,5 +1,0 @@
-pub mod Worlds
-pub mod Fresh
-pub mod Learned
-pub mod Evaluated
-pub mod Computed

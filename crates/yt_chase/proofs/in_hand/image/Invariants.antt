@@ -1,8 +1,0 @@
-use Rattle.std.proofs.Common.{◌≡◌, map, take}
-use Rattle.yt_model.specs.Mappings.{fact_under, listed}
-use Rattle.yt_base.specs.Meanings.{datum_of, fact_of, pattern_of}
-use Rattle.yt_chase.proofs.in_hand.image.Given as goal
-
--- The tuples of the atoms so far.
-abbrev pub invariant-loop-atom : goal.invariant-loop-atom
-invariant-loop-atom l = map fact_of l.tuples.items ≡ map (fact_under (listed (map datum_of l.values.items))) (map pattern_of (take l.atom-index l.atom-items))

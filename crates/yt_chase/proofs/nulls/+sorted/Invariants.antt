@@ -1,6 +1,0 @@
-use Rattle.std.proofs.Common.{length}
-use Rattle.yt_chase.proofs.nulls.+sorted.Given as goal
-
--- How many nulls there are.
-abbrev pub decreases-sorted : goal.decreases-sorted
-decreases-sorted l = length l.nulls.now

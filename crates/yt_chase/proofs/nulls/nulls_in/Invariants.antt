@@ -1,8 +1,0 @@
-use Rattle.std.proofs.Common.{◌≡◌, map, take}
-use Rattle.yt_base.specs.Meanings.{null_of, datum_of}
-use Rattle.yt_steps.specs.Rewriting.{nulls_in}
-use Rattle.yt_chase.proofs.nulls.nulls_in.Given as goal
-
--- The list has the nulls of the values so far.
-abbrev pub invariant-loop-value : goal.invariant-loop-value
-invariant-loop-value l = map null_of l.nulls.items ≡ nulls_in (map datum_of (take l.value-index l.values))

@@ -1,8 +1,0 @@
-use Rattle.std.proofs.Common.{◌≡◌, map}
-use Rattle.yt_model.specs.Repository.{Delete}
-use Rattle.yt_base.specs.Meanings.{fact_of, change_of}
-use Rattle.yt_chase.proofs.rewriting.deletions.Given as goal
-
--- The tuples so far are deleted.
-abbrev pub invariant-loop-tuple : goal.invariant-loop-tuple
-invariant-loop-tuple l = map change_of l.writes.items ≡ map Delete (map fact_of l.yielded)

@@ -1,6 +1,0 @@
-use Rattle.std.proofs.Common.{◌≡◌, map, take, drop, ◌++◌}
-use Rattle.yt_checks.specs.Tables.{widened}
-use Rattle.yt_checks.proofs.cycles.widen.Given as goal
-
-abbrev pub invariant-loop-place : goal.invariant-loop-place
-invariant-loop-place l = l.rows ≡ map (widened l.middle l.between) (take l.place l.initial.rows) ++ drop l.place l.initial.rows

@@ -1,5 +1,0 @@
-use Rattle.yt_checks.proofs.Bits.{bit_of_more}
-use Rattle.yt_checks.proofs.relations.RelationSet.with.Goals as goal
-
-pub returns : goal.returns
-returns c = record { with = λ r lt. bit_of_more c.args.self.bits c.args.relation r c.if-relation-ge128.false }

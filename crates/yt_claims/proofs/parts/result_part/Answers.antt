@@ -1,8 +1,0 @@
-use Rattle.std.proofs.Common.{sym, ap, ◌∙◌}
-use Rattle.std.specs.List.{concat}
-use Rattle.std.proofs.lemmas.List.{take_rest}
-use Rattle.yt_claims.proofs.Lined.{whole}
-use Rattle.yt_claims.proofs.parts.result_part.Goals as goal
-
-pub returns-clause-behind : goal.returns-clause-behind
-returns-clause-behind c = rw take_rest (sym (whole _) ∙ ap concat c.place_of-place.ensures.from)

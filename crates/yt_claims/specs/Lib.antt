@@ -1,6 +1,0 @@
-pub mod Told
-pub mod Choices
-pub mod Claims
-pub mod Forms
-pub mod Parts
-pub mod Marks

@@ -1,7 +1,0 @@
--- The whole input was given, and its output delivered.
-use Rattle.yt_command.proofs.Complete.{complete}
-use Rattle.yt_command.proofs.performing.perform.Goals as goal
-
-pub returns-in-Ok-clause-complete : goal.returns-in-Ok-clause-complete
-returns-in-Ok-clause-complete g c =
-    complete _ c.deliver.result _ _ _ _ c.in-Ok.ensures c.deliver.ensures

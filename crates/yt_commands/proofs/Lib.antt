@@ -1,4 +1,0 @@
-mod JournalOutputs
-mod Journals
-mod Performed
-mod RecoverOutputs

@@ -1,5 +1,0 @@
-use Rattle.yt_commands.proofs.Performed.{written}
-use Rattle.yt_commands.proofs.laws.performed_runs_write_what_holds.Goals as goal
-
-pub returns : goal.returns
-returns c = written c.spelled_sessions_are_valid.ensures c.runs_meet_their_mappings.ensures

@@ -1,7 +1,0 @@
-pub mod Asked
-pub mod Base
-pub mod Commands
-pub mod Journaled
-pub mod Runs
-pub mod Violations
-pub mod Written

@@ -1,7 +1,0 @@
-use Rattle.std.proofs.Common.{◌∙◌, ap, ℕ}
-use Rattle.yt_admits.specs.Admissible.{admits}
-use Rattle.yt_base.specs.Meanings.{operation_of}
-use Rattle.yt_core.proofs.cores.Core.admits.Goals as goal
-
-pub returns : goal.returns
-returns c = record { admits = c.admits.ensures.admits ∙ ap (λ (n : ℕ). admits c.args.schema.now n (operation_of c.args.update.now.operation)) c.count.ensures.count }

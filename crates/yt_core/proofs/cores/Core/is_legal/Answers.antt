@@ -1,5 +1,0 @@
-use Rattle.yt_core.proofs.Telling.{legal_told}
-use Rattle.yt_core.proofs.cores.Core.is_legal.Goals as goal
-
-pub returns-clause-legal : goal.returns-clause-legal
-returns-clause-legal c = legal_told _ _ c.self.inside.queue.items _ c.self.invariant.0.left c.self.view_is

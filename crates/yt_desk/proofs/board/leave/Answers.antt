@@ -1,6 +1,0 @@
-use Rattle.std.proofs.Common.{rules, tests, not, ◌==◌}
-use Rattle.std.proofs.lemmas.Fn.{filter_same}
-use Rattle.yt_desk.proofs.board.leave.Goals as goal
-
-pub returns : goal.returns
-returns c = record { left = filter_same _ (λ v. not (v == c.args.update)) _ (λ x b q h. search (rules, tests)) _ _ c.retain.ensures.filtered }

@@ -1,5 +1,0 @@
-pub mod States
-pub mod Torn
-pub mod Logs
-pub mod InMemory
-pub mod Counted

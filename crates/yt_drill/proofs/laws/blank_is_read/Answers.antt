@@ -1,5 +1,0 @@
-use Rattle.yt_drill.proofs.Blank.{blank_read}
-use Rattle.yt_drill.proofs.laws.blank_is_read.Goals as goal
-
-pub returns : goal.returns
-returns c = record { blank = blank_read }

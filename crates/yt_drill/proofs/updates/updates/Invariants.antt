@@ -1,8 +1,0 @@
-use Rattle.std.proofs.Common.{◌≡◌, ◌++◌, ◌-◌, ◌+◌, map}
-use Rattle.yt_session.specs.Meanings.{update_of}
-use Rattle.yt_drill.specs.Drilled.{updates_from}
-use Rattle.yt_drill.proofs.updates.updates.Given as goal
-
--- Those so far, and then those that are still drawn, are all.
-abbrev pub invariant-loop-before : goal.invariant-loop-before
-invariant-loop-before l = updates_from 1 l.count l.seed ≡ map update_of l.updates.items ++ updates_from (l.before + 1) (l.count - l.before) l.state

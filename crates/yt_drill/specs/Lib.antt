@@ -1,4 +1,0 @@
-pub mod Columns
-pub mod Drilled
-pub mod Meanings
-pub mod Rows

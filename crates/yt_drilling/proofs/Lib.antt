@@ -1,2 +1,0 @@
-mod Delivered
-mod Told

@@ -1,9 +1,0 @@
-use Rattle.std.proofs.Common.{◌≡◌, map, take}
-use Rattle.yt_base.specs.Meanings.{fact_of}
-use Rattle.yt_json.specs.Lines.{with_all}
-use Rattle.yt_explain.specs.Texts.{fact_json}
-use Rattle.yt_explain.proofs.texts.with_each_fact.Given as goal
-
--- The facts so far.
-abbrev pub invariant-loop-tuple : goal.invariant-loop-tuple
-invariant-loop-tuple l = l.line ≡ with_all l.initial.line (map (fact_json l.schema) (map fact_of (take l.tuple-index l.tuples)))

@@ -1,7 +1,0 @@
-use Rattle.std.proofs.Common.{◌≡◌, map, take}
-use Rattle.yt_base.specs.Meanings.{fact_of}
-use Rattle.yt_facts.proofs.listed.ListedFacts.list.Given as goal
-
--- What has been copied means the same as what has been gone over.
-abbrev pub invariant-loop-tuple : goal.invariant-loop-tuple
-invariant-loop-tuple l = map fact_of l.list.items ≡ map fact_of (take l.tuple-index l.tuple-items)

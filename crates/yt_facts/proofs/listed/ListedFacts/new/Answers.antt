@@ -1,8 +1,0 @@
-use Rattle.std.proofs.Common.{sym, subst, map}
-use Rattle.yt_model.specs.Repository.{IsRepository}
-use Rattle.yt_base.specs.Meanings.{fact_of}
-use Rattle.yt_facts.proofs.listed.ListedFacts.new.Goals as goal
-
-pub invariant_of-result : goal.invariant_of-result
-unfolding Rattle.std.specs.List.Sorted.IsStrictlySortedBy
-invariant_of-result c = subst (λ l. IsRepository (map fact_of l)) (sym c.new.ensures.items) tt

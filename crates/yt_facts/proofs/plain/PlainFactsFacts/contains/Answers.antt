@@ -1,8 +1,0 @@
-use Rattle.std.proofs.Common.{◌∙◌, ap}
-use Rattle.yt_model.specs.Repository.{has}
-use Rattle.yt_base.specs.Meanings.{fact_of}
-use Rattle.yt_facts.proofs.Held.{contains_mapped}
-use Rattle.yt_facts.proofs.plain.PlainFactsFacts.contains.Goals as goal
-
-pub returns-clause-answer : goal.returns-clause-answer
-returns-clause-answer c = c.contains.ensures ∙ contains_mapped c.args.tuple.now c.self.inside.tuples.keys ∙ ap (λ D. has D (fact_of c.args.tuple.now)) c.self.view_is

@@ -1,7 +1,0 @@
-use Rattle.yt_forms.specs.Views.{words_of}
-use Rattle.yt_forms.proofs.Walked.{all_words}
-use Rattle.yt_forms.proofs.cursor.Words.of.Goals as goal
-
-pub returns-clause-all : goal.returns-clause-all
-unfolding words_of
-returns-clause-all c = all_words c.args.line.now c.in_ok-line_fault.ensures.faultless

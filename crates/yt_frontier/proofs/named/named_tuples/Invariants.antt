@@ -1,8 +1,0 @@
-use Rattle.std.proofs.Common.{◌≡◌, map, take}
-use Rattle.yt_base.specs.Meanings.{fact_of}
-use Rattle.yt_steps.specs.Questions.{named}
-use Rattle.yt_frontier.proofs.named.named_tuples.Given as goal
-
--- The list has those of the tuples so far that are named.
-abbrev pub invariant-loop-tuple : goal.invariant-loop-tuple
-invariant-loop-tuple l = map fact_of l.list.items ≡ named (map fact_of (take l.tuple-index l.tuple-items)) (map fact_of l.forms.items)

@@ -1,8 +1,0 @@
-use Rattle.yt_grammar.proofs.Closure.{paths_decided, cycle_decided}
-use Rattle.yt_grammar.proofs.laws.closure_decides.Goals as goal
-
-pub returns-clause-paths : goal.returns-clause-paths
-returns-clause-paths c = paths_decided
-
-pub returns-clause-cycles : goal.returns-clause-cycles
-returns-clause-cycles c = cycle_decided

@@ -1,5 +1,0 @@
-use Rattle.yt_history.proofs.Sessions.{sessions_are_admissible}
-use Rattle.yt_history.proofs.any_order.sessions_are_admissible.Goals as goal
-
-pub returns : goal.returns
-returns c = sessions_are_admissible

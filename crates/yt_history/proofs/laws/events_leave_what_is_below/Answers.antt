@@ -1,7 +1,0 @@
-use Rattle.yt_machine.proofs.Local.{local_law}
-use Rattle.yt_steps.specs.Chase.{caused, caused_chase}
-use Rattle.yt_steps.proofs.ChaseLaws.{chase_laws}
-use Rattle.yt_history.proofs.laws.events_leave_what_is_below.Goals as goal
-
-pub returns : goal.returns
-returns c = λ ms budget some. local_law (caused_chase ms budget) (chase_laws caused ms budget some)

@@ -1,6 +1,0 @@
-use Rattle.yt_machine.proofs.Allowed.{allowed_law}
-use Rattle.yt_steps.specs.Chase.{caused_chase}
-use Rattle.yt_history.proofs.laws.standings_allow_events.Goals as goal
-
-pub returns : goal.returns
-returns c = λ ms budget. allowed_law (caused_chase ms budget)

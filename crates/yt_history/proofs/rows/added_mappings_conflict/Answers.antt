@@ -1,9 +1,0 @@
-use Rattle.std.proofs.Common.{refl}
-use Rattle.yt_history.proofs.rows.added_mappings_conflict.Goals as goal
-
-pub returns : goal.returns
-returns c =
-    record {
-      added = refl;
-      drained = refl;
-    }

@@ -1,9 +1,0 @@
-use Rattle.std.proofs.Common.{refl}
-use Rattle.yt_history.proofs.rows.taken_nulls_go.Goals as goal
-
-pub returns : goal.returns
-returns c =
-    record {
-      taken = refl;
-      drained = refl;
-    }

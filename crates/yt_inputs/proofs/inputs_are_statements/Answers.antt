@@ -1,5 +1,0 @@
-use Rattle.yt_inputs.proofs.Spoken.{inputs_law}
-use Rattle.yt_inputs.proofs.inputs_are_statements.Goals as goal
-
-pub returns : goal.returns
-returns c = inputs_law c.statements_are_read_again.ensures c.nothing_else_is_read.ensures

@@ -1,5 +1,0 @@
-use Rattle.yt_journal.proofs.Turns.{all_kept}
-use Rattle.yt_journal.proofs.laws.crashes_keep_what_is_acknowledged.Goals as goal
-
-pub returns : goal.returns
-returns g c = λ s commits start turns k bytes rest h l m i. all_kept g.D.Disk.state s (c.journals_have_one_reading.ensures.commits s) k bytes start commits turns rest h l m i

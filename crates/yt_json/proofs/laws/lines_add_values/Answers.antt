@@ -1,5 +1,0 @@
-use Rattle.yt_json.proofs.Adding.{adds_values}
-use Rattle.yt_json.proofs.laws.lines_add_values.Goals as goal
-
-pub returns : goal.returns
-returns c = adds_values

@@ -1,5 +1,0 @@
-use Rattle.yt_kept.proofs.Renaming.{base_renamed}
-use Rattle.yt_kept.proofs.laws.bases_are_renamed.Goals as goal
-
-pub returns : goal.returns
-returns c = λ s r. base_renamed r.repository

@@ -1,6 +1,0 @@
-use Rattle.std.proofs.Common.{sym, ◌∙◌}
-use Rattle.yt_lex.proofs.Stepped.{blank}
-use Rattle.yt_lex.proofs.steps.behind_blanks.Goals as goal
-
-pub loop-from-preserved : goal.loop-from-preserved
-loop-from-preserved c = c.loop-from.invariant ∙ sym (blank c.loop-from.from c.args.line.now c.loop-from-test.true (sym c.if-not-is_blank.ensures))

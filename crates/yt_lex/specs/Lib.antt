@@ -1,7 +1,0 @@
-pub mod Answers
-pub mod Bytes
-pub mod Lines
-pub mod Numbers
-pub mod Spelling
-pub mod Texts
-pub mod Tokens

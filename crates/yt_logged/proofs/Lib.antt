@@ -1,4 +1,0 @@
-mod Openings
-mod Writes
-mod Runs
-mod Recovering

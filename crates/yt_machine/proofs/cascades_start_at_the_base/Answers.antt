@@ -1,7 +1,0 @@
-use Rattle.yt_machine.specs.Small.{small}
-use Rattle.yt_machine.proofs.Calls.{call_law}
-use Rattle.yt_machine.proofs.SmallLaws.{small_laws}
-use Rattle.yt_machine.proofs.cascades_start_at_the_base.Goals as goal
-
-pub returns : goal.returns
-returns c = λ budget some. call_law (small budget) (small_laws budget some)

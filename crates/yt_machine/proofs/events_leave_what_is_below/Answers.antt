@@ -1,7 +1,0 @@
-use Rattle.yt_machine.specs.Small.{small}
-use Rattle.yt_machine.proofs.Local.{local_law}
-use Rattle.yt_machine.proofs.SmallLaws.{small_laws}
-use Rattle.yt_machine.proofs.events_leave_what_is_below.Goals as goal
-
-pub returns : goal.returns
-returns c = λ budget some. local_law (small budget) (small_laws budget some)

@@ -1,7 +1,0 @@
-use Rattle.yt_machine.specs.Small.{small}
-use Rattle.yt_machine.proofs.Theorem.{history_law}
-use Rattle.yt_machine.proofs.SmallLaws.{small_laws}
-use Rattle.yt_machine.proofs.histories_are_serial.Goals as goal
-
-pub returns : goal.returns
-returns c = λ budget some. history_law (small budget) (small_laws budget some)

@@ -1,7 +1,0 @@
-use Rattle.yt_machine.specs.Small.{small}
-use Rattle.yt_machine.proofs.Told.{trail_law}
-use Rattle.yt_machine.proofs.SmallLaws.{small_laws}
-use Rattle.yt_machine.proofs.histories_tell_the_trails.Goals as goal
-
-pub returns : goal.returns
-returns c = λ budget some. trail_law (small budget) (small_laws budget some)

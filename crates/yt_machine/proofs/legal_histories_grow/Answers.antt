@@ -1,7 +1,0 @@
-use Rattle.yt_machine.specs.Small.{small}
-use Rattle.yt_machine.proofs.Prefixes.{legal_law}
-use Rattle.yt_machine.proofs.SmallLaws.{small_laws}
-use Rattle.yt_machine.proofs.legal_histories_grow.Goals as goal
-
-pub returns : goal.returns
-returns c = λ budget some. legal_law (small budget) (small_laws budget some)

@@ -1,6 +1,0 @@
-use Rattle.yt_machine.specs.Small.{small}
-use Rattle.yt_machine.proofs.Walks.{walk_law}
-use Rattle.yt_machine.proofs.one_walk_settles.Goals as goal
-
-pub returns : goal.returns
-returns c = λ budget. walk_law (small budget)

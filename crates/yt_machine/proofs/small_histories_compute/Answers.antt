@@ -1,5 +1,0 @@
-use Rattle.yt_machine.proofs.SmallRows.{small_rows}
-use Rattle.yt_machine.proofs.small_histories_compute.Goals as goal
-
-pub returns : goal.returns
-returns c = small_rows

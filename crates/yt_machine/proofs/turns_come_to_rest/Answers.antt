@@ -1,7 +1,0 @@
-use Rattle.yt_machine.specs.Small.{small}
-use Rattle.yt_machine.proofs.Simulations.{rest_law}
-use Rattle.yt_machine.proofs.SmallLaws.{small_laws}
-use Rattle.yt_machine.proofs.turns_come_to_rest.Goals as goal
-
-pub returns : goal.returns
-returns c = λ budget some. rest_law (small budget) (small_laws budget some)

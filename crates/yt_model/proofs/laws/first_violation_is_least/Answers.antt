@@ -1,5 +1,0 @@
-use Rattle.yt_model.proofs.Violations.{first_violation_is, none_violates}
-use Rattle.yt_model.proofs.laws.first_violation_is_least.Goals as goal
-
-pub returns : goal.returns
-returns c = record { found = first_violation_is; none = none_violates }

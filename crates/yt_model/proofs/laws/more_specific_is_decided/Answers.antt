@@ -1,6 +1,0 @@
-use Rattle.yt_model.proofs.SpecificLaws.{specific_itself, specific_chain}
-use Rattle.yt_model.proofs.Unified.{specific_decides}
-use Rattle.yt_model.proofs.laws.more_specific_is_decided.Goals as goal
-
-pub returns : goal.returns
-returns c = record { decides = specific_decides; reflexive = specific_itself; transitive = specific_chain }

@@ -1,6 +1,0 @@
-use Rattle.yt_model.proofs.Shifted.{outer_fact_shifts}
-use Rattle.yt_model.proofs.ShiftedQueries.{value_shifts}
-use Rattle.yt_model.proofs.laws.shifts_commute.Goals as goal
-
-pub returns : goal.returns
-returns c = record { values = value_shifts; outer_forms = outer_fact_shifts }

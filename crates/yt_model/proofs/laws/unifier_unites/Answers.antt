@@ -1,5 +1,0 @@
-use Rattle.yt_model.proofs.Unified.{unifier_laws}
-use Rattle.yt_model.proofs.laws.unifier_unites.Goals as goal
-
-pub returns : goal.returns
-returns c = unifier_laws

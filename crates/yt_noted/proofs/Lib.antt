@@ -1,4 +1,0 @@
-pub mod OfPhase
-pub mod Writing
-pub mod Noting
-pub mod Turning

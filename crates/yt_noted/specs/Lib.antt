@@ -1,3 +1,0 @@
-pub mod Meanings
-pub mod Steps
-pub mod Turns

@@ -1,8 +1,0 @@
-use Rattle.std.proofs.Common.{◌≡◌, ◌∷◌, take}
-use Rattle.std.specs.Prelude.{flat_map}
-use Rattle.yt_grammar.specs.Words.{comma}
-use Rattle.yt_schema.specs.Pages.{with_words}
-use Rattle.yt_print.proofs.worded.with_others.Given as goal
-
-abbrev pub invariant-loop-item : goal.invariant-loop-item
-invariant-loop-item g l = l.page ≡ with_words l.initial.page (flat_map (λ x. comma ∷ g.T.Worded.words l.schema x) (take l.item-index l.items))

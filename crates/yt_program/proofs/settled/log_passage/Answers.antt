@@ -1,6 +1,0 @@
-use Rattle.std.proofs.Common.{refl}
-use Rattle.yt_query.proofs.Entries.{with_last}
-use Rattle.yt_program.proofs.settled.log_passage.Goals as goal
-
-pub returns : goal.returns
-returns c = record { logged = with_last c.push.new.self.items c.args.log.now.items _ _ c.in_ok-push.ensures.ok refl }

@@ -1,5 +1,0 @@
-use Rattle.yt_provenance.proofs.Noted.{notes_tell}
-use Rattle.yt_provenance.proofs.laws.notes_tell.Goals as goal
-
-pub returns : goal.returns
-returns c = notes_tell

@@ -1,5 +1,0 @@
-use Rattle.yt_provenance.proofs.Grounded.{reasons_grounded}
-use Rattle.yt_provenance.proofs.laws.reasons_are_grounded.Goals as goal
-
-pub returns : goal.returns
-returns c = reasons_grounded

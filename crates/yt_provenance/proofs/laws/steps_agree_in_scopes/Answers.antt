@@ -1,5 +1,0 @@
-use Rattle.yt_provenance.proofs.Scoped.{steps_agree}
-use Rattle.yt_provenance.proofs.laws.steps_agree_in_scopes.Goals as goal
-
-pub returns : goal.returns
-returns c = steps_agree

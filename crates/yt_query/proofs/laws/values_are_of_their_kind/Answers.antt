@@ -1,5 +1,0 @@
-use Rattle.yt_query.proofs.OfKind.{values_are_of_kind}
-use Rattle.yt_query.proofs.laws.values_are_of_their_kind.Goals as goal
-
-pub returns : goal.returns
-returns c = values_are_of_kind

@@ -1,9 +1,0 @@
-use Rattle.std.proofs.Common.{◌≡◌, ◌++◌, map}
-use Rattle.yt_base.specs.Meanings.{fact_of}
-use Rattle.yt_provenance.specs.Reasons.{rooted}
-use Rattle.yt_reasons.specs.Meanings.{reason_of}
-use Rattle.yt_reasons.proofs.telling.root.Given as goal
-
--- Those so far were told.
-abbrev pub invariant-loop-tuple : goal.invariant-loop-tuple
-invariant-loop-tuple l = map reason_of l.reasons.items ≡ map reason_of l.fn.reasons.items ++ map rooted (map fact_of l.yielded)

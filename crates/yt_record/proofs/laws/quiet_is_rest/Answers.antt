@@ -1,6 +1,0 @@
-use Rattle.yt_machine.specs.Small.{small}
-use Rattle.yt_record.proofs.Answering.{quiet_answer}
-use Rattle.yt_record.proofs.laws.quiet_is_rest.Goals as goal
-
-pub returns : goal.returns
-returns c = λ budget. quiet_answer (small budget)

@@ -1,7 +1,0 @@
-use Rattle.yt_machine.specs.Small.{small}
-use Rattle.yt_machine.proofs.SmallLaws.{small_laws}
-use Rattle.yt_record.proofs.Legality.{record_law}
-use Rattle.yt_record.proofs.laws.records_are_legal.Goals as goal
-
-pub returns : goal.returns
-returns c = λ budget some. record_law (small budget) (small_laws budget some)

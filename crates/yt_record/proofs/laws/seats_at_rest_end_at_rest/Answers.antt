@@ -1,6 +1,0 @@
-use Rattle.yt_machine.specs.Small.{small}
-use Rattle.yt_record.proofs.Resting.{rest_law}
-use Rattle.yt_record.proofs.laws.seats_at_rest_end_at_rest.Goals as goal
-
-pub returns : goal.returns
-returns c = λ budget. rest_law (small budget)

@@ -1,5 +1,0 @@
-use Rattle.std.proofs.Common.{refl}
-use Rattle.yt_record.proofs.laws.small_records_compute.Goals as goal
-
-pub returns : goal.returns
-returns c = record { marks = refl; first = refl; second = refl; third = refl; last = refl; then_moves = refl }

@@ -1,6 +1,0 @@
-use Rattle.std.proofs.Common.{◌≡◌, ◌++◌, map, drop}
-use Rattle.yt_base.specs.Meanings.{change_of}
-use Rattle.yt_replay.proofs.stepping.copies.Given as goal
-
-abbrev pub invariant-loop-write : goal.invariant-loop-write
-invariant-loop-write l = map change_of l.copies.items ++ map change_of (drop l.write-index l.writes) ≡ map change_of l.writes

@@ -1,8 +1,0 @@
-use Rattle.std.proofs.Common.{◌≡◌, map, take}
-use Rattle.yt_schema.specs.Meanings.{session_mapping_of}
-use Rattle.yt_program.specs.Results.{finish_of}
-use Rattle.yt_report.specs.Saved.{saved_mappings}
-use Rattle.yt_report.proofs.saving.saved_mappings.Given as goal
-
-abbrev pub invariant-loop-mapping : goal.invariant-loop-mapping
-invariant-loop-mapping l = map session_mapping_of l.kept.items ≡ saved_mappings (map finish_of l.finishes) (map session_mapping_of (take l.mapping-index l.mappings))

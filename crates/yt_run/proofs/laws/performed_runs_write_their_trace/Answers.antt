@@ -1,5 +1,0 @@
-use Rattle.yt_run.proofs.Performed.{written}
-use Rattle.yt_run.proofs.laws.performed_runs_write_their_trace.Goals as goal
-
-pub returns : goal.returns
-returns c = written c.spelled_sessions_are_valid.ensures c.runs_meet_their_mappings.ensures

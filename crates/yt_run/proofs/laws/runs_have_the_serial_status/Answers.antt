@@ -1,5 +1,0 @@
-use Rattle.yt_run.proofs.Outputs.{one_status}
-use Rattle.yt_run.proofs.laws.runs_have_the_serial_status.Goals as goal
-
-pub returns : goal.returns
-returns c = one_status

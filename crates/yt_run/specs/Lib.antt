@@ -1,4 +1,0 @@
-pub mod Crews
-pub mod Refusals
-pub mod Runs
-pub mod Written

@@ -1,8 +1,0 @@
-use Rattle.std.proofs.Common.{arith}
-use Rattle.yt_schema.proofs.Digits.{by_tens}
-use Rattle.yt_schema.proofs.Starting.{both_added}
-use Rattle.yt_schema.proofs.numerals.push_four.Goals as goal
-
-pub returns-clause-ok : goal.returns-clause-ok
-returns-clause-ok c =
-    both_added c.push_one.result c.args.out.now.items _ c.push_one.new.out.items _ _ _ (by_tens c.args.number (omega (arith, c.requires.low)) c.requires.high) c.in_ok-push_three.ensures.ok c.push_one.ensures.ok

@@ -1,8 +1,0 @@
-use Rattle.std.proofs.Common.{◌≡◌, take, map}
-use Rattle.yt_base.specs.Meanings.{slot_of as slot_meant}
-use Rattle.yt_grammar.specs.Meaning.{slot_of}
-use Rattle.yt_schema.specs.Meanings.{term_of}
-use Rattle.yt_schema.proofs.variables.Variables.terms.Given as goal
-
-abbrev pub invariant-loop-term : goal.invariant-loop-term
-invariant-loop-term l = map slot_meant l.row.items ≡ map (slot_of l.self) (map term_of (take l.term-index l.terms))

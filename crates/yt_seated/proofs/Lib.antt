@@ -1,4 +1,0 @@
-mod Staying
-mod Serving
-mod Running
-mod Sent

@@ -1,7 +1,0 @@
-use Rattle.std.proofs.Common.{subst}
-use Rattle.yt_history.specs.Cores.{IsLegalOver}
-use Rattle.yt_core.specs.States.{State}
-use Rattle.yt_seated.proofs.seated.SeatedCore.length.Goals as goal
-
-pub returns-clause-legal : goal.returns-clause-legal
-returns-clause-legal c = subst (λ (x : State). IsLegalOver x.over x.history) c.self.view_is c.is_legal.ensures.legal

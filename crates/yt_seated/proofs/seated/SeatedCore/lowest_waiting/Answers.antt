@@ -1,6 +1,0 @@
-use Rattle.std.proofs.Common.{◌∙◌, ap}
-use Rattle.yt_core.specs.States.{lowest_deliverable_at}
-use Rattle.yt_seated.proofs.seated.SeatedCore.lowest_waiting.Goals as goal
-
-pub returns : goal.returns
-returns c = c.lowest_deliverable.ensures.lowest ∙ ap lowest_deliverable_at c.self.view_is

@@ -1,2 +1,0 @@
-pub mod Suiting
-pub mod Meeting

@@ -1,5 +1,0 @@
-use Rattle.yt_session.proofs.Meeting.{base_holds}
-use Rattle.yt_session.proofs.laws.base_holds.Goals as goal
-
-pub returns : goal.returns
-returns c = base_holds

@@ -1,3 +1,0 @@
-pub mod Spares
-pub mod Stale
-pub mod Touches

@@ -1,6 +1,0 @@
-pub mod Histories
-pub mod Lock
-pub mod Rule
-pub mod Seats
-pub mod Steps
-pub mod Within

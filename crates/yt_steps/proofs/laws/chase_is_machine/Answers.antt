@@ -1,5 +1,0 @@
-use Rattle.yt_steps.proofs.ChaseLaws.{chase_laws}
-use Rattle.yt_steps.proofs.laws.chase_is_machine.Goals as goal
-
-pub returns : goal.returns
-returns c = chase_laws

@@ -1,5 +1,0 @@
-use Rattle.yt_steps.proofs.Lacks.{fits_decide}
-use Rattle.yt_steps.proofs.laws.fits_decide_lacks.Goals as goal
-
-pub returns : goal.returns
-returns c = fits_decide

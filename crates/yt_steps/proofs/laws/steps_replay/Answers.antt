@@ -1,5 +1,0 @@
-use Rattle.yt_steps.proofs.Lacks.{steps_replay}
-use Rattle.yt_steps.proofs.laws.steps_replay.Goals as goal
-
-pub returns : goal.returns
-returns c = steps_replay

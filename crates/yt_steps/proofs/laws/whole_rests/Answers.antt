@@ -1,5 +1,0 @@
-use Rattle.yt_steps.proofs.SerialHolding.{whole_rests}
-use Rattle.yt_steps.proofs.laws.whole_rests.Goals as goal
-
-pub returns : goal.returns
-returns c = whole_rests

@@ -1,5 +1,0 @@
-use Rattle.yt_steps.proofs.ShiftedRuns.{whole_shifts}
-use Rattle.yt_steps.proofs.laws.whole_shifts.Goals as goal
-
-pub returns : goal.returns
-returns c = whole_shifts

@@ -1,9 +1,0 @@
-use Rattle.std.proofs.Common.{refl}
-use Rattle.yt_steps.proofs.rows.replacements_run.Goals as goal
-
-pub returns : goal.returns
-returns c =
-    record {
-      replace_merges = refl;
-      refused_null = refl;
-    }

@@ -1,5 +1,0 @@
-use Rattle.std.proofs.Common.{refl}
-use Rattle.yt_steps.proofs.rows.travel_runs.Goals as goal
-
-pub returns : goal.returns
-returns c = refl

@@ -1,7 +1,0 @@
-//! The chase: an update as steps that ask questions, updates taken whole, and the serial machine.
-//!
-//! The definitions stand in `specs/`. Each function here is a law: its contract is the statement and its body is empty.
-#![tactic(auto)]
-
-pub mod laws;
-pub mod rows;

@@ -1,9 +1,0 @@
-use Rattle.std.proofs.Common.{◌≡◌, take, map}
-use Rattle.yt_program.specs.Results.{finish_of}
-use Rattle.yt_summary.specs.Meanings.{IsWithin, totals_of}
-use Rattle.yt_summary.specs.Totals.{totals}
-use Rattle.yt_summary.proofs.totals.totals_by.Given as goal
-
--- The totals are those of the updates that were passed.
-abbrev pub invariant-loop-before : goal.invariant-loop-before
-invariant-loop-before l = (totals_of l.totals ≡ totals (map finish_of (take l.before l.finishes))) × IsWithin l.before l.totals

@@ -1,4 +1,0 @@
-pub mod Meanings
-pub mod Totals
-pub mod Summaries
-pub mod Rows

@@ -1,7 +1,0 @@
-//! A worked row of the summary.
-ghost use Rattle.yt_summary.specs.Rows.{WorkedSummary};
-
-/// The summary of a drill of one update, as an independent implementation writes it.
-pub fn worked_summary()
-    ensures { WorkedSummary }
-{}

@@ -1,4 +1,0 @@
-pub mod Adapters
-pub mod Faults
-pub mod Reading
-pub mod Writing

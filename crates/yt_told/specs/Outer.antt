@@ -1,9 +1,0 @@
--- What is told by outer forms: nulls without their attempts.
-use Rattle.std.specs.Prelude.{map}
-use Rattle.yt_model.specs.Values.{outer}
-use Rattle.yt_frontier.specs.Inquiries.{Inquiry, PositiveInquiry, NegativeInquiry}
-
--- What a question tells, as people see it.
-abbrev pub outer_inquiry : Inquiry → Inquiry
-outer_inquiry (PositiveInquiry n t cs) = PositiveInquiry n (outer t) (map outer cs)
-outer_inquiry (NegativeInquiry n ts) = NegativeInquiry n (map outer ts)

@@ -1,8 +1,0 @@
-use Rattle.std.proofs.Common.{◌≡◌, map, take}
-use Rattle.yt_entries.specs.Meanings.{cause_of}
-use Rattle.yt_json.specs.Lines.{with_all}
-use Rattle.yt_trace.specs.Traces.{cause_json}
-use Rattle.yt_trace.proofs.causes.with_each_cause.Given as goal
-
-abbrev pub invariant-loop-cause : goal.invariant-loop-cause
-invariant-loop-cause l = l.line ≡ with_all l.initial.line (map cause_json (map cause_of (take l.cause-index l.causes)))

@@ -1,8 +1,0 @@
-use Rattle.std.proofs.Common.{◌≡◌, map, take}
-use Rattle.yt_base.specs.Meanings.{change_of}
-use Rattle.yt_json.specs.Lines.{with_all}
-use Rattle.yt_trace.specs.Traces.{write_json}
-use Rattle.yt_trace.proofs.writes.with_each_write.Given as goal
-
-abbrev pub invariant-loop-write : goal.invariant-loop-write
-invariant-loop-write l = l.line ≡ with_all l.initial.line (map (write_json l.schema) (map change_of (take l.write-index l.writes)))

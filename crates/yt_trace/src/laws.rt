@@ -1,7 +1,0 @@
-//! What the definitions of a trace's text say.
-ghost use Rattle.yt_trace.specs.TraceRows.{TraceRows};
-
-/// The trace of one update that repairs a violation, and a line of each kind of entry, byte by byte.
-pub fn worked_traces()
-    ensures { TraceRows }
-{}

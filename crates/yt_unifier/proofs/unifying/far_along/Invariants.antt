@@ -1,9 +1,0 @@
-use Rattle.std.proofs.Common.{◌≡◌}
-use Rattle.yt_model.specs.Specific.{image_of}
-use Rattle.yt_model.specs.Unifier.{after}
-use Rattle.yt_base.specs.Meanings.{datum_of, fact_of}
-use Rattle.yt_unifier.proofs.unifying.far_along.Given as goal
-
--- As many steps have been made as were counted.
-abbrev pub invariant-loop-step : goal.invariant-loop-step
-invariant-loop-step l = datum_of l.reached ≡ after l._step (image_of (fact_of l.tuple) (fact_of l.specific)) (datum_of l.value)

@@ -1,5 +1,0 @@
-pub mod Cuts
-mod Histories
-mod One
-mod Printed
-mod Having

@@ -1,5 +1,0 @@
-use Rattle.yt_versions.proofs.Numbered.{below_is_seen}
-use Rattle.yt_versions.proofs.laws.below_is_seen.Goals as goal
-
-pub returns : goal.returns
-returns c = below_is_seen

@@ -1,6 +1,0 @@
-use Rattle.std.proofs.Common.{◌∙◌}
-use Rattle.yt_versions.proofs.Seeing.{all_reached}
-use Rattle.yt_versions.proofs.tables.Table.cursor.Goals as goal
-
-pub returns : goal.returns
-returns c = record { rows = c.cursor.ensures.rest ∙ all_reached c.self.inside.rows ∙ c.self.view_is }

@@ -1,2 +1,0 @@
-mod Ran
-mod Sent
