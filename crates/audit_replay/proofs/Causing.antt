@@ -25,9 +25,9 @@ use Rattle.def_steps.proofs.Steady.{apply_join}
 use Rattle.def_steps.specs.Attempts.{Attempt, outcome_in}
 use Rattle.def_steps.specs.Chase.{AgreeOn, caused_chase, ending, relation_of}
 use Rattle.audit_updates.specs.Programs.{HasShown, HasSpent, HasWritten, IsPlanOf}
-use Rattle.audit_updates.specs.Seatings.{AreFrom, update_of, updates_of}
+use Rattle.audit_updates.specs.Updates.{AreFrom, update_of, updates_of}
 use Rattle.audit_updates.specs.Standings.{HasTrail}
-use Rattle.audit_updates.specs.declared.seats.Seat.{Seat}
+use Rattle.audit_updates.specs.declared.updates.AuditedUpdate.{AuditedUpdate}
 use Rattle.audit_replay.specs.Causes.{AreDependencesOn, AreMetConflicts, AreMetDependences, AreOfLoss, AreOfWrites, AreTold, Loses, cause_meant, causes_meant, members_of, readers_in}
 use Rattle.audit_replay.specs.Levels.{raised, top}
 use Rattle.audit_replay.specs.Met.{AreValid, AreValidThat, is_none_of, is_open, met_cascade, met_conflicts, relations_in}
@@ -53,7 +53,7 @@ readers_none : (cs : List CauseOfProgram) → cs ≡ [] → readers_in cs ≡ []
 readers_none cs e = ap readers_in e
 
 -- The cascade on one member is that of its loss.
-pub of_loss : (ms : List Rule) (deps : Deps) (c j : ℕ) (lost : List Change) (D : List Fact) (rs : List Seat) (none causes : List CauseOfProgram) (l l' : Losses) → none ≡ [] → l.members.items ≡ [] → AreTold l → Loses j lost l l'
+pub of_loss : (ms : List Rule) (deps : Deps) (c j : ℕ) (lost : List Change) (D : List Fact) (rs : List AuditedUpdate) (none causes : List CauseOfProgram) (l l' : Losses) → none ≡ [] → l.members.items ≡ [] → AreTold l → Loses j lost l l'
     → AreMetDependences ms deps c (readers_in none) D l' rs causes → AreOfLoss ms deps c j lost D rs causes
 of_loss ms deps c j lost D rs none causes l l' e empty told loses is B u was from sorted valid =
     let M = caused_chase ms B in
@@ -69,11 +69,11 @@ of_loss ms deps c j lost D rs none causes l l' e empty told loses is B u was fro
 -- ---- dependences on those in conflict
 
 -- Where there are none nothing depends.
-pub on_none : (ms : List Rule) (deps : Deps) (c : ℕ) (D : List Fact) (rs : List Seat) (firsts causes : List CauseOfProgram) → firsts ≡ [] → causes ≡ [] → AreDependencesOn ms deps c (readers_in firsts) D rs causes
+pub on_none : (ms : List Rule) (deps : Deps) (c : ℕ) (D : List Fact) (rs : List AuditedUpdate) (firsts causes : List CauseOfProgram) → firsts ≡ [] → causes ≡ [] → AreDependencesOn ms deps c (readers_in firsts) D rs causes
 on_none ms deps c D rs firsts causes e f B n from sorted valid =
     ap (causes_meant ms B) f ∙ sym (none_depends ms B deps c D n (updates_of ms B rs)) ∙ ap (λ xs. cascade (caused_chase ms B) deps c (readers_in xs) D [] n (updates_of ms B rs)) (sym e)
 
-pub on_some : (ms : List Rule) (deps : Deps) (c : ℕ) (firsts : List ℕ) (D : List Fact) (rs : List Seat) (causes : List CauseOfProgram) (l : Losses) → l.members.items ≡ [] → AreTold l → AreMetDependences ms deps c firsts D l rs causes → AreDependencesOn ms deps c firsts D rs causes
+pub on_some : (ms : List Rule) (deps : Deps) (c : ℕ) (firsts : List ℕ) (D : List Fact) (rs : List AuditedUpdate) (causes : List CauseOfProgram) (l : Losses) → l.members.items ≡ [] → AreTold l → AreMetDependences ms deps c firsts D l rs causes → AreDependencesOn ms deps c firsts D rs causes
 on_some ms deps c firsts D rs causes l empty told is B n from sorted valid =
     is B n told from ∙ ap (λ (ks : List MemberOfProgram). met_cascade ms B deps c firsts D (members_of ms B ks) n (updates_of ms B rs)) empty
     ∙ met_cascade_is ms B deps c firsts D D [] n (updates_of ms B rs) (agree_alone (is_none_of []) D sorted) valid
@@ -100,7 +100,7 @@ agree_written D old writes relations are sorted =
     any_of p (w ∷ ws) = ap (λ b. p (relation_of w) || b) (any_of p ws)
 
 -- Without writes nothing restarts.
-pub of_no_writes : (ms : List Rule) (deps : Deps) (c j : ℕ) (made writes : List Change) (D : List Fact) (rs : List Seat) (causes : List CauseOfProgram) → writes ≡ [] → causes ≡ [] → AreOfWrites ms deps c j made writes D rs causes
+pub of_no_writes : (ms : List Rule) (deps : Deps) (c j : ℕ) (made writes : List Change) (D : List Fact) (rs : List AuditedUpdate) (causes : List CauseOfProgram) → writes ≡ [] → causes ≡ [] → AreOfWrites ms deps c j made writes D rs causes
 of_no_writes ms deps c j made writes D rs causes e f B old is from sorted valid =
     let M = caused_chase ms B in
     let us = updates_of ms B rs in
@@ -111,7 +111,7 @@ of_no_writes ms deps c j made writes D rs causes e f B old is from sorted valid 
     ap (causes_meant ms B) f ∙ sym (none_depends ms B deps c (apply D made) (suc j) us) ∙ (λ i. sym none i ++ cascade M deps c (readers (sym none i)) (apply D made) [] (suc j) us)
 
 -- Conflicts first, and then the dependences on them.
-pub of_writes : (ms : List Rule) (deps : Deps) (c j : ℕ) (made writes : List Change) (levels up up' : List (List Fact)) (rs : List Seat) (relations : List ℕ) (found more causes : List CauseOfProgram) → AreRelationsOf writes relations → up ≡ raised levels made
+pub of_writes : (ms : List Rule) (deps : Deps) (c j : ℕ) (made writes : List Change) (levels up up' : List (List Fact)) (rs : List AuditedUpdate) (relations : List ℕ) (found more causes : List CauseOfProgram) → AreRelationsOf writes relations → up ≡ raised levels made
     → up' ≡ up → AreMetConflicts ms c j relations (top up) rs found → AreDependencesOn ms deps c (readers_in found) (top up') rs more → causes ≡ found ++ more → AreOfWrites ms deps c j made writes (top levels) rs causes
 of_writes ms deps c j made writes levels up up' rs relations found more causes are e f conflicting depend g B old is from sorted valid =
     let M = caused_chase ms B in
@@ -138,10 +138,10 @@ if_is_false : {A : Type 0} (b : Bool) (x y : A) → b ≡ false → (if b then x
 if_is_false b x y e = ap (λ c. if c then x else y) e
 
 -- The attempt after the step is that of the plan.
-plan_state : (ms : List Rule) (B : ℕ) (D : List Fact) (r : Seat) (plan : Plan) → IsPlanOf ms B D r plan → plan.program.attempt ≡ (stepped (caused_chase ms B) D (update_of ms B r)).state
+plan_state : (ms : List Rule) (B : ℕ) (D : List Fact) (r : AuditedUpdate) (plan : Plan) → IsPlanOf ms B D r plan → plan.program.attempt ≡ (stepped (caused_chase ms B) D (update_of ms B r)).state
 plan_state ms B D r plan p = ap (λ (s : State). s.attempt) p.program
 
-module _ (ms : List Rule) (B : ℕ) (D : List Fact) (r : Seat) where
+module _ (ms : List Rule) (B : ℕ) (D : List Fact) (r : AuditedUpdate) where
   abbrev M : Machine
   M = caused_chase ms B
 
@@ -164,7 +164,7 @@ module _ (ms : List Rule) (B : ℕ) (D : List Fact) (r : Seat) where
       if_is_false (hides (M.outcome v.state)) [] (M.own v.state) e ∙ sym (λ i. before i ++ if_is_false (hides (M.outcome v.state)) [] (M.writes (next_move M u.operation D u.answers u.state)) e i)
 
 -- A step by which the attempt ends spent loses its trail.
-pub step_of_loss : (ms : List Rule) (deps : Deps) (c j : ℕ) (r : Seat) (plan : Plan) (ws : List Write) (D : List Fact) (rs : List Seat) (causes : List CauseOfProgram) (b : Bool) → j ≡ r.program.attempt.number → HasSpent plan.program b → b ≡ true → HasTrail r ws
+pub step_of_loss : (ms : List Rule) (deps : Deps) (c j : ℕ) (r : AuditedUpdate) (plan : Plan) (ws : List Write) (D : List Fact) (rs : List AuditedUpdate) (causes : List CauseOfProgram) (b : Bool) → j ≡ r.program.attempt.number → HasSpent plan.program b → b ≡ true → HasTrail r ws
     → AreOfLoss ms deps c j (map change_of ws) D rs causes → AreOfStep ms deps c r plan D rs causes
 step_of_loss ms deps c j r plan ws D rs causes b e spent t trail_is is B k n s p ready none from sorted valid =
     let M = caused_chase ms B in
@@ -177,7 +177,7 @@ step_of_loss ms deps c j r plan ws D rs causes b e spent t trail_is is B k n s p
     ∙ sym (if_is_true (is_spent (M.outcome v.state)) (causes_of_loss M deps c r.program.attempt.number D u (updates_of ms B rs)) (causes_of_writes M deps c r.program.attempt.number (apply D (trail M v)) (updates_of ms B rs)) over)
 
 -- Another one has more writes.
-pub step_of_writes : (ms : List Rule) (deps : Deps) (c j : ℕ) (r : Seat) (plan : Plan) (made ws : List Write) (D : List Fact) (rs : List Seat) (causes : List CauseOfProgram) (b : Bool) → j ≡ r.program.attempt.number → HasSpent plan.program b → b ≡ false
+pub step_of_writes : (ms : List Rule) (deps : Deps) (c j : ℕ) (r : AuditedUpdate) (plan : Plan) (made ws : List Write) (D : List Fact) (rs : List AuditedUpdate) (causes : List CauseOfProgram) (b : Bool) → j ≡ r.program.attempt.number → HasSpent plan.program b → b ≡ false
     → HasShown plan.program made → HasWritten r plan ws → AreOfWrites ms deps c j (map change_of made) (map change_of ws) D rs causes → AreOfStep ms deps c r plan D rs causes
 step_of_writes ms deps c j r plan made ws D rs causes b e spent f showing written is B k n s p ready none from sorted valid =
     let M = caused_chase ms B in

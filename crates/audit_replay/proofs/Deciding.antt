@@ -13,11 +13,11 @@ use Rattle.def_machine.specs.Standings.{is_deliverable, is_paused, is_quiet, is_
 use Rattle.def_machine.specs.Updates.{Update}
 use Rattle.def_steps.specs.Chase.{caused_chase}
 use Rattle.audit_updates.specs.Programs.{IsBetween}
-use Rattle.audit_updates.specs.Seatings.{update_of, updates_of}
+use Rattle.audit_updates.specs.Updates.{update_of, updates_of}
 use Rattle.audit_updates.specs.Settings.{settings_of}
 use Rattle.audit_updates.specs.Standings.{IsDeliverable, IsLive, IsReady, Takes}
-use Rattle.audit_updates.specs.Walks.{HasCommitted, IsQuiet}
-use Rattle.audit_updates.specs.declared.seats.Seat.{Seat}
+use Rattle.audit_updates.specs.Order.{HasCommitted, IsQuiet}
+use Rattle.audit_updates.specs.declared.updates.AuditedUpdate.{AuditedUpdate}
 use Rattle.audit_replay.specs.Replays.{HasMade, HasMadeAt, IsQuietReplay, IsReplay, IsReplayOf, place_in}
 use Rattle.audit_replay.specs.Steps.{AtPlace, IsDeliverableOf, IsLiveOf, IsReadyOf, TakesOf}
 use Rattle.audit_replay.specs.declared.events.Event.{Event as EventOfProgram}
@@ -28,9 +28,9 @@ use Rattle.audit_replay.proofs.Going.{its_numbers}
 use Rattle.audit_replay.proofs.Restarting.{stands_placed, there_is}
 
 -- Whether nothing is left to do.
-pub quiet_is : (r : Replay) (rs : List Seat) (b : Bool) → rs ≡ r.seats.items → IsQuiet (settings_of r.settings) rs b → IsQuietReplay r b
+pub quiet_is : (r : Replay) (rs : List AuditedUpdate) (b : Bool) → rs ≡ r.seats.items → IsQuiet (settings_of r.settings) rs b → IsQuietReplay r b
 quiet_is r rs b slice is g H k =
-    is g.rules g.budget ∙ ap (λ (qs : List Seat). is_quiet (machine g) (settings_of r.settings) (updates_of g.rules g.budget qs)) slice
+    is g.rules g.budget ∙ ap (λ (qs : List AuditedUpdate). is_quiet (machine g) (settings_of r.settings) (updates_of g.rules g.budget qs)) slice
     ∙ (λ i. is_quiet (machine g) (k.settings i) (sym k.left.leaves i))
 
 -- An event at the place is that of the number.
@@ -38,22 +38,22 @@ pub made_at : (e : ℕ → EventOfProgram) (r r' : Replay) (n i : ℕ) (entry : 
 made_at e r r' n i entry p made = subst (λ (m : ℕ). HasMade (e m) r r' (Some entry)) (sym (placed r.seats.items n i p).0) made
 
 -- There is a seat at the place.
-pub is_there : (r : Replay) (n i : ℕ) (rs : List Seat) → rs ≡ r.seats.items → Some i ≡ place_in r.seats.items n → i < length rs
-is_there r n i rs slice p = subst (λ (qs : List Seat). i < length qs) (sym slice) (placed r.seats.items n i p).1
+pub is_there : (r : Replay) (n i : ℕ) (rs : List AuditedUpdate) → rs ≡ r.seats.items → Some i ≡ place_in r.seats.items n → i < length rs
+is_there r n i rs slice p = subst (λ (qs : List AuditedUpdate). i < length qs) (sym slice) (placed r.seats.items n i p).1
 
 -- It stands between two steps.
-pub between_there : (r : Replay) (n i : ℕ) (x : Seat) (rs : List Seat) → IsReplay r → rs ≡ r.seats.items → Some i ≡ place_in r.seats.items n → x ≡ get_or rs i x → IsBetween x.program
+pub between_there : (r : Replay) (n i : ℕ) (x : AuditedUpdate) (rs : List AuditedUpdate) → IsReplay r → rs ≡ r.seats.items → Some i ≡ place_in r.seats.items n → x ≡ get_or rs i x → IsBetween x.program
 between_there r n i x rs k slice p e = (stands_placed rs i x (its_numbers r k rs slice) (is_there r n i rs slice p) e).between
 
-module _ (r : Replay) (n i c : ℕ) (x : Seat) (p : Some i ≡ place_in r.seats.items n) (rs : List Seat) (slice : rs ≡ r.seats.items) (is : x ≡ get_or rs i x) (counts : HasCommitted rs c) where
+module _ (r : Replay) (n i c : ℕ) (x : AuditedUpdate) (p : Some i ≡ place_in r.seats.items n) (rs : List AuditedUpdate) (slice : rs ≡ r.seats.items) (is : x ≡ get_or rs i x) (counts : HasCommitted rs c) where
   there : slice_get r.seats.items i ≡ Some x
-  there = ap (λ (qs : List Seat). slice_get qs i) (sym slice) ∙ there_is rs i x (is_there r n i rs slice p) is
+  there = ap (λ (qs : List AuditedUpdate). slice_get qs i) (sym slice) ∙ there_is rs i x (is_there r n i rs slice p) is
 
   numbered : n ≡ suc i
   numbered = (placed r.seats.items n i p).0
 
   pub counted : HasCommitted r.seats.items c
-  counted = subst (λ (qs : List Seat). HasCommitted qs c) slice counts
+  counted = subst (λ (qs : List AuditedUpdate). HasCommitted qs c) slice counts
 
   pub it_is_within : i < length r.seats.items
   it_is_within = (placed r.seats.items n i p).1

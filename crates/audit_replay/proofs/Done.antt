@@ -18,10 +18,10 @@ use Rattle.def_chase.specs.Repository.{IsRepository}
 use Rattle.def_chase.specs.Values.{Fact}
 use Rattle.lang_session.specs.Meanings.{request_of, update_of as session_update_of}
 use Rattle.lang_session.specs.declared.sessions.SessionUpdate.{SessionUpdate as SessionUpdateOfProgram}
-use Rattle.audit_updates.specs.Seatings.{AreFrom, updates_of}
+use Rattle.audit_updates.specs.Updates.{AreFrom, updates_of}
 use Rattle.audit_updates.specs.Settings.{settings_of}
-use Rattle.audit_updates.specs.Walks.{HasCommitted}
-use Rattle.audit_updates.specs.declared.seats.Seat.{Seat}
+use Rattle.audit_updates.specs.Order.{HasCommitted}
+use Rattle.audit_updates.specs.declared.updates.AuditedUpdate.{AuditedUpdate}
 use Rattle.audit_replay.specs.Causes.{AreOfLoss}
 use Rattle.audit_replay.specs.Levels.{top}
 use Rattle.audit_replay.specs.Places.{HaveCome, trail_of}
@@ -40,45 +40,45 @@ pub record AreLike (r r' : Replay) : Type 0 where
   pub settings : r'.settings ≡ r.settings
   pub handed : r'.handed ≡ r.handed
 
-pub step_done : (r r' : Replay) (i before : ℕ) (rs qs qs' : List Seat) (levels : List (List Fact)) (p : Prepared) (entry : Entry) → i < length r.seats.items → rs ≡ r.seats.items → qs ≡ r.seats.items → HasCommitted r.seats.items before
+pub step_done : (r r' : Replay) (i before : ℕ) (rs qs qs' : List AuditedUpdate) (levels : List (List Fact)) (p : Prepared) (entry : Entry) → i < length r.seats.items → rs ≡ r.seats.items → qs ≡ r.seats.items → HasCommitted r.seats.items before
     → AtPlace i r.seats.items (IsReadyOf (settings_of r.settings) before (suc i)) → HaveCome i rs r.levels levels
     → AtPlace i rs (λ x. IsPreparedFor r.mappings r.budget (settings_of r.settings).deps before x (top levels) (drop (suc i) rs) p) → IsInstalled (settings_of r.settings) i p qs qs' entry → AreFrom 1 qs'
     → r'.seats.items ≡ qs' → r'.levels ≡ levels → AreLike r r' → HasMadeAt events.Steps i r r' entry
 step_done r r' i before rs qs qs' levels p entry l e f counts ready come prepared installed numbers g h like ground H k =
     let x = there r.seats.items i l in
-    let come' : HaveCome i r.seats.items r.levels levels = subst (λ (ys : List Seat). HaveCome i ys r.levels levels) e come in
+    let come' : HaveCome i r.seats.items r.levels levels = subst (λ (ys : List AuditedUpdate). HaveCome i ys r.levels levels) e come in
     let is : IsPreparedFor r.mappings r.budget (settings_of r.settings).deps before x.0 (top levels) (drop (suc i) r.seats.items) p =
-    subst (λ (ys : List Seat). AtPlace i ys (λ y. IsPreparedFor r.mappings r.budget (settings_of r.settings).deps before y (top levels) (drop (suc i) ys) p)) e prepared x.0 x.1 in
+    subst (λ (ys : List AuditedUpdate). AtPlace i ys (λ y. IsPreparedFor r.mappings r.budget (settings_of r.settings).deps before y (top levels) (drop (suc i) ys) p)) e prepared x.0 x.1 in
     let done : IsInstalled (settings_of r.settings) i p r.seats.items r'.seats.items entry =
-    subst (λ (ys : List Seat). IsInstalled (settings_of r.settings) i p r.seats.items ys entry) (sym g) (subst (λ (ys : List Seat). IsInstalled (settings_of r.settings) i p ys qs' entry) f installed) in
-    step_follows ground H r r' i x.0 k x.1 levels come' like.mappings like.budget like.settings like.handed h (subst (λ (ys : List Seat). AreFrom 1 ys) (sym g) numbers) p.plan before p.attempt p.writes p.causes entry counts (ready x.0 x.1)
+    subst (λ (ys : List AuditedUpdate). IsInstalled (settings_of r.settings) i p r.seats.items ys entry) (sym g) (subst (λ (ys : List AuditedUpdate). IsInstalled (settings_of r.settings) i p ys qs' entry) f installed) in
+    step_follows ground H r r' i x.0 k x.1 levels come' like.mappings like.budget like.settings like.handed h (subst (λ (ys : List AuditedUpdate). AreFrom 1 ys) (sym g) numbers) p.plan before p.attempt p.writes p.causes entry counts (ready x.0 x.1)
     is.planned is.causes is.written is.attempt done.made done.told
 
-pub withdrawal_done : (r r' : Replay) (i before : ℕ) (rs qs qs' : List Seat) (levels : List (List Fact)) (causes : Listed CauseOfProgram) (entry : Entry) → i < length r.seats.items → rs ≡ r.seats.items → qs ≡ r.seats.items → HasCommitted r.seats.items before
+pub withdrawal_done : (r r' : Replay) (i before : ℕ) (rs qs qs' : List AuditedUpdate) (levels : List (List Fact)) (causes : Listed CauseOfProgram) (entry : Entry) → i < length r.seats.items → rs ≡ r.seats.items → qs ≡ r.seats.items → HasCommitted r.seats.items before
     → AtPlace i r.seats.items (IsLiveOf before (suc i)) → HaveCome i rs r.levels levels
     → AtPlace i rs (λ x. AreOfLoss r.mappings (settings_of r.settings).deps before (suc i) (trail_of x) (top levels) (drop (suc i) rs) causes.items) → IsWithdrawal i causes qs qs' entry → AreFrom 1 qs'
     → r'.seats.items ≡ qs' → r'.levels ≡ levels → AreLike r r' → HasMadeAt events.Withdraws i r r' entry
 withdrawal_done r r' i before rs qs qs' levels causes entry l e f counts live come prepared removed numbers g h like ground H k =
     let x = there r.seats.items i l in
-    let come' : HaveCome i r.seats.items r.levels levels = subst (λ (ys : List Seat). HaveCome i ys r.levels levels) e come in
+    let come' : HaveCome i r.seats.items r.levels levels = subst (λ (ys : List AuditedUpdate). HaveCome i ys r.levels levels) e come in
     let is : AreOfLoss r.mappings (settings_of r.settings).deps before (suc i) (trail_of x.0) (top levels) (drop (suc i) r.seats.items) causes.items =
-    subst (λ (ys : List Seat). AtPlace i ys (λ y. AreOfLoss r.mappings (settings_of r.settings).deps before (suc i) (trail_of y) (top levels) (drop (suc i) ys) causes.items)) e prepared x.0 x.1 in
-    let done : IsWithdrawal i causes r.seats.items r'.seats.items entry = subst (λ (ys : List Seat). IsWithdrawal i causes r.seats.items ys entry) (sym g) (subst (λ (ys : List Seat). IsWithdrawal i causes ys qs' entry) f removed) in
-    withdrawal_follows ground H r r' i x.0 k x.1 levels come' like.mappings like.budget like.settings like.handed h (subst (λ (ys : List Seat). AreFrom 1 ys) (sym g) numbers) before causes entry counts (live x.0 x.1) is done.made done.told
+    subst (λ (ys : List AuditedUpdate). AtPlace i ys (λ y. AreOfLoss r.mappings (settings_of r.settings).deps before (suc i) (trail_of y) (top levels) (drop (suc i) ys) causes.items)) e prepared x.0 x.1 in
+    let done : IsWithdrawal i causes r.seats.items r'.seats.items entry = subst (λ (ys : List AuditedUpdate). IsWithdrawal i causes r.seats.items ys entry) (sym g) (subst (λ (ys : List AuditedUpdate). IsWithdrawal i causes ys qs' entry) f removed) in
+    withdrawal_follows ground H r r' i x.0 k x.1 levels come' like.mappings like.budget like.settings like.handed h (subst (λ (ys : List AuditedUpdate). AreFrom 1 ys) (sym g) numbers) before causes entry counts (live x.0 x.1) is done.made done.told
 
-pub delivery_done : (r r' : Replay) (i : ℕ) (qs qs' : List Seat) (entry : Entry) → i < length r.seats.items → qs ≡ r.seats.items → IsDeliverableOf (settings_of r.settings) i r.seats.items → IsDelivered (settings_of r.settings) i qs qs' entry → AreFrom 1 qs'
+pub delivery_done : (r r' : Replay) (i : ℕ) (qs qs' : List AuditedUpdate) (entry : Entry) → i < length r.seats.items → qs ≡ r.seats.items → IsDeliverableOf (settings_of r.settings) i r.seats.items → IsDelivered (settings_of r.settings) i qs qs' entry → AreFrom 1 qs'
     → r'.seats.items ≡ qs' → r'.levels ≡ r.levels → AreLike r r' → HasMadeAt events.Delivers i r r' entry
 delivery_done r r' i qs qs' entry l f may delivered numbers g h like ground H k =
     let x = there r.seats.items i l in
-    delivery_follows ground H r r' i x.0 k x.1 like.mappings like.budget like.settings like.handed h (subst (λ (ys : List Seat). AreFrom 1 ys) (sym g) numbers) entry may
-    (subst (λ (ys : List Seat). IsDelivered (settings_of r.settings) i r.seats.items ys entry) (sym g) (subst (λ (ys : List Seat). IsDelivered (settings_of r.settings) i ys qs' entry) f delivered))
+    delivery_follows ground H r r' i x.0 k x.1 like.mappings like.budget like.settings like.handed h (subst (λ (ys : List AuditedUpdate). AreFrom 1 ys) (sym g) numbers) entry may
+    (subst (λ (ys : List AuditedUpdate). IsDelivered (settings_of r.settings) i r.seats.items ys entry) (sym g) (subst (λ (ys : List AuditedUpdate). IsDelivered (settings_of r.settings) i ys qs' entry) f delivered))
 
-pub answer_done : (r r' : Replay) (i : ℕ) (a : Choice) (qs qs' : List Seat) (entry : Entry) → i < length r.seats.items → qs ≡ r.seats.items → TakesOf (settings_of r.settings) (choice_of a) i r.seats.items
+pub answer_done : (r r' : Replay) (i : ℕ) (a : Choice) (qs qs' : List AuditedUpdate) (entry : Entry) → i < length r.seats.items → qs ≡ r.seats.items → TakesOf (settings_of r.settings) (choice_of a) i r.seats.items
     → IsAnswered (settings_of r.settings) i (choice_of a) qs qs' entry → AreFrom 1 qs' → r'.seats.items ≡ qs' → r'.levels ≡ r.levels → AreLike r r' → HasMadeAt (λ u. events.Answers u a) i r r' entry
 answer_done r r' i a qs qs' entry l f may answered numbers g h like ground H k =
     let x = there r.seats.items i l in
-    answer_follows ground H r r' i x.0 k x.1 like.mappings like.budget like.settings like.handed h (subst (λ (ys : List Seat). AreFrom 1 ys) (sym g) numbers) entry (choice_of a) may
-    (subst (λ (ys : List Seat). IsAnswered (settings_of r.settings) i (choice_of a) r.seats.items ys entry) (sym g) (subst (λ (ys : List Seat). IsAnswered (settings_of r.settings) i (choice_of a) ys qs' entry) f answered))
+    answer_follows ground H r r' i x.0 k x.1 like.mappings like.budget like.settings like.handed h (subst (λ (ys : List AuditedUpdate). AreFrom 1 ys) (sym g) numbers) entry (choice_of a) may
+    (subst (λ (ys : List AuditedUpdate). IsAnswered (settings_of r.settings) i (choice_of a) r.seats.items ys entry) (sym g) (subst (λ (ys : List AuditedUpdate). IsAnswered (settings_of r.settings) i (choice_of a) ys qs' entry) f answered))
 
 -- ---- events that are not allowed
 
@@ -113,8 +113,8 @@ begun_is s budget c r some retries few sorted rules steps settings handed none l
   later = refl;
   sorted = sorted;
   retries = retries;
-  left = subst (λ (rs : List Seat). Leave (ground_of s budget c) [] (updates_of (rules_of s.mappings) budget rs)) (sym none) (histories_are_kept (ground_of s budget c) some).empty;
-  numbers = subst (λ (rs : List Seat). AreFrom 1 rs) (sym none) tt;
+  left = subst (λ (rs : List AuditedUpdate). Leave (ground_of s budget c) [] (updates_of (rules_of s.mappings) budget rs)) (sym none) (histories_are_kept (ground_of s budget c) some).empty;
+  numbers = subst (λ (rs : List AuditedUpdate). AreFrom 1 rs) (sym none) tt;
   height = 0;
   within = omega arith;
   levels = levels;

@@ -32,10 +32,10 @@ use Rattle.lang_session.specs.declared.sessions.SessionUpdate.{SessionUpdate}
 use Rattle.def_steps.specs.Chase.{caused_chase}
 use Rattle.audit_updates.specs.Events.{IsAdmitted}
 use Rattle.audit_updates.specs.Programs.{HasWritten, IsPlanOf}
-use Rattle.audit_updates.specs.Seatings.{AreFrom, StandsAt, update_of, updates_of}
+use Rattle.audit_updates.specs.Updates.{AreFrom, StandsAt, update_of, updates_of}
 use Rattle.audit_updates.specs.Settings.{settings_of}
-use Rattle.audit_updates.specs.Walks.{HasCommitted}
-use Rattle.audit_updates.specs.declared.seats.Seat.{Seat}
+use Rattle.audit_updates.specs.Order.{HasCommitted}
+use Rattle.audit_updates.specs.declared.updates.AuditedUpdate.{AuditedUpdate}
 use Rattle.audit_replay.specs.Causes.{AreOfLoss, causes_meant}
 use Rattle.audit_replay.specs.Levels.{top}
 use Rattle.audit_replay.specs.Met.{AreValid}
@@ -59,7 +59,7 @@ dropped_map f xs zero = refl
 dropped_map f [] (suc k) = refl
 dropped_map f (x ∷ xs) (suc k) = dropped_map f xs k
 
-trails_taken : (ms : List Rule) (B : ℕ) (rs : List Seat) (k : ℕ) → map trail_of (take k rs) ≡ map (trail (caused_chase ms B)) (take k (updates_of ms B rs))
+trails_taken : (ms : List Rule) (B : ℕ) (rs : List AuditedUpdate) (k : ℕ) → map trail_of (take k rs) ≡ map (trail (caused_chase ms B)) (take k (updates_of ms B rs))
 trails_taken ms B rs zero = refl
 trails_taken ms B [] (suc k) = refl
 trails_taken ms B (r ∷ rs) (suc k) = ap (λ wss. trail_of r ∷ wss) (trails_taken ms B rs k)
@@ -72,7 +72,7 @@ from_mapped f (x ∷ xs) (suc k) y e = from_mapped f xs k y e
 -- ---- whether an event is allowed
 
 -- The place of an update that there is.
-pub placed : (rs : List Seat) (n k : ℕ) → Some k ≡ place_in rs n → (n ≡ suc k) × (k < length rs)
+pub placed : (rs : List AuditedUpdate) (n k : ℕ) → Some k ≡ place_in rs n → (n ≡ suc k) × (k < length rs)
 placed rs zero k e = absurd (none-some k (sym e))
 placed rs (suc m) k e = by (nat_lt m (length rs)) refl e
   where
@@ -86,7 +86,7 @@ nothing_there (x ∷ xs) zero l = absurd (omega (arith, l))
 nothing_there (x ∷ xs) (suc k) l = nothing_there xs k (omega (arith, l))
 
 -- Nothing is done at an update that is not there.
-pub not_there : {C : Type 0} (ms : List Rule) (B : ℕ) (rs : List Seat) (n : ℕ) (allowed : ℕ → Update (caused_chase ms B) → Bool) (f : ℕ → Update (caused_chase ms B) → C) → None ≡ place_in rs n → where_allowed (updates_of ms B rs) n allowed f ≡ None
+pub not_there : {C : Type 0} (ms : List Rule) (B : ℕ) (rs : List AuditedUpdate) (n : ℕ) (allowed : ℕ → Update (caused_chase ms B) → Bool) (f : ℕ → Update (caused_chase ms B) → C) → None ≡ place_in rs n → where_allowed (updates_of ms B rs) n allowed f ≡ None
 not_there ms B rs zero allowed f e = refl
 not_there {C} ms B rs (suc m) allowed f e = by (nat_lt m (length rs)) refl e
   where
@@ -98,11 +98,11 @@ not_there {C} ms B rs (suc m) allowed f e = by (nat_lt m (length rs)) refl e
         let few : length (updates_of ms B rs) ≤ m = omega (arith, long, l) in
         ap (λ o. option_and_then (λ u. if allowed m u then Some (f m u) else None) o) (nothing_there (updates_of ms B rs) m few)
 
-there : (ms : List Rule) (B : ℕ) (rs : List Seat) (k : ℕ) (x : Seat) → slice_get rs k ≡ Some x → slice_get (updates_of ms B rs) k ≡ Some (update_of ms B x)
+there : (ms : List Rule) (B : ℕ) (rs : List AuditedUpdate) (k : ℕ) (x : AuditedUpdate) → slice_get rs k ≡ Some x → slice_get (updates_of ms B rs) k ≡ Some (update_of ms B x)
 there ms B rs k x spot = slice_get-map (update_of ms B) rs k ∙ ap (option_map (update_of ms B)) spot
 
 -- What is done, or not, where an update is.
-pub done_at : {C : Type 0} (ms : List Rule) (B : ℕ) (rs : List Seat) (k : ℕ) (x : Seat) (allowed : ℕ → Update (caused_chase ms B) → Bool) (f : ℕ → Update (caused_chase ms B) → C) (b : Bool) → slice_get rs k ≡ Some x → allowed k (update_of ms B x) ≡ b
+pub done_at : {C : Type 0} (ms : List Rule) (B : ℕ) (rs : List AuditedUpdate) (k : ℕ) (x : AuditedUpdate) (allowed : ℕ → Update (caused_chase ms B) → Bool) (f : ℕ → Update (caused_chase ms B) → C) (b : Bool) → slice_get rs k ≡ Some x → allowed k (update_of ms B x) ≡ b
     → where_allowed (updates_of ms B rs) (suc k) allowed f ≡ (if b then Some (f k (update_of ms B x)) else None)
 done_at ms B rs k x allowed f b spot e =
     ap (λ o. option_and_then (λ u. if allowed k u then Some (f k u) else None) o) (there ms B rs k x spot) ∙ ap (λ c. if c then Some (f k (update_of ms B x)) else None) e
@@ -112,7 +112,7 @@ done_at ms B rs k x allowed f b spot e =
 causes_kept : (ms : List Rule) (B : ℕ) (cs : List CauseOfProgram) → map (cause_kept ms B) (map cause_of cs) ≡ causes_meant ms B cs
 causes_kept ms B cs = map_twice (cause_kept ms B) cause_of cs
 
-module _ (g : Ground) (H : List PlainEntry) (r r' : Replay) (i : ℕ) (x : Seat) (k : IsReplayOf g H r) (spot : slice_get r.seats.items i ≡ Some x) (levels : List (List Fact)) (come : HaveCome i r.seats.items r.levels levels)
+module _ (g : Ground) (H : List PlainEntry) (r r' : Replay) (i : ℕ) (x : AuditedUpdate) (k : IsReplayOf g H r) (spot : slice_get r.seats.items i ≡ Some x) (levels : List (List Fact)) (come : HaveCome i r.seats.items r.levels levels)
     (mappings : r'.mappings ≡ r.mappings) (budget : r'.budget ≡ r.budget) (settings : r'.settings ≡ r.settings) (handed : r'.handed ≡ r.handed) (kept : r'.levels ≡ levels) (numbers : AreFrom 1 r'.seats.items) where
   abbrev M : Machine
   M = machine g
@@ -150,7 +150,7 @@ module _ (g : Ground) (H : List PlainEntry) (r r' : Replay) (i : ℕ) (x : Seat)
 
   -- Where update w is put at the place, the event follows.
   put_follows : (e : Event M) (y : Effect M) (entry : Entry) (w : Update M) (rest : List (Update M)) → effect M g.settings (session_over g) us e ≡ Some y → y.updates ≡ take i us ++ w ∷ rest → updates_of g.rules g.budget r'.seats.items ≡ take i us ++ w ∷ rest
-      → ((z : Seat) → slice_get r'.seats.items i ≡ Some z → update_of g.rules g.budget z ≡ w → updates_of g.rules g.budget r'.seats.items ≡ y.updates → entry_kept g.rules g.budget (entry_of entry) ≡ y.entry) → HasGrown g H e entry r'
+      → ((z : AuditedUpdate) → slice_get r'.seats.items i ≡ Some z → update_of g.rules g.budget z ≡ w → updates_of g.rules g.budget r'.seats.items ≡ y.updates → entry_kept g.rules g.budget (entry_of entry) ≡ y.entry) → HasGrown g H e entry r'
   put_follows e y entry w rest made puts is told =
       let us' : updates_of g.rules g.budget r'.seats.items ≡ y.updates = is ∙ sym puts in
       let found = from_mapped (update_of g.rules g.budget) r'.seats.items i w (ap (λ (vs : List (Update M)). slice_get vs i) is ∙ put_here us w rest i few) in
@@ -231,7 +231,7 @@ same_length [] i x y e = absurd (none-some x e)
 same_length (z ∷ xs) zero x y e = refl
 same_length (z ∷ xs) (suc i) x y e = ap suc (same_length xs i x y e)
 
-module _ (g : Ground) (H : List PlainEntry) (r r' : Replay) (i : ℕ) (x : Seat) (k : IsReplayOf g H r) (spot : slice_get r.seats.items i ≡ Some x)
+module _ (g : Ground) (H : List PlainEntry) (r r' : Replay) (i : ℕ) (x : AuditedUpdate) (k : IsReplayOf g H r) (spot : slice_get r.seats.items i ≡ Some x)
     (mappings : r'.mappings ≡ r.mappings) (budget : r'.budget ≡ r.budget) (settings : r'.settings ≡ r.settings) (handed : r'.handed ≡ r.handed) (kept : r'.levels ≡ r.levels) (numbers : AreFrom 1 r'.seats.items) where
   abbrev N : Machine
   N = machine g
@@ -297,7 +297,7 @@ none_admitted g H r k e =
     ap (λ (ws : List (Update (machine g))). effect (machine g) g.settings (session_over g) ws Admits) k.left.leaves ∙ next_is g H r k
     ∙ ap (λ o. option_map (admit_effect (machine g) (updates_of g.rules g.budget r.seats.items)) (option_map (handed_in g.rules g.budget) o)) (sym e)
 
-from_more : (n : ℕ) (rs : List Seat) (x : Seat) → AreFrom n rs → StandsAt (n + length rs) x → AreFrom n (rs ++ x ∷ [])
+from_more : (n : ℕ) (rs : List AuditedUpdate) (x : AuditedUpdate) → AreFrom n rs → StandsAt (n + length rs) x → AreFrom n (rs ++ x ∷ [])
 from_more n [] x a s = let same : n + 0 ≡ n = omega arith in (subst (λ (m : ℕ). StandsAt m x) same s, tt)
 from_more n (q ∷ rs) x a s = let same : n + suc (length rs) ≡ suc n + length rs = omega arith in (a.0, from_more (suc n) rs x a.1 (subst (λ (m : ℕ). StandsAt m x) same s))
 
@@ -311,7 +311,7 @@ longer_by [] x = refl
 longer_by (y ∷ xs) x = ap suc (longer_by xs x)
 
 -- The next update is admitted.
-pub admission_follows : (g : Ground) (H : List PlainEntry) (r r' : Replay) (next : SessionUpdate) (n : ℕ) (x : Seat) → IsReplayOf g H r → Some next ≡ slice_get r.handed.now (length r.seats.items) → n ≡ suc (length r.seats.items)
+pub admission_follows : (g : Ground) (H : List PlainEntry) (r r' : Replay) (next : SessionUpdate) (n : ℕ) (x : AuditedUpdate) → IsReplayOf g H r → Some next ≡ slice_get r.handed.now (length r.seats.items) → n ≡ suc (length r.seats.items)
     → IsAdmitted n next.update next.answers x → StandsAt n x → r'.mappings ≡ r.mappings → r'.budget ≡ r.budget → r'.settings ≡ r.settings → r'.handed ≡ r.handed → r'.levels ≡ r.levels → r'.seats.items ≡ r.seats.items ++ x ∷ []
     → HasGrown g H Admits (AdmittedEntry n) r'
 admission_follows g H r r' next n x k there_next number admits stands mappings budget settings handed kept grew =
@@ -324,10 +324,10 @@ admission_follows g H r r' next n x k there_next number admits stands mappings b
     let us' : updates_of g.rules g.budget r'.seats.items ≡ y.updates =
     ap (updates_of g.rules g.budget) grew ∙ map-append (update_of g.rules g.budget) r.seats.items (x ∷ []) ∙ ap (λ (v : Update M). us ++ v ∷ []) (admits g.rules g.budget ∙ ap (λ m. admitted M m (handed_in g.rules g.budget next)) at) in
     let one : n ≡ 1 + length r.seats.items = omega (arith, number) in
-    let numbers : AreFrom 1 r'.seats.items = subst (λ (rs : List Seat). AreFrom 1 rs) (sym grew) (from_more 1 r.seats.items x k.numbers (subst (λ (m : ℕ). StandsAt m x) one stands)) in
-    let longer : length r'.seats.items ≡ suc (length r.seats.items) = ap (λ (rs : List Seat). length rs) grew ∙ longer_by r.seats.items x in
+    let numbers : AreFrom 1 r'.seats.items = subst (λ (rs : List AuditedUpdate). AreFrom 1 rs) (sym grew) (from_more 1 r.seats.items x k.numbers (subst (λ (m : ℕ). StandsAt m x) one stands)) in
+    let longer : length r'.seats.items ≡ suc (length r.seats.items) = ap (λ (rs : List AuditedUpdate). length rs) grew ∙ longer_by r.seats.items x in
     let le : k.height ≤ length r'.seats.items = omega (arith, k.within, longer) in
     follows g H r r' Admits y (AdmittedEntry n) k.height k made mappings budget settings handed us' numbers le
-    (stand_same g.base r.seats.items r'.seats.items k.height r'.levels (ap (λ (rs : List Seat). map trail_of (take k.height rs)) grew ∙ ap (map trail_of) (taken_more r.seats.items (x ∷ []) k.height k.within))
+    (stand_same g.base r.seats.items r'.seats.items k.height r'.levels (ap (λ (rs : List AuditedUpdate). map trail_of (take k.height rs)) grew ∙ ap (map trail_of) (taken_more r.seats.items (x ∷ []) k.height k.within))
     (subst (λ (Ls : List (List Fact)). StandOn g.base r.seats.items k.height Ls) (sym kept) k.levels))
     (ap WasAdmitted (sym at))

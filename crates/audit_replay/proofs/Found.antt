@@ -17,9 +17,9 @@ use Rattle.def_chase.specs.Updates.{direction_of}
 use Rattle.def_chase.specs.Values.{Fact}
 use Rattle.chase_query.specs.Meanings.{Read, reads_in}
 use Rattle.def_steps.specs.Chase.{caused_chase, relation_of}
-use Rattle.audit_updates.specs.Seatings.{StandsAt, logged, update_of}
+use Rattle.audit_updates.specs.Updates.{StandsAt, logged, update_of}
 use Rattle.audit_updates.specs.Standings.{IsLive}
-use Rattle.audit_updates.specs.declared.seats.Seat.{Seat}
+use Rattle.audit_updates.specs.declared.updates.AuditedUpdate.{AuditedUpdate}
 use Rattle.audit_replay.specs.Causes.{AreTold, IsFirstDependent, IsJoinOf, IsMetConflict, cause_meant, conflict_meant, dependence_meant, depends_by, least_writer, may_conflict, member_of, members_of, numbered_of, writes_of}
 use Rattle.audit_replay.specs.Changes.{IsFirstChange, any_met, change_meant, changed_at, is_changed, is_met_and_changed, meets}
 use Rattle.audit_replay.specs.Relations.{any_of}
@@ -60,7 +60,7 @@ module _ (ms : List Rule) (B : ℕ) where
 
   -- ---- conflicts
 
-  as_conflict : (j n : ℕ) (D : List Fact) (r : Seat) (o : Option (ℕ × Read))
+  as_conflict : (j n : ℕ) (D : List Fact) (r : AuditedUpdate) (o : Option (ℕ × Read))
       → option_map (cause_kept ms B) (option_map (conflict_meant j n) (option_map (changed_at ms (direction_of r.program.attempt.operation) D r.program.attempt.own) o))
       ≡ option_map (λ (x : Changed M). Conflict n x.read j x.old x.new)
       (option_map (λ (t : ℕ × ReadOfHistory M). record { read = t.0; old = t.1.answer; new = value_now M r.program.attempt.operation D r.program.attempt.own t.1 }) (option_map paired o))
@@ -68,7 +68,7 @@ module _ (ms : List Rule) (B : ℕ) where
   as_conflict j n D r (Some t) = refl
 
   -- A changed read makes the conflict of its update.
-  conflict_is : (c j : ℕ) (relations : List ℕ) (D : List Fact) (r : Seat) (found : Option CauseOfProgram) (change : Option Change) → IsFirstChange ms relations D r change → option_map cause_of found ≡ option_map (conflict_meant j r.program.attempt.number) (option_map change_meant change)
+  conflict_is : (c j : ℕ) (relations : List ℕ) (D : List Fact) (r : AuditedUpdate) (found : Option CauseOfProgram) (change : Option Change) → IsFirstChange ms relations D r change → option_map cause_of found ≡ option_map (conflict_meant j r.program.attempt.number) (option_map change_meant change)
       → option_map (cause_meant ms B) found
       ≡ option_map (λ (x : Changed M). Conflict r.program.attempt.number x.read j x.old x.new)
       (option_map (λ (t : ℕ × ReadOfHistory M). record { read = t.0; old = t.1.answer; new = value_now M r.program.attempt.operation D r.program.attempt.own t.1 })
@@ -89,7 +89,7 @@ module _ (ms : List Rule) (B : ℕ) where
   reached_is l told r =
       any_map (λ (m : Member M). list_any (λ w. mentions ms r.query (relation_of w)) m.trail) (member_of ms B) l.members.items ∙ sym (told (mentions ms r.query))
 
-  test_is : (deps : Deps) (D : List Fact) (l : Losses) (s : Seat) → AreTold l → (r : Read)
+  test_is : (deps : Deps) (D : List Fact) (l : Losses) (s : AuditedUpdate) → AreTold l → (r : Read)
       → (is_reached ms B (members_of ms B l.members.items) (logged ms B r) && has_turned ms B deps s.program.attempt.operation D s.program.attempt.own (logged ms B r))
       ≡ depends_by deps ms l.relations.items (direction_of s.program.attempt.operation) D s.program.attempt.own r
   test_is Precise D l s told r = ap (λ b. b && is_changed ms (direction_of s.program.attempt.operation) D s.program.attempt.own r) (reached_is l told r)
@@ -112,7 +112,7 @@ module _ (ms : List Rule) (B : ℕ) where
       some_depends i k w = Some (Depends i k w)
 
   -- A read that depends on what is lost makes the dependence of its update.
-  dependence_is : (deps : Deps) (D : List Fact) (l : Losses) (r : Seat) (found : Option CauseOfProgram) (read : Option Numbered) → AreTold l → IsFirstDependent deps ms l D r read
+  dependence_is : (deps : Deps) (D : List Fact) (l : Losses) (r : AuditedUpdate) (found : Option CauseOfProgram) (read : Option Numbered) → AreTold l → IsFirstDependent deps ms l D r read
       → option_map cause_of found ≡ option_map (dependence_meant ms l.members.items r.program.attempt.number) (option_map numbered_of read)
       → option_map (cause_meant ms B) found
       ≡ option_map (λ (t : ℕ × ReadOfHistory M). Depends r.program.attempt.number t.0 (writer_for M t.1 (members_of ms B l.members.items)))
@@ -136,12 +136,12 @@ if_false b x y e = ap (λ c. if c then x else y) e
 -- ---- conflicts of one update
 
 -- One that isn't live has none.
-pub conflict_not_live : (ms : List Rule) (c j : ℕ) (relations : List ℕ) (D : List Fact) (r : Seat) (n : ℕ) (b : Bool) → n ≡ r.program.attempt.number → IsLive c n r b → b ≡ false → IsMetConflict ms c j relations D r None
+pub conflict_not_live : (ms : List Rule) (c j : ℕ) (relations : List ℕ) (D : List Fact) (r : AuditedUpdate) (n : ℕ) (b : Bool) → n ≡ r.program.attempt.number → IsLive c n r b → b ≡ false → IsMetConflict ms c j relations D r None
 conflict_not_live ms c j relations D r n b e live f B m stands =
     if_false (nat_lt c m && not r.withdrawn) _ None (sym f ∙ live ms B ∙ ap (λ k. nat_lt c k && not r.withdrawn) (e ∙ stands.number))
 
 -- A live one has the conflict of its changed read.
-pub conflict_live : (ms : List Rule) (c j : ℕ) (relations : List ℕ) (D : List Fact) (r : Seat) (n : ℕ) (b : Bool) (found : Option CauseOfProgram) (change : Option Change) → n ≡ r.program.attempt.number → IsLive c n r b → b ≡ true
+pub conflict_live : (ms : List Rule) (c j : ℕ) (relations : List ℕ) (D : List Fact) (r : AuditedUpdate) (n : ℕ) (b : Bool) (found : Option CauseOfProgram) (change : Option Change) → n ≡ r.program.attempt.number → IsLive c n r b → b ≡ true
     → IsFirstChange ms relations D r change → option_map cause_of found ≡ option_map (conflict_meant j n) (option_map change_meant change) → IsMetConflict ms c j relations D r found
 conflict_live ms c j relations D r n b found change e live t first is B m stands =
     subst (λ (k : ℕ). option_map (cause_meant ms B) found ≡ met_conflict ms B c j relations D k (update_of ms B r)) stands.number
@@ -151,11 +151,11 @@ conflict_live ms c j relations D r n b found change e live t first is B m stands
 -- ---- dependences of one update
 
 -- One of the first members has none.
-pub join_named : (ms : List Rule) (deps : Deps) (c : ℕ) (firsts : List ℕ) (D : List Fact) (l : Losses) (r : Seat) (n : ℕ) (b : Bool) → n ≡ r.program.attempt.number → b ≡ has_number firsts n → b ≡ true → IsJoinOf ms deps c firsts D l r None
+pub join_named : (ms : List Rule) (deps : Deps) (c : ℕ) (firsts : List ℕ) (D : List Fact) (l : Losses) (r : AuditedUpdate) (n : ℕ) (b : Bool) → n ≡ r.program.attempt.number → b ≡ has_number firsts n → b ≡ true → IsJoinOf ms deps c firsts D l r None
 join_named ms deps c firsts D l r n b e named t B m told stands = if_true (has_number firsts m) None _ (sym t ∙ named ∙ ap (has_number firsts) (e ∙ stands.number))
 
 -- Nor has one that isn't live.
-pub join_not_live : (ms : List Rule) (deps : Deps) (c : ℕ) (firsts : List ℕ) (D : List Fact) (l : Losses) (r : Seat) (n : ℕ) (b : Bool) → n ≡ r.program.attempt.number → IsLive c n r b → b ≡ false → IsJoinOf ms deps c firsts D l r None
+pub join_not_live : (ms : List Rule) (deps : Deps) (c : ℕ) (firsts : List ℕ) (D : List Fact) (l : Losses) (r : AuditedUpdate) (n : ℕ) (b : Bool) → n ≡ r.program.attempt.number → IsLive c n r b → b ≡ false → IsJoinOf ms deps c firsts D l r None
 join_not_live ms deps c firsts D l r n b e live f B m told stands =
     none (has_number firsts m) (if_false (nat_lt c m && not r.withdrawn) _ None (sym f ∙ live ms B ∙ ap (λ k. nat_lt c k && not r.withdrawn) (e ∙ stands.number)))
   where
@@ -164,7 +164,7 @@ join_not_live ms deps c firsts D l r n b e live f B m told stands =
     none false g = g
 
 -- Another live one has the dependence of its read.
-pub join_live : (ms : List Rule) (deps : Deps) (c : ℕ) (firsts : List ℕ) (D : List Fact) (l : Losses) (r : Seat) (n : ℕ) (b d : Bool) (found : Option CauseOfProgram) (read : Option Numbered) → n ≡ r.program.attempt.number
+pub join_live : (ms : List Rule) (deps : Deps) (c : ℕ) (firsts : List ℕ) (D : List Fact) (l : Losses) (r : AuditedUpdate) (n : ℕ) (b d : Bool) (found : Option CauseOfProgram) (read : Option Numbered) → n ≡ r.program.attempt.number
     → b ≡ has_number firsts n → b ≡ false → IsLive c n r d → d ≡ true → IsFirstDependent deps ms l D r read → option_map cause_of found ≡ option_map (dependence_meant ms l.members.items n) (option_map numbered_of read) → IsJoinOf ms deps c firsts D l r found
 join_live ms deps c firsts D l r n b d found read e named f live t first is B m told stands =
     subst (λ (k : ℕ). option_map (cause_meant ms B) found ≡ met_join ms B deps c firsts D (members_of ms B l.members.items) k (update_of ms B r)) stands.number
@@ -181,26 +181,26 @@ module _ (ms : List Rule) (B : ℕ) (c j : ℕ) (relations : List ℕ) where
       let parts = or_parts (meets ms relations r.query) (any_met ms relations rs) e in
       λ i. if parts.0 i && p (logged ms B r) then Some (1, logged ms B r) else option_map (λ (t : ℕ × ReadOfHistory (caused_chase ms B)). (suc t.0, t.1)) (none_of_reads p rs parts.1 i)
 
-  abbrev conflicts_by : List Fact → ℕ → Seat → Option (ℕ × ReadOfHistory (caused_chase ms B)) → Option (Cause (caused_chase ms B))
+  abbrev conflicts_by : List Fact → ℕ → AuditedUpdate → Option (ℕ × ReadOfHistory (caused_chase ms B)) → Option (Cause (caused_chase ms B))
   conflicts_by D n r o =
       option_map (λ (x : Changed (caused_chase ms B)). Conflict n x.read j x.old x.new)
       (option_map (λ (t : ℕ × ReadOfHistory (caused_chase ms B)). record { read = t.0; old = t.1.answer; new = value_now (caused_chase ms B) r.program.attempt.operation D r.program.attempt.own t.1 }) o)
 
-  none_where : (D : List Fact) (n : ℕ) (r : Seat) (b : Bool) → (b && any_met ms relations (reads_in r.log.items)) ≡ false
+  none_where : (D : List Fact) (n : ℕ) (r : AuditedUpdate) (b : Bool) → (b && any_met ms relations (reads_in r.log.items)) ≡ false
       → (if b then conflicts_by D n r (first_that (λ q. meets ms relations q.query && not (is_valid (caused_chase ms B) r.program.attempt.operation D r.program.attempt.own q)) (map (logged ms B) (reads_in r.log.items))) else None) ≡ None
   none_where D n r true e = ap (conflicts_by D n r) (none_of_reads (λ q. not (is_valid (caused_chase ms B) r.program.attempt.operation D r.program.attempt.own q)) (reads_in r.log.items) e)
   none_where D n r false e = refl
 
   -- What nothing meets has no conflict.
-  pub unmet_has_none : (D : List Fact) (n : ℕ) (r : Seat) → StandsAt n r → may_conflict ms c relations r ≡ false → met_conflict ms B c j relations D n (update_of ms B r) ≡ None
+  pub unmet_has_none : (D : List Fact) (n : ℕ) (r : AuditedUpdate) → StandsAt n r → may_conflict ms c relations r ≡ false → met_conflict ms B c j relations D n (update_of ms B r) ≡ None
   unmet_has_none D n r stands h =
       none_where D n r (nat_lt c n && not r.withdrawn) (ap (λ k. (nat_lt c k && not r.withdrawn) && any_met ms relations (reads_in r.log.items)) (sym stands.number) ∙ h)
 
 -- ---- whether an update may be in conflict
 
-pub may_live : (ms : List Rule) (c n : ℕ) (relations : List ℕ) (r : Seat) (live met : Bool) (reads : List Read) → n ≡ r.program.attempt.number → IsLive c n r live → live ≡ true → reads ≡ reads_in r.log.items → met ≡ any_met ms relations reads → met ≡ may_conflict ms c relations r
+pub may_live : (ms : List Rule) (c n : ℕ) (relations : List ℕ) (r : AuditedUpdate) (live met : Bool) (reads : List Read) → n ≡ r.program.attempt.number → IsLive c n r live → live ≡ true → reads ≡ reads_in r.log.items → met ≡ any_met ms relations reads → met ≡ may_conflict ms c relations r
 may_live ms c n relations r live met reads e is t same m =
     m ∙ ap (any_met ms relations) same ∙ ap (λ b. b && any_met ms relations (reads_in r.log.items)) (sym t ∙ is ms 0 ∙ ap (λ k. nat_lt c k && not r.withdrawn) e)
 
-pub may_not : (ms : List Rule) (c n : ℕ) (relations : List ℕ) (r : Seat) (live : Bool) → n ≡ r.program.attempt.number → IsLive c n r live → live ≡ false → live ≡ may_conflict ms c relations r
+pub may_not : (ms : List Rule) (c n : ℕ) (relations : List ℕ) (r : AuditedUpdate) (live : Bool) → n ≡ r.program.attempt.number → IsLive c n r live → live ≡ false → live ≡ may_conflict ms c relations r
 may_not ms c n relations r live e is f = f ∙ ap (λ b. b && any_met ms relations (reads_in r.log.items)) (sym f ∙ is ms 0 ∙ ap (λ k. nat_lt c k && not r.withdrawn) e)

@@ -8,9 +8,9 @@ use Rattle.def_machine.specs.Cascade.{with_member, without_member}
 use Rattle.def_chase.specs.Repository.{apply}
 use Rattle.def_chase.specs.Values.{Fact}
 use Rattle.def_steps.specs.Chase.{caused_chase, relation_of}
-use Rattle.audit_updates.specs.Seatings.{update_of}
+use Rattle.audit_updates.specs.Updates.{update_of}
 use Rattle.audit_updates.specs.Standings.{HasTrail}
-use Rattle.audit_updates.specs.declared.seats.Seat.{Seat}
+use Rattle.audit_updates.specs.declared.updates.AuditedUpdate.{AuditedUpdate}
 use Rattle.audit_replay.specs.Causes.{LeavesBelow, Loses, member_of, members_of, writes_of}
 use Rattle.audit_replay.specs.Levels.{raised, top}
 use Rattle.audit_replay.specs.Relations.{HasMore}
@@ -39,7 +39,7 @@ lost_one l l' m grew more = record {
 }
 
 -- An update that goes is lost.
-pub left_lost : (goes : Bool) (r : Seat) (ws : List Write) (n : ℕ) (levels : List (List Fact)) (l l' : Losses) → goes ≡ true → n ≡ r.program.attempt.number → HasTrail r ws → Loses n (map change_of ws) l l' → LeavesBelow goes r levels levels l l'
+pub left_lost : (goes : Bool) (r : AuditedUpdate) (ws : List Write) (n : ℕ) (levels : List (List Fact)) (l l' : Losses) → goes ≡ true → n ≡ r.program.attempt.number → HasTrail r ws → Loses n (map change_of ws) l l' → LeavesBelow goes r levels levels l l'
 left_lost goes r ws n levels l l' e number trail_is loses = record {
   below = λ ms B. sym (ap (λ b. without_member (caused_chase ms B) b (top levels) (update_of ms B r)) e);
   members =
@@ -49,7 +49,7 @@ left_lost goes r ws n levels l l' e number trail_is loses = record {
 }
 
 -- The trail of another one lies above the others.
-pub left_kept : (goes : Bool) (r : Seat) (ws : List Write) (levels levels' : List (List Fact)) (l : Losses) → goes ≡ false → HasTrail r ws → levels' ≡ raised levels (map change_of ws) → LeavesBelow goes r levels levels' l l
+pub left_kept : (goes : Bool) (r : AuditedUpdate) (ws : List Write) (levels levels' : List (List Fact)) (l : Losses) → goes ≡ false → HasTrail r ws → levels' ≡ raised levels (map change_of ws) → LeavesBelow goes r levels levels' l l
 left_kept goes r ws levels levels' l e trail_is rose = record {
   below = λ ms B. ap top rose ∙ (λ i. apply (top levels) (trail_is ms B i)) ∙ sym (ap (λ b. without_member (caused_chase ms B) b (top levels) (update_of ms B r)) e);
   members = λ ms B. sym (ap (λ b. with_member (caused_chase ms B) b (members_of ms B l.members.items) r.program.attempt.number (update_of ms B r)) e);

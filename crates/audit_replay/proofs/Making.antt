@@ -33,9 +33,9 @@ use Rattle.def_steps.proofs.ChaseLaws.{chase_laws}
 use Rattle.def_steps.proofs.Refusing.{refused_writes_nothing}
 use Rattle.def_steps.specs.Attempts.{Phase, Start, Look, Generate, Asked, Ended, Done, Spent, Refused, outcome_in}
 use Rattle.def_steps.specs.Chase.{caused, caused_chase, ending}
-use Rattle.audit_updates.specs.Seatings.{AreFrom, update_of, updates_of}
+use Rattle.audit_updates.specs.Updates.{AreFrom, update_of, updates_of}
 use Rattle.audit_updates.specs.Settings.{settings_of}
-use Rattle.audit_updates.specs.declared.seats.Seat.{Seat}
+use Rattle.audit_updates.specs.declared.updates.AuditedUpdate.{AuditedUpdate}
 use Rattle.audit_replay.specs.Levels.{laid, top}
 use Rattle.audit_replay.specs.Met.{AreValid}
 use Rattle.audit_replay.specs.Places.{StandOn, trail_of}
@@ -56,11 +56,11 @@ runs_valid M L D n (u ∷ us) r = (λ e. one u.withdrawn refl, runs_valid M L (M
     one false w = run_valid M L D n u w r.0
     one true w = ap (λ l. list_all (is_valid M u.operation D (M.own u.state)) l) (r.0.gone w)
 
-one_more_each : (rs : List Seat) → ((i : ℕ) (r : Seat) → slice_get rs i ≡ Some r → r.program.attempt.attempt ≤ 5) → AllHaveOneMore rs
+one_more_each : (rs : List AuditedUpdate) → ((i : ℕ) (r : AuditedUpdate) → slice_get rs i ≡ Some r → r.program.attempt.attempt ≤ 5) → AllHaveOneMore rs
 one_more_each [] h = tt
 one_more_each (r ∷ rs) h = (omega (arith, h 0 r refl), one_more_each rs (λ i q e. h (suc i) q e))
 
-flat_same : (ms : List Rule) (B : ℕ) (rs : List Seat) (k : ℕ) → flat_map trail_of (take k rs) ≡ flat_map (trail (caused_chase ms B)) (take k (updates_of ms B rs))
+flat_same : (ms : List Rule) (B : ℕ) (rs : List AuditedUpdate) (k : ℕ) → flat_map trail_of (take k rs) ≡ flat_map (trail (caused_chase ms B)) (take k (updates_of ms B rs))
 flat_same ms B rs zero = refl
 flat_same ms B [] (suc k) = refl
 flat_same ms B (r ∷ rs) (suc k) = ap (λ ws. trail_of r ++ ws) (flat_same ms B rs k)
@@ -91,10 +91,10 @@ module _ (g : Ground) (H : List PlainEntry) (r : Replay) (k : IsReplayOf g H r) 
   history_of : IsHistory M g.settings (session_over g) (record { updates = updates_after g H; entries = entries_over g H })
   history_of = history_law M laws g.settings (session_over g) (map event_of (entries_over g H)) (record { updates = updates_after g H; entries = entries_over g H }) k.sorted k.left.legal
 
-  update_there : (i : ℕ) (x : Seat) → slice_get r.seats.items i ≡ Some x → slice_get us i ≡ Some (update_of g.rules g.budget x)
+  update_there : (i : ℕ) (x : AuditedUpdate) → slice_get r.seats.items i ≡ Some x → slice_get us i ≡ Some (update_of g.rules g.budget x)
   update_there i x spot = slice_get-map (update_of g.rules g.budget) r.seats.items i ∙ ap (option_map (update_of g.rules g.budget)) spot
 
-  left_there : (i : ℕ) (x : Seat) → slice_get r.seats.items i ≡ Some x → slice_get (updates_after g H) i ≡ Some (update_of g.rules g.budget x)
+  left_there : (i : ℕ) (x : AuditedUpdate) → slice_get r.seats.items i ≡ Some x → slice_get (updates_after g H) i ≡ Some (update_of g.rules g.budget x)
   left_there i x spot = ap (λ (vs : List (Update M)). slice_get vs i) k.left.leaves ∙ update_there i x spot
 
   -- One more attempt of each update has a number.
@@ -102,7 +102,7 @@ module _ (g : Ground) (H : List PlainEntry) (r : Replay) (k : IsReplayOf g H r) 
   all_one_more = one_more_each r.seats.items (λ i x spot. omega (arith, history_of.attempts i (update_of g.rules g.budget x) (left_there i x spot), k.retries))
 
   -- A ready update has a step left.
-  pub step_left : (i c n : ℕ) (x : Seat) → slice_get r.seats.items i ≡ Some x → is_ready (standing M g.settings c n (update_of g.rules g.budget x)) ≡ true → x.program.attempt.steps < r.budget
+  pub step_left : (i c n : ℕ) (x : AuditedUpdate) → slice_get r.seats.items i ≡ Some x → is_ready (standing M g.settings c n (update_of g.rules g.budget x)) ≡ true → x.program.attempt.steps < r.budget
   step_left i c n x spot ready =
       let u : Update M = update_of g.rules g.budget x in
       let o = (ready_parts M g.settings c n u ready).0 in
@@ -110,7 +110,7 @@ module _ (g : Ground) (H : List PlainEntry) (r : Replay) (k : IsReplayOf g H r) 
       omega (arith, more, k.budget)
 
   -- An attempt that its next step refuses has written nothing.
-  pub refused_unwritten : (i c n : ℕ) (x : Seat) → slice_get r.seats.items i ≡ Some x → is_ready (standing M g.settings c n (update_of g.rules g.budget x)) ≡ true
+  pub refused_unwritten : (i c n : ℕ) (x : AuditedUpdate) → slice_get r.seats.items i ≡ Some x → is_ready (standing M g.settings c n (update_of g.rules g.budget x)) ≡ true
       → hides (M.outcome (stepped M (below M g.base us i) (update_of g.rules g.budget x)).state) ≡ true → is_spent (M.outcome (stepped M (below M g.base us i) (update_of g.rules g.budget x)).state) ≡ false
       → trail M (update_of g.rules g.budget x) ≡ []
   refused_unwritten i c n x spot ready h e =
@@ -147,7 +147,7 @@ module _ (g : Ground) (H : List PlainEntry) (r : Replay) (k : IsReplayOf g H r) 
 -- ---- any event
 
 -- The same seats below a place have the same levels there.
-pub stand_same : (D : List Fact) (rs rs' : List Seat) (k : ℕ) (levels : List (List Fact)) → map trail_of (take k rs') ≡ map trail_of (take k rs) → StandOn D rs k levels → StandOn D rs' k levels
+pub stand_same : (D : List Fact) (rs rs' : List AuditedUpdate) (k : ℕ) (levels : List (List Fact)) → map trail_of (take k rs') ≡ map trail_of (take k rs) → StandOn D rs k levels → StandOn D rs' k levels
 stand_same D rs rs' k levels e s = s ∙ sym (ap (laid [] D) e)
 
 -- What was made of a replay is the replay that the entry of the event leaves.

@@ -12,11 +12,11 @@ use Rattle.chase_query.specs.Meanings.{reads_in}
 use Rattle.def_steps.specs.Attempts.{Attempt}
 use Rattle.audit_updates.specs.Programs.{HasNext, IsPlanOf}
 use Rattle.audit_updates.specs.Wants.{WantsNext}
-use Rattle.audit_updates.specs.declared.seats.Seat.{Seat}
+use Rattle.audit_updates.specs.declared.updates.AuditedUpdate.{AuditedUpdate}
 use Rattle.audit_replay.specs.Steps.{IsReadySomewhere}
 
 -- A ready update wants its next step with its next answer.
-pub wants_step : (r : Seat) (a : Option Choice) → IsReadySomewhere r → WantsNext r a → WantsStep (wish r.program) a
+pub wants_step : (r : AuditedUpdate) (a : Option Choice) → IsReadySomewhere r → WantsNext r a → WantsStep (wish r.program) a
 wants_step r a f wants = wants f.rules f.budget f.settings f.committed f.number f.ready
 
 none_marked : (n m : ℕ) → slice_index_or (replicate n false) m false ≡ false
@@ -29,7 +29,7 @@ pub nothing_settled : (k : ℕ) (ms : List Rule) (D : List Fact) (P : Attempt) (
 nothing_settled k ms D P marks e m h = absurd (both_ways (slice_index_or marks m false) (ap (λ (bs : List Bool). slice_index_or bs m false) e ∙ none_marked k m) h)
 
 -- What was planned over such a set is the plan over that of the uppermost level.
-pub planned_is : (ms : List Rule) (B : ℕ) (D E : List Fact) (r : Seat) (plan : Plan) (a : Option Choice) → D ≡ E → HasNext r a → plan.program ≡ at_rest (next_attempt ms B D r.program.attempt a)
+pub planned_is : (ms : List Rule) (B : ℕ) (D E : List Fact) (r : AuditedUpdate) (plan : Plan) (a : Option Choice) → D ≡ E → HasNext r a → plan.program ≡ at_rest (next_attempt ms B D r.program.attempt a)
     → reads_in plan.reads.items ≡ next_reads ms D r.program.attempt a → IsPlanOf ms B E r plan
 planned_is ms B D E r plan a e next p q = record {
   program = p ∙ (λ i. at_rest (next_attempt ms B (e i) r.program.attempt (next ms B i)));
@@ -37,7 +37,7 @@ planned_is ms B D E r plan a e next p q = record {
 }
 
 -- Where there is one.
-pub planned_ok : {M : Type 0} (ms : List Rule) (B : ℕ) (D E : List Fact) (r : Seat) (o : Result Plan M) (a : Option Choice) → D ≡ E → HasNext r a → IfOk o (λ plan. plan.program ≡ at_rest (next_attempt ms B D r.program.attempt a))
+pub planned_ok : {M : Type 0} (ms : List Rule) (B : ℕ) (D E : List Fact) (r : AuditedUpdate) (o : Result Plan M) (a : Option Choice) → D ≡ E → HasNext r a → IfOk o (λ plan. plan.program ≡ at_rest (next_attempt ms B D r.program.attempt a))
     → IfOk o (λ plan. reads_in plan.reads.items ≡ next_reads ms D r.program.attempt a) → IfOk o (IsPlanOf ms B E r)
 planned_ok ms B D E r (Ok plan) a e next p q = planned_is ms B D E r plan a e next p q
 planned_ok ms B D E r (Err m) a e next p q = tt

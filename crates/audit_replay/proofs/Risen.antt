@@ -5,7 +5,7 @@ use Rattle.def_chase.specs.Values.{Fact}
 use Rattle.def_chase.specs.Repository.{Change, apply}
 use Rattle.def_steps.proofs.Steady.{apply_join}
 use Rattle.audit_updates.specs.Programs.{IsBetween}
-use Rattle.audit_updates.specs.declared.seats.Seat.{Seat}
+use Rattle.audit_updates.specs.declared.updates.AuditedUpdate.{AuditedUpdate}
 use Rattle.audit_replay.specs.Levels.{RisesFrom, laid, raised, top}
 use Rattle.audit_replay.specs.Places.{AreBetween, Stand, StandOn, trail_of}
 
@@ -65,7 +65,7 @@ module _ {X : Type 0} (f : X → List Change) where
   laid_top Ds D (x ∷ xs) = laid_top (D ∷ Ds) (apply D (f x)) xs ∙ sym (apply_join D (f x) (flat_map f xs))
 
 -- So many stand above the lowest.
-pub stand_long : (D : List Fact) (rs : List Seat) (k : ℕ) (levels : List (List Fact)) → k ≤ length rs → StandOn D rs k levels → length levels ≡ suc k
+pub stand_long : (D : List Fact) (rs : List AuditedUpdate) (k : ℕ) (levels : List (List Fact)) → k ≤ length rs → StandOn D rs k levels → length levels ≡ suc k
 stand_long D rs k levels l s =
     let many = laid_long [] D (map trail_of (take k rs)) in
     let some = mapped_long trail_of (take k rs) in
@@ -74,11 +74,11 @@ stand_long D rs k levels l s =
     ap (λ (Gs : List (List Fact)). length Gs) s ∙ e
 
 -- One more.
-pub stand_more : (D : List Fact) (rs : List Seat) (k : ℕ) (r : Seat) (ws : List Change) (levels levels' : List (List Fact)) → k < length rs → r ≡ get_or rs k r → ws ≡ trail_of r → levels' ≡ raised levels ws → StandOn D rs k levels → StandOn D rs (suc k) levels'
+pub stand_more : (D : List Fact) (rs : List AuditedUpdate) (k : ℕ) (r : AuditedUpdate) (ws : List Change) (levels levels' : List (List Fact)) → k < length rs → r ≡ get_or rs k r → ws ≡ trail_of r → levels' ≡ raised levels ws → StandOn D rs k levels → StandOn D rs (suc k) levels'
 stand_more D rs k r ws levels levels' l e w m s = m ∙ (λ i. raised (s i) (w i)) ∙ laid_more trail_of [] D rs k r l e
 
 -- One less.
-pub stand_less : (D : List Fact) (rs : List Seat) (h k : ℕ) (levels levels' : List (List Fact)) → length levels ≡ suc h → k < h → levels' ≡ drop 1 levels → Stand D rs levels → Stand D rs levels'
+pub stand_less : (D : List Fact) (rs : List AuditedUpdate) (h k : ℕ) (levels levels' : List (List Fact)) → length levels ≡ suc h → k < h → levels' ≡ drop 1 levels → Stand D rs levels → Stand D rs levels'
 stand_less D rs h k levels levels' l m e s = by s.many refl
   where
     by : (n : ℕ) → s.many ≡ n → Stand D rs levels'
@@ -89,7 +89,7 @@ stand_less D rs h k levels levels' l m e s = by s.many refl
         record { many = n; within = le; stand = e ∙ ap (λ (Gs : List (List Fact)). drop 1 Gs) (s.stand ∙ ap (λ j. laid [] D (map trail_of (take j rs))) q) ∙ laid_less trail_of [] D rs n lt }
 
 -- One more, where not so many stand there as there are seats.
-pub stand_raised : (D : List Fact) (rs : List Seat) (h : ℕ) (r : Seat) (ws : List Change) (levels levels' : List (List Fact)) → length levels ≡ suc h → h < length rs → r ≡ get_or rs h r → ws ≡ trail_of r → levels' ≡ raised levels ws → Stand D rs levels → Stand D rs levels'
+pub stand_raised : (D : List Fact) (rs : List AuditedUpdate) (h : ℕ) (r : AuditedUpdate) (ws : List Change) (levels levels' : List (List Fact)) → length levels ≡ suc h → h < length rs → r ≡ get_or rs h r → ws ≡ trail_of r → levels' ≡ raised levels ws → Stand D rs levels → Stand D rs levels'
 stand_raised D rs h r ws levels levels' l m e w f s =
     let long = stand_long D rs s.many levels s.within s.stand in
     let same : s.many ≡ h = omega (arith, long, l) in
@@ -97,7 +97,7 @@ stand_raised D rs h r ws levels levels' l m e w f s =
     record { many = suc h; within = le; stand = stand_more D rs h r ws levels levels' m e w f (subst (λ (n : ℕ). StandOn D rs n levels) same s.stand) }
 
 -- They have come to the place.
-pub stand_there : (D : List Fact) (rs : List Seat) (k : ℕ) (levels : List (List Fact)) → length levels ≡ suc k → Stand D rs levels → StandOn D rs k levels
+pub stand_there : (D : List Fact) (rs : List AuditedUpdate) (k : ℕ) (levels : List (List Fact)) → length levels ≡ suc k → Stand D rs levels → StandOn D rs k levels
 stand_there D rs k levels l s =
     let long = stand_long D rs s.many levels s.within s.stand in
     let same : s.many ≡ k = omega (arith, long, l) in
@@ -127,7 +127,7 @@ pub sunk_one : (Ds Es Fs : List (List Fact)) (ws : List Change) → Es ≡ raise
 sunk_one Ds Es Fs ws e f = f ∙ ap (λ (Gs : List (List Fact)). drop 1 Gs) e
 
 -- The seat at a place stands between two steps.
-pub between_at : (rs : List Seat) (k : ℕ) (r : Seat) → AreBetween rs → k < length rs → r ≡ get_or rs k r → IsBetween r.program
+pub between_at : (rs : List AuditedUpdate) (k : ℕ) (r : AuditedUpdate) → AreBetween rs → k < length rs → r ≡ get_or rs k r → IsBetween r.program
 between_at [] k r b l e = absurd (omega (arith, l))
-between_at (q ∷ rs) zero r b l e = subst (λ (x : Seat). IsBetween x.program) (sym e) b.0
+between_at (q ∷ rs) zero r b l e = subst (λ (x : AuditedUpdate). IsBetween x.program) (sym e) b.0
 between_at (q ∷ rs) (suc k) r b l e = between_at rs k r b.1 (omega (arith, l)) e

@@ -17,8 +17,8 @@ use Rattle.def_chase.specs.Values.{Fact}
 use Rattle.def_chase.specs.Violations.{Direction}
 use Rattle.chase_query.specs.Meanings.{Read, read_of, reads_in}
 use Rattle.def_steps.specs.Chase.{caused_chase}
-use Rattle.audit_updates.specs.Seatings.{AreFrom, StandsAt, update_of, updates_of}
-use Rattle.audit_updates.specs.declared.seats.Seat.{Seat}
+use Rattle.audit_updates.specs.Updates.{AreFrom, StandsAt, update_of, updates_of}
+use Rattle.audit_updates.specs.declared.updates.AuditedUpdate.{AuditedUpdate}
 use Rattle.audit_replay.specs.Changes.{ChangeMeant, any_met, is_met_and_changed, meets}
 use Rattle.audit_replay.specs.Levels.{top}
 use Rattle.audit_replay.specs.Relations.{any_of}
@@ -64,12 +64,12 @@ module _ (ms : List Rule) (B : ℕ) where
 -- ---- conflicts
 
 -- The first read of the seat's update that mentions one of the relations and isn't valid over D, as a conflict with update j.
-abbrev pub IsMetConflict : List Rule → ℕ → ℕ → List ℕ → List Fact → Seat → Option CauseOfProgram → Type 0
+abbrev pub IsMetConflict : List Rule → ℕ → ℕ → List ℕ → List Fact → AuditedUpdate → Option CauseOfProgram → Type 0
 IsMetConflict ms c j relations D r found =
     (B n : ℕ) → StandsAt n r → option_map (cause_meant ms B) found ≡ met_conflict ms B c j relations D n (update_of ms B r)
 
 -- Those of the seats' updates in turn, where D lies below the first.
-abbrev pub AreMetConflicts : List Rule → ℕ → ℕ → List ℕ → List Fact → List Seat → List CauseOfProgram → Type 0
+abbrev pub AreMetConflicts : List Rule → ℕ → ℕ → List ℕ → List Fact → List AuditedUpdate → List CauseOfProgram → Type 0
 AreMetConflicts ms c j relations D rs causes =
     (B n : ℕ) → AreFrom n rs → causes_meant ms B causes ≡ met_conflicts ms B c j relations D n (updates_of ms B rs)
 
@@ -78,11 +78,11 @@ abbrev pub conflict_meant : ℕ → ℕ → ChangeMeant → PlainCause
 conflict_meant j n c = InConflict (record { reader = n; read = c.number; writer = j; old = c.read.reply; new = c.now })
 
 -- Whether the update is live, and a read of it mentions one of the relations.
-abbrev pub may_conflict : List Rule → ℕ → List ℕ → Seat → Bool
+abbrev pub may_conflict : List Rule → ℕ → List ℕ → AuditedUpdate → Bool
 may_conflict ms c relations r = (nat_lt c r.program.attempt.number && not r.withdrawn) && any_met ms relations (reads_in r.log.items)
 
 -- None of the updates may be in conflict.
-abbrev pub AreUnmet : List Rule → ℕ → List ℕ → List Seat → Type 0
+abbrev pub AreUnmet : List Rule → ℕ → List ℕ → List AuditedUpdate → Type 0
 AreUnmet ms c relations [] = Unit {0}
 AreUnmet ms c relations (r ∷ rs) = (may_conflict ms c relations r ≡ false) × AreUnmet ms c relations rs
 
@@ -98,7 +98,7 @@ pub record Loses (n : ℕ) (ws : List Change) (old new : Losses) : Type 0 where
   pub told : AreTold old → AreTold new
 
 -- What is lost below the next update, and what lies below it without that, once this one has its say: it goes or not.
-pub record LeavesBelow (goes : Bool) (r : Seat) (levels levels' : List (List Fact)) (old new : Losses) : Type 0 where
+pub record LeavesBelow (goes : Bool) (r : AuditedUpdate) (levels levels' : List (List Fact)) (old new : Losses) : Type 0 where
   pub below : (ms : List Rule) (B : ℕ) → top levels' ≡ without_member (caused_chase ms B) goes (top levels) (update_of ms B r)
   pub members : (ms : List Rule) (B : ℕ) → members_of ms B new.members.items ≡ with_member (caused_chase ms B) goes (members_of ms B old.members.items) r.program.attempt.number (update_of ms B r)
   pub told : AreTold old → AreTold new
@@ -113,7 +113,7 @@ depends_by Precise ms relations h D own r = is_met_and_changed ms relations h D 
 depends_by Coarse ms relations h D own r = meets ms relations r.query
 
 -- It is the first read of the seat's update that depends on what is lost.
-abbrev pub IsFirstDependent : Deps → List Rule → Losses → List Fact → Seat → Option Numbered → Type 0
+abbrev pub IsFirstDependent : Deps → List Rule → Losses → List Fact → AuditedUpdate → Option Numbered → Type 0
 IsFirstDependent deps ms l D r found =
     option_map numbered_of found ≡ first_that (depends_by deps ms l.relations.items (direction_of r.program.attempt.operation) D r.program.attempt.own) (reads_in r.log.items)
 
@@ -127,17 +127,17 @@ abbrev pub dependence_meant : List Rule → List MemberOfProgram → ℕ → ℕ
 dependence_meant ms ks n t = Dependent (record { reader = n; read = t.0; on = least_writer ms t.1 ks })
 
 -- It is why the seat's update joins the members, if it does and is none of the first.
-abbrev pub IsJoinOf : List Rule → Deps → ℕ → List ℕ → List Fact → Losses → Seat → Option CauseOfProgram → Type 0
+abbrev pub IsJoinOf : List Rule → Deps → ℕ → List ℕ → List Fact → Losses → AuditedUpdate → Option CauseOfProgram → Type 0
 IsJoinOf ms deps c firsts D l r found =
     (B n : ℕ) → AreTold l → StandsAt n r → option_map (cause_meant ms B) found ≡ met_join ms B deps c firsts D (members_of ms B l.members.items) n (update_of ms B r)
 
 -- These are why those of the seats' updates that join the members do, where D lies below the first without the members' trails.
-abbrev pub AreMetDependences : List Rule → Deps → ℕ → List ℕ → List Fact → Losses → List Seat → List CauseOfProgram → Type 0
+abbrev pub AreMetDependences : List Rule → Deps → ℕ → List ℕ → List Fact → Losses → List AuditedUpdate → List CauseOfProgram → Type 0
 AreMetDependences ms deps c firsts D l rs causes =
     (B n : ℕ) → AreTold l → AreFrom n rs → causes_meant ms B causes ≡ met_cascade ms B deps c firsts D (members_of ms B l.members.items) n (updates_of ms B rs)
 
 -- They are why each of the seats' updates depends that does on those of these numbers, where the reads of the other live ones are valid.
-abbrev pub AreDependencesOn : List Rule → Deps → ℕ → List ℕ → List Fact → List Seat → List CauseOfProgram → Type 0
+abbrev pub AreDependencesOn : List Rule → Deps → ℕ → List ℕ → List Fact → List AuditedUpdate → List CauseOfProgram → Type 0
 AreDependencesOn ms deps c firsts D rs causes =
     (B n : ℕ) → AreFrom n rs → IsRepository D → AreValidThat (caused_chase ms B) (is_open (caused_chase ms B) c firsts) n D (updates_of ms B rs)
     → causes_meant ms B causes ≡ cascade (caused_chase ms B) deps c firsts D [] n (updates_of ms B rs)
@@ -146,14 +146,14 @@ AreDependencesOn ms deps c firsts D rs causes =
 
 -- Why updates above update j are restarted where it loses this trail, in any history whose updates these are: all their reads
 -- were valid, with the trail.
-abbrev pub AreOfLoss : List Rule → Deps → ℕ → ℕ → List Change → List Fact → List Seat → List CauseOfProgram → Type 0
+abbrev pub AreOfLoss : List Rule → Deps → ℕ → ℕ → List Change → List Fact → List AuditedUpdate → List CauseOfProgram → Type 0
 AreOfLoss ms deps c j lost D rs causes =
     (B : ℕ) (u : Update (caused_chase ms B)) → trail (caused_chase ms B) u ≡ lost → AreFrom (suc j) rs → IsRepository D
     → AreValid (caused_chase ms B) (suc j) (apply D lost) (updates_of ms B rs)
     → causes_meant ms B causes ≡ causes_of_loss (caused_chase ms B) deps c j D u (updates_of ms B rs)
 
 -- Why they are where its trail is this now, by these last writes: all their reads were valid before.
-abbrev pub AreOfWrites : List Rule → Deps → ℕ → ℕ → List Change → List Change → List Fact → List Seat → List CauseOfProgram → Type 0
+abbrev pub AreOfWrites : List Rule → Deps → ℕ → ℕ → List Change → List Change → List Fact → List AuditedUpdate → List CauseOfProgram → Type 0
 AreOfWrites ms deps c j made writes D rs causes =
     (B : ℕ) (old : List Change) → made ≡ old ++ writes → AreFrom (suc j) rs → IsRepository D
     → AreValid (caused_chase ms B) (suc j) (apply D old) (updates_of ms B rs)

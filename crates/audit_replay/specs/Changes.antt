@@ -11,7 +11,7 @@ use Rattle.def_chase.specs.Updates.{direction_of}
 use Rattle.def_chase.specs.Values.{Fact}
 use Rattle.def_chase.specs.Violations.{Direction, Caused}
 use Rattle.chase_query.specs.Meanings.{Read, read_of, reads_in, reply_of}
-use Rattle.audit_updates.specs.declared.seats.Seat.{Seat}
+use Rattle.audit_updates.specs.declared.updates.AuditedUpdate.{AuditedUpdate}
 use Rattle.audit_replay.specs.declared.changes.Change.{Change}
 
 -- The query mentions one of the relations.
@@ -65,6 +65,6 @@ abbrev pub first_change : List Rule → List ℕ → Direction → List Fact →
 first_change ms relations h D own log = option_map (changed_at ms h D own) (first_that (is_met_and_changed ms relations h D own) log)
 
 -- It is that read of the seat's update.
-abbrev pub IsFirstChange : List Rule → List ℕ → List Fact → Seat → Option Change → Type 0
+abbrev pub IsFirstChange : List Rule → List ℕ → List Fact → AuditedUpdate → Option Change → Type 0
 IsFirstChange ms relations D r found =
     option_map change_meant found ≡ first_change ms relations (direction_of r.program.attempt.operation) D r.program.attempt.own (reads_in r.log.items)

@@ -5,37 +5,37 @@ use Rattle.def_chase.specs.Repository.{Change}
 use Rattle.def_chase.specs.Values.{Fact}
 use Rattle.def_steps.specs.Chase.{caused_chase}
 use Rattle.audit_updates.specs.Programs.{IsBetween}
-use Rattle.audit_updates.specs.Seatings.{update_of}
-use Rattle.audit_updates.specs.declared.seats.Seat.{Seat}
+use Rattle.audit_updates.specs.Updates.{update_of}
+use Rattle.audit_updates.specs.declared.updates.AuditedUpdate.{AuditedUpdate}
 use Rattle.audit_replay.specs.Levels.{laid}
 
 -- Each of the seats stands between two steps.
-abbrev pub AreBetween : List Seat → Type 0
+abbrev pub AreBetween : List AuditedUpdate → Type 0
 AreBetween [] = Unit {0}
 AreBetween (r ∷ rs) = IsBetween r.program × AreBetween rs
 
 -- The writes that others see of the seat's update, which are the same whatever the mappings and the budget.
-abbrev pub trail_of : Seat → List Change
+abbrev pub trail_of : AuditedUpdate → List Change
 trail_of r = trail (caused_chase [] 0) (update_of [] 0 r)
 
 -- The levels are D and what lies above each of so many of the seats, the uppermost one first.
-abbrev pub StandOn : List Fact → List Seat → ℕ → List (List Fact) → Type 0
+abbrev pub StandOn : List Fact → List AuditedUpdate → ℕ → List (List Fact) → Type 0
 StandOn D rs k levels = levels ≡ laid [] D (map trail_of (take k rs))
 
 -- The levels stand on some of the seats.
-pub record Stand (D : List Fact) (rs : List Seat) (levels : List (List Fact)) : Type 0 where
+pub record Stand (D : List Fact) (rs : List AuditedUpdate) (levels : List (List Fact)) : Type 0 where
   pub many : ℕ
   pub within : many ≤ length rs
   pub stand : StandOn D rs many levels
 
 -- Levels that stood on some of the seats still do.
 abbrev pub StandStill : List (List Fact) → List (List Fact) → Type 0
-StandStill old new = (D : List Fact) (rs : List Seat) → Stand D rs old → Stand D rs new
+StandStill old new = (D : List Fact) (rs : List AuditedUpdate) → Stand D rs old → Stand D rs new
 
 -- They have risen to so many.
-abbrev pub HaveRisen : ℕ → List Seat → List (List Fact) → List (List Fact) → Type 0
+abbrev pub HaveRisen : ℕ → List AuditedUpdate → List (List Fact) → List (List Fact) → Type 0
 HaveRisen k rs old new = (D : List Fact) → Stand D rs old → StandOn D rs k new
 
 -- From any number of the seats the levels have come to so many.
-abbrev pub HaveCome : ℕ → List Seat → List (List Fact) → List (List Fact) → Type 0
+abbrev pub HaveCome : ℕ → List AuditedUpdate → List (List Fact) → List (List Fact) → Type 0
 HaveCome k rs old new = (D : List Fact) (h : ℕ) → h ≤ length rs → StandOn D rs h old → StandOn D rs k new

@@ -7,23 +7,23 @@ use Rattle.def_machine.specs.Updates.{Deps, Settings}
 use Rattle.def_chase.specs.Mappings.{Rule}
 use Rattle.def_chase.specs.Values.{Fact}
 use Rattle.audit_updates.specs.Programs.{HasWritten, IsPlanOf}
-use Rattle.audit_updates.specs.declared.seats.Seat.{Seat}
+use Rattle.audit_updates.specs.declared.updates.AuditedUpdate.{AuditedUpdate}
 use Rattle.audit_replay.specs.Steps.{AreOfStep, IsRemoved, IsStepMade, TellsStep, TellsWithdrawal}
 use Rattle.audit_replay.specs.declared.stepping.Prepared.{Prepared}
 
 -- It is the next step of the seat's update over D, with these seats above it, where so many updates are committed.
-pub record IsPreparedFor (ms : List Rule) (B : ℕ) (deps : Deps) (c : ℕ) (r : Seat) (D : List Fact) (rs : List Seat) (p : Prepared) : Type 0 where
+pub record IsPreparedFor (ms : List Rule) (B : ℕ) (deps : Deps) (c : ℕ) (r : AuditedUpdate) (D : List Fact) (rs : List AuditedUpdate) (p : Prepared) : Type 0 where
   pub planned : IsPlanOf ms B D r p.plan
   pub causes : AreOfStep ms deps c r p.plan D rs p.causes.items
   pub written : HasWritten r p.plan p.writes.items
   pub attempt : p.attempt ≡ r.program.attempt.attempt
 
 -- The step is made at the place, and the entry tells it.
-pub record IsInstalled (s : Settings) (k : ℕ) (p : Prepared) (rs rs' : List Seat) (e : Entry) : Type 0 where
+pub record IsInstalled (s : Settings) (k : ℕ) (p : Prepared) (rs rs' : List AuditedUpdate) (e : Entry) : Type 0 where
   pub made : IsStepMade k p.plan p.causes.items rs rs'
   pub told : TellsStep s k p.attempt p.writes p.causes rs' e
 
 -- The update at the place is withdrawn, and the entry tells it.
-pub record IsWithdrawal (k : ℕ) (causes : Listed CauseOfProgram) (rs rs' : List Seat) (e : Entry) : Type 0 where
+pub record IsWithdrawal (k : ℕ) (causes : Listed CauseOfProgram) (rs rs' : List AuditedUpdate) (e : Entry) : Type 0 where
   pub made : IsRemoved k causes.items rs rs'
   pub told : TellsWithdrawal k causes rs' e

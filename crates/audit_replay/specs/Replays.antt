@@ -16,9 +16,9 @@ use Rattle.def_chase.specs.Mappings.{Rule}
 use Rattle.def_chase.specs.Repository.{IsRepository}
 use Rattle.lang_session.specs.Meanings.{request_of, requests_in, update_of as session_update_of}
 use Rattle.def_steps.specs.Chase.{caused_chase}
-use Rattle.audit_updates.specs.Seatings.{AreFrom, update_of, updates_of}
+use Rattle.audit_updates.specs.Updates.{AreFrom, update_of, updates_of}
 use Rattle.audit_updates.specs.Settings.{settings_of}
-use Rattle.audit_updates.specs.declared.seats.Seat.{Seat}
+use Rattle.audit_updates.specs.declared.updates.AuditedUpdate.{AuditedUpdate}
 use Rattle.audit_replay.specs.Places.{StandOn}
 use Rattle.audit_replay.specs.declared.events.Event.{Event as EventOfProgram}
 use Rattle.audit_replay.specs.declared.events.Event.TheVariants as events
@@ -102,11 +102,11 @@ abbrev pub IsWholeReplay : Replay → Bool → Type 0
 IsWholeReplay r b = (g : Ground) (H : List PlainEntry) → IsReplayOf g H r → b ≡ (length (updates_after g H) == length g.requests)
 
 -- The place of the update of this number, where there is one.
-abbrev pub place_in : List Seat → ℕ → Option ℕ
+abbrev pub place_in : List AuditedUpdate → ℕ → Option ℕ
 place_in rs zero = None
 place_in rs (suc k) = if nat_lt k (length rs) then Some k else None
 
 -- This is what the update at the place may do next.
-abbrev pub HasStandingAt : Settings → List Seat → ℕ → Standing → Type 0
+abbrev pub HasStandingAt : Settings → List AuditedUpdate → ℕ → Standing → Type 0
 HasStandingAt s rs k st =
-    (ms : List Rule) (B : ℕ) (r : Seat) → slice_get rs k ≡ Some r → standing_of st ≡ standing (caused_chase ms B) s (committed (caused_chase ms B) (updates_of ms B rs)) (suc k) (update_of ms B r)
+    (ms : List Rule) (B : ℕ) (r : AuditedUpdate) → slice_get rs k ≡ Some r → standing_of st ≡ standing (caused_chase ms B) s (committed (caused_chase ms B) (updates_of ms B rs)) (suc k) (update_of ms B r)

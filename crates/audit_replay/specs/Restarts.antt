@@ -5,23 +5,23 @@ use Rattle.def_machine.specs.Cascade.{anew, has_number, restarted}
 use Rattle.def_chase.specs.Mappings.{Rule}
 use Rattle.def_steps.specs.Chase.{caused_chase}
 use Rattle.audit_updates.specs.Renewals.{HasOneMore}
-use Rattle.audit_updates.specs.Seatings.{update_of, updates_of}
-use Rattle.audit_updates.specs.declared.seats.Seat.{Seat}
+use Rattle.audit_updates.specs.Updates.{update_of, updates_of}
+use Rattle.audit_updates.specs.declared.updates.AuditedUpdate.{AuditedUpdate}
 use Rattle.audit_replay.specs.Causes.{readers_in}
 
 -- One more attempt at each of the updates has a number.
-abbrev pub AllHaveOneMore : List Seat → Type 0
+abbrev pub AllHaveOneMore : List AuditedUpdate → Type 0
 AllHaveOneMore [] = Unit {0}
 AllHaveOneMore (r ∷ rs) = HasOneMore r × AllHaveOneMore rs
 
 -- The update begins its next attempt where a cause is for it, and else stays as it is.
-abbrev pub HasRestartedIf : List CauseOfProgram → Seat → Seat → Type 0
+abbrev pub HasRestartedIf : List CauseOfProgram → AuditedUpdate → AuditedUpdate → Type 0
 HasRestartedIf causes r r' =
     (ms : List Rule) (B : ℕ)
     → update_of ms B r' ≡ (if has_number (readers_in causes) r.program.attempt.number then anew (caused_chase ms B) r.program.attempt.number (update_of ms B r) else update_of ms B r)
 
 -- From place k on the updates are restarted that the causes are for.
-abbrev pub HaveRestarted : ℕ → List CauseOfProgram → List Seat → List Seat → Type 0
+abbrev pub HaveRestarted : ℕ → List CauseOfProgram → List AuditedUpdate → List AuditedUpdate → Type 0
 HaveRestarted k causes rs rs' =
     (ms : List Rule) (B : ℕ)
     → updates_of ms B rs' ≡ take k (updates_of ms B rs) ++ restarted (caused_chase ms B) (readers_in causes) (suc k) (drop k (updates_of ms B rs))

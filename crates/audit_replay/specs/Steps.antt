@@ -19,13 +19,13 @@ use Rattle.def_chase.specs.Values.{Fact}
 use Rattle.chase_plan.specs.declared.plans.Plan.{Plan}
 use Rattle.def_steps.specs.Chase.{caused_chase}
 use Rattle.audit_updates.specs.Programs.{IsPlanOf}
-use Rattle.audit_updates.specs.Seatings.{AreFrom, update_of, updates_of}
-use Rattle.audit_updates.specs.declared.seats.Seat.{Seat}
+use Rattle.audit_updates.specs.Updates.{AreFrom, update_of, updates_of}
+use Rattle.audit_updates.specs.declared.updates.AuditedUpdate.{AuditedUpdate}
 use Rattle.audit_replay.specs.Causes.{causes_meant, readers_in}
 use Rattle.audit_replay.specs.Met.{AreValid}
 
 -- The seat's update is ready, in some history.
-pub record IsReadySomewhere (r : Seat) : Type 0 where
+pub record IsReadySomewhere (r : AuditedUpdate) : Type 0 where
   pub rules : List Rule
   pub budget : ℕ
   pub settings : Settings
@@ -34,27 +34,27 @@ pub record IsReadySomewhere (r : Seat) : Type 0 where
   pub ready : is_ready (standing (caused_chase rules budget) settings committed number (update_of rules budget r)) ≡ true
 
 -- It is, where so many updates are committed and it has this number.
-abbrev pub IsReadyOf : Settings → ℕ → ℕ → Seat → Type 0
+abbrev pub IsReadyOf : Settings → ℕ → ℕ → AuditedUpdate → Type 0
 IsReadyOf s c n r = (ms : List Rule) (B : ℕ) → is_ready (standing (caused_chase ms B) s c n (update_of ms B r)) ≡ true
 
 -- It is neither withdrawn nor committed, where so many are and it has this number.
-abbrev pub IsLiveOf : ℕ → ℕ → Seat → Type 0
+abbrev pub IsLiveOf : ℕ → ℕ → AuditedUpdate → Type 0
 IsLiveOf c n r = (ms : List Rule) (B : ℕ) → is_live (caused_chase ms B) c n (update_of ms B r) ≡ true
 
 -- The plan is that of a step of the seat's update, over something.
-pub record IsPlanSomewhere (plan : Plan) (r : Seat) : Type 0 where
+pub record IsPlanSomewhere (plan : Plan) (r : AuditedUpdate) : Type 0 where
   pub rules : List Rule
   pub budget : ℕ
   pub below : List Fact
   pub planned : IsPlanOf rules budget below r plan
 
 -- The seat at the place, if there is one, meets this.
-abbrev pub AtPlace : ℕ → List Seat → (Seat → Type 0) → Type 0
-AtPlace k rs P = (r : Seat) → slice_get rs k ≡ Some r → P r
+abbrev pub AtPlace : ℕ → List AuditedUpdate → (AuditedUpdate → Type 0) → Type 0
+AtPlace k rs P = (r : AuditedUpdate) → slice_get rs k ≡ Some r → P r
 
 -- These are the causes of the step of the plan, where D lies below the seat's update, which is ready, and these seats are above it: all
 -- their reads were valid before, and an attempt that is refused by the step has written nothing.
-abbrev pub AreOfStep : List Rule → Deps → ℕ → Seat → Plan → List Fact → List Seat → List CauseOfProgram → Type 0
+abbrev pub AreOfStep : List Rule → Deps → ℕ → AuditedUpdate → Plan → List Fact → List AuditedUpdate → List CauseOfProgram → Type 0
 AreOfStep ms deps c r plan D rs causes =
     (B k n : ℕ) (s : Settings) → IsPlanOf ms B D r plan → is_ready (standing (caused_chase ms B) s k n (update_of ms B r)) ≡ true
     → (hides ((caused_chase ms B).outcome (stepped (caused_chase ms B) D (update_of ms B r)).state) ≡ true → is_spent ((caused_chase ms B).outcome (stepped (caused_chase ms B) D (update_of ms B r)).state) ≡ false → trail (caused_chase ms B) (update_of ms B r) ≡ [])
@@ -63,21 +63,21 @@ AreOfStep ms deps c r plan D rs causes =
     → causes_meant ms B causes ≡ causes_of_step (caused_chase ms B) deps c r.program.attempt.number D (update_of ms B r) (stepped (caused_chase ms B) D (update_of ms B r)) (updates_of ms B rs)
 
 -- The update at the place has made the step of the plan, and those above it have restarted that the causes are for.
-abbrev pub IsStepMade : ℕ → Plan → List CauseOfProgram → List Seat → List Seat → Type 0
+abbrev pub IsStepMade : ℕ → Plan → List CauseOfProgram → List AuditedUpdate → List AuditedUpdate → Type 0
 IsStepMade k plan causes rs rs' =
-    (ms : List Rule) (B : ℕ) (D : List Fact) (r : Seat) → slice_get rs k ≡ Some r → IsPlanOf ms B D r plan
+    (ms : List Rule) (B : ℕ) (D : List Fact) (r : AuditedUpdate) → slice_get rs k ≡ Some r → IsPlanOf ms B D r plan
     → updates_of ms B rs' ≡ take k (updates_of ms B rs) ++ stepped (caused_chase ms B) D (update_of ms B r) ∷ restarted (caused_chase ms B) (readers_in causes) (suc (suc k)) (drop (suc k) (updates_of ms B rs))
 
 -- The update at the place is withdrawn, and those above it have restarted that the causes are for.
-abbrev pub IsRemoved : ℕ → List CauseOfProgram → List Seat → List Seat → Type 0
+abbrev pub IsRemoved : ℕ → List CauseOfProgram → List AuditedUpdate → List AuditedUpdate → Type 0
 IsRemoved k causes rs rs' =
-    (ms : List Rule) (B : ℕ) (r : Seat) → slice_get rs k ≡ Some r
+    (ms : List Rule) (B : ℕ) (r : AuditedUpdate) → slice_get rs k ≡ Some r
     → updates_of ms B rs' ≡ take k (updates_of ms B rs) ++ withdrawn_now (caused_chase ms B) (update_of ms B r) ∷ restarted (caused_chase ms B) (readers_in causes) (suc (suc k)) (drop (suc k) (updates_of ms B rs))
 
 -- The entry is that of a step of the update at the place, by this attempt, with these writes and causes.
-abbrev pub TellsStep : Settings → ℕ → ℕ → Listed Write → Listed CauseOfProgram → List Seat → Entry → Type 0
+abbrev pub TellsStep : Settings → ℕ → ℕ → Listed Write → Listed CauseOfProgram → List AuditedUpdate → Entry → Type 0
 TellsStep s k attempt writes causes rs e =
-    (ms : List Rule) (B : ℕ) (r : Seat) → slice_get rs k ≡ Some r
+    (ms : List Rule) (B : ℕ) (r : AuditedUpdate) → slice_get rs k ≡ Some r
     → entry_of e ≡ WasStepped (record {
       update = suc k;
       attempt = attempt;
@@ -88,32 +88,32 @@ TellsStep s k attempt writes causes rs e =
     })
 
 -- The entry is that of a withdrawal of the update at the place, with these causes.
-abbrev pub TellsWithdrawal : ℕ → Listed CauseOfProgram → List Seat → Entry → Type 0
+abbrev pub TellsWithdrawal : ℕ → Listed CauseOfProgram → List AuditedUpdate → Entry → Type 0
 TellsWithdrawal k causes rs e =
     (ms : List Rule) (B : ℕ) → entry_of e ≡ WasWithdrawn (record { update = suc k; causes = map cause_of causes.items; committed = committed (caused_chase ms B) (updates_of ms B rs) })
 
 -- The update at the place is pending, with a recorded answer.
-abbrev pub IsDeliverableOf : Settings → ℕ → List Seat → Type 0
+abbrev pub IsDeliverableOf : Settings → ℕ → List AuditedUpdate → Type 0
 IsDeliverableOf s k rs =
-    (ms : List Rule) (B : ℕ) (r : Seat) → slice_get rs k ≡ Some r → is_deliverable (caused_chase ms B) s (committed (caused_chase ms B) (updates_of ms B rs)) (suc k) (update_of ms B r) ≡ true
+    (ms : List Rule) (B : ℕ) (r : AuditedUpdate) → slice_get rs k ≡ Some r → is_deliverable (caused_chase ms B) s (committed (caused_chase ms B) (updates_of ms B rs)) (suc k) (update_of ms B r) ≡ true
 
 -- It is paused, and the choice answers its question.
-abbrev pub TakesOf : Settings → Choice → ℕ → List Seat → Type 0
+abbrev pub TakesOf : Settings → Choice → ℕ → List AuditedUpdate → Type 0
 TakesOf s a k rs =
-    (ms : List Rule) (B : ℕ) (r : Seat) → slice_get rs k ≡ Some r
+    (ms : List Rule) (B : ℕ) (r : AuditedUpdate) → slice_get rs k ≡ Some r
     → (is_paused (standing (caused_chase ms B) s (committed (caused_chase ms B) (updates_of ms B rs)) (suc k) (update_of ms B r)) && fits_question (caused_chase ms B) ((caused_chase ms B).question r.program.attempt) a) ≡ true
 
 -- The first recorded answer is delivered to the update at the place, and the entry tells it.
-abbrev pub IsDelivered : Settings → ℕ → List Seat → List Seat → Entry → Type 0
+abbrev pub IsDelivered : Settings → ℕ → List AuditedUpdate → List AuditedUpdate → Entry → Type 0
 IsDelivered s k rs rs' e =
-    (ms : List Rule) (B : ℕ) (r : Seat) → slice_get rs k ≡ Some r
+    (ms : List Rule) (B : ℕ) (r : AuditedUpdate) → slice_get rs k ≡ Some r
     → (updates_of ms B rs' ≡ take k (updates_of ms B rs) ++ delivered (caused_chase ms B) (update_of ms B r) ∷ drop (suc k) (updates_of ms B rs))
     × (entry_of e ≡ WasDelivered (record { update = suc k; standing = standing (caused_chase ms B) s (committed (caused_chase ms B) (updates_of ms B rs')) (suc k) (delivered (caused_chase ms B) (update_of ms B r)) }))
 
 -- The update at the place is answered so, and the entry tells it.
-abbrev pub IsAnswered : Settings → ℕ → Choice → List Seat → List Seat → Entry → Type 0
+abbrev pub IsAnswered : Settings → ℕ → Choice → List AuditedUpdate → List AuditedUpdate → Entry → Type 0
 IsAnswered s k a rs rs' e =
-    (ms : List Rule) (B : ℕ) (r : Seat) → slice_get rs k ≡ Some r
+    (ms : List Rule) (B : ℕ) (r : AuditedUpdate) → slice_get rs k ≡ Some r
     → (updates_of ms B rs' ≡ take k (updates_of ms B rs) ++ answered (caused_chase ms B) (update_of ms B r) a ∷ drop (suc k) (updates_of ms B rs))
     × (entry_of e
     ≡ WasAnswered (record { update = suc k; choice = a; standing = standing (caused_chase ms B) s (committed (caused_chase ms B) (updates_of ms B rs')) (suc k) (answered (caused_chase ms B) (update_of ms B r) a) }))

@@ -1,19 +1,19 @@
 //! Deliveries of recorded answers, and answers by people, at a place among the seats.
 ghost use Rattle.std.specs.Prelude.{◌<◌, length, IfOk, OnOk, OnErr};
 ghost use Rattle.base_types.specs.Meanings.{choice_of};
-ghost use Rattle.audit_updates.specs.Seatings.{AreFrom};
+ghost use Rattle.audit_updates.specs.Updates.{AreFrom};
 ghost use Rattle.audit_updates.specs.Settings.{settings_of};
 ghost use Rattle.audit_replay.specs.Steps.{IsAnswered, IsDelivered};
 
 use crate::places::standing_at;
-use audit_updates::{Seat, Settings};
+use audit_updates::{AuditedUpdate, Settings};
 use base_types::{Choice, Memory, TryCopy};
 use core_entries::Entry;
 use std::alloc::Global;
 
 /// Delivers the first recorded answer to the update at the place, and gives the entry. It is refused only for want of memory.
 pub(crate) fn deliver_to(
-    seats: &mut [Seat],
+    seats: &mut [AuditedUpdate],
     settings: Settings,
     place: usize,
 ) -> Result<Entry, Memory>
@@ -33,7 +33,7 @@ pub(crate) fn deliver_to(
 /// Answers the question of the update at the place, and gives the entry. It is refused only for want of memory.
 pub(crate) fn answer_to(
     alloc: Global,
-    seats: &mut [Seat],
+    seats: &mut [AuditedUpdate],
     settings: Settings,
     place: usize,
     choice: Choice,

@@ -12,7 +12,7 @@ ghost use Rattle.audit_replay.specs.Places.{AreBetween};
 use crate::conflicts::{Scene, put};
 use crate::levels::Levels;
 use crate::losses::{Losses, Numbered};
-use audit_updates::{Deps, Seat};
+use audit_updates::{AuditedUpdate, Deps};
 use base_types::{MappingList, Memory};
 use core_entries::{Cause, CauseList};
 use std::alloc::Global;
@@ -23,7 +23,7 @@ use std::alloc::Global;
 pub(crate) fn dependences<'r>(
     alloc: Global,
     levels: &mut Levels,
-    upper: &'r [Seat],
+    upper: &'r [AuditedUpdate],
     scene: Scene<'_>,
     deps: Deps,
     firsts: &CauseList,
@@ -45,7 +45,7 @@ pub(crate) fn dependences<'r>(
 fn dependences_above<'r>(
     alloc: Global,
     levels: &mut Levels,
-    upper: &'r [Seat],
+    upper: &'r [AuditedUpdate],
     scene: Scene<'_>,
     deps: Deps,
     firsts: &CauseList,
@@ -79,7 +79,7 @@ fn either(one: bool, other: bool) -> bool
 fn join_of(
     alloc: Global,
     levels: &Levels,
-    seat: &Seat,
+    seat: &AuditedUpdate,
     scene: Scene<'_>,
     deps: Deps,
     firsts: &CauseList,

@@ -12,7 +12,7 @@ use crate::conflicts::{Scene, conflicts};
 use crate::levels::Levels;
 use crate::losses::Losses;
 use crate::relations::relations_of;
-use audit_updates::{Deps, Seat};
+use audit_updates::{AuditedUpdate, Deps};
 use base_types::{Memory, Write};
 use core_entries::CauseList;
 use std::alloc::Global;
@@ -22,7 +22,7 @@ use std::alloc::Global;
 pub(crate) fn causes_of_loss(
     alloc: Global,
     levels: &mut Levels,
-    upper: &[Seat],
+    upper: &[AuditedUpdate],
     scene: Scene<'_>,
     deps: Deps,
     number: u32,
@@ -47,7 +47,7 @@ pub(crate) fn causes_of_loss(
 pub(crate) fn causes_of_writes(
     alloc: Global,
     levels: &mut Levels,
-    upper: &[Seat],
+    upper: &[AuditedUpdate],
     scene: Scene<'_>,
     deps: Deps,
     number: u32,
@@ -78,7 +78,7 @@ pub(crate) fn causes_of_writes(
 fn dependences_on(
     alloc: Global,
     levels: &mut Levels,
-    upper: &[Seat],
+    upper: &[AuditedUpdate],
     scene: Scene<'_>,
     deps: Deps,
     firsts: &CauseList,

@@ -3,14 +3,14 @@ ghost use Rattle.std.specs.Prelude.{◌≡◌, ◌+◌, ◌-◌, ◌<◌, ◌^�
 ghost use Rattle.std.specs.Option.{option_map};
 ghost use Rattle.base_types.specs.Contents.{rules_in};
 ghost use Rattle.base_types.specs.Meanings.{change_of, heading_of};
-ghost use Rattle.chase_query.specs.Meanings.{finds_none as finds_none_lem, passing, read_of, reads_in, reads_of, reply_of};
-ghost use Rattle.audit_replay.specs.Changes.{IsFirstChange, change_meant, first_change, first_change_behind, value_now as value_now_lem};
+ghost use Rattle.chase_query.specs.Meanings.{finds_none as finds_none_def, passing, read_of, reads_in, reads_of, reply_of};
+ghost use Rattle.audit_replay.specs.Changes.{IsFirstChange, change_meant, first_change, first_change_behind, value_now as value_now_def};
 
 use crate::relations::is_met;
-use audit_updates::Seat;
+use audit_updates::AuditedUpdate;
 use base_types::{Direction, MappingList, Memory, TryCopy, Write};
 use chase_eval::View;
-use chase_query::{Answer, Logged, LoggedRead, Passage, finds_none};
+use chase_query::{Logged, LoggedRead, Passage, Reply, finds_none};
 use set_facts::IndexedFacts;
 use std::alloc::Global;
 
@@ -20,14 +20,14 @@ use std::alloc::Global;
 pub(crate) struct Change {
     pub(crate) number: u64,
     pub(crate) read: LoggedRead,
-    pub(crate) now: Answer,
+    pub(crate) now: Reply,
 }
 
 /// The first read of the update's log that mentions one of the relations and has another value, where the facts lie below
 /// the update. It is refused only for want of memory.
 pub(crate) fn changed_read(
     alloc: Global,
-    seat: &Seat,
+    seat: &AuditedUpdate,
     mappings: &MappingList,
     below: &IndexedFacts,
     relations: &[u16],
@@ -149,7 +149,7 @@ fn changed_mapping(
     requires fits { before + 1 < 2 ^ 64 }
     ensures first { IfOk result (λ found. option_map change_meant found ≡
         first_change_behind before (rules_in mappings.now) relations.now (heading_of direction)
-        below.now (map change_of own.now) (finds_none_lem mapping made ∷ [])) }
+        below.now (map change_of own.now) (finds_none_def mapping made ∷ [])) }
 {
     let read = finds_none(mapping, made);
     let change = changed_at(
@@ -197,9 +197,9 @@ fn value_now(
     below: &IndexedFacts,
     own: &[Write],
     direction: Direction,
-) -> Result<Answer, Memory>
+) -> Result<Reply, Memory>
     ensures value { IfOk result (λ answer. reply_of answer ≡
-        value_now_lem (rules_in mappings.now) (heading_of direction) below.now
+        value_now_def (rules_in mappings.now) (heading_of direction) below.now
         (map change_of own.now) (read_of read.now)) }
 {
     let mut view = View::new(alloc, below);

@@ -4,15 +4,15 @@ ghost use Rattle.std.specs.Option.{option_map};
 ghost use Rattle.base_types.specs.Contents.{rules_in};
 ghost use Rattle.core_entries.specs.Meanings.{cause_of};
 ghost use Rattle.chase_query.specs.Meanings.{reads_in};
-ghost use Rattle.audit_replay.specs.Causes.{AreMetConflicts, AreUnmet, IsMetConflict, conflict_meant, may_conflict as may_conflict_lem};
-ghost use Rattle.audit_replay.specs.Changes.{any_met as any_met_lem, change_meant};
+ghost use Rattle.audit_replay.specs.Causes.{AreMetConflicts, AreUnmet, IsMetConflict, conflict_meant, may_conflict as may_conflict_def};
+ghost use Rattle.audit_replay.specs.Changes.{any_met as any_met_def, change_meant};
 ghost use Rattle.audit_replay.specs.Levels.{RisesFrom, top};
 ghost use Rattle.audit_replay.specs.Places.{AreBetween};
 
 use crate::changes::{Change, changed_read};
 use crate::levels::Levels;
 use crate::relations::is_any_met;
-use audit_updates::Seat;
+use audit_updates::AuditedUpdate;
 use base_types::{MappingList, Memory};
 use chase_query::Logged;
 use core_entries::{Cause, CauseList};
@@ -30,7 +30,7 @@ pub(crate) struct Scene<'a> {
 pub(crate) fn conflicts(
     alloc: Global,
     levels: &mut Levels,
-    upper: &[Seat],
+    upper: &[AuditedUpdate],
     scene: Scene<'_>,
     writer: u32,
     relations: &[u16],
@@ -51,7 +51,7 @@ pub(crate) fn conflicts(
 fn conflicts_above(
     alloc: Global,
     levels: &mut Levels,
-    upper: &[Seat],
+    upper: &[AuditedUpdate],
     scene: Scene<'_>,
     writer: u32,
     relations: &[u16],
@@ -85,7 +85,7 @@ pub(crate) fn put(causes: &mut CauseList, found: Option<Cause>) -> Result<(), Me
 fn conflict_of(
     alloc: Global,
     levels: &Levels,
-    seat: &Seat,
+    seat: &AuditedUpdate,
     scene: Scene<'_>,
     writer: u32,
     relations: &[u16],
@@ -124,7 +124,7 @@ fn conflict_by(reader: u32, writer: u32, change: Option<Change>) -> Option<Cause
 }
 
 // How many of the updates stand up to the last one that may be in conflict.
-fn reach(upper: &[Seat], scene: Scene<'_>, relations: &[u16]) -> usize
+fn reach(upper: &[AuditedUpdate], scene: Scene<'_>, relations: &[u16]) -> usize
     ensures within { result ≤ length upper.now }
     ensures none { AreUnmet (rules_in scene.entry.mappings.now) scene.entry.committed relations.now
         (drop result upper.now) }
@@ -142,8 +142,8 @@ fn reach(upper: &[Seat], scene: Scene<'_>, relations: &[u16]) -> usize
 }
 
 // Whether the update is live, and a read of it mentions one of the relations.
-fn may_conflict(seat: &Seat, scene: Scene<'_>, relations: &[u16]) -> bool
-    ensures met { result ≡ may_conflict_lem (rules_in scene.entry.mappings.now)
+fn may_conflict(seat: &AuditedUpdate, scene: Scene<'_>, relations: &[u16]) -> bool
+    ensures met { result ≡ may_conflict_def (rules_in scene.entry.mappings.now)
         scene.entry.committed relations.now seat.now }
 {
     let live = seat.is_live(scene.committed, seat.number());
@@ -153,7 +153,7 @@ fn may_conflict(seat: &Seat, scene: Scene<'_>, relations: &[u16]) -> bool
 
 // Whether one of the reads mentions one of the relations.
 fn any_met(log: &[Logged], mappings: &MappingList, relations: &[u16]) -> bool
-    ensures met { result ≡ any_met_lem (rules_in mappings.now) relations.now (reads_in log.now) }
+    ensures met { result ≡ any_met_def (rules_in mappings.now) relations.now (reads_in log.now) }
 {
     log.iter()
         .any(|entry| is_any_met(entry, mappings, relations))

@@ -1,13 +1,13 @@
 //! What is lost below an update: the trails of the members, which are the updates that go.
-ghost use Rattle.std.specs.Prelude.{◌≡◌, ◌||◌, ◌+◌, ◌-◌, ◌<◌, ◌^◌, [], ◌∷◌, length, map, true, IfOk, OnOk, is_some as is_some_lem};
+ghost use Rattle.std.specs.Prelude.{◌≡◌, ◌||◌, ◌+◌, ◌-◌, ◌<◌, ◌^◌, [], ◌∷◌, length, map, true, IfOk, OnOk, is_some as is_some_def};
 ghost use Rattle.std.specs.List.{list_any};
 ghost use Rattle.std.specs.Option.{option_map};
 ghost use Rattle.base_types.specs.Contents.{rules_in};
 ghost use Rattle.base_types.specs.Meanings.{change_of};
 ghost use Rattle.def_machine.specs.Reads.{first_that};
 ghost use Rattle.def_machine.specs.Updates.{Precise};
-ghost use Rattle.chase_query.specs.Meanings.{finds_none as finds_none_lem, passing, read_of, reads_in, reads_of};
-ghost use Rattle.def_chase.specs.Mentions.{mentions as mentions_lem};
+ghost use Rattle.chase_query.specs.Meanings.{finds_none as finds_none_def, passing, read_of, reads_in, reads_of};
+ghost use Rattle.def_chase.specs.Mentions.{mentions as mentions_def};
 ghost use Rattle.audit_updates.specs.Programs.{IsBetween};
 ghost use Rattle.audit_updates.specs.Settings.{deps_of};
 ghost use Rattle.audit_replay.specs.Causes.{AreTold, IsFirstDependent, LeavesBelow, Loses, least_writer, numbered_of};
@@ -18,7 +18,7 @@ ghost use Rattle.audit_replay.specs.Levels.{RisesFrom, top};
 use crate::changes::changed_read;
 use crate::levels::Levels;
 use crate::relations::{is_met, put_relations, relation_of};
-use audit_updates::{Deps, Seat};
+use audit_updates::{AuditedUpdate, Deps};
 use base_types::{MappingList, Memory, TryCopy, Write};
 use chase_query::{Logged, LoggedRead, Passage, finds_none, mentions};
 use std::alloc::Global;
@@ -72,7 +72,7 @@ impl<'r> Losses<'r> {
         alloc: Global,
         levels: &mut Levels,
         goes: bool,
-        seat: &'r Seat,
+        seat: &'r AuditedUpdate,
     ) -> Result<(), Memory>
         requires between { IsBetween seat.now.program }
         ensures left { OnOk result
@@ -94,7 +94,7 @@ impl<'r> Losses<'r> {
         &self,
         alloc: Global,
         levels: &Levels,
-        seat: &Seat,
+        seat: &AuditedUpdate,
         mappings: &MappingList,
         deps: Deps,
     ) -> Result<Option<Numbered>, Memory>
@@ -112,7 +112,7 @@ impl<'r> Losses<'r> {
         &self,
         alloc: Global,
         levels: &Levels,
-        seat: &Seat,
+        seat: &AuditedUpdate,
         mappings: &MappingList,
     ) -> Result<Option<Numbered>, Memory>
         ensures first { IfOk result (IsFirstDependent Precise
@@ -207,7 +207,7 @@ impl<'r> Losses<'r> {
         requires fits { before + 1 < 2 ^ 64 }
         ensures first { IfOk result (λ found. option_map numbered_of found ≡
             first_behind (is_read_met (rules_in mappings.now) self.now.relations.items) before
-            (finds_none_lem mapping made ∷ [])) }
+            (finds_none_def mapping made ∷ [])) }
     {
         let read = finds_none(mapping, made);
         let found = self.met_at(alloc, before, &read, mappings)?;
@@ -253,7 +253,7 @@ impl<'r> Losses<'r> {
 // Whether the read mentions a relation of which one of the writes is.
 fn reaches(trail: &[Write], read: &LoggedRead, mappings: &MappingList) -> bool
     ensures reached { result ≡
-        any_of (mentions_lem (rules_in mappings.now) (read_of read.now).query)
+        any_of (mentions_def (rules_in mappings.now) (read_of read.now).query)
         (map change_of trail.now) }
 {
     trail.iter().any(|write| mentions(&read.query, mappings, relation_of(write)))

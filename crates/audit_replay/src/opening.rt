@@ -12,7 +12,7 @@ ghost use Rattle.audit_replay.specs.Steps.{IsDeliverableOf, TakesOf};
 use crate::answering::{answer_to, deliver_to};
 use crate::levels::Levels;
 use crate::replays::Replay;
-use audit_updates::{Seat, Settings, committed};
+use audit_updates::{AuditedUpdate, Settings, committed};
 use base_limits::Budget;
 use base_types::{Choice, Memory};
 use core_entries::Entry;
@@ -60,7 +60,7 @@ impl<'s> Replay<'s> {
             return Ok(None);
         };
         let update = number_at(place);
-        let seat = Seat::admit(alloc, &next.update, update, &next.answers)?;
+        let seat = AuditedUpdate::admit(alloc, &next.update, update, &next.answers)?;
         self.seats.push(seat)?;
         Ok(Some(Entry::Admitted { update }))
     }

@@ -1,12 +1,12 @@
 //! Where the levels of a replay stand among its updates, and what the update at a place may do next.
 ghost use Rattle.std.specs.Prelude.{◌≡◌, ◌≤◌, ◌<◌, ◌+◌, drop, length, suc, OnOk};
-ghost use Rattle.audit_updates.specs.Seatings.{AreFrom};
+ghost use Rattle.audit_updates.specs.Updates.{AreFrom};
 ghost use Rattle.audit_updates.specs.Settings.{settings_of};
 ghost use Rattle.audit_replay.specs.Places.{AreBetween, HaveCome, HaveRisen, StandStill};
 ghost use Rattle.audit_replay.specs.Replays.{HasStandingAt};
 
 use crate::levels::Levels;
-use audit_updates::{Seat, Settings, committed};
+use audit_updates::{AuditedUpdate, Settings, committed};
 use base_types::Memory;
 use core_entries::Standing;
 use std::alloc::Global;
@@ -15,7 +15,7 @@ use std::alloc::Global;
 pub(crate) fn go_to(
     alloc: Global,
     levels: &mut Levels,
-    seats: &[Seat],
+    seats: &[AuditedUpdate],
     place: usize,
 ) -> Result<(), Memory>
     requires within { place ≤ length seats.now }
@@ -39,7 +39,12 @@ fn sink_below(levels: &mut Levels, place: usize) -> Result<(), Memory>
 }
 
 // Rises until so many levels are there above the lowest. It is refused only for want of memory.
-fn rise_to(alloc: Global, levels: &mut Levels, seats: &[Seat], place: usize) -> Result<(), Memory>
+fn rise_to(
+    alloc: Global,
+    levels: &mut Levels,
+    seats: &[AuditedUpdate],
+    place: usize,
+) -> Result<(), Memory>
     requires within { place ≤ length seats.now }
     requires between { AreBetween seats.now }
     requires most { length levels.old ≤ place + 1 }
@@ -53,7 +58,7 @@ fn rise_to(alloc: Global, levels: &mut Levels, seats: &[Seat], place: usize) -> 
 }
 
 /// What the update at the place may do next. It takes no memory.
-pub(crate) fn standing_at(seats: &[Seat], settings: Settings, place: usize) -> Standing
+pub(crate) fn standing_at(seats: &[AuditedUpdate], settings: Settings, place: usize) -> Standing
     requires within { place < length seats.now }
     requires numbers { AreFrom 1 seats.now }
     ensures standing { HasStandingAt (settings_of settings) seats.now place result }
@@ -63,7 +68,7 @@ pub(crate) fn standing_at(seats: &[Seat], settings: Settings, place: usize) -> S
 }
 
 /// The updates above the one at the place. It takes no memory.
-pub(crate) fn above(seats: &[Seat], place: usize) -> &[Seat]
+pub(crate) fn above(seats: &[AuditedUpdate], place: usize) -> &[AuditedUpdate]
     requires within { place < length seats.now }
     ensures above { result.now ≡ drop (suc place) seats.now }
 {

@@ -4,7 +4,7 @@ ghost use Rattle.std.specs.List.{list_any};
 ghost use Rattle.base_types.specs.Contents.{rules_in};
 ghost use Rattle.base_types.specs.Meanings.{change_of};
 ghost use Rattle.chase_query.specs.Meanings.{query_of, reads_of};
-ghost use Rattle.def_steps.specs.Chase.{relation_of as relation_of_lem};
+ghost use Rattle.def_steps.specs.Chase.{relation_of as relation_of_def};
 ghost use Rattle.audit_replay.specs.Changes.{any_met, meets};
 ghost use Rattle.audit_replay.specs.Relations.{AreRelationsOf, HasMore, HasOneMore};
 
@@ -54,7 +54,7 @@ fn has(relations: &[u16], relation: u16) -> bool
 
 /// The relation of the tuple that is written. It takes no memory.
 pub(crate) fn relation_of(write: &Write) -> u16
-    ensures relation { result ≡ relation_of_lem (change_of write.now) }
+    ensures relation { result ≡ relation_of_def (change_of write.now) }
 {
     match write {
         Write::Insert(tuple) => tuple.relation,

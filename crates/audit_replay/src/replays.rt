@@ -4,7 +4,7 @@ ghost use Rattle.audit_replay.specs.Replays.{HasMade, HasCount, IsLeftOf, IsQuie
 
 use crate::events::Event;
 use crate::levels::Levels;
-use audit_updates::{Seat, Settings, is_quiet};
+use audit_updates::{AuditedUpdate, Settings, is_quiet};
 use base_limits::{Budget, Mappings};
 use base_types::Memory;
 use core_entries::Entry;
@@ -19,7 +19,7 @@ pub struct Replay<'s> {
     pub budget: Budget,
     pub settings: Settings,
     pub handed: &'s [SessionUpdate],
-    pub seats: Vec<Seat>,
+    pub seats: Vec<AuditedUpdate>,
     pub levels: Levels,
 }
 

@@ -3,9 +3,9 @@ ghost use Rattle.std.specs.Prelude.{◌≡◌, ◌<◌, ◌≤◌, drop, map, le
 ghost use Rattle.base_types.specs.Contents.{rules_in};
 ghost use Rattle.base_types.specs.Meanings.{change_of};
 ghost use Rattle.audit_updates.specs.Programs.{HasWritten, IsBetween, IsPlanOf};
-ghost use Rattle.audit_updates.specs.Seatings.{AreFrom};
+ghost use Rattle.audit_updates.specs.Updates.{AreFrom};
 ghost use Rattle.audit_updates.specs.Settings.{deps_of, settings_of};
-ghost use Rattle.audit_updates.specs.Walks.{HasCommitted};
+ghost use Rattle.audit_updates.specs.Order.{HasCommitted};
 ghost use Rattle.audit_replay.specs.declared.events.Event.TheVariants as events;
 ghost use Rattle.audit_replay.specs.Levels.{top};
 ghost use Rattle.audit_replay.specs.Places.{AreBetween};
@@ -20,7 +20,7 @@ use crate::levels::Levels;
 use crate::places::{above, go_to, standing_at};
 use crate::replays::Replay;
 use crate::restarts::restart_named;
-use audit_updates::{Deps, Seat, Settings, committed, has_spent, shown};
+use audit_updates::{AuditedUpdate, Deps, Settings, committed, has_spent, shown};
 use base_limits::{Budget, Mappings};
 use base_types::{Memory, TryCopy, Write, WriteList};
 use chase_eval::Settled;
@@ -85,7 +85,7 @@ pub(crate) struct Prepared {
 fn prepare(
     alloc: Global,
     levels: &mut Levels,
-    seats: &[Seat],
+    seats: &[AuditedUpdate],
     place: usize,
     mappings: &Mappings<'_>,
     budget: Budget,
@@ -127,8 +127,8 @@ fn prepare(
 fn told_of_step(
     alloc: Global,
     levels: &mut Levels,
-    seat: &Seat,
-    upper: &[Seat],
+    seat: &AuditedUpdate,
+    upper: &[AuditedUpdate],
     scene: Scene<'_>,
     deps: Deps,
     plan: &Plan,
@@ -150,7 +150,7 @@ fn told_of_step(
 // Makes the step at the place, and gives its entry. It is refused only for want of memory.
 fn install(
     alloc: Global,
-    seats: &mut [Seat],
+    seats: &mut [AuditedUpdate],
     settings: Settings,
     place: usize,
     prepared: Prepared,
@@ -181,7 +181,7 @@ fn planned(
     mappings: &Mappings<'_>,
     budget: Budget,
     facts: &IndexedFacts,
-    seat: &Seat,
+    seat: &AuditedUpdate,
 ) -> Result<Plan, Memory>
     requires between { IsBetween seat.now.program }
     requires ready { IsReadySomewhere seat.now }
@@ -200,7 +200,7 @@ fn planned_over<'f>(
     budget: Budget,
     facts: &'f IndexedFacts,
     with: &mut Overlay<'f, IndexedFacts>,
-    seat: &Seat,
+    seat: &AuditedUpdate,
 ) -> Result<Plan, Memory>
     requires between { IsBetween seat.now.program }
     requires ready { IsReadySomewhere seat.now }
@@ -232,8 +232,8 @@ fn planned_over<'f>(
 fn causes_of_step(
     alloc: Global,
     levels: &mut Levels,
-    seat: &Seat,
-    upper: &[Seat],
+    seat: &AuditedUpdate,
+    upper: &[AuditedUpdate],
     scene: Scene<'_>,
     deps: Deps,
     plan: &Plan,
@@ -261,7 +261,7 @@ fn causes_of_step(
 // Makes the step of the plan at the place, which restarts others for these causes. It is refused only for want of memory.
 fn make_step(
     alloc: Global,
-    seats: &mut [Seat],
+    seats: &mut [AuditedUpdate],
     place: usize,
     plan: Plan,
     causes: &CauseList,
@@ -281,7 +281,7 @@ fn make_step(
 
 // The entry of a step of the update at the place, by this attempt, with these writes and causes.
 fn step_entry(
-    seats: &[Seat],
+    seats: &[AuditedUpdate],
     settings: Settings,
     place: usize,
     attempt: u32,

@@ -1,9 +1,9 @@
 //! Withdrawals.
 ghost use Rattle.std.specs.Prelude.{◌≡◌, ◌<◌, drop, length, suc, IfOk, OnOk, OnErr};
 ghost use Rattle.base_types.specs.Contents.{rules_in};
-ghost use Rattle.audit_updates.specs.Seatings.{AreFrom};
+ghost use Rattle.audit_updates.specs.Updates.{AreFrom};
 ghost use Rattle.audit_updates.specs.Settings.{deps_of};
-ghost use Rattle.audit_updates.specs.Walks.{HasCommitted};
+ghost use Rattle.audit_updates.specs.Order.{HasCommitted};
 ghost use Rattle.audit_replay.specs.Causes.{AreOfLoss};
 ghost use Rattle.audit_replay.specs.Levels.{top};
 ghost use Rattle.audit_replay.specs.Places.{trail_of};
@@ -19,7 +19,7 @@ use crate::levels::Levels;
 use crate::places::{above, go_to};
 use crate::replays::Replay;
 use crate::restarts::restart_named;
-use audit_updates::{Deps, Seat, committed};
+use audit_updates::{AuditedUpdate, Deps, committed};
 use base_types::{MappingList, Memory};
 use core_entries::{CauseList, Entry};
 use std::alloc::Global;
@@ -68,7 +68,7 @@ impl<'s> Replay<'s> {
 fn prepare(
     alloc: Global,
     levels: &mut Levels,
-    seats: &[Seat],
+    seats: &[AuditedUpdate],
     place: usize,
     mappings: &MappingList,
     deps: Deps,
@@ -96,7 +96,7 @@ fn prepare(
 // Withdraws the update at the place, and gives the entry. It is refused only for want of memory.
 fn remove(
     alloc: Global,
-    seats: &mut [Seat],
+    seats: &mut [AuditedUpdate],
     place: usize,
     causes: CauseList,
 ) -> Result<Entry, Memory>
@@ -115,7 +115,7 @@ fn remove(
 // Withdraws the update at the place, which restarts others for these causes. It is refused only for want of memory.
 fn make_withdrawal(
     alloc: Global,
-    seats: &mut [Seat],
+    seats: &mut [AuditedUpdate],
     place: usize,
     causes: &CauseList,
 ) -> Result<(), Memory>
@@ -132,7 +132,7 @@ fn make_withdrawal(
 }
 
 // The entry of a withdrawal of the update at the place, with these causes.
-fn withdrawal_entry(seats: &[Seat], place: usize, causes: CauseList) -> Entry
+fn withdrawal_entry(seats: &[AuditedUpdate], place: usize, causes: CauseList) -> Entry
     requires within { place < length seats.now }
     requires numbers { AreFrom 1 seats.now }
     ensures told { TellsWithdrawal place causes seats.now result }

@@ -26,11 +26,11 @@ use Rattle.def_steps.specs.Chase.{caused_chase, ending}
 use Rattle.std.specs.Option.{option_map}
 use Rattle.audit_updates.specs.Events.{HasStepped, KeepsPlaceBy}
 use Rattle.audit_updates.specs.Programs.{IsPlanOf}
-use Rattle.audit_updates.specs.Seatings.{logged, update_of}
-use Rattle.audit_updates.specs.declared.seats.Seat.{Seat}
+use Rattle.audit_updates.specs.Updates.{logged, update_of}
+use Rattle.audit_updates.specs.declared.updates.AuditedUpdate.{AuditedUpdate}
 
 -- Behind the step the log is that of the step.
-logs : (ms : List Rule) (B : ℕ) (D : List Fact) (r : Seat) (plan : Plan) (log : List Logged) → IsPlanOf ms B D r plan → log ≡ r.log.items ++ plan.reads.items
+logs : (ms : List Rule) (B : ℕ) (D : List Fact) (r : AuditedUpdate) (plan : Plan) (log : List Logged) → IsPlanOf ms B D r plan → log ≡ r.log.items ++ plan.reads.items
     → map (logged ms B) (reads_in log) ≡ map (logged ms B) (reads_in r.log.items) ++ step_log (caused_chase ms B) r.program.attempt.operation D (map choice_of r.answers.items) r.program.attempt
 logs ms B D r plan log p e =
     let P = r.program.attempt in
@@ -43,7 +43,7 @@ logs ms B D r plan log p e =
     ∙ (λ i. before ++ map-map (logged ms B) (read_after (length P.own)) (log_of (answers_over ms D P) (step ms P c)) i)))
 
 -- With the attempt and the reads of the plan taken over, the step is made.
-pub stepped_by : (ms : List Rule) (B : ℕ) (D : List Fact) (r : Seat) (plan : Plan) (log : List Logged) → IsPlanOf ms B D r plan → log ≡ r.log.items ++ plan.reads.items
+pub stepped_by : (ms : List Rule) (B : ℕ) (D : List Fact) (r : AuditedUpdate) (plan : Plan) (log : List Logged) → IsPlanOf ms B D r plan → log ≡ r.log.items ++ plan.reads.items
     → ◌≡◌ {A = Update (caused_chase ms B)}
     (record {
       operation = plan.program.attempt.operation;
@@ -83,7 +83,7 @@ none_behind false own more ws n e h l =
     absurd (omega (arith, long, e, l))
 
 -- Behind the writes that were shown before come those of the step.
-pub written : (ms : List Rule) (B : ℕ) (D : List Fact) (r : Seat) (plan : Plan) (ws vs : List Write) (n : ℕ) → IsPlanOf ms B D r plan → map change_of ws ≡ shown (caused_chase ms B) plan.program.attempt
+pub written : (ms : List Rule) (B : ℕ) (D : List Fact) (r : AuditedUpdate) (plan : Plan) (ws vs : List Write) (n : ℕ) → IsPlanOf ms B D r plan → map change_of ws ≡ shown (caused_chase ms B) plan.program.attempt
     → n ≡ length r.program.attempt.own → vs ≡ take (length ws - n) (drop n ws) → map change_of vs ≡ step_writes (caused_chase ms B) D (update_of ms B r)
 written ms B D r plan ws vs n p h e f =
     let P = r.program.attempt in
@@ -93,7 +93,7 @@ written ms B D r plan ws vs n p h e f =
     ∙ behind (hides (option_map ending (outcome_in (next_attempt ms B D P c).phase))) P.own m.writes ws n e (h ∙ ap (λ (t : State). shown (caused_chase ms B) t.attempt) p.program)
 
 -- Where fewer are shown than were made before, the step shows none.
-pub unwritten : (ms : List Rule) (B : ℕ) (D : List Fact) (r : Seat) (plan : Plan) (ws : List Write) (n : ℕ) → IsPlanOf ms B D r plan → map change_of ws ≡ shown (caused_chase ms B) plan.program.attempt
+pub unwritten : (ms : List Rule) (B : ℕ) (D : List Fact) (r : AuditedUpdate) (plan : Plan) (ws : List Write) (n : ℕ) → IsPlanOf ms B D r plan → map change_of ws ≡ shown (caused_chase ms B) plan.program.attempt
     → n ≡ length r.program.attempt.own → length ws < n → [] ≡ step_writes (caused_chase ms B) D (update_of ms B r)
 unwritten ms B D r plan ws n p h e l =
     let P = r.program.attempt in
@@ -104,14 +104,14 @@ unwritten ms B D r plan ws n p h e l =
 -- ---- a log with more room
 
 -- The seat with this log.
-abbrev with_log : Seat → Listed Logged → Seat
+abbrev with_log : AuditedUpdate → Listed Logged → AuditedUpdate
 with_log r log = record { program = r.program; log = log; withdrawn = r.withdrawn; answers = r.answers; inbox = r.inbox }
 
 -- What a step makes of a seat rests on the reads of its log alone.
-pub stepped_roomy : (r : Seat) (log : Listed Logged) (plan : Plan) (r' : Seat) → log.items ≡ r.log.items → HasStepped plan (with_log r log) r' → HasStepped plan r r'
+pub stepped_roomy : (r : AuditedUpdate) (log : Listed Logged) (plan : Plan) (r' : AuditedUpdate) → log.items ≡ r.log.items → HasStepped plan (with_log r log) r' → HasStepped plan r r'
 stepped_roomy r log plan r' e h ms B D p =
     h ms B D (record { program = p.program; reads = p.reads })
     ∙ ap (λ (xs : List Logged). stepped (caused_chase ms B) D (update_of ms B (with_log r (record { items = xs; spare = log.spare })))) e
 
-pub placed_roomy : (r : Seat) (log : Listed Logged) (plan : Plan) (r' : Seat) → KeepsPlaceBy plan (with_log r log) r' → KeepsPlaceBy plan r r'
+pub placed_roomy : (r : AuditedUpdate) (log : Listed Logged) (plan : Plan) (r' : AuditedUpdate) → KeepsPlaceBy plan (with_log r log) r' → KeepsPlaceBy plan r r'
 placed_roomy r log plan r' h ms B D n p s = h ms B D n (record { program = p.program; reads = p.reads }) (record { number = s.number; between = s.between })

@@ -11,38 +11,38 @@ use Rattle.def_chase.specs.Mappings.{Rule}
 use Rattle.chase_plan.specs.declared.plans.Plan.{Plan}
 use Rattle.def_steps.specs.Chase.{caused_chase}
 use Rattle.audit_updates.specs.Programs.{IsPlanOf}
-use Rattle.audit_updates.specs.Seatings.{update_of, StandsAt}
-use Rattle.audit_updates.specs.declared.seats.Seat.{Seat}
+use Rattle.audit_updates.specs.Updates.{update_of, StandsAt}
+use Rattle.audit_updates.specs.declared.updates.AuditedUpdate.{AuditedUpdate}
 
 -- The seat is still the update of that number, between two steps.
-abbrev pub KeepsPlace : Seat → Seat → Type 0
+abbrev pub KeepsPlace : AuditedUpdate → AuditedUpdate → Type 0
 KeepsPlace r r' = (n : ℕ) → StandsAt n r → StandsAt n r'
 
 -- The seats stand for the same update, at the same moment of the same attempt.
-abbrev pub IsSame : Seat → Seat → Type 0
+abbrev pub IsSame : AuditedUpdate → AuditedUpdate → Type 0
 IsSame r r' = (r'.program ≡ r.program) × ((ms : List Rule) (B : ℕ) → update_of ms B r' ≡ update_of ms B r)
 
 -- Update n as it is when it is admitted, with these answers recorded.
-abbrev pub IsAdmitted : ℕ → Update → Listed Choice → Seat → Type 0
+abbrev pub IsAdmitted : ℕ → Update → Listed Choice → AuditedUpdate → Type 0
 IsAdmitted n u cs r =
     (ms : List Rule) (B : ℕ) → update_of ms B r ≡ admitted (caused_chase ms B) n (record { operation = operation_of u.operation; answers = map choice_of cs.items })
 
 -- The step of the plan is made.
-abbrev pub HasStepped : Plan → Seat → Seat → Type 0
+abbrev pub HasStepped : Plan → AuditedUpdate → AuditedUpdate → Type 0
 HasStepped plan r r' = (ms : List Rule) (B : ℕ) (D : List Fact) → IsPlanOf ms B D r plan → update_of ms B r' ≡ stepped (caused_chase ms B) D (update_of ms B r)
 
 -- The seat is still that update where the plan is that of its step.
-abbrev pub KeepsPlaceBy : Plan → Seat → Seat → Type 0
+abbrev pub KeepsPlaceBy : Plan → AuditedUpdate → AuditedUpdate → Type 0
 KeepsPlaceBy plan r r' = (ms : List Rule) (B : ℕ) (D : List Fact) (n : ℕ) → IsPlanOf ms B D r plan → StandsAt n r → StandsAt n r'
 
 -- The first recorded answer is delivered, if there is one.
-abbrev pub HasDelivered : Seat → Seat → Type 0
+abbrev pub HasDelivered : AuditedUpdate → AuditedUpdate → Type 0
 HasDelivered r r' = (ms : List Rule) (B : ℕ) → update_of ms B r' ≡ delivered (caused_chase ms B) (update_of ms B r)
 
 -- The choice is the next answer, and later ones are dropped.
-abbrev pub HasAnswered : Choice → Seat → Seat → Type 0
+abbrev pub HasAnswered : Choice → AuditedUpdate → AuditedUpdate → Type 0
 HasAnswered c r r' = (ms : List Rule) (B : ℕ) → update_of ms B r' ≡ answered (caused_chase ms B) (update_of ms B r) (choice_of c)
 
 -- The update is withdrawn.
-abbrev pub HasWithdrawn : Seat → Seat → Type 0
+abbrev pub HasWithdrawn : AuditedUpdate → AuditedUpdate → Type 0
 HasWithdrawn r r' = (ms : List Rule) (B : ℕ) → update_of ms B r' ≡ withdrawn_now (caused_chase ms B) (update_of ms B r)

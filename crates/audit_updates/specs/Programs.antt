@@ -18,8 +18,8 @@ use Rattle.chase_question.specs.Inquiries.{Inquiry, inquiry_in}
 use Rattle.chase_query.specs.Meanings.{reads_in}
 use Rattle.def_steps.specs.Attempts.{outcome_in, question_in}
 use Rattle.def_steps.specs.Chase.{caused_chase, ending}
-use Rattle.audit_updates.specs.Seatings.{update_of}
-use Rattle.audit_updates.specs.declared.seats.Seat.{Seat}
+use Rattle.audit_updates.specs.Updates.{update_of}
+use Rattle.audit_updates.specs.declared.updates.AuditedUpdate.{AuditedUpdate}
 
 -- It is between two steps.
 abbrev pub IsBetween : State → Type 0
@@ -70,14 +70,14 @@ abbrev pub HasShown : State → List Write → Type 0
 HasShown s ws = (ms : List Rule) (B : ℕ) → map change_of ws ≡ shown (caused_chase ms B) s.attempt
 
 -- The next answer for the seat's attempt: there is one only where it is at a question.
-abbrev pub HasNext : Seat → Option Choice → Type 0
+abbrev pub HasNext : AuditedUpdate → Option Choice → Type 0
 HasNext r c = (ms : List Rule) (B : ℕ) → c ≡ next_answer (caused_chase ms B) (map choice_of r.answers.items) r.program.attempt
 
 -- The plan is that of the seat's next step over D.
-pub record IsPlanOf (ms : List Rule) (B : ℕ) (D : List Fact) (r : Seat) (plan : Plan) : Type 0 where
+pub record IsPlanOf (ms : List Rule) (B : ℕ) (D : List Fact) (r : AuditedUpdate) (plan : Plan) : Type 0 where
   pub program : plan.program ≡ at_rest (next_attempt ms B D r.program.attempt (next_answer (caused_chase ms B) (map choice_of r.answers.items) r.program.attempt))
   pub reads : reads_in plan.reads.items ≡ next_reads ms D r.program.attempt (next_answer (caused_chase ms B) (map choice_of r.answers.items) r.program.attempt)
 
 -- These are the writes that the step shows.
-abbrev pub HasWritten : Seat → Plan → List Write → Type 0
+abbrev pub HasWritten : AuditedUpdate → Plan → List Write → Type 0
 HasWritten r plan ws = (ms : List Rule) (B : ℕ) (D : List Fact) → IsPlanOf ms B D r plan → map change_of ws ≡ step_writes (caused_chase ms B) D (update_of ms B r)

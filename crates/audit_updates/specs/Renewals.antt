@@ -3,13 +3,13 @@ use Rattle.std.specs.Prelude.{◌≡◌, ℕ, ◌+◌, ◌<◌, ◌^◌, List}
 use Rattle.def_machine.specs.Cascade.{anew}
 use Rattle.def_chase.specs.Mappings.{Rule}
 use Rattle.def_steps.specs.Chase.{caused_chase}
-use Rattle.audit_updates.specs.Seatings.{update_of}
-use Rattle.audit_updates.specs.declared.seats.Seat.{Seat}
+use Rattle.audit_updates.specs.Updates.{update_of}
+use Rattle.audit_updates.specs.declared.updates.AuditedUpdate.{AuditedUpdate}
 
 -- One more attempt has a number.
-abbrev pub HasOneMore : Seat → Type 0
+abbrev pub HasOneMore : AuditedUpdate → Type 0
 HasOneMore r = r.program.attempt.attempt + 1 < 2 ^ 32
 
 -- The update begins its next attempt.
-abbrev pub HasRestarted : Seat → Seat → Type 0
+abbrev pub HasRestarted : AuditedUpdate → AuditedUpdate → Type 0
 HasRestarted r r' = (ms : List Rule) (B : ℕ) → update_of ms B r' ≡ anew (caused_chase ms B) r.program.attempt.number (update_of ms B r)

@@ -10,8 +10,8 @@ use Rattle.chase_plan.specs.Planned.{WantsStep}
 use Rattle.chase_update.specs.Wishes.{End, end_in, wish}
 use Rattle.def_steps.specs.Attempts.{Outcome}
 use Rattle.def_steps.specs.Chase.{caused_chase, ending}
-use Rattle.audit_updates.specs.Seatings.{update_of}
-use Rattle.audit_updates.specs.declared.seats.Seat.{Seat}
+use Rattle.audit_updates.specs.Updates.{update_of}
+use Rattle.audit_updates.specs.declared.updates.AuditedUpdate.{AuditedUpdate}
 
 -- What lacks for what is asked, with the next answer if there is one.
 abbrev pub unless_fits : Inquiry → Option Choice → Option Lack
@@ -19,15 +19,15 @@ unless_fits i None = Some Missing
 unless_fits i (Some c) = if fits_inquiry i c then None else Some Misfit
 
 -- This is what the attempt lacks, if it is at a question and something is lacking.
-abbrev pub HasLack : Seat → Option Lack → Type 0
+abbrev pub HasLack : AuditedUpdate → Option Lack → Type 0
 HasLack r l = (ms : List Rule) (B : ℕ) → l ≡ lack (caused_chase ms B) (map choice_of r.answers.items) r.program.attempt
 
 -- Whether it was restarted too often to go on beside lower updates.
-abbrev pub IsHeld : Settings → ℕ → ℕ → Seat → Bool → Type 0
+abbrev pub IsHeld : Settings → ℕ → ℕ → AuditedUpdate → Bool → Type 0
 IsHeld s c n r b = (ms : List Rule) (B : ℕ) → b ≡ is_held (caused_chase ms B) s c n (update_of ms B r)
 
 -- Where the update is ready, its attempt wants a step with this answer, or with none.
-abbrev pub WantsNext : Seat → Option Choice → Type 0
+abbrev pub WantsNext : AuditedUpdate → Option Choice → Type 0
 WantsNext r c =
     (ms : List Rule) (B : ℕ) (s : Settings) (k n : ℕ) → is_ready (standing (caused_chase ms B) s k n (update_of ms B r)) ≡ true → WantsStep (wish r.program) c
 
@@ -36,6 +36,6 @@ abbrev pub StandsEnded : End → Standing → Type 0
 StandsEnded e st = (o : Outcome) → end_in o ≡ e → st ≡ Ended (ending o)
 
 -- This is the standing of an update that was not withdrawn, and whose attempt has not ended.
-abbrev pub StandsGoing : Settings → ℕ → ℕ → Seat → Standing → Type 0
+abbrev pub StandsGoing : Settings → ℕ → ℕ → AuditedUpdate → Standing → Type 0
 StandsGoing s c n r st =
     (ms : List Rule) (B : ℕ) → st ≡ (if is_held (caused_chase ms B) s c n (update_of ms B r) then Held (suc c) else unless_paused (lack (caused_chase ms B) (map choice_of r.answers.items) r.program.attempt))

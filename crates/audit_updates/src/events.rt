@@ -1,19 +1,19 @@
 //! What an event does to one seat.
 ghost use Rattle.std.specs.Prelude.{◌≡◌, ◌≤◌, ◌++◌, [], ◌∷◌, length, map, take, IfOk, OnOk, OnErr, IsOk};
 ghost use Rattle.base_types.specs.Meanings.{choice_of};
-ghost use Rattle.audit_updates.specs.Seatings.{StandsAt};
+ghost use Rattle.audit_updates.specs.Updates.{StandsAt};
 ghost use Rattle.audit_updates.specs.Events.{IsAdmitted, IsSame, KeepsPlace, KeepsPlaceBy, HasStepped, HasDelivered, HasAnswered, HasWithdrawn};
 
-use crate::seats::Seat;
+use crate::updates::AuditedUpdate;
 use base_types::{Choice, ChoiceList, List, Memory, TryCopy, Update};
 use chase_plan::Plan;
 use chase_query::ReadLog;
-use chase_update::Program;
+use chase_update::Attempt;
 use std::alloc::Global;
 use std::collections::VecDeque;
 use std::mem;
 
-impl Seat {
+impl AuditedUpdate {
     /// The update of this number as it is when it is admitted, with these answers recorded for it. It is refused only for
     /// want of memory.
     pub fn admit(
@@ -21,13 +21,13 @@ impl Seat {
         update: &Update,
         number: u32,
         answers: &ChoiceList,
-    ) -> Result<Seat, Memory>
+    ) -> Result<AuditedUpdate, Memory>
         ensures admitted { IfOk result (IsAdmitted number update.now answers.now) }
         ensures place { IfOk result (StandsAt number) }
     {
         let inbox = queued(alloc, answers)?;
-        Ok(Seat {
-            program: Program::start(alloc, update, number, 0)?,
+        Ok(AuditedUpdate {
+            program: Attempt::start(alloc, update, number, 0)?,
             log: ReadLog::new(alloc),
             withdrawn: false,
             answers: ChoiceList::new(alloc),
@@ -100,7 +100,7 @@ impl Seat {
 }
 
 // Puts the attempt in the place of another one, which is let go. It takes no memory.
-pub(crate) fn renew(place: &mut Program, fresh: Program)
+pub(crate) fn renew(place: &mut Attempt, fresh: Attempt)
     ensures fresh { place.new ≡ fresh }
 {
     drop(mem::replace(place, fresh));

@@ -1,19 +1,19 @@
 //! The seats of a replay: each update with its present attempt, what it may do next, and what an event does to it.
 //!
-//! What seats mean is said in `specs/Seatings.antt`: they are the updates of a history of the chase. The seats of a replay
-//! have the numbers of their places, from 1, and stand between two steps (`AreFrom 1 seats`). What is told of them is said
-//! for the machine of any mappings and any budget.
+//! What seats mean is said in `specs/Updates.antt`: they are the updates of a history of the chase. The seats of a
+//! replay have the numbers of their places, from 1, and stand between two steps (`AreFrom 1 seats`). What is told of
+//! them is said for the machine of any mappings and any budget.
 #![tactic(auto)]
 
 mod events;
+mod order;
 mod outcomes;
 mod renewals;
-mod seats;
 mod settings;
 mod standings;
-mod walks;
+mod updates;
 
+pub use crate::order::{committed, is_quiet};
 pub use crate::outcomes::{has_spent, outcome, shown};
-pub use crate::seats::Seat;
 pub use crate::settings::{Deps, Settings};
-pub use crate::walks::{committed, is_quiet};
+pub use crate::updates::AuditedUpdate;

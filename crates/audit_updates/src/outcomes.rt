@@ -7,10 +7,10 @@ ghost use Rattle.audit_updates.specs.Programs.{IsBetween, HasAsked, HasEnded, Ha
 
 use base_types::Write;
 use chase_question::Question;
-use chase_update::{Outcome, Program, Want};
+use chase_update::{Attempt, Outcome, Want};
 
 /// How the attempt ended, if it did. It takes no memory.
-pub fn outcome(program: &Program) -> Option<Outcome>
+pub fn outcome(program: &Attempt) -> Option<Outcome>
     requires between { IsBetween program.now }
     ensures ended { HasEnded program.now (option_map end_of result) }
 {
@@ -18,7 +18,7 @@ pub fn outcome(program: &Program) -> Option<Outcome>
 }
 
 /// The question that the attempt is at, if it is at one. It takes no memory.
-pub fn asked(program: &Program) -> Option<&Question>
+pub fn asked(program: &Attempt) -> Option<&Question>
     requires between { IsBetween program.now }
     ensures asked { HasAsked program.now (option_map inquiry_of (option_copied result)) }
 {
@@ -26,7 +26,7 @@ pub fn asked(program: &Program) -> Option<&Question>
 }
 
 /// Whether the attempt ended out of its budget of steps. It takes no memory.
-pub fn has_spent(program: &Program) -> bool
+pub fn has_spent(program: &Attempt) -> bool
     requires between { IsBetween program.now }
     ensures spent { HasSpent program.now result }
 {
@@ -34,7 +34,7 @@ pub fn has_spent(program: &Program) -> bool
 }
 
 /// The writes that the attempt shows to others: its own, and none where it ended spent or refused. It takes no memory.
-pub fn shown(program: &Program) -> &[Write]
+pub fn shown(program: &Attempt) -> &[Write]
     requires between { IsBetween program.now }
     ensures shown { HasShown program.now result.now }
 {

@@ -4,11 +4,11 @@ ghost use Rattle.audit_updates.specs.Events.{IsSame, KeepsPlace};
 ghost use Rattle.audit_updates.specs.Renewals.{HasOneMore, HasRestarted};
 
 use crate::events::renew;
-use crate::seats::Seat;
+use crate::updates::AuditedUpdate;
 use base_types::Memory;
 use std::alloc::Global;
 
-impl Seat {
+impl AuditedUpdate {
     /// Begins the next attempt: the update loses its writes and its log, and keeps its answers. It is refused only for want
     /// of memory; the update is then as it was.
     pub fn restart(&mut self, alloc: Global) -> Result<(), Memory>

@@ -4,23 +4,23 @@ ghost use Rattle.std.specs.Option.{option_map, option_copied};
 ghost use Rattle.base_types.specs.Meanings.{choice_of};
 ghost use Rattle.core_entries.specs.Meanings.{standing_of};
 ghost use Rattle.chase_question.specs.Inquiries.{inquiry_of};
-ghost use Rattle.def_machine.specs.Standings.{Paused, is_nil, is_ready as is_ready_lem, is_pending as is_pending_lem, is_paused as is_paused_lem};
+ghost use Rattle.def_machine.specs.Standings.{Paused, is_nil, is_ready as is_ready_def, is_pending as is_pending_def, is_paused as is_paused_def};
 ghost use Rattle.chase_update.specs.PointMeanings.{end_of};
 ghost use Rattle.chase_update.specs.Results.{lack_of};
 ghost use Rattle.audit_updates.specs.Settings.{settings_of};
 ghost use Rattle.audit_updates.specs.Programs.{IsBetween, HasNext};
 ghost use Rattle.audit_updates.specs.Standings.{HasStanding, IsReady, IsDeliverable, Takes, FitsQuestion};
-ghost use Rattle.audit_updates.specs.Wants.{unless_fits as unless_fits_lem, HasLack, IsHeld, WantsNext, StandsEnded, StandsGoing};
+ghost use Rattle.audit_updates.specs.Wants.{unless_fits as unless_fits_def, HasLack, IsHeld, WantsNext, StandsEnded, StandsGoing};
 
 use crate::outcomes::{asked, outcome};
-use crate::seats::Seat;
 use crate::settings::Settings;
+use crate::updates::AuditedUpdate;
 use base_types::Choice;
 use chase_question::{Question, fits};
 use chase_update::{Lack, Outcome};
 use core_entries::Standing;
 
-impl Seat {
+impl AuditedUpdate {
     /// The next answer for the attempt: there is one only where it is at a question. A ready update wants its next step
     /// with just this. It takes no memory.
     pub fn next_answer(&self) -> Option<&Choice>
@@ -157,7 +157,7 @@ fn paused(lack: Lack) -> Standing
 
 // What is lacking at the question, with the next answer if there is one.
 fn unless_fits(question: &Question, next: Option<&Choice>) -> Option<Lack>
-    ensures lack { option_map lack_of result ≡ unless_fits_lem (inquiry_of question.now)
+    ensures lack { option_map lack_of result ≡ unless_fits_def (inquiry_of question.now)
         (option_map choice_of (option_copied next.entry)) }
 {
     match next {
@@ -172,21 +172,21 @@ fn unless_fits(question: &Question, next: Option<&Choice>) -> Option<Lack>
 
 // Whether the update may make a step.
 fn is_ready(standing: Standing) -> bool
-    ensures ready { result ≡ is_ready_lem (standing_of standing) }
+    ensures ready { result ≡ is_ready_def (standing_of standing) }
 {
     matches!(standing, Standing::Ready)
 }
 
 // Whether the update is at a question without a next answer.
 fn is_pending(standing: Standing) -> bool
-    ensures pending { result ≡ is_pending_lem (standing_of standing) }
+    ensures pending { result ≡ is_pending_def (standing_of standing) }
 {
     matches!(standing, Standing::Pending)
 }
 
 // Whether the update is at a question that its next answer does not end.
 fn is_paused(standing: Standing) -> bool
-    ensures paused { result ≡ is_paused_lem (standing_of standing) }
+    ensures paused { result ≡ is_paused_def (standing_of standing) }
 {
     matches!(standing, Standing::Pending | Standing::Misfit)
 }

@@ -12,7 +12,7 @@ ghost use Rattle.base_types.specs.Contents.{changes_of, rules_in};
 use crate::occurrences::occurrences;
 use crate::scopes::{Counted, first_image, scope_at};
 use base_types::{Facts, MappingList, Memory, Tuple, WriteList};
-use chase_query::{Answer, Query};
+use chase_query::{Query, Reply};
 use chase_unifier::candidates;
 use std::alloc::Global;
 
@@ -32,7 +32,7 @@ pub(crate) fn value_over<F: Facts>(
     facts: &F,
     writes: Writes<'_>,
     counted: Counted,
-) -> Result<Answer, Memory>
+) -> Result<Reply, Memory>
     requires forceless { AreForceless writes.enacts (changes_of writes.own.now) }
     ensures value { IfOk result (λ answer. IsValueWith (rules_in mappings.now) (query_of query.now)
         (F.tuples facts.now) (changes_of writes.entry.own.now) (scope_meant counted) (reply_of answer)) }
@@ -45,23 +45,23 @@ pub(crate) fn value_over<F: Facts>(
         }
         Query::Specific(tuple) => {
             let found = candidates(alloc, tuple, facts)?;
-            Ok(Answer::Tuples(found))
+            Ok(Reply::Tuples(found))
         }
         Query::Occurs(update, place) => {
             let found = occurrences(alloc, *update, *place, facts)?;
-            Ok(Answer::Tuples(found))
+            Ok(Reply::Tuples(found))
         }
     }
 }
 
 // Whether the tuple is in the set.
-fn presence<F: Facts>(tuple: &Tuple, facts: &F) -> Answer
+fn presence<F: Facts>(tuple: &Tuple, facts: &F) -> Reply
     ensures answer { reply_of result ≡ (if has (F.tuples facts.now)
         (fact_of tuple.now) then Yes else No) }
 {
     if facts.contains(tuple) {
-        Answer::Yes
+        Reply::Yes
     } else {
-        Answer::No
+        Reply::No
     }
 }

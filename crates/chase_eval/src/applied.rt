@@ -7,13 +7,13 @@ ghost use Rattle.base_types.specs.Contents.{changes_of, rules_in};
 ghost use Rattle.base_types.specs.Meanings.{change_of, heading_of};
 ghost use Rattle.chase_query.specs.Meanings.{query_of, reply_of};
 ghost use Rattle.chase_eval.specs.Seen.{value_seen};
-ghost use Rattle.chase_eval.specs.Watched.{AreSettled, may_enact as may_enact_lem, seen_over};
+ghost use Rattle.chase_eval.specs.Watched.{AreSettled, may_enact as may_enact_def, seen_over};
 
 use crate::answers::{Writes, value_over};
 use crate::scopes::{Counted, relation_of};
 use crate::settled::Settled;
 use base_types::{Direction, FORCE_RELATION, Facts, MappingList, Memory, Write, WriteList};
-use chase_query::{Answer, Query};
+use chase_query::{Query, Reply};
 use std::alloc::Global;
 use std::marker::Model;
 
@@ -67,7 +67,7 @@ impl<'a, F: Facts> AppliedView<'a, F> {
         direction: Direction,
         settled: &mut Settled,
         alloc: Global,
-    ) -> Result<Answer, Memory>
+    ) -> Result<Reply, Memory>
         requires settled { AreSettled (seen_over (rules_in mappings.now) (heading_of direction)
             self.now) settled.old }
         ensures value { IfOk result (λ answer. reply_of answer ≡
@@ -77,10 +77,10 @@ impl<'a, F: Facts> AppliedView<'a, F> {
             self.now) settled.new }
     {
         if settled.knows(query) {
-            return Ok(Answer::Nothing);
+            return Ok(Reply::Nothing);
         }
         let answer = self.value(query, mappings, direction, alloc)?;
-        if matches!(&answer, Answer::Nothing) {
+        if matches!(&answer, Reply::Nothing) {
             settled.learn(query);
         }
         Ok(answer)
@@ -93,7 +93,7 @@ impl<'a, F: Facts> AppliedView<'a, F> {
         mappings: &MappingList,
         direction: Direction,
         alloc: Global,
-    ) -> Result<Answer, Memory>
+    ) -> Result<Reply, Memory>
         ensures value { IfOk result (λ answer. reply_of answer ≡
             value_seen (rules_in mappings.now) (query_of query.now) self.now
             (Caused (heading_of direction))) }
@@ -115,7 +115,7 @@ impl<'a, F: Facts> AppliedView<'a, F> {
 
 // Whether one of the writes may put a mapping in force.
 fn may_enact(writes: &[Write]) -> bool
-    ensures any { result ≡ list_any may_enact_lem (map change_of writes.now) }
+    ensures any { result ≡ list_any may_enact_def (map change_of writes.now) }
 {
     writes
         .iter()

@@ -1,6 +1,6 @@
 //! The tuples that hold a null.
 ghost use Rattle.std.specs.Prelude.{◌≡◌, map, filter, IfOk};
-ghost use Rattle.def_chase.specs.Queries.{holds_null as holds_null_lem, is_named as is_named_lem};
+ghost use Rattle.def_chase.specs.Queries.{holds_null as holds_null_def, is_named as is_named_def};
 ghost use Rattle.base_types.specs.Meanings.{fact_of, datum_of};
 
 use base_types::{Facts, List, Memory, TryCopy, Tuple, TupleList, Value};
@@ -15,7 +15,7 @@ pub(crate) fn occurrences<F: Facts>(
     facts: &F,
 ) -> Result<TupleList, Memory>
     ensures value { IfOk result (λ found. map fact_of found.items ≡
-        filter (holds_null_lem update place) (F.tuples facts.now)) }
+        filter (holds_null_def update place) (F.tuples facts.now)) }
 {
     let mut found = List::new(alloc);
     let mut cursor = facts.beyond(None);
@@ -30,7 +30,7 @@ pub(crate) fn occurrences<F: Facts>(
 
 // Whether the tuple holds a null drawn by this update at this place.
 fn holds_null(tuple: &Tuple, update: u32, place: u32) -> bool
-    ensures answer { result ≡ holds_null_lem update place (fact_of tuple.now) }
+    ensures answer { result ≡ holds_null_def update place (fact_of tuple.now) }
 {
     tuple
         .values
@@ -41,7 +41,7 @@ fn holds_null(tuple: &Tuple, update: u32, place: u32) -> bool
 
 // Whether the value is a null drawn by this update at this place.
 fn is_named(value: &Value, update: u32, place: u32) -> bool
-    ensures answer { result ≡ is_named_lem update place (datum_of value.now) }
+    ensures answer { result ≡ is_named_def update place (datum_of value.now) }
 {
     match value {
         Value::Null(null) => null.update == update && null.place == place,

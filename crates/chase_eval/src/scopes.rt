@@ -6,7 +6,7 @@ ghost use Rattle.std.specs.Option.{option_map, option_copied};
 ghost use Rattle.def_chase.specs.Values.{Number, same_fact};
 ghost use Rattle.def_chase.specs.Repository.{inserts};
 ghost use Rattle.def_chase.specs.Mappings.{force};
-ghost use Rattle.def_chase.specs.Queries.{scope_at as scope_at_lem};
+ghost use Rattle.def_chase.specs.Queries.{scope_at as scope_at_def};
 ghost use Rattle.base_types.specs.Meanings.{datum_of, fact_of, change_of, rule_of};
 ghost use Rattle.chase_query.specs.Meanings.{reply_of};
 ghost use Rattle.chase_eval.specs.Counted.{scope_meant, CountsAs, reply_in};
@@ -16,7 +16,7 @@ ghost use Rattle.base_types.specs.Contents.{changes_of};
 use base_types::{
     Direction, FORCE_RELATION, Facts, Mapping, Memory, Tuple, Value, Write, WriteList,
 };
-use chase_query::Answer;
+use chase_query::Reply;
 use chase_violation::{Scope, first_image as violating_image};
 use std::alloc::Global;
 
@@ -48,7 +48,7 @@ pub(crate) fn enacts_with(enacts: bool, write: &Write) -> bool
 /// `enacts` says whether one of them may put any mapping in force.
 pub(crate) fn scope_at(counted: Counted, own: &WriteList, enacts: bool, number: u16) -> Scope<'_>
     requires { AreForceless enacts (changes_of own.now) }
-    ensures same { CountsAs (scope_at_lem (scope_meant counted) (changes_of own.now) number)
+    ensures same { CountsAs (scope_at_def (scope_meant counted) (changes_of own.now) number)
         (changes_of own.now) result }
 {
     match counted {
@@ -114,16 +114,16 @@ pub(crate) fn first_image<F: Facts>(
     mapping: Option<&Mapping>,
     facts: &F,
     scope: Scope<'_>,
-) -> Result<Answer, Memory>
+) -> Result<Reply, Memory>
     ensures value { IfOk result (λ answer. reply_of answer ≡
         reply_in scope.entry (option_map rule_of (option_copied mapping.entry))
         (F.tuples facts.now)) }
 {
     let Some(mapping) = mapping else {
-        return Ok(Answer::Nothing);
+        return Ok(Reply::Nothing);
     };
     match violating_image(alloc, mapping, facts, scope)? {
-        Some(image) => Ok(Answer::Image(image)),
-        None => Ok(Answer::Nothing),
+        Some(image) => Ok(Reply::Image(image)),
+        None => Ok(Reply::Nothing),
     }
 }

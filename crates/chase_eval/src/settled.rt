@@ -3,7 +3,7 @@ ghost use Rattle.std.specs.Prelude.{◌≡◌, ◌==◌, ◌&&◌, ℕ, true, fa
 ghost use Rattle.std.specs.List.{list_any};
 ghost use Rattle.base_types.specs.Meanings.{change_of, pattern_of, rule_of};
 ghost use Rattle.chase_eval.specs.Touching.{is_among, IsTouching, IsTouchingIf};
-ghost use Rattle.chase_eval.specs.Watched.{asks_settled, with_settled, stirs, touches as touches_lem, LoseMarks, LoseMarksTo, LosesMark};
+ghost use Rattle.chase_eval.specs.Watched.{asks_settled, with_settled, stirs, touches as touches_def, LoseMarks, LoseMarksTo, LosesMark};
 ghost use Rattle.base_types.specs.Contents.{rules_in};
 ghost use Rattle.chase_query.specs.Meanings.{query_of};
 
@@ -154,7 +154,7 @@ impl Settled {
 
     // Stirs the mappings that the write touches.
     fn stir_touched(&mut self, mappings: &MappingList, write: &Write)
-        ensures left { LoseMarks (touches_lem (change_of write.now))
+        ensures left { LoseMarks (touches_def (change_of write.now))
             (rules_in mappings.now) self.old self.new }
     {
         for (number, mapping) in mappings.as_slice().iter().enumerate() {
@@ -164,7 +164,7 @@ impl Settled {
 
     // Stirs the mapping, of this number, if the write touches it.
     fn stir_one(&mut self, number: usize, mapping: &Mapping, write: &Write)
-        ensures mark { LosesMark (touches_lem (change_of write.now)
+        ensures mark { LosesMark (touches_def (change_of write.now)
             (Some (rule_of mapping.now))) number self.old self.new }
         ensures others { (n : ℕ) → (n ≡ number → ⊥) →
             slice_index_or self.new n false ≡ slice_index_or self.old n false }
@@ -186,7 +186,7 @@ impl Settled {
 
 // Whether the mapping has an atom of the write's relation, on the left for an insertion, on the right for a deletion.
 fn touches(mapping: &Mapping, write: &Write) -> bool
-    ensures answer { result ≡ touches_lem (change_of write.now) (Some (rule_of mapping.now)) }
+    ensures answer { result ≡ touches_def (change_of write.now) (Some (rule_of mapping.now)) }
 {
     match write {
         Write::Insert(tuple) => stands_in(mapping.left.as_slice(), tuple.relation),

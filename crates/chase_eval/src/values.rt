@@ -8,7 +8,7 @@ ghost use Rattle.base_types.specs.Contents.{changes_of, rules_in};
 
 use crate::view::View;
 use base_types::{Direction, Facts, MappingList, Memory, WriteList};
-use chase_query::{Answer, Query};
+use chase_query::{Query, Reply};
 use std::alloc::Global;
 
 /// The value of the query over the set with the own writes applied, where of violations only those count that they
@@ -21,7 +21,7 @@ pub fn eval<F: Facts>(
     facts: &F,
     own: &WriteList,
     direction: Direction,
-) -> Result<Answer, Memory>
+) -> Result<Reply, Memory>
     ensures value { IfOk result (λ answer. reply_of answer ≡
         value (rules_in mappings.now) (query_of query.now)
         (F.tuples facts.now) (changes_of own.now) (Caused (heading_of direction))) }
@@ -39,7 +39,7 @@ pub fn eval_all<F: Facts>(
     mappings: &MappingList,
     facts: &F,
     own: &WriteList,
-) -> Result<Answer, Memory>
+) -> Result<Reply, Memory>
     ensures value { IfOk result (λ answer. reply_of answer ≡
         value (rules_in mappings.now) (query_of query.now)
         (F.tuples facts.now) (changes_of own.now) Every) }

@@ -11,7 +11,7 @@ ghost use Rattle.set_facts.specs.Begun.{HoldsOfFirst};
 use crate::answers::{Writes, value_over};
 use crate::scopes::{Counted, enacts_with};
 use base_types::{Direction, Facts, MappingList, Memory, TryCopy, Write, WriteList};
-use chase_query::{Answer, Query};
+use chase_query::{Query, Reply};
 use set_facts::Overlay;
 use std::alloc::Global;
 use std::marker::Model;
@@ -90,7 +90,7 @@ impl<'a, F: Facts> View<'a, F> {
         mappings: &MappingList,
         direction: Direction,
         alloc: Global,
-    ) -> Result<Answer, Memory>
+    ) -> Result<Reply, Memory>
         ensures value { IfOk result (λ answer. reply_of answer ≡
             value_seen (rules_in mappings.now) (query_of query.now) self.now
             (Caused (heading_of direction))) }
@@ -105,7 +105,7 @@ impl<'a, F: Facts> View<'a, F> {
         query: &Query,
         mappings: &MappingList,
         alloc: Global,
-    ) -> Result<Answer, Memory>
+    ) -> Result<Reply, Memory>
         ensures value { IfOk result (λ answer. reply_of answer ≡
             value_seen (rules_in mappings.now) (query_of query.now) self.now Every) }
     {
@@ -119,7 +119,7 @@ impl<'a, F: Facts> View<'a, F> {
         mappings: &MappingList,
         counted: Counted,
         alloc: Global,
-    ) -> Result<Answer, Memory>
+    ) -> Result<Reply, Memory>
         ensures value { IfOk result (λ answer. reply_of answer ≡
             value_seen (rules_in mappings.now) (query_of query.now) self.now
             (scope_meant counted)) }

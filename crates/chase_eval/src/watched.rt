@@ -12,7 +12,7 @@ use crate::settled::Settled;
 use crate::touching::Touching;
 use crate::view::View;
 use base_types::{Direction, Facts, MappingList, Memory, Write};
-use chase_query::{Answer, Query};
+use chase_query::{Query, Reply};
 use std::alloc::Global;
 use std::marker::Model;
 
@@ -110,16 +110,16 @@ impl<'a, F: Facts> WatchedView<'a, F> {
     /// The value of the query, where of violations only those count that the own writes caused in the direction.
     /// Forward, a mapping that they put in force is looked at whole; one that is not in the list has no violation. It
     /// is refused only for want of memory.
-    pub fn eval(&mut self, query: &Query, alloc: Global) -> Result<Answer, Memory>
+    pub fn eval(&mut self, query: &Query, alloc: Global) -> Result<Reply, Memory>
         ensures value { IfOk result (λ answer. reply_of answer ≡
             value_in self.old (query_of query.now)) }
         ensures same { self.new ≡ self.old }
     {
         if self.settled.knows(query) {
-            return Ok(Answer::Nothing);
+            return Ok(Reply::Nothing);
         }
         let answer = self.view.eval(query, self.mappings, self.direction, alloc)?;
-        if matches!(&answer, Answer::Nothing) {
+        if matches!(&answer, Reply::Nothing) {
             self.settled.learn(query);
         }
         Ok(answer)

@@ -18,7 +18,7 @@ use base_limits::{Budget, Mappings};
 use base_types::{Choice, Direction, Facts, Memory, TryCopy};
 use chase_eval::{AppliedView, Settled};
 use chase_query::{Logged, LoggedRead, ReadLog};
-use chase_update::{Program, Want};
+use chase_update::{Attempt, Want};
 use std::alloc::Global;
 
 // Room for so many entries of the log is made before the first of them.
@@ -27,7 +27,7 @@ const AT_ONCE: usize = 4;
 /// The next step of an attempt: the attempt after it, and the reads of the step in order.
 #[derive(Drop)]
 pub struct Plan {
-    pub program: Program,
+    pub program: Attempt,
     pub reads: ReadLog,
 }
 
@@ -37,8 +37,8 @@ pub struct Plan {
 /// put in their place. It is refused only for want of memory.
 pub fn plan_step<F: Facts>(
     alloc: Global,
-    program: &Program,
-    branch: Program,
+    program: &Attempt,
+    branch: Attempt,
     choice: Option<&Choice>,
     mappings: &Mappings<'_>,
     budget: Budget,
@@ -81,8 +81,8 @@ pub fn plan_step<F: Facts>(
 // Takes the next step of the attempt on a copy of it, and gives its reads.
 fn take_step<F: Facts>(
     alloc: Global,
-    program: &Program,
-    after: &mut Program,
+    program: &Attempt,
+    after: &mut Attempt,
     choice: Option<&Choice>,
     mappings: &Mappings<'_>,
     budget: Budget,
@@ -120,7 +120,7 @@ fn take_step<F: Facts>(
 // Begins the step, up to its first query or its end.
 fn begin(
     alloc: Global,
-    program: &mut Program,
+    program: &mut Attempt,
     choice: Option<&Choice>,
     mappings: &Mappings<'_>,
     budget: Budget,
@@ -143,7 +143,7 @@ fn begin(
 // been made before the step.
 fn answer_all<F: Facts>(
     alloc: Global,
-    program: &mut Program,
+    program: &mut Attempt,
     view: &AppliedView<'_, F>,
     settled: &mut Settled,
     mappings: &Mappings<'_>,

@@ -4,15 +4,15 @@ ghost use Rattle.base_types.specs.Meanings.{change_of};
 ghost use Rattle.def_chase.specs.Mappings.{Rule};
 ghost use Rattle.def_chase.specs.Values.{Fact};
 ghost use Rattle.chase_query.specs.Meanings.{passing, read_of, reads_in, reads_of};
-ghost use Rattle.def_steps.specs.Attempts.{Attempt};
+ghost use Rattle.def_steps.specs.Attempts.{Attempt as AttemptMeant};
 ghost use Rattle.chase_plan.specs.Planned.{HasSettled};
 ghost use Rattle.chase_plan.specs.Settled.{AreValidOver, HasSettledBy, all_noted, noted};
 
 use crate::touched::TouchedMappings;
 use base_types::{Memory, Write};
 use chase_eval::Settled;
-use chase_query::{Answer, Logged, LoggedRead, Passage};
-use chase_update::Program;
+use chase_query::{Logged, LoggedRead, Passage, Reply};
+use chase_update::Attempt;
 use std::alloc::Global;
 
 /// The mappings of which the last reads of the attempt tell that its writes have caused no violation, and before its first write
@@ -22,7 +22,7 @@ use std::alloc::Global;
 pub fn settled_by(
     alloc: Global,
     mappings: &TouchedMappings<'_>,
-    program: &Program,
+    program: &Attempt,
     log: &[Logged],
 ) -> Result<Settled, Memory>
     ensures settled { IfOk result (λ settled. (D : List Fact) →
@@ -41,7 +41,7 @@ pub fn settled_by(
 pub fn told_by(
     alloc: Global,
     mappings: &TouchedMappings<'_>,
-    program: &Program,
+    program: &Attempt,
     log: &[Logged],
 ) -> Result<Settled, Memory>
     ensures settled { IfOk result (λ settled. (D : List Fact) →
@@ -60,7 +60,7 @@ pub fn told_by(
 pub fn stir_since(
     settled: &mut Settled,
     mappings: &TouchedMappings<'_>,
-    program: &Program,
+    program: &Attempt,
     made: u64,
 )
     ensures settled { (D : List Fact) →
@@ -81,7 +81,7 @@ fn made_before(log: &[Logged]) -> u64 {
 // The marks to begin with, where so many writes had been made: before the first of them no mapping has a violation that they
 // caused, and of later ones nothing is known. It is refused only for want of memory.
 fn begun(alloc: Global, mappings: &TouchedMappings<'_>, made: u64) -> Result<Settled, Memory>
-    ensures begun { IfOk result (λ settled. (D : List Fact) (P : Attempt) →
+    ensures begun { IfOk result (λ settled. (D : List Fact) (P : AttemptMeant) →
         HasSettledBy made mappings.now D P settled) }
 {
     if made == 0 {
@@ -94,7 +94,7 @@ fn begun(alloc: Global, mappings: &TouchedMappings<'_>, made: u64) -> Result<Set
 
 // Learns of the last reads, by an attempt that had made so many writes.
 fn learn_last(settled: &mut Settled, log: &[Logged], made: u64)
-    ensures learnt { (ms : List Rule) (D : List Fact) (P : Attempt) →
+    ensures learnt { (ms : List Rule) (D : List Fact) (P : AttemptMeant) →
         AreValidOver ms D P (reads_in log.now) →
         HasSettledBy made ms D P settled.old → HasSettledBy made ms D P settled.new }
 {
@@ -122,7 +122,7 @@ fn note(settled: &mut Settled, entry: &Logged)
 fn note_read(settled: &mut Settled, read: &LoggedRead)
     ensures noted { settled.new ≡ noted settled.old (read_of read.now) }
 {
-    if matches!(&read.answer, Answer::Nothing) {
+    if matches!(&read.answer, Reply::Nothing) {
         settled.learn(&read.query);
     }
 }

@@ -6,8 +6,8 @@ use Rattle.std.specs.Ordering.{eq_by_cmp, on}
 use Rattle.def_chase.specs.Values.{fact_cmp}
 use Rattle.def_chase.specs.Queries.{Image, Tuples}
 use Rattle.base_types.specs.Listed.{Listed}
-use Rattle.chase_query.specs.declared.answers.Answer.{Answer}
-use Rattle.chase_query.specs.declared.answers.Answer.TheVariants.{Image as ImageAnswer, Tuples as TuplesAnswer}
+use Rattle.chase_query.specs.declared.replies.Reply.{Reply}
+use Rattle.chase_query.specs.declared.replies.Reply.TheVariants.{Image as ImageAnswer, Tuples as TuplesAnswer}
 use Rattle.chase_query.specs.Meanings.{reply_of}
 use Rattle.base_types.specs.declared.tuples.Tuple.{Tuple}
 use Rattle.base_types.specs.Meanings.{fact_of}
@@ -23,8 +23,8 @@ lists_decide : (xs ys : List Tuple) → Decides (pointwise (eq_by_cmp (on fact_o
 lists_decide xs ys = let d = rows_decide xs ys in (λ e. ap Tuples (d.0 e), λ e. d.1 (cc e))
 
 -- Two answers of one form are one where their tuples are.
-pub images_same : (a b : Answer) (xs ys : Listed Tuple) (r : Bool) → a ≡ ImageAnswer xs → b ≡ ImageAnswer ys → r ≡ pointwise (eq_by_cmp (on fact_of fact_cmp)) xs.items ys.items → Decides r (reply_of a ≡ reply_of b)
+pub images_same : (a b : Reply) (xs ys : Listed Tuple) (r : Bool) → a ≡ ImageAnswer xs → b ≡ ImageAnswer ys → r ≡ pointwise (eq_by_cmp (on fact_of fact_cmp)) xs.items ys.items → Decides r (reply_of a ≡ reply_of b)
 images_same a b xs ys r e f t = let d = images_decide xs.items ys.items in (λ h. ap reply_of e ∙ d.0 (sym t ∙ h) ∙ sym (ap reply_of f), λ h. t ∙ d.1 (sym (ap reply_of e) ∙ h ∙ ap reply_of f))
 
-pub lists_same : (a b : Answer) (xs ys : Listed Tuple) (r : Bool) → a ≡ TuplesAnswer xs → b ≡ TuplesAnswer ys → r ≡ pointwise (eq_by_cmp (on fact_of fact_cmp)) xs.items ys.items → Decides r (reply_of a ≡ reply_of b)
+pub lists_same : (a b : Reply) (xs ys : Listed Tuple) (r : Bool) → a ≡ TuplesAnswer xs → b ≡ TuplesAnswer ys → r ≡ pointwise (eq_by_cmp (on fact_of fact_cmp)) xs.items ys.items → Decides r (reply_of a ≡ reply_of b)
 lists_same a b xs ys r e f t = let d = lists_decide xs.items ys.items in (λ h. ap reply_of e ∙ d.0 (sym t ∙ h) ∙ sym (ap reply_of f), λ h. t ∙ d.1 (sym (ap reply_of e) ∙ h ∙ ap reply_of f))

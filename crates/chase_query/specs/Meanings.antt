@@ -2,8 +2,8 @@
 use Rattle.std.specs.Prelude.{ℕ, zero, suc, ◌-◌, List, [], ◌∷◌, ◌++◌, map}
 use Rattle.chase_query.specs.declared.queries.Query.{Query as QueryOfProgram}
 use Rattle.chase_query.specs.declared.queries.Query.TheVariants.{Present as PresentQuery, Violation as ViolationQuery, Specific as SpecificQuery, Occurs as OccursQuery}
-use Rattle.chase_query.specs.declared.answers.Answer.{Answer}
-use Rattle.chase_query.specs.declared.answers.Answer.TheVariants.{Yes as YesAnswer, No as NoAnswer, Image as ImageAnswer, Nothing as NothingAnswer, Tuples as TuplesAnswer}
+use Rattle.chase_query.specs.declared.replies.Reply.{Reply as ReplyOfProgram}
+use Rattle.chase_query.specs.declared.replies.Reply.TheVariants.{Yes as YesAnswer, No as NoAnswer, Image as ImageAnswer, Nothing as NothingAnswer, Tuples as TuplesAnswer}
 use Rattle.chase_query.specs.declared.log.Logged.{Logged}
 use Rattle.chase_query.specs.declared.log.Logged.TheVariants.{Asked, Passed}
 use Rattle.chase_query.specs.declared.log.LoggedRead.{LoggedRead}
@@ -17,8 +17,8 @@ query_of (ViolationQuery n) = Violation n
 query_of (SpecificQuery t) = Specific (fact_of t)
 query_of (OccursQuery u k) = Occurs u k
 
--- The reply that an `Answer` stands for.
-abbrev pub reply_of : Answer → Reply
+-- The reply that an `Reply` stands for.
+abbrev pub reply_of : ReplyOfProgram → Reply
 reply_of YesAnswer = Yes
 reply_of NoAnswer = No
 reply_of (ImageAnswer ts) = Image (map fact_of ts.items)

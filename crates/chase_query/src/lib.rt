@@ -1,16 +1,16 @@
 //! The queries that an update asks of the repository, their answers, and the log of the reads that it has made.
 //!
-//! What a `Query` and an `Answer` mean are the queries and replies of `def_chase`, by `query_of` and `reply_of` of
+//! What a `Query` and an `Reply` mean are the queries and replies of `def_chase`, by `query_of` and `reply_of` of
 //! `specs/Meanings.antt`. Which answers are of a query's kind is
 //! said in `specs/Kinds.antt`; the value of a query is always of its kind.
 #![tactic(auto)]
 
-mod answers;
 mod laws;
 mod log;
 mod queries;
+mod replies;
 
-pub use crate::answers::Answer;
 pub use crate::laws::values_are_of_their_kind;
 pub use crate::log::{Logged, LoggedRead, Passage, ReadLog, finds_none};
 pub use crate::queries::{Query, mentions};
+pub use crate::replies::Reply;

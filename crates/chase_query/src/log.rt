@@ -2,11 +2,11 @@
 ghost use Rattle.std.specs.Prelude.{◌≡◌, ◌+◌, ◌-◌, length, IfOk};
 ghost use Rattle.std.specs.List.{list_any};
 ghost use Rattle.base_types.specs.Contents.{rules_in};
-ghost use Rattle.chase_query.specs.Meanings.{Read, finds_none as finds_none_lem, own_of, passing, read_of, reads_of};
+ghost use Rattle.chase_query.specs.Meanings.{Read, finds_none as finds_none_def, own_of, passing, read_of, reads_of};
 ghost use Rattle.chase_query.specs.Mentioning.{mentioned};
 
-use crate::answers::Answer;
 use crate::queries::{Query, mentions, violation_mentions};
+use crate::replies::Reply;
 use base_types::{List, MappingList, Memory, TryCopy};
 use std::alloc::Global;
 
@@ -14,7 +14,7 @@ use std::alloc::Global;
 #[derive(Debug, Drop)]
 pub struct LoggedRead {
     pub query: Query,
-    pub answer: Answer,
+    pub answer: Reply,
     pub own: u64,
 }
 
@@ -121,11 +121,11 @@ impl Passage {
 
 /// The read that the mapping of this number has no violation, by an attempt that had made so many writes. It takes no memory.
 pub fn finds_none(number: u16, own: u64) -> LoggedRead
-    ensures read { read_of result ≡ finds_none_lem number own }
+    ensures read { read_of result ≡ finds_none_def number own }
 {
     LoggedRead {
         query: Query::Violation(number),
-        answer: Answer::Nothing,
+        answer: Reply::Nothing,
         own,
     }
 }

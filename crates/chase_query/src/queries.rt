@@ -2,7 +2,7 @@
 ghost use Rattle.std.specs.Prelude.{◌≡◌, ◌==◌, map, IfOk};
 ghost use Rattle.std.specs.List.{list_any};
 ghost use Rattle.def_chase.specs.Queries.{Query as QueryMeant, Violation};
-ghost use Rattle.def_chase.specs.Mentions.{mentions as mentions_lem};
+ghost use Rattle.def_chase.specs.Mentions.{mentions as mentions_def};
 ghost use Rattle.base_types.specs.Meanings.{pattern_of, rule_of};
 ghost use Rattle.chase_query.specs.Meanings.{query_of};
 
@@ -41,7 +41,7 @@ impl TryCopy for Query {
 /// violation mentions the relations on both sides of its mapping, and an occurrence mentions every relation. It
 /// takes no memory.
 pub fn mentions(query: &Query, mappings: &MappingList, relation: u16) -> bool
-    ensures answer { result ≡ mentions_lem (map rule_of mappings.now.items)
+    ensures answer { result ≡ mentions_def (map rule_of mappings.now.items)
         (query_of query.now) relation }
 {
     match query {
@@ -54,7 +54,7 @@ pub fn mentions(query: &Query, mappings: &MappingList, relation: u16) -> bool
 
 /// Whether the query for the first violation of the mapping of this number mentions the relation. It takes no memory.
 pub(crate) fn violation_mentions(number: u16, mappings: &MappingList, relation: u16) -> bool
-    ensures answer { result ≡ mentions_lem (map rule_of mappings.now.items)
+    ensures answer { result ≡ mentions_def (map rule_of mappings.now.items)
         (Violation number) relation }
 {
     match mappings.get(number as usize) {

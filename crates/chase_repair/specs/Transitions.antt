@@ -10,7 +10,7 @@ use Rattle.base_types.specs.Meanings.{choice_of}
 use Rattle.base_types.specs.declared.updates.Choice.{Choice as ChoiceOfProgram}
 use Rattle.base_types.specs.declared.updates.Write.{Write}
 use Rattle.chase_query.specs.Meanings.{reply_of}
-use Rattle.chase_query.specs.declared.answers.Answer.{Answer}
+use Rattle.chase_query.specs.declared.replies.Reply.{Reply}
 use Rattle.def_steps.specs.Attempts.{Attempt}
 use Rattle.def_steps.specs.Rewriting.{in_order}
 use Rattle.def_steps.specs.Steps.{makes, repair, negative, step_in}
@@ -33,7 +33,7 @@ abbrev pub HasBegun : List Rule → Repairing → Repairing → Type 0
 HasBegun ms s s' = (P : Attempt) (c : Option Choice) → tree_in ms s' ≡ step_in ms P c (phase_of s)
 
 -- By the answer to its query the step asks on or has ended. It has come to these own writes, and to s'.
-abbrev pub HasAnswered : List Rule → Answer → Listed Write → Repairing → Listed Write → Repairing → Progress → Type 0
+abbrev pub HasAnswered : List Rule → Reply → Listed Write → Repairing → Listed Write → Repairing → Progress → Type 0
 HasAnswered ms a own s own' s' progress =
     stand ms (asks_on progress) (changes_of own') s' ≡ settled (changes_of own) (phase_of s) (branch (tree_in ms s) (reply_of a))
 

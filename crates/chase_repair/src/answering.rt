@@ -13,7 +13,7 @@ use crate::unifying::{all_found, ask_next, unify};
 use crate::wants::Progress;
 use base_limits::Mappings;
 use base_types::{Memory, WriteList};
-use chase_query::{Answer, Query};
+use chase_query::{Query, Reply};
 use std::alloc::Global;
 
 /// Goes on by the answer to the query of this stage. A step that ends puts its writes behind the own ones. It is refused
@@ -23,7 +23,7 @@ pub(crate) fn answered(
     generation: &mut Generation,
     stage: &mut Stage,
     own: &mut WriteList,
-    answer: &Answer,
+    answer: &Reply,
     mappings: &Mappings<'_>,
 ) -> Result<Progress, Memory>
     requires fits { IsSound generation.old stage.old }

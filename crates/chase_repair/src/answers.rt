@@ -2,29 +2,29 @@
 ghost use Rattle.std.specs.Prelude.{◌≡◌, map, IfOk};
 ghost use Rattle.base_types.specs.Meanings.{fact_of};
 ghost use Rattle.chase_query.specs.Meanings.{reply_of};
-ghost use Rattle.def_steps.specs.Steps.{is_yes as is_yes_lem, tuples_of as tuples_of_lem};
+ghost use Rattle.def_steps.specs.Steps.{is_yes as is_yes_def, tuples_of as tuples_of_def};
 
 use base_types::{List, Memory, TryCopy, Tuple, TupleList};
-use chase_query::Answer;
+use chase_query::Reply;
 use std::alloc::Global;
 
 /// Whether the answer is yes.
-pub(crate) fn is_yes(answer: &Answer) -> bool
-    ensures answer { result ≡ is_yes_lem (reply_of answer.now) }
+pub(crate) fn is_yes(answer: &Reply) -> bool
+    ensures answer { result ≡ is_yes_def (reply_of answer.now) }
 {
-    matches!(answer, Answer::Yes)
+    matches!(answer, Reply::Yes)
 }
 
 /// The tuples of an answer to `Specific` or `Occurs`; none where it is another.
-pub(crate) fn tuples_of(answer: &Answer) -> &[Tuple]
-    ensures tuples { map fact_of result.now ≡ tuples_of_lem (reply_of answer.now) }
+pub(crate) fn tuples_of(answer: &Reply) -> &[Tuple]
+    ensures tuples { map fact_of result.now ≡ tuples_of_def (reply_of answer.now) }
 {
     match answer {
-        Answer::Tuples(tuples) => tuples.as_slice(),
-        Answer::Yes => &[],
-        Answer::No => &[],
-        Answer::Image(_) => &[],
-        Answer::Nothing => &[],
+        Reply::Tuples(tuples) => tuples.as_slice(),
+        Reply::Yes => &[],
+        Reply::No => &[],
+        Reply::Image(_) => &[],
+        Reply::Nothing => &[],
     }
 }
 

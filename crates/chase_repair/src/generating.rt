@@ -1,9 +1,9 @@
 //! The right atoms of a repair in hand: the tuple that is generated for one, and which one comes next.
 ghost use Rattle.std.specs.Prelude.{◌≡◌, false, map, slice_get, IfOk};
-ghost use Rattle.def_chase.specs.Mappings.{value_under, fact_under, listed as listed_lem};
+ghost use Rattle.def_chase.specs.Mappings.{value_under, fact_under, listed as listed_def};
 ghost use Rattle.base_types.specs.Contents.{data_of};
 ghost use Rattle.base_types.specs.Meanings.{datum_of, fact_of, slot_of, pattern_of};
-ghost use Rattle.def_steps.specs.Rewriting.{right_atoms as right_atoms_lem, generated as generated_lem, next_atom};
+ghost use Rattle.def_steps.specs.Rewriting.{right_atoms as right_atoms_def, generated as generated_def, next_atom};
 ghost use Rattle.chase_repair.specs.Repairs.{phase_of, is_asking};
 ghost use Rattle.chase_repair.specs.Stages.{repair_of, repairing_of, IsSound};
 
@@ -19,7 +19,7 @@ pub(crate) fn generated(
     mappings: &Mappings<'_>,
 ) -> Result<Tuple, Memory>
     ensures value { IfOk result (λ tuple. fact_of tuple ≡
-        generated_lem mappings.now (repair_of generation.now)) }
+        generated_def mappings.now (repair_of generation.now)) }
 {
     match right_atoms(mappings, generation.mapping).get(generation.atom) {
         Some(atom) => tuple_under(alloc, &generation.binding, atom),
@@ -45,7 +45,7 @@ pub(crate) fn go_on(generation: &mut Generation, mappings: &Mappings<'_>) -> Sta
 
 // The right atoms of the mapping of this number; none where there is no such mapping.
 fn right_atoms<'a>(mappings: &Mappings<'a>, number: u16) -> &'a [Atom]
-    ensures atoms { map pattern_of result.now ≡ right_atoms_lem (slice_get mappings.now number) }
+    ensures atoms { map pattern_of result.now ≡ right_atoms_def (slice_get mappings.now number) }
 {
     match mappings.get(number as usize) {
         Some(mapping) => mapping.right.as_slice(),
@@ -56,7 +56,7 @@ fn right_atoms<'a>(mappings: &Mappings<'a>, number: u16) -> &'a [Atom]
 /// The tuple that the atom is under the values. It is refused only for want of memory.
 pub(crate) fn tuple_under(alloc: Global, binding: &ValueList, atom: &Atom) -> Result<Tuple, Memory>
     ensures value { IfOk result (λ tuple.
-        fact_of tuple ≡ fact_under (listed_lem (data_of binding.now)) (pattern_of atom.now)) }
+        fact_of tuple ≡ fact_under (listed_def (data_of binding.now)) (pattern_of atom.now)) }
 {
     let values = values_under(alloc, binding, &atom.terms)?;
     Tuple::new(alloc, atom.relation, values)
@@ -65,7 +65,7 @@ pub(crate) fn tuple_under(alloc: Global, binding: &ValueList, atom: &Atom) -> Re
 // The values of the terms under the values of the variables.
 fn values_under(alloc: Global, binding: &ValueList, terms: &TermRow) -> Result<ValueList, Memory>
     ensures value { IfOk result (λ values.
-        data_of values ≡ map (value_under (listed_lem (data_of binding.now)))
+        data_of values ≡ map (value_under (listed_def (data_of binding.now)))
         (map slot_of terms.now.items)) }
 {
     let mut values = List::new(alloc);
@@ -79,7 +79,7 @@ fn values_under(alloc: Global, binding: &ValueList, terms: &TermRow) -> Result<V
 // The value of the term; the number 0 for a variable that has none.
 fn value_of(alloc: Global, binding: &ValueList, term: &Term) -> Result<Value, Memory>
     ensures value { IfOk result (λ value.
-        datum_of value ≡ value_under (listed_lem (data_of binding.now)) (slot_of term.now)) }
+        datum_of value ≡ value_under (listed_def (data_of binding.now)) (slot_of term.now)) }
 {
     match term {
         Term::Const(value) => value.copy(alloc),

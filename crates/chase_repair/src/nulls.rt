@@ -3,8 +3,8 @@ ghost use Rattle.std.specs.Prelude.{◌≡◌, map, IfOk, OnOk};
 ghost use Rattle.std.specs.List.{list_any};
 ghost use Rattle.base_types.specs.Meanings.{null_of, datum_of, fact_of};
 ghost use Rattle.base_types.specs.Maps.{images_of, moved_by};
-ghost use Rattle.def_steps.specs.Rewriting.{nulls_in as nulls_in_lem, same_null, sorted_nulls};
-ghost use Rattle.chase_repair.specs.Nulls.{with_null, with_null_of, moved_among as moved_among_lem, moves as moves_lem};
+ghost use Rattle.def_steps.specs.Rewriting.{nulls_in as nulls_in_def, same_null, sorted_nulls};
+ghost use Rattle.chase_repair.specs.Nulls.{with_null, with_null_of, moved_among as moved_among_def, moves as moves_def};
 
 use crate::ordering::listed;
 use base_types::{List, Memory, Null, Sub, Tuple, Value};
@@ -14,7 +14,7 @@ use std::collections::BTreeSet;
 /// The distinct nulls among the values, in order of first position. It is refused only for want of memory.
 pub fn nulls_in(alloc: Global, values: &[Value]) -> Result<List<Null>, Memory>
     ensures value { IfOk result (λ nulls. map null_of nulls.items ≡
-        nulls_in_lem (map datum_of values.now)) }
+        nulls_in_def (map datum_of values.now)) }
 {
     let mut nulls = List::new(alloc);
     for value in values {
@@ -26,8 +26,8 @@ pub fn nulls_in(alloc: Global, values: &[Value]) -> Result<List<Null>, Memory>
 /// The nulls of the tuple that the substitution moves, in their order. It is refused only for want of memory.
 pub(crate) fn moved_nulls(alloc: Global, sub: &Sub, tuple: &Tuple) -> Result<List<Null>, Memory>
     ensures value { IfOk result (λ nulls.
-        map null_of nulls.items ≡ moved_among_lem sub.now
-        (sorted_nulls (nulls_in_lem (fact_of tuple.now).values))) }
+        map null_of nulls.items ≡ moved_among_def sub.now
+        (sorted_nulls (nulls_in_def (fact_of tuple.now).values))) }
 {
     let all = nulls_in(alloc, tuple.values.as_slice())?;
     let sorted = listed(alloc, sorted(alloc, all.as_slice())?)?;
@@ -82,7 +82,7 @@ fn sorted(alloc: Global, nulls: &[Null]) -> Result<BTreeSet<Null>, Memory>
 // Those of the nulls that the substitution moves.
 fn moved_among(alloc: Global, sub: &Sub, nulls: &[Null]) -> Result<List<Null>, Memory>
     ensures value { IfOk result (λ moved.
-        map null_of moved.items ≡ moved_among_lem sub.now (map null_of nulls.now)) }
+        map null_of moved.items ≡ moved_among_def sub.now (map null_of nulls.now)) }
 {
     let mut moved = List::new(alloc);
     for null in nulls {
@@ -95,7 +95,7 @@ fn moved_among(alloc: Global, sub: &Sub, nulls: &[Null]) -> Result<List<Null>, M
 
 // Whether the substitution moves the null.
 fn moves(sub: &Sub, null: Null) -> bool
-    ensures answer { result ≡ moves_lem (moved_by (images_of sub.now)) (null_of null) }
+    ensures answer { result ≡ moves_def (moved_by (images_of sub.now)) (null_of null) }
 {
     match sub.get(null) {
         Some(image) => *image != Value::Null(null),

@@ -2,7 +2,7 @@
 ghost use Rattle.std.specs.Prelude.{◌≡◌, [], ◌∷◌, map, IfOk, OnOk};
 ghost use Rattle.def_chase.specs.Repository.{apply, Insert};
 ghost use Rattle.base_types.specs.Meanings.{fact_of};
-ghost use Rattle.def_steps.specs.Rewriting.{in_order as in_order_lem};
+ghost use Rattle.def_steps.specs.Rewriting.{in_order as in_order_def};
 
 use base_types::{List, Memory, TryCopy, Tuple, TupleList};
 use std::alloc::Global;
@@ -11,7 +11,7 @@ use std::collections::BTreeSet;
 /// The tuples in order, each once. It is refused only for want of memory.
 pub fn in_order(alloc: Global, tuples: &TupleList) -> Result<TupleList, Memory>
     ensures value { IfOk result (λ list. map fact_of list.items ≡
-        in_order_lem (map fact_of tuples.now.items)) }
+        in_order_def (map fact_of tuples.now.items)) }
 {
     let mut set = BTreeSet::new(alloc);
     put_copies(alloc, &mut set, tuples.as_slice())?;

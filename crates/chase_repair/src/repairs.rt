@@ -20,7 +20,7 @@ use crate::stages::{Generation, Stage};
 use crate::wants::{Progress, RepairWant};
 use base_limits::Mappings;
 use base_types::{Choice, Mapping, Memory, TryCopy, TupleList, ValueList, WriteList};
-use chase_query::{Answer, Query};
+use chase_query::{Query, Reply};
 use std::alloc::Global;
 use std::marker::Model;
 
@@ -110,7 +110,7 @@ impl Repair {
         &mut self,
         alloc: Global,
         own: &mut WriteList,
-        answer: &Answer,
+        answer: &Reply,
         mappings: &Mappings<'_>,
     ) -> Result<Progress, Memory>
         requires { TakesReply mappings.now (wanted self.old) (reply_of answer.now) }

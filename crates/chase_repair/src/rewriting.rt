@@ -5,7 +5,7 @@ ghost use Rattle.def_chase.specs.Values.{under};
 ghost use Rattle.base_types.specs.Contents.{changes_of, facts_of};
 ghost use Rattle.base_types.specs.Meanings.{fact_of};
 ghost use Rattle.base_types.specs.Maps.{images_of, moved_by};
-ghost use Rattle.def_steps.specs.Rewriting.{in_order as in_order_lem, rewrite as rewrite_lem};
+ghost use Rattle.def_steps.specs.Rewriting.{in_order as in_order_def, rewrite as rewrite_def};
 
 use crate::ordering::put;
 use base_types::{List, Memory, Sub, TryCopy, Tuple, TupleList, Write, WriteList};
@@ -17,7 +17,7 @@ use std::collections::BTreeSet;
 /// substituted tuple, in order. It is refused only for want of memory.
 pub fn rewrite(alloc: Global, sub: &Sub, tuples: &TupleList) -> Result<WriteList, Memory>
     ensures value { IfOk result (λ writes.
-        changes_of writes ≡ rewrite_lem (moved_by (images_of sub.now)) (facts_of tuples.now)) }
+        changes_of writes ≡ rewrite_def (moved_by (images_of sub.now)) (facts_of tuples.now)) }
 {
     let moved = moved_in_order(alloc, sub, tuples.as_slice())?;
     let mut writes = deletions(alloc, tuples.copy(alloc)?)?;
@@ -41,7 +41,7 @@ pub(crate) fn deletions(alloc: Global, tuples: TupleList) -> Result<WriteList, M
 fn moved_in_order(alloc: Global, sub: &Sub, tuples: &[Tuple]) -> Result<BTreeSet<Tuple>, Memory>
     ensures value { IfOk result (λ set.
         map fact_of set.keys ≡
-        in_order_lem (map (under (moved_by (images_of sub.now))) (map fact_of tuples.now))) }
+        in_order_def (map (under (moved_by (images_of sub.now))) (map fact_of tuples.now))) }
 {
     let mut set = BTreeSet::new(alloc);
     for tuple in tuples {

@@ -3,7 +3,7 @@ ghost use Rattle.std.specs.Prelude.{◌≡◌, ◌<◌, ◌++◌, false, length,
 ghost use Rattle.base_types.specs.Contents.{changes_of, facts_of};
 ghost use Rattle.base_types.specs.Meanings.{fact_of};
 ghost use Rattle.base_types.specs.Maps.{images_of, moved_by};
-ghost use Rattle.def_steps.specs.Rewriting.{in_order, rewrite as rewrite_lem, next_atom};
+ghost use Rattle.def_steps.specs.Rewriting.{in_order, rewrite as rewrite_def, next_atom};
 ghost use Rattle.chase_repair.specs.Repairs.{phase_of, is_asking, moved_repair};
 ghost use Rattle.chase_repair.specs.Stages.{repair_of, gathering_of, repairing_of, HasKept, IsSound};
 
@@ -66,7 +66,7 @@ pub(crate) fn unify(
 ) -> Result<Stage, Memory>
     ensures writes { OnOk result (
         changes_of own.new ≡ changes_of own.old ++
-        rewrite_lem (moved_by (images_of sub.now)) (facts_of tuples.now)) }
+        rewrite_def (moved_by (images_of sub.now)) (facts_of tuples.now)) }
     ensures phase { IfOk result (λ stage. phase_of (repairing_of generation.new stage) ≡
         next_atom mappings.now
         (moved_repair (moved_by (images_of sub.now)) (repair_of generation.old))) }

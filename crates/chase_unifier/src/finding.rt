@@ -1,7 +1,7 @@
 //! The candidates of a generated tuple.
 ghost use Rattle.std.specs.Prelude.{◌≡◌, map, filter, IfOk};
 ghost use Rattle.std.specs.List.{list_all};
-ghost use Rattle.def_chase.specs.Specific.{is_constant as is_constant_lem, more_specific};
+ghost use Rattle.def_chase.specs.Specific.{is_constant as is_constant_def, more_specific};
 ghost use Rattle.def_chase.specs.Values.{same_fact};
 ghost use Rattle.base_types.specs.Meanings.{datum_of, fact_of};
 
@@ -35,7 +35,7 @@ pub fn candidates<F: Facts>(alloc: Global, tuple: &Tuple, facts: &F) -> Result<T
 
 // Whether no value is a null.
 fn is_ground(values: &[Value]) -> bool
-    ensures ground { result ≡ list_all is_constant_lem (map datum_of values.now) }
+    ensures ground { result ≡ list_all is_constant_def (map datum_of values.now) }
 {
     values.iter().all(|value| is_constant(value))
 }

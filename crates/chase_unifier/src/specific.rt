@@ -3,10 +3,10 @@ ghost use Rattle.std.specs.Prelude.{◌≡◌, IfOk, IfSome};
 ghost use Rattle.std.specs.List.{list_all};
 ghost use Rattle.std.specs.Option.{option_map};
 ghost use Rattle.def_chase.specs.Values.{under};
-ghost use Rattle.def_chase.specs.Specific.{is_constant as is_constant_lem, more_specific, image_of as image_of_lem};
+ghost use Rattle.def_chase.specs.Specific.{is_constant as is_constant_def, more_specific, image_of as image_of_def};
 ghost use Rattle.base_types.specs.Meanings.{datum_of, fact_of};
 ghost use Rattle.base_types.specs.Maps.{images_of, moved_by};
-ghost use Rattle.chase_unifier.specs.Graphs.{pairs, keeps_constant, may_stand as may_stand_lem, taking};
+ghost use Rattle.chase_unifier.specs.Graphs.{pairs, keeps_constant, may_stand as may_stand_def, taking};
 
 use crate::nulls::give;
 use base_types::{Memory, Sub, Tuple, Value};
@@ -46,7 +46,7 @@ pub fn specific_by(alloc: Global, tuple: &Tuple, specific: &Tuple) -> Result<Opt
 /// there.
 pub(crate) fn image_of<'a>(tuple: &Tuple, specific: &'a Tuple, value: &'a Value) -> &'a Value
     ensures image { datum_of result.now ≡
-        image_of_lem (fact_of tuple.now) (fact_of specific.now) (datum_of value.now) }
+        image_of_def (fact_of tuple.now) (fact_of specific.now) (datum_of value.now) }
 {
     let images = specific.values.as_slice();
     let found = tuple
@@ -63,7 +63,7 @@ pub(crate) fn image_of<'a>(tuple: &Tuple, specific: &'a Tuple, value: &'a Value)
 
 /// Whether the value is a number or a word.
 pub(crate) fn is_constant(value: &Value) -> bool
-    ensures answer { result ≡ is_constant_lem (datum_of value.now) }
+    ensures answer { result ≡ is_constant_def (datum_of value.now) }
 {
     match value {
         Value::Int(_) => true,
@@ -81,7 +81,7 @@ fn is_kept(value: &Value, image: &Value) -> bool
 
 // Whether the values and what stands in their places make up a function that keeps constants.
 fn is_function(values: &[Value], images: &[Value]) -> bool
-    ensures answer { result ≡ list_all (may_stand_lem (pairs values.now images.now))
+    ensures answer { result ≡ list_all (may_stand_def (pairs values.now images.now))
         (pairs values.now images.now) }
 {
     values
@@ -92,7 +92,7 @@ fn is_function(values: &[Value], images: &[Value]) -> bool
 
 // Whether the pair of a value and its image may stand in such a function with the others.
 fn may_stand(value: &Value, image: &Value, values: &[Value], images: &[Value]) -> bool
-    ensures answer { result ≡ may_stand_lem (pairs values.now images.now)
+    ensures answer { result ≡ may_stand_def (pairs values.now images.now)
         (datum_of value.now, datum_of image.now) }
 {
     if !is_kept(value, image) {

@@ -2,7 +2,7 @@
 ghost use Rattle.std.specs.Prelude.{◌≡◌, true, length, IfOk};
 ghost use Rattle.def_chase.specs.Values.{under};
 ghost use Rattle.def_chase.specs.Specific.{more_specific, image_of};
-ghost use Rattle.def_chase.specs.Unifier.{after, least_after, unifier as unifier_lem};
+ghost use Rattle.def_chase.specs.Unifier.{after, least_after, unifier as unifier_def};
 ghost use Rattle.base_types.specs.Meanings.{datum_of, fact_of};
 ghost use Rattle.base_types.specs.Maps.{images_of, moved_by};
 
@@ -17,7 +17,7 @@ use std::alloc::Global;
 pub fn unifier(alloc: Global, tuple: &Tuple, specific: &Tuple) -> Result<Sub, Memory>
     requires { more_specific (fact_of specific.now) (fact_of tuple.now) ≡ true }
     ensures value { IfOk result (λ sub. moved_by (images_of sub) ≡
-        unifier_lem (fact_of tuple.now) (fact_of specific.now)) }
+        unifier_def (fact_of tuple.now) (fact_of specific.now)) }
     ensures unites { IfOk result (λ sub. under (moved_by (images_of sub)) (fact_of specific.now) ≡
         under (moved_by (images_of sub)) (fact_of tuple.now)) }
 {

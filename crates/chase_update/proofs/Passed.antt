@@ -9,7 +9,7 @@ use Rattle.chase_update.specs.Views.{state_of}
 use Rattle.chase_update.specs.declared.points.Point.{Point}
 use Rattle.chase_update.specs.declared.points.Point.TheVariants.{Reading as ReadingPoint}
 use Rattle.chase_update.specs.declared.readings.Reading.{Reading}
-use Rattle.chase_update.specs.declared.programs.Parts.{Parts}
+use Rattle.chase_update.specs.declared.attempts.Parts.{Parts}
 
 -- The parts of a program, at this point.
 abbrev at_point : Parts → Point → Parts

@@ -8,15 +8,15 @@ use Rattle.def_chase.specs.Updates.{Operation, direction_of}
 use Rattle.base_types.specs.Listed.{Listed}
 use Rattle.base_types.specs.declared.tuples.Tuple.{Tuple}
 use Rattle.base_types.specs.Meanings.{fact_of}
-use Rattle.chase_query.specs.declared.answers.Answer.{Answer}
-use Rattle.chase_query.specs.declared.answers.Answer.TheVariants.{Image}
+use Rattle.chase_query.specs.declared.replies.Reply.{Reply}
+use Rattle.chase_query.specs.declared.replies.Reply.TheVariants.{Image}
 use Rattle.chase_query.specs.Meanings.{reply_of}
 use Rattle.def_steps.specs.Attempts.{Attempt}
 use Rattle.def_steps.specs.Steps.{Asking, image_in, repair, look_from}
 use Rattle.chase_update.specs.Rows.{repaired, look_on}
 
 -- The image of a mapping that there is is repaired.
-pub repairs : (P : Attempt) (ms : List Rule) (n : ℕ) (m : Rule) (op : Operation) (d : Direction) (a : Answer) (ts : Listed Tuple) (rest : Asking)
+pub repairs : (P : Attempt) (ms : List Rule) (n : ℕ) (m : Rule) (op : Operation) (d : Direction) (a : Reply) (ts : Listed Tuple) (rest : Asking)
     → slice_get ms n ≡ Some m → d ≡ direction_of op → P.operation ≡ op → a ≡ Image ts
     → repair P d n m (map fact_of ts.items) ≡ repaired P n (slice_get ms n) (image_in (reply_of a)) rest
 repairs P ms n m op d a ts rest g e h f =

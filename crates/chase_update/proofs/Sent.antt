@@ -8,11 +8,11 @@ use Rattle.chase_repair.proofs.Sent.{repair_send}
 use Rattle.chase_update.specs.contracts.own.Own as own
 use Rattle.chase_update.specs.contracts.own.Own.TheInside as own_inside
 use Rattle.chase_update.specs.contracts.points.Point as points
-use Rattle.chase_update.specs.contracts.programs.Parts as parts
-use Rattle.chase_update.specs.contracts.programs.Program as programs
+use Rattle.chase_update.specs.contracts.attempts.Parts as parts
+use Rattle.chase_update.specs.contracts.attempts.Attempt as programs
 use Rattle.chase_update.specs.contracts.shared.SharedWrites as shared
 use Rattle.chase_update.specs.contracts.shared.SharedWrites.TheInside as shared_inside
-use Rattle.chase_update.specs.contracts.programs.Program.TheInside as inside
+use Rattle.chase_update.specs.contracts.attempts.Attempt.TheInside as inside
 
 operation_send : IsSend operations.the_row
 operation_send = search (sendable, crosses) depth 60 fits 6000

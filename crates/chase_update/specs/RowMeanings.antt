@@ -5,23 +5,23 @@ use Rattle.def_chase.specs.Queries.{Query, Present, Violation, Specific, Occurs}
 use Rattle.base_types.specs.Meanings.{null_of, datum_of, fact_of}
 use Rattle.chase_update.specs.Found.{Found}
 use Rattle.chase_update.specs.Rows as rows
-use Rattle.chase_update.specs.declared.found.Standing.{Standing}
+use Rattle.chase_update.specs.declared.found.ResolvedNull.{ResolvedNull}
 use Rattle.chase_update.specs.declared.rows.Naming.{Naming}
 use Rattle.chase_update.specs.declared.rows.Renaming.{Renaming}
 use Rattle.chase_update.specs.declared.rows.Row.{Row}
 use Rattle.chase_update.specs.declared.rows.Row.TheVariants.{Naming as NamingRow, Writing, Replacing, Renaming as RenamingRow, Forcing, Violating}
 
--- The named null and the value that a `Standing` pairs.
-abbrev pub standing_of : Standing → NullName × Datum
-standing_of s = (null_of s.name, datum_of s.value)
+-- The named null and the value that a `ResolvedNull` pairs.
+abbrev pub resolved_of : ResolvedNull → NullName × Datum
+resolved_of s = (null_of s.name, datum_of s.value)
 
 -- Where a step stands that looks up named nulls.
 abbrev pub naming_of : Naming → rows.Row
-naming_of n = rows.Naming (map standing_of n.found.items) (null_of n.name) (map null_of (drop n.next n.names.items))
+naming_of n = rows.Naming (map resolved_of n.found.items) (null_of n.name) (map null_of (drop n.next n.names.items))
 
 -- The pairs found before, and that of the named null with this value.
 abbrev pub found_with : Naming → Datum → Found
-found_with n d = map standing_of n.found.items ++ (null_of n.name, d) ∷ []
+found_with n d = map resolved_of n.found.items ++ (null_of n.name, d) ∷ []
 
 -- The tuple that is asked about.
 abbrev pub tuple_asked : Query → Fact

@@ -5,7 +5,7 @@ use Rattle.def_chase.specs.Queries.{Query, Reply}
 use Rattle.def_chase.specs.Updates.{Operation}
 use Rattle.base_types.specs.declared.updates.Choice.{Choice}
 use Rattle.base_types.specs.Meanings.{choice_of}
-use Rattle.chase_query.specs.declared.answers.Answer.{Answer}
+use Rattle.chase_query.specs.declared.replies.Reply.{Reply as ReplyOfProgram}
 use Rattle.chase_query.specs.Meanings.{reply_of}
 use Rattle.def_steps.specs.Attempts.{begun}
 use Rattle.def_steps.specs.Steps.{step, look_from}
@@ -23,7 +23,7 @@ abbrev pub HasBegun : List Rule → ℕ → State → State → Type 0
 HasBegun ms B s s' = course ms s' ≡ coming_to B s.attempt (step ms s.attempt None)
 
 -- The step in hand has gone on by the answer to its query.
-abbrev pub HasAnswered : List Rule → Answer → State → State → Type 0
+abbrev pub HasAnswered : List Rule → ReplyOfProgram → State → State → Type 0
 HasAnswered ms a s s' = course ms s' ≡ by_reply (course ms s) (reply_of a)
 
 -- The step of the answer to the question has begun, within this budget.

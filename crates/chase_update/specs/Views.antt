@@ -5,7 +5,7 @@ use Rattle.base_types.specs.Meanings.{operation_of, change_of}
 use Rattle.def_steps.specs.Attempts.{question_in}
 use Rattle.chase_update.specs.Courses.{State}
 use Rattle.chase_update.specs.PointMeanings.{phase_at, row_at}
-use Rattle.chase_update.specs.declared.programs.Parts.{Parts}
+use Rattle.chase_update.specs.declared.attempts.Parts.{Parts}
 
 -- The attempt as it is between two steps, or was when the step in hand began, with that step.
 abbrev pub state_of : Parts → State

@@ -15,7 +15,7 @@ use crate::starting::found_name;
 use crate::turns::Turn;
 use base_limits::Mappings;
 use base_types::{Memory, Operation};
-use chase_query::Answer;
+use chase_query::Reply;
 use chase_repair::Fresh;
 use std::alloc::Global;
 
@@ -26,7 +26,7 @@ pub(crate) fn answered(
     operation: &Operation,
     fresh: Fresh,
     reading: &Reading,
-    answer: &Answer,
+    answer: &Reply,
     mappings: &Mappings<'_>,
 ) -> Result<Option<Turn>, Memory>
     requires room { fresh.drawn + 64 < 4294967296 }

@@ -1,128 +1,375 @@
-//! What a program tells of its attempt, and a copy of it.
-ghost use Rattle.std.specs.Prelude.{◌≡◌, ◌≤◌, ◌↔◌, map, IfOk, IsTrue};
-ghost use Rattle.def_steps.specs.Attempts.{Look};
-ghost use Rattle.def_chase.specs.Updates.{direction_of};
-ghost use Rattle.base_types.specs.Contents.{changes_of};
-ghost use Rattle.base_types.specs.Meanings.{change_of, heading_of};
-ghost use mathlib.Core.List.{IsPrefix};
+//! A program: an attempt at an update, step by step.
+ghost use Rattle.std.specs.Prelude.{◌≡◌, ◌<◌, ◌≤◌, true, false, None, List, is_some, IfOk, OnOk, OnErr};
+ghost use Rattle.def_chase.specs.Mappings.{Rule};
+ghost use Rattle.base_types.specs.Meanings.{choice_of, operation_of};
+ghost use Rattle.chase_query.specs.Meanings.{reply_of};
+ghost use Rattle.def_steps.specs.Attempts.{question_in, Look, Start};
+ghost use Rattle.def_steps.specs.Steps.{moved};
+ghost use Rattle.chase_update.specs.Courses.{between, counted, course, first_asked};
+ghost use Rattle.chase_update.specs.Wishes.{wish, WishesStep, query_wished, TakesAnswer, Fits};
+ghost use Rattle.chase_repair.specs.Meanings.{DrawsFrom};
+ghost use Rattle.chase_update.specs.PointMeanings.{want_of};
+ghost use Rattle.chase_update.specs.Transitions.{IsAtStart, HasBegun, HasAnswered, HasChosen, HasLooked, StaysWhileAsking};
+ghost use Rattle.chase_update.specs.TurnMeanings.{move_of, HasFollowed, IsTurnOf};
 
+use crate::answering::answered;
+use crate::counting::{spend, taken_after};
+use crate::ends::Want;
+use crate::looking::look;
+use crate::moves::Move;
 use crate::own::Own;
+use crate::passing::{looks_on, next_from_start, violation_asked};
 use crate::points::Point;
-use crate::programs::Program;
-use crate::repairing::is_repaired;
-use crate::rows::Row;
-use base_types::{Direction, Memory, TryCopy, WriteList};
+use crate::repairing::{generates, want_of_repair};
+use crate::starting::{is_yes, start};
+use crate::turns::Turn;
+use base_limits::{Budget, Mappings};
+use base_types::{Choice, Memory, Operation, TryCopy, Update};
+use chase_query::Reply;
+use chase_repair::{Fresh, Progress, boxed};
 use std::alloc::Global;
+use std::marker::Model;
 
-impl Program {
-    /// The writes that the attempt has made, in order.
-    pub fn own(&self) -> &WriteList
-        ensures own { map change_of result.now.items ≡ self.now.attempt.own }
+/// The step in hand: its budget, and whether it takes the answer to a question.
+#[derive(Clone, Copy, Debug)]
+pub(crate) struct Hand {
+    pub(crate) budget: Budget,
+    pub(crate) answers: bool,
+}
+
+/// An attempt at an update, which asks queries and questions, takes their answers, and makes the steps of the chase. It is a
+/// pointer, so that it is small where it moves. Contracts see it as its attempt and the step in hand.
+#[derive(Debug, Drop)]
+pub struct Attempt {
+    pub(crate) parts: Box<Parts>,
+}
+
+/// What a program is made of: its update, its writes, its counts, and where it stands.
+#[derive(Debug, Drop)]
+pub(crate) struct Parts {
+    pub(crate) number: u32,
+    pub(crate) attempt: u32,
+    pub(crate) operation: Operation,
+    pub(crate) own: Own,
+    pub(crate) steps: u32,
+    pub(crate) nulls: u32,
+    pub(crate) taken: u32,
+    pub(crate) hand: Hand,
+    pub(crate) point: Point,
+}
+
+impl Model for Attempt {
+    ghost use Rattle.chase_update.specs.Courses.{State};
+
+    ghost Value = { State };
+
+    ghost use Rattle.chase_update.specs.Views.{state_of, IsCounted};
+
+    ghost view = { λ p. state_of p.parts.value };
+
+    ghost invariant = { λ p. IsCounted p.parts.value };
+}
+
+impl Attempt {
+    /// The attempt of that number at an update, at its start. `number` is the update's. It is refused only for want of
+    /// memory.
+    pub fn start(
+        alloc: Global,
+        update: &Update,
+        number: u32,
+        attempt: u32,
+    ) -> Result<Attempt, Memory>
+        ensures begun { IfOk result (IsAtStart number attempt (operation_of update.now.operation)) }
     {
-        self.parts.own.list()
+        let operation = update.operation.copy(alloc)?;
+        Attempt::at_start(alloc, number, attempt, operation)
     }
 
-    /// The writes that the attempt has made, in order, for which it is given up. It is refused only for want of memory.
-    pub fn into_own(self, alloc: Global) -> Result<WriteList, Memory>
-        ensures own { IfOk result (λ own. map change_of own.items ≡ self.attempt.own) }
+    /// The attempt of that number at the operation, at its start. `number` is the update's. It is refused only for want of
+    /// memory.
+    pub(crate) fn at_start(
+        alloc: Global,
+        number: u32,
+        attempt: u32,
+        operation: Operation,
+    ) -> Result<Attempt, Memory>
+        ensures begun { IfOk result (IsAtStart number attempt (operation_of operation)) }
     {
-        let parts = Box::into_inner(self.parts);
-        parts.own.into_list(alloc)
+        let parts = Parts {
+            number,
+            attempt,
+            operation,
+            own: Own::none(alloc),
+            steps: 0,
+            nulls: 0,
+            taken: 0,
+            hand: Hand {
+                budget: Budget::new(1),
+                answers: false,
+            },
+            point: Point::Start,
+        };
+        Ok(Attempt {
+            parts: boxed(alloc, parts)?,
+        })
     }
 
-    /// A copy to make the next step on, which takes along what the attempt keeps to make more writes. It is refused only for
-    /// want of memory. The attempt stays as it is.
-    pub fn branch(&mut self, alloc: Global) -> Result<Program, Memory>
-        ensures same { IfOk result (λ branch. branch ≡ self.old) }
-        ensures stays { self.new ≡ self.old }
-    {
-        let own = self.parts.own.branch(alloc)?;
-        self.with(alloc, own)
-    }
-
-    // A copy with these writes, which are the attempt's. It is refused only for want of memory.
-    fn with(&self, alloc: Global, own: Own) -> Result<Program, Memory>
-        requires own { changes_of own ≡ self.now.attempt.own }
-        ensures same { IfOk result (λ copy. copy ≡ self.now) }
-    {
-        let from = &*self.parts;
-        let operation = from.operation.copy(alloc)?;
-        let mut copy = Program::at_start(alloc, from.number, from.attempt, operation)?;
-        let parts = &mut *copy.parts;
-        parts.point = from.point.copy(alloc)?;
-        parts.own = own;
-        parts.steps = from.steps;
-        parts.nulls = from.nulls;
-        parts.taken = from.taken;
-        parts.hand = from.hand;
-        Ok(copy)
-    }
-
-    /// Lets copies of it share its writes from now on. It keeps those that it had before, to make more. It is refused only for
-    /// want of memory. It stays as it is.
-    pub fn share(&mut self, alloc: Global, before: &Program) -> Result<(), Memory>
-        requires first { IsPrefix before.now.attempt.own self.old.attempt.own }
-        ensures same { self.new ≡ self.old }
-    {
-        self.parts.own.share(alloc, &before.parts.own)?;
-        Ok(())
-    }
-
-    /// How many steps it has made.
-    pub fn steps(&self) -> u32
-        ensures steps { result ≡ self.now.attempt.steps }
-        ensures most { result ≤ 300 }
-    {
-        self.parts.steps
-    }
-
-    /// How many nulls it has drawn.
-    pub fn nulls(&self) -> u32
-        ensures nulls { result ≡ self.now.attempt.nulls }
-    {
-        self.parts.nulls
-    }
-
-    /// How many answers to questions it has taken.
-    pub fn taken(&self) -> u32
-        ensures taken { result ≡ self.now.attempt.taken }
-        ensures most { result ≤ self.now.attempt.steps }
-    {
-        self.parts.taken
-    }
-
-    /// Whether its next step, or the step in hand, is a look.
-    pub fn is_looking(&self) -> bool
-        ensures looking { IsTrue result ↔ (self.now.attempt.phase ≡ Look) }
+    /// What is wanted next: the answer to a query exactly where the step in hand asks that query first, and else what
+    /// the attempt between two steps wants. It takes no memory.
+    #[inline]
+    pub fn wants(&self) -> Want<'_>
+        ensures want { want_of result ≡ wish self.now }
+        ensures first { (ms : List Rule) →
+            first_asked (course ms self.now) ≡ query_wished (want_of result) }
+        ensures rests { query_wished (want_of result) ≡ None → self.now.reading ≡ None }
     {
         match &self.parts.point {
-            Point::Start => false,
-            Point::Look => true,
-            Point::Repair(repair) => is_repaired(repair),
-            Point::Ended(_) => false,
-            Point::Reading(reading) => matches!(reading.row, Row::Forcing(_) | Row::Violating(_)),
+            Point::Start => Want::NextStep,
+            Point::Look => Want::NextStep,
+            Point::Repair(repair) => want_of_repair(repair),
+            Point::Ended(end) => Want::Ended(end.told()),
+            Point::Reading(reading) => Want::Read(&reading.query),
         }
     }
 
-    /// The direction of its repairs.
-    pub fn direction(&self) -> Direction
-        ensures heading { heading_of result ≡ direction_of self.now.attempt.operation }
+    /// Begins the next step, up to its first query or its end. The budget is that of the attempt; with its last step
+    /// made, an attempt that has not ended is spent. While the step asks, the attempt stays as it was.
+    pub fn begin(
+        &mut self,
+        alloc: Global,
+        mappings: &Mappings<'_>,
+        budget: Budget,
+    ) -> Result<(), Memory>
+        requires next { wish self.old ≡ WishesStep }
+        requires left { self.old.attempt.steps < budget }
+        ensures step { OnOk result (HasBegun mappings.now budget self.old self.new) }
+        ensures attempt { StaysWhileAsking self.old self.new }
+        ensures err { OnErr result (self.new ≡ self.old) }
     {
-        self.parts.operation.direction()
+        let hand = Hand {
+            budget,
+            answers: false,
+        };
+        match &mut self.parts.point {
+            Point::Start => self.operate(alloc, hand),
+            Point::Look => self.look(alloc, mappings, hand),
+            Point::Repair(repair) => {
+                if !generates(repair) {
+                    return self.look(alloc, mappings, hand);
+                }
+                repair.begin(alloc, mappings)?;
+                self.parts.hand = hand;
+                Ok(())
+            }
+            _ => unreachable!(),
+        }
     }
-}
 
-impl TryCopy for Program {
-    ghost use Rattle.chase_update.specs.Courses.{State};
-
-    ghost Meaning = { State };
-
-    ghost meaning = { λ s. s };
-
-    fn copy(&self, alloc: Global) -> Result<Program, Memory>
-        ensures same { IfOk result (λ copy. copy ≡ self.now) }
+    // Begins the step of the operation. It stands apart, since it is rare and what it comes to is large.
+    fn operate(&mut self, alloc: Global, hand: Hand) -> Result<(), Memory>
+        requires left { self.old.attempt.steps < hand.budget }
+        requires phase { self.old.attempt.phase ≡ Start }
+        requires answers { hand.answers ≡ false }
+        ensures step { (ms : List Rule) →
+            OnOk result (HasBegun ms hand.budget self.old self.new) }
+        ensures attempt { StaysWhileAsking self.old self.new }
+        ensures err { OnErr result (self.new ≡ self.old) }
     {
-        let own = self.parts.own.copy(alloc)?;
-        self.with(alloc, own)
+        let turn = start(alloc, &self.parts.operation)?;
+        self.follow(alloc, turn, hand)
+    }
+
+    // Begins a look.
+    fn look(&mut self, alloc: Global, mappings: &Mappings<'_>, hand: Hand) -> Result<(), Memory>
+        requires left { self.old.attempt.steps < hand.budget }
+        requires phase { self.old.attempt.phase ≡ Look }
+        requires answers { hand.answers ≡ false }
+        ensures step { OnOk result (HasLooked mappings.now hand.budget self.old self.new) }
+        ensures attempt { StaysWhileAsking self.old self.new }
+        ensures err { OnErr result (self.new ≡ self.old) }
+    {
+        match next_from_start(self.parts.number, 0, mappings) {
+            Some(place) => {
+                let parts = &mut *self.parts;
+                parts.point = Point::Reading(violation_asked(place));
+                parts.hand = hand;
+                Ok(())
+            }
+            None => {
+                let turn = look(alloc, self.parts.number, 0, mappings)?;
+                self.follow(alloc, turn, hand)
+            }
+        }
+    }
+
+    /// Takes the answer to the query that is asked, and goes on by it up to the next query or the end of the step. While
+    /// the step asks, the attempt stays as it was.
+    pub fn take(
+        &mut self,
+        alloc: Global,
+        answer: &Reply,
+        mappings: &Mappings<'_>,
+    ) -> Result<(), Memory>
+        requires kind { TakesAnswer mappings.now (wish self.old) (reply_of answer.now) }
+        ensures step { OnOk result (HasAnswered mappings.now answer.now self.old self.new) }
+        ensures attempt { StaysWhileAsking self.old self.new }
+        ensures err { OnErr result (self.new ≡ self.old) }
+    {
+        if self.looks_on(answer, mappings) {
+            return Ok(());
+        }
+        self.goes_on(alloc, answer, mappings)
+    }
+
+    // Goes on in place in a look that finds no violation of a mapping, where the next one that may be in force is so from
+    // the start, and says so. Else the program stays as it is.
+    fn looks_on(&mut self, answer: &Reply, mappings: &Mappings<'_>) -> bool
+        ensures step { result ≡ true → HasAnswered mappings.now answer.now self.old self.new }
+        ensures attempt { self.new.attempt ≡ self.old.attempt }
+        ensures stays { result ≡ false → self.new ≡ self.old }
+    {
+        let parts = &mut *self.parts;
+        match &mut parts.point {
+            Point::Reading(reading) => looks_on(reading, parts.number, answer, mappings),
+            Point::Start => false,
+            Point::Look => false,
+            Point::Repair(_) => false,
+            Point::Ended(_) => false,
+        }
+    }
+
+    // Goes on by the answer up to the next query or the end of the step.
+    fn goes_on(
+        &mut self,
+        alloc: Global,
+        answer: &Reply,
+        mappings: &Mappings<'_>,
+    ) -> Result<(), Memory>
+        requires kind { TakesAnswer mappings.now (wish self.old) (reply_of answer.now) }
+        ensures step { OnOk result (HasAnswered mappings.now answer.now self.old self.new) }
+        ensures attempt { StaysWhileAsking self.old self.new }
+        ensures err { OnErr result (self.new ≡ self.old) }
+    {
+        let hand = self.parts.hand;
+        let fresh = self.fresh();
+        let parts = &mut *self.parts;
+        match &mut parts.point {
+            Point::Reading(reading) => {
+                match answered(alloc, &parts.operation, fresh, reading, answer, mappings)? {
+                    Some(turn) => self.follow(alloc, turn, hand),
+                    None => {
+                        let there = is_yes(answer);
+                        parts
+                            .own
+                            .write(alloc, &parts.operation, &mut parts.point, there)?;
+                        self.land(0, hand);
+                        Ok(())
+                    }
+                }
+            }
+            Point::Repair(repair) => {
+                match parts.own.answer(alloc, repair, answer, mappings)? {
+                    Progress::Asks => {}
+                    Progress::Ends => self.land(0, hand),
+                }
+                Ok(())
+            }
+            _ => unreachable!(),
+        }
+    }
+
+    /// Takes an answer that fits the question, and makes the step of it up to its first query or its end. The budget is
+    /// as for `begin`. While the step asks, the attempt stays as it was.
+    pub fn choose(
+        &mut self,
+        alloc: Global,
+        choice: &Choice,
+        mappings: &Mappings<'_>,
+        budget: Budget,
+    ) -> Result<(), Memory>
+        requires fits { Fits (wish self.old) (choice_of choice.now) }
+        requires left { self.old.attempt.steps < budget }
+        ensures step { OnOk result (HasChosen mappings.now budget choice.now self.old self.new) }
+        ensures attempt { StaysWhileAsking self.old self.new }
+        ensures err { OnErr result (self.new ≡ self.old) }
+    {
+        let hand = Hand {
+            budget,
+            answers: true,
+        };
+        let parts = &mut *self.parts;
+        match &mut parts.point {
+            Point::Repair(repair) => {
+                match parts.own.choose(alloc, repair, choice, mappings)? {
+                    Progress::Asks => parts.hand = hand,
+                    Progress::Ends => self.land(0, hand),
+                }
+                Ok(())
+            }
+            _ => unreachable!(),
+        }
+    }
+
+    // Goes on to what the step has come to.
+    fn follow(&mut self, alloc: Global, turn: Turn, hand: Hand) -> Result<(), Memory>
+        requires left { self.old.attempt.steps < hand.budget }
+        requires answers { hand.answers ≡ is_some (question_in self.old.attempt.phase) }
+        requires turn { IsTurnOf self.old.attempt.phase turn }
+        ensures step { OnOk result (HasFollowed hand.budget turn self.old self.new) }
+        ensures attempt { StaysWhileAsking self.old self.new }
+        ensures err { OnErr result (self.new ≡ self.old) }
+    {
+        match turn {
+            Turn::Asks(reading) => {
+                let parts = &mut *self.parts;
+                parts.point = Point::Reading(reading);
+                parts.hand = hand;
+                Ok(())
+            }
+            Turn::Moves(step) => self.make(alloc, step, hand),
+        }
+    }
+
+    // Does what the step does, and counts it.
+    fn make(&mut self, alloc: Global, step: Move, hand: Hand) -> Result<(), Memory>
+        requires left { self.old.attempt.steps < hand.budget }
+        requires answers { hand.answers ≡ is_some (question_in self.old.attempt.phase) }
+        ensures moved { OnOk result (self.new ≡
+            between (moved hand.budget self.old.attempt (move_of step))) }
+        ensures err { OnErr result (self.new ≡ self.old) }
+    {
+        let parts = &mut *self.parts;
+        parts.own.append(alloc, step.writes)?;
+        parts.point = step.point;
+        self.land(step.drawn, hand);
+        Ok(())
+    }
+
+    // Counts the step that has left the attempt as it is now.
+    fn land(&mut self, drawn: u32, hand: Hand)
+        requires rests { self.old.reading ≡ None }
+        requires few { drawn ≤ 64 }
+        requires left { self.old.attempt.steps < hand.budget }
+        ensures counted { self.new ≡
+            between (counted hand.budget hand.answers drawn self.old.attempt) }
+    {
+        hand.budget.is_within();
+        let parts = &mut *self.parts;
+        parts.steps += 1;
+        parts.nulls += drawn;
+        parts.taken = taken_after(parts.taken, hand.answers);
+        spend(&mut parts.point, parts.steps, hand.budget);
+    }
+
+    // From where the attempt draws its nulls.
+    fn fresh(&self) -> Fresh
+        ensures draws { DrawsFrom self.now.attempt result }
+        ensures room { result.drawn ≤ 19200 }
+    {
+        Fresh {
+            update: self.parts.number,
+            attempt: self.parts.attempt,
+            drawn: self.parts.nulls,
+        }
     }
 }

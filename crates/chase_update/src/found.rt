@@ -1,38 +1,38 @@
 //! The named nulls of an operation, and the values that they stand for.
 ghost use Rattle.std.specs.Prelude.{◌≡◌, map, find, IfOk};
 ghost use Rattle.std.specs.Option.{option_map, option_copied};
-ghost use Rattle.def_chase.specs.Queries.{is_named as is_named_lem};
+ghost use Rattle.def_chase.specs.Queries.{is_named as is_named_def};
 ghost use Rattle.def_chase.specs.Values.{under};
 ghost use Rattle.base_types.specs.Contents.{facts_of};
 ghost use Rattle.base_types.specs.Meanings.{null_of, datum_of, fact_of};
 ghost use Rattle.chase_query.specs.Meanings.{reply_of};
-ghost use Rattle.def_steps.specs.Rewriting.{standing_for as standing_for_lem};
-ghost use Rattle.chase_update.specs.Found.{settled as settled_lem, stands_for as stands_for_lem, first_named as first_named_lem, is_found, some_of as some_of_lem, holders_in};
-ghost use Rattle.chase_update.specs.RowMeanings.{standing_of};
+ghost use Rattle.def_steps.specs.Rewriting.{standing_for as standing_for_def};
+ghost use Rattle.chase_update.specs.Found.{settled as settled_def, stands_for as stands_for_def, first_named as first_named_def, is_found, some_of as some_of_def, holders_in};
+ghost use Rattle.chase_update.specs.RowMeanings.{resolved_of};
 
 use base_types::{List, Memory, Null, TryCopy, Tuple, TupleList, Value};
-use chase_query::Answer;
+use chase_query::Reply;
 use std::alloc::Global;
 
 /// A named null of an operation, and the value that it stands for.
 #[derive(Debug, Drop)]
-pub(crate) struct Standing {
+pub(crate) struct ResolvedNull {
     pub(crate) name: Null,
     pub(crate) value: Value,
 }
 
-impl TryCopy for Standing {
+impl TryCopy for ResolvedNull {
     ghost use Rattle.def_chase.specs.Values.{NullName, Datum};
-    ghost use Rattle.chase_update.specs.RowMeanings.{standing_of};
+    ghost use Rattle.chase_update.specs.RowMeanings.{resolved_of};
 
     ghost Meaning = { NullName × Datum };
 
-    ghost meaning = { standing_of };
+    ghost meaning = { resolved_of };
 
-    fn copy(&self, alloc: Global) -> Result<Standing, Memory>
-        ensures same { IfOk result (λ copy. standing_of copy ≡ standing_of self.now) }
+    fn copy(&self, alloc: Global) -> Result<ResolvedNull, Memory>
+        ensures same { IfOk result (λ copy. resolved_of copy ≡ resolved_of self.now) }
     {
-        Ok(Standing {
+        Ok(ResolvedNull {
             name: self.name,
             value: self.value.copy(alloc)?,
         })
@@ -40,24 +40,24 @@ impl TryCopy for Standing {
 }
 
 /// Named nulls, each with the value that it stands for.
-pub(crate) type StandingList = List<Standing>;
+pub(crate) type ResolvedNullList = List<ResolvedNull>;
 
 /// The tuples of an answer to `Occurs`; None exactly where there are none.
-pub(crate) fn holders(answer: &Answer) -> Option<&TupleList>
+pub(crate) fn holders(answer: &Reply) -> Option<&TupleList>
     ensures found { option_map facts_of (option_copied result) ≡ holders_in (reply_of answer.now) }
 {
     match answer {
-        Answer::Tuples(tuples) => some_of(tuples),
-        Answer::Yes => None,
-        Answer::No => None,
-        Answer::Image(_) => None,
-        Answer::Nothing => None,
+        Reply::Tuples(tuples) => some_of(tuples),
+        Reply::Yes => None,
+        Reply::No => None,
+        Reply::Image(_) => None,
+        Reply::Nothing => None,
     }
 }
 
 // The tuples, if there are any.
 fn some_of(tuples: &TupleList) -> Option<&TupleList>
-    ensures found { option_map facts_of (option_copied result) ≡ some_of_lem (facts_of tuples.now) }
+    ensures found { option_map facts_of (option_copied result) ≡ some_of_def (facts_of tuples.now) }
 {
     if tuples.is_empty() {
         None
@@ -70,7 +70,7 @@ fn some_of(tuples: &TupleList) -> Option<&TupleList>
 /// the number 0 where none does. It is refused only for want of memory.
 pub fn standing_for(alloc: Global, name: Null, tuples: &TupleList) -> Result<Value, Memory>
     ensures value { IfOk result (λ value. datum_of value ≡
-        standing_for_lem (null_of name) (facts_of tuples.now)) }
+        standing_for_def (null_of name) (facts_of tuples.now)) }
 {
     match tuples.get(0) {
         Some(tuple) => first_named(alloc, name, tuple.values.as_slice()),
@@ -81,7 +81,7 @@ pub fn standing_for(alloc: Global, name: Null, tuples: &TupleList) -> Result<Val
 // A copy of the first of the values that is a null of that outer name; the number 0 where none is.
 fn first_named(alloc: Global, name: Null, values: &[Value]) -> Result<Value, Memory>
     ensures value { IfOk result (λ value. datum_of value ≡
-        first_named_lem (null_of name) (map datum_of values.now)) }
+        first_named_def (null_of name) (map datum_of values.now)) }
 {
     match find_named(name, values) {
         Some(value) => value.copy(alloc),
@@ -92,14 +92,14 @@ fn first_named(alloc: Global, name: Null, values: &[Value]) -> Result<Value, Mem
 // The first of the values that is a null of that outer name.
 fn find_named(name: Null, values: &[Value]) -> Option<&Value>
     ensures found { option_map datum_of (option_copied result) ≡
-        find (is_named_lem name.update name.place) (map datum_of values.now) }
+        find (is_named_def name.update name.place) (map datum_of values.now) }
 {
     values.iter().find(|value| is_named(value, name))
 }
 
 // Whether the value is a null of that outer name.
 fn is_named(value: &Value, name: Null) -> bool
-    ensures answer { result ≡ is_named_lem name.update name.place (datum_of value.now) }
+    ensures answer { result ≡ is_named_def name.update name.place (datum_of value.now) }
 {
     match value {
         Value::Null(null) => null.update == name.update && null.place == name.place,
@@ -110,9 +110,13 @@ fn is_named(value: &Value, name: Null) -> bool
 
 /// The tuple with each null replaced by what it stands for, and by the number 0 where it was not found. It is refused
 /// only for want of memory.
-pub(crate) fn resolved(alloc: Global, found: &[Standing], tuple: &Tuple) -> Result<Tuple, Memory>
+pub(crate) fn resolved(
+    alloc: Global,
+    found: &[ResolvedNull],
+    tuple: &Tuple,
+) -> Result<Tuple, Memory>
     ensures value { IfOk result (λ known. fact_of known ≡
-        under (settled_lem (map standing_of found.now)) (fact_of tuple.now)) }
+        under (settled_def (map resolved_of found.now)) (fact_of tuple.now)) }
 {
     let mut values = List::new(alloc);
     values.reserve(tuple.values.len())?;
@@ -123,9 +127,9 @@ pub(crate) fn resolved(alloc: Global, found: &[Standing], tuple: &Tuple) -> Resu
 }
 
 // What the value stands for: itself, where it is no null.
-fn settled(alloc: Global, found: &[Standing], value: &Value) -> Result<Value, Memory>
+fn settled(alloc: Global, found: &[ResolvedNull], value: &Value) -> Result<Value, Memory>
     ensures value { IfOk result (λ known. datum_of known ≡
-        settled_lem (map standing_of found.now) (datum_of value.now)) }
+        settled_def (map resolved_of found.now) (datum_of value.now)) }
 {
     match value {
         Value::Null(name) => stands_for(alloc, found, *name),
@@ -135,20 +139,20 @@ fn settled(alloc: Global, found: &[Standing], value: &Value) -> Result<Value, Me
 }
 
 // A copy of what the named null stands for; the number 0 where it was not found.
-fn stands_for(alloc: Global, found: &[Standing], name: Null) -> Result<Value, Memory>
+fn stands_for(alloc: Global, found: &[ResolvedNull], name: Null) -> Result<Value, Memory>
     ensures value { IfOk result (λ value. datum_of value ≡
-        stands_for_lem (map standing_of found.now) (null_of name)) }
+        stands_for_def (map resolved_of found.now) (null_of name)) }
 {
-    match find_standing(found, name) {
+    match find_resolved(found, name) {
         Some(standing) => standing.value.copy(alloc),
         None => Ok(Value::Int(0)),
     }
 }
 
 // The first pair of the named null.
-fn find_standing(found: &[Standing], name: Null) -> Option<&Standing>
-    ensures pair { option_map standing_of (option_copied result) ≡
-        find (is_found (null_of name)) (map standing_of found.now) }
+fn find_resolved(found: &[ResolvedNull], name: Null) -> Option<&ResolvedNull>
+    ensures pair { option_map resolved_of (option_copied result) ≡
+        find (is_found (null_of name)) (map resolved_of found.now) }
 {
     found.iter().find(|standing| standing.name == name)
 }

@@ -9,13 +9,13 @@ ghost use Rattle.chase_repair.specs.BoundMeanings.{bound_of};
 ghost use Rattle.chase_update.specs.Wishes.{wish, Fits};
 ghost use Rattle.chase_update.specs.Starting.{is_start};
 
+use crate::attempts::Attempt;
 use crate::points::Point;
-use crate::programs::Program;
 use base_types::{Memory, Operation, Sub, Tuple};
 use chase_repair::Bound;
 use std::alloc::Global;
 
-impl Program {
+impl Attempt {
     /// The number of its update. It takes no memory.
     pub fn number(&self) -> u32
         ensures number { result ≡ self.now.attempt.number }

@@ -1,7 +1,7 @@
 //! An update as a program: a value that asks queries and questions, takes their answers, and makes the steps of the
 //! chase.
 //!
-//! Contracts see a `Program` as its attempt, as it stands between two steps or stood when the step in hand began, and
+//! Contracts see a `Attempt` as its attempt, as it stands between two steps or stood when the step in hand began, and
 //! where that step stands (`State` of `specs/Courses.antt`). `course ms` of it, by the mappings `ms`, is the tree of
 //! the queries that are still asked, which ends in the attempt after the step: a call that begins a step or takes an
 //! answer says which tree that is, by the definition of the step in `def_steps`. `ms` is `mappings.now`.
@@ -12,6 +12,7 @@
 
 mod answering;
 mod attempts;
+mod copies;
 mod counting;
 mod ends;
 mod found;
@@ -21,7 +22,6 @@ mod moves;
 mod own;
 mod passing;
 mod points;
-mod programs;
 mod readings;
 mod renewals;
 mod repairing;
@@ -35,7 +35,7 @@ mod turns;
 mod writes;
 mod writing;
 
+pub use crate::attempts::Attempt;
 pub use crate::ends::{Outcome, Want};
 pub use crate::found::standing_for;
-pub use crate::programs::Program;
 pub use crate::results::{Finish, FinishList, Lack, SessionResult, Stop};

@@ -16,7 +16,7 @@ use crate::starting::{force, is_yes};
 use crate::turns::Turn;
 use base_limits::Mappings;
 use base_types::{Direction, Mapping, Memory, Operation, TupleList, WriteList};
-use chase_query::{Answer, Query};
+use chase_query::{Query, Reply};
 use chase_repair::{Fresh, Repair, existential};
 use std::alloc::Global;
 
@@ -74,7 +74,7 @@ pub(crate) fn found_force(
     alloc: Global,
     number: u32,
     place: u16,
-    answer: &Answer,
+    answer: &Reply,
     mappings: &Mappings<'_>,
 ) -> Result<Turn, Memory>
     ensures value { IfOk result
@@ -95,7 +95,7 @@ pub(crate) fn found_violation(
     operation: &Operation,
     fresh: Fresh,
     place: u16,
-    answer: &Answer,
+    answer: &Reply,
     mappings: &Mappings<'_>,
 ) -> Result<Turn, Memory>
     requires room { fresh.drawn + 64 < 4294967296 }
@@ -105,14 +105,14 @@ pub(crate) fn found_violation(
     ensures turn { IfOk result (IsTurnOf Look) }
 {
     match answer {
-        Answer::Image(image) => match mappings.get(place as usize) {
+        Reply::Image(image) => match mappings.get(place as usize) {
             Some(mapping) => repair(alloc, operation.direction(), fresh, place, mapping, image),
             None => look(alloc, fresh.update, place as usize + 1, mappings),
         },
-        Answer::Yes => look(alloc, fresh.update, place as usize + 1, mappings),
-        Answer::No => look(alloc, fresh.update, place as usize + 1, mappings),
-        Answer::Nothing => look(alloc, fresh.update, place as usize + 1, mappings),
-        Answer::Tuples(_) => look(alloc, fresh.update, place as usize + 1, mappings),
+        Reply::Yes => look(alloc, fresh.update, place as usize + 1, mappings),
+        Reply::No => look(alloc, fresh.update, place as usize + 1, mappings),
+        Reply::Nothing => look(alloc, fresh.update, place as usize + 1, mappings),
+        Reply::Tuples(_) => look(alloc, fresh.update, place as usize + 1, mappings),
     }
 }
 

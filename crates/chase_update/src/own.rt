@@ -13,7 +13,7 @@ use crate::shared::SharedWrites;
 use crate::writing;
 use base_limits::Mappings;
 use base_types::{Choice, Memory, Operation, TryCopy, WriteList};
-use chase_query::Answer;
+use chase_query::Reply;
 use chase_repair::{Progress, Repair};
 use std::alloc::Global;
 use std::marker::Model;
@@ -198,7 +198,7 @@ impl Own {
         &mut self,
         alloc: Global,
         repair: &mut Repair,
-        answer: &Answer,
+        answer: &Reply,
         mappings: &Mappings<'_>,
     ) -> Result<Progress, Memory>
         requires { TakesReply mappings.now (wanted repair.old) (reply_of answer.now) }

@@ -14,14 +14,14 @@ use crate::readings::Reading;
 use crate::rows::Row;
 use base_limits::Mappings;
 use base_types::Mapping;
-use chase_query::{Answer, Query};
+use chase_query::{Query, Reply};
 
 /// Goes on in place where the answer finds no violation of the mapping, and the next one that may be in force is so from
 /// the start: its first violation is then asked for, and the answer says so. Else the step stays where it is.
 pub(crate) fn looks_on(
     reading: &mut Reading,
     number: u32,
-    answer: &Answer,
+    answer: &Reply,
     mappings: &Mappings<'_>,
 ) -> bool
     ensures goes { result ≡ true →
@@ -41,14 +41,14 @@ pub(crate) fn looks_on(
 
 // The place of the mapping that is next in force from the start, where the answer finds no violation at the place of this
 // row, and no mapping between may be in force.
-fn next_looked_at(row: &Row, number: u32, answer: &Answer, mappings: &Mappings<'_>) -> Option<u16>
+fn next_looked_at(row: &Row, number: u32, answer: &Reply, mappings: &Mappings<'_>) -> Option<u16>
     ensures goes { IfSome result (λ next.
         (q : QueryMeant) → LooksOn mappings.now number (row_of row.now q) (reply_of answer.now)
         (Violating next)) }
     ensures phase { IfSome result (λ next. (q : QueryMeant) → begun_in (row_of row.now q) ≡ Look) }
 {
     match (row, answer) {
-        (Row::Violating(place), Answer::Nothing) => {
+        (Row::Violating(place), Reply::Nothing) => {
             next_from_start(number, *place as usize + 1, mappings)
         }
         _ => None,

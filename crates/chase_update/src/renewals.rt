@@ -2,11 +2,11 @@
 ghost use Rattle.std.specs.Prelude.{◌≡◌, ◌+◌, ◌<◌, ◌^◌, suc, None, IfOk};
 ghost use Rattle.def_steps.specs.Attempts.{begun};
 
-use crate::programs::Program;
+use crate::attempts::Attempt;
 use base_types::{Memory, TryCopy};
 use std::alloc::Global;
 
-impl Program {
+impl Attempt {
     /// The attempt's number. It takes no memory.
     pub fn attempt(&self) -> u32
         ensures attempt { result ≡ self.now.attempt.attempt }
@@ -15,7 +15,7 @@ impl Program {
     }
 
     /// The next attempt at the same update, at its start. It is refused only for want of memory.
-    pub fn anew(&self, alloc: Global) -> Result<Program, Memory>
+    pub fn anew(&self, alloc: Global) -> Result<Attempt, Memory>
         requires more { self.now.attempt.attempt + 1 < 2 ^ 32 }
         ensures begun { IfOk result
             (λ made. made ≡ record {
@@ -25,6 +25,6 @@ impl Program {
             }) }
     {
         let operation = self.parts.operation.copy(alloc)?;
-        Program::at_start(alloc, self.parts.number, self.parts.attempt + 1, operation)
+        Attempt::at_start(alloc, self.parts.number, self.parts.attempt + 1, operation)
     }
 }

@@ -17,7 +17,7 @@ use crate::readings::Reading;
 use crate::rows::{Renaming, Row};
 use crate::turns::Turn;
 use base_types::{Memory, Null, Operation, Sub, TryCopy, TupleList, Value, WriteList};
-use chase_query::{Answer, Query};
+use chase_query::{Query, Reply};
 use chase_repair::{boxed, rewrite};
 use std::alloc::Global;
 
@@ -26,7 +26,7 @@ pub(crate) fn found_replaced(
     alloc: Global,
     operation: &Operation,
     name: Null,
-    answer: &Answer,
+    answer: &Reply,
 ) -> Result<Turn, Memory>
     requires { (ms : List Rule) → IsOfKind ms (Occurs name.update name.place)
         (reply_of answer.now) }
@@ -82,7 +82,7 @@ fn replaced(
 pub(crate) fn found_replacement(
     alloc: Global,
     renaming: &Renaming,
-    answer: &Answer,
+    answer: &Reply,
 ) -> Result<Turn, Memory>
     ensures value { IfOk result
         (HasGoneOn (renaming_of renaming.now) (reply_of answer.now)) }

@@ -2,7 +2,7 @@
 ghost use Rattle.std.specs.Prelude.{◌≡◌, IfOk};
 ghost use Rattle.chase_update.specs.RowMeanings.{naming_of, renaming_of, row_of};
 
-use crate::found::StandingList;
+use crate::found::ResolvedNullList;
 use base_types::{List, Memory, Null, TryCopy, TupleList};
 use chase_repair::boxed;
 use std::alloc::Global;
@@ -14,7 +14,7 @@ pub(crate) type NullList = List<Null>;
 /// order, of which those from place `next` on come after it.
 #[derive(Debug, Drop)]
 pub(crate) struct Naming {
-    pub(crate) found: StandingList,
+    pub(crate) found: ResolvedNullList,
     pub(crate) name: Null,
     pub(crate) names: NullList,
     pub(crate) next: usize,

@@ -7,16 +7,16 @@ ghost use Rattle.chase_update.specs.Rows.{Violating, begun_in};
 ghost use Rattle.chase_update.specs.PointMeanings.{reading_of};
 ghost use Rattle.chase_update.specs.Transitions.{HasPassed, HasPassedLogged};
 
+use crate::attempts::Attempt;
 use crate::passing::{next_from_start, violation_asked};
 use crate::points::Point;
-use crate::programs::Program;
 use crate::readings::Reading;
 use crate::rows::Row;
 use base_limits::Mappings;
 use base_types::{Mapping, Memory};
 use chase_query::{Logged, Passage, ReadLog};
 
-impl Program {
+impl Attempt {
     /// Passes, in a look, over mappings that are settled: `settled[n]` says that the mapping of number n has no violation
     /// that counts. The step then asks for the first violation of the next mapping that is not settled; but of the last
     /// settled one where the look would end behind it, or where it has to be asked whether the next one is in force. What

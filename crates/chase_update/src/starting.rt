@@ -1,29 +1,31 @@
 //! The step of an insertion or a deletion: its named nulls are looked up, then it is asked whether its tuple is there.
 ghost use Rattle.std.specs.Prelude.{◌≡◌, [], drop, map, IfOk};
-ghost use Rattle.def_chase.specs.Mappings.{force as force_lem};
+ghost use Rattle.def_chase.specs.Mappings.{force as force_def};
 ghost use Rattle.base_types.specs.Meanings.{null_of, datum_of, fact_of, operation_of};
 ghost use Rattle.chase_query.specs.Meanings.{reply_of};
 ghost use Rattle.def_steps.specs.Attempts.{Start};
-ghost use Rattle.def_steps.specs.Rewriting.{nulls_in as nulls_in_lem};
-ghost use Rattle.def_steps.specs.Steps.{start as start_lem, is_yes as is_yes_lem};
+ghost use Rattle.def_steps.specs.Rewriting.{nulls_in as nulls_in_def};
+ghost use Rattle.def_steps.specs.Steps.{start as start_def, is_yes as is_yes_def};
 ghost use Rattle.chase_update.specs.Rows.{Writing};
-ghost use Rattle.chase_update.specs.RowMeanings.{found_with, naming_of, standing_of};
+ghost use Rattle.chase_update.specs.RowMeanings.{found_with, naming_of, resolved_of};
 ghost use Rattle.chase_update.specs.TurnMeanings.{AsksPresent, ComesTo, HasGoneOnFor, IsTurnOf, LooksUp, StandsAt};
 
-use crate::found::{Standing, StandingList, holders, resolved, standing_for};
+use crate::found::{ResolvedNull, ResolvedNullList, holders, resolved, standing_for};
 use crate::readings::Reading;
 use crate::rows::{Naming, NullList, Row};
 use crate::turns::Turn;
 use crate::writes::one;
-use base_types::{Memory, Operation, TryCopy, Tuple, Value, ValueList, Write, WriteList};
-use chase_query::{Answer, Query};
+use base_types::{
+    FORCE_RELATION, Memory, Operation, TryCopy, Tuple, Value, ValueList, Write, WriteList,
+};
+use chase_query::{Query, Reply};
 use chase_repair::{boxed, nulls_in};
 use std::alloc::Global;
 
 /// Begins the step of the operation. It is refused only for want of memory.
 pub(crate) fn start(alloc: Global, operation: &Operation) -> Result<Turn, Memory>
     ensures value { IfOk result
-        (ComesTo (operation_of operation.now) (start_lem (operation_of operation.now))) }
+        (ComesTo (operation_of operation.now) (start_def (operation_of operation.now))) }
     ensures turn { IfOk result (IsTurnOf Start) }
 {
     match operation {
@@ -43,20 +45,20 @@ pub(crate) fn start(alloc: Global, operation: &Operation) -> Result<Turn, Memory
 // Begins to look up the named nulls of the operation's tuple.
 fn look_up(alloc: Global, operation: &Operation, tuple: &Tuple) -> Result<Turn, Memory>
     ensures value { IfOk result
-        (LooksUp (operation_of operation.now) [] (nulls_in_lem (fact_of tuple.now).values)) }
+        (LooksUp (operation_of operation.now) [] (nulls_in_def (fact_of tuple.now).values)) }
     ensures turn { IfOk result (IsTurnOf Start) }
 {
     let names = nulls_in(alloc, tuple.values.as_slice())?;
-    next_name(alloc, operation, StandingList::new(alloc), names, 0)
+    next_name(alloc, operation, ResolvedNullList::new(alloc), names, 0)
 }
 
 /// The tuple which says that the mapping has been put in force. It is refused only for want of memory.
 pub(crate) fn force(alloc: Global, mapping: u16) -> Result<Tuple, Memory>
-    ensures value { IfOk result (λ tuple. fact_of tuple ≡ force_lem mapping) }
+    ensures value { IfOk result (λ tuple. fact_of tuple ≡ force_def mapping) }
 {
     let mut values = ValueList::new(alloc);
     values.push(Value::Int(i64::from(mapping)))?;
-    Tuple::new(alloc, u16::MAX, values)
+    Tuple::new(alloc, FORCE_RELATION, values)
 }
 
 // Asks for the named null at place `next`, with those found before it; after the last one, whether the operation's
@@ -64,12 +66,12 @@ pub(crate) fn force(alloc: Global, mapping: u16) -> Result<Tuple, Memory>
 fn next_name(
     alloc: Global,
     operation: &Operation,
-    found: StandingList,
+    found: ResolvedNullList,
     names: NullList,
     next: usize,
 ) -> Result<Turn, Memory>
     ensures value { IfOk result
-        (LooksUp (operation_of operation.now) (map standing_of found.items)
+        (LooksUp (operation_of operation.now) (map resolved_of found.items)
         (map null_of (drop next names.items))) }
     ensures turn { IfOk result (IsTurnOf Start) }
 {
@@ -92,9 +94,9 @@ fn next_name(
 }
 
 // Asks whether the operation's tuple, with the named nulls resolved, is there.
-fn present(alloc: Global, operation: &Operation, found: &[Standing]) -> Result<Turn, Memory>
+fn present(alloc: Global, operation: &Operation, found: &[ResolvedNull]) -> Result<Turn, Memory>
     ensures value { IfOk result
-        (AsksPresent (operation_of operation.now) (map standing_of found.now)) }
+        (AsksPresent (operation_of operation.now) (map resolved_of found.now)) }
     ensures turn { IfOk result (IsTurnOf Start) }
 {
     match operation {
@@ -121,7 +123,7 @@ pub(crate) fn found_name(
     alloc: Global,
     operation: &Operation,
     naming: &Naming,
-    answer: &Answer,
+    answer: &Reply,
 ) -> Result<Turn, Memory>
     ensures value { IfOk result
         (HasGoneOnFor (operation_of operation.now) (naming_of naming.now) (reply_of answer.now)) }
@@ -139,12 +141,12 @@ pub(crate) fn found_name(
 }
 
 // The pairs found before, and that of the named null with the value.
-fn with_standing(alloc: Global, naming: &Naming, value: Value) -> Result<StandingList, Memory>
+fn with_standing(alloc: Global, naming: &Naming, value: Value) -> Result<ResolvedNullList, Memory>
     ensures value { IfOk result (λ found.
-        map standing_of found.items ≡ found_with naming.now (datum_of value)) }
+        map resolved_of found.items ≡ found_with naming.now (datum_of value)) }
 {
     let mut found = naming.found.copy(alloc)?;
-    found.push(Standing {
+    found.push(ResolvedNull {
         name: naming.name,
         value,
     })?;
@@ -152,8 +154,8 @@ fn with_standing(alloc: Global, naming: &Naming, value: Value) -> Result<Standin
 }
 
 /// Whether the answer is yes.
-pub(crate) fn is_yes(answer: &Answer) -> bool
-    ensures answer { result ≡ is_yes_lem (reply_of answer.now) }
+pub(crate) fn is_yes(answer: &Reply) -> bool
+    ensures answer { result ≡ is_yes_def (reply_of answer.now) }
 {
-    matches!(answer, Answer::Yes)
+    matches!(answer, Reply::Yes)
 }

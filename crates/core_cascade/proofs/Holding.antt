@@ -9,8 +9,8 @@ use Rattle.def_machine.specs.Updates.{Update, trail}
 use Rattle.def_chase.specs.Mappings.{Rule}
 use Rattle.def_chase.specs.Repository.{Change, apply}
 use Rattle.core_queue.specs.Queues.{update_of}
-use Rattle.core_queue.specs.Records.{HasTrail}
-use Rattle.core_queue.specs.declared.records.Record.{Record}
+use Rattle.core_queue.specs.Updates.{HasTrail}
+use Rattle.core_queue.specs.declared.updates.QueuedUpdate.{QueuedUpdate}
 use Rattle.def_steps.proofs.Steady.{apply_join}
 use Rattle.def_steps.specs.Chase.{caused_chase, caused}
 use Rattle.set_versions.proofs.Numbered.{below_is_seen}
@@ -110,7 +110,7 @@ trails_held ms B D lower upper v h = record {
 -- ---- what a turn of the walk leaves
 
 -- The reader keeps its trail.
-kept_on : (r : Record) (lost : Lost) → LosesWhere false r lost lost
+kept_on : (r : QueuedUpdate) (lost : Lost) → LosesWhere false r lost lost
 kept_on r lost ms B us h = record {
   held = hold_next ms B (number_of r) (update_of ms B r) us lost.without h;
   below = below_next ms B (number_of r) (update_of ms B r) us lost.without h;
@@ -118,7 +118,7 @@ kept_on r lost ms B us h = record {
 }
 
 -- The reader loses it.
-lost_on : (r : Record) (ws : List Change) (old new : Lost) → ((ms : List Rule) (B : ℕ) → ws ≡ trail (caused_chase ms B) (update_of ms B r)) → Loses (number_of r) ws old new → LosesWhere true r old new
+lost_on : (r : QueuedUpdate) (ws : List Change) (old new : Lost) → ((ms : List Rule) (B : ℕ) → ws ≡ trail (caused_chase ms B) (update_of ms B r)) → Loses (number_of r) ws old new → LosesWhere true r old new
 lost_on r ws old new e l ms B us h =
     let gone : Retracted (number_of r) (trail (caused_chase ms B) (update_of ms B r)) old.without new.without = subst (λ ts. Retracted (number_of r) ts old.without new.without) (e ms B) l.retracted in record {
       held = hold_without ms B (number_of r) (update_of ms B r) us old.without new.without h gone;
@@ -127,11 +127,11 @@ lost_on r ws old new e l ms B us h =
     }
 
 -- It keeps it where it isn't restarted.
-pub kept_where : (r : Record) (b : Bool) (lost : Lost) → b ≡ false → LosesWhere b r lost lost
+pub kept_where : (r : QueuedUpdate) (b : Bool) (lost : Lost) → b ≡ false → LosesWhere b r lost lost
 kept_where r true lost e = absurd (cc)
 kept_where r false lost e = kept_on r lost
 
 -- It loses it where it is.
-pub lost_where : (r : Record) (n : ℕ) (ws : List Write) (b : Bool) (old new : Lost) → b ≡ true → n ≡ number_of r → HasTrail r ws → Loses n (map change_of ws) old new → LosesWhere b r old new
+pub lost_where : (r : QueuedUpdate) (n : ℕ) (ws : List Write) (b : Bool) (old new : Lost) → b ≡ true → n ≡ number_of r → HasTrail r ws → Loses n (map change_of ws) old new → LosesWhere b r old new
 lost_where r n ws true old new e same t l = lost_on r (map change_of ws) old new t (subst (λ k. Loses k (map change_of ws) old new) same l)
 lost_where r n ws false old new e same t l = absurd (cc)

@@ -19,7 +19,7 @@ use Rattle.core_conflict.specs.declared.concerns.Trail.{Trail}
 use Rattle.core_conflict.proofs.Gathering.{next_drop}
 use Rattle.core_conflict.proofs.Unmet.{none_changed}
 use Rattle.def_chase.specs.Updates.{direction_of}
-use Rattle.core_queue.specs.declared.records.Record.{Record}
+use Rattle.core_queue.specs.declared.updates.QueuedUpdate.{QueuedUpdate}
 use Rattle.set_versions.specs.Standing.{Kept, seen}
 use Rattle.core_cascade.specs.Reached.{AreMetAlike, MeetAlike, first_invalid}
 
@@ -80,7 +80,7 @@ module _ (ms : List Rule) (h : Direction) (own : List Change) where
   pub none_first : (D : List Fact) (qs : List Read) → first_changed ms h D own Went [] qs ≡ None
   none_first D qs = sym (none_changed ms h D own Went [] qs (none_meets qs))
 
-module _ (ms : List Rule) (v : Kept) (r : Record) where
+module _ (ms : List Rule) (v : Kept) (r : QueuedUpdate) where
   -- The first read that is invalid without the ones is the first without the others.
   pub same_invalid : (ts us : List Trail) → MeetAlike ms (trails_of ts) (trails_of us) r → first_invalid ms v ts r ≡ first_invalid ms v us r
   same_invalid ts us a =

@@ -4,7 +4,7 @@ use Rattle.std.proofs.lemmas.List.{length-append, length-drop, map-append}
 use Rattle.core_entries.specs.declared.causes.Cause.{Cause as CauseOfProgram}
 use Rattle.def_chase.proofs.Bools.{differ}
 use Rattle.def_chase.specs.Mappings.{Rule}
-use Rattle.core_queue.specs.declared.records.Record.{Record}
+use Rattle.core_queue.specs.declared.updates.QueuedUpdate.{QueuedUpdate}
 use Rattle.core_cascade.specs.Meanings.{all_found, found_of, no_cause, found_for}
 use Rattle.core_cascade.specs.Walks.{nones, padded}
 
@@ -55,21 +55,21 @@ padded_put k xs ys x l e = padded_full (suc k) ys (put_long k xs ys x l e) ∙ e
 
 module _ (ms : List Rule) (B : ℕ) where
   -- Those behind the last that was found have none either way.
-  rest_none : (n : ℕ) (rs : List Record) → n ≤ length rs → all_found ms B (nones n) ++ map (no_cause ms B) (drop n rs) ≡ map (no_cause ms B) rs
+  rest_none : (n : ℕ) (rs : List QueuedUpdate) → n ≤ length rs → all_found ms B (nones n) ++ map (no_cause ms B) (drop n rs) ≡ map (no_cause ms B) rs
   rest_none zero rs l = refl
   rest_none (suc n) [] l = absurd (omega (arith, l))
   rest_none (suc n) (r ∷ rs) l = ap (λ zs. None ∷ zs) (rest_none n rs (omega (arith, l)))
 
-  drop_none : (j : ℕ) → drop {A = Record} j [] ≡ []
+  drop_none : (j : ℕ) → drop {A = QueuedUpdate} j [] ≡ []
   drop_none zero = refl
   drop_none (suc j) = refl
 
-  drop_on : (i j : ℕ) (rs : List Record) → drop (i + j) rs ≡ drop j (drop i rs)
+  drop_on : (i j : ℕ) (rs : List QueuedUpdate) → drop (i + j) rs ≡ drop j (drop i rs)
   drop_on zero j rs = let same : 0 + j ≡ j = omega arith in ap (λ k. drop k rs) same
   drop_on (suc i) j [] = drop_none (suc i + j) ∙ sym (drop_none j)
   drop_on (suc i) j (r ∷ rs) = let same : suc i + j ≡ suc (i + j) = omega arith in ap (λ k. drop k (r ∷ rs)) same ∙ drop_on i j rs
 
-  pub found_padded : (k : ℕ) (rs : List Record) (xs : List (Option CauseOfProgram)) → length xs ≤ k → k ≤ length rs → found_for ms B rs (padded k xs) ≡ found_for ms B rs xs
+  pub found_padded : (k : ℕ) (rs : List QueuedUpdate) (xs : List (Option CauseOfProgram)) → length xs ≤ k → k ≤ length rs → found_for ms B rs (padded k xs) ≡ found_for ms B rs xs
   found_padded k rs xs l m =
       let n : ℕ = k - length xs in
       let all : k ≡ length xs + n = omega (arith, l) in
@@ -80,5 +80,5 @@ module _ (ms : List Rule) (B : ℕ) where
       ∙ ap (λ ys. all_found ms B xs ++ (all_found ms B (nones n) ++ map (no_cause ms B) ys)) (drop_on (length xs) n rs)
       ∙ ap (λ zs. all_found ms B xs ++ zs) (rest_none n (drop (length xs) rs) few)
     where
-      few_left : (k i : ℕ) (rs : List Record) → i ≤ k → k ≤ length rs → k - i ≤ length (drop i rs)
+      few_left : (k i : ℕ) (rs : List QueuedUpdate) → i ≤ k → k ≤ length rs → k - i ≤ length (drop i rs)
       few_left k i rs l m = subst (λ (j : ℕ). k - i ≤ j) (sym (length-drop i rs)) (omega (arith, l, m))

@@ -34,8 +34,8 @@ use Rattle.def_chase.specs.Values.{Fact}
 use Rattle.chase_query.specs.Meanings.{Read, reads_in}
 use Rattle.chase_query.specs.declared.log.Logged.{Logged}
 use Rattle.core_queue.specs.Queues.{logged, update_of}
-use Rattle.core_queue.specs.Records.{IsLive}
-use Rattle.core_queue.specs.declared.records.Record.{Record}
+use Rattle.core_queue.specs.Updates.{IsLive}
+use Rattle.core_queue.specs.declared.updates.QueuedUpdate.{QueuedUpdate}
 use Rattle.def_steps.proofs.ChaseLaws.{chase_laws}
 use Rattle.def_steps.specs.Chase.{caused_chase, caused}
 use Rattle.set_versions.specs.Standing.{Kept, seen}
@@ -119,26 +119,26 @@ module _ (ms : List Rule) (B : ℕ) where
       by false e g rest = and_from (is_valid (caused_chase ms B) op E own (logged ms B r)) (list_all (is_valid (caused_chase ms B) op E own) (map (logged ms B) rs)) (was_not (is_valid (caused_chase ms B) op E own (logged ms B r)) e) (rest g)
 
   -- The reads of a record's log.
-  abbrev reads : Record → List Read
+  abbrev reads : QueuedUpdate → List Read
   reads r = reads_in r.log.items
 
   -- They are valid over this.
-  abbrev pub ValidOver : List Fact → Record → Type 0
+  abbrev pub ValidOver : List Fact → QueuedUpdate → Type 0
   ValidOver D r = list_all (is_valid (caused_chase ms B) r.program.attempt.operation D r.program.attempt.own) (map (logged ms B) (reads r)) ≡ true
 
   -- Those of a run are, over what it is a run of.
-  run_is_valid : 1 ≤ B → (D : List Fact) (n : ℕ) (r : Record) → r.withdrawn ≡ false → IsRun (caused_chase ms B) D n (update_of ms B r) → ValidOver D r
+  run_is_valid : 1 ≤ B → (D : List Fact) (n : ℕ) (r : QueuedUpdate) → r.withdrawn ≡ false → IsRun (caused_chase ms B) D n (update_of ms B r) → ValidOver D r
   run_is_valid few D n r w q = run_valid (caused_chase ms B) (chase_laws caused ms B few) D n (update_of ms B r) w q
 
   -- The first that has changed, whether met or not.
-  abbrev pub first_of_all : Kept → Record → Option Numbered
+  abbrev pub first_of_all : Kept → QueuedUpdate → Option Numbered
   first_of_all v r = first_from (is_changed ms (direction_of r.program.attempt.operation) (seen (number_of r) v) r.program.attempt.own) 1 (reads r)
 
-  abbrev pub now_in : Kept → Record → Numbered → Changed
+  abbrev pub now_in : Kept → QueuedUpdate → Numbered → Changed
   now_in v r t = record { number = t.number; read = t.read; now = value_now ms (direction_of r.program.attempt.operation) (seen (number_of r) v) r.program.attempt.own t.read }
 
   -- It is the first of those that are met, where the reads were valid before.
-  met_first : (v : Kept) (g : Sense) (trails : List (List Change)) (D : List Fact) (r : Record) → AgreeBut g trails D (seen (number_of r) v) → ValidOver D r → first_changed_in ms v g trails r ≡ option_map (now_in v r) (first_of_all v r)
+  met_first : (v : Kept) (g : Sense) (trails : List (List Change)) (D : List Fact) (r : QueuedUpdate) → AgreeBut g trails D (seen (number_of r) v) → ValidOver D r → first_changed_in ms v g trails r ≡ option_map (now_in v r) (first_of_all v r)
   met_first v g trails D r a valid =
       ap (option_map (now_in v r))
       (first_met (is_changed ms (direction_of r.program.attempt.operation) (seen (number_of r) v) r.program.attempt.own) (is_met ms (direction_of r.program.attempt.operation) r.program.attempt.own g trails) 1 (reads r)
@@ -167,7 +167,7 @@ module _ (ms : List Rule) (B : ℕ) where
   as_changed j n g h e (Some t) = ap (conflicts_with j n) (sym (e t))
 
   -- The first changed read of a log makes the conflict of its update.
-  pub conflict_is : (j : ℕ) (v : Kept) (r : Record)
+  pub conflict_is : (j : ℕ) (v : Kept) (r : QueuedUpdate)
       → option_map (cause_kept ms B) (option_map (conflict_meant j (number_of r)) (option_map (now_in v r) (first_of_all v r)))
       ≡ option_map (conflict_at j (number_of r)) (changed_read (caused_chase ms B) (seen (number_of r) v) (update_of ms B r))
   conflict_is j v r =
@@ -192,7 +192,7 @@ module _ (ms : List Rule) (B : ℕ) where
   as_numbered g e (Some t) = ap Some (e t)
 
   -- The first read that depends on what is lost, where the reads are valid over the whole.
-  pub first_depends : (deps : Deps) (E : List Fact) (lost : Lost) (r : Record) → AgreeBut Went (trails_of lost.members.items) E (seen (number_of r) lost.without) → ValidOver E r
+  pub first_depends : (deps : Deps) (E : List Fact) (lost : Lost) (r : QueuedUpdate) → AgreeBut Went (trails_of lost.members.items) E (seen (number_of r) lost.without) → ValidOver E r
       → option_map (paired ms B) (first_by deps ms lost r)
       ≡ first_that (read_depends (caused_chase ms B) deps r.program.attempt.operation (seen (number_of r) lost.without) r.program.attempt.own (members_of ms B lost.members.items)) (update_of ms B r).log
   first_depends Precise E lost r a valid =
@@ -208,13 +208,13 @@ module _ (ms : List Rule) (B : ℕ) where
       (λ q. reached_is ms B lost.members.items q) (reads_in r.log.items)
 
   -- The dependence of a live update.
-  abbrev pub dependence_in : Deps → Lost → Record → Option (Cause (caused_chase ms B))
+  abbrev pub dependence_in : Deps → Lost → QueuedUpdate → Option (Cause (caused_chase ms B))
   dependence_in deps lost r =
       option_map (depends_at lost.members.items (number_of r))
       (first_that (read_depends (caused_chase ms B) deps r.program.attempt.operation (seen (number_of r) lost.without) r.program.attempt.own (members_of ms B lost.members.items)) (update_of ms B r).log)
 
   -- The conflict of a live update.
-  abbrev pub conflict_in : ℕ → Kept → Record → Option (Cause (caused_chase ms B))
+  abbrev pub conflict_in : ℕ → Kept → QueuedUpdate → Option (Cause (caused_chase ms B))
   conflict_in j v r =
       option_map (conflict_at j (number_of r)) (changed_read (caused_chase ms B) (seen (number_of r) v) (update_of ms B r))
 
@@ -223,18 +223,18 @@ module _ (ms : List Rule) (B : ℕ) where
   where_members X Y [] e = refl
   where_members X Y (k ∷ ks) e = e
 
-  pub dependence_is : (deps : Deps) (E : List Fact) (lost : Lost) (r : Record) → AgreeBut Went (trails_of lost.members.items) E (seen (number_of r) lost.without) → ValidOver E r
+  pub dependence_is : (deps : Deps) (E : List Fact) (lost : Lost) (r : QueuedUpdate) → AgreeBut Went (trails_of lost.members.items) E (seen (number_of r) lost.without) → ValidOver E r
       → option_map (cause_kept ms B) (if is_nil lost.members.items then None else option_map (dependence_meant ms lost.members.items (number_of r)) (first_by deps ms lost r))
       ≡ (if not (is_nil (members_of ms B lost.members.items)) then dependence_in deps lost r else None)
   dependence_is deps E lost r a valid =
       where_members (option_map (dependence_meant ms lost.members.items (number_of r)) (first_by deps ms lost r)) (dependence_in deps lost r) lost.members.items
       (as_depends lost.members.items (number_of r) (first_by deps ms lost r) ∙ ap (option_map (depends_at lost.members.items (number_of r))) (first_depends deps E lost r a valid))
 
-  nothing_changed : (j : ℕ) (v : Kept) (r : Record) (ls : List Logged) → r.log.items ≡ ls → is_nil ls ≡ true → conflict_in j v r ≡ None
+  nothing_changed : (j : ℕ) (v : Kept) (r : QueuedUpdate) (ls : List Logged) → r.log.items ≡ ls → is_nil ls ≡ true → conflict_in j v r ≡ None
   nothing_changed j v r [] e h = ap (λ ls. option_map (conflict_at j (number_of r)) (option_map (λ t. record { read = t.0; old = t.1.answer; new = (caused_chase ms B).value r.program.attempt.operation t.1.query (seen (number_of r) v) (take t.1.own r.program.attempt.own) }) (first_that (λ q. not (is_valid (caused_chase ms B) r.program.attempt.operation (seen (number_of r) v) r.program.attempt.own q)) (map (logged ms B) (reads_in ls))))) e
   nothing_changed j v r (l ∷ ls) e h = absurd (cc)
 
-  nothing_depends : (deps : Deps) (lost : Lost) (r : Record) (ls : List Logged) → r.log.items ≡ ls → is_nil ls ≡ true → dependence_in deps lost r ≡ None
+  nothing_depends : (deps : Deps) (lost : Lost) (r : QueuedUpdate) (ls : List Logged) → r.log.items ≡ ls → is_nil ls ≡ true → dependence_in deps lost r ≡ None
   nothing_depends deps lost r [] e h =
       ap (λ ls. option_map (depends_at lost.members.items (number_of r))
       (first_that (read_depends (caused_chase ms B) deps r.program.attempt.operation (seen (number_of r) lost.without) r.program.attempt.own (members_of ms B lost.members.items)) (map (logged ms B) (reads_in ls)))) e
@@ -254,13 +254,13 @@ read_is true (x ∷ xs) h = let no : x ∷ xs ≡ [] = h.0 refl in absurd (cc)
 read_is false (x ∷ xs) h = refl
 
 -- A live reader has a cause only if it has read something.
-pub reads_some : (c n : ℕ) (r : Record) (live empty : Bool) → IsLive c n r live → n ≡ number_of r → (empty ≡ true) ↔ (r.log.items ≡ []) → live ≡ true → not empty ≡ may_have_cause c r
+pub reads_some : (c n : ℕ) (r : QueuedUpdate) (live empty : Bool) → IsLive c n r live → n ≡ number_of r → (empty ≡ true) ↔ (r.log.items ≡ []) → live ≡ true → not empty ≡ may_have_cause c r
 reads_some c n r live empty h e f l =
     let is : is_live_in c r ≡ true = sym (h [] 0 ∙ ap (λ k. nat_lt c k && not r.withdrawn) e) ∙ l in
     read_is empty r.log.items f ∙ ap (λ b. b && not (is_nil r.log.items)) (sym is)
 
 -- And else none.
-pub not_live : (c n : ℕ) (r : Record) (live : Bool) → IsLive c n r live → n ≡ number_of r → live ≡ false → false ≡ may_have_cause c r
+pub not_live : (c n : ℕ) (r : QueuedUpdate) (live : Bool) → IsLive c n r live → n ≡ number_of r → live ≡ false → false ≡ may_have_cause c r
 not_live c n r live h e l =
     let is : is_live_in c r ≡ false = sym (h [] 0 ∙ ap (λ k. nat_lt c k && not r.withdrawn) e) ∙ l in
     ap (λ b. b && not (is_nil r.log.items)) (sym is)
@@ -268,13 +268,13 @@ not_live c n r live h e l =
 -- ---- the cause of one reader
 
 -- One that isn't live or has read nothing has none.
-pub none_for : (a : Above) (ws : List Change) (lost : Lost) (r : Record) → may_have_cause a.committed r ≡ false → IsCauseFor a ws lost r None
+pub none_for : (a : Above) (ws : List Change) (lost : Lost) (r : QueuedUpdate) → may_have_cause a.committed r ≡ false → IsCauseFor a ws lost r None
 none_for a ws lost r h B conflicting few looks q =
     sym (idle conflicting (is_live_in a.committed r) (not (is_nil (members_of a.rules B lost.members.items))) (conflict_in a.rules B a.update a.whole r) (dependence_in a.rules B a.deps lost r)
     (λ l. nothing_changed a.rules B a.update a.whole r r.log.items refl (live_of (is_live_in a.committed r) (is_nil r.log.items) h l))
     (λ l. nothing_depends a.rules B a.deps lost r r.log.items refl (live_of (is_live_in a.committed r) (is_nil r.log.items) h l)))
 
-live_is : (a : Above) (r : Record) → may_have_cause a.committed r ≡ true → is_live_in a.committed r ≡ true
+live_is : (a : Above) (r : QueuedUpdate) → may_have_cause a.committed r ≡ true → is_live_in a.committed r ≡ true
 live_is a r h = (and_parts (is_live_in a.committed r) (not (is_nil r.log.items)) h).0
 
 not_true : (b : Bool) → not b ≡ true → b ≡ false
@@ -282,10 +282,10 @@ not_true true e = absurd (cc)
 not_true false e = refl
 
 -- It is not withdrawn.
-stays_in : (a : Above) (r : Record) → may_have_cause a.committed r ≡ true → r.withdrawn ≡ false
+stays_in : (a : Above) (r : QueuedUpdate) → may_have_cause a.committed r ≡ true → r.withdrawn ≡ false
 stays_in a r h = not_true r.withdrawn (and_parts (nat_lt a.committed (number_of r)) (not r.withdrawn) (live_is a r h)).1
 
-module _ (a : Above) (ws : List Change) (lost : Lost) (r : Record) (l : may_have_cause a.committed r ≡ true) (B : ℕ) (few : 1 ≤ B)
+module _ (a : Above) (ws : List Change) (lost : Lost) (r : QueuedUpdate) (l : may_have_cause a.committed r ≡ true) (B : ℕ) (few : 1 ≤ B)
     (q : RanBelow a.rules B a.sense ws (trails_of lost.members.items) (seen (number_of r) a.whole) (seen (number_of r) lost.without) (number_of r) (update_of a.rules B r)) where
   -- Its first changed read is one that the writes meet.
   met_by_writes : first_changed_in a.rules a.whole a.sense (ws ∷ []) r ≡ option_map (now_in a.rules B a.whole r) (first_of_all a.rules B a.whole r)
@@ -303,28 +303,28 @@ module _ (a : Above) (ws : List Change) (lost : Lost) (r : Record) (l : may_have
       (unmapped (now_in a.rules B a.whole r) (first_of_all a.rules B a.whole r) (sym (unmapped (conflict_meant a.update (number_of r)) (first_changed_in a.rules a.whole a.sense (ws ∷ []) r) h) ∙ met_by_writes))
 
 -- Without writes there is no conflict.
-pub no_conflict : (a : Above) (ws : List Change) (r : Record) → ws ≡ [] → IsConflictFor a ws r None
+pub no_conflict : (a : Above) (ws : List Change) (r : QueuedUpdate) → ws ≡ [] → IsConflictFor a ws r None
 no_conflict a ws r e =
     sym (ap (λ vs. option_map (conflict_meant a.update (number_of r)) (first_changed_in a.rules a.whole a.sense (vs ∷ []) r)) e
     ∙ ap (λ o. option_map (conflict_meant a.update (number_of r)) (option_map (λ (t : Numbered). record { number = t.number; read = t.read; now = value_now a.rules (direction_of r.program.attempt.operation) (seen (number_of r) a.whole) r.program.attempt.own t.read }) o))
     (none_met a.rules r.program.attempt.operation (seen (number_of r) a.whole) r.program.attempt.own a.sense 1 (reads_in r.log.items)))
 
 -- A conflict comes first.
-pub conflict_first : (a : Above) (ws : List Change) (lost : Lost) (r : Record) (x : CauseOfProgram) → may_have_cause a.committed r ≡ true → IsConflictFor a ws r (Some x) → IsCauseFor a ws lost r (Some x)
+pub conflict_first : (a : Above) (ws : List Change) (lost : Lost) (r : QueuedUpdate) (x : CauseOfProgram) → may_have_cause a.committed r ≡ true → IsConflictFor a ws r (Some x) → IsCauseFor a ws lost r (Some x)
 conflict_first a ws lost r x l h B true few looks q =
     by_conflict (is_live_in a.committed r) (not (is_nil (members_of a.rules B lost.members.items))) (cause_kept a.rules B (plain_of x)) (conflict_in a.rules B a.update a.whole r) (dependence_in a.rules B a.deps lost r) (live_is a r l)
     (conflict_found a ws lost r l B few q (Some x) h)
 conflict_first a ws lost r x l h B false few looks q = absurd (none-some (plain_of x) (no_conflict a ws r (looks refl) ∙ sym h))
 
 -- Else it is a dependence.
-pub dependence_then : (a : Above) (ws : List Change) (lost : Lost) (r : Record) (x : Option CauseOfProgram) → may_have_cause a.committed r ≡ true → IsConflictFor a ws r None → IsDependenceFor a lost r x → IsCauseFor a ws lost r x
+pub dependence_then : (a : Above) (ws : List Change) (lost : Lost) (r : QueuedUpdate) (x : Option CauseOfProgram) → may_have_cause a.committed r ≡ true → IsConflictFor a ws r None → IsDependenceFor a lost r x → IsCauseFor a ws lost r x
 dependence_then a ws lost r x l f h B conflicting few looks q =
     by_dependence conflicting (is_live_in a.committed r) (not (is_nil (members_of a.rules B lost.members.items))) (conflict_in a.rules B a.update a.whole r) (dependence_in a.rules B a.deps lost r) (found_of a.rules B x) (live_is a r l)
     (λ e. conflict_found a ws lost r l B few q None f)
     (ap (option_map (cause_kept a.rules B)) h ∙ dependence_is a.rules B a.deps (seen (number_of r) a.whole) lost r q.lost (valid_still a ws lost r l B few q f))
 
 -- Where nothing is lost there is no other.
-pub unlost : (a : Above) (ws : List Change) (lost : Lost) (r : Record) → lost.members.items ≡ [] → IsConflictFor a ws r None → IsCauseFor a ws lost r None
+pub unlost : (a : Above) (ws : List Change) (lost : Lost) (r : QueuedUpdate) → lost.members.items ≡ [] → IsConflictFor a ws r None → IsCauseFor a ws lost r None
 unlost a ws lost r k f = by (may_have_cause a.committed r) refl
   where
     by : (b : Bool) → may_have_cause a.committed r ≡ b → IsCauseFor a ws lost r None
@@ -334,18 +334,18 @@ unlost a ws lost r k f = by (may_have_cause a.committed r) refl
     by false h = none_for a ws lost r h
 
 -- Where nothing was written either there is none.
-pub nothing_for : (a : Above) (ws : List Change) (lost : Lost) (r : Record) → ws ≡ [] → lost.members.items ≡ [] → IsCauseFor a ws lost r None
+pub nothing_for : (a : Above) (ws : List Change) (lost : Lost) (r : QueuedUpdate) → ws ≡ [] → lost.members.items ≡ [] → IsCauseFor a ws lost r None
 nothing_for a ws lost r e k = unlost a ws lost r k (no_conflict a ws r e)
 
 -- ---- where no write meets a read
 
 -- A reader that has nothing to do with the writes has no conflict.
-pub unmet_conflict : (a : Above) (ws : List Change) (r : Record) (v : Impact) → HasFootprint r → HasImpact a ws v → IsNoneMet (direction_of r.program.attempt.operation) r.footprint v → IsConflictFor a ws r None
+pub unmet_conflict : (a : Above) (ws : List Change) (r : QueuedUpdate) (v : Impact) → HasFootprint r → HasImpact a ws v → IsNoneMet (direction_of r.program.attempt.operation) r.footprint v → IsConflictFor a ws r None
 unmet_conflict a ws r v f i n =
     ap (option_map (conflict_meant a.update (number_of r)))
     (none_changed a.rules (direction_of r.program.attempt.operation) (seen (number_of r) a.whole) r.program.attempt.own a.sense (ws ∷ []) (reads_in r.log.items)
     (n a.rules a.sense r.program.attempt.own (ws ∷ []) (reads_in r.log.items) f i))
 
 -- Nor any cause where nothing is lost.
-pub passed : (v : Impact) (lost : Lost) (r : Record) → HasFootprint r → lost.members.items ≡ [] → IsNoneMet (direction_of r.program.attempt.operation) r.footprint v → HasNoCause v lost r
+pub passed : (v : Impact) (lost : Lost) (r : QueuedUpdate) → HasFootprint r → lost.members.items ≡ [] → IsNoneMet (direction_of r.program.attempt.operation) r.footprint v → HasNoCause v lost r
 passed v lost r f k n a ws i = unlost a ws lost r k (unmet_conflict a ws r v f i n)

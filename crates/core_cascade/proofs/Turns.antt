@@ -22,8 +22,8 @@ use Rattle.def_chase.specs.Repository.{Change, IsRepository, apply}
 use Rattle.def_chase.specs.Values.{Fact}
 use Rattle.std.specs.List.{flat_map}
 use Rattle.core_queue.specs.Queues.{update_of, updates_of, AreFrom, StandsAt}
-use Rattle.core_queue.specs.Walks.{AreUnread, ReadsAtMost}
-use Rattle.core_queue.specs.declared.records.Record.{Record}
+use Rattle.core_queue.specs.Order.{AreUnread, ReadsAtMost}
+use Rattle.core_queue.specs.declared.updates.QueuedUpdate.{QueuedUpdate}
 use Rattle.def_steps.specs.Chase.{caused_chase}
 use Rattle.set_versions.specs.Standing.{Kept, seen, Retracted}
 use Rattle.core_cascade.specs.declared.lost.Lost.{Lost}
@@ -35,7 +35,7 @@ use Rattle.core_cascade.proofs.Reasons.{idle, nothing_for}
 use Rattle.core_cascade.proofs.Holding.{below_next, hold_next, kept_where, hold_without, below_without, trails_held}
 
 -- Once some of the readers have their say: what is found so far and what the walk finds of those that are left are all.
-pub record Turn (a : Above) (conflicting : Bool) (B : ℕ) (ws : List Change) (all : List (Option (Cause (caused_chase a.rules B)))) (lost : Lost) (rs : List Record) (xs : List (Option CauseOfProgram)) : Type 0 where
+pub record Turn (a : Above) (conflicting : Bool) (B : ℕ) (ws : List Change) (all : List (Option (Cause (caused_chase a.rules B)))) (lost : Lost) (rs : List QueuedUpdate) (xs : List (Option CauseOfProgram)) : Type 0 where
   pub number : ℕ
   pub from : AreFrom number rs
   pub stand : StandAbove a B ws lost number rs
@@ -44,7 +44,7 @@ pub record Turn (a : Above) (conflicting : Bool) (B : ℕ) (ws : List Change) (a
       ≡ all
 
 -- All of it is what the walk finds.
-abbrev pub all_of : (a : Above) → Bool → (B : ℕ) → Lost → List Record → List (Option (Cause (caused_chase a.rules B)))
+abbrev pub all_of : (a : Above) → Bool → (B : ℕ) → Lost → List QueuedUpdate → List (Option (Cause (caused_chase a.rules B)))
 all_of a conflicting B lost rs =
     settle (caused_chase a.rules B) a.deps conflicting a.committed a.update (seen (suc a.update) a.whole) (seen (suc a.update) lost.without) (members_of a.rules B lost.members.items) (suc a.update) (updates_of a.rules B rs)
 
@@ -82,7 +82,7 @@ next_drop : {X : Type 0} (xs : List X) (i : ℕ) (x : X) → i < length xs → x
 next_drop xs i x l is = drop_more xs i x l ∙ ap (λ y. y ∷ drop (i + 1) xs) (sym is)
 
 -- The readers that are left have their numbers in turn.
-pub later_from : (n i : ℕ) (rs : List Record) (r : Record) → i < length rs → r ≡ get_or rs i r → AreFrom n (drop i rs) → StandsAt n r × AreFrom (suc n) (drop (i + 1) rs)
+pub later_from : (n i : ℕ) (rs : List QueuedUpdate) (r : QueuedUpdate) → i < length rs → r ≡ get_or rs i r → AreFrom n (drop i rs) → StandsAt n r × AreFrom (suc n) (drop (i + 1) rs)
 later_from n i rs r l e f = subst (AreFrom n) (next_drop rs i r l e) f
 
 -- The trails of members are those of the history's.
@@ -109,11 +109,11 @@ module _ (a : Above) (conflicting : Bool) (B : ℕ) (ws : List Change) where
   found_some (Some c) = refl
 
   -- Before any of them has.
-  pub at_start : (lost : Lost) (rs : List Record) (xs : List (Option CauseOfProgram)) → xs ≡ [] → AreFrom (suc a.update) rs → StandAbove a B ws lost (suc a.update) rs → Turn a conflicting B ws (all_of a conflicting B lost rs) lost rs xs
+  pub at_start : (lost : Lost) (rs : List QueuedUpdate) (xs : List (Option CauseOfProgram)) → xs ≡ [] → AreFrom (suc a.update) rs → StandAbove a B ws lost (suc a.update) rs → Turn a conflicting B ws (all_of a conflicting B lost rs) lost rs xs
   at_start lost rs xs e f s = record { number = suc a.update; from = f; stand = s; rest = ap (λ zs. all_found a.rules B zs ++ all_of a conflicting B lost rs) e }
 
   -- Those that are left stand above the next one.
-  stand_next : (lost left : Lost) (n : ℕ) (r : Record) (rs : List Record) (b : Bool) → StandAbove a B ws lost n (r ∷ rs) → LeavesLost a.rules B b n (update_of a.rules B r) (updates_of a.rules B rs) lost left → StandAbove a B ws left (suc n) rs
+  stand_next : (lost left : Lost) (n : ℕ) (r : QueuedUpdate) (rs : List QueuedUpdate) (b : Bool) → StandAbove a B ws lost n (r ∷ rs) → LeavesLost a.rules B b n (update_of a.rules B r) (updates_of a.rules B rs) lost left → StandAbove a B ws left (suc n) rs
   stand_next lost left n r rs b s after =
       let u = update_of a.rules B r in
       let us = updates_of a.rules B rs in
@@ -128,7 +128,7 @@ module _ (a : Above) (conflicting : Bool) (B : ℕ) (ws : List Change) where
       }
 
   -- Once the next one has.
-  pub next : 1 ≤ B → LooksFor conflicting ws → (all : List (Option (Cause (caused_chase a.rules B)))) (lost left : Lost) (r : Record) (rs : List Record) (xs : List (Option CauseOfProgram)) (x : Option CauseOfProgram)
+  pub next : 1 ≤ B → LooksFor conflicting ws → (all : List (Option (Cause (caused_chase a.rules B)))) (lost left : Lost) (r : QueuedUpdate) (rs : List QueuedUpdate) (xs : List (Option CauseOfProgram)) (x : Option CauseOfProgram)
       → Turn a conflicting B ws all lost (r ∷ rs) xs → IsCauseFor a ws lost r x → LosesWhere (is_some x) r lost left → Turn a conflicting B ws all left rs (xs ++ x ∷ [])
   next few looks all lost left r rs xs x t cause loses =
       let n = t.number in
@@ -154,14 +154,14 @@ module _ (a : Above) (conflicting : Bool) (B : ℕ) (ws : List Change) where
       }
 
   -- That one is next in the list.
-  pub next_in : 1 ≤ B → LooksFor conflicting ws → (all : List (Option (Cause (caused_chase a.rules B)))) (lost left : Lost) (i : ℕ) (rs : List Record) (r : Record) (xs ys : List (Option CauseOfProgram)) (x : Option CauseOfProgram) (b : Bool)
+  pub next_in : 1 ≤ B → LooksFor conflicting ws → (all : List (Option (Cause (caused_chase a.rules B)))) (lost left : Lost) (i : ℕ) (rs : List QueuedUpdate) (r : QueuedUpdate) (xs ys : List (Option CauseOfProgram)) (x : Option CauseOfProgram) (b : Bool)
       → i < length rs → r ≡ get_or rs i r → ys ≡ xs ++ x ∷ [] → b ≡ is_some x → IsCauseFor a ws lost r x → LosesWhere b r lost left → Turn a conflicting B ws all lost (drop i rs) xs → Turn a conflicting B ws all left (drop (i + 1) rs) ys
   next_in few looks all lost left i rs r xs ys x b l e f g cause loses t =
       subst (Turn a conflicting B ws all left (drop (i + 1) rs)) (sym f)
       (next few looks all lost left r (drop (i + 1) rs) xs x (subst (λ zs. Turn a conflicting B ws all lost zs xs) (next_drop rs i r l e) t) cause (subst (λ z. LosesWhere z r lost left) g loses))
 
   -- Those that have read nothing have none.
-  pub none_of : (E N : List Fact) (ks : List (Member (caused_chase a.rules B))) (n : ℕ) (rs : List Record) → AreUnread (caused_chase a.rules B) (updates_of a.rules B rs)
+  pub none_of : (E N : List Fact) (ks : List (Member (caused_chase a.rules B))) (n : ℕ) (rs : List QueuedUpdate) → AreUnread (caused_chase a.rules B) (updates_of a.rules B rs)
       → map (no_cause a.rules B) rs ≡ settle (caused_chase a.rules B) a.deps conflicting a.committed a.update E N ks n (updates_of a.rules B rs)
   none_of E N ks n [] h = refl
   none_of E N ks n (r ∷ rs) h =
@@ -172,7 +172,7 @@ module _ (a : Above) (conflicting : Bool) (B : ℕ) (ws : List Change) where
       ∷ none_of (apply E (trail (caused_chase a.rules B) u)) (without_member (caused_chase a.rules B) (is_some x) N u) (with_member (caused_chase a.rules B) (is_some x) ks n u) (suc n) rs h.1 i
 
   -- Where nothing was written and nothing is lost none has.
-  pub none_found : 1 ≤ B → LooksFor conflicting ws → (all : List (Option (Cause (caused_chase a.rules B)))) (lost : Lost) (rs : List Record) (xs : List (Option CauseOfProgram)) → ws ≡ [] → lost.members.items ≡ []
+  pub none_found : 1 ≤ B → LooksFor conflicting ws → (all : List (Option (Cause (caused_chase a.rules B)))) (lost : Lost) (rs : List QueuedUpdate) (xs : List (Option CauseOfProgram)) → ws ≡ [] → lost.members.items ≡ []
       → Turn a conflicting B ws all lost rs xs → all_found a.rules B xs ++ map (no_cause a.rules B) rs ≡ all
   none_found few looks all lost [] xs e k t = t.rest
   none_found few looks all lost (r ∷ rs) xs e k t =
@@ -180,7 +180,7 @@ module _ (a : Above) (conflicting : Bool) (B : ℕ) (ws : List Change) where
       ∙ none_found few looks all lost rs (xs ++ None ∷ []) e k (next few looks all lost lost r rs xs None t (nothing_for a ws lost r e k) (kept_where r false lost refl))
 
   -- Once all have that may have read something.
-  pub at_end : (all : List (Option (Cause (caused_chase a.rules B)))) (lost : Lost) (i : ℕ) (rs : List Record) (xs : List (Option CauseOfProgram)) → length xs ≡ i → ReadsAtMost rs i → Turn a conflicting B ws all lost (drop i rs) xs → found_for a.rules B rs xs ≡ all
+  pub at_end : (all : List (Option (Cause (caused_chase a.rules B)))) (lost : Lost) (i : ℕ) (rs : List QueuedUpdate) (xs : List (Option CauseOfProgram)) → length xs ≡ i → ReadsAtMost rs i → Turn a conflicting B ws all lost (drop i rs) xs → found_for a.rules B rs xs ≡ all
   at_end all lost i rs xs l h t =
       let unread : AreUnread (caused_chase a.rules B) (updates_of a.rules B (drop i rs)) =
       subst (λ (us : List (Update (caused_chase a.rules B))). AreUnread (caused_chase a.rules B) us) (drop-map (update_of a.rules B) i rs) (h a.rules B) in
@@ -192,7 +192,7 @@ module _ (a : Above) (conflicting : Bool) (B : ℕ) (ws : List Change) where
 -- ---- the walks of the two events
 
 -- Where the event's update wrote.
-pub of_writes : (a : Above) (ws : List Change) (lost : Lost) (rs : List Record) (xs : List (Option CauseOfProgram)) → lost.without ≡ a.whole → lost.members.items ≡ [] → AreFound a ws lost rs xs → AreCausesOfWrites a ws rs xs
+pub of_writes : (a : Above) (ws : List Change) (lost : Lost) (rs : List QueuedUpdate) (xs : List (Option CauseOfProgram)) → lost.without ≡ a.whole → lost.members.items ≡ [] → AreFound a ws lost rs xs → AreCausesOfWrites a ws rs xs
 of_writes a ws lost rs xs w k f B D lower u v few e h runs agree =
     let us = updates_of a.rules B rs in
     let t = trails_held a.rules B D lower (v ∷ us) a.whole h in
@@ -212,7 +212,7 @@ of_writes a ws lost rs xs w k f B D lower u v few e h runs agree =
     ∙ (λ i. settle (caused_chase a.rules B) a.deps true a.committed a.update (below i) ((ap (seen (suc a.update)) w ∙ below) i) (members_of a.rules B (k i)) (suc a.update) us)
 
 -- Where it lost its trail.
-pub of_loss : (a : Above) (none lost : Lost) (ws : List Change) (rs : List Record) (xs : List (Option CauseOfProgram)) → none.without ≡ a.whole → none.members.items ≡ [] → Loses a.update ws none lost → AreFound a [] lost rs xs → AreCausesOfLoss a ws rs xs
+pub of_loss : (a : Above) (none lost : Lost) (ws : List Change) (rs : List QueuedUpdate) (xs : List (Option CauseOfProgram)) → none.without ≡ a.whole → none.members.items ≡ [] → Loses a.update ws none lost → AreFound a [] lost rs xs → AreCausesOfLoss a ws rs xs
 of_loss a none lost ws rs xs w k l f B D lower u few e eu h runs =
     let us = updates_of a.rules B rs in
     let tr : List Change = trail (caused_chase a.rules B) u in
@@ -240,6 +240,6 @@ of_loss a none lost ws rs xs w k l f B D lower u few e eu h runs =
     ∙ (λ i. settle (caused_chase a.rules B) a.deps false a.committed a.update (with_it i) (without_it i) (members i) (suc a.update) us)
 
 -- Where none of those above has read anything, none is restarted.
-pub none_read : (a : Above) (ws : List Change) (rs : List Record) → ReadsAtMost rs 0 → AreCausesOfWrites a ws rs []
+pub none_read : (a : Above) (ws : List Change) (rs : List QueuedUpdate) → ReadsAtMost rs 0 → AreCausesOfWrites a ws rs []
 none_read a ws rs unread B D lower u v few e held runs agree =
     none_of a true B ws (above a.rules B D lower v) (above a.rules B D lower v) [] (suc a.update) rs (unread a.rules B)

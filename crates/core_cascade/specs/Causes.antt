@@ -8,7 +8,7 @@ use Rattle.def_machine.specs.Updates.{Update, trail}
 use Rattle.def_chase.specs.Repository.{Change}
 use Rattle.def_chase.specs.Values.{Fact}
 use Rattle.core_queue.specs.Queues.{updates_of}
-use Rattle.core_queue.specs.declared.records.Record.{Record}
+use Rattle.core_queue.specs.declared.updates.QueuedUpdate.{QueuedUpdate}
 use Rattle.def_steps.specs.Chase.{caused_chase}
 use Rattle.core_cascade.specs.Held.{AreVersions, laid, above}
 use Rattle.core_cascade.specs.Meanings.{Above, found_for}
@@ -16,7 +16,7 @@ use Rattle.core_cascade.specs.Meanings.{Above, found_for}
 -- In any history whose update above the lower ones is the event's, which was u and is v: conflicts with the writes that came
 -- or went, and dependences on what is restarted. Those above ran over what lay below them before the event. D is the base,
 -- and the versions are those after the writes.
-abbrev pub AreCausesOfWrites : Above → List Change → List Record → List (Option Cause) → Type 0
+abbrev pub AreCausesOfWrites : Above → List Change → List QueuedUpdate → List (Option Cause) → Type 0
 AreCausesOfWrites a ws upper xs =
     (B : ℕ) (D : List Fact) (lower : List (Update (caused_chase a.rules B))) (u v : Update (caused_chase a.rules B)) → 1 ≤ B
     → a.update ≡ suc (length lower) → AreVersions a.rules B D (lower ++ v ∷ updates_of a.rules B upper) a.whole
@@ -28,7 +28,7 @@ AreCausesOfWrites a ws upper xs =
 -- In any history whose update above the lower ones is the event's, and was u before it lost its trail: dependences on it
 -- and on what is restarted. Those above ran over what lay below them. D is the base, and the versions are those before the
 -- loss.
-abbrev pub AreCausesOfLoss : Above → List Change → List Record → List (Option Cause) → Type 0
+abbrev pub AreCausesOfLoss : Above → List Change → List QueuedUpdate → List (Option Cause) → Type 0
 AreCausesOfLoss a ws upper xs =
     (B : ℕ) (D : List Fact) (lower : List (Update (caused_chase a.rules B))) (u : Update (caused_chase a.rules B)) → 1 ≤ B
     → a.update ≡ suc (length lower) → trail (caused_chase a.rules B) u ≡ ws → AreVersions a.rules B D (lower ++ u ∷ updates_of a.rules B upper) a.whole

@@ -11,7 +11,7 @@ use Rattle.def_machine.specs.Cascade.{Cause, Member}
 use Rattle.def_machine.specs.Updates.{Deps}
 use Rattle.def_chase.specs.Mappings.{Rule}
 use Rattle.core_queue.specs.Settings.{deps_of}
-use Rattle.core_queue.specs.declared.records.Record.{Record}
+use Rattle.core_queue.specs.declared.updates.QueuedUpdate.{QueuedUpdate}
 use Rattle.def_steps.specs.Chase.{caused_chase}
 use Rattle.set_versions.specs.Standing.{Kept}
 use Rattle.core_cascade.specs.declared.cascades.Cascade.{Cascade}
@@ -49,9 +49,9 @@ module _ (ms : List Rule) (B : ℕ) where
   all_found xs = map found_of xs
 
   -- No cause.
-  abbrev pub no_cause : Record → Option (Cause (caused_chase ms B))
+  abbrev pub no_cause : QueuedUpdate → Option (Cause (caused_chase ms B))
   no_cause r = None
 
   -- Those of these updates, where causes were looked for among the first alone and the others have none.
-  abbrev pub found_for : List Record → List (Option CauseOfProgram) → List (Option (Cause (caused_chase ms B)))
+  abbrev pub found_for : List QueuedUpdate → List (Option CauseOfProgram) → List (Option (Cause (caused_chase ms B)))
   found_for rs xs = all_found xs ++ map no_cause (drop (length xs) rs)

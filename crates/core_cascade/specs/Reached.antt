@@ -15,7 +15,7 @@ use Rattle.def_chase.specs.Repository.{Change}
 use Rattle.def_chase.specs.Updates.{direction_of}
 use Rattle.def_chase.specs.Violations.{Direction}
 use Rattle.chase_query.specs.Meanings.{Read, read_of, reads_in}
-use Rattle.core_queue.specs.declared.records.Record.{Record}
+use Rattle.core_queue.specs.declared.updates.QueuedUpdate.{QueuedUpdate}
 use Rattle.def_steps.specs.Chase.{relation_of}
 use Rattle.set_versions.specs.Standing.{Kept, seen}
 use Rattle.core_cascade.specs.declared.lost.Lost.{Lost}
@@ -41,7 +41,7 @@ AreMetAlike ms h own ts us [] = Unit {0}
 AreMetAlike ms h own ts us (q ∷ qs) = (is_met ms h own Went ts q ≡ is_met ms h own Went us q) × AreMetAlike ms h own ts us qs
 
 -- The same of the reads of a record.
-abbrev pub MeetAlike : List Rule → List (List Change) → List (List Change) → Record → Type 0
+abbrev pub MeetAlike : List Rule → List (List Change) → List (List Change) → QueuedUpdate → Type 0
 MeetAlike ms ts us r = AreMetAlike ms (direction_of r.program.attempt.operation) r.program.attempt.own ts us (reads_in r.log.items)
 
 -- The numbered read that a `Numbered` stands for.
@@ -50,12 +50,12 @@ numbered_of x = record { number = x.number; read = read_of x.read }
 
 -- The first logged read of the record that a write of these trails meets and that has another value over what its update
 -- sees of the versions.
-abbrev pub first_changed_in : List Rule → Kept → Sense → List (List Change) → Record → Option Changed
+abbrev pub first_changed_in : List Rule → Kept → Sense → List (List Change) → QueuedUpdate → Option Changed
 first_changed_in ms v g trails r =
     first_changed ms (direction_of r.program.attempt.operation) (seen r.program.attempt.number v) r.program.attempt.own g trails (reads_in r.log.items)
 
 -- The same without its value there, where these trails are lost.
-abbrev pub first_invalid : List Rule → Kept → List Trail → Record → Option Numbered
+abbrev pub first_invalid : List Rule → Kept → List Trail → QueuedUpdate → Option Numbered
 first_invalid ms v ts r = option_map (λ c. record { number = c.number; read = c.read }) (first_changed_in ms v Went (trails_of ts) r)
 
 -- The first of these reads, of which the first has number n, that mentions a relation which one of the members wrote.
@@ -67,10 +67,10 @@ abbrev pub first_reached : List Rule → List Trail → List Read → Option Num
 first_reached ms ts rs = first_reached_from ms ts 1 rs
 
 -- The first that depends on what is lost.
-abbrev pub first_by : Deps → List Rule → Lost → Record → Option Numbered
+abbrev pub first_by : Deps → List Rule → Lost → QueuedUpdate → Option Numbered
 first_by Precise ms lost r = first_invalid ms lost.without lost.members.items r
 first_by Coarse ms lost r = first_reached ms lost.members.items (reads_in r.log.items)
 
 -- By the test of the walk.
-abbrev pub first_dependent : Above → Lost → Record → Option Numbered
+abbrev pub first_dependent : Above → Lost → QueuedUpdate → Option Numbered
 first_dependent a lost r = first_by a.deps a.rules lost r

@@ -26,7 +26,7 @@ use Rattle.def_chase.specs.Repository.{Change}
 use Rattle.def_chase.specs.Values.{Fact}
 use Rattle.chase_query.specs.Meanings.{reads_in}
 use Rattle.core_queue.specs.Queues.{update_of, updates_of}
-use Rattle.core_queue.specs.declared.records.Record.{Record}
+use Rattle.core_queue.specs.declared.updates.QueuedUpdate.{QueuedUpdate}
 use Rattle.def_steps.specs.Chase.{caused_chase}
 use Rattle.set_versions.specs.Standing.{seen, Retracted}
 use Rattle.core_cascade.specs.declared.lost.Lost.{Lost}
@@ -35,15 +35,15 @@ use Rattle.core_cascade.specs.Meanings.{Above, found_of, found_for, members_of}
 use Rattle.core_cascade.specs.Reached.{least_writer, first_changed_in, first_dependent}
 
 -- The number of the reader.
-abbrev pub number_of : Record → ℕ
+abbrev pub number_of : QueuedUpdate → ℕ
 number_of r = r.program.attempt.number
 
 -- The reader is live, where c updates were committed.
-abbrev pub is_live_in : ℕ → Record → Bool
+abbrev pub is_live_in : ℕ → QueuedUpdate → Bool
 is_live_in c r = nat_lt c (number_of r) && not r.withdrawn
 
 -- It is live, and has read something.
-abbrev pub may_have_cause : ℕ → Record → Bool
+abbrev pub may_have_cause : ℕ → QueuedUpdate → Bool
 may_have_cause c r = is_live_in c r && not (is_nil r.log.items)
 
 -- The conflict of the reader of this number with update j, by its changed read.
@@ -55,11 +55,11 @@ abbrev pub IsConflict : ℕ → ℕ → Option ChangedOfProgram → Option Cause
 IsConflict j n c x = option_map plain_of x ≡ option_map (conflict_meant j n) (option_map changed_of c)
 
 -- It is the conflict of the reader with these writes, if that is live.
-abbrev pub IsConflictFor : Above → List Change → Record → Option Cause → Type 0
+abbrev pub IsConflictFor : Above → List Change → QueuedUpdate → Option Cause → Type 0
 IsConflictFor a ws r x = option_map plain_of x ≡ option_map (conflict_meant a.update (number_of r)) (first_changed_in a.rules a.whole a.sense (ws ∷ []) r)
 
 -- The reader's footprint is that of its own writes and its reads.
-abbrev pub HasFootprint : Record → Type 0
+abbrev pub HasFootprint : QueuedUpdate → Type 0
 HasFootprint r = Covers r.footprint r.program.attempt.own (reads_in r.log.items)
 
 -- The impact has what these writes may meet, as they came or went.
@@ -88,7 +88,7 @@ abbrev pub dependence_meant : List Rule → List Trail → ℕ → Numbered → 
 dependence_meant ms ks n t = Dependent (record { reader = n; read = t.number; on = least_writer ms t.read ks })
 
 -- It is the dependence of the reader on what is lost below it, if that is live.
-abbrev pub IsDependenceFor : Above → Lost → Record → Option Cause → Type 0
+abbrev pub IsDependenceFor : Above → Lost → QueuedUpdate → Option Cause → Type 0
 IsDependenceFor a lost r x =
     option_map plain_of x
     ≡ (if is_nil lost.members.items then None else option_map (dependence_meant a.rules lost.members.items (number_of r)) (first_dependent a lost r))
@@ -106,7 +106,7 @@ abbrev pub LooksFor : Bool → List Change → Type 0
 LooksFor conflicting ws = conflicting ≡ false → ws ≡ []
 
 -- It is why the reader is restarted.
-abbrev pub IsCauseFor : Above → List Change → Lost → Record → Option Cause → Type 0
+abbrev pub IsCauseFor : Above → List Change → Lost → QueuedUpdate → Option Cause → Type 0
 IsCauseFor a ws lost r x =
     (B : ℕ) (conflicting : Bool) → 1 ≤ B → LooksFor conflicting ws
     → RanBelow a.rules B a.sense ws (trails_of lost.members.items) (seen (number_of r) a.whole) (seen (number_of r) lost.without) (number_of r) (update_of a.rules B r)
@@ -114,7 +114,7 @@ IsCauseFor a ws lost r x =
     ≡ cause_of (caused_chase a.rules B) a.deps conflicting a.committed a.update (seen (number_of r) a.whole) (seen (number_of r) lost.without) (members_of a.rules B lost.members.items) (number_of r) (update_of a.rules B r)
 
 -- The reader has none, whatever the writes of that impact.
-abbrev pub HasNoCause : Impact → Lost → Record → Type 0
+abbrev pub HasNoCause : Impact → Lost → QueuedUpdate → Type 0
 HasNoCause v lost r = (a : Above) (ws : List Change) → HasImpact a ws v → IsCauseFor a ws lost r None
 
 -- Update n, where these were its writes, has lost them, and is the last of the members.
@@ -129,14 +129,14 @@ pub record LeavesLost (ms : List Rule) (B : ℕ) (restarts : Bool) (n : ℕ) (u 
   pub members : members_of ms B new.members.items ≡ with_member (caused_chase ms B) restarts (members_of ms B old.members.items) n u
 
 -- Whatever updates are above it.
-abbrev pub LosesWhere : Bool → Record → Lost → Lost → Type 0
+abbrev pub LosesWhere : Bool → QueuedUpdate → Lost → Lost → Type 0
 LosesWhere restarts r old new =
     (ms : List Rule) (B : ℕ) (us : List (Update (caused_chase ms B))) → HoldFrom ms B (number_of r) (update_of ms B r ∷ us) old.without
     → LeavesLost ms B restarts (number_of r) (update_of ms B r) us old new
 
 -- The records' updates, the first of which has number n, ran over what lay below them before the event. Both versions have
 -- their trails; these writes came or went below them, and the trails of the members are lost.
-pub record StandAbove (a : Above) (B : ℕ) (ws : List Change) (lost : Lost) (n : ℕ) (rs : List Record) : Type 0 where
+pub record StandAbove (a : Above) (B : ℕ) (ws : List Change) (lost : Lost) (n : ℕ) (rs : List QueuedUpdate) : Type 0 where
   pub whole : HoldFrom a.rules B n (updates_of a.rules B rs) a.whole
   pub without : HoldFrom a.rules B n (updates_of a.rules B rs) lost.without
   pub before : List Fact
@@ -145,7 +145,7 @@ pub record StandAbove (a : Above) (B : ℕ) (ws : List Change) (lost : Lost) (n 
   pub gone : AgreeBut Went (trails_of lost.members.items) (seen n a.whole) (seen n lost.without)
 
 -- These are why each of the records' updates is restarted, which are those above the event's.
-abbrev pub AreFound : Above → List Change → Lost → List Record → List (Option Cause) → Type 0
+abbrev pub AreFound : Above → List Change → Lost → List QueuedUpdate → List (Option Cause) → Type 0
 AreFound a ws lost rs xs =
     (B : ℕ) (conflicting : Bool) → 1 ≤ B → LooksFor conflicting ws → StandAbove a B ws lost (suc a.update) rs
     → found_for a.rules B rs xs

@@ -2,7 +2,7 @@
 ghost use Rattle.std.specs.Prelude.{◌≡◌, ◌≤◌, true, suc, [], ◌∷◌, ◌++◌, length, map, IfOk, OnOk};
 ghost use Rattle.base_types.specs.Meanings.{change_of};
 ghost use Rattle.core_queue.specs.Queues.{AreFrom};
-ghost use Rattle.core_queue.specs.Walks.{ReadsAtMost};
+ghost use Rattle.core_queue.specs.Order.{ReadsAtMost};
 ghost use Rattle.core_cascade.specs.Causes.{AreCausesOfWrites, AreCausesOfLoss};
 ghost use Rattle.core_cascade.specs.Meanings.{above_of};
 ghost use Rattle.core_cascade.specs.Walks.{AreFound, HasFootprint, HasLostImpact, HasNoCause, padded};
@@ -12,7 +12,7 @@ use base_limits::Mappings;
 use base_types::{Memory, Write};
 use core_conflict::{Impact, Sense};
 use core_entries::Cause;
-use core_queue::{Deps, Record};
+use core_queue::{Deps, QueuedUpdate};
 use set_versions::Versions;
 use std::alloc::Global;
 
@@ -38,7 +38,7 @@ impl<'a> Cascade<'a> {
         &self,
         alloc: Global,
         written: &[Write],
-        upper: &[Record],
+        upper: &[QueuedUpdate],
         readers: usize,
     ) -> Result<Vec<Option<Cause>>, Memory>
         requires from { AreFrom (suc self.now.update) upper.now }
@@ -61,7 +61,7 @@ impl<'a> Cascade<'a> {
         &self,
         alloc: Global,
         trail: &[Write],
-        upper: &[Record],
+        upper: &[QueuedUpdate],
         readers: usize,
     ) -> Result<Vec<Option<Cause>>, Memory>
         requires from { AreFrom (suc self.now.update) upper.now }
@@ -84,7 +84,7 @@ impl<'a> Cascade<'a> {
         alloc: Global,
         written: &[Write],
         mut lost: Lost<'r>,
-        upper: &'r [Record],
+        upper: &'r [QueuedUpdate],
         readers: usize,
     ) -> Result<Vec<Option<Cause>>, Memory>
         requires from { AreFrom (suc self.now.update) upper.now }
@@ -131,7 +131,7 @@ fn leaves_all(written: &[Write], lost: &Lost<'_>) -> bool
 
 // Whether nothing gives the reader a cause: no trail is lost below it, and no write of that impact may meet a read of it.
 #[inline(always)]
-fn passes(impact: &Impact, lost: &Lost<'_>, reader: &Record) -> bool
+fn passes(impact: &Impact, lost: &Lost<'_>, reader: &QueuedUpdate) -> bool
     requires covers { HasFootprint reader.now }
     ensures passed { result ≡ true → HasNoCause impact.now lost.now reader.now }
 {

@@ -2,14 +2,14 @@
 ghost use Rattle.std.specs.Prelude.{◌≡◌, map, IfOk};
 ghost use Rattle.base_types.specs.Meanings.{change_of};
 ghost use Rattle.core_cascade.specs.Meanings.{above_of};
-ghost use Rattle.core_cascade.specs.Walks.{HasFootprint, HasImpact, HasLostImpact, IsCauseFor, IsConflict, IsConflictFor, IsDependenceFor, may_have_cause as may_have_cause_lem};
+ghost use Rattle.core_cascade.specs.Walks.{HasFootprint, HasImpact, HasLostImpact, IsCauseFor, IsConflict, IsConflictFor, IsDependenceFor, may_have_cause as may_have_cause_def};
 
 use crate::cascades::Cascade;
 use crate::lost::Lost;
 use base_types::{Memory, Write};
 use core_conflict::{Changed, Impact, Trail, first_changed};
 use core_entries::Cause;
-use core_queue::Record;
+use core_queue::QueuedUpdate;
 use std::alloc::Global;
 
 impl<'a> Cascade<'a> {
@@ -21,7 +21,7 @@ impl<'a> Cascade<'a> {
         written: &[Write],
         impact: &Impact,
         lost: &Lost<'_>,
-        reader: &Record,
+        reader: &QueuedUpdate,
     ) -> Result<Option<Cause>, Memory>
         requires covers { HasFootprint reader.now }
         requires impact { HasImpact (above_of self.now) (map change_of written.now) impact.now }
@@ -40,8 +40,8 @@ impl<'a> Cascade<'a> {
     }
 
     // Whether the reader is live and has read something.
-    fn may_have_cause(&self, reader: &Record) -> bool
-        ensures answer { result ≡ may_have_cause_lem self.now.committed reader.now }
+    fn may_have_cause(&self, reader: &QueuedUpdate) -> bool
+        ensures answer { result ≡ may_have_cause_def self.now.committed reader.now }
     {
         if !reader.is_live(self.committed, reader.number()) {
             return false;
@@ -55,7 +55,7 @@ impl<'a> Cascade<'a> {
         alloc: Global,
         written: &[Write],
         impact: &Impact,
-        reader: &Record,
+        reader: &QueuedUpdate,
     ) -> Result<Option<Cause>, Memory>
         requires covers { HasFootprint reader.now }
         requires impact { HasImpact (above_of self.now) (map change_of written.now) impact.now }
@@ -82,7 +82,7 @@ impl<'a> Cascade<'a> {
         alloc: Global,
         written: &[Write],
         impact: &Impact,
-        reader: &Record,
+        reader: &QueuedUpdate,
     ) -> Result<Option<Cause>, Memory>
         ensures conflict { IfOk result
             (IsConflictFor (above_of self.now) (map change_of written.now) reader.now) }
@@ -134,7 +134,7 @@ impl<'a> Cascade<'a> {
         &self,
         alloc: Global,
         lost: &Lost<'_>,
-        reader: &Record,
+        reader: &QueuedUpdate,
     ) -> Result<Option<Cause>, Memory>
         requires covers { HasFootprint reader.now }
         requires lost { HasLostImpact self.now.mappings.now lost.now }

@@ -5,9 +5,9 @@ ghost use Rattle.base_types.specs.Contents.{rules_in};
 ghost use Rattle.base_types.specs.Meanings.{change_of};
 ghost use Rattle.def_chase.specs.Mappings.{Rule};
 ghost use Rattle.core_queue.specs.Programs.{IsBetween};
-ghost use Rattle.chase_query.specs.Meanings.{finds_none as finds_none_lem, passing, read_of, reads_in, reads_of};
+ghost use Rattle.chase_query.specs.Meanings.{finds_none as finds_none_def, passing, read_of, reads_in, reads_of};
 ghost use Rattle.def_steps.specs.Chase.{relation_of};
-ghost use Rattle.core_cascade.specs.Reached.{is_reached, any_reached, least_writer, numbered_of, first_reached as first_reached_lem, first_reached_from};
+ghost use Rattle.core_cascade.specs.Reached.{is_reached, any_reached, least_writer, numbered_of, first_reached as first_reached_def, first_reached_from};
 ghost use Rattle.core_conflict.specs.Trails.{trails_of};
 ghost use Rattle.core_cascade.specs.Walks.{HasLostImpact, Loses, LosesWhere};
 
@@ -15,7 +15,7 @@ use crate::reads::Numbered;
 use base_types::{MappingList, Memory, TryCopy, Write};
 use chase_query::{Logged, LoggedRead, Passage, finds_none, mentions};
 use core_conflict::{Impact, Sense, Trail};
-use core_queue::Record;
+use core_queue::QueuedUpdate;
 use set_versions::Versions;
 use std::alloc::Global;
 
@@ -67,7 +67,7 @@ impl<'r> Lost<'r> {
         alloc: Global,
         mappings: &MappingList,
         restarts: bool,
-        reader: &'r Record,
+        reader: &'r QueuedUpdate,
     ) -> Result<(), Memory>
         requires between { IsBetween reader.now.program }
         requires impact { HasLostImpact (rules_in mappings.now) self.old }
@@ -89,7 +89,7 @@ impl<'r> Lost<'r> {
         log: &[Logged],
     ) -> Result<Option<Numbered>, Memory>
         ensures first { IfOk result (λ found. option_map numbered_of found ≡
-            first_reached_lem (rules_in mappings.now) self.now.members.items (reads_in log.now)) }
+            first_reached_def (rules_in mappings.now) self.now.members.items (reads_in log.now)) }
     {
         let mut number = 0;
         for entry in log {
@@ -156,7 +156,7 @@ impl<'r> Lost<'r> {
     ) -> Result<Option<Numbered>, Memory>
         ensures first { IfOk result (λ found. option_map numbered_of found ≡ first_reached_from
             (rules_in mappings.now) self.now.members.items number
-            (finds_none_lem mapping made ∷ [])) }
+            (finds_none_def mapping made ∷ [])) }
     {
         let read = finds_none(mapping, made);
         let found = self.reached_read(alloc, mappings, number, &read)?;

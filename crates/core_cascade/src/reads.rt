@@ -4,14 +4,14 @@ ghost use Rattle.std.specs.Option.{option_map};
 ghost use Rattle.core_cascade.specs.Meanings.{above_of};
 ghost use Rattle.core_conflict.specs.Trails.{trails_of};
 ghost use Rattle.core_cascade.specs.Walks.{HasFootprint, HasLostImpact};
-ghost use Rattle.core_cascade.specs.Reached.{MeetAlike, numbered_of, first_dependent as first_dependent_lem, first_invalid as first_invalid_lem};
+ghost use Rattle.core_cascade.specs.Reached.{MeetAlike, numbered_of, first_dependent as first_dependent_def, first_invalid as first_invalid_def};
 
 use crate::cascades::Cascade;
 use crate::lost::Lost;
 use base_types::Memory;
 use chase_query::LoggedRead;
 use core_conflict::{Sense, Trail, first_changed};
-use core_queue::{Deps, Record};
+use core_queue::{Deps, QueuedUpdate};
 use set_versions::Versions;
 use std::alloc::Global;
 
@@ -29,12 +29,12 @@ impl<'a> Cascade<'a> {
         &self,
         alloc: Global,
         lost: &Lost<'_>,
-        reader: &Record,
+        reader: &QueuedUpdate,
     ) -> Result<Option<Numbered>, Memory>
         requires covers { HasFootprint reader.now }
         requires lost { HasLostImpact self.now.mappings.now lost.now }
         ensures first { IfOk result (λ found. option_map numbered_of found ≡
-            first_dependent_lem (above_of self.now) lost.now reader.now) }
+            first_dependent_def (above_of self.now) lost.now reader.now) }
     {
         match self.deps {
             Deps::Precise => self.first_invalid(alloc, lost, reader),
@@ -47,12 +47,12 @@ impl<'a> Cascade<'a> {
         &self,
         alloc: Global,
         lost: &Lost<'_>,
-        reader: &Record,
+        reader: &QueuedUpdate,
     ) -> Result<Option<Numbered>, Memory>
         requires covers { HasFootprint reader.now }
         requires lost { HasLostImpact self.now.mappings.now lost.now }
         ensures first { IfOk result (λ found. option_map numbered_of found ≡
-            first_invalid_lem self.now.mappings.now lost.now.without lost.now.members.items
+            first_invalid_def self.now.mappings.now lost.now.without lost.now.members.items
             reader.now) }
     {
         let met = self.trails_met(alloc, lost, reader)?;
@@ -69,10 +69,10 @@ impl<'a> Cascade<'a> {
         alloc: Global,
         without: &Versions,
         trails: &[Trail<'_>],
-        reader: &Record,
+        reader: &QueuedUpdate,
     ) -> Result<Option<Numbered>, Memory>
         ensures first { IfOk result (λ found. option_map numbered_of found ≡
-            first_invalid_lem self.now.mappings.now without.now trails.now reader.now) }
+            first_invalid_def self.now.mappings.now without.now trails.now reader.now) }
     {
         let below = without.below(reader.number());
         let own = reader.program.own();
@@ -102,7 +102,7 @@ impl<'a> Cascade<'a> {
         &self,
         alloc: Global,
         lost: &Lost<'m>,
-        reader: &Record,
+        reader: &QueuedUpdate,
     ) -> Result<Vec<Trail<'m>>, Memory>
         requires covers { HasFootprint reader.now }
         requires lost { HasLostImpact self.now.mappings.now lost.now }

@@ -2,8 +2,8 @@
 ghost use Rattle.std.specs.Prelude.{◌≡◌, ◌+◌, ◌-◌, ◌<◌, ◌^◌, [], ◌∷◌, length, map, IfOk, OnOk};
 ghost use Rattle.std.specs.Option.{option_map};
 ghost use Rattle.base_types.specs.Meanings.{change_of, heading_of};
-ghost use Rattle.chase_query.specs.Meanings.{finds_none as finds_none_lem, passing, read_of, reads_in, reads_of};
-ghost use Rattle.core_conflict.specs.Changes.{first_changed as first_changed_lem};
+ghost use Rattle.chase_query.specs.Meanings.{finds_none as finds_none_def, passing, read_of, reads_in, reads_of};
+ghost use Rattle.core_conflict.specs.Changes.{first_changed as first_changed_def};
 ghost use Rattle.core_conflict.specs.Meanings.{changed_of};
 ghost use Rattle.core_conflict.specs.Looking.{SeesFirst, changed_from};
 ghost use Rattle.core_conflict.specs.Trails.{trails_of};
@@ -13,7 +13,7 @@ use crate::concerns::{Reader, Sense, Trail};
 use crate::views::{see, standing_then};
 use base_types::{Direction, Facts, MappingList, Memory, TryCopy, Write, WriteList};
 use chase_eval::View;
-use chase_query::{Answer, Logged, LoggedRead, Passage, ReadLog, finds_none};
+use chase_query::{Logged, LoggedRead, Passage, ReadLog, Reply, finds_none};
 use std::alloc::Global;
 
 /// A logged read that has another value now: its number in the log, from 1, the read with the answer that it had, and its
@@ -22,7 +22,7 @@ use std::alloc::Global;
 pub struct Changed {
     pub number: u64,
     pub read: LoggedRead,
-    pub now: Answer,
+    pub now: Reply,
 }
 
 /// The first read of the log that a write of these trails meets and that has another value now, by an attempt in this
@@ -39,7 +39,7 @@ pub fn first_changed<F: Facts>(
     trails: &[Trail<'_>],
 ) -> Result<Option<Changed>, Memory>
     ensures first { IfOk result (λ found. option_map changed_of found ≡
-        first_changed_lem (rules_in mappings.now) (heading_of direction) (F.tuples below.now)
+        first_changed_def (rules_in mappings.now) (heading_of direction) (F.tuples below.now)
         (changes_of own.now) sense (trails_of trails.now) (reads_in log.now.items)) }
 {
     let log = log.as_slice();
@@ -59,7 +59,7 @@ fn first_in<F: Facts>(
     trails: &[Trail<'_>],
 ) -> Result<Option<Changed>, Memory>
     ensures first { IfOk result (λ found. option_map changed_of found ≡
-        first_changed_lem (rules_in mappings.now) (heading_of direction) (F.tuples below.now)
+        first_changed_def (rules_in mappings.now) (heading_of direction) (F.tuples below.now)
         (map change_of own.now) sense (trails_of trails.now) (reads_in log.now)) }
 {
     let reader = Reader {
@@ -192,7 +192,7 @@ fn changed_mapping<'a, F: Facts>(
         (SeesFirst (F.tuples below.now) (map change_of reader.now.own.now) seen.new view.new) }
     ensures first { IfOk result (λ found. option_map changed_of found ≡
         changed_from reader.now trails.now (F.tuples below.now) number
-        (finds_none_lem mapping made ∷ [])) }
+        (finds_none_def mapping made ∷ [])) }
 {
     let read = finds_none(mapping, made);
     let changed = changed_read(alloc, reader, trails, below, view, seen, number, &read)?;

@@ -3,16 +3,16 @@ ghost use Rattle.std.specs.List.{list_any};
 ghost use Rattle.std.specs.Prelude.{◌≡◌, false, map};
 ghost use Rattle.base_types.specs.Contents.{rules_in};
 ghost use Rattle.base_types.specs.Meanings.{change_of, datum_of, fact_of, heading_of};
-ghost use Rattle.def_chase.specs.Queries.{holds_null as holds_null_lem, is_named as is_named_lem};
+ghost use Rattle.def_chase.specs.Queries.{holds_null as holds_null_def, is_named as is_named_def};
 ghost use Rattle.chase_query.specs.Meanings.{query_of, read_of, reads_in, reads_of};
 ghost use Rattle.core_conflict.specs.Changes.{meets_any, meets_any_apart};
-ghost use Rattle.core_conflict.specs.Concerns.{breaks_some as breaks_some_lem, concerns as concerns_lem, found_none as found_none_lem, is_hit, is_met as is_met_lem, is_met_apart, may_violate as may_violate_lem, meets as meets_lem, tuple_of as tuple_of_lem};
+ghost use Rattle.core_conflict.specs.Concerns.{breaks_some as breaks_some_def, concerns as concerns_def, found_none as found_none_def, is_hit, is_met as is_met_def, is_met_apart, may_violate as may_violate_def, meets as meets_def, tuple_of as tuple_of_def};
 ghost use Rattle.core_conflict.specs.Trails.{trails_of};
 
 use crate::impacts::Impact;
 use crate::joins::{breaks_some, counts_all, may_decide, may_make};
 use base_types::{Direction, MappingList, Tuple, Value, Write};
-use chase_query::{Answer, Logged, LoggedRead, Query};
+use chase_query::{Logged, LoggedRead, Query, Reply};
 use chase_unifier::is_more_specific;
 
 /// Writes of one update, with its number, and what an attempt must have to do with them for one to meet a read of it.
@@ -59,7 +59,7 @@ impl<'r> Reader<'r> {
 
     // Whether a write of one of the trails may break one of the mappings, with an own write.
     fn is_broken(&self, trails: &[Trail<'_>]) -> bool
-        ensures { result ≡ is_hit (breaks_some_lem (rules_in self.now.mappings.now)
+        ensures { result ≡ is_hit (breaks_some_def (rules_in self.now.mappings.now)
             (heading_of self.now.direction) self.now.sense (map change_of self.now.own.now))
             (trails_of trails.now) }
     {
@@ -68,7 +68,7 @@ impl<'r> Reader<'r> {
 
     // Whether one of the writes may break one of the mappings, with an own write.
     fn is_broken_by(&self, writes: &[Write]) -> bool
-        ensures { result ≡ list_any (breaks_some_lem (rules_in self.now.mappings.now)
+        ensures { result ≡ list_any (breaks_some_def (rules_in self.now.mappings.now)
             (heading_of self.now.direction) self.now.sense (map change_of self.now.own.now))
             (map change_of writes.now) }
     {
@@ -117,7 +117,7 @@ impl<'r> Reader<'r> {
 
     /// Whether a write of one of the trails meets the read. It takes no memory.
     pub(crate) fn is_met(&self, trails: &[Trail<'_>], read: &LoggedRead) -> bool
-        ensures { result ≡ is_met_lem (rules_in self.now.mappings.now)
+        ensures { result ≡ is_met_def (rules_in self.now.mappings.now)
             (heading_of self.now.direction) (map change_of self.now.own.now) self.now.sense
             (trails_of trails.now) (read_of read.now) }
     {
@@ -128,7 +128,7 @@ impl<'r> Reader<'r> {
 
     // Whether one of the writes meets the read.
     fn is_met_by(&self, writes: &[Write], read: &LoggedRead) -> bool
-        ensures { result ≡ list_any (meets_lem (rules_in self.now.mappings.now)
+        ensures { result ≡ list_any (meets_def (rules_in self.now.mappings.now)
             (heading_of self.now.direction) (map change_of self.now.own.now) self.now.sense
             (read_of read.now)) (map change_of writes.now) }
     {
@@ -138,22 +138,22 @@ impl<'r> Reader<'r> {
     // Whether the write meets the read: it may make a violation where the read found none, and else its tuple concerns the
     // query.
     fn meets(&self, write: &Write, read: &LoggedRead) -> bool
-        ensures { result ≡ meets_lem (rules_in self.now.mappings.now)
+        ensures { result ≡ meets_def (rules_in self.now.mappings.now)
             (heading_of self.now.direction) (map change_of self.now.own.now) self.now.sense
             (read_of read.now) (change_of write.now) }
     {
         match &read.answer {
-            Answer::Nothing => self.may_violate(&read.query, write),
-            Answer::Yes => self.concerns(&read.query, tuple_of(write)),
-            Answer::No => self.concerns(&read.query, tuple_of(write)),
-            Answer::Image(_) => self.concerns(&read.query, tuple_of(write)),
-            Answer::Tuples(_) => self.concerns(&read.query, tuple_of(write)),
+            Reply::Nothing => self.may_violate(&read.query, write),
+            Reply::Yes => self.concerns(&read.query, tuple_of(write)),
+            Reply::No => self.concerns(&read.query, tuple_of(write)),
+            Reply::Image(_) => self.concerns(&read.query, tuple_of(write)),
+            Reply::Tuples(_) => self.concerns(&read.query, tuple_of(write)),
         }
     }
 
     // Whether the write may make a violation that the query asks for, or its tuple concerns another query.
     fn may_violate(&self, query: &Query, write: &Write) -> bool
-        ensures { result ≡ may_violate_lem (rules_in self.now.mappings.now)
+        ensures { result ≡ may_violate_def (rules_in self.now.mappings.now)
             (heading_of self.now.direction) (map change_of self.now.own.now) self.now.sense
             (query_of query.now) (change_of write.now) }
     {
@@ -171,7 +171,7 @@ impl<'r> Reader<'r> {
     // Whether the tuple concerns the query: it is the one asked for, it may decide the violation asked for, it is more
     // specific than the one asked for, or it holds the null asked for.
     fn concerns(&self, query: &Query, tuple: &Tuple) -> bool
-        ensures { result ≡ concerns_lem (rules_in self.now.mappings.now)
+        ensures { result ≡ concerns_def (rules_in self.now.mappings.now)
             (heading_of self.now.direction) (map change_of self.now.own.now)
             (query_of query.now) (fact_of tuple.now) }
     {
@@ -189,10 +189,10 @@ impl<'r> Reader<'r> {
 
 // Whether the read asked for a violation, and was answered that there is none.
 fn found_none(read: &LoggedRead) -> bool
-    ensures { result ≡ found_none_lem (read_of read.now) }
+    ensures { result ≡ found_none_def (read_of read.now) }
 {
     match &read.query {
-        Query::Violation(_) => matches!(read.answer, Answer::Nothing),
+        Query::Violation(_) => matches!(read.answer, Reply::Nothing),
         Query::Present(_) => false,
         Query::Specific(_) => false,
         Query::Occurs(_, _) => false,
@@ -201,7 +201,7 @@ fn found_none(read: &LoggedRead) -> bool
 
 /// The tuple that is written.
 pub(crate) fn tuple_of(write: &Write) -> &Tuple
-    ensures { fact_of result.now ≡ tuple_of_lem (change_of write.now) }
+    ensures { fact_of result.now ≡ tuple_of_def (change_of write.now) }
 {
     match write {
         Write::Insert(tuple) => tuple,
@@ -211,7 +211,7 @@ pub(crate) fn tuple_of(write: &Write) -> &Tuple
 
 // Whether the tuple holds a null drawn by this update at this place.
 fn holds_null(tuple: &Tuple, update: u32, place: u32) -> bool
-    ensures { result ≡ holds_null_lem update place (fact_of tuple.now) }
+    ensures { result ≡ holds_null_def update place (fact_of tuple.now) }
 {
     tuple
         .values
@@ -222,7 +222,7 @@ fn holds_null(tuple: &Tuple, update: u32, place: u32) -> bool
 
 // Whether the value is a null drawn by this update at this place.
 fn is_named(value: &Value, update: u32, place: u32) -> bool
-    ensures { result ≡ is_named_lem update place (datum_of value.now) }
+    ensures { result ≡ is_named_def update place (datum_of value.now) }
 {
     match value {
         Value::Null(null) => null.update == update && null.place == place,

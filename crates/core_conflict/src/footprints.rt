@@ -2,9 +2,9 @@
 ghost use Rattle.std.specs.Prelude.{◌≡◌, ◌<◌, ◌||◌, false, true, [], map};
 ghost use Rattle.std.specs.List.{list_all};
 ghost use Rattle.base_types.specs.Meanings.{change_of, datum_of, fact_of, heading_of};
-ghost use Rattle.def_chase.specs.Specific.{is_constant as is_constant_lem};
+ghost use Rattle.def_chase.specs.Specific.{is_constant as is_constant_def};
 ghost use Rattle.chase_query.specs.Meanings.{read_of, reads_in, reads_of, reply_of};
-ghost use Rattle.core_conflict.specs.Concerns.{is_nothing as is_nothing_lem};
+ghost use Rattle.core_conflict.specs.Concerns.{is_nothing as is_nothing_def};
 ghost use Rattle.core_conflict.specs.Footprints.{Covers, CoversMore, ReadsMore, has_read, has_write_in};
 ghost use Rattle.core_conflict.specs.Meetings.{IsJoinless, IsNoneMet, IsOutside};
 ghost use Rattle.core_conflict.specs.Signatures.{IsWithin, has_spot, has_tuple, has_values, spot_asked};
@@ -14,7 +14,7 @@ use crate::impacts::{Impact, Reach};
 use crate::joins::may_enact_any;
 use crate::signatures::{Signature, home, spot};
 use base_types::{Direction, Tuple, Value, Write};
-use chase_query::{Answer, Logged, LoggedRead, Query};
+use chase_query::{Logged, LoggedRead, Query, Reply};
 
 /// Where the values lie that an attempt has written, and those that it has asked for; whether it has found a violation; and
 /// whether any write at all may meet one of its reads.
@@ -104,9 +104,9 @@ impl Footprint {
     }
 
     // With this answer to a question for a violation.
-    fn finding(self, answer: &Answer) -> Footprint
+    fn finding(self, answer: &Reply) -> Footprint
         ensures more { ReadsMore self result }
-        ensures has { (is_nothing_lem (reply_of answer.now) || result.found) ≡ true }
+        ensures has { (is_nothing_def (reply_of answer.now) || result.found) ≡ true }
     {
         let found = !is_nothing(answer);
         Footprint {
@@ -221,7 +221,7 @@ fn asked_in(relation: u16, values: &[Value]) -> u32
 
 // Whether the value is no null.
 fn is_constant(value: &Value) -> bool
-    ensures { result ≡ is_constant_lem (datum_of value.now) }
+    ensures { result ≡ is_constant_def (datum_of value.now) }
 {
     match value {
         Value::Int(_) => true,
@@ -231,10 +231,10 @@ fn is_constant(value: &Value) -> bool
 }
 
 // Whether the answer is that there is no violation.
-fn is_nothing(answer: &Answer) -> bool
-    ensures { result ≡ is_nothing_lem (reply_of answer.now) }
+fn is_nothing(answer: &Reply) -> bool
+    ensures { result ≡ is_nothing_def (reply_of answer.now) }
 {
-    matches!(answer, Answer::Nothing)
+    matches!(answer, Reply::Nothing)
 }
 
 // Whether one of the two holds.

@@ -5,7 +5,7 @@ ghost use Rattle.std.specs.List.{list_all, list_any};
 ghost use Rattle.base_types.specs.Meanings.{change_of, datum_of, fact_of, heading_of, pattern_of, rule_of, slot_of};
 ghost use Rattle.def_chase.specs.Mentions.{rule_mentions};
 ghost use Rattle.base_types.specs.Contents.{rules_in};
-ghost use Rattle.core_conflict.specs.Concerns.{adds as adds_lem, agree, at_side as at_side_lem, breaks as breaks_lem, breaks_some as breaks_some_lem, columns, concerns_rule, counts_all as counts_all_lem, has_come as has_come_lem, is_forward as is_forward_lem, joins as joins_lem, joins_either as joins_either_lem, joins_own as joins_own_lem, may_be as may_be_lem, may_cause as may_cause_lem, may_enact as may_enact_lem, may_join as may_join_lem, may_make as may_make_lem, meets_right as meets_right_lem, seats as seats_lem, stand_together as stand_together_lem};
+ghost use Rattle.core_conflict.specs.Concerns.{adds as adds_def, agree, at_side as at_side_def, breaks as breaks_def, breaks_some as breaks_some_def, columns, concerns_rule, counts_all as counts_all_def, has_come as has_come_def, is_forward as is_forward_def, joins as joins_def, joins_either as joins_either_def, joins_own as joins_own_def, may_be as may_be_def, may_cause as may_cause_def, may_enact as may_enact_def, may_join as may_join_def, may_make as may_make_def, meets_right as meets_right_def, seats as seats_def, stand_together as stand_together_def};
 
 use crate::concerns::{Sense, tuple_of};
 use base_types::{
@@ -42,7 +42,7 @@ fn may_decide_of(mapping: &Mapping, direction: Direction, own: &[Write], tuple: 
 
 /// Whether tuples that join with no own write may decide violations as well. It takes no memory.
 pub(crate) fn counts_all(direction: Direction, own: &[Write]) -> bool
-    ensures { result ≡ counts_all_lem (heading_of direction) (map change_of own.now) }
+    ensures { result ≡ counts_all_def (heading_of direction) (map change_of own.now) }
 {
     match direction {
         Direction::Forward => may_enact_any(own),
@@ -52,7 +52,7 @@ pub(crate) fn counts_all(direction: Direction, own: &[Write]) -> bool
 
 // Whether a violation that own writes caused may have the tuple on the left, or be met with it on the right.
 fn joins_either(mapping: &Mapping, direction: Direction, own: &[Write], tuple: &Tuple) -> bool
-    ensures { result ≡ joins_either_lem (heading_of direction) (rule_of mapping.now)
+    ensures { result ≡ joins_either_def (heading_of direction) (rule_of mapping.now)
         (map change_of own.now) (fact_of tuple.now) }
 {
     if at_side(mapping, true, direction, own, tuple) {
@@ -70,7 +70,7 @@ pub(crate) fn may_make(
     sense: Sense,
     write: &Write,
 ) -> bool
-    ensures { result ≡ may_make_lem (heading_of direction) (map change_of own.now) sense
+    ensures { result ≡ may_make_def (heading_of direction) (map change_of own.now) sense
         (option_map rule_of (option_copied mapping.entry)) (change_of write.now) }
 {
     let Some(mapping) = mapping else {
@@ -87,7 +87,7 @@ fn may_make_of(
     sense: Sense,
     write: &Write,
 ) -> bool
-    ensures { result ≡ may_make_lem (heading_of direction) (map change_of own.now) sense
+    ensures { result ≡ may_make_def (heading_of direction) (map change_of own.now) sense
         (Some (rule_of mapping.now)) (change_of write.now) }
 {
     if counts_all(direction, own) && is_of(mapping, tuple_of(write).relation) {
@@ -104,7 +104,7 @@ pub(crate) fn breaks_some(
     own: &[Write],
     write: &Write,
 ) -> bool
-    ensures { result ≡ breaks_some_lem (rules_in mappings.now) (heading_of direction) sense
+    ensures { result ≡ breaks_some_def (rules_in mappings.now) (heading_of direction) sense
         (map change_of own.now) (change_of write.now) }
 {
     mappings
@@ -122,7 +122,7 @@ fn breaks(
     own: &[Write],
     write: &Write,
 ) -> bool
-    ensures { result ≡ breaks_lem (heading_of direction) (rule_of mapping.now) sense
+    ensures { result ≡ breaks_def (heading_of direction) (rule_of mapping.now) sense
         (map change_of own.now) (change_of write.now) }
 {
     at_side(mapping, adds(sense, write), direction, own, tuple_of(write))
@@ -130,7 +130,7 @@ fn breaks(
 
 // Whether the tuple of the write is there since and was not before.
 pub(crate) fn adds(sense: Sense, write: &Write) -> bool
-    ensures { result ≡ adds_lem sense (change_of write.now) }
+    ensures { result ≡ adds_def sense (change_of write.now) }
 {
     match write {
         Write::Insert(_) => has_come(sense),
@@ -140,7 +140,7 @@ pub(crate) fn adds(sense: Sense, write: &Write) -> bool
 
 // Whether the writes came.
 fn has_come(sense: Sense) -> bool
-    ensures { result ≡ has_come_lem sense }
+    ensures { result ≡ has_come_def sense }
 {
     match sense {
         Sense::Came => true,
@@ -156,7 +156,7 @@ fn at_side(
     own: &[Write],
     tuple: &Tuple,
 ) -> bool
-    ensures { result ≡ at_side_lem is_left (heading_of direction) (rule_of mapping.now)
+    ensures { result ≡ at_side_def is_left (heading_of direction) (rule_of mapping.now)
         (map change_of own.now) (fact_of tuple.now) }
 {
     if is_left {
@@ -167,7 +167,7 @@ fn at_side(
 
 // Whether a violation that own writes caused may have the tuple on the left.
 fn joins_left(mapping: &Mapping, direction: Direction, own: &[Write], tuple: &Tuple) -> bool
-    ensures { result ≡ joins_own_lem (heading_of direction) (rule_of mapping.now).left
+    ensures { result ≡ joins_own_def (heading_of direction) (rule_of mapping.now).left
         (rule_of mapping.now) (map change_of own.now) (fact_of tuple.now) }
 {
     joins_own(mapping, direction, mapping.left.as_slice(), own, tuple)
@@ -175,7 +175,7 @@ fn joins_left(mapping: &Mapping, direction: Direction, own: &[Write], tuple: &Tu
 
 // Whether a violation that own writes caused may be met with the tuple on the right.
 fn meets_right(mapping: &Mapping, direction: Direction, own: &[Write], tuple: &Tuple) -> bool
-    ensures { result ≡ meets_right_lem (heading_of direction) (rule_of mapping.now)
+    ensures { result ≡ meets_right_def (heading_of direction) (rule_of mapping.now)
         (map change_of own.now) (fact_of tuple.now) }
 {
     let atoms = mapping.right.as_slice();
@@ -194,7 +194,7 @@ fn joins_own(
     own: &[Write],
     tuple: &Tuple,
 ) -> bool
-    ensures { result ≡ joins_own_lem (heading_of direction) (map pattern_of atoms.now)
+    ensures { result ≡ joins_own_def (heading_of direction) (map pattern_of atoms.now)
         (rule_of mapping.now) (map change_of own.now) (fact_of tuple.now) }
 {
     if !stands_in(atoms, tuple.relation) {
@@ -205,14 +205,14 @@ fn joins_own(
 
 // Whether one of the writes may put a mapping in force.
 pub(crate) fn may_enact_any(own: &[Write]) -> bool
-    ensures { result ≡ list_any may_enact_lem (map change_of own.now) }
+    ensures { result ≡ list_any may_enact_def (map change_of own.now) }
 {
     own.iter().any(|write| may_enact(write))
 }
 
 // Whether the write may put a mapping in force.
 fn may_enact(write: &Write) -> bool
-    ensures { result ≡ may_enact_lem (change_of write.now) }
+    ensures { result ≡ may_enact_def (change_of write.now) }
 {
     tuple_of(write).relation == FORCE_RELATION
 }
@@ -242,7 +242,7 @@ fn joins_any(
     own: &[Write],
     tuple: &Tuple,
 ) -> bool
-    ensures { result ≡ joins_own_lem (heading_of direction) (map pattern_of atoms.now)
+    ensures { result ≡ joins_own_def (heading_of direction) (map pattern_of atoms.now)
         (rule_of mapping.now) (map change_of own.now) (fact_of tuple.now) }
 {
     own.iter()
@@ -257,7 +257,7 @@ fn joins(
     write: &Write,
     tuple: &Tuple,
 ) -> bool
-    ensures { result ≡ joins_lem (heading_of direction) (map pattern_of atoms.now)
+    ensures { result ≡ joins_def (heading_of direction) (map pattern_of atoms.now)
         (rule_of mapping.now) (fact_of tuple.now) (change_of write.now) }
 {
     if !may_cause(direction, write) {
@@ -268,7 +268,7 @@ fn joins(
 
 // Whether the write may cause violations in this direction.
 fn may_cause(direction: Direction, write: &Write) -> bool
-    ensures { result ≡ may_cause_lem (heading_of direction) (change_of write.now) }
+    ensures { result ≡ may_cause_def (heading_of direction) (change_of write.now) }
 {
     match write {
         Write::Insert(_) => is_forward(direction),
@@ -278,7 +278,7 @@ fn may_cause(direction: Direction, write: &Write) -> bool
 
 // Whether the direction is forward.
 fn is_forward(direction: Direction) -> bool
-    ensures { result ≡ is_forward_lem (heading_of direction) }
+    ensures { result ≡ is_forward_def (heading_of direction) }
 {
     match direction {
         Direction::Forward => true,
@@ -288,7 +288,7 @@ fn is_forward(direction: Direction) -> bool
 
 // The atoms among which a violation that own writes caused has the tuple of one of them.
 fn seats(mapping: &Mapping, direction: Direction) -> &[Atom]
-    ensures { map pattern_of result.now ≡ seats_lem (heading_of direction) (rule_of mapping.now) }
+    ensures { map pattern_of result.now ≡ seats_def (heading_of direction) (rule_of mapping.now) }
 {
     match direction {
         Direction::Forward => mapping.left.as_slice(),
@@ -298,7 +298,7 @@ fn seats(mapping: &Mapping, direction: Direction) -> &[Atom]
 
 // Whether, with the first tuple at one of the seats, the second may stand at one of the atoms.
 fn may_join(seats: &[Atom], atoms: &[Atom], own: &Tuple, tuple: &Tuple) -> bool
-    ensures { result ≡ may_join_lem (map pattern_of seats.now) (map pattern_of atoms.now)
+    ensures { result ≡ may_join_def (map pattern_of seats.now) (map pattern_of atoms.now)
         (fact_of own.now) (fact_of tuple.now) }
 {
     seats.iter().any(|atom| joins_at(atom, atoms, own, tuple))
@@ -306,7 +306,7 @@ fn may_join(seats: &[Atom], atoms: &[Atom], own: &Tuple, tuple: &Tuple) -> bool
 
 // Whether, with the first tuple at this atom, the second may stand at one of the others.
 fn joins_at(atom: &Atom, others: &[Atom], own: &Tuple, tuple: &Tuple) -> bool
-    ensures { result ≡ list_any (λ c. stand_together_lem (pattern_of atom.now)
+    ensures { result ≡ list_any (λ c. stand_together_def (pattern_of atom.now)
         (fact_of own.now) c (fact_of tuple.now)) (map pattern_of others.now) }
 {
     if !is_at(atom, own) {
@@ -324,7 +324,7 @@ fn is_at(atom: &Atom, tuple: &Tuple) -> bool
 
 // Whether, with the first tuple at this atom, the second may stand at one of the others.
 fn joins_among(others: &[Atom], atom: &Atom, own: &Tuple, tuple: &Tuple) -> bool
-    ensures { result ≡ list_any (λ c. stand_together_lem (pattern_of atom.now)
+    ensures { result ≡ list_any (λ c. stand_together_def (pattern_of atom.now)
         (fact_of own.now) c (fact_of tuple.now)) (map pattern_of others.now) }
 {
     others
@@ -334,7 +334,7 @@ fn joins_among(others: &[Atom], atom: &Atom, own: &Tuple, tuple: &Tuple) -> bool
 
 // Whether one binding may make the first atom the first tuple and the second the second.
 fn stand_together(atom: &Atom, own: &Tuple, other: &Atom, tuple: &Tuple) -> bool
-    ensures { result ≡ stand_together_lem (pattern_of atom.now) (fact_of own.now)
+    ensures { result ≡ stand_together_def (pattern_of atom.now) (fact_of own.now)
         (pattern_of other.now) (fact_of tuple.now) }
 {
     if other.relation != tuple.relation {
@@ -377,7 +377,7 @@ fn agrees(term: &Term, value: &Value, other: &Atom, tuple: &Tuple) -> bool
 
 // Whether one binding may give the two terms these values.
 fn may_be(term: &Term, value: &Value, other: &Term, its_value: &Value) -> bool
-    ensures { result ≡ may_be_lem (slot_of term.now) (datum_of value.now)
+    ensures { result ≡ may_be_def (slot_of term.now) (datum_of value.now)
         (slot_of other.now) (datum_of its_value.now) }
 {
     match term {

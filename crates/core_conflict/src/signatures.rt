@@ -1,7 +1,7 @@
 //! Signatures: sets of spots on which values fall, so that tuples whose signatures share no spot have no value in common.
 ghost use Rattle.std.specs.Prelude.{◌≡◌, ℕ, ◌<◌, false, true};
 ghost use Rattle.base_types.specs.Meanings.{datum_of};
-ghost use Rattle.core_conflict.specs.Signatures.{AreApart, IsWithin, digest as digest_lem, digest_from, has_spot, home as home_lem, spot as spot_lem};
+ghost use Rattle.core_conflict.specs.Signatures.{AreApart, IsWithin, digest as digest_def, digest_from, has_spot, home as home_def, spot as spot_def};
 
 use base_types::Value;
 
@@ -46,7 +46,7 @@ impl Signature {
 
 /// The spot of the value in this column of a tuple of the relation. It takes no memory.
 pub(crate) fn spot(relation: u16, column: u64, value: &Value) -> u32
-    ensures spot { result ≡ spot_lem relation column (datum_of value.now) }
+    ensures spot { result ≡ spot_def relation column (datum_of value.now) }
     ensures below { result < 16384 }
 {
     let number = digest(value);
@@ -57,7 +57,7 @@ pub(crate) fn spot(relation: u16, column: u64, value: &Value) -> u32
 
 /// The spot of the relation. It takes no memory.
 pub(crate) fn home(relation: u16) -> u32
-    ensures home { result ≡ home_lem relation }
+    ensures home { result ≡ home_def relation }
     ensures below { result < 16384 }
 {
     let low = u32::from(relation) * 37 + 77;
@@ -67,7 +67,7 @@ pub(crate) fn home(relation: u16) -> u32
 
 // A number by which the value is told from most others.
 fn digest(value: &Value) -> u64
-    ensures digest { result ≡ digest_lem (datum_of value.now) }
+    ensures digest { result ≡ digest_def (datum_of value.now) }
 {
     match value {
         Value::Int(number) => number.unsigned_abs(),

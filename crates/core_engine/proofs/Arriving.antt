@@ -20,7 +20,7 @@ use Rattle.def_chase.specs.Repository.{Change}
 use Rattle.def_chase.specs.Updates.{Operation}
 use Rattle.core_queue.specs.Events.{IsAdmitted}
 use Rattle.core_queue.specs.Queues.{update_of, updates_of, StandsAt, AreFrom}
-use Rattle.core_queue.specs.declared.records.Record.{Record}
+use Rattle.core_queue.specs.declared.updates.QueuedUpdate.{QueuedUpdate}
 use Rattle.lang_session.specs.declared.sessions.SessionUpdate.{SessionUpdate}
 use Rattle.def_steps.specs.Chase.{caused_chase}
 use Rattle.def_steps.specs.Serial.{Request}
@@ -56,7 +56,7 @@ last_empty f [] w e (suc (suc k)) = refl
 last_empty f (u ∷ us) w e (suc zero) = refl
 last_empty f (u ∷ us) w e (suc (suc k)) = last_empty f us w e (suc k)
 
-pub admits_to : (op : Operation) (n : ℕ) (rs rs' : List Record) (es es' : List Entry) → n ≡ suc (length rs) → length rs < 1000 → IsNew n op rs rs' → es' ≡ es ++ AdmittedEntry n ∷ [] → AdmitsTo op rs es rs' es'
+pub admits_to : (op : Operation) (n : ℕ) (rs rs' : List QueuedUpdate) (es es' : List Entry) → n ≡ suc (length rs) → length rs < 1000 → IsNew n op rs rs' → es' ≡ es ++ AdmittedEntry n ∷ [] → AdmitsTo op rs es rs' es'
 admits_to op n rs rs' es es' number few new grew ms s v B D requests later kept =
     let g : Ground = ground_with ms s B D requests later in
     let g' : Ground = ground_with ms s B D requests (later ++ op ∷ []) in
@@ -82,7 +82,7 @@ admits_to op n rs rs' es es' number few new grew ms s v B D requests later kept 
         left = subst (λ (K : List PlainEntry). Leave g' K (updates_of ms B rs')) entries (subst (λ (ws : List (Update (caused_chase ms B))). Leave g' (H ++ WasAdmitted (suc (length us)) ∷ []) ws) (sym us') more);
         numbers =
             let here : n ≡ 1 + length rs = omega (arith, number) in
-            subst (λ (qs : List Record). AreFrom 1 qs) (sym new.longer) (from_more 1 rs new.last kept.numbers (subst (λ (m : ℕ). StandsAt m new.last) here new.stands));
+            subst (λ (qs : List QueuedUpdate). AreFrom 1 qs) (sym new.longer) (from_more 1 rs new.last kept.numbers (subst (λ (m : ℕ). StandsAt m new.last) here new.stands));
         versions =
             subst (λ (ws : List (Update (caused_chase ms B))). HaveTrails ms B D ws v) (sym us')
             (subst (λ (ts : ℕ → List Change). StandFor v D ts) (λ i m. last_empty (trail (caused_chase ms B)) us (admitted (caused_chase ms B) (suc (length us)) x) refl m i) kept.versions);
@@ -96,7 +96,7 @@ admits_to op n rs rs' es es' number few new grew ms s v B D requests later kept 
     }
 
 -- The record that was made without recorded answers, and put behind the others.
-pub new_by : (n : ℕ) (u : UpdateOfProgram) (none : Listed Choice) (rs rs' : List Record) (r : Record) → none.items ≡ [] → IsAdmitted n u none r → StandsAt n r → rs' ≡ rs ++ r ∷ [] → IsNew n (operation_of u.operation) rs rs'
+pub new_by : (n : ℕ) (u : UpdateOfProgram) (none : Listed Choice) (rs rs' : List QueuedUpdate) (r : QueuedUpdate) → none.items ≡ [] → IsAdmitted n u none r → StandsAt n r → rs' ≡ rs ++ r ∷ [] → IsNew n (operation_of u.operation) rs rs'
 new_by n u none rs rs' r empty is stands grew = record {
   last = r;
   longer = grew;
@@ -106,7 +106,7 @@ new_by n u none rs rs' r empty is stands grew = record {
 
 -- ---- on a core
 
-module _ (ms : List Rule) (B : ℕ) (c : Settings) (base : Listed Tuple) (us : Listed SessionUpdate) (later later' : Listed UpdateOfProgram) (v : Kept) (rs rs' : List Record) (es es' : List Entry) (u : UpdateOfProgram) (kept : IsKept (ground_by ms B c base us later) v rs (map entry_of es))
+module _ (ms : List Rule) (B : ℕ) (c : Settings) (base : Listed Tuple) (us : Listed SessionUpdate) (later later' : Listed UpdateOfProgram) (v : Kept) (rs rs' : List QueuedUpdate) (es es' : List Entry) (u : UpdateOfProgram) (kept : IsKept (ground_by ms B c base us later) v rs (map entry_of es))
     (grew : later'.items ≡ later.items ++ u ∷ []) (admits : AdmitsTo (operation_of u.operation) rs es rs' es') where
   more_handed : map (λ (w : UpdateOfProgram). operation_of w.operation) later'.items ≡ map (λ (w : UpdateOfProgram). operation_of w.operation) later.items ++ operation_of u.operation ∷ []
   more_handed = ap (map (λ (w : UpdateOfProgram). operation_of w.operation)) grew ∙ map_more (λ (w : UpdateOfProgram). operation_of w.operation) later.items u

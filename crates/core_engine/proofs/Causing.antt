@@ -15,7 +15,7 @@ use Rattle.def_machine.specs.Settle.{settle, restart, cause_of as cause_of_updat
 use Rattle.def_chase.specs.Mappings.{Rule}
 use Rattle.def_steps.specs.Chase.{caused_chase}
 use Rattle.core_cascade.specs.Meanings.{all_found, no_cause, found_for}
-use Rattle.core_queue.specs.declared.records.Record.{Record}
+use Rattle.core_queue.specs.declared.updates.QueuedUpdate.{QueuedUpdate}
 use Rattle.core_engine.specs.Aftermaths.{conflict_in, dependence_in, in_order}
 
 module _ (ms : List Rule) (B : ℕ) where
@@ -43,19 +43,19 @@ module _ (ms : List Rule) (B : ℕ) where
   in_order_is xs = both_told (flat_map conflict_in xs) (flat_map dependence_in xs) ∙ (λ i. conflicts_told xs i ++ dependences_told xs i)
 
   -- Those of updates for which none was looked for come to nothing.
-  no_conflicts_behind : (ys : List (Option (Cause (caused_chase ms B)))) (rs : List Record) → conflicts_in (ys ++ map (no_cause ms B) rs) ≡ conflicts_in ys
+  no_conflicts_behind : (ys : List (Option (Cause (caused_chase ms B)))) (rs : List QueuedUpdate) → conflicts_in (ys ++ map (no_cause ms B) rs) ≡ conflicts_in ys
   no_conflicts_behind [] [] = refl
   no_conflicts_behind [] (r ∷ rs) = no_conflicts_behind [] rs
   no_conflicts_behind (None ∷ ys) rs = no_conflicts_behind ys rs
   no_conflicts_behind (Some x ∷ ys) rs = ap (if_conflict x) (no_conflicts_behind ys rs)
 
-  no_dependences_behind : (ys : List (Option (Cause (caused_chase ms B)))) (rs : List Record) → dependences_in (ys ++ map (no_cause ms B) rs) ≡ dependences_in ys
+  no_dependences_behind : (ys : List (Option (Cause (caused_chase ms B)))) (rs : List QueuedUpdate) → dependences_in (ys ++ map (no_cause ms B) rs) ≡ dependences_in ys
   no_dependences_behind [] [] = refl
   no_dependences_behind [] (r ∷ rs) = no_dependences_behind [] rs
   no_dependences_behind (None ∷ ys) rs = no_dependences_behind ys rs
   no_dependences_behind (Some x ∷ ys) rs = ap (if_dependence x) (no_dependences_behind ys rs)
 
-  pub no_restarts_behind : (n : ℕ) (ys : List (Option (Cause (caused_chase ms B)))) (rs : List Record) (us : List (Update (caused_chase ms B)))
+  pub no_restarts_behind : (n : ℕ) (ys : List (Option (Cause (caused_chase ms B)))) (rs : List QueuedUpdate) (us : List (Update (caused_chase ms B)))
       → restart (caused_chase ms B) n (ys ++ map (no_cause ms B) rs) us ≡ restart (caused_chase ms B) n ys us
   no_restarts_behind n ys rs [] = refl
   no_restarts_behind n [] [] (u ∷ us) = refl
@@ -67,7 +67,7 @@ module _ (ms : List Rule) (B : ℕ) where
   no_restarts_behind n (y ∷ ys) rs (u ∷ us) = ap (λ (vs : List (Update (caused_chase ms B))). (if is_some y then anew (caused_chase ms B) n u else u) ∷ vs) (no_restarts_behind (suc n) ys rs us)
 
   -- In order they are the conflicts and then the dependences of all the updates.
-  pub in_order_for : (rs : List Record) (xs : List (Option CauseOfProgram)) → told (in_order xs) ≡ conflicts_in (found_for ms B rs xs) ++ dependences_in (found_for ms B rs xs)
+  pub in_order_for : (rs : List QueuedUpdate) (xs : List (Option CauseOfProgram)) → told (in_order xs) ≡ conflicts_in (found_for ms B rs xs) ++ dependences_in (found_for ms B rs xs)
   in_order_for rs xs =
       in_order_is xs ∙ sym (λ i. no_conflicts_behind (all_found ms B xs) (drop (length xs) rs) i ++ no_dependences_behind (all_found ms B xs) (drop (length xs) rs) i)
 

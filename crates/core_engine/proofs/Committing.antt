@@ -9,8 +9,8 @@ use Rattle.def_machine.specs.Updates.{Update, committed, is_over}
 use Rattle.chase_update.specs.Courses.{State as ProgramState}
 use Rattle.core_queue.specs.Queues.{update_of, updates_of}
 use Rattle.core_queue.specs.Renewals.{HaveRestarted}
-use Rattle.core_queue.specs.Walks.{AreUnready, CommitsAtLeast, UnreadyUpTo}
-use Rattle.core_queue.specs.declared.records.Record.{Record}
+use Rattle.core_queue.specs.Order.{AreUnready, CommitsAtLeast, UnreadyUpTo}
+use Rattle.core_queue.specs.declared.updates.QueuedUpdate.{QueuedUpdate}
 use Rattle.def_steps.specs.Chase.{caused_chase}
 use Rattle.core_engine.specs.Follows.{AreSame, KeepsCommitted, KeepsUnready}
 use Rattle.core_engine.proofs.Following.{marks_for, marked_so}
@@ -27,7 +27,7 @@ placed M (u ∷ us) (suc k) (suc c) v ws l h = by (is_over M u) h (λ a. placed 
     by true a rest = let less : c ≤ committed M us = omega (arith, a) in let more = rest less in omega (arith, more)
     by false a rest = absurd (omega (arith, a))
 
-pub committed_kept : (rs rs' : List Record) (k : ℕ) (r' : Record) (fs : List (Option ProgramState)) → HaveRestarted (k + 1) fs (set rs k r') rs' → KeepsCommitted k rs rs'
+pub committed_kept : (rs rs' : List QueuedUpdate) (k : ℕ) (r' : QueuedUpdate) (fs : List (Option ProgramState)) → HaveRestarted (k + 1) fs (set rs k r') rs' → KeepsCommitted k rs rs'
 committed_kept rs rs' k r' fs restarts c l least ms B =
     let M = caused_chase ms B in
     let xs = marks_for ms B fs in
@@ -43,7 +43,7 @@ unready_placed M [] k (suc n) v ws l h = absurd h
 unready_placed M (u ∷ us) zero (suc n) v ws l h = absurd (omega (arith, l))
 unready_placed M (u ∷ us) (suc k) (suc n) v ws l h = (h.0, unready_placed M us k n v ws (omega (arith, l)) h.1)
 
-pub unready_kept : (rs rs' : List Record) (k : ℕ) (r' : Record) (fs : List (Option ProgramState)) → HaveRestarted (k + 1) fs (set rs k r') rs' → KeepsUnready k rs rs'
+pub unready_kept : (rs rs' : List QueuedUpdate) (k : ℕ) (r' : QueuedUpdate) (fs : List (Option ProgramState)) → HaveRestarted (k + 1) fs (set rs k r') rs' → KeepsUnready k rs rs'
 unready_kept rs rs' k r' fs restarts n l h ms B =
     let M = caused_chase ms B in
     let xs = marks_for ms B fs in
@@ -58,20 +58,20 @@ fewer M us zero (suc m) l h = absurd (omega (arith, l))
 fewer M [] (suc n) (suc m) l h = absurd h
 fewer M (u ∷ us) (suc n) (suc m) l h = (h.0, fewer M us n m (omega (arith, l)) h.1)
 
-pub fewer_unready : (rs : List Record) (n m : ℕ) → m ≤ n → UnreadyUpTo rs n → UnreadyUpTo rs m
+pub fewer_unready : (rs : List QueuedUpdate) (n m : ℕ) → m ≤ n → UnreadyUpTo rs n → UnreadyUpTo rs m
 fewer_unready rs n m l h ms B = fewer (caused_chase ms B) (updates_of ms B rs) n m l (h ms B)
 
-pub same_unready : (rs rs' : List Record) (n : ℕ) → AreSame rs rs' → UnreadyUpTo rs n → UnreadyUpTo rs' n
+pub same_unready : (rs rs' : List QueuedUpdate) (n : ℕ) → AreSame rs rs' → UnreadyUpTo rs n → UnreadyUpTo rs' n
 same_unready rs rs' n same h ms B = subst (λ (us : List (Update (caused_chase ms B))). AreUnready (caused_chase ms B) n us) (sym (same.updates ms B)) (h ms B)
 
-pub fewer_committed : (rs : List Record) (c d : ℕ) → d ≤ c → CommitsAtLeast rs c → CommitsAtLeast rs d
+pub fewer_committed : (rs : List QueuedUpdate) (c d : ℕ) → d ≤ c → CommitsAtLeast rs c → CommitsAtLeast rs d
 fewer_committed rs c d l least ms B = let h = least ms B in omega (arith, l, h)
 
-pub same_committed : (rs rs' : List Record) (c : ℕ) → AreSame rs rs' → CommitsAtLeast rs c → CommitsAtLeast rs' c
+pub same_committed : (rs rs' : List QueuedUpdate) (c : ℕ) → AreSame rs rs' → CommitsAtLeast rs c → CommitsAtLeast rs' c
 same_committed rs rs' c same least ms B = subst (λ (us : List (Update (caused_chase ms B))). c ≤ committed (caused_chase ms B) us) (sym (same.updates ms B)) (least ms B)
 
-pub least_ok : (qs ys : List Record) (n c : ℕ) → length qs ≡ n → CommitsAtLeast qs c → CommitsAtLeast (take n (qs ++ ys)) c
-least_ok qs ys n c l h = subst (λ (xs : List Record). CommitsAtLeast xs c) (sym (front qs ys n l)) h
+pub least_ok : (qs ys : List QueuedUpdate) (n c : ℕ) → length qs ≡ n → CommitsAtLeast qs c → CommitsAtLeast (take n (qs ++ ys)) c
+least_ok qs ys n c l h = subst (λ (xs : List QueuedUpdate). CommitsAtLeast xs c) (sym (front qs ys n l)) h
 
-pub unready_ok : (qs ys : List Record) (n k : ℕ) → length qs ≡ n → UnreadyUpTo qs k → UnreadyUpTo (take n (qs ++ ys)) k
-unready_ok qs ys n k l h = subst (λ (xs : List Record). UnreadyUpTo xs k) (sym (front qs ys n l)) h
+pub unready_ok : (qs ys : List QueuedUpdate) (n k : ℕ) → length qs ≡ n → UnreadyUpTo qs k → UnreadyUpTo (take n (qs ++ ys)) k
+unready_ok qs ys n k l h = subst (λ (xs : List QueuedUpdate). UnreadyUpTo xs k) (sym (front qs ys n l)) h

@@ -22,7 +22,7 @@ use Rattle.chase_plan.specs.declared.plans.Plan.{Plan}
 use Rattle.core_queue.specs.Events.{KeepsPlace, IsSame, HasDelivered}
 use Rattle.core_queue.specs.Queues.{update_of, updates_of, AreFrom}
 use Rattle.core_queue.specs.Renewals.{AllHaveOneMore}
-use Rattle.core_queue.specs.declared.records.Record.{Record}
+use Rattle.core_queue.specs.declared.updates.QueuedUpdate.{QueuedUpdate}
 use Rattle.core_queue.proofs.Restarting.{put_there}
 use Rattle.def_steps.specs.Chase.{caused_chase}
 use Rattle.def_steps.specs.Serial.{Request}
@@ -61,7 +61,7 @@ set_there (x ∷ xs) (suc k) y l = set_there xs k y (omega (arith, l))
 
 -- ---- the same updates
 
-same_by : (rs : List Record) (k : ℕ) (r r' : Record) → k < length rs → get_or rs k r ≡ r → IsSame r r' → KeepsPlace r r' → AreSame rs (set rs k r')
+same_by : (rs : List QueuedUpdate) (k : ℕ) (r r' : QueuedUpdate) → k < length rs → get_or rs k r ≡ r → IsSame r r' → KeepsPlace r r' → AreSame rs (set rs k r')
 same_by rs k r r' l spot same place = record {
   updates =
       λ ms B. mapped_set (update_of ms B) rs k r' ∙ ap (λ u. set (updates_of ms B rs) k u) (same ms B)
@@ -70,11 +70,11 @@ same_by rs k r r' l spot same place = record {
 }
 
 -- The record that stands at the place is changed.
-pub same_with : (rs : List Record) (k : ℕ) (r r' : Record) → k < length rs → r ≡ get_or rs k r → IsSame (get_or rs k r) r' → KeepsPlace (get_or rs k r) r' → AreSame rs (set rs k r')
-same_with rs k r r' l e same place = same_by rs k r r' l (sym e) (subst (λ (q : Record). IsSame q r') (sym e) same) (subst (λ (q : Record). KeepsPlace q r') (sym e) place)
+pub same_with : (rs : List QueuedUpdate) (k : ℕ) (r r' : QueuedUpdate) → k < length rs → r ≡ get_or rs k r → IsSame (get_or rs k r) r' → KeepsPlace (get_or rs k r) r' → AreSame rs (set rs k r')
+same_with rs k r r' l e same place = same_by rs k r r' l (sym e) (subst (λ (q : QueuedUpdate). IsSame q r') (sym e) same) (subst (λ (q : QueuedUpdate). KeepsPlace q r') (sym e) place)
 
-pub put_with : (rs : List Record) (k : ℕ) (r r' : Record) → AreFrom 1 rs → k < length rs → r ≡ get_or rs k r → KeepsPlace (get_or rs k r) r' → AreFrom 1 (set rs k r')
-put_with rs k r r' a l e place = put_there rs 1 k r r' a l (sym e) (subst (λ (q : Record). KeepsPlace q r') (sym e) place)
+pub put_with : (rs : List QueuedUpdate) (k : ℕ) (r r' : QueuedUpdate) → AreFrom 1 rs → k < length rs → r ≡ get_or rs k r → KeepsPlace (get_or rs k r) r' → AreFrom 1 (set rs k r')
+put_with rs k r r' a l e place = put_there rs 1 k r r' a l (sym e) (subst (λ (q : QueuedUpdate). KeepsPlace q r') (sym e) place)
 
 first_is : {A : Type 0} (x y : A) (xs ys : List A) → (x ∷ xs ≡ y ∷ ys) → x ≡ y
 first_is {A} x y xs ys e = ap pick e
@@ -90,7 +90,7 @@ rest_is {A} x y xs ys e = ap pick e
     pick [] = []
     pick (z ∷ zs) = zs
 
-pub same_more : (rs rs' : List Record) → updates_of [] 0 rs' ≡ updates_of [] 0 rs → AllHaveOneMore rs → AllHaveOneMore rs'
+pub same_more : (rs rs' : List QueuedUpdate) → updates_of [] 0 rs' ≡ updates_of [] 0 rs → AllHaveOneMore rs → AllHaveOneMore rs'
 same_more [] [] e a = tt
 same_more [] (r' ∷ rs') e a = tt_no (update_of [] 0 r') (updates_of [] 0 rs') e
   where
@@ -102,7 +102,7 @@ same_more (r ∷ rs) (r' ∷ rs') e a = (
   same_more rs rs' (rest_is (update_of [] 0 r') (update_of [] 0 r) (updates_of [] 0 rs') (updates_of [] 0 rs) e) a.1,
 )
 
-plan_for : (r r' : Record) (plan : Plan) → ((ms : List Rule) (B : ℕ) → update_of ms B r' ≡ update_of ms B r) → IsPlanFor r plan → IsPlanFor r' plan
+plan_for : (r r' : QueuedUpdate) (plan : Plan) → ((ms : List Rule) (B : ℕ) → update_of ms B r' ≡ update_of ms B r) → IsPlanFor r plan → IsPlanFor r' plan
 plan_for r r' plan e p =
     let same = e p.rules p.budget in
     record {
@@ -116,7 +116,7 @@ plan_for r r' plan e p =
     }
 
 -- A plan spot the place stays one.
-pub same_plan : (rs rs' : List Record) (k : ℕ) (plan : Plan) → ((ms : List Rule) (B : ℕ) → updates_of ms B rs' ≡ updates_of ms B rs) → IsPlanAt k plan rs → IsPlanAt k plan rs'
+pub same_plan : (rs rs' : List QueuedUpdate) (k : ℕ) (plan : Plan) → ((ms : List Rule) (B : ℕ) → updates_of ms B rs' ≡ updates_of ms B rs) → IsPlanAt k plan rs → IsPlanAt k plan rs'
 same_plan [] rs' k plan e p = absurd p
 same_plan (r ∷ rs) [] k plan e p = no (update_of [] 0 r) (updates_of [] 0 rs) (e [] 0)
   where
@@ -126,7 +126,7 @@ same_plan (r ∷ rs) (r' ∷ rs') zero plan e p = plan_for r r' plan (λ ms B. f
 same_plan (r ∷ rs) (r' ∷ rs') (suc k) plan e p = same_plan rs rs' k plan (λ ms B. rest_is (update_of ms B r') (update_of ms B r) (updates_of ms B rs') (updates_of ms B rs) (e ms B)) p
 
 -- The parts of a core with such records are those of a core.
-pub kept_same : (g : Ground) (v : Kept) (rs rs' : List Record) (H : List PlainEntry) → AreSame rs rs' → length rs' ≡ length rs → IsKept g v rs H → IsKept g v rs' H
+pub kept_same : (g : Ground) (v : Kept) (rs rs' : List QueuedUpdate) (H : List PlainEntry) → AreSame rs rs' → length rs' ≡ length rs → IsKept g v rs H → IsKept g v rs' H
 kept_same g v rs rs' H same long k =
     let us : updates_of g.rules g.budget rs ≡ updates_of g.rules g.budget rs' = sym (same.updates g.rules g.budget) in
     record {
@@ -142,14 +142,14 @@ kept_same g v rs rs' H same long k =
     }
 
 -- What follows from such records follows from these.
-pub from_same : (g : Ground) (e : Event (machine g)) (v v' : Kept) (rs mid rs' : List Record) (es between es' : List Entry) → AreSame rs mid → length mid ≡ length rs → between ≡ es → IsKept g v rs (map entry_of es)
+pub from_same : (g : Ground) (e : Event (machine g)) (v v' : Kept) (rs mid rs' : List QueuedUpdate) (es between es' : List Entry) → AreSame rs mid → length mid ≡ length rs → between ≡ es → IsKept g v rs (map entry_of es)
     → (IsKept g v mid (map entry_of between) → Follows g e (map entry_of between) v' rs' (map entry_of es')) → Follows g e (map entry_of es) v' rs' (map entry_of es')
 from_same g e v v' rs mid rs' es between es' same long is kept makes =
     subst (λ (xs : List Entry). Follows g e (map entry_of xs) v' rs' (map entry_of es')) is
     (makes (subst (λ (xs : List Entry). IsKept g v mid (map entry_of xs)) (sym is) (kept_same g v rs mid (map entry_of es) same long kept)))
 
 -- A step from such records is one from these.
-pub steps_from : (ms : List Rule) (s : Settings) (k : ℕ) (plan : Plan) (v v' : Kept) (rs mid rs' : List Record) (es between es' : List Entry) → AreSame rs mid → length mid ≡ length rs → between ≡ es
+pub steps_from : (ms : List Rule) (s : Settings) (k : ℕ) (plan : Plan) (v v' : Kept) (rs mid rs' : List QueuedUpdate) (es between es' : List Entry) → AreSame rs mid → length mid ≡ length rs → between ≡ es
     → StepsTo ms s k plan v mid between v' rs' es' → StepsTo ms s k plan v rs es v' rs' es'
 steps_from ms s k plan v v' rs mid rs' es between es' same long e steps B D requests later kept ready planned =
     let us : updates_of ms B mid ≡ updates_of ms B rs = same.updates ms B in
@@ -160,7 +160,7 @@ steps_from ms s k plan v v' rs mid rs' es between es' same long e steps B D requ
     ((λ i. option_map (standing (caused_chase ms B) s (committed (caused_chase ms B) (us i)) (suc k)) (slice_get (us i) k)) ∙ ready)
     (subst (λ (ws : List (Update (caused_chase ms B))). IsStepAmong ms B D ws (suc k) (meant_of (suc k) plan)) (sym us) planned))
 
-pub delivers_from : (s : Settings) (k : ℕ) (rs mid rs' : List Record) (es between es' : List Entry) → AreSame rs mid → length mid ≡ length rs → between ≡ es → DeliversTo s k mid between rs' es' → DeliversTo s k rs es rs' es'
+pub delivers_from : (s : Settings) (k : ℕ) (rs mid rs' : List QueuedUpdate) (es between es' : List Entry) → AreSame rs mid → length mid ≡ length rs → between ≡ es → DeliversTo s k mid between rs' es' → DeliversTo s k rs es rs' es'
 delivers_from s k rs mid rs' es between es' same long e delivers ms v B D requests later kept may =
     let us : updates_of ms B mid ≡ updates_of ms B rs = same.updates ms B in
     from_same (ground_with ms s B D requests later) (Delivers (suc k)) v v rs mid rs' es between es' same long e kept
@@ -181,7 +181,7 @@ mapped_more [] y = refl
 mapped_more (z ∷ xs) y = ap (λ zs. entry_of z ∷ zs) (mapped_more xs y)
 
 -- It puts an update in the place of one with the same trail.
-pub put_follows : (ms : List Rule) (B : ℕ) (s : Settings) (k : ℕ) (v : Kept) (D : List Fact) (requests : List Request) (later : List Operation) (rs : List Record) (r r' : Record) (es es' : List Entry) (told : Entry)
+pub put_follows : (ms : List Rule) (B : ℕ) (s : Settings) (k : ℕ) (v : Kept) (D : List Fact) (requests : List Request) (later : List Operation) (rs : List QueuedUpdate) (r r' : QueuedUpdate) (es es' : List Entry) (told : Entry)
     (e : Event (caused_chase ms B)) (x : Effect (caused_chase ms B)) (w : Update (caused_chase ms B)) → IsKept (ground_with ms s B D requests later) v rs (map entry_of es) → k < length rs → get_or rs k r ≡ r → KeepsPlace r r'
     → update_of ms B r' ≡ w → trail (caused_chase ms B) (update_of ms B r) ≡ trail (caused_chase ms B) w
     → effect (caused_chase ms B) s (session_over (ground_with ms s B D requests later)) (updates_of ms B rs) e ≡ Some x
@@ -209,7 +209,7 @@ allowed_delivery M s S us k u spot may =
     ap (λ o. option_and_then (λ w. if may_deliver M s us k w then Some (deliver_effect M s us k w) else None) o) spot
     ∙ ap (λ b. if b then Some (deliver_effect M s us k u) else None) may
 
-delivers_by : (s : Settings) (k : ℕ) (rs : List Record) (r r' : Record) (es es' : List Entry) (e : Entry) → k < length rs → get_or rs k r ≡ r → HasDelivered r r' → KeepsPlace r r'
+delivers_by : (s : Settings) (k : ℕ) (rs : List QueuedUpdate) (r r' : QueuedUpdate) (es es' : List Entry) (e : Entry) → k < length rs → get_or rs k r ≡ r → HasDelivered r r' → KeepsPlace r r'
     → TellsDelivery s k (set rs k r') e → es' ≡ es ++ e ∷ [] → DeliversTo s k rs es (set rs k r') es'
 delivers_by s k rs r r' es es' e l spot made place told grew ms v B D requests later kept may =
     let us : List (Update (caused_chase ms B)) = updates_of ms B rs in
@@ -221,7 +221,7 @@ delivers_by s k rs r r' es es' e l spot made place told grew ms v B D requests l
     (allowed_delivery (caused_chase ms B) s (session_over (ground_with ms s B D requests later)) us k u at_us yes) refl
     (λ us'. ap (entry_kept ms B) (told ms B r' (set_there rs k r' l)) ∙ (λ i. Delivered (suc k) (standing (caused_chase ms B) s (committed (caused_chase ms B) (us' i)) (suc k) (made ms B i)))) grew
 
-pub delivers_to : (s : Settings) (k : ℕ) (rs : List Record) (r r' : Record) (es es' : List Entry) (e : Entry) → k < length rs → r ≡ get_or rs k r → HasDelivered (get_or rs k r) r' → KeepsPlace (get_or rs k r) r'
+pub delivers_to : (s : Settings) (k : ℕ) (rs : List QueuedUpdate) (r r' : QueuedUpdate) (es es' : List Entry) (e : Entry) → k < length rs → r ≡ get_or rs k r → HasDelivered (get_or rs k r) r' → KeepsPlace (get_or rs k r) r'
     → TellsDelivery s k (set rs k r') e → es' ≡ es ++ e ∷ [] → DeliversTo s k rs es (set rs k r') es'
 delivers_to s k rs r r' es es' e l spot made place told grew =
-    delivers_by s k rs r r' es es' e l (sym spot) (subst (λ (q : Record). HasDelivered q r') (sym spot) made) (subst (λ (q : Record). KeepsPlace q r') (sym spot) place) told grew
+    delivers_by s k rs r r' es es' e l (sym spot) (subst (λ (q : QueuedUpdate). HasDelivered q r') (sym spot) made) (subst (λ (q : QueuedUpdate). KeepsPlace q r') (sym spot) place) told grew

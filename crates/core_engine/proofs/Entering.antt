@@ -17,9 +17,9 @@ use Rattle.def_chase.specs.Mappings.{Rule}
 use Rattle.chase_plan.specs.declared.plans.Plan.{Plan}
 use Rattle.core_queue.specs.Events.{HasRoom, HasRoomFor, IsAdmitted}
 use Rattle.core_queue.specs.Queues.{update_of, updates_of, StandsAt, AreFrom}
-use Rattle.core_queue.specs.Records.{HasStanding}
-use Rattle.core_queue.specs.Walks.{HasCommitted}
-use Rattle.core_queue.specs.declared.records.Record.{Record}
+use Rattle.core_queue.specs.Updates.{HasStanding}
+use Rattle.core_queue.specs.Order.{HasCommitted}
+use Rattle.core_queue.specs.declared.updates.QueuedUpdate.{QueuedUpdate}
 use Rattle.lang_session.specs.declared.sessions.SessionUpdate.{SessionUpdate}
 use Rattle.def_steps.specs.Chase.{caused_chase}
 use Rattle.core_engine.specs.Admitted.{admitted_from, handed_in}
@@ -35,20 +35,20 @@ on_ok (Err e) P p = tt
 
 -- ---- room
 
-pub room_at : {E : Type 0} (x : Result (Unit {0}) E) (rs : List Record) (k : ℕ) (r : Record) (plan : Plan) → k < length rs → HasRoomFor plan r → OnOk x (HasRoomAt k plan (set rs k r))
-room_at x rs k r plan l room = on_ok x (HasRoomAt k plan (set rs k r)) (subst (λ (o : Option Record). IsSomeThat (λ (q : Record). HasRoomFor plan q) o) (sym (set_there rs k r l)) room)
+pub room_at : {E : Type 0} (x : Result (Unit {0}) E) (rs : List QueuedUpdate) (k : ℕ) (r : QueuedUpdate) (plan : Plan) → k < length rs → HasRoomFor plan r → OnOk x (HasRoomAt k plan (set rs k r))
+room_at x rs k r plan l room = on_ok x (HasRoomAt k plan (set rs k r)) (subst (λ (o : Option QueuedUpdate). IsSomeThat (λ (q : QueuedUpdate). HasRoomFor plan q) o) (sym (set_there rs k r l)) room)
 
-pub answer_room_at : {E : Type 0} (x : Result (Unit {0}) E) (rs : List Record) (k : ℕ) (r : Record) → k < length rs → HasRoom r → OnOk x (HasAnswerRoomAt k (set rs k r))
-answer_room_at x rs k r l room = on_ok x (HasAnswerRoomAt k (set rs k r)) (subst (λ (o : Option Record). IsSomeThat (λ (q : Record). HasRoom q) o) (sym (set_there rs k r l)) room)
+pub answer_room_at : {E : Type 0} (x : Result (Unit {0}) E) (rs : List QueuedUpdate) (k : ℕ) (r : QueuedUpdate) → k < length rs → HasRoom r → OnOk x (HasAnswerRoomAt k (set rs k r))
+answer_room_at x rs k r l room = on_ok x (HasAnswerRoomAt k (set rs k r)) (subst (λ (o : Option QueuedUpdate). IsSomeThat (λ (q : QueuedUpdate). HasRoom q) o) (sym (set_there rs k r l)) room)
 
 -- ---- entries
 
-pub standing_there : (s : Settings) (rs : List Record) (k n c : ℕ) (r r' : Record) (st : Standing) → r ≡ r' → n ≡ suc k → HasCommitted rs c → HasStanding s c n r st
+pub standing_there : (s : Settings) (rs : List QueuedUpdate) (k n c : ℕ) (r r' : QueuedUpdate) (st : Standing) → r ≡ r' → n ≡ suc k → HasCommitted rs c → HasStanding s c n r st
     → (ms : List Rule) (B : ℕ) → standing_of st ≡ standing (caused_chase ms B) s (committed (caused_chase ms B) (updates_of ms B rs)) (suc k) (update_of ms B r')
 standing_there s rs k n c r r' st same number counts stands ms B =
     stands ms B ∙ (λ i. standing (caused_chase ms B) s (counts ms B i) (number i) (update_of ms B (same i)))
 
-pub step_told : (s : Settings) (k n a c : ℕ) (writes : Listed Write) (causes : Listed Cause) (rs : List Record) (r : Record) (st : Standing) → AreFrom 1 rs → k < length rs → r ≡ get_or rs k r → n ≡ r.program.attempt.number
+pub step_told : (s : Settings) (k n a c : ℕ) (writes : Listed Write) (causes : Listed Cause) (rs : List QueuedUpdate) (r : QueuedUpdate) (st : Standing) → AreFrom 1 rs → k < length rs → r ≡ get_or rs k r → n ≡ r.program.attempt.number
     → HasCommitted rs c → HasStanding s c n r st → TellsStep s k a writes causes rs (Stepped n a st writes causes c)
 step_told s k n a c writes causes rs r st from l e number counts stands ms B r' spot =
     let place : n ≡ suc k = number ∙ number_there rs k r from l e in
@@ -62,7 +62,7 @@ step_told s k n a c writes causes rs r st from l e number counts stands ms B r' 
       committed = counts ms B i;
     })
 
-pub delivery_told : (s : Settings) (k n c : ℕ) (rs : List Record) (r : Record) (st : Standing) → AreFrom 1 rs → k < length rs → r ≡ get_or rs k r → n ≡ r.program.attempt.number
+pub delivery_told : (s : Settings) (k n c : ℕ) (rs : List QueuedUpdate) (r : QueuedUpdate) (st : Standing) → AreFrom 1 rs → k < length rs → r ≡ get_or rs k r → n ≡ r.program.attempt.number
     → HasCommitted rs c → HasStanding s c n r st → TellsDelivery s k rs (Delivered n st)
 delivery_told s k n c rs r st from l e number counts stands ms B r' spot =
     let place : n ≡ suc k = number ∙ number_there rs k r from l e in
@@ -75,11 +75,11 @@ one_longer : {A : Type 0} (xs : List A) (x : A) → length (xs ++ x ∷ []) ≡ 
 one_longer [] x = refl
 one_longer (y ∷ xs) x = ap suc (one_longer xs x)
 
-updates_more : (ms : List Rule) (B : ℕ) (rs : List Record) (r : Record) (us : List (Update (caused_chase ms B))) → updates_of ms B (rs ++ r ∷ []) ++ us ≡ updates_of ms B rs ++ update_of ms B r ∷ us
+updates_more : (ms : List Rule) (B : ℕ) (rs : List QueuedUpdate) (r : QueuedUpdate) (us : List (Update (caused_chase ms B))) → updates_of ms B (rs ++ r ∷ []) ++ us ≡ updates_of ms B rs ++ update_of ms B r ∷ us
 updates_more ms B [] r us = refl
 updates_more ms B (q ∷ rs) r us = ap (λ ws. update_of ms B q ∷ ws) (updates_more ms B rs r us)
 
-module _ (us : List SessionUpdate) (k n : ℕ) (u : SessionUpdate) (qs qs' : List Record) (r : Record) (number : n ≡ suc (length qs)) (grew : qs' ≡ qs ++ r ∷ []) where
+module _ (us : List SessionUpdate) (k n : ℕ) (u : SessionUpdate) (qs qs' : List QueuedUpdate) (r : QueuedUpdate) (number : n ≡ suc (length qs)) (grew : qs' ≡ qs ++ r ∷ []) where
   pub number_more : n + 1 ≡ suc (length qs')
   number_more = let l : length qs' ≡ suc (length qs) = ap (λ xs. length xs) grew ∙ one_longer qs r in omega (arith, number, l)
 
@@ -89,7 +89,7 @@ module _ (us : List SessionUpdate) (k n : ℕ) (u : SessionUpdate) (qs qs' : Lis
   pub all_from_more : AreFrom 1 qs → StandsAt n r → AreFrom 1 qs'
   all_from_more from stands =
       let same : n ≡ 1 + length qs = omega (arith, number) in
-      subst (λ (xs : List Record). AreFrom 1 xs) (sym grew) (from_more 1 qs r from (subst (λ (m : ℕ). StandsAt m r) same stands))
+      subst (λ (xs : List QueuedUpdate). AreFrom 1 xs) (sym grew) (from_more 1 qs r from (subst (λ (m : ℕ). StandsAt m r) same stands))
 
   pub done_more : ((ms : List Rule) (B : ℕ) → updates_of ms B qs ++ admitted_from (caused_chase ms B) n (handed_in ms B (drop k us)) ≡ admitted_from (caused_chase ms B) 1 (handed_in ms B us))
       → k < length us → u ≡ get_or us k u → IsAdmitted n u.update u.answers r

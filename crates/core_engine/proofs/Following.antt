@@ -22,7 +22,7 @@ use Rattle.chase_plan.specs.declared.plans.Plan.{Plan}
 use Rattle.chase_update.specs.Courses.{State as ProgramState}
 use Rattle.core_queue.specs.Programs.{IsPlanOf}
 use Rattle.core_queue.specs.Queues.{update_of, updates_of, StandsAt, AreFrom}
-use Rattle.core_queue.specs.declared.records.Record.{Record}
+use Rattle.core_queue.specs.declared.updates.QueuedUpdate.{QueuedUpdate}
 use Rattle.def_steps.specs.Chase.{caused_chase}
 use Rattle.def_steps.specs.Serial.{Request}
 use Rattle.set_versions.specs.Standing.{Kept}
@@ -36,7 +36,7 @@ use Rattle.core_engine.specs.declared.stepping.Prepared.{Prepared}
 
 -- ---- any event
 
-pub follows : (g : Ground) (H H' : List PlainEntry) (rs rs' : List Record) (v v' : Kept) (e : Event (machine g)) (x : Effect (machine g)) (told : PlainEntry)
+pub follows : (g : Ground) (H H' : List PlainEntry) (rs rs' : List QueuedUpdate) (v v' : Kept) (e : Event (machine g)) (x : Effect (machine g)) (told : PlainEntry)
     → IsKept g v rs H → effect (machine g) g.settings (session_over g) (updates_of g.rules g.budget rs) e ≡ Some x
     → updates_of g.rules g.budget rs' ≡ x.updates → AreFrom 1 rs' → length rs' ≡ length rs → HaveTrails g.rules g.budget g.base x.updates v'
     → plain_entry g.rules g.budget x.entry ≡ told → H' ≡ H ++ told ∷ [] → Follows g e H v' rs' H'
@@ -96,19 +96,19 @@ within [] k x e = absurd (none-some x e)
 within (y ∷ xs) zero x e = omega arith
 within (y ∷ xs) (suc k) x e = omega (arith, within xs k x e)
 
-pub stands_at : (rs : List Record) (n k : ℕ) (r : Record) → AreFrom n rs → slice_get rs k ≡ Some r → StandsAt (n + k) r
+pub stands_at : (rs : List QueuedUpdate) (n k : ℕ) (r : QueuedUpdate) → AreFrom n rs → slice_get rs k ≡ Some r → StandsAt (n + k) r
 stands_at [] n k r a e = absurd (none-some r e)
-stands_at (x ∷ rs) n zero r a e = let same : n ≡ n + 0 = omega arith in subst (λ (m : ℕ). StandsAt m r) same (subst (λ (y : Record). StandsAt n y) (same_Some x r e) a.0)
+stands_at (x ∷ rs) n zero r a e = let same : n ≡ n + 0 = omega arith in subst (λ (m : ℕ). StandsAt m r) same (subst (λ (y : QueuedUpdate). StandsAt n y) (same_Some x r e) a.0)
 stands_at (x ∷ rs) n (suc k) r a e = let same : suc n + k ≡ n + suc k = omega arith in subst (λ (m : ℕ). StandsAt m r) same (stands_at rs (suc n) k r a.1 e)
 
-pub from_on : (rs : List Record) (n k m : ℕ) → m ≡ n + k → AreFrom n rs → AreFrom m (drop k rs)
+pub from_on : (rs : List QueuedUpdate) (n k m : ℕ) → m ≡ n + k → AreFrom n rs → AreFrom m (drop k rs)
 from_on rs n zero m e a = let same : n ≡ m = omega (arith, e) in subst (λ (i : ℕ). AreFrom i rs) same a
 from_on [] n (suc k) m e a = tt
 from_on (r ∷ rs) n (suc k) m e a = from_on rs (suc n) k m (omega (arith, e)) a.1
 
 -- ---- what was prepared at a place
 
-pub prepared_at : (ms : List Rule) (s : Settings) (c k : ℕ) (v v' : Kept) (rs : List Record) (r : Record) (plan : Plan) (p : Prepared) → AreFrom 1 rs → slice_get rs k ≡ Some r
+pub prepared_at : (ms : List Rule) (s : Settings) (c k : ℕ) (v v' : Kept) (rs : List QueuedUpdate) (r : QueuedUpdate) (plan : Plan) (p : Prepared) → AreFrom 1 rs → slice_get rs k ≡ Some r
     → ((ms : List Rule) (B : ℕ) → c ≡ committed (caused_chase ms B) (updates_of ms B rs)) → IsPrepared ms s c v r (drop (suc k) rs) plan v' p → IsPreparedAt ms s k plan v rs v' p
 prepared_at ms s c k v v' rs r plan p numbers spot counts is B requests later D H r' kept spot' ready isplan =
     let us : List (Update (caused_chase ms B)) = updates_of ms B rs in
@@ -121,15 +121,15 @@ prepared_at ms s c k v v' rs r plan p numbers spot counts is B requests later D 
     let all : us ≡ take k us ++ update_of ms B r ∷ updates_of ms B (drop (suc k) rs) = sym (cut_at us k (update_of ms B r) at_us) ∙ sym (ap (λ (ws : List (Update (caused_chase ms B))). take k us ++ update_of ms B r ∷ ws) upper) in
     let versions : AreVersions ms B D (take k us ++ update_of ms B r ∷ updates_of ms B (drop (suc k) rs)) v = subst (λ (ws : List (Update (caused_chase ms B))). AreVersions ms B D ws v) all (record { sorted = kept.sorted; stand = kept.versions }) in
     let may : is_ready (standing (caused_chase ms B) s (committed (caused_chase ms B) us) (suc k) (update_of ms B r)) ≡ true =
-    ap (λ (q : Record). is_ready (standing (caused_chase ms B) s (committed (caused_chase ms B) us) (suc k) (update_of ms B q))) same ∙ ap is_ready ready in
-    let plan_is : IsPlanOf ms B (below (caused_chase ms B) D us k) r plan = subst (λ (q : Record). IsPlanOf ms B (below (caused_chase ms B) D us k) q plan) (sym same) isplan in
+    ap (λ (q : QueuedUpdate). is_ready (standing (caused_chase ms B) s (committed (caused_chase ms B) us) (suc k) (update_of ms B q))) same ∙ ap is_ready ready in
+    let plan_is : IsPlanOf ms B (below (caused_chase ms B) D us k) r plan = subst (λ (q : QueuedUpdate). IsPlanOf ms B (below (caused_chase ms B) D us k) q plan) (sym same) isplan in
     let left : IsStepLeft ms B s c r.program.attempt.number D (take k us) (update_of ms B r) (updates_of ms B (drop (suc k) rs)) v' p =
     is B D (take k us) (committed (caused_chase ms B) us) (suc k) kept.budget (number ∙ sym (ap suc long))
     (subst (λ (ws : List (Update (caused_chase ms B))). RanAbove ms B D (take k us) (update_of ms B r) ws) (sym upper) (ran_above (ground_with ms s B D requests later) v rs H kept k (update_of ms B r) at_us long)) versions may plan_is in
     let moved : IsStepLeft ms B s (committed (caused_chase ms B) us) (suc k) D (take k us) (update_of ms B r) (updates_of ms B (drop (suc k) rs)) v' p =
     subst (λ (j : ℕ). IsStepLeft ms B s (committed (caused_chase ms B) us) j D (take k us) (update_of ms B r) (updates_of ms B (drop (suc k) rs)) v' p) number
     (subst (λ (d : ℕ). IsStepLeft ms B s d r.program.attempt.number D (take k us) (update_of ms B r) (updates_of ms B (drop (suc k) rs)) v' p) (counts ms B) left) in
-    subst (λ (q : Record). IsStepLeft ms B s (committed (caused_chase ms B) us) (suc k) D (take k us) (update_of ms B q) (drop (suc k) us) v' p) same
+    subst (λ (q : QueuedUpdate). IsStepLeft ms B s (committed (caused_chase ms B) us) (suc k) D (take k us) (update_of ms B q) (drop (suc k) us) v' p) same
     (subst (λ (ws : List (Update (caused_chase ms B))). IsStepLeft ms B s (committed (caused_chase ms B) us) (suc k) D (take k us) (update_of ms B r) ws v' p) upper moved)
 
 -- ---- a step
@@ -150,7 +150,7 @@ allowed_step M s S us k u spot may =
     ap (λ o. option_and_then (λ w. if may_step M s us k w then Some (step_effect M s S us k w) else None) o) spot
     ∙ ap (λ b. if b then Some (step_effect M s S us k u) else None) may
 
-pub step_follows : (ms : List Rule) (s : Settings) (B k : ℕ) (D : List Fact) (requests : List Request) (later : List Operation) (es es' : List Entry) (rs rs' : List Record) (v v' : Kept) (r : Record) (plan : Plan) (p : Prepared) (a : ℕ) (e : Entry)
+pub step_follows : (ms : List Rule) (s : Settings) (B k : ℕ) (D : List Fact) (requests : List Request) (later : List Operation) (es es' : List Entry) (rs rs' : List QueuedUpdate) (v v' : Kept) (r : QueuedUpdate) (plan : Plan) (p : Prepared) (a : ℕ) (e : Entry)
     → IsKept (ground_with ms s B D requests later) v rs (map entry_of es) → slice_get rs k ≡ Some r
     → standing (caused_chase ms B) s (committed (caused_chase ms B) (updates_of ms B rs)) (suc k) (update_of ms B r) ≡ Ready
     → IsPlanOf ms B (below (caused_chase ms B) D (updates_of ms B rs) k) r plan
@@ -193,7 +193,7 @@ step_follows ms s B k D requests later es es' rs rs' v v' r plan p a e kept spot
     mapped_more (z ∷ xs) y = ap (λ zs. entry_of z ∷ zs) (mapped_more xs y)
 
 -- The parts after it follow in every history.
-pub steps_to : (ms : List Rule) (s : Settings) (k : ℕ) (es es' : List Entry) (rs rs' : List Record) (v v' : Kept) (r : Record) (plan : Plan) (p : Prepared) (a : ℕ) (e : Entry) → slice_get rs k ≡ Some r
+pub steps_to : (ms : List Rule) (s : Settings) (k : ℕ) (es es' : List Entry) (rs rs' : List QueuedUpdate) (v v' : Kept) (r : QueuedUpdate) (plan : Plan) (p : Prepared) (a : ℕ) (e : Entry) → slice_get rs k ≡ Some r
     → IsPreparedAt ms s k plan v rs v' p → IsInstalled k plan p.left.fresh.items rs rs' → AreFrom 1 rs' → length rs' ≡ length rs
     → a ≡ r.program.attempt.attempt → TellsStep s k a p.writes p.left.causes rs' e → es' ≡ es ++ e ∷ [] → StepsTo ms s k plan v rs es v' rs' es'
 steps_to ms s k es es' rs rs' v v' r plan p a e spot prepared installed numbers long attempt told grew B D requests later kept ready planned =

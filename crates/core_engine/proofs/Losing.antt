@@ -22,10 +22,10 @@ use Rattle.def_chase.specs.Mappings.{Rule}
 use Rattle.chase_update.specs.Courses.{State as ProgramState}
 use Rattle.core_queue.specs.Events.{HasWithdrawn}
 use Rattle.core_queue.specs.Queues.{update_of, updates_of, AreFrom}
-use Rattle.core_queue.specs.Records.{HasTrail}
+use Rattle.core_queue.specs.Updates.{HasTrail}
 use Rattle.core_queue.specs.Renewals.{AreThere, HaveRestarted}
-use Rattle.core_queue.specs.Walks.{HasCommitted}
-use Rattle.core_queue.specs.declared.records.Record.{Record}
+use Rattle.core_queue.specs.Order.{HasCommitted}
+use Rattle.core_queue.specs.declared.updates.QueuedUpdate.{QueuedUpdate}
 use Rattle.def_steps.specs.Chase.{caused_chase}
 use Rattle.set_versions.specs.Standing.{Kept, Retracted}
 use Rattle.core_engine.specs.Aftermaths.{Cleared, ClearedIf, in_order}
@@ -48,12 +48,12 @@ use Rattle.core_engine.proofs.Trailing.{versions_with}
 -- ---- what is prepared
 
 -- The trail of the update is taken back.
-pub trail_lost : (n : ℕ) (r : Record) (ws : List Write) (old copy new : Kept) → n ≡ r.program.attempt.number → copy ≡ old → HasTrail r ws → Retracted n (map change_of ws) copy new → ClearedIf true r old new
+pub trail_lost : (n : ℕ) (r : QueuedUpdate) (ws : List Write) (old copy new : Kept) → n ≡ r.program.attempt.number → copy ≡ old → HasTrail r ws → Retracted n (map change_of ws) copy new → ClearedIf true r old new
 trail_lost n r ws old copy new number same trail_is taken =
     subst (λ (v : Kept). ClearedIf true r v new) same
     (λ D before after stand was none others. subst (λ (m : ℕ). Retracted m (map change_of ws) copy new) number taken D before after stand (was ∙ sym (trail_is [] 0)) none others)
 
-pub loss_prepared : (ms : List Rule) (s : Settings) (c : ℕ) (old after new : Kept) (r : Record) (upper : List Record) (found : List (Option CauseOfProgram)) (left : Aftermath)
+pub loss_prepared : (ms : List Rule) (s : Settings) (c : ℕ) (old after new : Kept) (r : QueuedUpdate) (upper : List QueuedUpdate) (found : List (Option CauseOfProgram)) (left : Aftermath)
     → AreFrom (suc r.program.attempt.number) upper → ClearedIf true r old after → WereLost ms s c old r upper found
     → Cleared upper found after new → AreThere found left.fresh.items → left.causes.items ≡ in_order found → IsLossPrepared ms s c old r upper new left
 loss_prepared ms s c old after new r upper found left from lost were cleared there causes B E lower few e ran versions =
@@ -62,7 +62,7 @@ loss_prepared ms s c old after new r upper found left from lost were cleared the
     let mid : AreVersions ms B E (lower ++ withdrawn_now (caused_chase ms B) u ∷ us) after = versions_with ms B r.program.attempt.number E lower u (withdrawn_now (caused_chase ms B) u) us old after e lost versions in
     left_by ms B _ E lower (withdrawn_now (caused_chase ms B) u) upper found after new left (subst (λ (m : ℕ). AreFrom (suc m) upper) e from) (were B E lower few e ran versions) mid cleared there causes
 
-pub loss_prepared_at : (ms : List Rule) (s : Settings) (c k : ℕ) (v v' : Kept) (rs up : List Record) (r : Record) (left : Aftermath) → AreFrom 1 rs → k < length rs → r ≡ get_or rs k r → up ≡ drop (suc k) rs
+pub loss_prepared_at : (ms : List Rule) (s : Settings) (c k : ℕ) (v v' : Kept) (rs up : List QueuedUpdate) (r : QueuedUpdate) (left : Aftermath) → AreFrom 1 rs → k < length rs → r ≡ get_or rs k r → up ≡ drop (suc k) rs
     → HasCommitted rs c → IsLossPrepared ms s c v r up v' left → IsLossPreparedAt ms s k v rs v' left
 loss_prepared_at ms s c k v v' rs up r left numbers l spot above counts is B requests later D H r' kept spot' =
     let us : List (Update (caused_chase ms B)) = updates_of ms B rs in
@@ -76,20 +76,20 @@ loss_prepared_at ms s c k v v' rs up r left numbers l spot above counts is B req
     let here : IsLossLeft ms B s c (suc (length (take k us))) D (take k us) (update_of ms B r) (updates_of ms B up) v' left =
     is B D (take k us) kept.budget (number_there rs k r numbers l spot ∙ sym (ap suc long))
     (subst (λ (ws : List (Update (caused_chase ms B))). RanAbove ms B D (take k us) (update_of ms B r) ws) (sym upper) (ran_above (ground_with ms s B D requests later) v rs H kept k (update_of ms B r) at_us long)) versions in
-    subst (λ (q : Record). IsLossLeft ms B s (committed (caused_chase ms B) us) (suc k) D (take k us) (update_of ms B q) (drop (suc k) us) v' left) same
+    subst (λ (q : QueuedUpdate). IsLossLeft ms B s (committed (caused_chase ms B) us) (suc k) D (take k us) (update_of ms B q) (drop (suc k) us) v' left) same
     (subst (λ (ws : List (Update (caused_chase ms B))). IsLossLeft ms B s (committed (caused_chase ms B) us) (suc k) D (take k us) (update_of ms B r) ws v' left) upper
     (subst (λ (d : ℕ). IsLossLeft ms B s d (suc k) D (take k us) (update_of ms B r) (updates_of ms B up) v' left) (counts ms B)
     (subst (λ (j : ℕ). IsLossLeft ms B s c (suc j) D (take k us) (update_of ms B r) (updates_of ms B up) v' left) long here)))
 
 -- ---- it is put in place
 
-pub removed_is : (rs rs' : List Record) (k : ℕ) (fs : List (Option ProgramState)) (r r' : Record) → k < length rs → r ≡ get_or rs k r → HasWithdrawn (get_or rs k r) r' → HaveRestarted (k + 1) fs (set rs k r') rs' → IsRemoved k fs rs rs'
+pub removed_is : (rs rs' : List QueuedUpdate) (k : ℕ) (fs : List (Option ProgramState)) (r r' : QueuedUpdate) → k < length rs → r ≡ get_or rs k r → HasWithdrawn (get_or rs k r) r' → HaveRestarted (k + 1) fs (set rs k r') rs' → IsRemoved k fs rs rs'
 removed_is rs rs' k fs r r' l e gone restarts ms B q xs spot marks =
     let there : get_or rs k r ≡ q = sym e ∙ same_Some r q (sym (there_is rs k r l e) ∙ spot) in
     restarted_behind rs rs' k fs q r' ms B (withdrawn_now (caused_chase ms B) (update_of ms B q)) xs spot
-    (gone ms B ∙ ap (λ (p : Record). withdrawn_now (caused_chase ms B) (update_of ms B p)) there) restarts marks
+    (gone ms B ∙ ap (λ (p : QueuedUpdate). withdrawn_now (caused_chase ms B) (update_of ms B p)) there) restarts marks
 
-pub withdrawal_told : (k n c : ℕ) (causes : Listed CauseOfProgram) (rs : List Record) (r : Record) → AreFrom 1 rs → k < length rs → r ≡ get_or rs k r → n ≡ r.program.attempt.number → HasCommitted rs c
+pub withdrawal_told : (k n c : ℕ) (causes : Listed CauseOfProgram) (rs : List QueuedUpdate) (r : QueuedUpdate) → AreFrom 1 rs → k < length rs → r ≡ get_or rs k r → n ≡ r.program.attempt.number → HasCommitted rs c
     → TellsWithdrawal k causes rs (entries.Withdrawn n causes c)
 withdrawal_told k n c causes rs r from l e number counts ms B =
     λ i. WasWithdrawn (record { update = (number ∙ number_there rs k r from l e) i; causes = map cause_of causes.items; committed = counts ms B i })
@@ -102,14 +102,14 @@ allowed_withdrawal M s S us k u spot may =
     ap (λ o. option_and_then (λ w. if may_withdraw M us k w then Some (withdraw_effect M s S us k w) else None) o) spot
     ∙ ap (λ b. if b then Some (withdraw_effect M s S us k u) else None) may
 
-pub withdraws_to : (ms : List Rule) (s : Settings) (k : ℕ) (es es' : List Entry) (rs rs' : List Record) (v v' : Kept) (left : Aftermath) (e : Entry) → k < length rs
+pub withdraws_to : (ms : List Rule) (s : Settings) (k : ℕ) (es es' : List Entry) (rs rs' : List QueuedUpdate) (v v' : Kept) (left : Aftermath) (e : Entry) → k < length rs
     → IsLossPreparedAt ms s k v rs v' left → IsRemoved k left.fresh.items rs rs' → AreFrom 1 rs' → length rs' ≡ length rs
     → TellsWithdrawal k left.causes rs' e → es' ≡ es ++ e ∷ [] → WithdrawsTo ms s k v rs es v' rs' es'
 withdraws_to ms s k es es' rs rs' v v' left e l prepared removed numbers long told grew B D requests later kept allowed =
     let g : Ground = ground_with ms s B D requests later in
     let us : List (Update (caused_chase ms B)) = updates_of ms B rs in
-    let at_rs : (r : Record) × (slice_get rs k ≡ Some r) = record_placed rs k l in
-    let r : Record = at_rs.0 in
+    let at_rs : (r : QueuedUpdate) × (slice_get rs k ≡ Some r) = record_placed rs k l in
+    let r : QueuedUpdate = at_rs.0 in
     let u : Update (caused_chase ms B) = update_of ms B r in
     let at_us : slice_get us k ≡ Some u = slice_get-map (update_of ms B) rs k ∙ ap (option_map (update_of ms B)) at_rs.1 in
     let may : may_withdraw (caused_chase ms B) us k u ≡ true = same_Some _ _ (sym (ap (option_map (may_withdraw (caused_chase ms B) us k)) at_us) ∙ allowed) in
@@ -124,7 +124,7 @@ withdraws_to ms s k es es' rs rs' v v' left e l prepared removed numbers long to
     (ap (plain_entry ms B) (sym entry) ∙ entry_back ms B (entry_of e)) (ap (map entry_of) grew ∙ mapped_more es e)
 
 -- With the room that was made in the history.
-pub withdraws_from : (ms : List Rule) (s : Settings) (k : ℕ) (v v' : Kept) (rs rs' : List Record) (es between es' : List Entry) → between ≡ es → WithdrawsTo ms s k v rs between v' rs' es' → WithdrawsTo ms s k v rs es v' rs' es'
+pub withdraws_from : (ms : List Rule) (s : Settings) (k : ℕ) (v v' : Kept) (rs rs' : List QueuedUpdate) (es between es' : List Entry) → between ≡ es → WithdrawsTo ms s k v rs between v' rs' es' → WithdrawsTo ms s k v rs es v' rs' es'
 withdraws_from ms s k v v' rs rs' es between es' e withdraws = subst (λ (xs : List Entry). WithdrawsTo ms s k v rs xs v' rs' es') e withdraws
 
 -- ---- a withdrawal on a core
@@ -149,14 +149,14 @@ live_stands (Some st) c n e = (st, refl)
 pub live_number : (s : State) (n : ℕ) → is_live_in (standing_at s n) (committed_at s) n ≡ true → (st : Standing) × (standing_at s n ≡ Some st)
 live_number s n live = live_stands (standing_at s n) (committed_at s) n live
 
-module _ (g : Ground) (v : Kept) (rs : List Record) (es : List Entry) (s : State) (kept : IsKept g v rs (map entry_of es)) (same : record { over = g; history = map entry_of es } ≡ s) (n : ℕ) (live : is_live_in (standing_at s n) (committed_at s) n ≡ true) (i : ℕ) (e : suc i ≡ n)
-    (qs : List Record) (slice : qs ≡ rs) where
+module _ (g : Ground) (v : Kept) (rs : List QueuedUpdate) (es : List Entry) (s : State) (kept : IsKept g v rs (map entry_of es)) (same : record { over = g; history = map entry_of es } ≡ s) (n : ℕ) (live : is_live_in (standing_at s n) (committed_at s) n ≡ true) (i : ℕ) (e : suc i ≡ n)
+    (qs : List QueuedUpdate) (slice : qs ≡ rs) where
   pub live_within : i < length qs
   live_within =
       let x = live_stands (standing_at s n) (committed_at s) n live in
-      subst (λ (xs : List Record). i < length xs) (sym slice) (placed_within g v rs (map entry_of es) s kept same n x.0 x.1 i (sym e))
+      subst (λ (xs : List QueuedUpdate). i < length xs) (sym slice) (placed_within g v rs (map entry_of es) s kept same n x.0 x.1 i (sym e))
 
-  pub core_withdraws : (v' : Kept) (qs' : List Record) (es' : List Entry) → WithdrawsTo g.rules g.settings i v qs es v' qs' es' → Follows g (Withdraws n) (map entry_of es) v' qs' (map entry_of es')
+  pub core_withdraws : (v' : Kept) (qs' : List QueuedUpdate) (es' : List Entry) → WithdrawsTo g.rules g.settings i v qs es v' qs' es' → Follows g (Withdraws n) (map entry_of es) v' qs' (map entry_of es')
   core_withdraws v' qs' es' withdraws =
       let us : List (Update (machine g)) = updates_of g.rules g.budget rs in
       let live_here : is_live_in (option_map (standing (machine g) g.settings (committed (machine g) us) (suc i)) (slice_get us i)) (committed (machine g) us) (suc i) ≡ true =
@@ -164,9 +164,9 @@ module _ (g : Ground) (v : Kept) (rs : List Record) (es : List Entry) (s : State
       ∙ sym (ap (λ (ws : List (Update (machine g))). is_live_in (option_map (standing (machine g) g.settings (committed (machine g) ws) n) (numbered_at ws n)) (committed (machine g) ws) n) kept.left.leaves)
       ∙ ap (λ (t : State). is_live_in (standing_at t n) (committed_at t) n) same ∙ live in
       let made : Follows g (Withdraws (suc i)) (map entry_of es) v' qs' (map entry_of es') =
-      subst (λ (xs : List Record). WithdrawsTo g.rules g.settings i v xs es v' qs' es') slice withdraws g.budget g.base g.requests g.later kept (withdrawn_if (machine g) g.settings us i (slice_get us i) live_here) in
+      subst (λ (xs : List QueuedUpdate). WithdrawsTo g.rules g.settings i v xs es v' qs' es') slice withdraws g.budget g.base g.requests g.later kept (withdrawn_if (machine g) g.settings us i (slice_get us i) live_here) in
       subst (λ (m : ℕ). Follows g (Withdraws m) (map entry_of es) v' qs' (map entry_of es')) e made
 
 -- The same records.
-pub same_all : (rs rs' : List Record) → rs' ≡ rs → AreSame rs rs'
-same_all rs rs' e = record { updates = λ ms B. ap (updates_of ms B) e; numbers = λ a. subst (λ (xs : List Record). AreFrom 1 xs) (sym e) a }
+pub same_all : (rs rs' : List QueuedUpdate) → rs' ≡ rs → AreSame rs rs'
+same_all rs rs' e = record { updates = λ ms B. ap (updates_of ms B) e; numbers = λ a. subst (λ (xs : List QueuedUpdate). AreFrom 1 xs) (sym e) a }

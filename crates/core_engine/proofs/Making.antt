@@ -35,7 +35,7 @@ use Rattle.chase_query.specs.Meanings.{reads_in}
 use Rattle.chase_update.specs.Courses.{State as ProgramState}
 use Rattle.core_queue.specs.Queues.{logged, update_of, updates_of, AreFrom}
 use Rattle.core_queue.specs.Renewals.{AllHaveOneMore}
-use Rattle.core_queue.specs.declared.records.Record.{Record}
+use Rattle.core_queue.specs.declared.updates.QueuedUpdate.{QueuedUpdate}
 use Rattle.lang_session.specs.Meanings.{request_of, requests_in, update_of as session_update_of}
 use Rattle.lang_session.specs.declared.sessions.SessionUpdate.{SessionUpdate}
 use Rattle.def_steps.proofs.ChaseLaws.{chase_laws}
@@ -60,25 +60,25 @@ use Rattle.core_engine.proofs.Opening.{all_admitted, versions_begin}
 
 -- ---- by the theorem on histories
 
-pub history_of : (g : Ground) (v : Kept) (rs : List Record) (H : List PlainEntry) → IsKept g v rs H → IsHistory (machine g) g.settings (session_over g) (record { updates = updates_after g H; entries = entries_over g H })
+pub history_of : (g : Ground) (v : Kept) (rs : List QueuedUpdate) (H : List PlainEntry) → IsKept g v rs H → IsHistory (machine g) g.settings (session_over g) (record { updates = updates_after g H; entries = entries_over g H })
 history_of g v rs H k =
     history_law (machine g) (chase_laws caused g.rules g.budget k.budget) g.settings (session_over g) (map event_of (entries_over g H)) (record { updates = updates_after g H; entries = entries_over g H }) k.sorted k.left.legal
 
-update_there : (g : Ground) (v : Kept) (rs : List Record) (H : List PlainEntry) (i : ℕ) (r : Record) → IsKept g v rs H → slice_get rs i ≡ Some r → slice_get (updates_after g H) i ≡ Some (update_of g.rules g.budget r)
+update_there : (g : Ground) (v : Kept) (rs : List QueuedUpdate) (H : List PlainEntry) (i : ℕ) (r : QueuedUpdate) → IsKept g v rs H → slice_get rs i ≡ Some r → slice_get (updates_after g H) i ≡ Some (update_of g.rules g.budget r)
 update_there g v rs H i r k spot =
     ap (λ (us : List (Update (machine g))). slice_get us i) k.left.leaves ∙ slice_get-map (update_of g.rules g.budget) rs i ∙ ap (option_map (update_of g.rules g.budget)) spot
 
-one_more_each : (rs : List Record) → ((i : ℕ) (r : Record) → slice_get rs i ≡ Some r → r.program.attempt.attempt ≤ 5) → AllHaveOneMore rs
+one_more_each : (rs : List QueuedUpdate) → ((i : ℕ) (r : QueuedUpdate) → slice_get rs i ≡ Some r → r.program.attempt.attempt ≤ 5) → AllHaveOneMore rs
 one_more_each [] h = tt
 one_more_each (r ∷ rs) h = (omega (arith, h 0 r refl), one_more_each rs (λ i q e. h (suc i) q e))
 
 -- One more attempt of each update has a number.
-pub all_one_more : (g : Ground) (v : Kept) (rs : List Record) (H : List PlainEntry) → IsKept g v rs H → AllHaveOneMore rs
+pub all_one_more : (g : Ground) (v : Kept) (rs : List QueuedUpdate) (H : List PlainEntry) → IsKept g v rs H → AllHaveOneMore rs
 all_one_more g v rs H k =
     one_more_each rs (λ i r spot. omega (arith, (history_of g v rs H k).attempts i (update_of g.rules g.budget r) (update_there g v rs H i r k spot), k.retries))
 
 -- A ready update has a step left.
-pub step_left : (g : Ground) (v : Kept) (rs : List Record) (H : List PlainEntry) (i c n : ℕ) (r : Record) → IsKept g v rs H → slice_get rs i ≡ Some r
+pub step_left : (g : Ground) (v : Kept) (rs : List QueuedUpdate) (H : List PlainEntry) (i c n : ℕ) (r : QueuedUpdate) → IsKept g v rs H → slice_get rs i ≡ Some r
     → is_ready (standing (machine g) g.settings c n (update_of g.rules g.budget r)) ≡ true → r.program.attempt.steps < g.budget
 step_left g v rs H i c n r k spot ready =
     let u : Update (machine g) = update_of g.rules g.budget r in
@@ -94,7 +94,7 @@ all_read : {A B : Type 0} (p : A → Bool) (f : A → B) (q : B → Bool) → ((
 all_read p f q same [] = refl
 all_read p f q same (x ∷ xs) = λ i. same x i && all_read p f q same xs i
 
-module _ (g : Ground) (v : Kept) (rs : List Record) (H : List PlainEntry) (s : State) (kept : IsKept g v rs H) (same : record { over = g; history = H } ≡ s) (n : ℕ) (st : Standing) (stands : standing_at s n ≡ Some st) where
+module _ (g : Ground) (v : Kept) (rs : List QueuedUpdate) (H : List PlainEntry) (s : State) (kept : IsKept g v rs H) (same : record { over = g; history = H } ≡ s) (n : ℕ) (st : Standing) (stands : standing_at s n ≡ Some st) where
   stands_here : option_map (standing (machine g) g.settings (committed (machine g) (updates_of g.rules g.budget rs)) n) (numbered_at (updates_of g.rules g.budget rs) n) ≡ Some st
   stands_here =
       sym (ap (λ (us : List (Update (machine g))). option_map (standing (machine g) g.settings (committed (machine g) us) n) (numbered_at us n)) kept.left.leaves)
@@ -122,20 +122,20 @@ module _ (g : Ground) (v : Kept) (rs : List Record) (H : List PlainEntry) (s : S
       omega (arith, within (updates_of g.rules g.budget rs) i x.0 x.1, mapped_long (update_of g.rules g.budget) rs)
 
   -- That is what the record there says.
-  pub record_stands : (i : ℕ) (r : Record) → n ≡ suc i → slice_get rs i ≡ Some r → standing (machine g) g.settings (committed (machine g) (updates_of g.rules g.budget rs)) (suc i) (update_of g.rules g.budget r) ≡ st
+  pub record_stands : (i : ℕ) (r : QueuedUpdate) → n ≡ suc i → slice_get rs i ≡ Some r → standing (machine g) g.settings (committed (machine g) (updates_of g.rules g.budget rs)) (suc i) (update_of g.rules g.budget r) ≡ st
   record_stands i r e spot =
       same_Some _ _ (sym (ap (option_map (standing (machine g) g.settings (committed (machine g) (updates_of g.rules g.budget rs)) (suc i))) (slice_get-map (update_of g.rules g.budget) rs i ∙ ap (option_map (update_of g.rules g.budget)) spot)) ∙ stands_placed i e)
 
 -- ---- ready updates
 
-module _ (g : Ground) (v : Kept) (rs : List Record) (H : List PlainEntry) (s : State) (kept : IsKept g v rs H) (same : record { over = g; history = H } ≡ s) (n : ℕ) (stands : standing_at s n ≡ Some Ready) (i : ℕ) (e : suc i ≡ n) (qs : List Record) (slice : qs ≡ rs) where
+module _ (g : Ground) (v : Kept) (rs : List QueuedUpdate) (H : List PlainEntry) (s : State) (kept : IsKept g v rs H) (same : record { over = g; history = H } ≡ s) (n : ℕ) (stands : standing_at s n ≡ Some Ready) (i : ℕ) (e : suc i ≡ n) (qs : List QueuedUpdate) (slice : qs ≡ rs) where
   pub ready_within : i < length qs
-  ready_within = subst (λ (xs : List Record). i < length xs) (sym slice) (placed_within g v rs H s kept same n Ready stands i (sym e))
+  ready_within = subst (λ (xs : List QueuedUpdate). i < length xs) (sym slice) (placed_within g v rs H s kept same n Ready stands i (sym e))
 
   pub ready_numbers : AreFrom 1 qs
-  ready_numbers = subst (λ (xs : List Record). AreFrom 1 xs) (sym slice) kept.numbers
+  ready_numbers = subst (λ (xs : List QueuedUpdate). AreFrom 1 xs) (sym slice) kept.numbers
 
-  ready_record : (r : Record) → slice_get qs i ≡ Some r → standing (machine g) g.settings (committed (machine g) (updates_of g.rules g.budget rs)) (suc i) (update_of g.rules g.budget r) ≡ Ready
+  ready_record : (r : QueuedUpdate) → slice_get qs i ≡ Some r → standing (machine g) g.settings (committed (machine g) (updates_of g.rules g.budget rs)) (suc i) (update_of g.rules g.budget r) ≡ Ready
   ready_record r spot = record_stands g v rs H s kept same n Ready stands i r (sym e) (ap (λ xs. slice_get xs i) (sym slice) ∙ spot)
 
   pub ready_placed : AtPlace i qs IsReadySomewhere
@@ -178,7 +178,7 @@ module _ (g : Ground) (v : Kept) (rs : List Record) (H : List PlainEntry) (s : S
 
 -- ---- plans
 
-planned_placed : (g : Ground) (v : Kept) (rs : List Record) (H : List PlainEntry) (s : State) (i : ℕ) (p : PlanMeant) → IsKept g v rs H → record { over = g; history = H } ≡ s → p.update ≡ suc i → IsStepAt s p
+planned_placed : (g : Ground) (v : Kept) (rs : List QueuedUpdate) (H : List PlainEntry) (s : State) (i : ℕ) (p : PlanMeant) → IsKept g v rs H → record { over = g; history = H } ≡ s → p.update ≡ suc i → IsStepAt s p
     → IsStepAmong g.rules g.budget g.base (updates_of g.rules g.budget rs) (suc i) p
 planned_placed g v rs H s i p kept same e is =
     subst (λ (m : ℕ). IsStepAmong g.rules g.budget g.base (updates_of g.rules g.budget rs) m p) e
@@ -186,18 +186,18 @@ planned_placed g v rs H s i p kept same e is =
     (subst (λ (t : State). IsStepAt t p) (sym same) is))
 
 -- A plan of its step is one at the place.
-pub plan_placed : (g : Ground) (v : Kept) (rs : List Record) (H : List PlainEntry) (s : State) (i : ℕ) (r : Record) (plan : Plan) → IsKept g v rs H → record { over = g; history = H } ≡ s → slice_get rs i ≡ Some r
+pub plan_placed : (g : Ground) (v : Kept) (rs : List QueuedUpdate) (H : List PlainEntry) (s : State) (i : ℕ) (r : QueuedUpdate) (plan : Plan) → IsKept g v rs H → record { over = g; history = H } ≡ s → slice_get rs i ≡ Some r
     → IsStepAt s (meant_of (suc i) plan) → IsPlanAt i plan rs
 plan_placed g v rs H s i r plan kept same spot is =
     let us : List (Update (machine g)) = updates_of g.rules g.budget rs in
     let found : slice_get us i ≡ Some (update_of g.rules g.budget r) = slice_get-map (update_of g.rules g.budget) rs i ∙ ap (option_map (update_of g.rules g.budget)) spot in
     let step : IsStepOver g.rules g.budget (below (machine g) g.base us i) (update_of g.rules g.budget r) (meant_of (suc i) plan) =
     subst (λ (o : Option (Update (machine g))). IsSomeThat (λ u. IsStepOver g.rules g.budget (below (machine g) g.base us i) u (meant_of (suc i) plan)) o) found (planned_placed g v rs H s i (meant_of (suc i) plan) kept same refl is) in
-    subst (λ (o : Option Record). IsSomeThat (λ (q : Record). IsPlanFor q plan) o) (sym spot)
+    subst (λ (o : Option QueuedUpdate). IsSomeThat (λ (q : QueuedUpdate). IsPlanFor q plan) o) (sym spot)
     (record { rules = g.rules; budget = g.budget; below = below (machine g) g.base us i; planned = record { program = step.program; reads = step.reads } })
 
 -- A snapshot of the record is the step of its update.
-pub snapshot_is : (g : Ground) (v : Kept) (rs : List Record) (H : List PlainEntry) (s : State) (i : ℕ) (r : Record) (p : PlanMeant) → IsKept g v rs H → record { over = g; history = H } ≡ s → slice_get rs i ≡ Some r
+pub snapshot_is : (g : Ground) (v : Kept) (rs : List QueuedUpdate) (H : List PlainEntry) (s : State) (i : ℕ) (r : QueuedUpdate) (p : PlanMeant) → IsKept g v rs H → record { over = g; history = H } ≡ s → slice_get rs i ≡ Some r
     → IsSnapshotOf g.rules g.budget v r p → IsStepAt s p
 snapshot_is g v rs H s i r p kept same spot is =
     let us : List (Update (machine g)) = updates_of g.rules g.budget rs in
@@ -214,7 +214,7 @@ snapshot_is g v rs H s i r p kept same spot is =
 
 -- ---- what calls made
 
-pub step_made : (g : Ground) (v v' : Kept) (rs rs' : List Record) (es es' : List Entry) (old new : State) (i n : ℕ) (plan : Plan) → IsKept g v rs (map entry_of es) → record { over = g; history = map entry_of es } ≡ old
+pub step_made : (g : Ground) (v v' : Kept) (rs rs' : List QueuedUpdate) (es es' : List Entry) (old new : State) (i n : ℕ) (plan : Plan) → IsKept g v rs (map entry_of es) → record { over = g; history = map entry_of es } ≡ old
     → n ≡ suc i → standing_at old n ≡ Some Ready → IsStepAt old (meant_of n plan) → StepsTo g.rules g.settings i plan v rs es v' rs' es' → Follows g (Steps n) (map entry_of es) v' rs' (map entry_of es')
 step_made g v v' rs rs' es es' old new i n plan kept same e ready is steps =
     let made : Follows g (Steps (suc i)) (map entry_of es) v' rs' (map entry_of es') =
@@ -223,22 +223,22 @@ step_made g v v' rs rs' es es' old new i n plan kept same e ready is steps =
     subst (λ (m : ℕ). Follows g (Steps m) (map entry_of es) v' rs' (map entry_of es')) (sym e) made
 
 -- What was made on the parts was made on the core.
-pub has_made : (e : (g : Ground) → Event (machine g)) (g : Ground) (v : Kept) (rs : List Record) (H H' : List PlainEntry) (old new : State) → record { over = g; history = H } ≡ old → record { over = g; history = H' } ≡ new
+pub has_made : (e : (g : Ground) → Event (machine g)) (g : Ground) (v : Kept) (rs : List QueuedUpdate) (H H' : List PlainEntry) (old new : State) → record { over = g; history = H } ≡ old → record { over = g; history = H' } ≡ new
     → Follows g (e g) H v rs H' → HasMade old (e old.over) new
 has_made e g v rs H H' old new a b f =
     subst (λ (o : State). HasMade o (e o.over) new) a (subst (λ (w : State). HasMade (record { over = g; history = H }) (e g) w) b (record { grows = f.grows; over = refl }))
 
-pub has_stepped : (g : Ground) (v : Kept) (rs : List Record) (H H' : List PlainEntry) (old new : State) (n : ℕ) → record { over = g; history = H } ≡ old → record { over = g; history = H' } ≡ new
+pub has_stepped : (g : Ground) (v : Kept) (rs : List QueuedUpdate) (H H' : List PlainEntry) (old new : State) (n : ℕ) → record { over = g; history = H } ≡ old → record { over = g; history = H' } ≡ new
     → Follows g (Steps n) H v rs H' → HasMade old (Steps n) new
 has_stepped g v rs H H' old new n = has_made (λ o. Steps n) g v rs H H' old new
 
-pub has_delivered : (g : Ground) (v : Kept) (rs : List Record) (H H' : List PlainEntry) (old new : State) (n : ℕ) → record { over = g; history = H } ≡ old → record { over = g; history = H' } ≡ new
+pub has_delivered : (g : Ground) (v : Kept) (rs : List QueuedUpdate) (H H' : List PlainEntry) (old new : State) (n : ℕ) → record { over = g; history = H } ≡ old → record { over = g; history = H' } ≡ new
     → Follows g (Delivers n) H v rs H' → HasMade old (Delivers n) new
 has_delivered g v rs H H' old new n = has_made (λ o. Delivers n) g v rs H H' old new
 
 -- ---- the opening
 
-pub opened_kept : (ms : List Rule) (B : ℕ) (c : Settings) (base : Listed Tuple) (us : Listed SessionUpdate) (later : Listed UpdateOfProgram) (v : Kept) (rs : List Record) (es : List Entry) (n : ℕ) → later.items ≡ [] → 1 ≤ B → c.retries ≤ 4 → AreWithin ms → IsRepository (map fact_of base.items)
+pub opened_kept : (ms : List Rule) (B : ℕ) (c : Settings) (base : Listed Tuple) (us : Listed SessionUpdate) (later : Listed UpdateOfProgram) (v : Kept) (rs : List QueuedUpdate) (es : List Entry) (n : ℕ) → later.items ≡ [] → 1 ≤ B → c.retries ≤ 4 → AreWithin ms → IsRepository (map fact_of base.items)
     → length us.items ≤ 1000 → AreAdmitted us.items rs → AreFrom 1 rs → length rs ≡ length us.items → n ≡ length us.items → map entry_of es ≡ admissions_from 1 n → StandFor v (map fact_of base.items) no_trails
     → IsKept (ground_by ms B c base us later) v rs (map entry_of es)
 opened_kept ms B c base us later v rs es n none some retries within' sorted few are numbers long count entries stands =
@@ -268,14 +268,14 @@ opened_kept ms B c base us later v rs es n none some retries within' sorted few 
 
 -- ---- snapshots
 
-pub record_placed : (rs : List Record) (i : ℕ) → i < length rs → (r : Record) × (slice_get rs i ≡ Some r)
+pub record_placed : (rs : List QueuedUpdate) (i : ℕ) → i < length rs → (r : QueuedUpdate) × (slice_get rs i ≡ Some r)
 record_placed [] i l = absurd (omega (arith, l))
 record_placed (r ∷ rs) zero l = (r, refl)
 record_placed (r ∷ rs) (suc i) l = record_placed rs i (omega (arith, l))
 
-module _ (g : Ground) (v : Kept) (rs : List Record) (H : List PlainEntry) (s : State) (kept : IsKept g v rs H) (same : record { over = g; history = H } ≡ s) (n : ℕ) (stands : standing_at s n ≡ Some Ready) (i : ℕ) (e : suc i ≡ n) (qs : List Record) (slice : qs ≡ rs)
+module _ (g : Ground) (v : Kept) (rs : List QueuedUpdate) (H : List PlainEntry) (s : State) (kept : IsKept g v rs H) (same : record { over = g; history = H } ≡ s) (n : ℕ) (stands : standing_at s n ≡ Some Ready) (i : ℕ) (e : suc i ≡ n) (qs : List QueuedUpdate) (slice : qs ≡ rs)
     (ms : List Rule) (rules : ms ≡ g.rules) (p : PlanMeant) (taken : AtPlace i qs (λ r. IsSnapshotOf ms g.budget v r p)) where
-  taken_there : (r : Record) × (slice_get rs i ≡ Some r) × IsSnapshotOf g.rules g.budget v r p
+  taken_there : (r : QueuedUpdate) × (slice_get rs i ≡ Some r) × IsSnapshotOf g.rules g.budget v r p
   taken_there =
       let x = record_placed rs i (placed_within g v rs H s kept same n Ready stands i (sym e)) in
       (x.0, x.1, subst (λ (ks : List Rule). IsSnapshotOf ks g.budget v x.0 p) rules (taken x.0 (ap (λ xs. slice_get xs i) slice ∙ x.1)))
@@ -291,7 +291,7 @@ module _ (g : Ground) (v : Kept) (rs : List Record) (H : List PlainEntry) (s : S
 pub few_updates : (us xs : List SessionUpdate) → xs ≡ us → length (map session_update_of us) ≤ 1000 → length xs ≤ 1000
 few_updates us xs e h = let l : length xs ≡ length us = ap (λ ys. length ys) e in omega (arith, h, l, mapped_long session_update_of us)
 
-pub opened_by : (ms : List Rule) (B : ℕ) (c : Settings) (base : Listed Tuple) (us : Listed SessionUpdate) (later : Listed UpdateOfProgram) (D : List Fact) (xs : List SessionUpdate) (v : Kept) (rs : List Record) (es : List Entry) → later.items ≡ [] → 1 ≤ B → c.retries ≤ 4 → AreWithin ms → IsRepository (map fact_of base.items)
+pub opened_by : (ms : List Rule) (B : ℕ) (c : Settings) (base : Listed Tuple) (us : Listed SessionUpdate) (later : Listed UpdateOfProgram) (D : List Fact) (xs : List SessionUpdate) (v : Kept) (rs : List QueuedUpdate) (es : List Entry) → later.items ≡ [] → 1 ≤ B → c.retries ≤ 4 → AreWithin ms → IsRepository (map fact_of base.items)
     → length xs ≤ 1000 → D ≡ map fact_of base.items → xs ≡ us.items → AreAdmitted xs rs → AreFrom 1 rs → length rs ≡ length xs → map entry_of es ≡ admissions_from 1 (length xs) → StandFor v D no_trails
     → IsKept (ground_by ms B c base us later) v rs (map entry_of es)
 opened_by ms B c base us later D xs v rs es none some retries within' sorted few tuples updates are numbers long entries stands =
@@ -322,7 +322,7 @@ some_number s n st h = some_at s n n st refl h
 reading_of : (p q : ProgramState) → p ≡ q → p.reading ≡ q.reading
 reading_of p q e = ap (λ (t : ProgramState). t.reading) e
 
-module _ (g : Ground) (v : Kept) (rs : List Record) (es : List Entry) (s : State) (kept : IsKept g v rs (map entry_of es)) (same : record { over = g; history = map entry_of es } ≡ s) (n : ℕ) (stands : standing_at s n ≡ Some Ready) (i : ℕ) (e : suc i ≡ n) (qs : List Record) (slice : qs ≡ rs)
+module _ (g : Ground) (v : Kept) (rs : List QueuedUpdate) (es : List Entry) (s : State) (kept : IsKept g v rs (map entry_of es)) (same : record { over = g; history = map entry_of es } ≡ s) (n : ℕ) (stands : standing_at s n ≡ Some Ready) (i : ℕ) (e : suc i ≡ n) (qs : List QueuedUpdate) (slice : qs ≡ rs)
     (plan : Plan) (p : PlanMeant) (meant : meant_of n plan ≡ p) (is : IsStepAt s p) where
   step_here : IsStepAt s (meant_of (suc i) plan)
   step_here = subst (λ (m : ℕ). IsStepAt s (meant_of m plan)) (sym e) (subst (λ (q : PlanMeant). IsStepAt s q) (sym meant) is)
@@ -330,18 +330,18 @@ module _ (g : Ground) (v : Kept) (rs : List Record) (es : List Entry) (s : State
   pub plan_ready : IsPlanAt i plan qs
   plan_ready =
       let x = record_placed rs i (placed_within g v rs (map entry_of es) s kept same n Ready stands i (sym e)) in
-      subst (λ (xs : List Record). IsPlanAt i plan xs) (sym slice) (plan_placed g v rs (map entry_of es) s i x.0 plan kept same x.1 step_here)
+      subst (λ (xs : List QueuedUpdate). IsPlanAt i plan xs) (sym slice) (plan_placed g v rs (map entry_of es) s i x.0 plan kept same x.1 step_here)
 
   pub plan_between : plan.program.reading ≡ None
   plan_between =
-      let x = record_placed qs i (subst (λ (xs : List Record). i < length xs) (sym slice) (placed_within g v rs (map entry_of es) s kept same n Ready stands i (sym e))) in
-      let f : IsPlanFor x.0 plan = subst (λ (o : Option Record). IsSomeThat (λ (q : Record). IsPlanFor q plan) o) x.1 plan_ready in
+      let x = record_placed qs i (subst (λ (xs : List QueuedUpdate). i < length xs) (sym slice) (placed_within g v rs (map entry_of es) s kept same n Ready stands i (sym e))) in
+      let f : IsPlanFor x.0 plan = subst (λ (o : Option QueuedUpdate). IsSomeThat (λ (q : QueuedUpdate). IsPlanFor q plan) o) x.1 plan_ready in
       reading_of plan.program (at_rest (next_attempt f.rules f.budget f.below x.0.program.attempt (next_answer (caused_chase f.rules f.budget) (map choice_of x.0.answers.items) x.0.program.attempt))) f.planned.program
 
-  pub core_steps : (v' : Kept) (qs' : List Record) (es' : List Entry) → StepsTo g.rules g.settings i plan v qs es v' qs' es' → Follows g (Steps n) (map entry_of es) v' qs' (map entry_of es')
+  pub core_steps : (v' : Kept) (qs' : List QueuedUpdate) (es' : List Entry) → StepsTo g.rules g.settings i plan v qs es v' qs' es' → Follows g (Steps n) (map entry_of es) v' qs' (map entry_of es')
   core_steps v' qs' es' steps =
       step_made g v v' rs qs' es es' s s i n plan kept same (sym e) stands (subst (λ (q : PlanMeant). IsStepAt s q) (sym meant) is)
-      (subst (λ (xs : List Record). StepsTo g.rules g.settings i plan v xs es v' qs' es') slice steps)
+      (subst (λ (xs : List QueuedUpdate). StepsTo g.rules g.settings i plan v xs es v' qs' es') slice steps)
 
 -- ---- records in place
 
@@ -352,16 +352,16 @@ front [] ys (suc n) h = absurd (omega (arith, h))
 front (x ∷ xs) ys zero h = absurd (omega (arith, h))
 front (x ∷ xs) ys (suc n) h = ap (λ zs. x ∷ zs) (front xs ys n (omega (arith, h)))
 
-pub kept_ok : (g : Ground) (v : Kept) (qs ys : List Record) (n : ℕ) (H : List PlainEntry) → length qs ≡ n → IsKept g v qs H → IsKept g v (take n (qs ++ ys)) H
-kept_ok g v qs ys n H l k = subst (λ (xs : List Record). IsKept g v xs H) (sym (front qs ys n l)) k
+pub kept_ok : (g : Ground) (v : Kept) (qs ys : List QueuedUpdate) (n : ℕ) (H : List PlainEntry) → length qs ≡ n → IsKept g v qs H → IsKept g v (take n (qs ++ ys)) H
+kept_ok g v qs ys n H l k = subst (λ (xs : List QueuedUpdate). IsKept g v xs H) (sym (front qs ys n l)) k
 
-pub kept_err : (g : Ground) (v v' : Kept) (rs qs qs' ys : List Record) (n : ℕ) (es es' : List Entry) → length qs' ≡ n → IsKept g v rs (map entry_of es) → qs ≡ rs → v' ≡ v → AreSame qs qs' → length qs' ≡ length qs → es' ≡ es
+pub kept_err : (g : Ground) (v v' : Kept) (rs qs qs' ys : List QueuedUpdate) (n : ℕ) (es es' : List Entry) → length qs' ≡ n → IsKept g v rs (map entry_of es) → qs ≡ rs → v' ≡ v → AreSame qs qs' → length qs' ≡ length qs → es' ≡ es
     → IsKept g v' (take n (qs' ++ ys)) (map entry_of es')
 kept_err g v v' rs qs qs' ys n es es' l k slice versions same long entries =
     kept_ok g v' qs' ys n (map entry_of es') l
     (subst (λ (w : Kept). IsKept g w qs' (map entry_of es')) (sym versions)
     (subst (λ (fs : List Entry). IsKept g v qs' (map entry_of fs)) (sym entries)
-    (kept_same g v qs qs' (map entry_of es) same long (subst (λ (xs : List Record). IsKept g v xs (map entry_of es)) (sym slice) k))))
+    (kept_same g v qs qs' (map entry_of es) same long (subst (λ (xs : List QueuedUpdate). IsKept g v xs (map entry_of es)) (sym slice) k))))
 
 -- ---- a delivery of a core
 
@@ -374,14 +374,14 @@ deliverable_if M s c n None e w = absurd (none-some (Paused Missing) e)
 deliverable_if M s c n (Some u) e w =
     ap (λ b. Some b) (both_true (is_pending (standing M s c n u)) (not (is_nil u.inbox)) (ap is_pending (same_Some (standing M s c n u) (Paused Missing) e)) w)
 
-module _ (g : Ground) (v : Kept) (rs : List Record) (es : List Entry) (s : State) (kept : IsKept g v rs (map entry_of es)) (same : record { over = g; history = map entry_of es } ≡ s) (n : ℕ) (stands : standing_at s n ≡ Some (Paused Missing)) (i : ℕ) (e : suc i ≡ n) (qs : List Record) (slice : qs ≡ rs) where
+module _ (g : Ground) (v : Kept) (rs : List QueuedUpdate) (es : List Entry) (s : State) (kept : IsKept g v rs (map entry_of es)) (same : record { over = g; history = map entry_of es } ≡ s) (n : ℕ) (stands : standing_at s n ≡ Some (Paused Missing)) (i : ℕ) (e : suc i ≡ n) (qs : List QueuedUpdate) (slice : qs ≡ rs) where
   pub pending_within : i < length qs
-  pending_within = subst (λ (xs : List Record). i < length xs) (sym slice) (placed_within g v rs (map entry_of es) s kept same n (Paused Missing) stands i (sym e))
+  pending_within = subst (λ (xs : List QueuedUpdate). i < length xs) (sym slice) (placed_within g v rs (map entry_of es) s kept same n (Paused Missing) stands i (sym e))
 
   pub pending_numbers : AreFrom 1 qs
-  pending_numbers = subst (λ (xs : List Record). AreFrom 1 xs) (sym slice) kept.numbers
+  pending_numbers = subst (λ (xs : List QueuedUpdate). AreFrom 1 xs) (sym slice) kept.numbers
 
-  pub core_delivers : (qs' : List Record) (es' : List Entry) → has_waiting s n ≡ true → DeliversTo g.settings i qs es qs' es' → Follows g (Delivers n) (map entry_of es) v qs' (map entry_of es')
+  pub core_delivers : (qs' : List QueuedUpdate) (es' : List Entry) → has_waiting s n ≡ true → DeliversTo g.settings i qs es qs' es' → Follows g (Delivers n) (map entry_of es) v qs' (map entry_of es')
   core_delivers qs' es' waits delivers =
       let us : List (Update (machine g)) = updates_of g.rules g.budget rs in
       let waits_here : unwrap_or (option_map (λ (u : Update (machine g)). not (is_nil u.inbox)) (slice_get us i)) false ≡ true =
@@ -391,5 +391,5 @@ module _ (g : Ground) (v : Kept) (rs : List Record) (es : List Entry) (s : State
       let may : option_map (is_deliverable (machine g) g.settings (committed (machine g) us) (suc i)) (slice_get us i) ≡ Some true =
       deliverable_if (machine g) g.settings (committed (machine g) us) (suc i) (slice_get us i) (stands_placed g v rs (map entry_of es) s kept same n (Paused Missing) stands i (sym e)) waits_here in
       let made : Follows g (Delivers (suc i)) (map entry_of es) v qs' (map entry_of es') =
-      subst (λ (xs : List Record). DeliversTo g.settings i xs es qs' es') slice delivers g.rules v g.budget g.base g.requests g.later kept may in
+      subst (λ (xs : List QueuedUpdate). DeliversTo g.settings i xs es qs' es') slice delivers g.rules v g.budget g.base g.requests g.later kept may in
       subst (λ (m : ℕ). Follows g (Delivers m) (map entry_of es) v qs' (map entry_of es')) e made

@@ -25,7 +25,7 @@ use Rattle.chase_plan.specs.declared.plans.Plan.{Plan}
 use Rattle.core_queue.specs.Events.{HasStepped}
 use Rattle.core_queue.specs.Queues.{update_of, updates_of, AreFrom}
 use Rattle.core_queue.specs.Renewals.{HaveRestarted}
-use Rattle.core_queue.specs.declared.records.Record.{Record}
+use Rattle.core_queue.specs.declared.updates.QueuedUpdate.{QueuedUpdate}
 use Rattle.set_versions.specs.Standing.{Kept, seen}
 use Rattle.set_versions.proofs.Numbered.{below_is_seen}
 use Rattle.core_engine.specs.Follows.{AreSame, IsPlanAt, IsPlanFor}
@@ -38,22 +38,22 @@ use Rattle.core_engine.proofs.Following.{marks_for, marked_so, mapped_long, stan
 use Rattle.core_engine.proofs.Making.{front, record_placed}
 
 -- Of no update there is nothing to show.
-pub none_known : (ms : List Rule) (v : Kept) (rs : List Record) (k : Known) → k.update ≡ 0 → IsKnown ms v rs k
+pub none_known : (ms : List Rule) (v : Kept) (rs : List QueuedUpdate) (k : Known) → k.update ≡ 0 → IsKnown ms v rs k
 none_known ms v rs k e r there = absurd (none-some r (ap (λ n. numbered_at rs n) (sym e) ∙ there))
 
-number_at : (rs : List Record) (i : ℕ) (r : Record) → AreFrom 1 rs → slice_get rs i ≡ Some r → r.program.attempt.number ≡ suc i
+number_at : (rs : List QueuedUpdate) (i : ℕ) (r : QueuedUpdate) → AreFrom 1 rs → slice_get rs i ≡ Some r → r.program.attempt.number ≡ suc i
 number_at rs i r numbers spot = let one : 1 + i ≡ suc i = omega arith in (stands_at rs 1 i r numbers spot).number ∙ one
 
 -- What is known is known of the record at its place.
-pub marks_here : (ms : List Rule) (v : Kept) (rs : List Record) (k : Known) (i : ℕ) (r : Record) → AreFrom 1 rs → slice_get rs i ≡ Some r → IsKnown ms v rs k → k.update ≡ r.program.attempt.number
+pub marks_here : (ms : List Rule) (v : Kept) (rs : List QueuedUpdate) (k : Known) (i : ℕ) (r : QueuedUpdate) → AreFrom 1 rs → slice_get rs i ≡ Some r → IsKnown ms v rs k → k.update ≡ r.program.attempt.number
     → AreMarksOver ms (seen r.program.attempt.number v) r k
 marks_here ms v rs k i r numbers spot known e =
     subst (λ (m : ℕ). AreMarksOver ms (seen m v) r k) e (known r (ap (λ m. numbered_at rs m) (e ∙ number_at rs i r numbers spot) ∙ spot))
 
-pub marks_there : (ms : List Rule) (v : Kept) (rs : List Record) (k : Known) (i : ℕ) (r : Record) → AreFrom 1 rs → slice_get rs i ≡ Some r → AreMarksOf ms v r k → IsKnown ms v rs k
+pub marks_there : (ms : List Rule) (v : Kept) (rs : List QueuedUpdate) (k : Known) (i : ℕ) (r : QueuedUpdate) → AreFrom 1 rs → slice_get rs i ≡ Some r → AreMarksOf ms v r k → IsKnown ms v rs k
 marks_there ms v rs k i r numbers spot are q there =
     let same : r ≡ q = same_Some r q (sym (ap (λ m. numbered_at rs m) (are.update ∙ number_at rs i r numbers spot) ∙ spot) ∙ there) in
-    subst (λ (p : Record). AreMarksOver ms (seen k.update v) p k) same
+    subst (λ (p : QueuedUpdate). AreMarksOver ms (seen k.update v) p k) same
     (subst (λ (m : ℕ). AreMarksOver ms (seen m v) r k) (sym are.update) are.marks)
 
 -- ---- lists
@@ -74,7 +74,7 @@ taken_more [] ys (suc n) l = absurd (omega (arith, l))
 taken_more (x ∷ xs) ys (suc n) l = ap (λ zs. x ∷ zs) (taken_more xs ys n (omega (arith, l)))
 
 -- What is settled after a plan may be kept.
-pub marks_kept : (ms : List Rule) (v : Kept) (r : Record) (k : Known) (marks : List Bool) → k.update ≡ r.program.attempt.number → k.made ≡ length r.program.attempt.own → k.marks ≡ marks
+pub marks_kept : (ms : List Rule) (v : Kept) (r : QueuedUpdate) (k : Known) (marks : List Bool) → k.update ≡ r.program.attempt.number → k.made ≡ length r.program.attempt.own → k.marks ≡ marks
     → HasSettled ms (seen r.program.attempt.number v) r.program.attempt marks → AreMarksOf ms v r k
 marks_kept ms v r k marks update made e settled =
     let P = r.program.attempt in
@@ -92,22 +92,22 @@ marks_kept ms v r k marks update made e settled =
 
 -- ---- a step
 
-attempt_of : (ms : List Rule) (B : ℕ) (r q : Record) → update_of ms B r ≡ update_of ms B q → r.program.attempt ≡ q.program.attempt
+attempt_of : (ms : List Rule) (B : ℕ) (r q : QueuedUpdate) → update_of ms B r ≡ update_of ms B q → r.program.attempt ≡ q.program.attempt
 attempt_of ms B r q e = ap (λ (u : Update (caused_chase ms B)). u.state) e
 
 -- The record's attempt has grown by its step.
-stepped_grown : (r r' : Record) (plan : Plan) → IsPlanFor r plan → HasStepped plan r r' → HasGrown r r'
+stepped_grown : (r r' : QueuedUpdate) (plan : Plan) → IsPlanFor r plan → HasStepped plan r r' → HasGrown r r'
 stepped_grown r r' plan f steps =
     let e = ap (λ (u : Update (caused_chase f.rules f.budget)). u.state) (steps f.rules f.budget f.below f.planned) in
     record { operation = ap (λ (P : Attempt). P.operation) e; own = (_, ap (λ (P : Attempt). P.own) e) }
 
-grown_as : (r q p : Record) → q.program.attempt ≡ p.program.attempt → HasGrown r p → HasGrown r q
+grown_as : (r q p : QueuedUpdate) → q.program.attempt ≡ p.program.attempt → HasGrown r p → HasGrown r q
 grown_as r q p e g = record { operation = ap (λ (P : Attempt). P.operation) e ∙ g.operation; own = (g.own.0, ap (λ (P : Attempt). P.own) e ∙ g.own.1) }
 
-pub grows_at : (rs rs' : List Record) (k : ℕ) (r r' : Record) (plan : Plan) (fs : List (Option ProgramState)) → k < length rs → slice_get rs k ≡ Some r → IsPlanAt k plan rs → HasStepped plan r r'
+pub grows_at : (rs rs' : List QueuedUpdate) (k : ℕ) (r r' : QueuedUpdate) (plan : Plan) (fs : List (Option ProgramState)) → k < length rs → slice_get rs k ≡ Some r → IsPlanAt k plan rs → HasStepped plan r r'
     → HaveRestarted (k + 1) fs (set rs k r') rs' → GrowsAt k rs rs'
 grows_at rs rs' k r r' plan fs l spot planned steps restarts =
-    let f : IsPlanFor r plan = subst (λ (o : Option Record). IsSomeThat (λ (q : Record). IsPlanFor q plan) o) spot planned in
+    let f : IsPlanFor r plan = subst (λ (o : Option QueuedUpdate). IsSomeThat (λ (q : QueuedUpdate). IsPlanFor q plan) o) spot planned in
     let is : (ms : List Rule) (B : ℕ) → updates_of ms B rs' ≡ take (suc k) (set (updates_of ms B rs) k (update_of ms B r')) ++ restart (caused_chase ms B) (suc (k + 1)) (marks_for ms B fs) (drop (k + 1) (updates_of ms B (set rs k r'))) =
     λ ms B. restarts ms B (marks_for ms B fs) (marked_so ms B fs)
     ∙ (λ i. take (add-one k i) (map-set (update_of ms B) rs k r' i) ++ restart (caused_chase ms B) (suc (k + 1)) (marks_for ms B fs) (drop (k + 1) (updates_of ms B (set rs k r')))) in
@@ -118,11 +118,11 @@ grows_at rs rs' k r r' plan fs l spot planned steps restarts =
           λ q q' at at'.
           let there : slice_get (updates_of [] 0 rs') k ≡ Some (update_of [] 0 q') = slice_get-map (update_of [] 0) rs' k ∙ ap (option_map (update_of [] 0)) at' in
           let same : update_of [] 0 q' ≡ update_of [] 0 r' = same_Some _ _ (sym there ∙ ap (λ (us : List (Update (caused_chase [] 0))). slice_get us k) (is [] 0) ∙ got_put (updates_of [] 0 rs) k (update_of [] 0 r') _ (long [] 0)) in
-          subst (λ (p : Record). HasGrown p q') (same_Some r q (sym spot ∙ at)) (grown_as r q' r' (attempt_of [] 0 q' r' same) (stepped_grown r r' plan f steps));
+          subst (λ (p : QueuedUpdate). HasGrown p q') (same_Some r q (sym spot ∙ at)) (grown_as r q' r' (attempt_of [] 0 q' r' same) (stepped_grown r r' plan f steps));
     }
 
 -- Records that stand for the same updates grow so.
-pub same_grows : (rs qs rs' : List Record) (k : ℕ) → AreSame rs qs → GrowsAt k qs rs' → GrowsAt k rs rs'
+pub same_grows : (rs qs rs' : List QueuedUpdate) (k : ℕ) → AreSame rs qs → GrowsAt k qs rs' → GrowsAt k rs rs'
 same_grows rs qs rs' k same grows =
     record {
       lower = λ ms B. grows.lower ms B ∙ ap (take k) (same.updates ms B);
@@ -141,7 +141,7 @@ same_grows rs qs rs' k same grows =
 
 -- ---- the marks through it
 
-grown_marks : (ms : List Rule) (D D' : List Fact) (r r' : Record) (k : Known) → D' ≡ D → HasGrown r r' → AreMarksOver ms D r k → AreMarksOver ms D' r' k
+grown_marks : (ms : List Rule) (D D' : List Fact) (r r' : QueuedUpdate) (k : Known) → D' ≡ D → HasGrown r r' → AreMarksOver ms D r k → AreMarksOver ms D' r' k
 grown_marks ms D D' r r' k below grown are =
     let own = grown.own.1 in
     let more = grown.own.0 in
@@ -157,7 +157,7 @@ grown_marks ms D D' r r' k below grown are =
     }
 
 -- Its own step leaves what is known of an update.
-pub known_kept : (g : Ground) (v v' : Kept) (rs rs' : List Record) (H H' : List PlainEntry) (i : ℕ) (k : Known) → IsKept g v rs H → IsKept g v' rs' H' → GrowsAt i rs rs' → i < length rs → k.update ≡ suc i
+pub known_kept : (g : Ground) (v v' : Kept) (rs rs' : List QueuedUpdate) (H H' : List PlainEntry) (i : ℕ) (k : Known) → IsKept g v rs H → IsKept g v' rs' H' → GrowsAt i rs rs' → i < length rs → k.update ≡ suc i
     → IsKnown g.rules v rs k → IsKnown g.rules v' rs' k
 known_kept g v v' rs rs' H H' i k kept kept' grows l e known q there =
     let x = record_placed rs i l in
@@ -172,15 +172,15 @@ known_kept g v v' rs rs' H H' i k kept kept' grows l e known q there =
     grown_marks g.rules (seen k.update v) (seen k.update v') x.0 q k D (grows.grown x.0 q x.1 spot') (known x.0 (ap (λ n. numbered_at rs n) e ∙ x.1))
 
 -- What is known after a step: the marks of the update that made it, if there were any, and else those of no update.
-pub known_after : (g : Ground) (v v' : Kept) (rs qs qs' : List Record) (H H' : List PlainEntry) (i : ℕ) (k : Known) (m n : ℕ) → qs ≡ rs → IsKept g v rs H → IsKept g v' qs' H' → GrowsAt i qs qs' → i < length qs → suc i ≡ n
+pub known_after : (g : Ground) (v v' : Kept) (rs qs qs' : List QueuedUpdate) (H H' : List PlainEntry) (i : ℕ) (k : Known) (m n : ℕ) → qs ≡ rs → IsKept g v rs H → IsKept g v' qs' H' → GrowsAt i qs qs' → i < length qs → suc i ≡ n
     → (1 ≤ m → k.update ≡ m) → (1 ≤ m → m ≡ n) → IsKnown g.rules v rs k → IsKnown g.rules v' qs' (record { update = m; made = k.made; marks = k.marks })
 known_after g v v' rs qs qs' H H' i k zero n slice kept kept' grows l e known number is = none_known g.rules v' qs' (record { update = 0; made = k.made; marks = k.marks }) refl
 known_after g v v' rs qs qs' H H' i k (suc m) n slice kept kept' grows l e known number is =
     let some : 1 ≤ suc m = omega arith in
     let same : k.update ≡ suc m = known some in
     subst (λ (q : Known). IsKnown g.rules v' qs' q) (λ j. record { update = same j; made = k.made; marks = k.marks })
-    (known_kept g v v' rs qs' H H' i k kept kept' (subst (λ (xs : List Record). GrowsAt i xs qs') slice grows) (subst (λ (xs : List Record). i < length xs) slice l) (same ∙ number some ∙ sym e) is)
+    (known_kept g v v' rs qs' H H' i k kept kept' (subst (λ (xs : List QueuedUpdate). GrowsAt i xs qs') slice grows) (subst (λ (xs : List QueuedUpdate). i < length xs) slice l) (same ∙ number some ∙ sym e) is)
 
 -- That of the queue before the last of a list.
-pub known_ok : (ms : List Rule) (v : Kept) (qs ys : List Record) (n : ℕ) (k : Known) → length qs ≡ n → IsKnown ms v qs k → IsKnown ms v (take n (qs ++ ys)) k
-known_ok ms v qs ys n k l h = subst (λ (xs : List Record). IsKnown ms v xs k) (sym (front qs ys n l)) h
+pub known_ok : (ms : List Rule) (v : Kept) (qs ys : List QueuedUpdate) (n : ℕ) (k : Known) → length qs ≡ n → IsKnown ms v qs k → IsKnown ms v (take n (qs ++ ys)) k
+known_ok ms v qs ys n k l h = subst (λ (xs : List QueuedUpdate). IsKnown ms v xs k) (sym (front qs ys n l)) h

@@ -16,7 +16,7 @@ use Rattle.def_chase.specs.Repository.{Change}
 use Rattle.def_chase.specs.Values.{Fact}
 use Rattle.def_steps.specs.Chase.{caused_chase}
 use Rattle.core_queue.specs.Queues.{StandsAt, AreFrom}
-use Rattle.core_queue.specs.declared.records.Record.{Record}
+use Rattle.core_queue.specs.declared.updates.QueuedUpdate.{QueuedUpdate}
 use Rattle.set_versions.specs.Standing.{Kept, StandFor}
 use Rattle.set_versions.specs.Trails.{no_trails, numbered, trail_at}
 use Rattle.core_engine.specs.Admitted.{admitted_from}
@@ -103,7 +103,7 @@ module _ (ms : List Rule) (B : ℕ) where
 -- ---- records
 
 -- One more record behind those from number n on.
-pub from_more : (n : ℕ) (rs : List Record) (r : Record) → AreFrom n rs → StandsAt (n + length rs) r → AreFrom n (rs ++ r ∷ [])
+pub from_more : (n : ℕ) (rs : List QueuedUpdate) (r : QueuedUpdate) → AreFrom n rs → StandsAt (n + length rs) r → AreFrom n (rs ++ r ∷ [])
 from_more n [] r a s = let same : n + 0 ≡ n = omega arith in (subst (λ (m : ℕ). StandsAt m r) same s, tt)
 from_more n (q ∷ rs) r a s = let same : n + suc (length rs) ≡ suc n + length rs = omega arith in (a.0, from_more (suc n) rs r a.1 (subst (λ (m : ℕ). StandsAt m r) same s))
 

@@ -26,11 +26,11 @@ use Rattle.def_chase.specs.Values.{Fact}
 use Rattle.chase_plan.specs.declared.plans.Plan.{Plan}
 use Rattle.chase_update.specs.Courses.{State}
 use Rattle.core_queue.specs.Programs.{IsPlanOf, HasSpent, HasWritten}
-use Rattle.core_queue.specs.Records.{HasTrail}
+use Rattle.core_queue.specs.Updates.{HasTrail}
 use Rattle.core_queue.specs.Queues.{update_of, updates_of, AreFrom}
 use Rattle.core_queue.specs.Renewals.{AreThere}
-use Rattle.core_queue.specs.Walks.{ReadsAtMost}
-use Rattle.core_queue.specs.declared.records.Record.{Record}
+use Rattle.core_queue.specs.Order.{ReadsAtMost}
+use Rattle.core_queue.specs.declared.updates.QueuedUpdate.{QueuedUpdate}
 use Rattle.core_queue.proofs.Restarting.{restart_by, restart_is}
 use Rattle.def_steps.proofs.Steady.{apply_join}
 use Rattle.def_steps.specs.Attempts.{outcome_in}
@@ -83,17 +83,17 @@ module _ (ms : List Rule) (B : ℕ) (D : List Fact) (u : Update (caused_chase ms
       left ∙ sym (λ i. before i ++ shown i)
 
 -- The attempt after the step is that of the plan.
-plan_state : (ms : List Rule) (B : ℕ) (D : List Fact) (r : Record) (plan : Plan) → IsPlanOf ms B D r plan → plan.program.attempt ≡ (stepped (caused_chase ms B) D (update_of ms B r)).state
+plan_state : (ms : List Rule) (B : ℕ) (D : List Fact) (r : QueuedUpdate) (plan : Plan) → IsPlanOf ms B D r plan → plan.program.attempt ≡ (stepped (caused_chase ms B) D (update_of ms B r)).state
 plan_state ms B D r plan p = ap (λ (s : State). s.attempt) p.program
 
 -- Its versions: with the writes of the step behind, or without any.
-pub shows_hidden : (r : Record) (plan : Plan) (ws : List Write) (b : Bool) (old new : Kept) → HasHidden plan.program b → b ≡ true → HasTrail r ws → Retracted r.program.attempt.number (map change_of ws) old new → ShowsStep r plan old new
+pub shows_hidden : (r : QueuedUpdate) (plan : Plan) (ws : List Write) (b : Bool) (old new : Kept) → HasHidden plan.program b → b ≡ true → HasTrail r ws → Retracted r.program.attempt.number (map change_of ws) old new → ShowsStep r plan old new
 shows_hidden r plan ws b old new hidden t trail_is taken ms B D s c n may p E before after stand was is same =
     taken E before after stand (was ∙ sym (trail_is ms B))
     (is ∙ hidden_trail ms B D (update_of ms B r) (ap (λ (P : Rattle.def_steps.specs.Attempts.Attempt). hides (option_map ending (outcome_in P.phase))) (sym (plan_state ms B D r plan p)) ∙ sym hidden ∙ t))
     same
 
-pub shows_more : (r : Record) (plan : Plan) (ws : List Write) (b : Bool) (old new : Kept) → HasHidden plan.program b → b ≡ false → HasWritten r plan ws → Published r.program.attempt.number (map change_of ws) old new → ShowsStep r plan old new
+pub shows_more : (r : QueuedUpdate) (plan : Plan) (ws : List Write) (b : Bool) (old new : Kept) → HasHidden plan.program b → b ≡ false → HasWritten r plan ws → Published r.program.attempt.number (map change_of ws) old new → ShowsStep r plan old new
 shows_more r plan ws b old new hidden t written put ms B D s c n may p E before after stand was is same =
     put E before after stand
     (is ∙ longer_trail ms B D (update_of ms B r) s c n may (ap (λ (P : Rattle.def_steps.specs.Attempts.Attempt). hides (option_map ending (outcome_in P.phase))) (sym (plan_state ms B D r plan p)) ∙ sym hidden ∙ t)
@@ -101,7 +101,7 @@ shows_more r plan ws b old new hidden t written put ms B D s c n may p E before 
     same
 
 -- What came or went by it: all that the attempt showed, where it hides its writes then.
-pub turned_hidden : (r : Record) (plan : Plan) (ws : List Write) (b : Bool) → HasHidden plan.program b → b ≡ true → HasTrail r ws → HasTurned r plan Went ws
+pub turned_hidden : (r : QueuedUpdate) (plan : Plan) (ws : List Write) (b : Bool) → HasHidden plan.program b → b ≡ true → HasTrail r ws → HasTurned r plan Went ws
 turned_hidden r plan ws b hidden t trail_is ms B D E s c n may p sorted =
     let after : trail (caused_chase ms B) (stepped (caused_chase ms B) D (update_of ms B r)) ≡ [] =
     hidden_trail ms B D (update_of ms B r) (ap (λ (P : Rattle.def_steps.specs.Attempts.Attempt). hides (option_map ending (outcome_in P.phase))) (sym (plan_state ms B D r plan p)) ∙ sym hidden ∙ t) in
@@ -109,7 +109,7 @@ turned_hidden r plan ws b hidden t trail_is ms B D E s c n may p sorted =
     (subst (λ vs. AgreeBut Went (map change_of ws ∷ []) (apply E (map change_of ws)) (apply E vs)) (sym after) (agree_more [] E E (map change_of ws) (agree_alone Went [] E sorted)))
 
 -- Else the writes of the step.
-pub turned_more : (r : Record) (plan : Plan) (ws : List Write) (b : Bool) → HasHidden plan.program b → b ≡ false → HasWritten r plan ws → HasTurned r plan Came ws
+pub turned_more : (r : QueuedUpdate) (plan : Plan) (ws : List Write) (b : Bool) → HasHidden plan.program b → b ≡ false → HasWritten r plan ws → HasTurned r plan Came ws
 turned_more r plan ws b hidden t written ms B D E s c n may p sorted =
     let before : List Fact = apply E (trail (caused_chase ms B) (update_of ms B r)) in
     let after : trail (caused_chase ms B) (stepped (caused_chase ms B) D (update_of ms B r)) ≡ trail (caused_chase ms B) (update_of ms B r) ++ map change_of ws =
@@ -122,7 +122,7 @@ turned_more r plan ws b hidden t written ms B D E s c n may p sorted =
 -- ---- the causes
 
 module _ (ms : List Rule) (B : ℕ) where
-  found_by : (causes : List (Cause (caused_chase ms B))) (n : ℕ) (rs : List Record) (found : List (Option CauseOfProgram)) (S : List (Option (Cause (caused_chase ms B))))
+  found_by : (causes : List (Cause (caused_chase ms B))) (n : ℕ) (rs : List QueuedUpdate) (found : List (Option CauseOfProgram)) (S : List (Option (Cause (caused_chase ms B))))
       → found_for ms B rs found ≡ S → causes ≡ conflicts_in S ++ dependences_in S → restarted (caused_chase ms B) (readers causes) n (updates_of ms B rs) ≡ restart (caused_chase ms B) n S (updates_of ms B rs) → IsFound ms B causes n (updates_of ms B rs) found
   found_by causes n rs found S e c r =
       let us : List (Update (caused_chase ms B)) = updates_of ms B rs in
@@ -136,7 +136,7 @@ module _ (ms : List Rule) (B : ℕ) where
             ∙ ap (λ (S' : List (Option (Cause (caused_chase ms B)))). restart (caused_chase ms B) n S' us) e ∙ sym r;
       }
 
-pub found_in_writes : (a : Above) (s : Settings) (old : Kept) (r : Record) (upper : List Record) (plan : Plan) (ws : List Write) (found : List (Option CauseOfProgram)) (b : Bool)
+pub found_in_writes : (a : Above) (s : Settings) (old : Kept) (r : QueuedUpdate) (upper : List QueuedUpdate) (plan : Plan) (ws : List Write) (found : List (Option CauseOfProgram)) (b : Bool)
     → a.deps ≡ s.deps → a.update ≡ r.program.attempt.number → HasSpent plan.program b → b ≡ false → HasTurned r plan a.sense ws → AreCausesOfWrites a (map change_of ws) upper found
     → WereFound a.rules s a.committed old a.whole r upper plan found
 found_in_writes a s old r upper plan ws found b d n spent f turned are B E lower c m few e ran may before after p =
@@ -161,7 +161,7 @@ found_in_writes a s old r upper plan ws found b d n spent f turned are B E lower
     (ap (λ cs. restarted (caused_chase a.rules B) (readers cs) (suc (suc (length lower))) us) mine ∙ law.restarts)
 
 -- The causes of a withdrawal.
-pub loss_found : (a : Above) (s : Settings) (r : Record) (upper : List Record) (ws : List Write) (found : List (Option CauseOfProgram)) → a.deps ≡ s.deps → a.update ≡ r.program.attempt.number → HasTrail r ws
+pub loss_found : (a : Above) (s : Settings) (r : QueuedUpdate) (upper : List QueuedUpdate) (ws : List Write) (found : List (Option CauseOfProgram)) → a.deps ≡ s.deps → a.update ≡ r.program.attempt.number → HasTrail r ws
     → AreCausesOfLoss a (map change_of ws) upper found → WereLost a.rules s a.committed a.whole r upper found
 loss_found a s r upper ws found d n trail_is are B E lower few e ran before =
     let us : List (Update (caused_chase a.rules B)) = updates_of a.rules B upper in
@@ -179,7 +179,7 @@ loss_found a s r upper ws found d n trail_is are B E lower few e ran before =
     law.restarts)
 
 -- A step by which the attempt ends spent has those.
-pub found_in_loss : (a : Above) (s : Settings) (new : Kept) (r : Record) (upper : List Record) (plan : Plan) (ws : List Write) (found : List (Option CauseOfProgram)) (b : Bool)
+pub found_in_loss : (a : Above) (s : Settings) (new : Kept) (r : QueuedUpdate) (upper : List QueuedUpdate) (plan : Plan) (ws : List Write) (found : List (Option CauseOfProgram)) (b : Bool)
     → a.deps ≡ s.deps → a.update ≡ r.program.attempt.number → HasSpent plan.program b → b ≡ true → HasTrail r ws → AreCausesOfLoss a (map change_of ws) upper found
     → WereFound a.rules s a.committed a.whole new r upper plan found
 found_in_loss a s new r upper plan ws found b d n spent f trail_is are B E lower c m few e ran may before after p =
@@ -195,7 +195,7 @@ found_in_loss a s new r upper plan ws found b d n spent f trail_is are B E lower
 -- ---- together
 
 -- What is left of the causes that were found, where update w stands above the lower ones now.
-pub left_by : (ms : List Rule) (B : ℕ) (causes : List (Cause (caused_chase ms B))) (E : List Fact) (lower : List (Update (caused_chase ms B))) (w : Update (caused_chase ms B)) (upper : List Record) (found : List (Option CauseOfProgram)) (mid new : Kept) (left : Aftermath)
+pub left_by : (ms : List Rule) (B : ℕ) (causes : List (Cause (caused_chase ms B))) (E : List Fact) (lower : List (Update (caused_chase ms B))) (w : Update (caused_chase ms B)) (upper : List QueuedUpdate) (found : List (Option CauseOfProgram)) (mid new : Kept) (left : Aftermath)
     → AreFrom (suc (suc (length lower))) upper → IsFound ms B causes (suc (suc (length lower))) (updates_of ms B upper) found → AreVersions ms B E (lower ++ w ∷ updates_of ms B upper) mid
     → Cleared upper found mid new → AreThere found left.fresh.items → left.causes.items ≡ in_order found → IsLeft ms B causes E lower w (suc (length lower)) (updates_of ms B upper) new left
 left_by ms B causes E lower w upper found mid new left from is versions cleared there told =
@@ -216,7 +216,7 @@ left_by ms B causes E lower w upper found mid new left from is versions cleared 
     more [] x = refl
     more (y ∷ xs) x = ap suc (more xs x)
 
-pub step_prepared : (ms : List Rule) (s : Settings) (c : ℕ) (old after new : Kept) (r : Record) (upper : List Record) (plan : Plan) (found : List (Option CauseOfProgram)) (ws : List Write) (p : Prepared)
+pub step_prepared : (ms : List Rule) (s : Settings) (c : ℕ) (old after new : Kept) (r : QueuedUpdate) (upper : List QueuedUpdate) (plan : Plan) (found : List (Option CauseOfProgram)) (ws : List Write) (p : Prepared)
     → AreFrom (suc r.program.attempt.number) upper → ShowsStep r plan old after → WereFound ms s c old after r upper plan found
     → Cleared upper found after new → AreThere found p.left.fresh.items → p.left.causes.items ≡ in_order found → HasWritten r plan ws → map change_of p.writes.items ≡ map change_of ws
     → IsPrepared ms s c old r upper plan new p
@@ -231,23 +231,23 @@ step_prepared ms s c old after new r upper plan found ws p from shows were clear
     (record { causes = left.told; restarts = left.restarts; versions = left.versions; writes = same ∙ written ms B (laid ms B E lower) isplan })
 
 -- The same where the update's number and the versions were handed over.
-pub shows_hidden_by : (r : Record) (plan : Plan) (ws : List Write) (b : Bool) (n : ℕ) (old copy new : Kept) → HasHidden plan.program b → b ≡ true → HasTrail r ws → n ≡ r.program.attempt.number → copy ≡ old
+pub shows_hidden_by : (r : QueuedUpdate) (plan : Plan) (ws : List Write) (b : Bool) (n : ℕ) (old copy new : Kept) → HasHidden plan.program b → b ≡ true → HasTrail r ws → n ≡ r.program.attempt.number → copy ≡ old
     → Retracted n (map change_of ws) copy new → ShowsStep r plan old new
 shows_hidden_by r plan ws b n old copy new hidden t trail_is e same taken =
     shows_hidden r plan ws b old new hidden t trail_is (subst (λ (v : Kept). Retracted r.program.attempt.number (map change_of ws) v new) same (subst (λ (m : ℕ). Retracted m (map change_of ws) copy new) e taken))
 
-pub shows_more_by : (r : Record) (plan : Plan) (ws : List Write) (b : Bool) (n : ℕ) (old copy new : Kept) → HasHidden plan.program b → b ≡ false → HasWritten r plan ws → n ≡ r.program.attempt.number → copy ≡ old
+pub shows_more_by : (r : QueuedUpdate) (plan : Plan) (ws : List Write) (b : Bool) (n : ℕ) (old copy new : Kept) → HasHidden plan.program b → b ≡ false → HasWritten r plan ws → n ≡ r.program.attempt.number → copy ≡ old
     → Published n (map change_of ws) copy new → ShowsStep r plan old new
 shows_more_by r plan ws b n old copy new hidden t written e same put =
     shows_more r plan ws b old new hidden t written (subst (λ (v : Kept). Published r.program.attempt.number (map change_of ws) v new) same (subst (λ (m : ℕ). Published m (map change_of ws) copy new) e put))
 
 -- ---- where none of the updates above has read anything
 
-cleared_none : (upper : List Record) (v : Kept) → Cleared upper [] v v
+cleared_none : (upper : List QueuedUpdate) (v : Kept) → Cleared upper [] v v
 cleared_none [] v = refl
 cleared_none (r ∷ rs) v = refl
 
-pub step_alone : (old after : Kept) (r : Record) (plan : Plan) (ws : List Write) (hidden spent : Bool) (p : Prepared) → HasHidden plan.program hidden → hidden ≡ false → HasSpent plan.program spent → spent ≡ false
+pub step_alone : (old after : Kept) (r : QueuedUpdate) (plan : Plan) (ws : List Write) (hidden spent : Bool) (p : Prepared) → HasHidden plan.program hidden → hidden ≡ false → HasSpent plan.program spent → spent ≡ false
     → HasWritten r plan ws → ShowsStep r plan old after → p.left.fresh.items ≡ [] → p.left.causes.items ≡ [] → map change_of p.writes.items ≡ map change_of ws → IsPreparedAlone old r plan after p
 step_alone old after r plan ws hidden spent p hides shown spends unspent written shows fresh causes same ms s c upper from unread =
     let a : Above = record { rules = ms; deps = s.deps; committed = c; update = r.program.attempt.number; sense = Came; whole = after } in

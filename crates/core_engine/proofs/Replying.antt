@@ -19,9 +19,9 @@ use Rattle.def_machine.specs.Updates.{Session, Settings, Update, committed}
 use Rattle.def_chase.specs.Updates.{Choice}
 use Rattle.core_queue.specs.Events.{KeepsPlace, HasAnswered}
 use Rattle.core_queue.specs.Queues.{update_of, updates_of, AreFrom}
-use Rattle.core_queue.specs.Records.{HasStanding}
-use Rattle.core_queue.specs.Walks.{HasCommitted}
-use Rattle.core_queue.specs.declared.records.Record.{Record}
+use Rattle.core_queue.specs.Updates.{HasStanding}
+use Rattle.core_queue.specs.Order.{HasCommitted}
+use Rattle.core_queue.specs.declared.updates.QueuedUpdate.{QueuedUpdate}
 use Rattle.def_steps.specs.Attempts.{Question}
 use Rattle.def_steps.specs.Chase.{caused_chase}
 use Rattle.def_steps.specs.Questions.{fits}
@@ -61,7 +61,7 @@ allowed_answer M s S us c k u spot may =
     ap (λ o. option_and_then (λ w. if may_answer M s us c k w then Some (answer_effect M s us c k w) else None) o) spot
     ∙ ap (λ b. if b then Some (answer_effect M s us c k u) else None) may
 
-answers_by : (s : Settings) (k : ℕ) (c : ChoiceOfProgram) (rs : List Record) (r r' : Record) (es es' : List Entry) (e : Entry) → k < length rs → get_or rs k r ≡ r → HasAnswered c r r' → KeepsPlace r r'
+answers_by : (s : Settings) (k : ℕ) (c : ChoiceOfProgram) (rs : List QueuedUpdate) (r r' : QueuedUpdate) (es es' : List Entry) (e : Entry) → k < length rs → get_or rs k r ≡ r → HasAnswered c r r' → KeepsPlace r r'
     → TellsAnswer s k (choice_of c) (set rs k r') e → es' ≡ es ++ e ∷ [] → AnswersTo s k (choice_of c) rs es (set rs k r') es'
 answers_by s k c rs r r' es es' e l spot made place told grew ms v B D requests later kept may =
     let us : List (Update (caused_chase ms B)) = updates_of ms B rs in
@@ -72,19 +72,19 @@ answers_by s k c rs r r' es es' e l spot made place told grew ms v B D requests 
     (allowed_answer (caused_chase ms B) s (session_over (ground_with ms s B D requests later)) us (choice_of c) k u at_us yes) refl
     (λ us'. ap (entry_kept ms B) (told ms B r' (set_there rs k r' l)) ∙ (λ i. Answered (suc k) (choice_of c) (standing (caused_chase ms B) s (committed (caused_chase ms B) (us' i)) (suc k) (made ms B i)))) grew
 
-pub answers_to : (s : Settings) (k : ℕ) (c : ChoiceOfProgram) (rs : List Record) (r r' : Record) (es es' : List Entry) (e : Entry) → k < length rs → r ≡ get_or rs k r → HasAnswered c (get_or rs k r) r' → KeepsPlace (get_or rs k r) r'
+pub answers_to : (s : Settings) (k : ℕ) (c : ChoiceOfProgram) (rs : List QueuedUpdate) (r r' : QueuedUpdate) (es es' : List Entry) (e : Entry) → k < length rs → r ≡ get_or rs k r → HasAnswered c (get_or rs k r) r' → KeepsPlace (get_or rs k r) r'
     → TellsAnswer s k (choice_of c) (set rs k r') e → es' ≡ es ++ e ∷ [] → AnswersTo s k (choice_of c) rs es (set rs k r') es'
 answers_to s k c rs r r' es es' e l spot made place told grew =
-    answers_by s k c rs r r' es es' e l (sym spot) (subst (λ (q : Record). HasAnswered c q r') (sym spot) made) (subst (λ (q : Record). KeepsPlace q r') (sym spot) place) told grew
+    answers_by s k c rs r r' es es' e l (sym spot) (subst (λ (q : QueuedUpdate). HasAnswered c q r') (sym spot) made) (subst (λ (q : QueuedUpdate). KeepsPlace q r') (sym spot) place) told grew
 
-pub answers_from : (s : Settings) (k : ℕ) (c : Choice) (rs mid rs' : List Record) (es between es' : List Entry) → AreSame rs mid → length mid ≡ length rs → between ≡ es → AnswersTo s k c mid between rs' es' → AnswersTo s k c rs es rs' es'
+pub answers_from : (s : Settings) (k : ℕ) (c : Choice) (rs mid rs' : List QueuedUpdate) (es between es' : List Entry) → AreSame rs mid → length mid ≡ length rs → between ≡ es → AnswersTo s k c mid between rs' es' → AnswersTo s k c rs es rs' es'
 answers_from s k c rs mid rs' es between es' same long e answers ms v B D requests later kept may =
     let us : updates_of ms B mid ≡ updates_of ms B rs = same.updates ms B in
     from_same (ground_with ms s B D requests later) (Answers (suc k) c) v v rs mid rs' es between es' same long e kept
     (λ kept'. answers ms v B D requests later kept' ((λ i. option_map (may_answer (caused_chase ms B) s (us i) c k) (slice_get (us i) k)) ∙ may))
 
 -- Its entry, with a copy of the choice.
-pub answer_told : (s : Settings) (k n c : ℕ) (choice : ChoiceOfProgram) (rs : List Record) (r : Record) (st : StandingOfProgram) → AreFrom 1 rs → k < length rs → r ≡ get_or rs k r → n ≡ r.program.attempt.number
+pub answer_told : (s : Settings) (k n c : ℕ) (choice : ChoiceOfProgram) (rs : List QueuedUpdate) (r : QueuedUpdate) (st : StandingOfProgram) → AreFrom 1 rs → k < length rs → r ≡ get_or rs k r → n ≡ r.program.attempt.number
     → HasCommitted rs c → HasStanding s c n r st → TellsAnswer s k (choice_of choice) rs (entries.Answered n choice st)
 answer_told s k n c choice rs r st from l e number counts stands ms B r' spot =
     let place : n ≡ suc k = number ∙ number_there rs k r from l e in
@@ -108,16 +108,16 @@ answered_if M s us c k (Some u) paused fits =
     let asked : question_of M s (committed M us) (suc k) u ≡ M.question u.state = ap (λ b. if b then M.question u.state else None) paused in
     ap (λ b. Some b) (both_true (is_paused (standing M s (committed M us) (suc k) u)) (fits_question M (M.question u.state) c) paused (ap (λ q. fits_question M q c) (sym asked) ∙ fits))
 
-module _ (g : Ground) (v : Kept) (rs : List Record) (es : List Entry) (s : State) (kept : IsKept g v rs (map entry_of es)) (same : record { over = g; history = map entry_of es } ≡ s) (n : ℕ) (paused : is_paused_in (standing_at s n) ≡ true) (i : ℕ) (e : suc i ≡ n) (qs : List Record) (slice : qs ≡ rs) where
+module _ (g : Ground) (v : Kept) (rs : List QueuedUpdate) (es : List Entry) (s : State) (kept : IsKept g v rs (map entry_of es)) (same : record { over = g; history = map entry_of es } ≡ s) (n : ℕ) (paused : is_paused_in (standing_at s n) ≡ true) (i : ℕ) (e : suc i ≡ n) (qs : List QueuedUpdate) (slice : qs ≡ rs) where
   pub paused_within : i < length qs
   paused_within =
       let x = stood (standing_at s n) paused in
-      subst (λ (xs : List Record). i < length xs) (sym slice) (placed_within g v rs (map entry_of es) s kept same n x.0 x.1 i (sym e))
+      subst (λ (xs : List QueuedUpdate). i < length xs) (sym slice) (placed_within g v rs (map entry_of es) s kept same n x.0 x.1 i (sym e))
 
   pub paused_numbers : AreFrom 1 qs
-  paused_numbers = subst (λ (xs : List Record). AreFrom 1 xs) (sym slice) kept.numbers
+  paused_numbers = subst (λ (xs : List QueuedUpdate). AreFrom 1 xs) (sym slice) kept.numbers
 
-  pub core_answers : (qs' : List Record) (es' : List Entry) (c : Choice) → fits_at s n c ≡ true → AnswersTo g.settings i c qs es qs' es' → Follows g (Answers n c) (map entry_of es) v qs' (map entry_of es')
+  pub core_answers : (qs' : List QueuedUpdate) (es' : List Entry) (c : Choice) → fits_at s n c ≡ true → AnswersTo g.settings i c qs es qs' es' → Follows g (Answers n c) (map entry_of es) v qs' (map entry_of es')
   core_answers qs' es' c fits answers =
       let us : List (Update (machine g)) = updates_of g.rules g.budget rs in
       let paused_here : is_paused_in (option_map (standing (machine g) g.settings (committed (machine g) us) (suc i)) (slice_get us i)) ≡ true =
@@ -130,5 +130,5 @@ module _ (g : Ground) (v : Kept) (rs : List Record) (es : List Entry) (s : State
       ∙ ap (λ (t : State). fits_at t n c) same ∙ fits in
       let may : option_map (may_answer (machine g) g.settings us c i) (slice_get us i) ≡ Some true = answered_if (machine g) g.settings us c i (slice_get us i) paused_here fits_here in
       let made : Follows g (Answers (suc i) c) (map entry_of es) v qs' (map entry_of es') =
-      subst (λ (xs : List Record). AnswersTo g.settings i c xs es qs' es') slice answers g.rules v g.budget g.base g.requests g.later kept may in
+      subst (λ (xs : List QueuedUpdate). AnswersTo g.settings i c xs es qs' es') slice answers g.rules v g.budget g.base g.requests g.later kept may in
       subst (λ (m : ℕ). Follows g (Answers m c) (map entry_of es) v qs' (map entry_of es')) e made

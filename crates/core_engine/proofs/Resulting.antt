@@ -20,7 +20,7 @@ use Rattle.lang_session.specs.Base.{base_violation}
 use Rattle.chase_update.specs.Results.{result_in}
 use Rattle.chase_update.specs.declared.results.SessionResult.{SessionResult}
 use Rattle.run_serial.specs.Meanings.{IsSerialRun}
-use Rattle.core_queue.specs.declared.records.Record.{Record}
+use Rattle.core_queue.specs.declared.updates.QueuedUpdate.{QueuedUpdate}
 use Rattle.set_versions.specs.Standing.{Kept}
 use Rattle.core_result.specs.Told.{Tells, AreVersionsOf}
 use Rattle.core_laws.specs.Turns.{after_turns}
@@ -32,23 +32,23 @@ use Rattle.core_engine.specs.Results.{IsResultOf}
 use Rattle.core_engine.specs.States.{State, admissions_from, opened, is_quiet_at}
 
 -- The versions of a core are those of its queue.
-versions_of : (g : Ground) (v : Kept) (rs : List Record) (H : List PlainEntry) → IsKept g v rs H → AreVersionsOf g.rules g.budget g.base rs v
+versions_of : (g : Ground) (v : Kept) (rs : List QueuedUpdate) (H : List PlainEntry) → IsKept g v rs H → AreVersionsOf g.rules g.budget g.base rs v
 versions_of g v rs H k = record { sorted = k.sorted; stand = k.versions }
 
 -- What is told of the queue is told of the updates of the history.
-tells_of : (g : Ground) (v : Kept) (rs : List Record) (H : List PlainEntry) (s : State) (r : SessionResult) → IsKept g v rs H → record { over = g; history = H } ≡ s → Tells g.rules g.budget g.base rs r → IsResultOf s r
+tells_of : (g : Ground) (v : Kept) (rs : List QueuedUpdate) (H : List PlainEntry) (s : State) (r : SessionResult) → IsKept g v rs H → record { over = g; history = H } ≡ s → Tells g.rules g.budget g.base rs r → IsResultOf s r
 tells_of g v rs H s r k same t =
     subst (λ (x : State). IsResultOf x r) same
     (t (session_over g) refl
     ∙ ap (λ (us : List (Update (machine g))). result_in (tells g.rules g.budget (session_over g) us (first_stop (machine g) 1 us))) (sym k.left.leaves))
 
 -- So it is of what lies in the core.
-pub result_told : (g : Ground) (v : Kept) (rs : List Record) (H : List PlainEntry) (s : State) (qs : List Record) (r : SessionResult) → IsKept g v rs H → record { over = g; history = H } ≡ s → qs ≡ rs
+pub result_told : (g : Ground) (v : Kept) (rs : List QueuedUpdate) (H : List PlainEntry) (s : State) (qs : List QueuedUpdate) (r : SessionResult) → IsKept g v rs H → record { over = g; history = H } ≡ s → qs ≡ rs
     → ((ms : List Rule) (B : ℕ) (D : List Fact) → AreVersionsOf ms B D qs v → Tells ms B D qs r) → IsResultOf s r
 result_told g v rs H s qs r k same e t =
     tells_of g v rs H s r k same
-    (subst (λ (xs : List Record). Tells g.rules g.budget g.base xs r) e
-    (t g.rules g.budget g.base (subst (λ (xs : List Record). AreVersionsOf g.rules g.budget g.base xs v) (sym e) (versions_of g v rs H k))))
+    (subst (λ (xs : List QueuedUpdate). Tells g.rules g.budget g.base xs r) e
+    (t g.rules g.budget g.base (subst (λ (xs : List QueuedUpdate). AreVersionsOf g.rules g.budget g.base xs v) (sym e) (versions_of g v rs H k))))
 
 -- ---- a core that was opened
 

@@ -10,14 +10,14 @@ use Rattle.def_machine.proofs.Events.{after_runs}
 use Rattle.def_machine.proofs.Places.{runs_above}
 use Rattle.def_chase.specs.Repository.{apply}
 use Rattle.core_queue.specs.Queues.{updates_of}
-use Rattle.core_queue.specs.declared.records.Record.{Record}
+use Rattle.core_queue.specs.declared.updates.QueuedUpdate.{QueuedUpdate}
 use Rattle.def_steps.proofs.ChaseLaws.{chase_laws}
 use Rattle.def_steps.specs.Chase.{caused}
 use Rattle.set_versions.specs.Standing.{Kept}
 use Rattle.core_engine.specs.Kept.{IsKept}
 use Rattle.core_engine.specs.Steps.{RanAbove}
 
-module _ (g : Ground) (v : Kept) (rs : List Record) (H : List PlainEntry) (kept : IsKept g v rs H) where
+module _ (g : Ground) (v : Kept) (rs : List QueuedUpdate) (H : List PlainEntry) (kept : IsKept g v rs H) where
   -- Each update of the queue is its run over what lies below it.
   all_run : AreRuns (machine g) g.base 1 (updates_of g.rules g.budget rs)
   all_run =

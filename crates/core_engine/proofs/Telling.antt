@@ -16,9 +16,9 @@ use Rattle.def_machine.specs.Updates.{Settings, Update, committed}
 use Rattle.chase_update.specs.Courses.{State as ProgramState}
 use Rattle.core_queue.specs.Programs.{IsBetween}
 use Rattle.core_queue.specs.Queues.{update_of, updates_of, AreFrom}
-use Rattle.core_queue.specs.Records.{HasStanding, HasQuestion}
-use Rattle.core_queue.specs.Walks.{HasCommitted, IsLowestReady, IsLowestDeliverable, IsLowestBesides, IsNextDeliverable, IsQuiet, only}
-use Rattle.core_queue.specs.declared.records.Record.{Record}
+use Rattle.core_queue.specs.Updates.{HasStanding, HasQuestion}
+use Rattle.core_queue.specs.Order.{HasCommitted, IsLowestReady, IsLowestDeliverable, IsLowestBesides, IsNextDeliverable, IsQuiet, only}
+use Rattle.core_queue.specs.declared.updates.QueuedUpdate.{QueuedUpdate}
 use Rattle.def_steps.specs.Chase.{caused_chase}
 use Rattle.core_engine.specs.States.{State, updates_at, numbered_at, committed_at, standing_at, question_at, has_waiting, lowest_ready_at, lowest_ready_besides_of, lowest_ready_besides_at, lowest_deliverable_at, next_deliverable_at, is_quiet_at}
 use Rattle.core_engine.specs.Told.{HasStandingAt, HasQuestionAt, HasWaitingAt}
@@ -26,39 +26,39 @@ use Rattle.core_engine.proofs.Following.{there, stands_at, mapped_long}
 
 -- ---- records at places
 
-pub there_is : (rs : List Record) (k : ℕ) (r : Record) → k < length rs → r ≡ get_or rs k r → slice_get rs k ≡ Some r
+pub there_is : (rs : List QueuedUpdate) (k : ℕ) (r : QueuedUpdate) → k < length rs → r ≡ get_or rs k r → slice_get rs k ≡ Some r
 there_is rs k r l e = there rs k r l (sym e)
 
-set_back : (rs : List Record) (k : ℕ) (r r' : Record) → slice_get rs k ≡ Some r → r' ≡ r → set rs k r' ≡ rs
+set_back : (rs : List QueuedUpdate) (k : ℕ) (r r' : QueuedUpdate) → slice_get rs k ≡ Some r → r' ≡ r → set rs k r' ≡ rs
 set_back [] k r r' spot e = refl
 set_back (q ∷ rs) zero r r' spot e = ap (λ p. p ∷ rs) (e ∙ sym (same_Some q r spot))
 set_back (q ∷ rs) (suc k) r r' spot e = ap (λ ps. q ∷ ps) (set_back rs k r r' spot e)
 
 -- A record is put back with the same attempt.
-pub put_back : (rs : List Record) (k : ℕ) (r : Record) (p : ProgramState) → slice_get rs k ≡ Some r → p ≡ r.program
+pub put_back : (rs : List QueuedUpdate) (k : ℕ) (r : QueuedUpdate) (p : ProgramState) → slice_get rs k ≡ Some r → p ≡ r.program
     → set rs k (record { program = p; log = r.log; withdrawn = r.withdrawn; answers = r.answers; inbox = r.inbox; footprint = r.footprint }) ≡ rs
 put_back rs k r p spot e =
     set_back rs k r (record { program = p; log = r.log; withdrawn = r.withdrawn; answers = r.answers; inbox = r.inbox; footprint = r.footprint }) spot
     (λ i. record { program = e i; log = r.log; withdrawn = r.withdrawn; answers = r.answers; inbox = r.inbox; footprint = r.footprint })
 
 -- The records are the same where the attempt of one was lent, and is as it was.
-pub lent_back : (rs : List Record) (k : ℕ) (r : Record) (p : ProgramState) → k < length rs → r ≡ get_or rs k r → p ≡ (get_or rs k r).program
+pub lent_back : (rs : List QueuedUpdate) (k : ℕ) (r : QueuedUpdate) (p : ProgramState) → k < length rs → r ≡ get_or rs k r → p ≡ (get_or rs k r).program
     → set rs k (record { program = p; log = (get_or rs k r).log; withdrawn = (get_or rs k r).withdrawn; answers = (get_or rs k r).answers; inbox = (get_or rs k r).inbox; footprint = (get_or rs k r).footprint }) ≡ rs
 lent_back rs k r p l e stays = put_back rs k (get_or rs k r) p (there_is rs k r l e ∙ ap (λ q. Some q) e) stays
 
 -- What then stands at the place stood there.
-pub lent_there : (rs : List Record) (k : ℕ) (r : Record) (p : ProgramState) (q : Record) → k < length rs → r ≡ get_or rs k r → p ≡ (get_or rs k r).program
+pub lent_there : (rs : List QueuedUpdate) (k : ℕ) (r : QueuedUpdate) (p : ProgramState) (q : QueuedUpdate) → k < length rs → r ≡ get_or rs k r → p ≡ (get_or rs k r).program
     → q ≡ get_or (set rs k (record { program = p; log = (get_or rs k r).log; withdrawn = (get_or rs k r).withdrawn; answers = (get_or rs k r).answers; inbox = (get_or rs k r).inbox; footprint = (get_or rs k r).footprint })) k q
     → slice_get rs k ≡ Some (get_or (set rs k (record { program = p; log = (get_or rs k r).log; withdrawn = (get_or rs k r).withdrawn; answers = (get_or rs k r).answers; inbox = (get_or rs k r).inbox; footprint = (get_or rs k r).footprint })) k q)
 lent_there rs k r p q l e stays f = there_is rs k q l (f ∙ ap (λ ps. get_or ps k q) (lent_back rs k r p l e stays)) ∙ ap (λ o. Some o) f
 
-pub between_there : (rs : List Record) (k : ℕ) (r : Record) → AreFrom 1 rs → k < length rs → r ≡ get_or rs k r → IsBetween r.program
+pub between_there : (rs : List QueuedUpdate) (k : ℕ) (r : QueuedUpdate) → AreFrom 1 rs → k < length rs → r ≡ get_or rs k r → IsBetween r.program
 between_there rs k r a l e = (stands_at rs 1 k r a (there_is rs k r l e)).between
 
-pub number_there : (rs : List Record) (k : ℕ) (r : Record) → AreFrom 1 rs → k < length rs → r ≡ get_or rs k r → r.program.attempt.number ≡ suc k
+pub number_there : (rs : List QueuedUpdate) (k : ℕ) (r : QueuedUpdate) → AreFrom 1 rs → k < length rs → r ≡ get_or rs k r → r.program.attempt.number ≡ suc k
 number_there rs k r a l e = let same : 1 + k ≡ suc k = omega arith in (stands_at rs 1 k r a (there_is rs k r l e)).number ∙ same
 
-pub between_at : (rs : List Record) (n : ℕ) (r : Record) → AreFrom 1 rs → numbered_at rs n ≡ Some r → IsBetween r.program
+pub between_at : (rs : List QueuedUpdate) (n : ℕ) (r : QueuedUpdate) → AreFrom 1 rs → numbered_at rs n ≡ Some r → IsBetween r.program
 between_at rs zero r a e = absurd (none-some r e)
 between_at rs (suc k) r a e = (stands_at rs 1 k r a e).between
 
@@ -68,21 +68,21 @@ numbered_map f xs (suc k) = slice_get-map f xs k
 
 -- ---- one update
 
-pub standing_is : (s : Settings) (rs : List Record) (n c : ℕ) (r : Record) (st : StandingOfProgram) → numbered_at rs n ≡ Some r → HasCommitted rs c → HasStanding s c n r st → HasStandingAt s rs n (Some (standing_of st))
+pub standing_is : (s : Settings) (rs : List QueuedUpdate) (n c : ℕ) (r : QueuedUpdate) (st : StandingOfProgram) → numbered_at rs n ≡ Some r → HasCommitted rs c → HasStanding s c n r st → HasStandingAt s rs n (Some (standing_of st))
 standing_is s rs n c r st e counts stands ms B =
     ap (λ (x : Standing). Some x) (stands ms B ∙ ap (λ d. standing (caused_chase ms B) s d n (update_of ms B r)) (counts ms B))
     ∙ sym (ap (option_map (standing (caused_chase ms B) s (committed (caused_chase ms B) (updates_of ms B rs)) n)) (numbered_map (update_of ms B) rs n ∙ ap (option_map (update_of ms B)) e))
 
-pub no_standing : (s : Settings) (rs : List Record) (n : ℕ) → numbered_at rs n ≡ None → HasStandingAt s rs n None
+pub no_standing : (s : Settings) (rs : List QueuedUpdate) (n : ℕ) → numbered_at rs n ≡ None → HasStandingAt s rs n None
 no_standing s rs n e ms B =
     sym (ap (option_map (standing (caused_chase ms B) s (committed (caused_chase ms B) (updates_of ms B rs)) n)) (numbered_map (update_of ms B) rs n ∙ ap (option_map (update_of ms B)) e))
 
-pub question_is : (s : Settings) (rs : List Record) (n c : ℕ) (r : Record) (q : Option Inquiry) → numbered_at rs n ≡ Some r → HasCommitted rs c → HasQuestion s c n r q → HasQuestionAt s rs n q
+pub question_is : (s : Settings) (rs : List QueuedUpdate) (n c : ℕ) (r : QueuedUpdate) (q : Option Inquiry) → numbered_at rs n ≡ Some r → HasCommitted rs c → HasQuestion s c n r q → HasQuestionAt s rs n q
 question_is s rs n c r q e counts asks ms B =
     asks ms B ∙ ap (λ d. option_map inquiry_in (question_of (caused_chase ms B) s d n (update_of ms B r))) (counts ms B)
     ∙ sym (ap (λ o. option_map inquiry_in (option_and_then (question_of (caused_chase ms B) s (committed (caused_chase ms B) (updates_of ms B rs)) n) o)) (numbered_map (update_of ms B) rs n ∙ ap (option_map (update_of ms B)) e))
 
-pub no_question : (s : Settings) (rs : List Record) (n : ℕ) → numbered_at rs n ≡ None → HasQuestionAt s rs n None
+pub no_question : (s : Settings) (rs : List QueuedUpdate) (n : ℕ) → numbered_at rs n ≡ None → HasQuestionAt s rs n None
 no_question s rs n e ms B =
     sym (ap (λ o. option_map inquiry_in (option_and_then (question_of (caused_chase ms B) s (committed (caused_chase ms B) (updates_of ms B rs)) n) o)) (numbered_map (update_of ms B) rs n ∙ ap (option_map (update_of ms B)) e))
 
@@ -90,18 +90,18 @@ nil_map : {A B : Type 0} (f : A → B) (xs : List A) → is_nil (map f xs) ≡ i
 nil_map f [] = refl
 nil_map f (x ∷ xs) = refl
 
-pub waiting_is : (rs : List Record) (n : ℕ) (r : Record) (b : Bool) → numbered_at rs n ≡ Some r → b ≡ not (is_nil r.inbox.items) → HasWaitingAt rs n b
+pub waiting_is : (rs : List QueuedUpdate) (n : ℕ) (r : QueuedUpdate) (b : Bool) → numbered_at rs n ≡ Some r → b ≡ not (is_nil r.inbox.items) → HasWaitingAt rs n b
 waiting_is rs n r b e is ms B =
     is ∙ sym (ap not (nil_map choice_of r.inbox.items))
     ∙ sym (ap (λ o. unwrap_or (option_map (λ (u : Update (caused_chase ms B)). not (is_nil u.inbox)) o) false) (numbered_map (update_of ms B) rs n ∙ ap (option_map (update_of ms B)) e))
 
-pub none_waits : (rs : List Record) (n : ℕ) → numbered_at rs n ≡ None → HasWaitingAt rs n false
+pub none_waits : (rs : List QueuedUpdate) (n : ℕ) → numbered_at rs n ≡ None → HasWaitingAt rs n false
 none_waits rs n e ms B =
     sym (ap (λ o. unwrap_or (option_map (λ (u : Update (caused_chase ms B)). not (is_nil u.inbox)) o) false) (numbered_map (update_of ms B) rs n ∙ ap (option_map (update_of ms B)) e))
 
 -- ---- a core
 
-module _ (g : Ground) (H : List PlainEntry) (rs : List Record) (s : State) (left : Leave g H (updates_of g.rules g.budget rs)) (same : record { over = g; history = H } ≡ s) where
+module _ (g : Ground) (H : List PlainEntry) (rs : List QueuedUpdate) (s : State) (left : Leave g H (updates_of g.rules g.budget rs)) (same : record { over = g; history = H } ≡ s) where
   pub count_told : length rs ≡ length (updates_at s)
   count_told = sym (mapped_long (update_of g.rules g.budget) rs) ∙ sym (ap (λ us. length us) left.leaves) ∙ ap (λ t. length (updates_at t)) same
 

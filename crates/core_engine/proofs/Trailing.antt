@@ -10,7 +10,7 @@ use Rattle.def_chase.specs.Repository.{Change}
 use Rattle.core_entries.specs.declared.causes.Cause.{Cause as CauseOfProgram}
 use Rattle.def_steps.specs.Chase.{caused_chase}
 use Rattle.core_queue.specs.Queues.{update_of, updates_of, AreFrom}
-use Rattle.core_queue.specs.declared.records.Record.{Record}
+use Rattle.core_queue.specs.declared.updates.QueuedUpdate.{QueuedUpdate}
 use Rattle.set_versions.specs.Standing.{Kept}
 use Rattle.set_versions.specs.Trails.{SameBut, numbered}
 use Rattle.core_cascade.specs.Held.{AreVersions}
@@ -59,7 +59,7 @@ module _ (ms : List Rule) (B : ℕ) where
   abbrev restarted_if : Bool → ℕ → Update (caused_chase ms B) → Update (caused_chase ms B)
   restarted_if b n u = if b then anew (caused_chase ms B) n u else u
 
-  cleared_one : (b : Bool) (D : List Fact) (lower : List (Update (caused_chase ms B))) (r : Record) (upper : List (Update (caused_chase ms B))) (old new : Kept) → r.program.attempt.number ≡ suc (length lower)
+  cleared_one : (b : Bool) (D : List Fact) (lower : List (Update (caused_chase ms B))) (r : QueuedUpdate) (upper : List (Update (caused_chase ms B))) (old new : Kept) → r.program.attempt.number ≡ suc (length lower)
       → ClearedIf b r old new → AreVersions ms B D (lower ++ update_of ms B r ∷ upper) old → AreVersions ms B D (lower ++ restarted_if b (suc (length lower)) (update_of ms B r) ∷ upper) new
   cleared_one true D lower r upper old new e c h =
       versions_with r.program.attempt.number D lower (update_of ms B r) (anew (caused_chase ms B) (suc (length lower)) (update_of ms B r)) upper old new e
@@ -75,7 +75,7 @@ module _ (ms : List Rule) (B : ℕ) where
   one_by_one (y ∷ lower) x us = ap (λ ws. y ∷ ws) (one_by_one lower x us)
 
   -- Versions whose restarted updates lost their trails are those after the restarts.
-  pub versions_cleared : (n : ℕ) (D : List Fact) (lower : List (Update (caused_chase ms B))) (rs : List Record) (xs : List (Option CauseOfProgram)) (ys : List (Option (Cause (caused_chase ms B)))) (old new : Kept)
+  pub versions_cleared : (n : ℕ) (D : List Fact) (lower : List (Update (caused_chase ms B))) (rs : List QueuedUpdate) (xs : List (Option CauseOfProgram)) (ys : List (Option (Cause (caused_chase ms B)))) (old new : Kept)
       → n ≡ suc (length lower) → AreFrom n rs → map is_some ys ≡ map is_some xs → Cleared rs xs old new
       → AreVersions ms B D (lower ++ updates_of ms B rs) old → AreVersions ms B D (lower ++ restart (caused_chase ms B) n ys (updates_of ms B rs)) new
   versions_cleared n D lower [] xs ys old new e a s c h = subst (λ (v : Kept). AreVersions ms B D (lower ++ []) v) c h

@@ -15,8 +15,8 @@ use Rattle.core_queue.proofs.Unread.{all_may_read}
 use Rattle.core_queue.proofs.Walking.{none_committed}
 use Rattle.core_queue.specs.Queues.{update_of, updates_of}
 use Rattle.core_queue.specs.Renewals.{HaveRestarted}
-use Rattle.core_queue.specs.Walks.{AreUnread, CommitsAtLeast, ReadsAtMost, UnreadyUpTo}
-use Rattle.core_queue.specs.declared.records.Record.{Record}
+use Rattle.core_queue.specs.Order.{AreUnread, CommitsAtLeast, ReadsAtMost, UnreadyUpTo}
+use Rattle.core_queue.specs.declared.updates.QueuedUpdate.{QueuedUpdate}
 use Rattle.def_steps.specs.Chase.{caused_chase}
 use Rattle.set_versions.specs.Standing.{Kept}
 use Rattle.core_engine.specs.Follows.{AreSame, KeepsUnread}
@@ -51,7 +51,7 @@ past (x ∷ xs) k zero y l = absurd (omega (arith, l))
 past (x ∷ xs) zero (suc n) y l = refl
 past (x ∷ xs) (suc k) (suc n) y l = past xs k n y (omega (arith, l))
 
-pub unread_kept : (rs rs' : List Record) (k : ℕ) (r' : Record) (fs : List (Option ProgramState)) → HaveRestarted (k + 1) fs (set rs k r') rs' → KeepsUnread k rs rs'
+pub unread_kept : (rs rs' : List QueuedUpdate) (k : ℕ) (r' : QueuedUpdate) (fs : List (Option ProgramState)) → HaveRestarted (k + 1) fs (set rs k r') rs' → KeepsUnread k rs rs'
 unread_kept rs rs' k r' fs restarts n l h ms B =
     let M = caused_chase ms B in
     let us : List (Update (caused_chase ms B)) = updates_of ms B (set rs k r') in
@@ -64,14 +64,14 @@ restart_none M n [] = refl
 restart_none M n (u ∷ us) = refl
 
 -- Where no update restarts all are as they were.
-pub none_restarted : (k : ℕ) (rs : List Record) → HaveRestarted k [] rs rs
+pub none_restarted : (k : ℕ) (rs : List QueuedUpdate) → HaveRestarted k [] rs rs
 none_restarted k rs ms B xs none = by xs none
   where
     by : (xs : List (Option (Cause (caused_chase ms B)))) → map is_some xs ≡ [] → updates_of ms B rs ≡ take k (updates_of ms B rs) ++ restart (caused_chase ms B) (suc k) xs (drop k (updates_of ms B rs))
     by [] h = sym (ap (λ (us : List (Update (caused_chase ms B))). take k (updates_of ms B rs) ++ us) (restart_none (caused_chase ms B) (suc k) (drop k (updates_of ms B rs))) ∙ take-append-drop k (updates_of ms B rs))
     by (x ∷ xs) h = absurd (cc h)
 
-pub same_unread : (rs rs' : List Record) (n : ℕ) → AreSame rs rs' → ReadsAtMost rs n → ReadsAtMost rs' n
+pub same_unread : (rs rs' : List QueuedUpdate) (n : ℕ) → AreSame rs rs' → ReadsAtMost rs n → ReadsAtMost rs' n
 same_unread rs rs' n same h ms B = subst (λ (us : List (Update (caused_chase ms B))). AreUnread (caused_chase ms B) (drop n us)) (sym (same.updates ms B)) (h ms B)
 
 fewer_unread : (M : Machine) (n m : ℕ) (us : List (Update M)) → n ≤ m → AreUnread M (drop n us) → AreUnread M (drop m us)
@@ -82,31 +82,31 @@ fewer_unread M zero (suc m) (u ∷ us) l h = fewer_unread M zero m us (omega ari
 fewer_unread M (suc n) zero (u ∷ us) l h = absurd (omega (arith, l))
 fewer_unread M (suc n) (suc m) (u ∷ us) l h = fewer_unread M n m us (omega (arith, l)) h
 
-pub more_read : (rs : List Record) (n m : ℕ) → n ≤ m → ReadsAtMost rs n → ReadsAtMost rs m
+pub more_read : (rs : List QueuedUpdate) (n m : ℕ) → n ≤ m → ReadsAtMost rs n → ReadsAtMost rs m
 more_read rs n m l h ms B = fewer_unread (caused_chase ms B) n m (updates_of ms B rs) l (h ms B)
 
 -- Of those above a place the first may have, so many.
-pub readers_are : (rs : List Record) (k n m : ℕ) → n ≤ suc k + m → ReadsAtMost rs n → ReadsAtMost (drop (suc k) rs) m
+pub readers_are : (rs : List QueuedUpdate) (k n m : ℕ) → n ≤ suc k + m → ReadsAtMost rs n → ReadsAtMost (drop (suc k) rs) m
 readers_are rs k n m l h ms B =
     subst (λ (us : List (Update (caused_chase ms B))). AreUnread (caused_chase ms B) us)
     (sym (drop-drop m (suc k) (updates_of ms B rs)) ∙ ap (drop m) (drop-map (update_of ms B) (suc k) rs))
     (more_read rs n (suc k + m) l h ms B)
 
-pub readers_within : (rs : List Record) (k n m : ℕ) → n ≤ length rs → m ≡ n - (k + 1) → m ≤ length (drop (suc k) rs)
+pub readers_within : (rs : List QueuedUpdate) (k n m : ℕ) → n ≤ length rs → m ≡ n - (k + 1) → m ≤ length (drop (suc k) rs)
 readers_within rs k n m l e = let long = length-drop (suc k) rs in omega (arith, l, e, long)
 
 -- Those that were made before the last of a list.
-pub most_ok : (qs ys : List Record) (n c : ℕ) → length qs ≡ n → ReadsAtMost qs c → ReadsAtMost (take n (qs ++ ys)) c
-most_ok qs ys n c l h = subst (λ (xs : List Record). ReadsAtMost xs c) (sym (front qs ys n l)) h
+pub most_ok : (qs ys : List QueuedUpdate) (n c : ℕ) → length qs ≡ n → ReadsAtMost qs c → ReadsAtMost (take n (qs ++ ys)) c
+most_ok qs ys n c l h = subst (λ (xs : List QueuedUpdate). ReadsAtMost xs c) (sym (front qs ys n l)) h
 
 -- Where nothing is noted of what is committed, what has read something, and what is unready, and there are marks of no update.
-pub with_nothing_noted : (g : Ground) (v : Kept) (rs : List Record) (H : List PlainEntry) (k : Known) → k.update ≡ 0 → IsKept g v rs H
+pub with_nothing_noted : (g : Ground) (v : Kept) (rs : List QueuedUpdate) (H : List PlainEntry) (k : Known) → k.update ≡ 0 → IsKept g v rs H
     → IsKept g v rs H × CommitsAtLeast rs 0 × ReadsAtMost rs (2 ^ 32 - 1) × UnreadyUpTo rs 0 × IsKnown g.rules v rs k
 with_nothing_noted g v rs H k e kept = (kept, none_committed rs, all_may_read rs (2 ^ 32 - 1) (let l = kept.few in omega (arith, l)), none_unready rs, none_known g.rules v rs k e)
 
 -- What is true of the updates is true of a list of the same ones.
-pub as_before : (g : Ground) (v : Kept) (rs rs' : List Record) (H : List PlainEntry) (least most unready : ℕ) (k : Known) → rs' ≡ rs
+pub as_before : (g : Ground) (v : Kept) (rs rs' : List QueuedUpdate) (H : List PlainEntry) (least most unready : ℕ) (k : Known) → rs' ≡ rs
     → IsKept g v rs H × CommitsAtLeast rs least × ReadsAtMost rs most × UnreadyUpTo rs unready × IsKnown g.rules v rs k
     → IsKept g v rs' H × CommitsAtLeast rs' least × ReadsAtMost rs' most × UnreadyUpTo rs' unready × IsKnown g.rules v rs' k
 as_before g v rs rs' H least most unready k e h =
-    subst (λ (xs : List Record). IsKept g v xs H × CommitsAtLeast xs least × ReadsAtMost xs most × UnreadyUpTo xs unready × IsKnown g.rules v xs k) (sym e) h
+    subst (λ (xs : List QueuedUpdate). IsKept g v xs H × CommitsAtLeast xs least × ReadsAtMost xs most × UnreadyUpTo xs unready × IsKnown g.rules v xs k) (sym e) h

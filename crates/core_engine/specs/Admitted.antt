@@ -6,7 +6,7 @@ use Rattle.def_machine.specs.Effects.{admitted}
 use Rattle.def_machine.specs.Updates.{Submission, Update}
 use Rattle.def_chase.specs.Mappings.{Rule}
 use Rattle.core_queue.specs.Queues.{updates_of}
-use Rattle.core_queue.specs.declared.records.Record.{Record}
+use Rattle.core_queue.specs.declared.updates.QueuedUpdate.{QueuedUpdate}
 use Rattle.lang_session.specs.Meanings.{request_of, update_of as session_update_of}
 use Rattle.lang_session.specs.declared.sessions.SessionUpdate.{SessionUpdate}
 use Rattle.def_steps.specs.Chase.{caused_chase}
@@ -21,5 +21,5 @@ abbrev pub handed_in : (ms : List Rule) (B : ℕ) → List SessionUpdate → Lis
 handed_in ms B us = submissions ms B (map request_of (map session_update_of us))
 
 -- The records are those of the session's updates, just admitted.
-abbrev pub AreAdmitted : List SessionUpdate → List Record → Type 0
+abbrev pub AreAdmitted : List SessionUpdate → List QueuedUpdate → Type 0
 AreAdmitted us rs = (ms : List Rule) (B : ℕ) → updates_of ms B rs ≡ admitted_from (caused_chase ms B) 1 (handed_in ms B us)

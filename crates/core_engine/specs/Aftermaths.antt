@@ -8,7 +8,7 @@ use Rattle.def_chase.specs.Repository.{Change}
 use Rattle.def_steps.specs.Chase.{caused_chase}
 use Rattle.core_queue.specs.Queues.{update_of}
 use Rattle.core_queue.specs.Programs.{IsBetween}
-use Rattle.core_queue.specs.declared.records.Record.{Record}
+use Rattle.core_queue.specs.declared.updates.QueuedUpdate.{QueuedUpdate}
 use Rattle.set_versions.specs.Standing.{Kept, Retracted}
 
 -- ---- causes
@@ -33,21 +33,21 @@ in_order xs = flat_map conflict_in xs ++ flat_map dependence_in xs
 -- ---- versions
 
 -- The writes that others see of the update.
-abbrev pub trail_of : Record → List Change
+abbrev pub trail_of : QueuedUpdate → List Change
 trail_of r = trail (caused_chase [] 0) (update_of [] 0 r)
 
 -- Each stands between two steps.
-abbrev pub AllBetween : List Record → Type 0
+abbrev pub AllBetween : List QueuedUpdate → Type 0
 AllBetween [] = Unit {0}
 AllBetween (r ∷ rs) = IsBetween r.program × AllBetween rs
 
 -- The trail of the update is taken back, where it has a cause.
-abbrev pub ClearedIf : Bool → Record → Kept → Kept → Type 0
+abbrev pub ClearedIf : Bool → QueuedUpdate → Kept → Kept → Type 0
 ClearedIf true r old new = Retracted r.program.attempt.number (trail_of r) old new
 ClearedIf false r old new = old ≡ new
 
 -- The trails of the updates that have a cause are taken back, one after the other.
-abbrev pub Cleared : List Record → List (Option Cause) → Kept → Kept → Type 0
+abbrev pub Cleared : List QueuedUpdate → List (Option Cause) → Kept → Kept → Type 0
 Cleared [] xs old new = old ≡ new
 Cleared (r ∷ rs) [] old new = old ≡ new
 Cleared (r ∷ rs) (x ∷ xs) old new = (mid : Kept) × ClearedIf (is_some x) r old mid × Cleared rs xs mid new

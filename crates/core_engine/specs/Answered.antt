@@ -11,7 +11,7 @@ use Rattle.def_chase.specs.Mappings.{Rule}
 use Rattle.def_chase.specs.Updates.{Choice, Operation}
 use Rattle.def_chase.specs.Values.{Fact}
 use Rattle.core_queue.specs.Queues.{update_of, updates_of}
-use Rattle.core_queue.specs.declared.records.Record.{Record}
+use Rattle.core_queue.specs.declared.updates.QueuedUpdate.{QueuedUpdate}
 use Rattle.def_steps.specs.Chase.{caused_chase}
 use Rattle.def_steps.specs.Serial.{Request}
 use Rattle.set_versions.specs.Standing.{Kept}
@@ -19,9 +19,9 @@ use Rattle.core_engine.specs.Follows.{Follows, ground_with}
 use Rattle.core_engine.specs.Kept.{IsKept}
 
 -- The entry is that of this answer to the update at the place.
-abbrev pub TellsAnswer : Settings → ℕ → Choice → List Record → Entry → Type 0
+abbrev pub TellsAnswer : Settings → ℕ → Choice → List QueuedUpdate → Entry → Type 0
 TellsAnswer s k c rs e =
-    (ms : List Rule) (B : ℕ) (r : Record) → slice_get rs k ≡ Some r
+    (ms : List Rule) (B : ℕ) (r : QueuedUpdate) → slice_get rs k ≡ Some r
     → entry_of e ≡ WasAnswered (record {
       update = suc k;
       choice = c;
@@ -29,7 +29,7 @@ TellsAnswer s k c rs e =
     })
 
 -- This answer to update k + 1 leads from these parts to those, where it is paused and the choice fits.
-abbrev pub AnswersTo : Settings → ℕ → Choice → List Record → List Entry → List Record → List Entry → Type 0
+abbrev pub AnswersTo : Settings → ℕ → Choice → List QueuedUpdate → List Entry → List QueuedUpdate → List Entry → Type 0
 AnswersTo s k c rs es rs' es' =
     (ms : List Rule) (v : Kept) (B : ℕ) (D : List Fact) (requests : List Request) (later : List Operation) → IsKept (ground_with ms s B D requests later) v rs (map entry_of es)
     → option_map (may_answer (caused_chase ms B) s (updates_of ms B rs) c k) (slice_get (updates_of ms B rs) k) ≡ Some true

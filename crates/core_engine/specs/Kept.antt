@@ -14,7 +14,7 @@ use Rattle.def_steps.specs.Chase.{caused_chase}
 use Rattle.set_versions.specs.Standing.{Kept, StandFor}
 use Rattle.set_versions.specs.Trails.{numbered}
 use Rattle.core_queue.specs.Queues.{updates_of, AreFrom}
-use Rattle.core_queue.specs.declared.records.Record.{Record}
+use Rattle.core_queue.specs.declared.updates.QueuedUpdate.{QueuedUpdate}
 use Rattle.base_limits.specs.Within.{AreWithin}
 use Rattle.def_history.specs.PlainEntries.{PlainEntry}
 use Rattle.def_history.specs.Cores.{Ground}
@@ -30,7 +30,7 @@ abbrev pub HaveTrails : (ms : List Rule) (B : ℕ) → List Fact → List (Updat
 HaveTrails ms B D us v = StandFor v D (numbered (trail (caused_chase ms B)) us)
 
 -- The queue and the versions are what the entries left.
-pub record IsKept (g : Ground) (v : Kept) (rs : List Record) (H : List PlainEntry) : Type 0 where
+pub record IsKept (g : Ground) (v : Kept) (rs : List QueuedUpdate) (H : List PlainEntry) : Type 0 where
   -- the updates are those of the history
   pub left : Leave g H (updates_of g.rules g.budget rs)
   -- each stands between two steps, and has the number of its place

@@ -10,7 +10,7 @@ use Rattle.def_history.specs.Cores.{Ground, machine, updates_after}
 use Rattle.def_language.specs.Sessions.{SessionData}
 use Rattle.def_language.specs.Checks.{rules_of}
 use Rattle.lang_session.specs.Meanings.{requests_in}
-use Rattle.core_queue.specs.Walks.{only}
+use Rattle.core_queue.specs.Order.{only}
 
 -- What its history is over, and the entries of that history.
 pub record State : Type 0 where

@@ -22,8 +22,8 @@ use Rattle.chase_plan.specs.declared.plans.Plan.{Plan}
 use Rattle.chase_update.specs.Courses.{State}
 use Rattle.core_queue.specs.Programs.{IsPlanOf}
 use Rattle.core_queue.specs.Queues.{update_of, updates_of, AreFrom}
-use Rattle.core_queue.specs.Walks.{ReadsAtMost}
-use Rattle.core_queue.specs.declared.records.Record.{Record}
+use Rattle.core_queue.specs.Order.{ReadsAtMost}
+use Rattle.core_queue.specs.declared.updates.QueuedUpdate.{QueuedUpdate}
 use Rattle.def_steps.specs.Attempts.{outcome_in}
 use Rattle.def_steps.specs.Chase.{caused_chase, ending}
 use Rattle.core_cascade.specs.Held.{AreVersions, laid, above}
@@ -38,7 +38,7 @@ HasHidden s b = b ≡ hides (option_map ending (outcome_in s.attempt.phase))
 
 module _ (ms : List Rule) (B : ℕ) where
   -- The update may make a step.
-  abbrev pub MayStep : Settings → ℕ → ℕ → Record → Type 0
+  abbrev pub MayStep : Settings → ℕ → ℕ → QueuedUpdate → Type 0
   MayStep s c n r = is_ready (standing (caused_chase ms B) s c n (update_of ms B r)) ≡ true
 
   -- Whatever the versions stood for, update n has the second trail in place of the first.
@@ -74,13 +74,13 @@ module _ (ms : List Rule) (B : ℕ) where
 
 -- In any history of these mappings where the plan is the step of the update, which is ready: the versions then have its
 -- trail after the step.
-abbrev pub ShowsStep : Record → Plan → Kept → Kept → Type 0
+abbrev pub ShowsStep : QueuedUpdate → Plan → Kept → Kept → Type 0
 ShowsStep r plan old new =
     (ms : List Rule) (B : ℕ) (D : List Fact) (s : Settings) (c n : ℕ) → MayStep ms B s c n r → IsPlanOf ms B D r plan
     → Replaces ms B r.program.attempt.number (trail (caused_chase ms B) (update_of ms B r)) (trail (caused_chase ms B) (stepped (caused_chase ms B) D (update_of ms B r))) old new
 
 -- In any such history: but for the tuples of these writes the same tuples lie above the update before and after the step.
-abbrev pub HasTurned : Record → Plan → Sense → List Write → Type 0
+abbrev pub HasTurned : QueuedUpdate → Plan → Sense → List Write → Type 0
 HasTurned r plan g ws =
     (ms : List Rule) (B : ℕ) (D E : List Fact) (s : Settings) (c n : ℕ) → MayStep ms B s c n r → IsPlanOf ms B D r plan → IsRepository E
     → AgreeBut g (map change_of ws ∷ []) (apply E (trail (caused_chase ms B) (update_of ms B r))) (apply E (trail (caused_chase ms B) (stepped (caused_chase ms B) D (update_of ms B r))))
@@ -91,7 +91,7 @@ RanAbove ms B E lower u upper = AreRuns (caused_chase ms B) (above ms B E lower 
 
 -- In any history of these mappings where the update stands above the lower ones and is ready, and the plan is that of its
 -- step: this was found. The versions are those before the step and those after it, but for restarts.
-abbrev pub WereFound : List Rule → Settings → ℕ → Kept → Kept → Record → List Record → Plan → List (Option CauseOfProgram) → Type 0
+abbrev pub WereFound : List Rule → Settings → ℕ → Kept → Kept → QueuedUpdate → List QueuedUpdate → Plan → List (Option CauseOfProgram) → Type 0
 WereFound ms s c old new r upper plan found =
     (B : ℕ) (E : List Fact) (lower : List (Update (caused_chase ms B))) (k n : ℕ) → 1 ≤ B → r.program.attempt.number ≡ suc (length lower)
     → RanAbove ms B E lower (update_of ms B r) (updates_of ms B upper) → MayStep ms B s k n r
@@ -101,7 +101,7 @@ WereFound ms s c old new r upper plan found =
 
 -- In any history of these mappings over E where the update stands above the lower ones and is ready, and the plan is that
 -- of its step: what was prepared, with the second versions in place of the first, is what the step leaves.
-abbrev pub IsPrepared : List Rule → Settings → ℕ → Kept → Record → List Record → Plan → Kept → Prepared → Type 0
+abbrev pub IsPrepared : List Rule → Settings → ℕ → Kept → QueuedUpdate → List QueuedUpdate → Plan → Kept → Prepared → Type 0
 IsPrepared ms s c v r upper plan v' p =
     (B : ℕ) (E : List Fact) (lower : List (Update (caused_chase ms B))) (k n : ℕ) → 1 ≤ B → r.program.attempt.number ≡ suc (length lower)
     → RanAbove ms B E lower (update_of ms B r) (updates_of ms B upper)
@@ -109,6 +109,6 @@ IsPrepared ms s c v r upper plan v' p =
     → IsPlanOf ms B (laid ms B E lower) r plan → IsStepLeft ms B s c r.program.attempt.number E lower (update_of ms B r) (updates_of ms B upper) v' p
 
 -- The same whichever updates stand above, of which none has read anything.
-abbrev pub IsPreparedAlone : Kept → Record → Plan → Kept → Prepared → Type 0
+abbrev pub IsPreparedAlone : Kept → QueuedUpdate → Plan → Kept → Prepared → Type 0
 IsPreparedAlone v r plan v' p =
-    (ms : List Rule) (s : Settings) (c : ℕ) (upper : List Record) → AreFrom (suc r.program.attempt.number) upper → ReadsAtMost upper 0 → IsPrepared ms s c v r upper plan v' p
+    (ms : List Rule) (s : Settings) (c : ℕ) (upper : List QueuedUpdate) → AreFrom (suc r.program.attempt.number) upper → ReadsAtMost upper 0 → IsPrepared ms s c v r upper plan v' p

@@ -6,20 +6,20 @@ use Rattle.def_machine.specs.Updates.{Settings, committed}
 use Rattle.def_chase.specs.Mappings.{Rule}
 use Rattle.def_steps.specs.Chase.{caused_chase}
 use Rattle.core_queue.specs.Queues.{updates_of}
-use Rattle.core_queue.specs.declared.records.Record.{Record}
+use Rattle.core_queue.specs.declared.updates.QueuedUpdate.{QueuedUpdate}
 use Rattle.core_engine.specs.States.{numbered_at}
 
 -- This is what the update of number n may do next, where there is one.
-abbrev pub HasStandingAt : Settings → List Record → ℕ → Option Standing → Type 0
+abbrev pub HasStandingAt : Settings → List QueuedUpdate → ℕ → Option Standing → Type 0
 HasStandingAt s rs n o =
     (ms : List Rule) (B : ℕ) → o ≡ option_map (standing (caused_chase ms B) s (committed (caused_chase ms B) (updates_of ms B rs)) n) (numbered_at (updates_of ms B rs) n)
 
 -- This is the question that is put to people for it, if one is.
-abbrev pub HasQuestionAt : Settings → List Record → ℕ → Option Inquiry → Type 0
+abbrev pub HasQuestionAt : Settings → List QueuedUpdate → ℕ → Option Inquiry → Type 0
 HasQuestionAt s rs n o =
     (ms : List Rule) (B : ℕ) → o ≡ option_map inquiry_in (option_and_then (question_of (caused_chase ms B) s (committed (caused_chase ms B) (updates_of ms B rs)) n) (numbered_at (updates_of ms B rs) n))
 
 -- Whether an answer waits for it.
-abbrev pub HasWaitingAt : List Record → ℕ → Bool → Type 0
+abbrev pub HasWaitingAt : List QueuedUpdate → ℕ → Bool → Type 0
 HasWaitingAt rs n b =
     (ms : List Rule) (B : ℕ) → b ≡ unwrap_or (option_map (λ u. not (is_nil u.inbox)) (numbered_at (updates_of ms B rs) n)) false

@@ -16,7 +16,7 @@ use Rattle.def_chase.specs.Updates.{Operation}
 use Rattle.def_chase.specs.Values.{Fact}
 use Rattle.chase_update.specs.Courses.{State as ProgramState}
 use Rattle.core_queue.specs.Queues.{update_of, updates_of}
-use Rattle.core_queue.specs.declared.records.Record.{Record}
+use Rattle.core_queue.specs.declared.updates.QueuedUpdate.{QueuedUpdate}
 use Rattle.def_steps.specs.Chase.{caused_chase}
 use Rattle.def_steps.specs.Serial.{Request}
 use Rattle.set_versions.specs.Standing.{Kept}
@@ -38,7 +38,7 @@ module _ (ms : List Rule) (B : ℕ) where
   IsLossLeft s c j E lower u upper v left = IsLeft (causes_of_loss (caused_chase ms B) s.deps c j (laid ms B E lower) u upper) E lower (withdrawn_now (caused_chase ms B) u) j upper v left
 
 -- In any history of these mappings where the update stands above the lower ones: this was found where it loses its trail.
-abbrev pub WereLost : List Rule → Settings → ℕ → Kept → Record → List Record → List (Option CauseOfProgram) → Type 0
+abbrev pub WereLost : List Rule → Settings → ℕ → Kept → QueuedUpdate → List QueuedUpdate → List (Option CauseOfProgram) → Type 0
 WereLost ms s c v r upper found =
     (B : ℕ) (E : List Fact) (lower : List (Update (caused_chase ms B))) → 1 ≤ B → r.program.attempt.number ≡ suc (length lower)
     → RanAbove ms B E lower (update_of ms B r) (updates_of ms B upper)
@@ -46,7 +46,7 @@ WereLost ms s c v r upper found =
     → IsFound ms B (causes_of_loss (caused_chase ms B) s.deps c (suc (length lower)) (laid ms B E lower) (update_of ms B r) (updates_of ms B upper)) (suc (suc (length lower))) (updates_of ms B upper) found
 
 -- In any such history: what was prepared, with the second versions in place of the first, is what its withdrawal leaves.
-abbrev pub IsLossPrepared : List Rule → Settings → ℕ → Kept → Record → List Record → Kept → Aftermath → Type 0
+abbrev pub IsLossPrepared : List Rule → Settings → ℕ → Kept → QueuedUpdate → List QueuedUpdate → Kept → Aftermath → Type 0
 IsLossPrepared ms s c v r upper v' left =
     (B : ℕ) (E : List Fact) (lower : List (Update (caused_chase ms B))) → 1 ≤ B → r.program.attempt.number ≡ suc (length lower)
     → RanAbove ms B E lower (update_of ms B r) (updates_of ms B upper)
@@ -55,24 +55,24 @@ IsLossPrepared ms s c v r upper v' left =
 
 -- What was prepared, with the second versions in place of the first, is what the withdrawal of update k + 1 leaves, in any history
 -- of the queue.
-abbrev pub IsLossPreparedAt : List Rule → Settings → ℕ → Kept → List Record → Kept → Aftermath → Type 0
+abbrev pub IsLossPreparedAt : List Rule → Settings → ℕ → Kept → List QueuedUpdate → Kept → Aftermath → Type 0
 IsLossPreparedAt ms s k v rs v' left =
-    (B : ℕ) (requests : List Request) (later : List Operation) (D : List Fact) (H : List PlainEntry) (r : Record) → IsKept (ground_with ms s B D requests later) v rs H → slice_get rs k ≡ Some r
+    (B : ℕ) (requests : List Request) (later : List Operation) (D : List Fact) (H : List PlainEntry) (r : QueuedUpdate) → IsKept (ground_with ms s B D requests later) v rs H → slice_get rs k ≡ Some r
     → IsLossLeft ms B s (committed (caused_chase ms B) (updates_of ms B rs)) (suc k) D (take k (updates_of ms B rs)) (update_of ms B r) (drop (suc k) (updates_of ms B rs)) v' left
 
 -- The update at the place is withdrawn, and those above it have restarted for which there is an attempt.
-abbrev pub IsRemoved : ℕ → List (Option ProgramState) → List Record → List Record → Type 0
+abbrev pub IsRemoved : ℕ → List (Option ProgramState) → List QueuedUpdate → List QueuedUpdate → Type 0
 IsRemoved k fresh rs rs' =
-    (ms : List Rule) (B : ℕ) (r : Record) (xs : List (Option (Cause (caused_chase ms B)))) → slice_get rs k ≡ Some r → map is_some xs ≡ map is_some fresh
+    (ms : List Rule) (B : ℕ) (r : QueuedUpdate) (xs : List (Option (Cause (caused_chase ms B)))) → slice_get rs k ≡ Some r → map is_some xs ≡ map is_some fresh
     → updates_of ms B rs' ≡ take k (updates_of ms B rs) ++ withdrawn_now (caused_chase ms B) (update_of ms B r) ∷ restart (caused_chase ms B) (suc (suc k)) xs (drop (suc k) (updates_of ms B rs))
 
 -- The entry is that of the withdrawal of update k + 1, with these causes.
-abbrev pub TellsWithdrawal : ℕ → Listed CauseOfProgram → List Record → Entry → Type 0
+abbrev pub TellsWithdrawal : ℕ → Listed CauseOfProgram → List QueuedUpdate → Entry → Type 0
 TellsWithdrawal k causes rs e =
     (ms : List Rule) (B : ℕ) → entry_of e ≡ WasWithdrawn (record { update = suc k; causes = map cause_of causes.items; committed = committed (caused_chase ms B) (updates_of ms B rs) })
 
 -- The withdrawal of update k + 1 leads from these parts to those, where it is neither committed nor withdrawn.
-abbrev pub WithdrawsTo : List Rule → Settings → ℕ → Kept → List Record → List Entry → Kept → List Record → List Entry → Type 0
+abbrev pub WithdrawsTo : List Rule → Settings → ℕ → Kept → List QueuedUpdate → List Entry → Kept → List QueuedUpdate → List Entry → Type 0
 WithdrawsTo ms s k v rs es v' rs' es' =
     (B : ℕ) (D : List Fact) (requests : List Request) (later : List Operation) → IsKept (ground_with ms s B D requests later) v rs (map entry_of es)
     → option_map (may_withdraw (caused_chase ms B) (updates_of ms B rs) k) (slice_get (updates_of ms B rs) k) ≡ Some true

@@ -7,14 +7,14 @@ ghost use Rattle.core_engine.specs.Admissions.{AdmitsTo, IsNew};
 use crate::stepping::put_last;
 use base_types::{ChoiceList, Memory, Update, UpdateList};
 use core_entries::{Entry, EntryList};
-use core_queue::Record;
+use core_queue::QueuedUpdate;
 use std::alloc::Global;
 
 /// Admits the update behind the others, with no recorded answers. It gives its number. It is refused only for want of
 /// memory: it then hands the update back, and what the queue and the history mean stays.
 pub(crate) fn admit_at(
     alloc: Global,
-    queue: &mut Vec<Record>,
+    queue: &mut Vec<QueuedUpdate>,
     history: &mut EntryList,
     later: &mut UpdateList,
     update: Update,
@@ -42,7 +42,7 @@ pub(crate) fn admit_at(
 }
 
 // The number of one more update.
-fn next_number(queue: &[Record]) -> u32
+fn next_number(queue: &[QueuedUpdate]) -> u32
     requires few { length queue.now < 1000 }
     ensures number { result ≡ suc (length queue.now) }
 {
@@ -53,7 +53,7 @@ fn next_number(queue: &[Record]) -> u32
 // memory.
 fn prepare_admission(
     alloc: Global,
-    queue: &mut Vec<Record>,
+    queue: &mut Vec<QueuedUpdate>,
     history: &mut EntryList,
     later: &mut UpdateList,
     update: &Update,
@@ -70,7 +70,7 @@ fn prepare_admission(
     history.reserve(1)?;
     later.reserve(1)?;
     let none = ChoiceList::new(alloc);
-    let record = Record::admit(alloc, update, number, &none)?;
+    let record = QueuedUpdate::admit(alloc, update, number, &none)?;
     queue.push(record)?;
     Ok(())
 }

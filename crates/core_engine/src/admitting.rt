@@ -7,13 +7,16 @@ ghost use Rattle.core_engine.specs.States.{admissions_from};
 
 use base_types::Memory;
 use core_entries::{Entry, EntryList};
-use core_queue::Record;
+use core_queue::QueuedUpdate;
 use lang_session::SessionUpdate;
 use std::alloc::Global;
 
 /// The updates in number order, each at the start of its attempt 0 and with its recorded answers. It is refused only for
 /// want of memory.
-pub(crate) fn admitted(alloc: Global, updates: &[SessionUpdate]) -> Result<Vec<Record>, Memory>
+pub(crate) fn admitted(
+    alloc: Global,
+    updates: &[SessionUpdate],
+) -> Result<Vec<QueuedUpdate>, Memory>
     requires few { length updates.now ≤ 1000 }
     ensures admitted { IfOk result (λ queue. AreAdmitted updates.now queue.items) }
     ensures numbers { IfOk result (λ queue. AreFrom 1 queue.items) }
@@ -22,7 +25,7 @@ pub(crate) fn admitted(alloc: Global, updates: &[SessionUpdate]) -> Result<Vec<R
     let mut queue = Vec::new(alloc);
     let mut number = 1;
     for update in updates {
-        queue.push(Record::admit(alloc, &update.update, number, &update.answers)?)?;
+        queue.push(QueuedUpdate::admit(alloc, &update.update, number, &update.answers)?)?;
         number += 1;
     }
     Ok(queue)

@@ -2,19 +2,19 @@
 ghost use Rattle.std.specs.Prelude.{◌≡◌, ◌≤◌, ◌++◌, length, is_some, IfOk, OnOk};
 ghost use Rattle.core_queue.specs.Programs.{IsBetween};
 ghost use Rattle.core_queue.specs.Renewals.{AllHaveOneMore, AreFresh, AreThere};
-ghost use Rattle.core_engine.specs.Aftermaths.{Cleared, ClearedIf, AllBetween, in_order as in_order_lem, conflict_in, dependence_in, is_conflict as is_conflict_lem};
+ghost use Rattle.core_engine.specs.Aftermaths.{Cleared, ClearedIf, AllBetween, in_order as in_order_def, conflict_in, dependence_in, is_conflict as is_conflict_def};
 
 use base_types::Memory;
-use chase_update::Program;
+use chase_update::Attempt;
 use core_entries::{Cause, CauseList};
-use core_queue::{Record, fresh_programs};
+use core_queue::{QueuedUpdate, fresh_programs};
 use set_versions::Versions;
 use std::alloc::Global;
 
 /// What an event leaves beside the versions: the next attempts of the updates above it that are restarted, and why they are.
 #[derive(Drop)]
 pub(crate) struct Aftermath {
-    pub(crate) fresh: Vec<Option<Program>>,
+    pub(crate) fresh: Vec<Option<Attempt>>,
     pub(crate) causes: CauseList,
 }
 
@@ -23,7 +23,7 @@ pub(crate) struct Aftermath {
 pub(crate) fn settled(
     alloc: Global,
     versions: &mut Versions,
-    upper: &[Record],
+    upper: &[QueuedUpdate],
     found: Vec<Option<Cause>>,
 ) -> Result<Aftermath, Memory>
     requires long { length found.items ≤ length upper.now }
@@ -32,7 +32,7 @@ pub(crate) fn settled(
     ensures cleared { OnOk result (Cleared upper.now found.items versions.old versions.new) }
     ensures fresh { IfOk result (λ left. AreFresh upper.now left.fresh.items) }
     ensures there { IfOk result (λ left. AreThere found.items left.fresh.items) }
-    ensures causes { IfOk result (λ left. left.causes.items ≡ in_order_lem found.items) }
+    ensures causes { IfOk result (λ left. left.causes.items ≡ in_order_def found.items) }
 {
     let fresh = fresh_programs(alloc, upper, &found)?;
     clear(alloc, versions, upper, &found)?;
@@ -44,7 +44,7 @@ pub(crate) fn settled(
 fn clear(
     alloc: Global,
     versions: &mut Versions,
-    upper: &[Record],
+    upper: &[QueuedUpdate],
     found: &[Option<Cause>],
 ) -> Result<(), Memory>
     requires long { length found.now ≤ length upper.now }
@@ -61,7 +61,7 @@ fn clear(
 fn clear_one(
     alloc: Global,
     versions: &mut Versions,
-    item: &Record,
+    item: &QueuedUpdate,
     cause: &Option<Cause>,
 ) -> Result<(), Memory>
     requires between { IsBetween item.now.program }
@@ -76,7 +76,7 @@ fn clear_one(
 
 // The causes: the conflicts, and then the dependences, each in number order.
 fn in_order(alloc: Global, found: Vec<Option<Cause>>) -> Result<CauseList, Memory>
-    ensures causes { IfOk result (λ causes. causes.items ≡ in_order_lem found.items) }
+    ensures causes { IfOk result (λ causes. causes.items ≡ in_order_def found.items) }
 {
     let mut conflicts = CauseList::new(alloc);
     let mut dependences = CauseList::new(alloc);
@@ -113,7 +113,7 @@ fn put(
 
 // Whether the cause is a conflict.
 fn is_conflict(cause: &Cause) -> bool
-    ensures { result ≡ is_conflict_lem cause.now }
+    ensures { result ≡ is_conflict_def cause.now }
 {
     match cause {
         Cause::Conflict { .. } => true,

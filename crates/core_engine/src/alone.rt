@@ -7,14 +7,14 @@ use crate::aftermaths::Aftermath;
 use crate::stepping::{Prepared, copied, hides};
 use base_types::Memory;
 use chase_plan::Plan;
-use chase_update::Program;
+use chase_update::Attempt;
 use core_entries::CauseList;
-use core_queue::{Record, has_spent};
+use core_queue::{QueuedUpdate, has_spent};
 use set_versions::Versions;
 use std::alloc::Global;
 
 /// Whether nobody above has read anything, of so many that may have, and the attempt is not ended spent or refused.
-pub(crate) fn is_alone(readers: usize, program: &Program) -> bool
+pub(crate) fn is_alone(readers: usize, program: &Attempt) -> bool
     requires between { IsBetween program.now }
     ensures unread { IsTrue result → readers ≡ 0 }
     ensures shown { IsTrue result → HasHidden program.now false }
@@ -34,7 +34,7 @@ pub(crate) fn is_alone(readers: usize, program: &Program) -> bool
 pub(crate) fn prepare_alone(
     alloc: Global,
     versions: &mut Versions,
-    item: &Record,
+    item: &QueuedUpdate,
     plan: &Plan,
 ) -> Result<Prepared, Memory>
     requires between { IsBetween item.now.program }

@@ -10,7 +10,7 @@ use crate::deliveries::reserve_delivery;
 use crate::stepping::put_last;
 use base_types::{Choice, Memory, TryCopy};
 use core_entries::{Entry, EntryList};
-use core_queue::{Record, Settings, committed};
+use core_queue::{QueuedUpdate, Settings, committed};
 use std::alloc::Global;
 
 /// Puts the choice where the update at the place waits for an answer. It is refused only for want of memory: it then hands
@@ -18,7 +18,7 @@ use std::alloc::Global;
 pub(crate) fn answer_at(
     alloc: Global,
     settings: Settings,
-    queue: &mut [Record],
+    queue: &mut [QueuedUpdate],
     history: &mut EntryList,
     place: usize,
     choice: Choice,
@@ -45,7 +45,7 @@ pub(crate) fn answer_at(
 // history mean stays.
 fn prepare_answer(
     alloc: Global,
-    queue: &mut [Record],
+    queue: &mut [QueuedUpdate],
     history: &mut EntryList,
     place: usize,
     choice: &Choice,
@@ -68,7 +68,7 @@ fn prepare_answer(
 fn put_answer(
     alloc: Global,
     settings: Settings,
-    queue: &mut [Record],
+    queue: &mut [QueuedUpdate],
     history: &mut EntryList,
     place: usize,
     choice: Choice,
@@ -89,7 +89,7 @@ fn put_answer(
 }
 
 // The entry of the answer to the update at the place.
-fn answer_entry(settings: Settings, queue: &[Record], place: usize, choice: Choice) -> Entry
+fn answer_entry(settings: Settings, queue: &[QueuedUpdate], place: usize, choice: Choice) -> Entry
     requires place { place < length queue.now }
     requires numbers { AreFrom 1 queue.now }
     ensures told { TellsAnswer (settings_of settings) place (choice_of choice) queue.now result }

@@ -10,7 +10,7 @@ ghost use Rattle.def_chase.specs.Repository.{IsRepository};
 ghost use Rattle.def_language.specs.Validity.{IsSession};
 ghost use Rattle.lang_session.specs.Meanings.{session_of};
 ghost use Rattle.core_queue.specs.Settings.{settings_of};
-ghost use Rattle.core_engine.specs.States.{opened, updates_at, committed_at, standing_at, question_at, has_waiting as has_waiting_lem, lowest_ready_at, lowest_ready_besides_at, lowest_deliverable_at, next_deliverable_at, is_quiet_at};
+ghost use Rattle.core_engine.specs.States.{opened, updates_at, committed_at, standing_at, question_at, has_waiting as has_waiting_def, lowest_ready_at, lowest_ready_besides_at, lowest_deliverable_at, next_deliverable_at, is_quiet_at};
 ghost use Rattle.core_engine.specs.Events.{HasMade, AnswersStep, AnswersDelivery};
 ghost use Rattle.core_engine.specs.Planned.{IsStepAt};
 
@@ -28,7 +28,7 @@ use chase_plan::TouchedMappings;
 use chase_question::Question;
 use core_entries::{Entry, EntryList, Standing};
 use core_queue::{
-    Record, Settings, committed_from, is_quiet, lowest_deliverable, lowest_ready,
+    QueuedUpdate, Settings, committed_from, is_quiet, lowest_deliverable, lowest_ready,
     lowest_ready_besides, next_deliverable, reads_at_most, unready_from,
 };
 use lang_session::{Session, SessionUpdates};
@@ -49,7 +49,7 @@ pub struct Core<'s> {
     pub(crate) updates: &'s SessionUpdates,
     pub(crate) later: UpdateList,
     pub(crate) versions: Versions,
-    pub(crate) queue: Vec<Record>,
+    pub(crate) queue: Vec<QueuedUpdate>,
     pub(crate) history: EntryList,
     // At least so many updates are committed; the walks over the queue begin behind them.
     pub(crate) least: u32,
@@ -66,7 +66,7 @@ impl<'s> Model for Core<'s> {
     ghost use Rattle.core_entries.specs.Meanings.{entry_of};
     ghost use Rattle.core_queue.specs.Settings.{settings_of};
     ghost use Rattle.core_engine.specs.States.{State};
-    ghost use Rattle.core_queue.specs.Walks.{CommitsAtLeast, ReadsAtMost, UnreadyUpTo};
+    ghost use Rattle.core_queue.specs.Order.{CommitsAtLeast, ReadsAtMost, UnreadyUpTo};
     ghost use Rattle.core_engine.specs.Kept.{ground_by, IsKept};
     ghost use Rattle.core_engine.specs.Known.{IsKnown};
 
@@ -166,7 +166,7 @@ impl<'s> Core<'s> {
 
     /// Whether an answer is recorded for the update of this number that was not delivered yet. It takes no memory.
     pub fn has_waiting(&self, update: u32) -> bool
-        ensures waiting { result ≡ has_waiting_lem self.now update }
+        ensures waiting { result ≡ has_waiting_def self.now update }
     {
         has_waiting(&self.queue, update)
     }
@@ -318,7 +318,7 @@ impl<'s> Core<'s> {
         ensures number { IfOk result (λ n. n ≡ length self.new.history) }
         ensures kept { OnErr result (self.new ≡ self.old) }
         ensures answer { AnswersDelivery (standing_at self.old update)
-            (has_waiting_lem self.old update) result }
+            (has_waiting_def self.old update) result }
     {
         match self.standing(update) {
             None => Err(DeliverRefusal::NoSuchUpdate),
@@ -360,7 +360,7 @@ impl<'s> Core<'s> {
         ensures number { IfOk result (λ n. n ≡ length self.new.history) }
         ensures kept { OnErr result (self.new ≡ self.old) }
         ensures answer { AnswersDelivery (standing_at self.old update)
-            (has_waiting_lem self.old update) result }
+            (has_waiting_def self.old update) result }
     {
         if !self.has_waiting(update) {
             return Err(DeliverRefusal::NoAnswer);
@@ -374,7 +374,7 @@ impl<'s> Core<'s> {
     // Delivers the first of the answers that wait for the update, which is pending.
     pub(crate) fn make_delivery(&mut self, update: u32) -> Result<u64, Memory>
         requires pending { standing_at self.old update ≡ Some (Paused Missing) }
-        requires waits { has_waiting_lem self.old update ≡ true }
+        requires waits { has_waiting_def self.old update ≡ true }
         ensures made { OnOk result (HasMade self.old (Delivers update) self.new) }
         ensures number { IfOk result (λ n. n ≡ length self.new.history) }
         ensures kept { OnErr result (self.new ≡ self.old) }

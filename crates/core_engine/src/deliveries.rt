@@ -7,13 +7,13 @@ ghost use Rattle.core_engine.specs.Follows.{AreSame, HasAnswerRoomAt, DeliversTo
 use crate::stepping::put_last;
 use base_types::Memory;
 use core_entries::{Entry, EntryList};
-use core_queue::{Record, Settings, committed};
+use core_queue::{QueuedUpdate, Settings, committed};
 
 /// Delivers the first recorded answer to the update at the place. It is refused only for want of memory; what the queue
 /// and the history mean then stays.
 pub(crate) fn deliver_at(
     settings: Settings,
-    queue: &mut [Record],
+    queue: &mut [QueuedUpdate],
     history: &mut EntryList,
     place: usize,
 ) -> Result<(), Memory>
@@ -36,7 +36,7 @@ pub(crate) fn deliver_at(
 /// Makes room for one more answer to the update at the place, and for its entry. It is refused only for want of memory.
 /// What queue and history mean stays.
 pub(crate) fn reserve_delivery(
-    queue: &mut [Record],
+    queue: &mut [QueuedUpdate],
     history: &mut EntryList,
     place: usize,
 ) -> Result<(), Memory>
@@ -52,7 +52,12 @@ pub(crate) fn reserve_delivery(
 }
 
 // Delivers the first recorded answer. There is room for it.
-fn make_delivery(settings: Settings, queue: &mut [Record], history: &mut EntryList, place: usize)
+fn make_delivery(
+    settings: Settings,
+    queue: &mut [QueuedUpdate],
+    history: &mut EntryList,
+    place: usize,
+)
     requires place { place < length queue.old }
     requires numbers { AreFrom 1 queue.old }
     requires room { HasAnswerRoomAt place queue.old }
@@ -70,7 +75,7 @@ fn make_delivery(settings: Settings, queue: &mut [Record], history: &mut EntryLi
 }
 
 // The entry of the delivery to the update at the place.
-fn delivery_entry(settings: Settings, queue: &[Record], place: usize) -> Entry
+fn delivery_entry(settings: Settings, queue: &[QueuedUpdate], place: usize) -> Entry
     requires place { place < length queue.now }
     requires numbers { AreFrom 1 queue.now }
     ensures told { TellsDelivery (settings_of settings) place queue.now result }

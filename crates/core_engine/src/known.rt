@@ -8,7 +8,7 @@ ghost use Rattle.chase_query.specs.Meanings.{reads_in};
 use base_types::Memory;
 use chase_eval::Settled;
 use chase_plan::{TouchedMappings, stir_since, told_by};
-use core_queue::Record;
+use core_queue::QueuedUpdate;
 use std::alloc::Global;
 use std::mem;
 
@@ -41,7 +41,7 @@ impl Known {
         &mut self,
         alloc: Global,
         mappings: &TouchedMappings<'_>,
-        item: &Record,
+        item: &QueuedUpdate,
     ) -> Result<Settled, Memory>
         ensures settled { IfOk result (λ settled. (D : List Fact) →
             AreValidOver mappings.now D item.now.program.attempt

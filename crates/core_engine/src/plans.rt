@@ -17,8 +17,8 @@ use base_types::{Choice, Memory, TryCopy};
 use chase_eval::Settled;
 use chase_plan::{Plan as Planned, TouchedMappings, plan_step, settled_by};
 use chase_query::Logged;
-use chase_update::Program;
-use core_queue::Record;
+use chase_update::Attempt;
+use core_queue::QueuedUpdate;
 use set_versions::Versions;
 use std::alloc::Global;
 use std::marker::Model;
@@ -70,7 +70,7 @@ pub struct Snapshot<'s> {
     pub(crate) budget: Budget,
     pub(crate) versions: Versions,
     pub(crate) update: u32,
-    pub(crate) program: Program,
+    pub(crate) program: Attempt,
     pub(crate) answer: Option<Choice>,
     pub(crate) settled: Settled,
 }
@@ -130,7 +130,7 @@ pub(crate) fn plan_at(
     mappings: &TouchedMappings<'_>,
     budget: Budget,
     versions: &Versions,
-    queue: &mut [Record],
+    queue: &mut [QueuedUpdate],
     place: usize,
     known: &mut Known,
 ) -> Result<Plan, Memory>
@@ -157,8 +157,8 @@ fn plan_of(
     mappings: &TouchedMappings<'_>,
     budget: Budget,
     versions: &Versions,
-    item: &Record,
-    branch: Program,
+    item: &QueuedUpdate,
+    branch: Attempt,
     known: &mut Known,
 ) -> Result<Plan, Memory>
     requires branch { branch ≡ item.now.program }
@@ -200,7 +200,7 @@ pub(crate) fn snapshot_at<'s>(
     mappings: &TouchedMappings<'s>,
     budget: Budget,
     versions: &Versions,
-    queue: &[Record],
+    queue: &[QueuedUpdate],
     place: usize,
 ) -> Result<Snapshot<'s>, Memory>
     requires within { AreWithin mappings.now }
@@ -224,7 +224,7 @@ fn snapshot_of<'s>(
     mappings: &TouchedMappings<'s>,
     budget: Budget,
     versions: &Versions,
-    item: &Record,
+    item: &QueuedUpdate,
 ) -> Result<Snapshot<'s>, Memory>
     requires within { AreWithin mappings.now }
     requires between { IsBetween item.now.program }
@@ -250,7 +250,7 @@ fn snapshot_of<'s>(
 }
 
 // A copy of the next answer, if there is one.
-fn next_answer(alloc: Global, item: &Record) -> Result<Option<Choice>, Memory>
+fn next_answer(alloc: Global, item: &QueuedUpdate) -> Result<Option<Choice>, Memory>
     requires between { IsBetween item.now.program }
     ensures next { IfOk result (λ answer. HasNext item.now (option_map choice_of answer)) }
     ensures wanted { IfOk result (λ answer. WantsNext item.now (option_map choice_of answer)) }

@@ -5,7 +5,7 @@ ghost use Rattle.core_queue.specs.Programs.{IsBetween};
 ghost use Rattle.core_queue.specs.Queues.{AreFrom};
 ghost use Rattle.core_queue.specs.Renewals.{AllHaveOneMore, AreFresh};
 ghost use Rattle.core_queue.specs.Settings.{settings_of};
-ghost use Rattle.core_queue.specs.Walks.{CommitsAtLeast, HasCommitted, ReadsAtMost};
+ghost use Rattle.core_queue.specs.Order.{CommitsAtLeast, HasCommitted, ReadsAtMost};
 ghost use Rattle.set_versions.specs.Standing.{Kept};
 ghost use Rattle.core_engine.specs.Known.{GrowsAt};
 ghost use Rattle.core_engine.specs.Follows.{AreSame, HasRoomAt, IsPlanAt, IsPreparedAt, KeepsUnread, KeepsUnready, TellsStep, StepsTo};
@@ -15,7 +15,7 @@ use base_limits::Mappings;
 use base_types::{Memory, WriteList};
 use chase_plan::Plan;
 use core_entries::{CauseList, Entry, EntryList};
-use core_queue::{Record, Settings, committed_from};
+use core_queue::{QueuedUpdate, Settings, committed_from};
 use set_versions::Versions;
 use std::alloc::Global;
 
@@ -29,7 +29,7 @@ pub(crate) fn step_at(
     least: u32,
     most: u32,
     versions: &mut Versions,
-    queue: &mut [Record],
+    queue: &mut [QueuedUpdate],
     history: &mut EntryList,
     place: usize,
     plan: Plan,
@@ -74,7 +74,7 @@ fn ready_step(
     least: u32,
     most: u32,
     versions: &mut Versions,
-    queue: &mut [Record],
+    queue: &mut [QueuedUpdate],
     history: &mut EntryList,
     place: usize,
     plan: &Plan,
@@ -107,7 +107,7 @@ fn ready_step(
 fn put_step(
     settings: Settings,
     least: u32,
-    queue: &mut [Record],
+    queue: &mut [QueuedUpdate],
     history: &mut EntryList,
     place: usize,
     plan: Plan,
@@ -150,7 +150,7 @@ fn put_step(
 fn step_entry(
     settings: Settings,
     committed: u32,
-    queue: &[Record],
+    queue: &[QueuedUpdate],
     place: usize,
     attempt: u32,
     writes: WriteList,

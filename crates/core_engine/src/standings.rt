@@ -11,10 +11,10 @@ ghost use Rattle.core_engine.specs.Told.{HasStandingAt, HasQuestionAt, HasWaitin
 
 use chase_question::Question;
 use core_entries::Standing;
-use core_queue::{Record, Settings, committed};
+use core_queue::{QueuedUpdate, Settings, committed};
 
 /// The record of the update of this number, counted from 1; None exactly where there is none.
-pub(crate) fn record_at(queue: &[Record], number: u32) -> Option<&Record>
+pub(crate) fn record_at(queue: &[QueuedUpdate], number: u32) -> Option<&QueuedUpdate>
     ensures record { option_copied result ≡ numbered_at queue.now number }
 {
     if number == 0 {
@@ -25,7 +25,7 @@ pub(crate) fn record_at(queue: &[Record], number: u32) -> Option<&Record>
 
 #[tactic(auto, using(crate::proofs::Telling::between_at))]
 /// What the update of this number may do next; None exactly where there is none.
-pub(crate) fn standing(queue: &[Record], settings: Settings, number: u32) -> Option<Standing>
+pub(crate) fn standing(queue: &[QueuedUpdate], settings: Settings, number: u32) -> Option<Standing>
     requires from { AreFrom 1 queue.now }
     ensures standing { HasStandingAt (settings_of settings) queue.now number
         (option_map standing_of result) }
@@ -38,7 +38,7 @@ pub(crate) fn standing(queue: &[Record], settings: Settings, number: u32) -> Opt
 
 #[tactic(auto, using(crate::proofs::Telling::between_at))]
 /// The question that is put to people for the update of this number, if one is.
-pub(crate) fn question(queue: &[Record], settings: Settings, number: u32) -> Option<&Question>
+pub(crate) fn question(queue: &[QueuedUpdate], settings: Settings, number: u32) -> Option<&Question>
     requires from { AreFrom 1 queue.now }
     ensures question { HasQuestionAt (settings_of settings) queue.now number
         (option_map inquiry_of (option_copied result)) }
@@ -50,7 +50,7 @@ pub(crate) fn question(queue: &[Record], settings: Settings, number: u32) -> Opt
 }
 
 /// Whether an answer is recorded for the update of this number that was not delivered yet.
-pub(crate) fn has_waiting(queue: &[Record], number: u32) -> bool
+pub(crate) fn has_waiting(queue: &[QueuedUpdate], number: u32) -> bool
     ensures waiting { HasWaitingAt queue.now number result }
 {
     match record_at(queue, number) {

@@ -5,7 +5,7 @@ ghost use Rattle.core_queue.specs.Programs.{IsBetween};
 ghost use Rattle.core_queue.specs.Queues.{AreFrom};
 ghost use Rattle.core_queue.specs.Renewals.{AllHaveOneMore, AreFresh};
 ghost use Rattle.core_queue.specs.Settings.{settings_of};
-ghost use Rattle.core_queue.specs.Walks.{CommitsAtLeast, ReadsAtMost};
+ghost use Rattle.core_queue.specs.Order.{CommitsAtLeast, ReadsAtMost};
 ghost use Rattle.core_engine.specs.Aftermaths.{AllBetween};
 ghost use Rattle.core_engine.specs.Follows.{AreSame, HasRoomAt, IsPlanAt, IsPreparedAt, IsInstalled, KeepsCommitted, KeepsUnread, KeepsUnready};
 ghost use Rattle.core_engine.specs.Known.{GrowsAt};
@@ -16,11 +16,11 @@ use crate::alone::{is_alone, prepare_alone};
 use base_limits::Mappings;
 use base_types::{Memory, TryCopy, Write, WriteList};
 use chase_plan::Plan;
-use chase_update::{Outcome, Program};
+use chase_update::{Attempt, Outcome};
 use core_cascade::Cascade;
 use core_conflict::Sense;
 use core_entries::{Cause, Entry, EntryList};
-use core_queue::{Record, Settings, committed_from, has_spent, outcome, restart_marked};
+use core_queue::{QueuedUpdate, Settings, committed_from, has_spent, outcome, restart_marked};
 use set_versions::Versions;
 use std::alloc::Global;
 
@@ -40,8 +40,8 @@ pub(crate) fn prepare(
     settings: Settings,
     committed: u32,
     versions: &mut Versions,
-    item: &Record,
-    upper: &[Record],
+    item: &QueuedUpdate,
+    upper: &[QueuedUpdate],
     readers: usize,
     plan: &Plan,
 ) -> Result<Prepared, Memory>
@@ -75,8 +75,8 @@ fn found<'a>(
     committed: u32,
     versions: &'a Versions,
     after: &'a Versions,
-    item: &Record,
-    upper: &[Record],
+    item: &QueuedUpdate,
+    upper: &[QueuedUpdate],
     readers: usize,
     plan: &Plan,
 ) -> Result<Vec<Option<Cause>>, Memory>
@@ -107,7 +107,7 @@ fn found<'a>(
 }
 
 // The writes that come by the step, or that go where the attempt ends by it spent or refused.
-fn turned<'a>(item: &'a Record, plan: &'a Plan) -> (Sense, &'a [Write])
+fn turned<'a>(item: &'a QueuedUpdate, plan: &'a Plan) -> (Sense, &'a [Write])
     requires between { IsBetween item.now.program }
     requires after { IsBetween plan.now.program }
     ensures turned { HasTurned item.now plan.now result.0 result.1.now }
@@ -122,7 +122,7 @@ fn turned<'a>(item: &'a Record, plan: &'a Plan) -> (Sense, &'a [Write])
 fn versions_after(
     alloc: Global,
     versions: &Versions,
-    item: &Record,
+    item: &QueuedUpdate,
     plan: &Plan,
 ) -> Result<Versions, Memory>
     requires between { IsBetween item.now.program }
@@ -139,7 +139,7 @@ fn versions_after(
 }
 
 /// Whether the attempt ended spent or refused.
-pub(crate) fn hides(program: &Program) -> bool
+pub(crate) fn hides(program: &Attempt) -> bool
     requires between { IsBetween program.now }
     ensures hidden { HasHidden program.now result }
 {
@@ -170,7 +170,7 @@ pub(crate) fn prepare_at(
     least: u32,
     most: u32,
     versions: &mut Versions,
-    queue: &[Record],
+    queue: &[QueuedUpdate],
     place: usize,
     plan: &Plan,
 ) -> Result<Prepared, Memory>
@@ -199,7 +199,7 @@ pub(crate) fn prepare_at(
 }
 
 /// The updates above the place.
-pub(crate) fn above(queue: &[Record], place: usize) -> &[Record]
+pub(crate) fn above(queue: &[QueuedUpdate], place: usize) -> &[QueuedUpdate]
     requires place { place < length queue.now }
     ensures rest { result.now ≡ drop (suc place) queue.now }
 {
@@ -207,7 +207,7 @@ pub(crate) fn above(queue: &[Record], place: usize) -> &[Record]
 }
 
 /// How many of the first updates above the place may have read something, where at most so many of all have.
-pub(crate) fn readers_above(queue: &[Record], place: usize, most: u32) -> usize
+pub(crate) fn readers_above(queue: &[QueuedUpdate], place: usize, most: u32) -> usize
     requires place { place < length queue.now }
     requires most { ReadsAtMost queue.now most }
     requires few { most ≤ length queue.now }
@@ -219,7 +219,12 @@ pub(crate) fn readers_above(queue: &[Record], place: usize, most: u32) -> usize
 
 /// Puts the step of the plan in place, and restarts those of the updates above for which there is an attempt. It takes no
 /// memory.
-pub(crate) fn install(queue: &mut [Record], place: usize, plan: Plan, fresh: Vec<Option<Program>>)
+pub(crate) fn install(
+    queue: &mut [QueuedUpdate],
+    place: usize,
+    plan: Plan,
+    fresh: Vec<Option<Attempt>>,
+)
     requires place { place < length queue.old }
     requires numbers { AreFrom 1 queue.old }
     requires room { HasRoomAt place plan queue.old }
@@ -266,7 +271,7 @@ pub(crate) fn put_last(history: &mut EntryList, entry: Entry)
 
 /// Makes room for the step of the plan. It is refused only for want of memory. What queue and history mean stays.
 pub(crate) fn reserve_step(
-    queue: &mut [Record],
+    queue: &mut [QueuedUpdate],
     history: &mut EntryList,
     place: usize,
     plan: &Plan,

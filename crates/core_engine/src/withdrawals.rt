@@ -11,11 +11,11 @@ use crate::aftermaths::{Aftermath, settled};
 use crate::stepping::{above, put_last};
 use base_limits::Mappings;
 use base_types::Memory;
-use chase_update::Program;
+use chase_update::Attempt;
 use core_cascade::Cascade;
 use core_conflict::Sense;
 use core_entries::{Cause, CauseList, Entry, EntryList};
-use core_queue::{Record, Settings, committed, restart_marked};
+use core_queue::{QueuedUpdate, Settings, committed, restart_marked};
 use set_versions::Versions;
 use std::alloc::Global;
 
@@ -26,7 +26,7 @@ pub(crate) fn withdraw_at(
     mappings: &Mappings<'_>,
     settings: Settings,
     versions: &mut Versions,
-    queue: &mut [Record],
+    queue: &mut [QueuedUpdate],
     history: &mut EntryList,
     place: usize,
 ) -> Result<(), Memory>
@@ -52,7 +52,7 @@ fn make_withdrawal(
     mappings: &Mappings<'_>,
     settings: Settings,
     versions: &mut Versions,
-    queue: &mut [Record],
+    queue: &mut [QueuedUpdate],
     history: &mut EntryList,
     place: usize,
 ) -> Result<(), Memory>
@@ -81,7 +81,7 @@ fn prepare_loss_at(
     mappings: &Mappings<'_>,
     settings: Settings,
     versions: &mut Versions,
-    queue: &[Record],
+    queue: &[QueuedUpdate],
     place: usize,
 ) -> Result<Aftermath, Memory>
     requires place { place < length queue.now }
@@ -106,8 +106,8 @@ fn prepare_loss(
     settings: Settings,
     committed: u32,
     versions: &mut Versions,
-    item: &Record,
-    upper: &[Record],
+    item: &QueuedUpdate,
+    upper: &[QueuedUpdate],
 ) -> Result<Aftermath, Memory>
     requires between { IsBetween item.now.program }
     requires numbers { AreFrom (suc item.now.program.attempt.number) upper.now }
@@ -131,8 +131,8 @@ fn found_lost<'a>(
     settings: Settings,
     committed: u32,
     versions: &'a Versions,
-    item: &Record,
-    upper: &[Record],
+    item: &QueuedUpdate,
+    upper: &[QueuedUpdate],
 ) -> Result<Vec<Option<Cause>>, Memory>
     requires between { IsBetween item.now.program }
     requires numbers { AreFrom (suc item.now.program.attempt.number) upper.now }
@@ -152,7 +152,7 @@ fn found_lost<'a>(
 }
 
 // The versions without the trail of the update.
-fn without(alloc: Global, versions: &Versions, item: &Record) -> Result<Versions, Memory>
+fn without(alloc: Global, versions: &Versions, item: &QueuedUpdate) -> Result<Versions, Memory>
     requires between { IsBetween item.now.program }
     ensures lost { IfOk result (ClearedIf true item.now versions.now) }
 {
@@ -163,7 +163,7 @@ fn without(alloc: Global, versions: &Versions, item: &Record) -> Result<Versions
 
 // Withdraws the update at the place, and restarts those of the updates above for which there is an attempt. It takes no
 // memory.
-fn remove(queue: &mut [Record], place: usize, fresh: Vec<Option<Program>>)
+fn remove(queue: &mut [QueuedUpdate], place: usize, fresh: Vec<Option<Attempt>>)
     requires place { place < length queue.old }
     requires numbers { AreFrom 1 queue.old }
     requires fresh { AreFresh (drop (suc place) queue.old) fresh.items }
@@ -176,7 +176,7 @@ fn remove(queue: &mut [Record], place: usize, fresh: Vec<Option<Program>>)
 }
 
 // The entry of the withdrawal of the update at the place.
-fn withdrawal_entry(queue: &[Record], place: usize, causes: CauseList) -> Entry
+fn withdrawal_entry(queue: &[QueuedUpdate], place: usize, causes: CauseList) -> Entry
     requires place { place < length queue.now }
     requires numbers { AreFrom 1 queue.now }
     ensures told { TellsWithdrawal place causes queue.now result }

@@ -3,7 +3,7 @@ ghost use Rattle.std.specs.Prelude.{◌≡◌, length, true, IfOk, OnOk, OnErr};
 ghost use Rattle.core_entries.specs.Meanings.{standing_of};
 ghost use Rattle.def_machine.specs.Effects.{Withdraws};
 ghost use Rattle.core_engine.specs.Events.{HasMade};
-ghost use Rattle.core_engine.specs.LiveCalls.{AnswersWithdrawal, is_live_in, is_withdrawn as is_withdrawn_lem};
+ghost use Rattle.core_engine.specs.LiveCalls.{AnswersWithdrawal, is_live_in, is_withdrawn as is_withdrawn_def};
 ghost use Rattle.core_engine.specs.States.{committed_at, standing_at};
 
 use crate::cores::Core;
@@ -87,7 +87,7 @@ impl<'s> Core<'s> {
 
 // Whether the standing is that of a withdrawn update.
 fn is_withdrawn(standing: Standing) -> bool
-    ensures { result ≡ is_withdrawn_lem (standing_of standing) }
+    ensures { result ≡ is_withdrawn_def (standing_of standing) }
 {
     matches!(standing, Standing::Withdrawn)
 }

@@ -1,7 +1,7 @@
 //! Why an update was restarted.
 
 use base_types::List;
-use chase_query::Answer;
+use chase_query::Reply;
 
 /// Why an update was restarted. Reads are counted from 1 in the log of the reader.
 #[derive(Debug, Drop)]
@@ -11,8 +11,8 @@ pub enum Cause {
         reader: u32,
         read: u64,
         writer: u32,
-        old: Answer,
-        new: Answer,
+        old: Reply,
+        new: Reply,
     },
     /// The reader's read depends on what the aborted update `on` wrote.
     Depends {

@@ -27,10 +27,10 @@ use Rattle.def_steps.specs.Chase.{caused_chase, ending}
 use Rattle.std.specs.Option.{option_map}
 use Rattle.core_queue.specs.Programs.{IsPlanOf}
 use Rattle.core_queue.specs.Queues.{logged, update_of}
-use Rattle.core_queue.specs.declared.records.Record.{Record}
+use Rattle.core_queue.specs.declared.updates.QueuedUpdate.{QueuedUpdate}
 
 -- Behind the step the log is that of the step.
-logs : (ms : List Rule) (B : ℕ) (D : List Fact) (r : Record) (plan : Plan) (log : List Logged) → IsPlanOf ms B D r plan → log ≡ r.log.items ++ plan.reads.items
+logs : (ms : List Rule) (B : ℕ) (D : List Fact) (r : QueuedUpdate) (plan : Plan) (log : List Logged) → IsPlanOf ms B D r plan → log ≡ r.log.items ++ plan.reads.items
     → map (logged ms B) (reads_in log) ≡ map (logged ms B) (reads_in r.log.items) ++ step_log (caused_chase ms B) r.program.attempt.operation D (map choice_of r.answers.items) r.program.attempt
 logs ms B D r plan log p e =
     let P = r.program.attempt in
@@ -43,7 +43,7 @@ logs ms B D r plan log p e =
     ∙ (λ i. before ++ map-map (logged ms B) (read_after (length P.own)) (log_of (answers_over ms D P) (step ms P c)) i)))
 
 -- With the attempt and the reads of the plan taken over, the step is made.
-pub stepped_by : (ms : List Rule) (B : ℕ) (D : List Fact) (r : Record) (plan : Plan) (log : List Logged) → IsPlanOf ms B D r plan → log ≡ r.log.items ++ plan.reads.items
+pub stepped_by : (ms : List Rule) (B : ℕ) (D : List Fact) (r : QueuedUpdate) (plan : Plan) (log : List Logged) → IsPlanOf ms B D r plan → log ≡ r.log.items ++ plan.reads.items
     → ◌≡◌ {A = Update (caused_chase ms B)}
     (record {
       operation = plan.program.attempt.operation;
@@ -83,7 +83,7 @@ none_behind false own more ws n e h l =
     absurd (omega (arith, long, e, l))
 
 -- Behind the writes that were shown before come those of the step.
-pub written : (ms : List Rule) (B : ℕ) (D : List Fact) (r : Record) (plan : Plan) (ws vs : List Write) (n : ℕ) → IsPlanOf ms B D r plan → map change_of ws ≡ shown (caused_chase ms B) plan.program.attempt
+pub written : (ms : List Rule) (B : ℕ) (D : List Fact) (r : QueuedUpdate) (plan : Plan) (ws vs : List Write) (n : ℕ) → IsPlanOf ms B D r plan → map change_of ws ≡ shown (caused_chase ms B) plan.program.attempt
     → n ≡ length r.program.attempt.own → vs ≡ take (length ws - n) (drop n ws) → map change_of vs ≡ step_writes (caused_chase ms B) D (update_of ms B r)
 written ms B D r plan ws vs n p h e f =
     let P = r.program.attempt in
@@ -93,7 +93,7 @@ written ms B D r plan ws vs n p h e f =
     ∙ behind (hides (option_map ending (outcome_in (next_attempt ms B D P c).phase))) P.own m.writes ws n e (h ∙ ap (λ (t : State). shown (caused_chase ms B) t.attempt) p.program)
 
 -- Where fewer are shown than were made before, the step shows none.
-pub unwritten : (ms : List Rule) (B : ℕ) (D : List Fact) (r : Record) (plan : Plan) (ws : List Write) (n : ℕ) → IsPlanOf ms B D r plan → map change_of ws ≡ shown (caused_chase ms B) plan.program.attempt
+pub unwritten : (ms : List Rule) (B : ℕ) (D : List Fact) (r : QueuedUpdate) (plan : Plan) (ws : List Write) (n : ℕ) → IsPlanOf ms B D r plan → map change_of ws ≡ shown (caused_chase ms B) plan.program.attempt
     → n ≡ length r.program.attempt.own → length ws < n → [] ≡ step_writes (caused_chase ms B) D (update_of ms B r)
 unwritten ms B D r plan ws n p h e l =
     let P = r.program.attempt in
@@ -102,7 +102,7 @@ unwritten ms B D r plan ws n p h e l =
     none_behind (hides (option_map ending (outcome_in (next_attempt ms B D P c).phase))) P.own m.writes ws n e (h ∙ ap (λ (t : State). shown (caused_chase ms B) t.attempt) p.program) l
 
 -- The own writes of a plan are those that were made before and those behind them.
-pub own_by : (ms : List Rule) (B : ℕ) (D : List Fact) (r : Record) (plan : Plan) (ws : List Change) (n : ℕ) → IsPlanOf ms B D r plan → n ≡ length r.program.attempt.own → ws ≡ drop n plan.program.attempt.own
+pub own_by : (ms : List Rule) (B : ℕ) (D : List Fact) (r : QueuedUpdate) (plan : Plan) (ws : List Change) (n : ℕ) → IsPlanOf ms B D r plan → n ≡ length r.program.attempt.own → ws ≡ drop n plan.program.attempt.own
     → r.program.attempt.own ++ ws ≡ plan.program.attempt.own
 own_by ms B D r plan ws n p e f =
     let P = r.program.attempt in

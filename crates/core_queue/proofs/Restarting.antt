@@ -13,7 +13,7 @@ use Rattle.def_steps.specs.Chase.{caused_chase}
 use Rattle.core_queue.specs.Queues.{update_of, updates_of, StandsAt, AreFrom}
 use Rattle.core_queue.specs.Events.{KeepsPlace}
 use Rattle.core_queue.specs.Renewals.{AreFresh, HasRestartedIf}
-use Rattle.core_queue.specs.declared.records.Record.{Record}
+use Rattle.core_queue.specs.declared.updates.QueuedUpdate.{QueuedUpdate}
 
 -- The updates, of which those with a mark are restarted; the first is update n.
 abbrev pub restart_by : (M : Machine) → ℕ → List Bool → List (Update M) → List (Update M)
@@ -40,30 +40,30 @@ turn M (x ∷ us) (suc k) n v b bs u h e r = let l : k < length us = omega (arit
 -- ---- places
 
 -- The record at a place stands there.
-pub stands_there : (rs : List Record) (n k : ℕ) (r : Record) → AreFrom n rs → k < length rs → get_or rs k r ≡ r → StandsAt (n + k) r
+pub stands_there : (rs : List QueuedUpdate) (n k : ℕ) (r : QueuedUpdate) → AreFrom n rs → k < length rs → get_or rs k r ≡ r → StandsAt (n + k) r
 stands_there [] n k r a h e = absurd (omega (arith, h))
-stands_there (x ∷ rs) n zero r a h e = let same : n ≡ n + 0 = omega arith in subst (λ (m : ℕ). StandsAt m r) same (subst (λ (y : Record). StandsAt n y) e a.0)
+stands_there (x ∷ rs) n zero r a h e = let same : n ≡ n + 0 = omega arith in subst (λ (m : ℕ). StandsAt m r) same (subst (λ (y : QueuedUpdate). StandsAt n y) e a.0)
 stands_there (x ∷ rs) n (suc k) r a h e =
     let l : k < length rs = omega (arith, h) in
     let same : suc n + k ≡ n + suc k = omega arith in subst (λ (m : ℕ). StandsAt m r) same (stands_there rs (suc n) k r a.1 l e)
 
 -- A record that keeps its place can be put there.
-pub put_there : (rs : List Record) (n k : ℕ) (r v : Record) → AreFrom n rs → k < length rs → get_or rs k r ≡ r → KeepsPlace r v → AreFrom n (set rs k v)
+pub put_there : (rs : List QueuedUpdate) (n k : ℕ) (r v : QueuedUpdate) → AreFrom n rs → k < length rs → get_or rs k r ≡ r → KeepsPlace r v → AreFrom n (set rs k v)
 put_there [] n k r v a h e f = absurd (omega (arith, h))
-put_there (x ∷ rs) n zero r v a h e f = (f n (subst (λ (y : Record). StandsAt n y) e a.0), a.1)
+put_there (x ∷ rs) n zero r v a h e f = (f n (subst (λ (y : QueuedUpdate). StandsAt n y) e a.0), a.1)
 put_there (x ∷ rs) n (suc k) r v a h e f = let l : k < length rs = omega (arith, h) in (a.0, put_there rs (suc n) k r v a.1 l e f)
 
 -- ---- fresh attempts
 
 -- There is a record for each.
-pub fresh_within : (rs : List Record) (k : ℕ) (f : Option State) (fs : List (Option State)) → AreFresh (drop k rs) (f ∷ fs) → k < length rs
+pub fresh_within : (rs : List QueuedUpdate) (k : ℕ) (f : Option State) (fs : List (Option State)) → AreFresh (drop k rs) (f ∷ fs) → k < length rs
 fresh_within [] zero f fs h = absurd h
 fresh_within [] (suc k) f fs h = absurd h
 fresh_within (x ∷ rs) zero f fs h = omega arith
 fresh_within (x ∷ rs) (suc k) f fs h = let l : k < length rs = fresh_within rs k f fs h in omega (arith, l)
 
 -- The others are those of the records behind it.
-pub fresh_rest : (rs : List Record) (k : ℕ) (f : Option State) (fs : List (Option State)) (v : Record) → AreFresh (drop k rs) (f ∷ fs) → AreFresh (drop (suc k) (set rs k v)) fs
+pub fresh_rest : (rs : List QueuedUpdate) (k : ℕ) (f : Option State) (fs : List (Option State)) (v : QueuedUpdate) → AreFresh (drop k rs) (f ∷ fs) → AreFresh (drop (suc k) (set rs k v)) fs
 fresh_rest [] zero f fs v h = absurd h
 fresh_rest [] (suc k) f fs v h = absurd h
 fresh_rest (x ∷ rs) zero f fs v h = h.1
@@ -72,7 +72,7 @@ fresh_rest (x ∷ rs) (suc k) f fs v h = fresh_rest rs k f fs v h
 -- ---- one turn
 
 -- The record at place k begins its next attempt, if there is one.
-pub turned : (ms : List Rule) (B : ℕ) (rs : List Record) (k m : ℕ) (r v : Record) (f : Option State) (bs : List Bool) → AreFrom 1 rs → k < length rs → get_or rs k r ≡ r → HasRestartedIf f r v → m ≡ suc k
+pub turned : (ms : List Rule) (B : ℕ) (rs : List QueuedUpdate) (k m : ℕ) (r v : QueuedUpdate) (f : Option State) (bs : List Bool) → AreFrom 1 rs → k < length rs → get_or rs k r ≡ r → HasRestartedIf f r v → m ≡ suc k
     → take m (updates_of ms B (set rs k v)) ++ restart_by (caused_chase ms B) (suc m) bs (drop m (updates_of ms B (set rs k v)))
     ≡ take k (updates_of ms B rs) ++ restart_by (caused_chase ms B) (suc k) (is_some f ∷ bs) (drop k (updates_of ms B rs))
 turned ms B rs k m r v f bs a h e g q =

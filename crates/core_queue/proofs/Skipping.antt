@@ -15,14 +15,14 @@ use Rattle.chase_update.specs.declared.results.Lack.{Lack as LackOfProgram}
 use Rattle.def_steps.specs.Chase.{caused_chase}
 use Rattle.core_queue.specs.Queues.{AreFrom, update_of, updates_of}
 use Rattle.core_queue.specs.Programs.{IsBetween}
-use Rattle.core_queue.specs.Records.{CannotStep, IsOver, IsUnready}
-use Rattle.core_queue.specs.Walks.{AreUnready, UnreadyUpTo}
+use Rattle.core_queue.specs.Updates.{CannotStep, IsOver, IsUnready}
+use Rattle.core_queue.specs.Order.{AreUnready, UnreadyUpTo}
 use Rattle.core_queue.specs.Wants.{HasLack}
-use Rattle.core_queue.specs.declared.records.Record.{Record}
+use Rattle.core_queue.specs.declared.updates.QueuedUpdate.{QueuedUpdate}
 use Rattle.core_queue.proofs.Walking.{IsFirst, besides_test, dropped, from_behind, ready_fails, stands_here}
 
 -- What is over is unready.
-pub over_unready : (r : Record) (b : Bool) → IsOver r b → b ≡ true → IsUnready r
+pub over_unready : (r : QueuedUpdate) (b : Bool) → IsOver r b → b ≡ true → IsUnready r
 over_unready r b t e ms B s c n = ready_fails (caused_chase ms B) s c n (update_of ms B r) (sym (t ms B) ∙ e)
 
 lack_fails : (M : Machine) (s : Settings) (c n : ℕ) (u : Update M) (x : Lack) → lack M u.answers u.state ≡ Some x → is_ready (standing M s c n u) ≡ false
@@ -33,7 +33,7 @@ lack_fails M s c n u x e = by (is_ready (standing M s c n u)) refl
     by false f = refl
 
 -- So is what lacks something at its question.
-pub lacking_unready : (r : Record) (l : Option LackOfProgram) → HasLack r (option_map lack_of l) → is_some l ≡ true → IsUnready r
+pub lacking_unready : (r : QueuedUpdate) (l : Option LackOfProgram) → HasLack r (option_map lack_of l) → is_some l ≡ true → IsUnready r
 lacking_unready r None t e = absurd (both_ways _ refl e)
 lacking_unready r (Some x) t e = λ ms B s c n. lack_fails (caused_chase ms B) s c n (update_of ms B r) (lack_of x) (sym (t ms B))
 
@@ -43,7 +43,7 @@ longer M zero (v ∷ us) u l at fails h = (subst (λ (w : Update M). CannotStep 
 longer M (suc n) (v ∷ us) u l at fails h = (h.0, longer M n us u (omega (arith, l)) at fails h.1)
 
 -- The next is unready too, so one more is.
-pub one_more_unready : (rs : List Record) (n k : ℕ) (r : Record) → k ≡ suc n → n < length rs → get_or rs n r ≡ r → IsUnready r → UnreadyUpTo rs n → UnreadyUpTo rs k
+pub one_more_unready : (rs : List QueuedUpdate) (n k : ℕ) (r : QueuedUpdate) → k ≡ suc n → n < length rs → get_or rs n r ≡ r → IsUnready r → UnreadyUpTo rs n → UnreadyUpTo rs k
 one_more_unready rs n k r e l at fails h ms B =
     let M = caused_chase ms B in
     let m : n < length (updates_of ms B rs) = simp length-map l in
@@ -51,24 +51,24 @@ one_more_unready rs n k r e l at fails h ms B =
     subst (λ (i : ℕ). AreUnready M i (updates_of ms B rs)) (sym e) (longer M n (updates_of ms B rs) (update_of ms B r) m here (fails ms B) (h ms B))
 
 -- The record at the place stands between two steps.
-pub between_here : (rs : List Record) (i : ℕ) (r : Record) → i < length rs → r ≡ get_or rs i r → AreFrom 1 rs → IsBetween r.program
+pub between_here : (rs : List QueuedUpdate) (i : ℕ) (r : QueuedUpdate) → i < length rs → r ≡ get_or rs i r → AreFrom 1 rs → IsBetween r.program
 between_here rs i r l is from = let m : i ≤ length rs = omega (arith, l) in (stands_here rs i (i + 1) r l is (from_behind rs 1 i m from)).between
 
 -- Those behind the first are those from the next number on.
-pub past_from : (rs rest : List Record) (k : ℕ) → k ≤ length rs → rest ≡ drop k rs → AreFrom 1 rs → AreFrom (suc k) rest
+pub past_from : (rs rest : List QueuedUpdate) (k : ℕ) → k ≤ length rs → rest ≡ drop k rs → AreFrom 1 rs → AreFrom (suc k) rest
 past_from rs rest k l e from =
     let one : k + 1 ≡ suc k = omega arith in
-    subst (λ (xs : List Record). AreFrom (suc k) xs) (sym e) (subst (λ (m : ℕ). AreFrom m (drop k rs)) one (from_behind rs 1 k l from))
+    subst (λ (xs : List QueuedUpdate). AreFrom (suc k) xs) (sym e) (subst (λ (m : ℕ). AreFrom m (drop k rs)) one (from_behind rs 1 k l from))
 
 there : (M : Machine) (n : ℕ) (us : List (Update M)) → AreUnready M n us → n ≤ length us
 there M zero us h = omega arith
 there M (suc n) [] h = absurd h
 there M (suc n) (u ∷ us) h = let l = there M n us h.1 in omega (arith, l)
 
-pub unready_there : (rs : List Record) (n : ℕ) → UnreadyUpTo rs n → n ≤ length rs
+pub unready_there : (rs : List QueuedUpdate) (n : ℕ) → UnreadyUpTo rs n → n ≤ length rs
 unready_there rs n h = let l = there (caused_chase [] 0) n (updates_of [] 0 rs) (h [] 0) in let same = length-map rs (update_of [] 0) in omega (arith, l, same)
 
-pub none_unready : (rs : List Record) → UnreadyUpTo rs 0
+pub none_unready : (rs : List QueuedUpdate) → UnreadyUpTo rs 0
 none_unready rs ms B = tt
 
 -- The first that passes a test which fails for what cannot step is behind those that are unready.
@@ -80,7 +80,7 @@ skipped M p fails (u ∷ us) n (suc c) h =
     let same : suc n + c ≡ n + suc c = omega arith in
     ap (λ (b : Bool). if b then Some n else lowest_that {M = M} p (suc n) us) (fails n u h.0) ∙ skipped M p fails us (suc n) c h.1 ∙ ap (λ (m : ℕ). lowest_that {M = M} p m (drop c us)) same
 
-pub besides_past : (ns : List ℕ) (s : Settings) (c : ℕ) (rs : List Record) (k : ℕ) (o : Option ℕ) → UnreadyUpTo rs k → IsFirst (besides_test ns s c) (suc k) (drop k rs) o → IsFirst (besides_test ns s c) 1 rs o
+pub besides_past : (ns : List ℕ) (s : Settings) (c : ℕ) (rs : List QueuedUpdate) (k : ℕ) (o : Option ℕ) → UnreadyUpTo rs k → IsFirst (besides_test ns s c) (suc k) (drop k rs) o → IsFirst (besides_test ns s c) 1 rs o
 besides_past ns s c rs k o h first ms B =
     let M = caused_chase ms B in
     let p : ℕ → Update M → Bool = besides_test ns s c ms B in

@@ -6,17 +6,17 @@ use Rattle.chase_query.specs.Meanings.{reads_in}
 use Rattle.chase_query.specs.declared.log.Logged.{Logged}
 use Rattle.def_steps.specs.Chase.{caused_chase}
 use Rattle.core_queue.specs.Queues.{update_of, updates_of, logged}
-use Rattle.core_queue.specs.Walks.{AreUnread, ReadsAtMost}
-use Rattle.core_queue.specs.declared.records.Record.{Record}
+use Rattle.core_queue.specs.Order.{AreUnread, ReadsAtMost}
+use Rattle.core_queue.specs.declared.updates.QueuedUpdate.{QueuedUpdate}
 
 -- Behind all of them there is none.
-pub all_may_read : (rs : List Record) (n : ℕ) → length rs ≤ n → ReadsAtMost rs n
+pub all_may_read : (rs : List QueuedUpdate) (n : ℕ) → length rs ≤ n → ReadsAtMost rs n
 all_may_read rs n h ms B =
     let l : length (updates_of ms B rs) ≤ n = simp length-map h in
     subst (λ (us : List (Update (caused_chase ms B))). AreUnread (caused_chase ms B) us) (sym (drop_all n (updates_of ms B rs) l)) tt
 
 -- The last of so many has read nothing, so one fewer may have.
-pub one_fewer : (rs : List Record) (n k : ℕ) (r : Record) → n ≡ suc k → k < length rs → get_or rs k r ≡ r → r.log.items ≡ [] → ReadsAtMost rs n → ReadsAtMost rs k
+pub one_fewer : (rs : List QueuedUpdate) (n k : ℕ) (r : QueuedUpdate) → n ≡ suc k → k < length rs → get_or rs k r ≡ r → r.log.items ≡ [] → ReadsAtMost rs n → ReadsAtMost rs k
 one_fewer rs n k r e l at none h ms B =
     let us = updates_of ms B rs in
     let u = update_of ms B r in

@@ -13,21 +13,21 @@ use Rattle.def_chase.specs.Mappings.{Rule}
 use Rattle.def_chase.proofs.Bools.{none_some}
 use Rattle.def_steps.specs.Chase.{caused_chase}
 use Rattle.core_queue.specs.Queues.{update_of, updates_of, StandsAt, AreFrom}
-use Rattle.core_queue.specs.Records.{IsOver}
-use Rattle.core_queue.specs.Walks.{CommitsAtLeast, CommitsOn, HasCommitted, IsNextDeliverable, IsNextOf, only}
-use Rattle.core_queue.specs.declared.records.Record.{Record}
+use Rattle.core_queue.specs.Updates.{IsOver}
+use Rattle.core_queue.specs.Order.{CommitsAtLeast, CommitsOn, HasCommitted, IsNextDeliverable, IsNextOf, only}
+use Rattle.core_queue.specs.declared.updates.QueuedUpdate.{QueuedUpdate}
 
 -- What is left of a queue is the record at the place, and what is left behind it.
-left_of : (rs : List Record) (i : ℕ) (r : Record) → i < length rs → r ≡ get_or rs i r → drop i rs ≡ r ∷ drop (i + 1) rs
-left_of rs i r h e = drop_more rs i r h ∙ ap (λ (x : Record). x ∷ drop (i + 1) rs) (sym e)
+left_of : (rs : List QueuedUpdate) (i : ℕ) (r : QueuedUpdate) → i < length rs → r ≡ get_or rs i r → drop i rs ≡ r ∷ drop (i + 1) rs
+left_of rs i r h e = drop_more rs i r h ∙ ap (λ (x : QueuedUpdate). x ∷ drop (i + 1) rs) (sym e)
 
 -- The record at the place stands there.
-pub stands_here : (rs : List Record) (i n : ℕ) (r : Record) → i < length rs → r ≡ get_or rs i r → AreFrom n (drop i rs) → StandsAt n r
+pub stands_here : (rs : List QueuedUpdate) (i n : ℕ) (r : QueuedUpdate) → i < length rs → r ≡ get_or rs i r → AreFrom n (drop i rs) → StandsAt n r
 stands_here rs i n r h e a =
     let all : AreFrom n (r ∷ drop (i + 1) rs) = subst (AreFrom n) (left_of rs i r h e) a in all.0
 
 -- Those behind it stand behind it.
-pub stand_behind : (rs : List Record) (i n m : ℕ) (r : Record) → i < length rs → r ≡ get_or rs i r → m ≡ suc n → AreFrom n (drop i rs) → AreFrom m (drop (i + 1) rs)
+pub stand_behind : (rs : List QueuedUpdate) (i n m : ℕ) (r : QueuedUpdate) → i < length rs → r ≡ get_or rs i r → m ≡ suc n → AreFrom n (drop i rs) → AreFrom m (drop (i + 1) rs)
 stand_behind rs i n m r h e q a =
     let all : AreFrom n (r ∷ drop (i + 1) rs) = subst (AreFrom n) (left_of rs i r h e) a in
     subst (λ (k : ℕ). AreFrom k (drop (i + 1) rs)) (sym q) all.1
@@ -38,24 +38,24 @@ stand_behind rs i n m r h e q a =
 abbrev pub Test : Type 0
 Test = (ms : List Rule) (B : ℕ) → ℕ → Update (caused_chase ms B) → Bool
 
-abbrev pub IsFirst : Test → ℕ → List Record → Option ℕ → Type 0
+abbrev pub IsFirst : Test → ℕ → List QueuedUpdate → Option ℕ → Type 0
 IsFirst p n rs o = (ms : List Rule) (B : ℕ) → o ≡ lowest_that {M = caused_chase ms B} (p ms B) n (updates_of ms B rs)
 
-abbrev pub Tells : Test → ℕ → Record → Bool → Type 0
+abbrev pub Tells : Test → ℕ → QueuedUpdate → Bool → Type 0
 Tells p k r b = (ms : List Rule) (B : ℕ) → b ≡ p ms B k (update_of ms B r)
 
 -- The record at the place passes it.
-pub found : (p : Test) (rs : List Record) (i n k : ℕ) (r : Record) (b : Bool) → i < length rs → r ≡ get_or rs i r → AreFrom n (drop i rs) → k ≡ r.program.attempt.number → Tells p k r b → b ≡ true → IsFirst p n (drop i rs) (Some k)
+pub found : (p : Test) (rs : List QueuedUpdate) (i n k : ℕ) (r : QueuedUpdate) (b : Bool) → i < length rs → r ≡ get_or rs i r → AreFrom n (drop i rs) → k ≡ r.program.attempt.number → Tells p k r b → b ≡ true → IsFirst p n (drop i rs) (Some k)
 found p rs i n k r b h e a q t f = λ ms B.
     let M = caused_chase ms B in
     let number : k ≡ n = q ∙ (stands_here rs i n r h e a).number in
     let passes : true ≡ p ms B n (update_of ms B r) = sym f ∙ (t ms B ∙ ap (λ (m : ℕ). p ms B m (update_of ms B r)) number) in
     ap Some number
     ∙ (ap (λ (x : Bool). if x then Some n else lowest_that {M = M} (p ms B) (suc n) (updates_of ms B (drop (i + 1) rs))) passes
-    ∙ sym (ap (λ (xs : List Record). lowest_that {M = M} (p ms B) n (updates_of ms B xs)) (left_of rs i r h e)))
+    ∙ sym (ap (λ (xs : List QueuedUpdate). lowest_that {M = M} (p ms B) n (updates_of ms B xs)) (left_of rs i r h e)))
 
 -- The record at the place does not.
-pub passed : (p : Test) (rs : List Record) (i n m k : ℕ) (r : Record) (b : Bool) (o : Option ℕ) → i < length rs → r ≡ get_or rs i r → AreFrom n (drop i rs) → k ≡ r.program.attempt.number → Tells p k r b → b ≡ false → m ≡ suc n
+pub passed : (p : Test) (rs : List QueuedUpdate) (i n m k : ℕ) (r : QueuedUpdate) (b : Bool) (o : Option ℕ) → i < length rs → r ≡ get_or rs i r → AreFrom n (drop i rs) → k ≡ r.program.attempt.number → Tells p k r b → b ≡ false → m ≡ suc n
     → IsFirst p m (drop (i + 1) rs) o → IsFirst p n (drop i rs) o
 passed p rs i n m k r b o h e a q t f j first = λ ms B.
     let M = caused_chase ms B in
@@ -64,11 +64,11 @@ passed p rs i n m k r b o h e a q t f j first = λ ms B.
     first ms B
     ∙ (ap (λ (x : ℕ). lowest_that {M = M} (p ms B) x (updates_of ms B (drop (i + 1) rs))) j
     ∙ (ap (λ (x : Bool). if x then Some n else lowest_that {M = M} (p ms B) (suc n) (updates_of ms B (drop (i + 1) rs))) fails
-    ∙ sym (ap (λ (xs : List Record). lowest_that {M = M} (p ms B) n (updates_of ms B xs)) (left_of rs i r h e))))
+    ∙ sym (ap (λ (xs : List QueuedUpdate). lowest_that {M = M} (p ms B) n (updates_of ms B xs)) (left_of rs i r h e))))
 
 -- No record is left.
-pub ended : (p : Test) (rs : List Record) (i n : ℕ) → length rs ≤ i → IsFirst p n (drop i rs) None
-ended p rs i n h = λ ms B. sym (ap (λ (xs : List Record). lowest_that {M = caused_chase ms B} (p ms B) n (updates_of ms B xs)) (drop_all i rs h))
+pub ended : (p : Test) (rs : List QueuedUpdate) (i n : ℕ) → length rs ≤ i → IsFirst p n (drop i rs) None
+ended p rs i n h = λ ms B. sym (ap (λ (xs : List QueuedUpdate). lowest_that {M = caused_chase ms B} (p ms B) n (updates_of ms B xs)) (drop_all i rs h))
 
 -- The least number that passes is not below the first.
 least_number : (M : Machine) (p : ℕ → Update M → Bool) (n k : ℕ) (us : List (Update M)) → lowest_that {M = M} p n us ≡ Some k → n ≤ k
@@ -94,7 +94,7 @@ first_only M p n u us b e = by b ∙ ap (λ (x : Bool). only n (if x then Some n
     by false = later (lowest_that {M = M} p (suc n) us) refl
 
 -- Of those behind the committed ones only the first is asked for: its number is told where it passes.
-pub next_of : (p : Test) (rs : List Record) (c k : ℕ) (r : Record) (b : Bool) → 0 < length rs → r ≡ get_or rs 0 r → AreFrom (suc c) rs → k ≡ r.program.attempt.number → Tells p k r b
+pub next_of : (p : Test) (rs : List QueuedUpdate) (c k : ℕ) (r : QueuedUpdate) (b : Bool) → 0 < length rs → r ≡ get_or rs 0 r → AreFrom (suc c) rs → k ≡ r.program.attempt.number → Tells p k r b
     → (o : Option ℕ) → o ≡ (if b then Some k else None) → (ms : List Rule) (B : ℕ) → o ≡ only (suc c) (lowest_that {M = caused_chase ms B} (p ms B) (suc c) (updates_of ms B rs))
 next_of p rs c k r b h e a q t o f ms B =
     let M = caused_chase ms B in
@@ -102,18 +102,18 @@ next_of p rs c k r b h e a q t o f ms B =
     let told : b ≡ p ms B (suc c) (update_of ms B r) = t ms B ∙ ap (λ (m : ℕ). p ms B m (update_of ms B r)) number in
     f ∙ ap (λ (m : ℕ). if b then Some m else None) number
     ∙ first_only M (p ms B) (suc c) (update_of ms B r) (updates_of ms B (drop 1 rs)) b told
-    ∙ sym (ap (λ (xs : List Record). only (suc c) (lowest_that {M = M} (p ms B) (suc c) (updates_of ms B xs))) (left_of rs 0 r h e))
+    ∙ sym (ap (λ (xs : List QueuedUpdate). only (suc c) (lowest_that {M = M} (p ms B) (suc c) (updates_of ms B xs))) (left_of rs 0 r h e))
 
 -- ---- how many are committed
 
-counted : (ms : List Rule) (B : ℕ) (rs : List Record) (i : ℕ) (r : Record) (b : Bool) → i < length rs → r ≡ get_or rs i r → IsOver r b
+counted : (ms : List Rule) (B : ℕ) (rs : List QueuedUpdate) (i : ℕ) (r : QueuedUpdate) (b : Bool) → i < length rs → r ≡ get_or rs i r → IsOver r b
     → committed (caused_chase ms B) (updates_of ms B (drop i rs)) ≡ (if b then suc (committed (caused_chase ms B) (updates_of ms B (drop (i + 1) rs))) else 0)
 counted ms B rs i r b h e t =
-    ap (λ (xs : List Record). committed (caused_chase ms B) (updates_of ms B xs)) (left_of rs i r h e)
+    ap (λ (xs : List QueuedUpdate). committed (caused_chase ms B) (updates_of ms B xs)) (left_of rs i r h e)
     ∙ ap (λ (x : Bool). if x then suc (committed (caused_chase ms B) (updates_of ms B (drop (i + 1) rs))) else 0) (sym (t ms B))
 
 -- The record at the place is over.
-pub one_more : (ms : List Rule) (B : ℕ) (rs : List Record) (i c k all : ℕ) (r : Record) (b : Bool) → i < length rs → r ≡ get_or rs i r → AreFrom (suc c) (drop i rs) → k ≡ r.program.attempt.number → IsOver r b → b ≡ true
+pub one_more : (ms : List Rule) (B : ℕ) (rs : List QueuedUpdate) (i c k all : ℕ) (r : QueuedUpdate) (b : Bool) → i < length rs → r ≡ get_or rs i r → AreFrom (suc c) (drop i rs) → k ≡ r.program.attempt.number → IsOver r b → b ≡ true
     → c + committed (caused_chase ms B) (updates_of ms B (drop i rs)) ≡ all → k + committed (caused_chase ms B) (updates_of ms B (drop (i + 1) rs)) ≡ all
 one_more ms B rs i c k all r b h e a q t f g =
     let more = committed (caused_chase ms B) (updates_of ms B (drop (i + 1) rs)) in
@@ -122,7 +122,7 @@ one_more ms B rs i c k all r b h e a q t f g =
     omega (arith, number, here, g)
 
 -- It is not.
-pub no_more : (ms : List Rule) (B : ℕ) (rs : List Record) (i c all : ℕ) (r : Record) (b : Bool) → i < length rs → r ≡ get_or rs i r → IsOver r b → b ≡ false
+pub no_more : (ms : List Rule) (B : ℕ) (rs : List QueuedUpdate) (i c all : ℕ) (r : QueuedUpdate) (b : Bool) → i < length rs → r ≡ get_or rs i r → IsOver r b → b ≡ false
     → c + committed (caused_chase ms B) (updates_of ms B (drop i rs)) ≡ all → c ≡ all
 no_more ms B rs i c all r b h e t f g =
     let more = committed (caused_chase ms B) (updates_of ms B (drop (i + 1) rs)) in
@@ -130,9 +130,9 @@ no_more ms B rs i c all r b h e t f g =
     omega (arith, here, g)
 
 -- None is left.
-pub all_over : (ms : List Rule) (B : ℕ) (rs : List Record) (i c all : ℕ) → length rs ≤ i → c + committed (caused_chase ms B) (updates_of ms B (drop i rs)) ≡ all → c ≡ all
+pub all_over : (ms : List Rule) (B : ℕ) (rs : List QueuedUpdate) (i c all : ℕ) → length rs ≤ i → c + committed (caused_chase ms B) (updates_of ms B (drop i rs)) ≡ all → c ≡ all
 all_over ms B rs i c all h g =
-    let here : committed (caused_chase ms B) (updates_of ms B (drop i rs)) ≡ 0 = ap (λ (xs : List Record). committed (caused_chase ms B) (updates_of ms B xs)) (drop_all i rs h) in
+    let here : committed (caused_chase ms B) (updates_of ms B (drop i rs)) ≡ 0 = ap (λ (xs : List QueuedUpdate). committed (caused_chase ms B) (updates_of ms B xs)) (drop_all i rs h) in
     omega (arith, here, g)
 
 -- ---- behind those that are committed
@@ -156,21 +156,21 @@ mapped : {X Y : Type 0} (f : X → Y) (xs : List X) → length (map f xs) ≡ le
 mapped f [] = refl
 mapped f (x ∷ xs) = ap suc (mapped f xs)
 
-pub long_enough : (rs : List Record) (c : ℕ) → CommitsAtLeast rs c → c ≤ length rs
+pub long_enough : (rs : List QueuedUpdate) (c : ℕ) → CommitsAtLeast rs c → c ≤ length rs
 long_enough rs c h = let all = many (caused_chase [] 0) (updates_of [] 0 rs) in let same = mapped (update_of [] 0) rs in let least = h [] 0 in omega (arith, all, same, least)
 
 -- Those behind the first stand behind them.
-pub from_behind : (rs : List Record) (n c : ℕ) → c ≤ length rs → AreFrom n rs → AreFrom (c + n) (drop c rs)
+pub from_behind : (rs : List QueuedUpdate) (n c : ℕ) → c ≤ length rs → AreFrom n rs → AreFrom (c + n) (drop c rs)
 from_behind rs n zero h a = let same : n ≡ 0 + n = omega arith in subst (λ (m : ℕ). AreFrom m rs) same a
 from_behind [] n (suc c) h a = absurd (omega (arith, h))
 from_behind (r ∷ rs) n (suc c) h a =
     let l : c ≤ length rs = omega (arith, h) in
     let same : c + suc n ≡ suc c + n = omega arith in subst (λ (m : ℕ). AreFrom m (drop c rs)) same (from_behind rs (suc n) c l a.1)
 
-pub behind_from : (rs rest : List Record) (c : ℕ) → CommitsAtLeast rs c → AreFrom 1 rs → rest ≡ drop c rs → AreFrom (suc c) rest
+pub behind_from : (rs rest : List QueuedUpdate) (c : ℕ) → CommitsAtLeast rs c → AreFrom 1 rs → rest ≡ drop c rs → AreFrom (suc c) rest
 behind_from rs rest c h a e =
     let one : c + 1 ≡ suc c = omega arith in
-    subst (λ (xs : List Record). AreFrom (suc c) xs) (sym e) (subst (λ (m : ℕ). AreFrom m (drop c rs)) one (from_behind rs 1 c (long_enough rs c h) a))
+    subst (λ (xs : List QueuedUpdate). AreFrom (suc c) xs) (sym e) (subst (λ (m : ℕ). AreFrom m (drop c rs)) one (from_behind rs 1 c (long_enough rs c h) a))
 
 -- What is committed are the first, and what of the others is.
 split : (M : Machine) (us : List (Update M)) (c : ℕ) → c ≤ committed M us → c + committed M (drop c us) ≡ committed M us
@@ -182,15 +182,15 @@ split M (u ∷ us) (suc c) h = by (is_over M u) h (split M us c)
     by true l rest = let less : c ≤ committed M us = omega (arith, l) in let same = rest less in omega (arith, same)
     by false l rest = absurd (omega (arith, l))
 
-pub counted_behind : (rs rest : List Record) (c k : ℕ) → CommitsAtLeast rs c → rest ≡ drop c rs → CommitsOn c rest k → HasCommitted rs k
+pub counted_behind : (rs rest : List QueuedUpdate) (c k : ℕ) → CommitsAtLeast rs c → rest ≡ drop c rs → CommitsOn c rest k → HasCommitted rs k
 counted_behind rs rest c k h e on ms B =
     let M = caused_chase ms B in
-    on ms B ∙ ap (λ (xs : List Record). c + committed M (updates_of ms B xs)) e ∙ ap (λ (us : List (Update M)). c + committed M us) (dropped (update_of ms B) rs c) ∙ split M (updates_of ms B rs) c (h ms B)
+    on ms B ∙ ap (λ (xs : List QueuedUpdate). c + committed M (updates_of ms B xs)) e ∙ ap (λ (us : List (Update M)). c + committed M us) (dropped (update_of ms B) rs c) ∙ split M (updates_of ms B rs) c (h ms B)
 
-pub none_committed : (rs : List Record) → CommitsAtLeast rs 0
+pub none_committed : (rs : List QueuedUpdate) → CommitsAtLeast rs 0
 none_committed rs ms B = omega arith
 
-pub commits_so : (rs : List Record) (c : ℕ) → HasCommitted rs c → CommitsAtLeast rs c
+pub commits_so : (rs : List QueuedUpdate) (c : ℕ) → HasCommitted rs c → CommitsAtLeast rs c
 commits_so rs c h ms B = let same = h ms B in omega (arith, same)
 
 -- Where a test fails for all that are over, the first that passes it is behind those that are committed.
@@ -213,17 +213,17 @@ abbrev pub FailsOver : Test → Type 0
 FailsOver p = (ms : List Rule) (B n : ℕ) (u : Update (caused_chase ms B)) → is_over (caused_chase ms B) u ≡ true → p ms B n u ≡ false
 
 -- The first that passes it is the same over all, and over those that come behind.
-pub same_behind : (p : Test) → FailsOver p → (rs rest : List Record) (c : ℕ) → CommitsAtLeast rs c → rest ≡ drop c rs → (ms : List Rule) (B : ℕ)
+pub same_behind : (p : Test) → FailsOver p → (rs rest : List QueuedUpdate) (c : ℕ) → CommitsAtLeast rs c → rest ≡ drop c rs → (ms : List Rule) (B : ℕ)
     → lowest_that {M = caused_chase ms B} (p ms B) (suc c) (updates_of ms B rest) ≡ lowest_that {M = caused_chase ms B} (p ms B) 1 (updates_of ms B rs)
 same_behind p over rs rest c h e ms B =
     let M = caused_chase ms B in
     let one : suc c ≡ 1 + c = omega arith in
-    ap (λ (xs : List Record). lowest_that {M = M} (p ms B) (suc c) (updates_of ms B xs)) e
+    ap (λ (xs : List QueuedUpdate). lowest_that {M = M} (p ms B) (suc c) (updates_of ms B xs)) e
     ∙ ap (λ (us : List (Update M)). lowest_that {M = M} (p ms B) (suc c) us) (dropped (update_of ms B) rs c)
     ∙ ap (λ (m : ℕ). lowest_that {M = M} (p ms B) m (drop c (updates_of ms B rs))) one
     ∙ sym (skipped M (p ms B) (over ms B) (updates_of ms B rs) 1 c (h ms B))
 
-pub first_behind : (p : Test) → FailsOver p → (rs rest : List Record) (c : ℕ) (o : Option ℕ) → CommitsAtLeast rs c → rest ≡ drop c rs → IsFirst p (suc c) rest o → IsFirst p 1 rs o
+pub first_behind : (p : Test) → FailsOver p → (rs rest : List QueuedUpdate) (c : ℕ) (o : Option ℕ) → CommitsAtLeast rs c → rest ≡ drop c rs → IsFirst p (suc c) rest o → IsFirst p 1 rs o
 first_behind p over rs rest c o h e first ms B = first ms B ∙ same_behind p over rs rest c h e ms B
 
 -- What is over is neither ready nor deliverable.
@@ -250,14 +250,14 @@ deliverable_test s c ms B i u = is_deliverable (caused_chase ms B) s c i u
 abbrev pub besides_test : List ℕ → Settings → ℕ → Test
 besides_test ns s c ms B i u = is_ready (standing (caused_chase ms B) s c i u) && not (has_number ns i)
 
-pub ready_behind : (s : Settings) (rs rest : List Record) (c : ℕ) (o : Option ℕ) → HasCommitted rs c → rest ≡ drop c rs → IsFirst (ready_test s c) (suc c) rest o → IsFirst (ready_test s c) 1 rs o
+pub ready_behind : (s : Settings) (rs rest : List QueuedUpdate) (c : ℕ) (o : Option ℕ) → HasCommitted rs c → rest ≡ drop c rs → IsFirst (ready_test s c) (suc c) rest o → IsFirst (ready_test s c) 1 rs o
 ready_behind s rs rest c o h e first = first_behind (ready_test s c) (λ ms B n u. ready_fails (caused_chase ms B) s c n u) rs rest c o (commits_so rs c h) e first
 
-pub deliverable_behind : (s : Settings) (rs rest : List Record) (c : ℕ) (o : Option ℕ) → HasCommitted rs c → rest ≡ drop c rs → IsFirst (deliverable_test s c) (suc c) rest o → IsFirst (deliverable_test s c) 1 rs o
+pub deliverable_behind : (s : Settings) (rs rest : List QueuedUpdate) (c : ℕ) (o : Option ℕ) → HasCommitted rs c → rest ≡ drop c rs → IsFirst (deliverable_test s c) (suc c) rest o → IsFirst (deliverable_test s c) 1 rs o
 deliverable_behind s rs rest c o h e first = first_behind (deliverable_test s c) (λ ms B n u. deliverable_fails (caused_chase ms B) s c n u) rs rest c o (commits_so rs c h) e first
 
 -- The first behind those that are committed is told, where it is deliverable.
-pub next_behind : (s : Settings) (rs rest : List Record) (c : ℕ) (o : Option ℕ) → HasCommitted rs c → rest ≡ drop c rs → IsNextOf s c rest o → IsNextDeliverable s rs o
+pub next_behind : (s : Settings) (rs rest : List QueuedUpdate) (c : ℕ) (o : Option ℕ) → HasCommitted rs c → rest ≡ drop c rs → IsNextOf s c rest o → IsNextDeliverable s rs o
 next_behind s rs rest c o h e next ms B =
     let M = caused_chase ms B in
     next ms B

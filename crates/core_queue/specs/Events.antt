@@ -12,45 +12,45 @@ use Rattle.chase_plan.specs.declared.plans.Plan.{Plan}
 use Rattle.def_steps.specs.Chase.{caused_chase}
 use Rattle.core_queue.specs.Programs.{IsPlanOf}
 use Rattle.core_queue.specs.Queues.{update_of, StandsAt}
-use Rattle.core_queue.specs.declared.records.Record.{Record}
+use Rattle.core_queue.specs.declared.updates.QueuedUpdate.{QueuedUpdate}
 
 -- The record is still the update of that number, between two steps.
-abbrev pub KeepsPlace : Record → Record → Type 0
+abbrev pub KeepsPlace : QueuedUpdate → QueuedUpdate → Type 0
 KeepsPlace r r' = (n : ℕ) → StandsAt n r → StandsAt n r'
 
 -- The records stand for the same update.
-abbrev pub IsSame : Record → Record → Type 0
+abbrev pub IsSame : QueuedUpdate → QueuedUpdate → Type 0
 IsSame r r' = (ms : List Rule) (B : ℕ) → update_of ms B r' ≡ update_of ms B r
 
 -- Update n as it is when it is admitted, with these answers recorded.
-abbrev pub IsAdmitted : ℕ → Update → Listed Choice → Record → Type 0
+abbrev pub IsAdmitted : ℕ → Update → Listed Choice → QueuedUpdate → Type 0
 IsAdmitted n u cs r =
     (ms : List Rule) (B : ℕ) → update_of ms B r ≡ admitted (caused_chase ms B) n (record { operation = operation_of u.operation; answers = map choice_of cs.items })
 
 -- There is room for the reads of the plan.
-abbrev pub HasRoomFor : Plan → Record → Type 0
+abbrev pub HasRoomFor : Plan → QueuedUpdate → Type 0
 HasRoomFor plan r = length plan.reads.items ≤ r.log.spare
 
 -- There is room for one more answer.
-abbrev pub HasRoom : Record → Type 0
+abbrev pub HasRoom : QueuedUpdate → Type 0
 HasRoom r = 1 ≤ r.answers.spare
 
 -- The step of the plan is made.
-abbrev pub HasStepped : Plan → Record → Record → Type 0
+abbrev pub HasStepped : Plan → QueuedUpdate → QueuedUpdate → Type 0
 HasStepped plan r r' = (ms : List Rule) (B : ℕ) (D : List Fact) → IsPlanOf ms B D r plan → update_of ms B r' ≡ stepped (caused_chase ms B) D (update_of ms B r)
 
 -- The record is still that update where the plan is that of its step.
-abbrev pub KeepsPlaceBy : Plan → Record → Record → Type 0
+abbrev pub KeepsPlaceBy : Plan → QueuedUpdate → QueuedUpdate → Type 0
 KeepsPlaceBy plan r r' = (ms : List Rule) (B : ℕ) (D : List Fact) (n : ℕ) → IsPlanOf ms B D r plan → StandsAt n r → StandsAt n r'
 
 -- The first recorded answer is delivered, if there is one.
-abbrev pub HasDelivered : Record → Record → Type 0
+abbrev pub HasDelivered : QueuedUpdate → QueuedUpdate → Type 0
 HasDelivered r r' = (ms : List Rule) (B : ℕ) → update_of ms B r' ≡ delivered (caused_chase ms B) (update_of ms B r)
 
 -- The choice is the next answer, and later ones are dropped.
-abbrev pub HasAnswered : Choice → Record → Record → Type 0
+abbrev pub HasAnswered : Choice → QueuedUpdate → QueuedUpdate → Type 0
 HasAnswered c r r' = (ms : List Rule) (B : ℕ) → update_of ms B r' ≡ answered (caused_chase ms B) (update_of ms B r) (choice_of c)
 
 -- The update is withdrawn.
-abbrev pub HasWithdrawn : Record → Record → Type 0
+abbrev pub HasWithdrawn : QueuedUpdate → QueuedUpdate → Type 0
 HasWithdrawn r r' = (ms : List Rule) (B : ℕ) → update_of ms B r' ≡ withdrawn_now (caused_chase ms B) (update_of ms B r)

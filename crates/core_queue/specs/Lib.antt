@@ -2,7 +2,7 @@ pub mod Queues
 pub mod Settings
 pub mod Programs
 pub mod Wants
-pub mod Records
+pub mod Updates
 pub mod Events
 pub mod Renewals
-pub mod Walks
+pub mod Order

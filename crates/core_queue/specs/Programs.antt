@@ -19,7 +19,7 @@ use Rattle.chase_query.specs.Meanings.{reads_in}
 use Rattle.def_steps.specs.Attempts.{outcome_in, question_in}
 use Rattle.def_steps.specs.Chase.{caused_chase, ending}
 use Rattle.core_queue.specs.Queues.{update_of}
-use Rattle.core_queue.specs.declared.records.Record.{Record}
+use Rattle.core_queue.specs.declared.updates.QueuedUpdate.{QueuedUpdate}
 
 -- It is between two steps.
 abbrev pub IsBetween : State → Type 0
@@ -70,14 +70,14 @@ abbrev pub HasShown : State → List Write → Type 0
 HasShown s ws = (ms : List Rule) (B : ℕ) → map change_of ws ≡ shown (caused_chase ms B) s.attempt
 
 -- The next answer for the record's attempt: there is one only where it is at a question.
-abbrev pub HasNext : Record → Option Choice → Type 0
+abbrev pub HasNext : QueuedUpdate → Option Choice → Type 0
 HasNext r c = (ms : List Rule) (B : ℕ) → c ≡ next_answer (caused_chase ms B) (map choice_of r.answers.items) r.program.attempt
 
 -- The plan is that of the record's next step over D.
-pub record IsPlanOf (ms : List Rule) (B : ℕ) (D : List Fact) (r : Record) (plan : Plan) : Type 0 where
+pub record IsPlanOf (ms : List Rule) (B : ℕ) (D : List Fact) (r : QueuedUpdate) (plan : Plan) : Type 0 where
   pub program : plan.program ≡ at_rest (next_attempt ms B D r.program.attempt (next_answer (caused_chase ms B) (map choice_of r.answers.items) r.program.attempt))
   pub reads : reads_in plan.reads.items ≡ next_reads ms D r.program.attempt (next_answer (caused_chase ms B) (map choice_of r.answers.items) r.program.attempt)
 
 -- These are the writes that the step shows.
-abbrev pub HasWritten : Record → Plan → List Write → Type 0
+abbrev pub HasWritten : QueuedUpdate → Plan → List Write → Type 0
 HasWritten r plan ws = (ms : List Rule) (B : ℕ) (D : List Fact) → IsPlanOf ms B D r plan → map change_of ws ≡ step_writes (caused_chase ms B) D (update_of ms B r)

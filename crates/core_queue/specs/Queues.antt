@@ -6,7 +6,7 @@ use Rattle.def_machine.specs.Updates.{Read, Update}
 use Rattle.def_chase.specs.Mappings.{Rule}
 use Rattle.chase_query.specs.Meanings.{Read as ReadMeant, reads_in}
 use Rattle.def_steps.specs.Chase.{caused_chase}
-use Rattle.core_queue.specs.declared.records.Record.{Record}
+use Rattle.core_queue.specs.declared.updates.QueuedUpdate.{QueuedUpdate}
 
 module _ (ms : List Rule) (B : ℕ) where
   -- A read, as the log of a history's update has it.
@@ -14,7 +14,7 @@ module _ (ms : List Rule) (B : ℕ) where
   logged r = record { query = r.query; answer = r.reply; own = r.own }
 
   -- The update that a record stands for.
-  abbrev pub update_of : Record → Update (caused_chase ms B)
+  abbrev pub update_of : QueuedUpdate → Update (caused_chase ms B)
   update_of r =
       record {
         operation = r.program.attempt.operation;
@@ -27,16 +27,16 @@ module _ (ms : List Rule) (B : ℕ) where
       }
 
   -- The updates that the records of a queue stand for.
-  abbrev pub updates_of : List Record → List (Update (caused_chase ms B))
+  abbrev pub updates_of : List QueuedUpdate → List (Update (caused_chase ms B))
   updates_of rs = map update_of rs
 
 -- The record is that of update n, and between two steps; its footprint is that of its own writes and its reads.
-pub record StandsAt (n : ℕ) (r : Record) : Type 0 where
+pub record StandsAt (n : ℕ) (r : QueuedUpdate) : Type 0 where
   pub number : r.program.attempt.number ≡ n
   pub between : r.program.reading ≡ None
   pub covers : Covers r.footprint r.program.attempt.own (reads_in r.log.items)
 
 -- The records are those of the updates from number n on.
-abbrev pub AreFrom : ℕ → List Record → Type 0
+abbrev pub AreFrom : ℕ → List QueuedUpdate → Type 0
 AreFrom n [] = Unit {0}
 AreFrom n (r ∷ rs) = StandsAt n r × AreFrom (suc n) rs

@@ -4,11 +4,11 @@ ghost use Rattle.base_types.specs.Meanings.{choice_of};
 ghost use Rattle.core_queue.specs.Queues.{StandsAt};
 ghost use Rattle.core_queue.specs.Events.{IsAdmitted, IsSame, KeepsPlace, KeepsPlaceBy, HasRoom, HasRoomFor, HasStepped, HasDelivered, HasAnswered, HasWithdrawn};
 
-use crate::records::Record;
+use crate::updates::QueuedUpdate;
 use base_types::{Choice, ChoiceList, List, Memory, TryCopy, Update};
 use chase_plan::{Plan, since};
 use chase_query::ReadLog;
-use chase_update::Program;
+use chase_update::Attempt;
 use core_conflict::Footprint;
 use std::alloc::Global;
 use std::collections::VecDeque;
@@ -17,7 +17,7 @@ use std::mem;
 // Room for so many reads is made with the first of an attempt, since most attempts have no more.
 const MOST_READS: usize = 32;
 
-impl Record {
+impl QueuedUpdate {
     /// The update of this number as it is when it is admitted, with these answers recorded for it. It is refused only for
     /// want of memory.
     pub fn admit(
@@ -25,13 +25,13 @@ impl Record {
         update: &Update,
         number: u32,
         answers: &ChoiceList,
-    ) -> Result<Record, Memory>
+    ) -> Result<QueuedUpdate, Memory>
         ensures admitted { IfOk result (IsAdmitted number update.now answers.now) }
         ensures place { IfOk result (StandsAt number) }
     {
         let inbox = queued(alloc, answers)?;
-        Ok(Record {
-            program: Program::start(alloc, update, number, 0)?,
+        Ok(QueuedUpdate {
+            program: Attempt::start(alloc, update, number, 0)?,
             log: ReadLog::new(alloc),
             withdrawn: false,
             answers: ChoiceList::new(alloc),
@@ -114,7 +114,7 @@ impl Record {
 }
 
 // Puts the attempt in the place of another one, which is let go. It takes no memory.
-pub(crate) fn renew(place: &mut Program, fresh: Program)
+pub(crate) fn renew(place: &mut Attempt, fresh: Attempt)
     ensures fresh { place.new ≡ fresh }
 {
     drop(mem::replace(place, fresh));

@@ -8,22 +8,22 @@
 #![tactic(auto)]
 
 mod events;
+mod order;
 mod outcomes;
 mod reading;
-mod records;
 mod renewals;
 mod settings;
 mod standings;
 mod unready;
-mod walks;
+mod updates;
 
-pub use crate::outcomes::{asked, has_spent, outcome, shown};
-pub use crate::reading::reads_at_most;
-pub use crate::records::Record;
-pub use crate::renewals::{fresh_programs, restart_marked};
-pub use crate::settings::{Deps, Settings};
-pub use crate::unready::unready_from;
-pub use crate::walks::{
+pub use crate::order::{
     committed, committed_from, is_quiet, lowest_deliverable, lowest_ready, lowest_ready_besides,
     next_deliverable,
 };
+pub use crate::outcomes::{asked, has_spent, outcome, shown};
+pub use crate::reading::reads_at_most;
+pub use crate::renewals::{fresh_programs, restart_marked};
+pub use crate::settings::{Deps, Settings};
+pub use crate::unready::unready_from;
+pub use crate::updates::QueuedUpdate;

@@ -1,12 +1,12 @@
 //! How far up the updates have read something. Those above have no cause to restart.
 ghost use Rattle.std.specs.Prelude.{◌≡◌, ◌≤◌, false, [], length};
-ghost use Rattle.core_queue.specs.Walks.{ReadsAtMost};
+ghost use Rattle.core_queue.specs.Order.{ReadsAtMost};
 
-use crate::records::Record;
+use crate::updates::QueuedUpdate;
 
 /// How many of the first updates may have read something: behind the last that has, none does. At most so many have. It
 /// takes no memory.
-pub fn reads_at_most(queue: &[Record], most: u32) -> u32
+pub fn reads_at_most(queue: &[QueuedUpdate], most: u32) -> u32
     requires most { ReadsAtMost queue.now most }
     ensures most { ReadsAtMost queue.now result }
     ensures within { result ≤ length queue.now }
@@ -22,7 +22,7 @@ pub fn reads_at_most(queue: &[Record], most: u32) -> u32
 }
 
 // So many, or all of the updates where there are fewer.
-fn within(queue: &[Record], most: u32) -> u32
+fn within(queue: &[QueuedUpdate], most: u32) -> u32
     requires most { ReadsAtMost queue.now most }
     ensures most { ReadsAtMost queue.now result }
     ensures within { result ≤ length queue.now }
@@ -36,7 +36,7 @@ fn within(queue: &[Record], most: u32) -> u32
 }
 
 // Whether the update has logged a read.
-fn has_read(item: &Record) -> bool
+fn has_read(item: &QueuedUpdate) -> bool
     ensures read { result ≡ false → item.now.log.items ≡ [] }
 {
     !item.log.is_empty()

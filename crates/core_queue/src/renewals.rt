@@ -5,16 +5,16 @@ ghost use Rattle.core_queue.specs.Events.{KeepsPlace};
 ghost use Rattle.core_queue.specs.Renewals.{HasOneMore, AllHaveOneMore, IsFresh, AreFresh, AreThere, HasRestarted, HasRestartedIf, HaveRestarted, IsFreshIf};
 
 use crate::events::renew;
-use crate::records::Record;
+use crate::updates::QueuedUpdate;
 use base_types::Memory;
-use chase_update::Program;
+use chase_update::Attempt;
 use core_conflict::Footprint;
 use core_entries::Cause;
 use std::alloc::Global;
 
-impl Record {
+impl QueuedUpdate {
     /// The next attempt at the update, at its start. It is refused only for want of memory.
-    pub fn fresh(&self, alloc: Global) -> Result<Program, Memory>
+    pub fn fresh(&self, alloc: Global) -> Result<Attempt, Memory>
         requires more { HasOneMore self.now }
         ensures fresh { IfOk result (IsFresh self.now) }
     {
@@ -22,7 +22,7 @@ impl Record {
     }
 
     /// Begins the next attempt: the update loses its writes and its log, and keeps its answers. It takes no memory.
-    pub fn restart(&mut self, fresh: Program)
+    pub fn restart(&mut self, fresh: Attempt)
         requires fresh { IsFresh self.old fresh }
         ensures restarted { HasRestarted self.old self.new }
         ensures place { KeepsPlace self.old self.new }
@@ -33,7 +33,7 @@ impl Record {
     }
 
     // Begins the next attempt, if there is one.
-    fn restart_if(&mut self, fresh: Option<Program>)
+    fn restart_if(&mut self, fresh: Option<Attempt>)
         requires fresh { IsFreshIf self.old fresh }
         ensures restarted { HasRestartedIf fresh self.old self.new }
         ensures place { KeepsPlace self.old self.new }
@@ -48,9 +48,9 @@ impl Record {
 /// refused only for want of memory.
 pub fn fresh_programs(
     alloc: Global,
-    upper: &[Record],
+    upper: &[QueuedUpdate],
     causes: &[Option<Cause>],
-) -> Result<Vec<Option<Program>>, Memory>
+) -> Result<Vec<Option<Attempt>>, Memory>
     requires long { length causes.now ≤ length upper.now }
     requires more { AllHaveOneMore upper.now }
     ensures fresh { IfOk result (λ fresh. AreFresh upper.now fresh.items) }
@@ -64,7 +64,11 @@ pub fn fresh_programs(
 }
 
 // The next attempt at the update, if there is a cause.
-fn fresh_if(alloc: Global, item: &Record, cause: &Option<Cause>) -> Result<Option<Program>, Memory>
+fn fresh_if(
+    alloc: Global,
+    item: &QueuedUpdate,
+    cause: &Option<Cause>,
+) -> Result<Option<Attempt>, Memory>
     requires more { HasOneMore item.now }
     ensures fresh { IfOk result (IsFreshIf item.now) }
     ensures there { IfOk result (λ fresh. is_some fresh ≡ is_some cause.now) }
@@ -77,7 +81,7 @@ fn fresh_if(alloc: Global, item: &Record, cause: &Option<Cause>) -> Result<Optio
 }
 
 /// Restarts those of the updates from place `from` on for which there is a fresh attempt, in turn. It takes no memory.
-pub fn restart_marked(queue: &mut [Record], from: usize, fresh: Vec<Option<Program>>)
+pub fn restart_marked(queue: &mut [QueuedUpdate], from: usize, fresh: Vec<Option<Attempt>>)
     requires place { from ≤ length queue.old }
     requires from { AreFrom 1 queue.old }
     requires fresh { AreFresh (drop from queue.old) fresh.items }

@@ -1,11 +1,11 @@
 //! How far up the updates are unready. The search for a ready one begins behind them.
 ghost use Rattle.core_queue.specs.Queues.{AreFrom};
-ghost use Rattle.core_queue.specs.Walks.{UnreadyUpTo};
+ghost use Rattle.core_queue.specs.Order.{UnreadyUpTo};
 
-use crate::records::Record;
+use crate::updates::QueuedUpdate;
 
 /// How many of the first updates are unready, where so many are; those are not looked at. It takes no memory.
-pub fn unready_from(queue: &[Record], first: usize) -> usize
+pub fn unready_from(queue: &[QueuedUpdate], first: usize) -> usize
     requires from { AreFrom 1 queue.now }
     requires first { UnreadyUpTo queue.now first }
     ensures unready { UnreadyUpTo queue.now result }

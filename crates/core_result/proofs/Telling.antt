@@ -16,15 +16,15 @@ use Rattle.chase_update.specs.Results.{finish_in, finish_of, stop_in}
 use Rattle.chase_update.specs.declared.results.Stop.{Stop as StopOfProgram}
 use Rattle.chase_update.specs.declared.results.Finish.{Finish as FinishOfProgram}
 use Rattle.core_queue.specs.Queues.{update_of, updates_of, AreFrom}
-use Rattle.core_queue.specs.Records.{IsOver}
+use Rattle.core_queue.specs.Updates.{IsOver}
 use Rattle.core_queue.specs.Wants.{HasLack}
 use Rattle.core_queue.proofs.Walking.{stands_here}
-use Rattle.core_queue.specs.declared.records.Record.{Record}
+use Rattle.core_queue.specs.declared.updates.QueuedUpdate.{QueuedUpdate}
 use Rattle.core_result.specs.Told.{finishes_told, end_told, HasToldOne, outer_stop, stop_told, IsStopAt, IsStop}
 
 -- What is left of a queue is the record at the place, and what is left behind it.
-pub left_of : (rs : List Record) (i : ℕ) (r : Record) → i < length rs → r ≡ get_or rs i r → drop i rs ≡ r ∷ drop (i + 1) rs
-left_of rs i r h e = drop_more rs i r h ∙ ap (λ (x : Record). x ∷ drop (i + 1) rs) (sym e)
+pub left_of : (rs : List QueuedUpdate) (i : ℕ) (r : QueuedUpdate) → i < length rs → r ≡ get_or rs i r → drop i rs ≡ r ∷ drop (i + 1) rs
+left_of rs i r h e = drop_more rs i r h ∙ ap (λ (x : QueuedUpdate). x ∷ drop (i + 1) rs) (sym e)
 
 map_join : {A B : Type 0} (f : A → B) (xs ys : List A) → map f (xs ++ ys) ≡ map f xs ++ map f ys
 map_join f [] ys = refl
@@ -53,7 +53,7 @@ module _ (ms : List Rule) (B : ℕ) where
 
   -- ---- walks
 
-  pub finishes_on : (rs : List Record) (i : ℕ) (r : Record) (b : Bool) (fs gs : Listed FinishOfProgram) → i < length rs → r ≡ get_or rs i r → IsOver r b → b ≡ true → HasToldOne r fs gs
+  pub finishes_on : (rs : List QueuedUpdate) (i : ℕ) (r : QueuedUpdate) (b : Bool) (fs gs : Listed FinishOfProgram) → i < length rs → r ≡ get_or rs i r → IsOver r b → b ≡ true → HasToldOne r fs gs
       → map finish_of fs.items ++ finishes_told ms B (i + 1) (updates_of ms B (drop i rs)) ≡ finishes_told ms B 1 (updates_of ms B rs)
       → map finish_of gs.items ++ finishes_told ms B (i + 1 + 1) (updates_of ms B (drop (i + 1) rs)) ≡ finishes_told ms B 1 (updates_of ms B rs)
   finishes_on rs i r b fs gs h e over on one all =
@@ -63,27 +63,27 @@ module _ (ms : List Rule) (B : ℕ) where
       ∙ append_assoc (map finish_of fs.items) (end_told ms B (i + 1) u) (finishes_told ms B (i + 1 + 1) rest)
       ∙ ap (λ (k : ℕ). map finish_of fs.items ++ (end_told ms B (i + 1) u ++ finishes_told ms B k rest)) (add-one (i + 1))
       ∙ ap (λ xs. map finish_of fs.items ++ xs) (sym (one_told (i + 1) u rest (sym (over ms B) ∙ on)))
-      ∙ ap (λ (xs : List Record). map finish_of fs.items ++ finishes_told ms B (i + 1) (updates_of ms B xs)) (sym (left_of rs i r h e))
+      ∙ ap (λ (xs : List QueuedUpdate). map finish_of fs.items ++ finishes_told ms B (i + 1) (updates_of ms B xs)) (sym (left_of rs i r h e))
       ∙ all
 
-  pub finishes_end : (rs : List Record) (i : ℕ) (r : Record) (b : Bool) (fs : Listed FinishOfProgram) → i < length rs → r ≡ get_or rs i r → IsOver r b → b ≡ false
+  pub finishes_end : (rs : List QueuedUpdate) (i : ℕ) (r : QueuedUpdate) (b : Bool) (fs : Listed FinishOfProgram) → i < length rs → r ≡ get_or rs i r → IsOver r b → b ≡ false
       → map finish_of fs.items ++ finishes_told ms B (i + 1) (updates_of ms B (drop i rs)) ≡ finishes_told ms B 1 (updates_of ms B rs)
       → map finish_of fs.items ≡ finishes_told ms B 1 (updates_of ms B rs)
   finishes_end rs i r b fs h e over off all =
       sym (append-nil (map finish_of fs.items))
       ∙ ap (λ xs. map finish_of fs.items ++ xs) (sym (none_told (i + 1) (update_of ms B r) (updates_of ms B (drop (i + 1) rs)) (sym (over ms B) ∙ off)))
-      ∙ ap (λ (xs : List Record). map finish_of fs.items ++ finishes_told ms B (i + 1) (updates_of ms B xs)) (sym (left_of rs i r h e))
+      ∙ ap (λ (xs : List QueuedUpdate). map finish_of fs.items ++ finishes_told ms B (i + 1) (updates_of ms B xs)) (sym (left_of rs i r h e))
       ∙ all
 
-  pub finishes_all : (rs : List Record) (i : ℕ) (fs : Listed FinishOfProgram) → length rs ≤ i
+  pub finishes_all : (rs : List QueuedUpdate) (i : ℕ) (fs : Listed FinishOfProgram) → length rs ≤ i
       → map finish_of fs.items ++ finishes_told ms B (i + 1) (updates_of ms B (drop i rs)) ≡ finishes_told ms B 1 (updates_of ms B rs)
       → map finish_of fs.items ≡ finishes_told ms B 1 (updates_of ms B rs)
   finishes_all rs i fs h all =
       sym (append-nil (map finish_of fs.items))
-      ∙ ap (λ (xs : List Record). map finish_of fs.items ++ finishes_told ms B (i + 1) (updates_of ms B xs)) (sym (drop_all i rs h))
+      ∙ ap (λ (xs : List QueuedUpdate). map finish_of fs.items ++ finishes_told ms B (i + 1) (updates_of ms B xs)) (sym (drop_all i rs h))
       ∙ all
 
-  pub stop_on : (rs : List Record) (i : ℕ) (r : Record) (b : Bool) → i < length rs → r ≡ get_or rs i r → IsOver r b → b ≡ true
+  pub stop_on : (rs : List QueuedUpdate) (i : ℕ) (r : QueuedUpdate) (b : Bool) → i < length rs → r ≡ get_or rs i r → IsOver r b → b ≡ true
       → first_stop (caused_chase ms B) (i + 1) (updates_of ms B (drop i rs)) ≡ first_stop (caused_chase ms B) 1 (updates_of ms B rs)
       → first_stop (caused_chase ms B) (i + 1 + 1) (updates_of ms B (drop (i + 1) rs)) ≡ first_stop (caused_chase ms B) 1 (updates_of ms B rs)
   stop_on rs i r b h e over on all =
@@ -91,23 +91,23 @@ module _ (ms : List Rule) (B : ℕ) where
       let rest : List (Update (caused_chase ms B)) = updates_of ms B (drop (i + 1) rs) in
       ap (λ (k : ℕ). first_stop (caused_chase ms B) k rest) (add-one (i + 1))
       ∙ ap (λ c. if c then first_stop (caused_chase ms B) (suc (i + 1)) rest else stop_at (caused_chase ms B) (i + 1) u.state (lack (caused_chase ms B) u.answers u.state)) (sym (sym (over ms B) ∙ on))
-      ∙ ap (λ (xs : List Record). first_stop (caused_chase ms B) (i + 1) (updates_of ms B xs)) (sym (left_of rs i r h e))
+      ∙ ap (λ (xs : List QueuedUpdate). first_stop (caused_chase ms B) (i + 1) (updates_of ms B xs)) (sym (left_of rs i r h e))
       ∙ all
 
-  pub stop_here : (rs : List Record) (i : ℕ) (r : Record) (b : Bool) → i < length rs → r ≡ get_or rs i r → IsOver r b → b ≡ false
+  pub stop_here : (rs : List QueuedUpdate) (i : ℕ) (r : QueuedUpdate) (b : Bool) → i < length rs → r ≡ get_or rs i r → IsOver r b → b ≡ false
       → first_stop (caused_chase ms B) (i + 1) (updates_of ms B (drop i rs)) ≡ first_stop (caused_chase ms B) 1 (updates_of ms B rs)
       → stop_at (caused_chase ms B) (i + 1) (update_of ms B r).state (lack (caused_chase ms B) (update_of ms B r).answers (update_of ms B r).state) ≡ first_stop (caused_chase ms B) 1 (updates_of ms B rs)
   stop_here rs i r b h e over off all =
       let u : Update (caused_chase ms B) = update_of ms B r in
       let rest : List (Update (caused_chase ms B)) = updates_of ms B (drop (i + 1) rs) in
       ap (λ c. if c then first_stop (caused_chase ms B) (suc (i + 1)) rest else stop_at (caused_chase ms B) (i + 1) u.state (lack (caused_chase ms B) u.answers u.state)) (sym (sym (over ms B) ∙ off))
-      ∙ ap (λ (xs : List Record). first_stop (caused_chase ms B) (i + 1) (updates_of ms B xs)) (sym (left_of rs i r h e))
+      ∙ ap (λ (xs : List QueuedUpdate). first_stop (caused_chase ms B) (i + 1) (updates_of ms B xs)) (sym (left_of rs i r h e))
       ∙ all
 
-  pub stop_none : (rs : List Record) (i : ℕ) → length rs ≤ i
+  pub stop_none : (rs : List QueuedUpdate) (i : ℕ) → length rs ≤ i
       → first_stop (caused_chase ms B) (i + 1) (updates_of ms B (drop i rs)) ≡ first_stop (caused_chase ms B) 1 (updates_of ms B rs)
       → None ≡ first_stop (caused_chase ms B) 1 (updates_of ms B rs)
-  stop_none rs i h all = ap (λ (xs : List Record). first_stop (caused_chase ms B) (i + 1) (updates_of ms B xs)) (sym (drop_all i rs h)) ∙ all
+  stop_none rs i h all = ap (λ (xs : List QueuedUpdate). first_stop (caused_chase ms B) (i + 1) (updates_of ms B xs)) (sym (drop_all i rs h)) ∙ all
 
 -- ---- the stop that is told
 
@@ -119,7 +119,7 @@ stopped_at : (ms : List Rule) (B n : ℕ) (P : Attempt) (o : Option Lack) → op
 stopped_at ms B n P None = refl
 stopped_at ms B n P (Some l) = refl
 
-stop_is : (rs : List Record) (i n : ℕ) (r : Record) (b : Bool) (o : Option Lack) (s : Option StopOfProgram) → i < length rs → r ≡ get_or rs i r → AreFrom (i + 1) (drop i rs) → n ≡ r.program.attempt.number
+stop_is : (rs : List QueuedUpdate) (i n : ℕ) (r : QueuedUpdate) (b : Bool) (o : Option Lack) (s : Option StopOfProgram) → i < length rs → r ≡ get_or rs i r → AreFrom (i + 1) (drop i rs) → n ≡ r.program.attempt.number
     → IsOver r b → b ≡ false → HasLack r o
     → ((ms : List Rule) (B : ℕ) → first_stop (caused_chase ms B) (i + 1) (updates_of ms B (drop i rs)) ≡ first_stop (caused_chase ms B) 1 (updates_of ms B rs))
     → IsStopAt n r.program.attempt o s → IsStop rs s
@@ -133,7 +133,7 @@ stop_is rs i n r b o s h e from number over off lacks all here ms B =
     ∙ ap (λ (l : Option Lack). stop_told ms B (stop_at (caused_chase ms B) (i + 1) P l)) (lacks ms B)
     ∙ ap (stop_told ms B) first
 
-pub stop_told_here : {E : Type 0} (res : Result (Option StopOfProgram) E) (rs : List Record) (i n : ℕ) (r : Record) (b : Bool) (o : Option Lack) → i < length rs → r ≡ get_or rs i r → AreFrom (i + 1) (drop i rs)
+pub stop_told_here : {E : Type 0} (res : Result (Option StopOfProgram) E) (rs : List QueuedUpdate) (i n : ℕ) (r : QueuedUpdate) (b : Bool) (o : Option Lack) → i < length rs → r ≡ get_or rs i r → AreFrom (i + 1) (drop i rs)
     → n ≡ r.program.attempt.number → IsOver r b → b ≡ false → HasLack r o
     → ((ms : List Rule) (B : ℕ) → first_stop (caused_chase ms B) (i + 1) (updates_of ms B (drop i rs)) ≡ first_stop (caused_chase ms B) 1 (updates_of ms B rs))
     → IfOk res (IsStopAt n r.program.attempt o) → IfOk res (IsStop rs)

@@ -9,8 +9,8 @@ use Rattle.def_steps.specs.Chase.{caused, caused_chase}
 use Rattle.def_steps.specs.Serial.{answered}
 use Rattle.chase_update.specs.declared.results.SessionResult.{SessionResult}
 use Rattle.core_queue.specs.Queues.{updates_of}
-use Rattle.core_queue.specs.Walks.{HasCommitted}
-use Rattle.core_queue.specs.declared.records.Record.{Record}
+use Rattle.core_queue.specs.Order.{HasCommitted}
+use Rattle.core_queue.specs.declared.updates.QueuedUpdate.{QueuedUpdate}
 use Rattle.set_versions.specs.Standing.{Kept, seen}
 use Rattle.set_versions.proofs.Numbered.{below_is_seen}
 use Rattle.core_result.specs.Told.{AreFinishes, IsStop, AreAnswered, AreVersionsOf, Tells}
@@ -28,12 +28,12 @@ same_length : {A B : Type 0} (f : A → B) (xs : List A) → length (map f xs) �
 same_length f [] = refl
 same_length f (x ∷ xs) = ap suc (same_length f xs)
 
-pub one_more_fits : (rs : List Record) (c : ℕ) → length rs < 2 ^ 32 - 1 → HasCommitted rs c → Fits w32 (c + 1)
+pub one_more_fits : (rs : List QueuedUpdate) (c : ℕ) → length rs < 2 ^ 32 - 1 → HasCommitted rs c → Fits w32 (c + 1)
 one_more_fits rs c few h =
     let low : c ≤ length (updates_of [] 0 rs) = omega (arith, h [] 0, most (caused_chase [] 0) (updates_of [] 0 rs)) in
     omega (arith, low, same_length (Rattle.core_queue.specs.Queues.update_of [] 0) rs, few)
 
-pub told_is : (rs : List Record) (v : Kept) (r : SessionResult) (c : ℕ) → AreFinishes rs r.finishes → IsStop rs r.stop → AreAnswered (seen (c + 1) v) r.repository → HasCommitted rs c
+pub told_is : (rs : List QueuedUpdate) (v : Kept) (r : SessionResult) (c : ℕ) → AreFinishes rs r.finishes → IsStop rs r.stop → AreAnswered (seen (c + 1) v) r.repository → HasCommitted rs c
     → (ms : List Rule) (B : ℕ) (D : List Fact) → AreVersionsOf ms B D rs v → Tells ms B D rs r
 told_is rs v r c finishes stop repository count ms B D versions S base =
     let us : List (Update (caused_chase ms B)) = updates_of ms B rs in

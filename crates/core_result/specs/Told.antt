@@ -21,7 +21,7 @@ use Rattle.chase_update.specs.declared.results.Finish.{Finish as FinishOfProgram
 use Rattle.chase_update.specs.declared.results.SessionResult.{SessionResult}
 use Rattle.chase_update.specs.declared.results.Stop.{Stop as StopOfProgram}
 use Rattle.core_queue.specs.Queues.{update_of, updates_of}
-use Rattle.core_queue.specs.declared.records.Record.{Record}
+use Rattle.core_queue.specs.declared.updates.QueuedUpdate.{QueuedUpdate}
 use Rattle.set_versions.specs.Standing.{Kept, StandFor}
 use Rattle.set_versions.specs.Trails.{numbered}
 
@@ -46,11 +46,11 @@ abbrev pub end_told : (ms : List Rule) (B : ℕ) → ℕ → Update (caused_chas
 end_told ms B n u = if u.withdrawn then [] else map finish_in (finished n u.state)
 
 -- That is told behind the finishes.
-abbrev pub HasToldOne : Record → Listed FinishOfProgram → Listed FinishOfProgram → Type 0
+abbrev pub HasToldOne : QueuedUpdate → Listed FinishOfProgram → Listed FinishOfProgram → Type 0
 HasToldOne r fs fs' = (ms : List Rule) (B : ℕ) (n : ℕ) → map finish_of fs'.items ≡ map finish_of fs.items ++ end_told ms B n (update_of ms B r)
 
 -- These are the finishes that are told of the records.
-abbrev pub AreFinishes : List Record → Listed FinishOfProgram → Type 0
+abbrev pub AreFinishes : List QueuedUpdate → Listed FinishOfProgram → Type 0
 AreFinishes rs fs = (ms : List Rule) (B : ℕ) → map finish_of fs.items ≡ finishes_told ms B 1 (updates_of ms B rs)
 
 -- This is the stop that is told of the attempt of update n, where this is lacking.
@@ -58,7 +58,7 @@ abbrev pub IsStopAt : ℕ → Attempt → Option Lack → Option StopOfProgram �
 IsStopAt n P l s = option_map stop_of s ≡ option_map stop_in (option_map outer_stop (option_and_then (stopped n P) l))
 
 -- This is the stop that is told of the records.
-abbrev pub IsStop : List Record → Option StopOfProgram → Type 0
+abbrev pub IsStop : List QueuedUpdate → Option StopOfProgram → Type 0
 IsStop rs s = (ms : List Rule) (B : ℕ) → option_map stop_of s ≡ stop_told ms B (first_stop (caused_chase ms B) 1 (updates_of ms B rs))
 
 -- These are the tuples by their outer forms, without those that say which mappings are in force.
@@ -66,12 +66,12 @@ abbrev pub AreAnswered : List Fact → Listed Tuple → Type 0
 AreAnswered D ts = facts_of ts ≡ map outer (answered D)
 
 -- The versions are those of the records over D.
-pub record AreVersionsOf (ms : List Rule) (B : ℕ) (D : List Fact) (rs : List Record) (v : Kept) : Type 0 where
+pub record AreVersionsOf (ms : List Rule) (B : ℕ) (D : List Fact) (rs : List QueuedUpdate) (v : Kept) : Type 0 where
   pub sorted : IsRepository D
   pub stand : StandFor v D (numbered (trail (caused_chase ms B)) (updates_of ms B rs))
 
 -- That is what is told of the records as the updates of a history over D, up to the lowest that is not committed.
-abbrev pub Tells : List Rule → ℕ → List Fact → List Record → SessionResult → Type 0
+abbrev pub Tells : List Rule → ℕ → List Fact → List QueuedUpdate → SessionResult → Type 0
 Tells ms B D rs r =
     (S : Session (caused_chase ms B)) → S.base ≡ D
     → result_of r ≡ result_in (tells ms B S (updates_of ms B rs) (first_stop (caused_chase ms B) 1 (updates_of ms B rs)))

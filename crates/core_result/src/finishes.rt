@@ -5,12 +5,12 @@ ghost use Rattle.core_queue.specs.Queues.{AreFrom};
 ghost use Rattle.core_result.specs.Told.{AreFinishes, HasToldEnd, HasToldOne};
 
 use base_types::Memory;
-use chase_update::{Finish, FinishList, Program};
-use core_queue::{Record, outcome};
+use chase_update::{Attempt, Finish, FinishList};
+use core_queue::{QueuedUpdate, outcome};
 use std::alloc::Global;
 
 /// How the committed updates ended that were not withdrawn, in number order. It is refused only for want of memory.
-pub(crate) fn finishes(alloc: Global, queue: &[Record]) -> Result<FinishList, Memory>
+pub(crate) fn finishes(alloc: Global, queue: &[QueuedUpdate]) -> Result<FinishList, Memory>
     requires from { AreFrom 1 queue.now }
     ensures told { IfOk result (AreFinishes queue.now) }
 {
@@ -25,7 +25,7 @@ pub(crate) fn finishes(alloc: Global, queue: &[Record]) -> Result<FinishList, Me
 }
 
 // Tells how the update ended, unless it was withdrawn.
-fn tell_one(finishes: &mut FinishList, update: &Record) -> Result<(), Memory>
+fn tell_one(finishes: &mut FinishList, update: &QueuedUpdate) -> Result<(), Memory>
     requires between { IsBetween update.now.program }
     ensures told { OnOk result (HasToldOne update.now finishes.old finishes.new) }
 {
@@ -36,7 +36,7 @@ fn tell_one(finishes: &mut FinishList, update: &Record) -> Result<(), Memory>
 }
 
 // Tells how the attempt ended, if it did.
-fn tell_end(finishes: &mut FinishList, program: &Program) -> Result<(), Memory>
+fn tell_end(finishes: &mut FinishList, program: &Attempt) -> Result<(), Memory>
     requires between { IsBetween program.now }
     ensures told { OnOk result (HasToldEnd program.now.attempt finishes.old finishes.new) }
 {

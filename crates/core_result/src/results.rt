@@ -10,13 +10,17 @@ use crate::repositories::repository;
 use crate::stops::stop;
 use base_types::Memory;
 use chase_update::SessionResult;
-use core_queue::{Record, committed};
+use core_queue::{QueuedUpdate, committed};
 use set_versions::Versions;
 use std::alloc::Global;
 
 /// How the committed updates ended, where the lowest that is not committed stops, and the repository that the committed ones
 /// left, by outer forms. It is refused only for want of memory.
-pub fn told(alloc: Global, queue: &[Record], versions: &Versions) -> Result<SessionResult, Memory>
+pub fn told(
+    alloc: Global,
+    queue: &[QueuedUpdate],
+    versions: &Versions,
+) -> Result<SessionResult, Memory>
     requires from { AreFrom 1 queue.now }
     requires few { length queue.now < 2 ^ 32 - 1 }
     ensures told { IfOk result (λ told. (ms : List Rule) (B : ℕ) (D : List Fact) →

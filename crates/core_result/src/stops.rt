@@ -12,13 +12,13 @@ ghost use Rattle.core_result.specs.Told.{IsStop, IsStopAt};
 
 use base_types::{Memory, TupleList};
 use chase_question::Question;
-use chase_update::{Lack, Program, Stop};
-use core_queue::{Record, asked};
+use chase_update::{Attempt, Lack, Stop};
+use core_queue::{QueuedUpdate, asked};
 use std::alloc::Global;
 
 /// Where the lowest update stops that is not committed, if there is one and something is lacking at its question. It is
 /// refused only for want of memory.
-pub(crate) fn stop(alloc: Global, queue: &[Record]) -> Result<Option<Stop>, Memory>
+pub(crate) fn stop(alloc: Global, queue: &[QueuedUpdate]) -> Result<Option<Stop>, Memory>
     requires from { AreFrom 1 queue.now }
     ensures told { IfOk result (IsStop queue.now) }
 {
@@ -34,7 +34,7 @@ pub(crate) fn stop(alloc: Global, queue: &[Record]) -> Result<Option<Stop>, Memo
 fn stop_at(
     alloc: Global,
     update: u32,
-    program: &Program,
+    program: &Attempt,
     lack: Option<Lack>,
 ) -> Result<Option<Stop>, Memory>
     requires between { IsBetween program.now }

@@ -33,11 +33,11 @@ abbrev pub meets : {M : Machine} → ℕ → Read M → Touch → Bool
 meets {M} k r t = nat_le t.update k && M.mentions r.query t.relation
 
 -- An event that touches this and restarts these is in question for a step of update k + 1 with these reads.
-abbrev pub is_in_question : {M : Machine} → ℕ → List (Read M) → List Touch → List ℕ → Bool
-is_in_question k reads ts restarted = list_any (λ r. list_any (meets k r) ts) reads || has_number restarted (suc k)
+abbrev pub is_stale_by_touches : {M : Machine} → ℕ → List (Read M) → List Touch → List ℕ → Bool
+is_stale_by_touches k reads ts restarted = list_any (λ r. list_any (meets k r) ts) reads || has_number restarted (suc k)
 
 -- That tells exactly enough: where it says no, the event is not in question.
 abbrev pub TouchLaw : Machine → Type 0
 TouchLaw M =
     (D : M.Repository) (us : List (Update M)) (e : Event M) (x : Effect M) (k : ℕ) (reads : List (Read M))
-    → is_in_question k reads (touches_by M D us e x) (readers (causes_in x.entry)) ≡ false → IsClear M D us e x k reads
+    → is_stale_by_touches k reads (touches_by M D us e x) (readers (causes_in x.entry)) ≡ false → IsClear M D us e x k reads

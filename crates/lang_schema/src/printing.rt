@@ -8,7 +8,7 @@ ghost use mathlib.Core.List.{IsPrefix};
 use crate::plain::push_plain;
 use crate::schema::Schema;
 use crate::spelling::push_value;
-use base_types::{Memory, Tuple, Value};
+use base_types::{FORCE_RELATION, Memory, Tuple, Value};
 use std::alloc::{AllocError, Global};
 
 fn push_other(out: &mut Vec<u8>, inner: bool, value: &Value) -> Result<(), AllocError>
@@ -89,7 +89,7 @@ fn push_tuple(
         out.old.items ++ tuple_text schema.now inner (fact_of tuple.now)) }
 {
     let values = tuple.values.as_slice();
-    if tuple.relation == 65535 {
+    if tuple.relation == FORCE_RELATION {
         out.push(b'*')?;
         return push_values(out, inner, values);
     }

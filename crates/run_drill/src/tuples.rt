@@ -1,7 +1,7 @@
 //! Tuples of numbers that are drawn from a seed.
 ghost use Rattle.std.specs.Prelude.{◌≡◌, ◌<◌, ◌∷◌, [], IfOk, OnOk};
 ghost use Rattle.base_types.specs.Meanings.{fact_of};
-ghost use Rattle.run_drill.specs.Draws.{next as next_lem};
+ghost use Rattle.run_drill.specs.Draws.{next as next_def};
 ghost use Rattle.run_drill.specs.Columns.{after, columns};
 ghost use Rattle.run_drill.specs.Drilled.{fact};
 ghost use Rattle.run_drill.specs.Meanings.{HasDrawn};
@@ -14,7 +14,7 @@ use std::alloc::Global;
 fn push(state: &mut u64, values: &mut ValueList, most: u32) -> Result<(), Memory>
     requires some { 0 < most }
     ensures pushed { OnOk result (HasDrawn most state.old values.old values.new) }
-    ensures state { OnOk result (state.new ≡ next_lem state.old) }
+    ensures state { OnOk result (state.new ≡ next_def state.old) }
 {
     let number = draw(state, most);
     values.push(Value::Int(i64::from(number)))?;

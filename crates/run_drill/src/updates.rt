@@ -4,7 +4,7 @@ ghost use Rattle.base_types.specs.Contents.{choices_of};
 ghost use Rattle.base_types.specs.Meanings.{operation_of as operation_meant};
 ghost use Rattle.lang_session.specs.Meanings.{update_of};
 ghost use Rattle.run_drill.specs.Columns.{after};
-ghost use Rattle.run_drill.specs.Drilled.{after_update, below_in, curator as curator_lem, expansions as expansions_lem, kind_of, label as label_lem, operation_of, update_at, updates_from};
+ghost use Rattle.run_drill.specs.Drilled.{after_update, below_in, curator as curator_def, expansions as expansions_def, kind_of, label as label_def, operation_of, update_at, updates_from};
 
 use crate::draw;
 use crate::tuples::{pair, triple};
@@ -73,7 +73,7 @@ fn operation(alloc: Global, state: &mut u64, kind: u32) -> Result<Operation, Mem
 }
 
 fn label(alloc: Global, number: u32) -> Result<Name, Memory>
-    ensures label { IfOk result (λ label. label.items ≡ label_lem number) }
+    ensures label { IfOk result (λ label. label.items ≡ label_def number) }
 {
     let text = format!(in alloc; "u{number}")?;
     Ok(Name::from_vec(text.into_bytes()))
@@ -81,7 +81,7 @@ fn label(alloc: Global, number: u32) -> Result<Name, Memory>
 
 fn curator(alloc: Global, number: u32) -> Result<Name, Memory>
     requires some { 1 ≤ number }
-    ensures curator { IfOk result (λ curator. curator.items ≡ curator_lem number) }
+    ensures curator { IfOk result (λ curator. curator.items ≡ curator_def number) }
 {
     let turn = (number - 1) % 12;
     let text = format!(in alloc; "c{turn}")?;
@@ -89,7 +89,7 @@ fn curator(alloc: Global, number: u32) -> Result<Name, Memory>
 }
 
 fn expansions(alloc: Global) -> Result<ChoiceList, Memory>
-    ensures answers { IfOk result (λ answers. choices_of answers ≡ expansions_lem) }
+    ensures answers { IfOk result (λ answers. choices_of answers ≡ expansions_def) }
 {
     let mut answers = List::new(alloc);
     answers.push(Choice::Expand)?;

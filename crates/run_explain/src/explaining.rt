@@ -9,7 +9,7 @@ ghost use Rattle.run_serial.specs.Meanings.{IsSerialRun};
 ghost use Rattle.lang_session.specs.Base.{base_violation};
 ghost use Rattle.lang_session.specs.Meanings.{session_of};
 ghost use Rattle.run_explain.specs.NoteMeanings.{notes_in};
-ghost use Rattle.def_provenance.specs.Notes.{told_by as told_by_lem};
+ghost use Rattle.def_provenance.specs.Notes.{told_by as told_by_def};
 ghost use Rattle.run_explain.specs.ReasonMeanings.{reasons_in};
 ghost use Rattle.run_explain.specs.Meanings.{Explains};
 
@@ -87,7 +87,7 @@ fn told_if_left(
 ) -> Result<Option<Explanation>, Memory>
     ensures told { IfOk result (λ explanation. option_map reasons_in explanation ≡
         (if has (facts_of told.now.repository) (fact_of tuple.now)
-        then Some (told_by_lem (reverse (notes_in notes)) (fact_of tuple.now ∷ [])) else None)) }
+        then Some (told_by_def (reverse (notes_in notes)) (fact_of tuple.now ∷ [])) else None)) }
 {
     if !is_left(told, tuple) {
         return Ok(None);

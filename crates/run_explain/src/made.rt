@@ -16,7 +16,7 @@ use crate::writes::{absent, deleted, latest, present};
 use base_limits::{Budget, Mappings};
 use base_types::{Choice, Memory, TupleList};
 use chase_eval::WatchedView;
-use chase_update::Program;
+use chase_update::Attempt;
 use run_serial::stepping::{make, see_all};
 use set_facts::IndexedFacts;
 use std::alloc::Global;
@@ -26,7 +26,7 @@ use std::alloc::Global;
 /// also those of the step. It is refused only for want of memory; the program may then be within the step.
 pub(crate) fn step(
     alloc: Global,
-    program: &mut Program,
+    program: &mut Attempt,
     view: &mut WatchedView<'_, IndexedFacts>,
     notes: &mut NoteList,
     choice: Option<&Choice>,
@@ -54,7 +54,7 @@ pub(crate) fn step(
 // Makes the step, and gives its note.
 fn noted(
     alloc: Global,
-    program: &mut Program,
+    program: &mut Attempt,
     view: &mut WatchedView<'_, IndexedFacts>,
     choice: Option<&Choice>,
     mappings: &Mappings<'_>,
@@ -94,7 +94,7 @@ struct Changed {
 // Makes the step, and gives what it deleted and put.
 fn carry_out(
     alloc: Global,
-    program: &mut Program,
+    program: &mut Attempt,
     view: &mut WatchedView<'_, IndexedFacts>,
     choice: Option<&Choice>,
     mappings: &Mappings<'_>,

@@ -4,7 +4,7 @@ ghost use Rattle.def_chase.specs.Values.{under};
 ghost use Rattle.base_types.specs.Meanings.{datum_of, fact_of};
 ghost use Rattle.def_steps.specs.Rewriting.{replacing};
 ghost use Rattle.run_explain.specs.NoteMeanings.{rewriting_of};
-ghost use Rattle.def_provenance.specs.Reasons.{source as source_lem};
+ghost use Rattle.def_provenance.specs.Reasons.{source as source_def};
 
 use crate::Rewriting;
 use base_types::{List, Memory, TryCopy, Tuple, Value};
@@ -20,7 +20,7 @@ pub(crate) fn source(
     tuple: &Tuple,
 ) -> Result<Tuple, Memory>
     ensures source { IfOk result (λ from. fact_of from ≡
-        source_lem (map fact_of deleted.now) (fact_of tuple.now) (rewriting_of rewriting.now)) }
+        source_def (map fact_of deleted.now) (fact_of tuple.now) (rewriting_of rewriting.now)) }
 {
     for from in deleted {
         if *tuple == rewritten(alloc, rewriting, from)? {

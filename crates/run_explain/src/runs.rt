@@ -17,7 +17,7 @@ use crate::notes::{NoteList, add_all};
 use crate::wholes::{Taken, take_whole};
 use base_limits::{Budget, Mappings};
 use base_types::Memory;
-use chase_update::{FinishList, Outcome, Program, SessionResult, Stop, Want};
+use chase_update::{Attempt, FinishList, Outcome, SessionResult, Stop, Want};
 use def_provenance::laws::steps_agree_in_scopes;
 use def_steps::laws::serial_scopes_agree;
 use lang_session::{Session, SessionUpdate, base_holds, sessions_suit_the_chase};
@@ -184,7 +184,7 @@ fn ended(
     finishes: &mut FinishList,
     notes: &mut NoteList,
     facts: &mut IndexedFacts,
-    program: Program,
+    program: Attempt,
     made: NoteList,
 ) -> Result<(), Memory>
     requires between { program.reading ≡ None }
@@ -212,7 +212,7 @@ fn keep(notes: &mut NoteList, made: NoteList, done: bool) -> Result<(), Memory>
 }
 
 // Whether the update has ended with its work done.
-fn is_done(program: &Program) -> bool
+fn is_done(program: &Attempt) -> bool
     requires between { program.now.reading ≡ None }
     ensures done { result ≡ is_done_with (outcome_in program.now.attempt.phase) }
 {

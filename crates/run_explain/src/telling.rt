@@ -2,7 +2,7 @@
 ghost use Rattle.std.specs.Prelude.{◌≡◌, ◌++◌, ◌∷◌, [], map, reverse, IfOk, OnOk};
 ghost use Rattle.def_chase.specs.Repository.{Insert, IsRepository, apply};
 ghost use Rattle.base_types.specs.Meanings.{fact_of};
-ghost use Rattle.def_provenance.specs.Notes.{reason_by as reason_by_lem, told_by as told_by_lem};
+ghost use Rattle.def_provenance.specs.Notes.{reason_by as reason_by_def, told_by as told_by_def};
 ghost use Rattle.def_provenance.specs.Reasons.{premises, rooted};
 ghost use Rattle.run_explain.specs.NoteMeanings.{note_of, notes_in};
 ghost use Rattle.run_explain.specs.ReasonMeanings.{HasTold, how_of, reason_of, reasons_in};
@@ -18,7 +18,7 @@ use std::alloc::Global;
 /// The reasons for a tuple by these notes. It is refused only for want of memory.
 pub fn told_by(alloc: Global, notes: NoteList, tuple: Tuple) -> Result<Explanation, Memory>
     ensures told { IfOk result (λ reasons. reasons_in reasons ≡
-        told_by_lem (reverse (notes_in notes)) (fact_of tuple ∷ [])) }
+        told_by_def (reverse (notes_in notes)) (fact_of tuple ∷ [])) }
 {
     let mut reasons = Explanation::new(alloc);
     let mut sought = PlainFacts::new(alloc);
@@ -60,9 +60,9 @@ fn tell_one(
     tuple: Tuple,
 ) -> Result<(), Memory>
     ensures told { OnOk result (reasons_in reasons.new ≡
-        reasons_in reasons.old ++ reason_by_lem (note_of note.now) (fact_of tuple) ∷ []) }
+        reasons_in reasons.old ++ reason_by_def (note_of note.now) (fact_of tuple) ∷ []) }
     ensures sought { OnOk result (sought.new ≡ apply sought.old
-        (map Insert (premises (reason_by_lem (note_of note.now) (fact_of tuple)).how))) }
+        (map Insert (premises (reason_by_def (note_of note.now) (fact_of tuple)).how))) }
 {
     let reason = reason_by(alloc, note, tuple)?;
     seek(alloc, sought, &reason.how)?;
@@ -73,7 +73,7 @@ fn tell_one(
 // The reason for a tuple that the note's step put.
 fn reason_by(alloc: Global, note: &Note, tuple: Tuple) -> Result<Reason, Memory>
     ensures reason { IfOk result (λ reason. reason_of reason ≡
-        reason_by_lem (note_of note.now) (fact_of tuple)) }
+        reason_by_def (note_of note.now) (fact_of tuple)) }
 {
     let how = how_by(alloc, note, &tuple)?;
     Ok(Reason { tuple, how })
@@ -82,7 +82,7 @@ fn reason_by(alloc: Global, note: &Note, tuple: Tuple) -> Result<Reason, Memory>
 // How the note's step came to the tuple.
 fn how_by(alloc: Global, note: &Note, tuple: &Tuple) -> Result<How, Memory>
     ensures how { IfOk result (λ how.
-        how_of how ≡ (reason_by_lem (note_of note.now) (fact_of tuple.now)).how) }
+        how_of how ≡ (reason_by_def (note_of note.now) (fact_of tuple.now)).how) }
 {
     let update = note.update;
     let step = note.step;

@@ -6,7 +6,7 @@ ghost use Rattle.def_language.specs.Sessions.{mapping_names};
 ghost use Rattle.base_json.specs.Lines.{with_json, with_all};
 ghost use Rattle.lang_session.specs.Meanings.{session_of};
 ghost use Rattle.run_explain.specs.ReasonMeanings.{reason_of, reasons_in};
-ghost use Rattle.run_explain.specs.Texts.{explanation_text as explanation_text_lem, fact_json, facts_json, generated_json, inserted_json, mappings_of, reason_json, reason_line, rewritten_json, rooted_json};
+ghost use Rattle.run_explain.specs.Texts.{explanation_text as explanation_text_def, fact_json, facts_json, generated_json, inserted_json, mappings_of, reason_json, reason_line, rewritten_json, rooted_json};
 
 use crate::{Explanation, How, Reason};
 use base_json::Line;
@@ -22,7 +22,7 @@ pub fn explanation_text(
     explanation: &Explanation,
 ) -> Result<Vec<u8>, Memory>
     ensures text { IfOk result (λ text. text.items ≡
-        explanation_text_lem (session_of session.now) (reasons_in explanation.now)) }
+        explanation_text_def (session_of session.now) (reasons_in explanation.now)) }
 {
     let mut text = Vec::new(alloc);
     for reason in explanation.as_slice() {

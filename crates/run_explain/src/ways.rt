@@ -7,7 +7,7 @@ ghost use Rattle.base_types.specs.Meanings.{choice_of, datum_of, null_of, operat
 ghost use Rattle.chase_repair.specs.Bound.{bound_in};
 ghost use Rattle.chase_repair.specs.BoundMeanings.{bound_of};
 ghost use Rattle.chase_update.specs.Wishes.{wish};
-ghost use Rattle.def_provenance.specs.Puts.{Generates, image_of, stands_for as stands_for_lem, way_in, way_of_start as way_of_start_lem};
+ghost use Rattle.def_provenance.specs.Puts.{Generates, image_of, stands_for as stands_for_def, way_in, way_of_start as way_of_start_def};
 ghost use Rattle.chase_query.specs.Meanings.{reply_of};
 ghost use Rattle.run_serial.specs.Turns.{StepsBy};
 ghost use Rattle.run_explain.specs.NoteMeanings.{way_of};
@@ -19,9 +19,9 @@ use crate::notes::{Rewriting, Way};
 use base_limits::Mappings;
 use base_types::{Choice, Memory, Null, Operation, TryCopy, TupleList, Value};
 use chase_eval::WatchedView;
-use chase_query::{Answer, Query};
+use chase_query::{Query, Reply};
 use chase_repair::{Bound, image};
-use chase_update::{Program, standing_for};
+use chase_update::{Attempt, standing_for};
 use set_facts::IndexedFacts;
 use std::alloc::Global;
 
@@ -29,7 +29,7 @@ use std::alloc::Global;
 /// refused only for want of memory.
 pub(crate) fn way(
     alloc: Global,
-    program: &Program,
+    program: &Attempt,
     view: &mut WatchedView<'_, IndexedFacts>,
     choice: Option<&Choice>,
     mappings: &Mappings<'_>,
@@ -57,7 +57,7 @@ fn way_of_start(
     operation: &Operation,
 ) -> Result<Way, Memory>
     ensures way { IfOk result (λ way. way_of way ≡
-        way_of_start_lem (seen_in view.old) (operation_of operation.now)) }
+        way_of_start_def (seen_in view.old) (operation_of operation.now)) }
     ensures same { view.new ≡ view.old }
 {
     match operation {
@@ -79,7 +79,7 @@ fn stands_for(
     value: &Value,
 ) -> Result<Value, Memory>
     ensures value { IfOk result (λ known. datum_of known ≡
-        stands_for_lem (seen_in view.old) (datum_of value.now)) }
+        stands_for_def (seen_in view.old) (datum_of value.now)) }
     ensures same { view.new ≡ view.old }
 {
     match value {
@@ -104,23 +104,23 @@ fn stands(
 }
 
 // What a named null stands for by an answer that gives the tuples which hold it.
-fn stands_by(alloc: Global, name: Null, answer: &Answer) -> Result<Value, Memory>
+fn stands_by(alloc: Global, name: Null, answer: &Reply) -> Result<Value, Memory>
     ensures value { IfOk result (λ known. datum_of known ≡
         standing_for (null_of name) (tuples_of (reply_of answer.now))) }
 {
     match answer {
-        Answer::Tuples(tuples) => standing_for(alloc, name, tuples),
-        Answer::Yes => Ok(Value::Int(0)),
-        Answer::No => Ok(Value::Int(0)),
-        Answer::Image(_) => Ok(Value::Int(0)),
-        Answer::Nothing => Ok(Value::Int(0)),
+        Reply::Tuples(tuples) => standing_for(alloc, name, tuples),
+        Reply::Yes => Ok(Value::Int(0)),
+        Reply::No => Ok(Value::Int(0)),
+        Reply::Image(_) => Ok(Value::Int(0)),
+        Reply::Nothing => Ok(Value::Int(0)),
     }
 }
 
 // The way of a step of the repair in hand, with the answer where the program is at a question.
 fn way_of_repair(
     alloc: Global,
-    program: &Program,
+    program: &Attempt,
     bound: Bound<'_>,
     choice: Option<&Choice>,
     mappings: &Mappings<'_>,

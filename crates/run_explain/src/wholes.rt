@@ -11,7 +11,7 @@ use crate::notes::NoteList;
 use base_limits::{Budget, Mappings};
 use base_types::{ChoiceList, Memory};
 use chase_eval::WatchedView;
-use chase_update::{Lack, Program};
+use chase_update::{Attempt, Lack};
 use lang_session::SessionUpdate;
 use run_serial::turns::{Next, what_next};
 use set_facts::IndexedFacts;
@@ -20,7 +20,7 @@ use std::alloc::Global;
 /// An update that has come to rest, at its end or at a question where something is lacking, with the notes of its steps.
 #[derive(Drop)]
 pub(crate) struct Taken {
-    pub program: Program,
+    pub program: Attempt,
     pub lack: Option<Lack>,
     pub notes: NoteList,
 }
@@ -43,7 +43,7 @@ pub(crate) fn take_whole(
         is_none t.lack) }
 {
     budget.is_within();
-    let mut program = Program::start(alloc, &update.update, number, 0)?;
+    let mut program = Attempt::start(alloc, &update.update, number, 0)?;
     let mut notes = NoteList::new(alloc);
     let answers = &update.answers;
     match go_on(
@@ -71,7 +71,7 @@ pub(crate) fn take_whole(
 // It gives what is lacking.
 fn go_on(
     alloc: Global,
-    program: &mut Program,
+    program: &mut Attempt,
     notes: &mut NoteList,
     answers: &ChoiceList,
     facts: &IndexedFacts,

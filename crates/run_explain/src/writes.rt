@@ -3,14 +3,14 @@ ghost use Rattle.std.specs.Prelude.{◌≡◌, ◌≤◌, not, drop, filter, len
 ghost use Rattle.def_chase.specs.Repository.{has};
 ghost use Rattle.base_types.specs.Contents.{changes_of, facts_of};
 ghost use Rattle.base_types.specs.Meanings.{change_of, fact_of};
-ghost use Rattle.def_provenance.specs.Puts.{inserted as inserted_lem, deleted as deleted_lem};
+ghost use Rattle.def_provenance.specs.Puts.{inserted as inserted_def, deleted as deleted_def};
 ghost use Rattle.chase_query.specs.Meanings.{reply_of};
-ghost use Rattle.def_steps.specs.Steps.{is_yes as is_yes_lem};
+ghost use Rattle.def_steps.specs.Steps.{is_yes as is_yes_def};
 ghost use Rattle.run_explain.specs.Steps.{is_so, seen_in};
 
 use base_types::{Memory, TryCopy, Tuple, TupleList, Write, WriteList};
 use chase_eval::WatchedView;
-use chase_query::{Answer, Query};
+use chase_query::{Query, Reply};
 use set_facts::IndexedFacts;
 use std::alloc::Global;
 
@@ -29,7 +29,7 @@ pub(crate) fn absent(
     writes: &[Write],
 ) -> Result<TupleList, Memory>
     ensures absent { IfOk result (λ tuples. facts_of tuples ≡
-        filter (λ t. not (has (seen_in view.old) t)) (inserted_lem (map change_of writes.now))) }
+        filter (λ t. not (has (seen_in view.old) t)) (inserted_def (map change_of writes.now))) }
     ensures same { view.new ≡ view.old }
 {
     those(alloc, view, inserted(alloc, writes)?, false)
@@ -99,16 +99,16 @@ fn is_seen(
 }
 
 // Whether the answer is yes.
-fn is_yes(answer: &Answer) -> bool
-    ensures answer { result ≡ is_yes_lem (reply_of answer.now) }
+fn is_yes(answer: &Reply) -> bool
+    ensures answer { result ≡ is_yes_def (reply_of answer.now) }
 {
-    matches!(answer, Answer::Yes)
+    matches!(answer, Reply::Yes)
 }
 
 // The tuples that the writes insert, in turn.
 fn inserted(alloc: Global, writes: &[Write]) -> Result<TupleList, Memory>
     ensures inserted { IfOk result
-        (λ tuples. facts_of tuples ≡ inserted_lem (map change_of writes.now)) }
+        (λ tuples. facts_of tuples ≡ inserted_def (map change_of writes.now)) }
 {
     let mut tuples = TupleList::new(alloc);
     for write in writes {
@@ -123,7 +123,7 @@ fn inserted(alloc: Global, writes: &[Write]) -> Result<TupleList, Memory>
 /// The tuples that the writes delete, in turn. It is refused only for want of memory.
 pub(crate) fn deleted(alloc: Global, writes: &[Write]) -> Result<TupleList, Memory>
     ensures deleted { IfOk result
-        (λ tuples. facts_of tuples ≡ deleted_lem (map change_of writes.now)) }
+        (λ tuples. facts_of tuples ≡ deleted_def (map change_of writes.now)) }
 {
     let mut tuples = TupleList::new(alloc);
     for write in writes {

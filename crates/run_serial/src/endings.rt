@@ -10,12 +10,12 @@ ghost use Rattle.run_serial.specs.Meanings.{HasCommitted, HasEnded, HasMadeSome}
 
 use crate::repositories::keep;
 use base_types::{Memory, TryCopy};
-use chase_update::{Finish, FinishList, Lack, Program, Stop, Want};
+use chase_update::{Attempt, Finish, FinishList, Lack, Stop, Want};
 use set_facts::IndexedFacts;
 use std::alloc::Global;
 
 /// What is told of an update that has ended. It takes no memory.
-pub(crate) fn finish(program: &Program) -> Finish
+pub(crate) fn finish(program: &Attempt) -> Finish
     requires between { program.now.reading ≡ None }
     requires ended { is_some (outcome_in program.now.attempt.phase) ≡ true }
     ensures told { (n : ℕ) → map finish_in (finished n program.now.attempt) ≡
@@ -35,7 +35,7 @@ pub(crate) fn finish(program: &Program) -> Finish
 
 /// What is told of the update of this number, which stops at a question for what is lacking and is given up. It is refused
 /// only for want of memory.
-pub fn stop(alloc: Global, program: Program, number: u32, lack: Lack) -> Result<Stop, Memory>
+pub fn stop(alloc: Global, program: Attempt, number: u32, lack: Lack) -> Result<Stop, Memory>
     requires between { program.reading ≡ None }
     requires asked { is_some (question_in program.attempt.phase) ≡ true }
     ensures told { IfOk result (λ stop.
@@ -48,7 +48,7 @@ pub fn stop(alloc: Global, program: Program, number: u32, lack: Lack) -> Result<
 }
 
 // What is told of the update of this number, at its question.
-fn stop_at(alloc: Global, program: &Program, number: u32, lack: Lack) -> Result<Stop, Memory>
+fn stop_at(alloc: Global, program: &Attempt, number: u32, lack: Lack) -> Result<Stop, Memory>
     requires between { program.now.reading ≡ None }
     requires asked { is_some (question_in program.now.attempt.phase) ≡ true }
     ensures told { IfOk result (λ stop.
@@ -74,7 +74,7 @@ pub fn end(
     alloc: Global,
     finishes: &mut FinishList,
     facts: &mut IndexedFacts,
-    program: Program,
+    program: Attempt,
 ) -> Result<(), Memory>
     requires between { program.reading ≡ None }
     requires ended { is_some (outcome_in program.attempt.phase) ≡ true }

@@ -12,7 +12,7 @@ ghost use Rattle.base_types.specs.Contents.{changes_of};
 use base_limits::{Budget, Mappings};
 use base_types::{Choice, Memory, WriteList};
 use chase_eval::WatchedView;
-use chase_update::{Program, Want};
+use chase_update::{Attempt, Want};
 use set_facts::IndexedFacts;
 use std::alloc::Global;
 
@@ -21,7 +21,7 @@ use std::alloc::Global;
 /// step. It is refused only for want of memory; the program may then be within the step.
 pub(crate) fn step(
     alloc: Global,
-    program: &mut Program,
+    program: &mut Attempt,
     view: &mut WatchedView<'_, IndexedFacts>,
     choice: Option<&Choice>,
     mappings: &Mappings<'_>,
@@ -46,7 +46,7 @@ pub(crate) fn step(
 /// only for want of memory; the program may then be within the step.
 pub fn make(
     alloc: Global,
-    program: &mut Program,
+    program: &mut Attempt,
     view: &mut WatchedView<'_, IndexedFacts>,
     choice: Option<&Choice>,
     mappings: &Mappings<'_>,
@@ -84,7 +84,7 @@ pub fn see_all(
 // Begins the step, up to its first query or its end.
 fn begin(
     alloc: Global,
-    program: &mut Program,
+    program: &mut Attempt,
     choice: Option<&Choice>,
     mappings: &Mappings<'_>,
     budget: Budget,
@@ -103,7 +103,7 @@ fn begin(
 // Answers the queries of the step in hand from the view, up to the step's end.
 fn answer_all(
     alloc: Global,
-    program: &mut Program,
+    program: &mut Attempt,
     view: &mut WatchedView<'_, IndexedFacts>,
     mappings: &Mappings<'_>,
 ) -> Result<(), Memory>

@@ -17,7 +17,7 @@ use crate::wholes::take_whole;
 use base_limits::{Budget, Mappings};
 use base_types::{List, Memory, TryCopy, WriteList};
 use chase_eval::Touching;
-use chase_update::{Outcome, Program, Stop};
+use chase_update::{Attempt, Outcome, Stop};
 use lang_session::{Session, SessionUpdate, base_holds, sessions_suit_the_chase};
 use set_facts::IndexedFacts;
 use std::alloc::Global;
@@ -143,7 +143,7 @@ fn end(
     alloc: Global,
     trails: &mut TrailList,
     facts: &mut IndexedFacts,
-    program: Program,
+    program: Attempt,
 ) -> Result<(), Memory>
     requires between { program.reading ≡ None }
     requires ended { is_some (outcome_in program.attempt.phase) ≡ true }

@@ -10,7 +10,7 @@ ghost use Rattle.base_types.specs.Contents.{choices_of};
 
 use base_types::{Choice, ChoiceList};
 use chase_question::{Question, fits};
-use chase_update::{Lack, Program, Want};
+use chase_update::{Attempt, Lack, Want};
 
 /// What comes next: a step, with the answer where the program is at a question; or a rest, at its end or for what is
 /// lacking.
@@ -21,7 +21,7 @@ pub enum Next<'a> {
 }
 
 /// What comes next, where these are all answers. It takes no memory.
-pub fn what_next<'a>(program: &Program, answers: &'a ChoiceList) -> Next<'a>
+pub fn what_next<'a>(program: &Attempt, answers: &'a ChoiceList) -> Next<'a>
     ensures next { next_of result ≡ next_by (wish program.now) program.now.attempt.taken
         (choices_of answers.now) }
 {

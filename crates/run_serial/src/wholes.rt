@@ -12,7 +12,7 @@ use crate::turns::{Next, what_next};
 use base_limits::{Budget, Mappings};
 use base_types::{ChoiceList, Memory};
 use chase_eval::{Touching, WatchedView};
-use chase_update::{Lack, Program};
+use chase_update::{Attempt, Lack};
 use lang_session::SessionUpdate;
 use set_facts::IndexedFacts;
 use std::alloc::Global;
@@ -20,7 +20,7 @@ use std::alloc::Global;
 /// An update that has come to rest: at its end, or at a question where something is lacking.
 #[derive(Drop)]
 pub(crate) struct Rest {
-    pub program: Program,
+    pub program: Attempt,
     pub lack: Option<Lack>,
 }
 
@@ -44,7 +44,7 @@ pub(crate) fn take_whole(
         is_none r.lack) }
 {
     budget.is_within();
-    let mut program = Program::start(alloc, &update.update, number, 0)?;
+    let mut program = Attempt::start(alloc, &update.update, number, 0)?;
     match go_on(
         alloc,
         &mut program,
@@ -66,7 +66,7 @@ pub(crate) fn take_whole(
 // lacking.
 fn go_on(
     alloc: Global,
-    program: &mut Program,
+    program: &mut Attempt,
     answers: &ChoiceList,
     facts: &IndexedFacts,
     mappings: &Mappings<'_>,
@@ -93,7 +93,7 @@ fn go_on(
 // The same with a view of the repository, which is of these mappings, in the update's direction, and sees its writes.
 fn go_with(
     alloc: Global,
-    program: &mut Program,
+    program: &mut Attempt,
     view: &mut WatchedView<'_, IndexedFacts>,
     answers: &ChoiceList,
     mappings: &Mappings<'_>,

@@ -3,7 +3,7 @@ ghost use Rattle.std.specs.Prelude.{◌≡◌, OnOk, OnErr};
 ghost use Rattle.set_versions.specs.Chains.{AreMarks};
 ghost use Rattle.set_versions.specs.Based.{base_marks};
 ghost use Rattle.set_versions.specs.Touches.{touched};
-ghost use Rattle.set_versions.specs.Marked.{no_marks, is_based as is_based_lem, is_nowhere as is_nowhere_lem, is_marked as is_marked_lem, stands as stands_lem};
+ghost use Rattle.set_versions.specs.Marked.{no_marks, is_based as is_based_def, is_nowhere as is_nowhere_def, is_marked as is_marked_def, stands as stands_def};
 ghost use Rattle.set_versions.specs.Unders.{is_under, under_rises};
 
 use base_tree::{Cut, Share, TreeMap};
@@ -103,21 +103,21 @@ impl Marks {
 
     /// Whether the tuple is nowhere.
     pub fn is_nowhere(&self) -> bool
-        ensures { result ≡ is_nowhere_lem self.now }
+        ensures { result ≡ is_nowhere_def self.now }
     {
         !self.in_base && self.chain.len() == 0
     }
 
     /// Whether the base has the tuple and no update wrote it.
     pub fn is_based(&self) -> bool
-        ensures { result ≡ is_based_lem self.now }
+        ensures { result ≡ is_based_def self.now }
     {
         self.in_base && self.chain.len() == 0
     }
 
     /// Whether the update wrote the tuple.
     pub fn is_marked(&self, number: u32) -> bool
-        ensures { result ≡ is_marked_lem number self.now }
+        ensures { result ≡ is_marked_def number self.now }
     {
         match self.chain.get(&Reverse(number)) {
             Some(_) => return true,
@@ -127,7 +127,7 @@ impl Marks {
 
     /// Whether the tuple is there for the update.
     pub fn stands(&self, number: u32) -> bool
-        ensures { result ≡ stands_lem number self.now }
+        ensures { result ≡ stands_def number self.now }
     {
         match self.chain.seek(&Under(number)) {
             Some(entry) => entry.1,

@@ -2,7 +2,7 @@
 ghost use Rattle.std.specs.Prelude.{◌≡◌, ◌<◌, ◌≤◌};
 ghost use Rattle.std.specs.Option.{option_map, option_copied};
 ghost use Rattle.base_types.specs.Meanings.{datum_of, fact_of};
-ghost use Rattle.set_versions.specs.Ranks.{first_byte, behind_byte, word_rank as word_rank_lem, number_rank as number_rank_lem, null_rank as null_rank_lem, value_rank as value_rank_lem, rank_at as rank_at_lem, rank_of};
+ghost use Rattle.set_versions.specs.Ranks.{first_byte, behind_byte, word_rank as word_rank_def, number_rank as number_rank_def, null_rank as null_rank_def, value_rank as value_rank_def, rank_at as rank_at_def, rank_of};
 
 use base_types::{Null, Tuple, Value};
 
@@ -25,14 +25,14 @@ pub fn rank(tuple: &Tuple) -> u64
 /// The rank of the tuples of a relation with this first value, where they have one.
 pub fn rank_at(relation: u16, value: Option<&Value>) -> u64
     ensures rank { result ≡
-        rank_at_lem relation (option_map datum_of (option_copied value.entry)) }
+        rank_at_def relation (option_map datum_of (option_copied value.entry)) }
 {
     u64::from(relation) * VALUE_SPAN + value_rank(value)
 }
 
 /// The rank of a value, where there is one.
 pub fn value_rank(value: Option<&Value>) -> u64
-    ensures rank { result ≡ value_rank_lem (option_map datum_of (option_copied value.entry)) }
+    ensures rank { result ≡ value_rank_def (option_map datum_of (option_copied value.entry)) }
     ensures small { result < 281474976710656 }
 {
     match value {
@@ -45,7 +45,7 @@ pub fn value_rank(value: Option<&Value>) -> u64
 
 // The rank of a number.
 fn number_rank(number: i64) -> u64
-    ensures rank { result ≡ number_rank_lem number }
+    ensures rank { result ≡ number_rank_def number }
     ensures small { result < 70368744177664 }
 {
     let far = number.unsigned_abs().min(MIDDLE - 1);
@@ -58,7 +58,7 @@ fn number_rank(number: i64) -> u64
 
 // The rank of a word among words: its first five bytes.
 fn word_rank(bytes: &[u8]) -> u64
-    ensures rank { result ≡ word_rank_lem bytes.now }
+    ensures rank { result ≡ word_rank_def bytes.now }
     ensures small { result < 1099511627776 }
 {
     let (first, bytes) = next_byte(bytes);
@@ -89,7 +89,7 @@ fn next_byte(bytes: &[u8]) -> (u64, &[u8])
 
 // The rank of a null among nulls: its update, and then its place.
 fn null_rank(null: &Null) -> u64
-    ensures rank { result ≡ null_rank_lem null.now.update null.now.place }
+    ensures rank { result ≡ null_rank_def null.now.update null.now.place }
     ensures small { result < 70368744177664 }
 {
     let place = u64::from(null.place).min(8191);

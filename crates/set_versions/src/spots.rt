@@ -2,14 +2,14 @@
 ghost use Rattle.std.specs.Prelude.{◌≡◌, ◌<◌};
 ghost use Rattle.std.specs.Option.{option_map, option_copied};
 ghost use Rattle.base_types.specs.Meanings.{datum_of};
-ghost use Rattle.set_versions.specs.Spots.{digest as digest_lem, digest_from, spot as spot_lem};
+ghost use Rattle.set_versions.specs.Spots.{digest as digest_def, digest_from, spot as spot_def};
 
 use base_types::Value;
 
 /// The spot of a relation, a column, and the value there, where there is one. It takes no memory.
 pub fn spot(relation: u16, column: usize, value: Option<&Value>) -> u32
     ensures spot { result ≡
-        spot_lem relation column (option_map datum_of (option_copied value.entry)) }
+        spot_def relation column (option_map datum_of (option_copied value.entry)) }
 {
     let Some(value) = value else {
         return 0;
@@ -20,7 +20,7 @@ pub fn spot(relation: u16, column: usize, value: Option<&Value>) -> u32
 
 // A number by which the value is told from most others.
 fn digest(value: &Value) -> u64
-    ensures digest { result ≡ digest_lem (datum_of value.now) }
+    ensures digest { result ≡ digest_def (datum_of value.now) }
 {
     match value {
         Value::Int(number) => number.unsigned_abs(),

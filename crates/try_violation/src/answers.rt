@@ -1,7 +1,7 @@
 //! The first violations of a mapping in each scope.
 ghost use Rattle.std.specs.Prelude.{◌≡◌, IfOk};
 ghost use Rattle.std.specs.Option.{option_map};
-ghost use Rattle.def_chase.specs.Violations.{first_violation as first_violation_lem, Every, Caused, Forward, Backward};
+ghost use Rattle.def_chase.specs.Violations.{first_violation as first_violation_def, Every, Caused, Forward, Backward};
 ghost use Rattle.base_types.specs.Meanings.{rule_of};
 ghost use Rattle.chase_violation.specs.Scopes.{first_in};
 ghost use Rattle.base_types.specs.Contents.{changes_of, facts_of};
@@ -28,13 +28,13 @@ impl Answers {
         facts: &F,
     ) -> Result<Answers, Memory>
         ensures all { IfOk result (λ answers. option_map facts_of answers.all ≡
-            first_violation_lem Every (changes_of own.now) (rule_of mapping.now)
+            first_violation_def Every (changes_of own.now) (rule_of mapping.now)
             (F.tuples facts.now)) }
         ensures forward { IfOk result (λ answers. option_map facts_of answers.forward ≡
-            first_violation_lem (Caused Forward) (changes_of own.now) (rule_of mapping.now)
+            first_violation_def (Caused Forward) (changes_of own.now) (rule_of mapping.now)
             (F.tuples facts.now)) }
         ensures backward { IfOk result (λ answers. option_map facts_of answers.backward ≡
-            first_violation_lem (Caused Backward) (changes_of own.now) (rule_of mapping.now)
+            first_violation_def (Caused Backward) (changes_of own.now) (rule_of mapping.now)
             (F.tuples facts.now)) }
     {
         let all = first_image(alloc, mapping, facts, Scope::All)?;

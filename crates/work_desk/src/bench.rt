@@ -167,6 +167,6 @@ impl<C: Core> Desk<C> {
 fn received(finished: Finished) -> Received {
     match finished {
         Finished::Stepped { entry: _ } => Received::InTime,
-        Finished::Stale { entry: _ } => Received::TooLate,
+        Finished::Stale { entry: _ } => Received::Stale,
     }
 }

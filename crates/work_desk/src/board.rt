@@ -243,11 +243,11 @@ impl<C: Core> Board<C> {
         requires out { IsOutOn C.is_snapshot self.old seat ticket }
         requires plan { IsPlanFor C.is_snapshot C.is_plan ticket plan }
         ensures over { self.new.over ≡ self.old.over }
-        ensures finish { FinishOn (C.in_question plan) seat self.old self.new ticket result }
+        ensures finish { FinishOn (C.stale_since plan) seat self.old self.new ticket result }
         ensures out { IfErr result (λ e. IsOutOn C.is_snapshot self.new seat e.0) }
         ensures same { IfErr result (λ e. e.0 ≡ ticket) }
     {
-        if let Some(entry) = self.core.touched(&plan, ticket.stamp) {
+        if let Some(entry) = self.core.stale_by(&plan, ticket.stamp) {
             C::drop_plan(plan);
             self.give_back(seat, ticket);
             return Ok(Finished::Stale { entry });

@@ -38,7 +38,7 @@ pub trait Core {
     fn drop_plan(plan: Self::Plan);
 
     /// The number of the first entry past so many that is in question for the plan.
-    ghost in_question: { Self.Plan → Ground → List PlainEntry → ℕ → Option ℕ };
+    ghost stale_since: { Self.Plan → Ground → List PlainEntry → ℕ → Option ℕ };
 
     /// How many entries the history has. It is legal.
     fn length(&self) -> u64
@@ -86,8 +86,8 @@ pub trait Core {
 
     /// The number of the first entry past so many that is in question for the plan. Where there is none the plan, made at
     /// the state before them, is the update's step still. It takes no memory.
-    fn touched(&self, plan: &Self::Plan, since: u64) -> Option<u64>
-        ensures entry { result ≡ in_question plan.now (over self.now) (history self.now) since }
+    fn stale_by(&self, plan: &Self::Plan, since: u64) -> Option<u64>
+        ensures entry { result ≡ stale_since plan.now (over self.now) (history self.now) since }
         ensures stays { IfNone result (HasStayed over history self.now (is_plan plan.now) since) };
 
     /// Makes the step of the plan. It is refused only for want of memory; the history is then unchanged.

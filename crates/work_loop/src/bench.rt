@@ -21,7 +21,7 @@ pub enum Received {
     /// What the plan says was done.
     InTime,
     /// It was worked out from what has changed since, so nothing was done.
-    TooLate,
+    Stale,
 }
 
 /// Work that several seats share.

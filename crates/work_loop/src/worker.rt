@@ -18,7 +18,7 @@ enum Came {
     // Something was done.
     Work,
     // A plan came too late.
-    Late,
+    Stale,
     // There was nothing to do.
     Nothing,
     // Nothing is left to do.
@@ -52,7 +52,7 @@ pub fn work<B: Bench, G: Gate, R: Wait + Clock>(
         places.leave();
         match came? {
             Came::Work => rest.end(),
-            Came::Late => rest.behind(rt),
+            Came::Stale => rest.behind(rt),
             Came::Nothing => rest.idle(rt),
             Came::Quiet => return Ok(()),
         }
@@ -79,7 +79,7 @@ fn look<B: Bench, G: Gate, R: Wait + Clock>(
     match bench.offer(rt, seat, pace.most())? {
         Offer::Ticket(ticket) => match serve(rt, bench, seat, gate, pace, ticket)? {
             Received::InTime => Ok(Came::Work),
-            Received::TooLate => Ok(Came::Late),
+            Received::Stale => Ok(Came::Stale),
         },
         Offer::Moved { more } => {
             pace.moved(more);

@@ -6,7 +6,7 @@ use Rattle.set_versions.proofs.Sent.{versions_send}
 use Rattle.base_types.proofs.Sent.{tuple_send, tuple_sync}
 use Rattle.chase_update.proofs.Sent.{program_send}
 use Rattle.chase_query.specs.contracts.log.Logged as log_entries
-use Rattle.core_queue.specs.contracts.records.Record as records
+use Rattle.core_queue.specs.contracts.updates.QueuedUpdate as records
 use Rattle.core_entries.specs.contracts.entries.Entry as entries
 use Rattle.core_engine.specs.contracts.cores.Core as core
 use Rattle.chase_plan.specs.contracts.touched.TouchedMappings as touched_mappings

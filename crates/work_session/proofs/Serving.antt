@@ -9,7 +9,7 @@ use Rattle.work_desk.specs.Cores.{IsReady, IsDelivery, IsStep, StaysSince}
 use Rattle.core_engine.specs.Events.{HasMade}
 use Rattle.core_engine.specs.Planned.{PlanMeant, IsStepAt}
 use Rattle.core_engine.specs.States.{State, standing_at}
-use Rattle.work_session.specs.Steps.{IsStepOf, first_questioned}
+use Rattle.work_session.specs.Steps.{IsStepOf, plan_stale_by}
 use Rattle.work_session.proofs.Staying.{ready_stands, stayed}
 
 if_made : {A F P : Type 0} (q : Result A F) → P → IfOk q (λ x. P)
@@ -45,7 +45,7 @@ module _ (a s : State) (same : a ≡ s) where
   delivered {E} r q b n k is m = if_made q (subst (λ (x : State). grown x.over x.history (Delivers n) ≡ Some b.history) same (subst (λ (o : Result ℕ E). OnOk o (HasMade a (Delivers n) b)) is m).grows)
 
   -- Where no later entry is in question, a plan stays the step.
-  pub stays_unless : (o : Option ℕ) (p : PlanMeant) (n : ℕ) → 1 ≤ a.over.budget → IsRepository a.over.base → IsLegalOver a.over a.history → o ≡ first_questioned p a.over a.history n
+  pub stays_unless : (o : Option ℕ) (p : PlanMeant) (n : ℕ) → 1 ≤ a.over.budget → IsRepository a.over.base → IsLegalOver a.over a.history → o ≡ plan_stale_by p a.over a.history n
       → IfNone o (StaysSince (IsStepOf p) s.over s.history n)
   stays_unless None p n some sorted legal first = λ m w.
       subst (λ (x : State). StaysSince (IsStepOf p) x.over x.history n) same (λ k v. stayed a.over a.history p n k some sorted legal (sym first) v) m w

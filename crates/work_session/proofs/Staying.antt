@@ -28,13 +28,13 @@ use Rattle.def_history.proofs.Keeping.{left_by}
 use Rattle.def_history.specs.Spares.{AllSpare}
 use Rattle.def_history.specs.Stale.{IsStepStill}
 use Rattle.work_stale.specs.Laws.{queries_of, WasPlanned}
-use Rattle.work_stale.specs.Questions.{first_in_question}
+use Rattle.work_stale.specs.Stale.{stale_by}
 use Rattle.work_stale.proofs.Doing.{attempts_do}
-use Rattle.work_stale.proofs.Questioning.{unquestioned_stay}
+use Rattle.work_stale.proofs.Staleness.{stay_unless_stale}
 use Rattle.work_desk.specs.Cores.{IsReady, HoldsSince}
 use Rattle.core_engine.specs.Planned.{PlanMeant, IsStepOver, IsSomeThat, IsStepAmong}
 use Rattle.core_engine.specs.States.{State, standing_at}
-use Rattle.work_session.specs.Steps.{IsStepOf, first_questioned}
+use Rattle.work_session.specs.Steps.{IsStepOf, plan_stale_by}
 
 -- ---- what a ready update stands at
 
@@ -111,7 +111,7 @@ module _ (g : Ground) (some : 1 ≤ g.budget) (H : List PlainEntry) (legal : IsL
       (subst (λ (es : List (Entry (machine g))). IsLegal (machine g) g.settings (session_over g) es (updates_after g H)) (sym whole) legal) in
       (left_by g (take n H) front.0 front.1).legal
 
-pub stayed : (g : Ground) (H : List PlainEntry) (p : PlanMeant) (n m : ℕ) → 1 ≤ g.budget → IsRepository g.base → IsLegalOver g H → first_questioned p g H n ≡ None → HoldsSince (IsStepOf p) g H n m → IsStepOf p g H m
+pub stayed : (g : Ground) (H : List PlainEntry) (p : PlanMeant) (n m : ℕ) → 1 ≤ g.budget → IsRepository g.base → IsLegalOver g H → plan_stale_by p g H n ≡ None → HoldsSince (IsStepOf p) g H n m → IsStepOf p g H m
 stayed g H p n m some sorted legal none w =
     let M : Machine = machine g in
     let was : IsStepOf p g (take n H) m = w.then in
@@ -130,7 +130,7 @@ stayed g H p n m some sorted legal none w =
           ∙ queries_logged g.rules g.budget (step_log M u.operation (below M g.base us k) u.answers u.state);
       spared = subst (λ i. AllSpare {M = M} i (drop n (entries_over g H))) r.number w.spared;
     } in
-    let still : IsStepStill M g.settings g.base us vs k u = unquestioned_stay g H n k u p.reads some sorted legal planned (subst (λ i. first_in_question g.rules i p.reads H n ≡ None) number none) in
+    let still : IsStepStill M g.settings g.base us vs k u = stay_unless_stale g H n k u p.reads some sorted legal planned (subst (λ i. stale_by g.rules i p.reads H n ≡ None) number none) in
     record {
       update = was.update;
       ready = record { place = k; number = r.number; update = u; ready = still.now };

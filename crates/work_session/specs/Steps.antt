@@ -4,7 +4,7 @@ use Rattle.def_history.specs.Cores.{Ground}
 use Rattle.def_history.specs.PlainEntries.{PlainEntry}
 use Rattle.core_engine.specs.Planned.{PlanMeant, IsStepAt}
 use Rattle.work_desk.specs.Cores.{IsReady}
-use Rattle.work_stale.specs.Questions.{first_in_question}
+use Rattle.work_stale.specs.Stale.{stale_by}
 
 -- After these entries update n is ready, and this is its next step.
 pub record IsStepOf (p : PlanMeant) (g : Ground) (H : List PlainEntry) (n : ℕ) : Type 0 where
@@ -13,5 +13,5 @@ pub record IsStepOf (p : PlanMeant) (g : Ground) (H : List PlainEntry) (n : ℕ)
   pub step : IsStepAt (record { over = g; history = H }) p
 
 -- The number of the first entry, past so many, that is in question for the step.
-abbrev pub first_questioned : PlanMeant → Ground → List PlainEntry → ℕ → Option ℕ
-first_questioned p g H since = first_in_question g.rules p.update p.reads H since
+abbrev pub plan_stale_by : PlanMeant → Ground → List PlainEntry → ℕ → Option ℕ
+plan_stale_by p g H since = stale_by g.rules p.update p.reads H since

@@ -6,7 +6,7 @@ use base_types::{MappingList, Memory};
 use core_engine::{Core, Plan, Snapshot};
 use std::alloc::Global;
 use std::marker::Model;
-use work_stale::first_in_question;
+use work_stale::stale_by;
 
 /// A core, and the mappings of its session, by which it is told whether an entry is in question for a plan. Contracts see
 /// what its history is over, and the entries of that history.
@@ -65,7 +65,7 @@ impl<'s> Seated<'s> {
 }
 
 impl<'s> work_desk::Core for Seated<'s> {
-    ghost use Rattle.work_session.specs.Steps.{IsStepOf, first_questioned};
+    ghost use Rattle.work_session.specs.Steps.{IsStepOf, plan_stale_by};
 
     type Snapshot = Snapshot<'s>;
 
@@ -79,7 +79,7 @@ impl<'s> work_desk::Core for Seated<'s> {
 
     ghost is_plan = { IsStepOf };
 
-    ghost in_question = { first_questioned };
+    ghost stale_since = { plan_stale_by };
 
     fn drop_snapshot(snapshot: Snapshot<'s>) {
         drop(snapshot);
@@ -129,10 +129,10 @@ impl<'s> work_desk::Core for Seated<'s> {
         Ok(plan)
     }
 
-    fn touched(&self, plan: &Plan, since: u64) -> Option<u64> {
+    fn stale_by(&self, plan: &Plan, since: u64) -> Option<u64> {
         self.core.is_legal();
         let history = self.core.history();
-        first_in_question(self.mappings, history, plan.update(), plan.reads(), since)
+        stale_by(self.mappings, history, plan.update(), plan.reads(), since)
     }
 
     fn install(&mut self, alloc: Global, plan: Plan) -> Result<(), Memory> {

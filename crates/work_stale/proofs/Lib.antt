@@ -1,5 +1,5 @@
 pub mod Showing
 pub mod Telling
-pub mod Questioning
+pub mod Staleness
 pub mod Walking
 pub mod Doing

@@ -10,7 +10,7 @@ use Rattle.def_machine.proofs.Basics.{if_true, if_false}
 use Rattle.def_chase.specs.Repository.{Change}
 use Rattle.def_history.specs.PlainEntries.{PlainEntry}
 use Rattle.work_stale.specs.Shown.{taken_in, shown_by, trail_by}
-use Rattle.work_stale.specs.Questions.{any_of}
+use Rattle.work_stale.specs.Stale.{any_of}
 use Rattle.work_stale.proofs.Showing.{trail_more}
 
 or_flat : (a b c : Bool) → (a || (b || c)) ≡ ((a || b) || c)

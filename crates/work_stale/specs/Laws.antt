@@ -10,7 +10,7 @@ use Rattle.def_history.specs.PlainEntries.{PlainEntry}
 use Rattle.def_history.specs.Spares.{AllSpare}
 use Rattle.def_history.specs.Stale.{IsReadyAt, IsStepStill}
 use Rattle.work_stale.specs.Shown.{trail_by}
-use Rattle.work_stale.specs.Questions.{first_in_question}
+use Rattle.work_stale.specs.Stale.{stale_by}
 
 -- The trail of each update is what the entries tell.
 abbrev pub EntriesTellTheTrails : Type 0
@@ -41,8 +41,8 @@ pub record WasPlanned (g : Ground) (H : List PlainEntry) (n k : ℕ) (u : Update
   pub spared : AllSpare {M = machine g} (suc k) (drop n (entries_over g H))
 
 -- A step that was planned so is the step still where no later entry is in question for it.
-abbrev pub UnquestionedStepsStay : Type 0
-UnquestionedStepsStay =
+abbrev pub StepsStayUnlessStale : Type 0
+StepsStayUnlessStale =
     (g : Ground) (H : List PlainEntry) (n k : ℕ) (u : Update (machine g)) (reads : List Read) → 1 ≤ g.budget → IsRepository g.base → IsLegalOver g H
-    → WasPlanned g H n k u reads → first_in_question g.rules (suc k) reads H n ≡ None
+    → WasPlanned g H n k u reads → stale_by g.rules (suc k) reads H n ≡ None
     → IsStepStill (machine g) g.settings g.base (updates_after g (take n H)) (updates_after g H) k u

@@ -1,4 +1,4 @@
 pub mod Shown
-pub mod Questions
+pub mod Stale
 pub mod Laws
 pub mod Rows

@@ -7,7 +7,7 @@ use Rattle.def_chase.specs.Repository.{Change, Insert, Delete}
 use Rattle.def_chase.specs.Queries.{Present, No}
 use Rattle.chase_query.specs.Meanings.{Read}
 use Rattle.def_history.specs.PlainEntries.{PlainCause, Dependent, PlainEntry, WasAdmitted, WasStepped, WasWithdrawn}
-use Rattle.work_stale.specs.Questions.{first_in_question}
+use Rattle.work_stale.specs.Stale.{stale_by}
 
 -- A tuple of the relation, and a read of whether it is there.
 abbrev pub tuple : ℕ → Fact
@@ -45,7 +45,7 @@ withdrawal i = WasWithdrawn (record { update = i; causes = []; committed = 0 })
 
 -- For a step of update i that has read relation 0, after so many entries.
 abbrev pub first_for : ℕ → List PlainEntry → ℕ → Option ℕ
-first_for i H since = first_in_question [] i (asks_for 0 ∷ []) H since
+first_for i H since = stale_by [] i (asks_for 0 ∷ []) H since
 
 pub record Rows : Type 0 where
   -- a lower update adds to the relation

@@ -1,5 +1,5 @@
 //! What the entries of a legal history tell, as the contracts of functions that do nothing.
-ghost use Rattle.work_stale.specs.Laws.{EntriesTellTheTrails, ReadyAttemptsDoTheirUpdate, UnquestionedStepsStay};
+ghost use Rattle.work_stale.specs.Laws.{EntriesTellTheTrails, ReadyAttemptsDoTheirUpdate, StepsStayUnlessStale};
 
 /// The trail of each update is what the entries show of it since the last of them that took its writes away.
 pub fn entries_tell_the_trails()
@@ -14,6 +14,6 @@ pub fn ready_attempts_do_their_update()
 /// A step that was worked out after the first entries of a history is the update's step still, where none of the later
 /// entries is a step or a withdrawal of the update and none is in question for the step's reads. Of the reads only their
 /// queries matter.
-pub fn unquestioned_steps_stay()
-    ensures { UnquestionedStepsStay }
+pub fn steps_stay_unless_stale()
+    ensures { StepsStayUnlessStale }
 {}

@@ -8,10 +8,10 @@
 mod laws;
 mod rows;
 mod shown;
-mod touched;
+mod stale;
 
 pub use crate::laws::{
-    entries_tell_the_trails, ready_attempts_do_their_update, unquestioned_steps_stay,
+    entries_tell_the_trails, ready_attempts_do_their_update, steps_stay_unless_stale,
 };
 pub use crate::rows::small_histories_compute;
-pub use crate::touched::first_in_question;
+pub use crate::stale::stale_by;

@@ -1,6 +1,6 @@
 use Rattle.std.proofs.Common.{◌∙◌, ap, sym, arith}
 use Rattle.audit_updates.specs.Settings.{settings_of}
-use Rattle.audit_updates.specs.declared.seats.Seat.{Seat}
+use Rattle.audit_updates.specs.declared.updates.AuditedUpdate.{AuditedUpdate}
 use Rattle.audit_replay.proofs.Placing.{answered_there}
 use Rattle.audit_replay.proofs.Restarting.{put_with, set_long, same_place}
 use Rattle.set_facts.proofs.Groups.{held_err}
@@ -18,7 +18,7 @@ returns c =
     let numbers = put_with c.args.seats.now c.args.place c.index-seats-place.result c.answer.new.self c.requires.numbers c.requires.within c.index-seats-place.is c.in_ok-answer.ensures.place in record {
       answered =
           answered_there (settings_of c.args.settings) c.args.seats.now c.args.place c.args.choice c.in_ok-copy.copy c.index-seats-place.result c.answer.new.self c.number-update.result c.index-seats-place-2.result c.standing_at-standing.result c.requires.within c.index-seats-place.is numbers c.index-seats-place-2.is
-          (c.number-update.ensures.number ∙ ap (λ (q : Seat). q.program.attempt.number) (sym c.index-seats-place-2.is)) c.in_ok-copy.ensures.same c.in_ok-answer.ensures.answered c.standing_at-standing.ensures.standing;
+          (c.number-update.ensures.number ∙ ap (λ (q : AuditedUpdate). q.program.attempt.number) (sym c.index-seats-place-2.is)) c.in_ok-copy.ensures.same c.in_ok-answer.ensures.answered c.standing_at-standing.ensures.standing;
       numbers = numbers;
       err = tt;
     }

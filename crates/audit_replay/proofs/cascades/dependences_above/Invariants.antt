@@ -1,6 +1,6 @@
 use Rattle.std.proofs.Common.{ℕ, map, drop}
 use Rattle.base_types.specs.Meanings.{rule_of}
-use Rattle.audit_updates.specs.Seatings.{AreFrom, updates_of}
+use Rattle.audit_updates.specs.Updates.{AreFrom, updates_of}
 use Rattle.audit_updates.specs.Settings.{deps_of}
 use Rattle.audit_replay.specs.Causes.{AreTold, members_of, readers_in}
 use Rattle.audit_replay.specs.Levels.{RisesFrom, top}

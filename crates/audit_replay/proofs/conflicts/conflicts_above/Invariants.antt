@@ -1,6 +1,6 @@
 use Rattle.std.proofs.Common.{ℕ, map, drop}
 use Rattle.base_types.specs.Meanings.{rule_of}
-use Rattle.audit_updates.specs.Seatings.{AreFrom, updates_of}
+use Rattle.audit_updates.specs.Updates.{AreFrom, updates_of}
 use Rattle.audit_replay.specs.Levels.{RisesFrom, top}
 use Rattle.audit_replay.specs.Met.{met_conflicts}
 use Rattle.audit_replay.specs.Places.{AreBetween}

@@ -2,7 +2,7 @@ use Rattle.std.proofs.Common.{◌≡◌, ℕ, suc, List, ◌++◌, take, drop}
 use Rattle.def_machine.specs.Cascade.{restarted}
 use Rattle.def_chase.specs.Mappings.{Rule}
 use Rattle.def_steps.specs.Chase.{caused_chase}
-use Rattle.audit_updates.specs.Seatings.{updates_of, AreFrom}
+use Rattle.audit_updates.specs.Updates.{updates_of, AreFrom}
 use Rattle.audit_replay.specs.Causes.{readers_in}
 use Rattle.audit_replay.specs.Restarts.{AllHaveOneMore}
 use Rattle.audit_replay.proofs.restarts.restart_named.Given as goal

@@ -1,6 +1,6 @@
 use Rattle.std.proofs.Common.{◌∙◌, ap, subst, sym}
 use Rattle.std.proofs.lemmas.Option.{same_Some}
-use Rattle.core_queue.specs.declared.records.Record.{Record}
+use Rattle.core_queue.specs.declared.updates.QueuedUpdate.{QueuedUpdate}
 use Rattle.core_engine.specs.Taken.{IsSnapshotOf}
 use Rattle.core_engine.proofs.Following.{stands_at}
 use Rattle.core_engine.proofs.Marking.{marks_here, marks_there, none_known}
@@ -17,7 +17,7 @@ pub plan_of-requires-clause-branch : goal.plan_of-requires-clause-branch
 plan_of-requires-clause-branch c =
     let spot = lent_there c.args.queue.now c.args.place c.index-queue-place.result c.branch-queue.new.self c.index-queue-place-2.result c.requires.place c.index-queue-place.is c.branch-queue.ensures.stays c.index-queue-place-2.is in
     c.in_ok-branch.ensures.same
-    ∙ ap (λ (q : Record). q.program) (sym c.index-queue-place.is ∙ same_Some c.index-queue-place.result _ (sym (there_is c.args.queue.now c.args.place c.index-queue-place.result c.requires.place c.index-queue-place.is) ∙ spot))
+    ∙ ap (λ (q : QueuedUpdate). q.program) (sym c.index-queue-place.is ∙ same_Some c.index-queue-place.result _ (sym (there_is c.args.queue.now c.args.place c.index-queue-place.result c.requires.place c.index-queue-place.is) ∙ spot))
 
 pub plan_of-requires-clause-ready : goal.plan_of-requires-clause-ready
 plan_of-requires-clause-ready c =
@@ -43,7 +43,7 @@ pub returns-clause-planned : goal.returns-clause-planned
 returns-clause-planned c =
     let spot = lent_there c.args.queue.now c.args.place c.index-queue-place.result c.branch-queue.new.self c.index-queue-place-2.result c.requires.place c.index-queue-place.is c.branch-queue.ensures.stays c.index-queue-place-2.is in
     if_ok c.plan_of.result _ _
-    (λ plan planned r spot'. subst (λ (q : Record). IsSnapshotOf c.args.mappings.now c.args.budget c.args.versions.now q plan) (same_Some _ r (sym spot ∙ spot')) planned)
+    (λ plan planned r spot'. subst (λ (q : QueuedUpdate). IsSnapshotOf c.args.mappings.now c.args.budget c.args.versions.now q plan) (same_Some _ r (sym spot ∙ spot')) planned)
     c.plan_of.ensures.planned
 
 pub returns-clause-known : goal.returns-clause-known

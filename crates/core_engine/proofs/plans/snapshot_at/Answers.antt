@@ -1,6 +1,6 @@
 use Rattle.std.proofs.Common.{subst, sym, ◌∙◌}
 use Rattle.std.proofs.lemmas.Option.{same_Some}
-use Rattle.core_queue.specs.declared.records.Record.{Record}
+use Rattle.core_queue.specs.declared.updates.QueuedUpdate.{QueuedUpdate}
 use Rattle.core_engine.specs.Taken.{IsSnapshotOf}
 use Rattle.core_engine.proofs.Telling.{there_is, between_there}
 use Rattle.core_engine.proofs.plans.snapshot_at.Goals as goal
@@ -24,7 +24,7 @@ pub returns : goal.returns
 returns c =
     record {
       taken =
-          λ r spot. subst (λ (q : Record). IsSnapshotOf c.args.mappings.now c.args.budget c.args.versions.now q c.in_ok-snapshot.snapshot)
+          λ r spot. subst (λ (q : QueuedUpdate). IsSnapshotOf c.args.mappings.now c.args.budget c.args.versions.now q c.in_ok-snapshot.snapshot)
           (same_Some c.index-queue-place.result r (sym (there_is c.args.queue.now c.args.place c.index-queue-place.result c.requires.place c.index-queue-place.is) ∙ spot))
           c.in_ok-snapshot.ensures.taken;
     }

@@ -1,5 +1,5 @@
 use Rattle.std.proofs.Common.{ap, sym, ◌∙◌}
-use Rattle.core_queue.specs.declared.records.Record.{Record}
+use Rattle.core_queue.specs.declared.updates.QueuedUpdate.{QueuedUpdate}
 use Rattle.core_queue.specs.Settings.{settings_of}
 use Rattle.core_engine.proofs.Following.{steps_to}
 use Rattle.core_engine.proofs.Telling.{there_is}
@@ -12,7 +12,7 @@ returns-clause-made c = λ ms before after prepared.
     steps_to ms (settings_of c.args.settings) c.args.place c.args.history.now.items c.put_last.new.history.items c.args.queue.now c.install.new.queue before after
     c.index-queue-place.result c.args.plan c.args.prepared c.attempt-attempt.result c.step_entry-entry.result
     (there_is c.args.queue.now c.args.place c.index-queue-place.result c.requires.place c.index-queue-place.is)
-    prepared c.install.ensures.installed c.install.ensures.numbers c.install.ensures.long (c.attempt-attempt.ensures.attempt ∙ ap (λ (r : Record). r.program.attempt.attempt) (sym c.index-queue-place.is)) c.step_entry-entry.ensures.told c.put_last.ensures.all
+    prepared c.install.ensures.installed c.install.ensures.numbers c.install.ensures.long (c.attempt-attempt.ensures.attempt ∙ ap (λ (r : QueuedUpdate). r.program.attempt.attempt) (sym c.index-queue-place.is)) c.step_entry-entry.ensures.told c.put_last.ensures.all
 
 pub committed_from-committed-requires-clause-least : goal.committed_from-committed-requires-clause-least
 committed_from-committed-requires-clause-least c =

@@ -1,6 +1,6 @@
 use Rattle.std.proofs.Common.{subst, sym}
 use Rattle.core_queue.specs.Events.{HasStepped}
-use Rattle.core_queue.specs.declared.records.Record.{Record}
+use Rattle.core_queue.specs.declared.updates.QueuedUpdate.{QueuedUpdate}
 use Rattle.core_engine.proofs.Placing.{numbers_put, fresh_above, installed_is}
 use Rattle.core_engine.proofs.Committing.{committed_kept, unready_kept}
 use Rattle.core_engine.proofs.Unread.{unread_kept}
@@ -33,4 +33,4 @@ pub returns-clause-grows : goal.returns-clause-grows
 returns-clause-grows c =
     grows_at c.args.queue.now c.restart_marked.new.queue c.args.place c.index-queue-place.result c.follow.new.self c.args.plan c.args.fresh.items c.requires.place
     (there_is c.args.queue.now c.args.place c.index-queue-place.result c.requires.place c.index-queue-place.is) c.requires.plan
-    (subst (λ (q : Record). HasStepped c.args.plan q c.follow.new.self) (sym c.index-queue-place.is) c.follow.ensures.stepped) c.restart_marked.ensures.restarted
+    (subst (λ (q : QueuedUpdate). HasStepped c.args.plan q c.follow.new.self) (sym c.index-queue-place.is) c.follow.ensures.stepped) c.restart_marked.ensures.restarted

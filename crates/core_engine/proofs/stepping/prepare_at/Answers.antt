@@ -2,8 +2,8 @@ use Rattle.std.proofs.Common.{subst, sym, ◌≤◌, ℕ, suc, List, Option, dro
 use Rattle.chase_update.specs.Courses.{State}
 use Rattle.core_queue.specs.Renewals.{AreFresh}
 use Rattle.core_queue.specs.Settings.{settings_of}
-use Rattle.core_queue.specs.Walks.{ReadsAtMost}
-use Rattle.core_queue.specs.declared.records.Record.{Record}
+use Rattle.core_queue.specs.Order.{ReadsAtMost}
+use Rattle.core_queue.specs.declared.updates.QueuedUpdate.{QueuedUpdate}
 use Rattle.core_engine.proofs.Placing.{if_ok, above_numbers, above_more, above_fresh, above_prepared}
 use Rattle.core_engine.proofs.Telling.{between_there}
 use Rattle.core_engine.proofs.stepping.prepare_at.Goals as goal
@@ -32,10 +32,10 @@ returns-clause-fresh c =
     c.prepare.ensures.fresh
 
 pub prepare-requires-clause-read : goal.prepare-requires-clause-read
-prepare-requires-clause-read c = subst (λ (rs : List Record). ReadsAtMost rs c.readers_above-readers.result) (sym c.above-upper.ensures.rest) c.readers_above-readers.ensures.read
+prepare-requires-clause-read c = subst (λ (rs : List QueuedUpdate). ReadsAtMost rs c.readers_above-readers.result) (sym c.above-upper.ensures.rest) c.readers_above-readers.ensures.read
 
 pub prepare-requires-clause-within : goal.prepare-requires-clause-within
-prepare-requires-clause-within c = subst (λ (rs : List Record). c.readers_above-readers.result ≤ length rs) (sym c.above-upper.ensures.rest) c.readers_above-readers.ensures.within
+prepare-requires-clause-within c = subst (λ (rs : List QueuedUpdate). c.readers_above-readers.result ≤ length rs) (sym c.above-upper.ensures.rest) c.readers_above-readers.ensures.within
 
 pub prepare_alone-requires-clause-between : goal.prepare_alone-requires-clause-between
 prepare_alone-requires-clause-between c = between_there c.args.queue.now c.args.place c.index-queue-place.result c.requires.numbers c.requires.place c.index-queue-place.is
@@ -44,7 +44,7 @@ pub returns-then-is_alone-clause-prepared : goal.returns-then-is_alone-clause-pr
 returns-then-is_alone-clause-prepared c =
     let unread : ReadsAtMost c.above-upper.result.now 0 =
     subst (λ (n : ℕ). ReadsAtMost c.above-upper.result.now n) (c.is_alone.ensures.unread c.if-is_alone.true)
-    (subst (λ (rs : List Record). ReadsAtMost rs c.readers_above-readers.result) (sym c.above-upper.ensures.rest) c.readers_above-readers.ensures.read) in
+    (subst (λ (rs : List QueuedUpdate). ReadsAtMost rs c.readers_above-readers.result) (sym c.above-upper.ensures.rest) c.readers_above-readers.ensures.read) in
     if_ok c.prepare_alone.result _ _
     (λ prepared is. above_prepared c.args.mappings.now (settings_of c.args.settings) c.committed_from-committed.result c.args.place c.args.versions.now c.prepare_alone.new.versions c.args.queue.now c.above-upper.result.now c.index-queue-place.result c.args.plan.now
     prepared c.requires.numbers c.requires.place c.index-queue-place.is c.above-upper.ensures.rest c.committed_from-committed.ensures.committed

@@ -1,6 +1,6 @@
 use Rattle.std.proofs.Common.{◌≡◌, ◌<◌, ◌-◌, sym, subst, ℕ, suc, length, arith}
 use Rattle.core_queue.proofs.Unread.{one_fewer}
-use Rattle.core_queue.specs.Walks.{ReadsAtMost}
+use Rattle.core_queue.specs.Order.{ReadsAtMost}
 use Rattle.core_queue.proofs.reading.reads_at_most.Goals as goal
 
 pub updates-preserved : goal.updates-preserved

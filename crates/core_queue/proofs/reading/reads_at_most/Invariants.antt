@@ -1,5 +1,5 @@
 use Rattle.std.proofs.Common.{◌≤◌, length}
-use Rattle.core_queue.specs.Walks.{ReadsAtMost}
+use Rattle.core_queue.specs.Order.{ReadsAtMost}
 use Rattle.core_queue.proofs.reading.reads_at_most.Given as goal
 
 abbrev pub invariant-updates : goal.invariant-updates

@@ -8,7 +8,7 @@ use Rattle.def_steps.specs.Chase.{caused_chase}
 use Rattle.core_queue.specs.Queues.{updates_of}
 use Rattle.core_queue.specs.Events.{KeepsPlace}
 use Rattle.core_queue.specs.Renewals.{AreFresh, HasRestartedIf}
-use Rattle.core_queue.specs.declared.records.Record.{Record}
+use Rattle.core_queue.specs.declared.updates.QueuedUpdate.{QueuedUpdate}
 use Rattle.core_queue.proofs.Restarting.{restart_by, put_there, fresh_within, fresh_rest, turned, restarted}
 use Rattle.core_queue.proofs.renewals.restart_marked.Goals as goal
 
@@ -18,8 +18,8 @@ loop-program-preserved c =
     let k = c.loop-program.place in
     let v = c.restart_if.new.self in
     let r = c.index-queue-place.result in
-    let stays : KeepsPlace r v = subst (λ (x : Record). KeepsPlace x v) (sym c.index-queue-place.is) c.restart_if.ensures.place in
-    let made : HasRestartedIf c.in-Some.program r v = subst (λ (x : Record). HasRestartedIf c.in-Some.program x v) (sym c.index-queue-place.is) c.restart_if.ensures.restarted in
+    let stays : KeepsPlace r v = subst (λ (x : QueuedUpdate). KeepsPlace x v) (sym c.index-queue-place.is) c.restart_if.ensures.place in
+    let made : HasRestartedIf c.in-Some.program r v = subst (λ (x : QueuedUpdate). HasRestartedIf c.in-Some.program x v) (sym c.index-queue-place.is) c.restart_if.ensures.restarted in
     let rest = into_iter_items c.next.new.self in
     let here : into_iter_items c.loop-program.program-iterator ≡ c.in-Some.program ∷ rest = c.in-Some.ensures.steps.0 in
     let fresh : AreFresh (drop k q) (c.in-Some.program ∷ rest) = subst (AreFresh (drop k q)) here c.loop-program.invariant.fresh in

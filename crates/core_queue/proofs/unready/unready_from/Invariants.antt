@@ -1,4 +1,4 @@
-use Rattle.core_queue.specs.Walks.{UnreadyUpTo}
+use Rattle.core_queue.specs.Order.{UnreadyUpTo}
 use Rattle.core_queue.proofs.unready.unready_from.Given as goal
 use Rattle.std.proofs.Common.{length, ◌-◌}
 

@@ -4,7 +4,7 @@ use Rattle.std.specs.List.{list_all}
 use Rattle.core_conflict.specs.Impacts.{has_change}
 use Rattle.def_chase.proofs.Bools.{both}
 use Rattle.def_chase.specs.Mappings.{Rule}
-use Rattle.core_queue.specs.Walks.{ReadsAtMost}
+use Rattle.core_queue.specs.Order.{ReadsAtMost}
 use Rattle.core_cascade.specs.Walks.{HasLostImpact, padded}
 use Rattle.core_cascade.proofs.Padding.{found_padded, padded_full, padded_long, padded_none}
 use Rattle.core_cascade.specs.Meanings.{above_of, found_for}

@@ -1,6 +1,6 @@
 use Rattle.std.proofs.Common.{subst, sym, List}
-use Rattle.core_queue.specs.declared.records.Record.{Record}
-use Rattle.core_queue.specs.Walks.{CommitsAtLeast, HasCommitted}
+use Rattle.core_queue.specs.declared.updates.QueuedUpdate.{QueuedUpdate}
+use Rattle.core_queue.specs.Order.{CommitsAtLeast, HasCommitted}
 use Rattle.core_engine.proofs.Telling.{committed_told}
 use Rattle.core_engine.proofs.cores.Core.committed.Goals as goal
 
@@ -9,8 +9,8 @@ returns c =
     record {
       committed =
           committed_told _ _ c.self.inside.queue.items _ c.self.invariant.0.left c.self.view_is c.committed_from.result
-          (subst (λ (rs : List Record). HasCommitted rs c.committed_from.result) c.deref.ensures.value c.committed_from.ensures.committed);
+          (subst (λ (rs : List QueuedUpdate). HasCommitted rs c.committed_from.result) c.deref.ensures.value c.committed_from.ensures.committed);
     }
 
 pub committed_from-requires-clause-least : goal.committed_from-requires-clause-least
-committed_from-requires-clause-least c = subst (λ (rs : List Record). CommitsAtLeast rs c.self.inside.least) (sym c.deref.ensures.value) c.self.invariant.1
+committed_from-requires-clause-least c = subst (λ (rs : List QueuedUpdate). CommitsAtLeast rs c.self.inside.least) (sym c.deref.ensures.value) c.self.invariant.1

@@ -4,8 +4,8 @@ use Rattle.core_engine.proofs.Making.{some_number, pending_within, pending_numbe
 use Rattle.core_engine.proofs.Committing.{fewer_committed, fewer_unready, least_ok, unready_ok}
 use Rattle.core_engine.proofs.Marking.{none_known}
 use Rattle.core_engine.proofs.Unread.{with_nothing_noted, more_read, most_ok}
-use Rattle.core_queue.specs.Walks.{CommitsAtLeast, ReadsAtMost, UnreadyUpTo}
-use Rattle.core_queue.specs.declared.records.Record.{Record}
+use Rattle.core_queue.specs.Order.{CommitsAtLeast, ReadsAtMost, UnreadyUpTo}
+use Rattle.core_queue.specs.declared.updates.QueuedUpdate.{QueuedUpdate}
 use Rattle.core_engine.proofs.cores.Core.make_delivery.Goals as goal
 
 pub place_of-place-requires : goal.place_of-place-requires
@@ -34,13 +34,13 @@ invariant_of-self-2 c = (
       c.deref_mut.ensures.value c.deliver_at.new.queue c.deliver_at.new.history.items c.requires.waits c.in_ok-deliver_at.ensures.made).kept,
   least_ok c.deliver_at.new.queue (drop (length c.deliver_at.new.queue) c.self.inside.queue.items) c.self.inside.queue.len c.least_below-least.result (omega arith)
       (c.in_ok-deliver_at.ensures.least c.least_below-least.result c.least_below-least.ensures.below
-      (fewer_committed c.deref_mut.result.now c.self.inside.least c.least_below-least.result c.least_below-least.ensures.least (subst (λ (rs : List Record). CommitsAtLeast rs c.self.inside.least) (sym c.deref_mut.ensures.value) c.self.invariant.1))),
+      (fewer_committed c.deref_mut.result.now c.self.inside.least c.least_below-least.result c.least_below-least.ensures.least (subst (λ (rs : List QueuedUpdate). CommitsAtLeast rs c.self.inside.least) (sym c.deref_mut.ensures.value) c.self.invariant.1))),
   most_ok c.deliver_at.new.queue (drop (length c.deliver_at.new.queue) c.self.inside.queue.items) c.self.inside.queue.len c.raised-most.result (omega arith)
       (c.in_ok-deliver_at.ensures.most c.raised-most.result (let u = c.raised-most.ensures.update in let p = c.place_of-place.ensures in omega (arith, u, p))
-      (more_read c.deref_mut.result.now c.self.inside.most c.raised-most.result c.raised-most.ensures.most (subst (λ (rs : List Record). ReadsAtMost rs c.self.inside.most) (sym c.deref_mut.ensures.value) c.self.invariant.2))),
+      (more_read c.deref_mut.result.now c.self.inside.most c.raised-most.result c.raised-most.ensures.most (subst (λ (rs : List QueuedUpdate). ReadsAtMost rs c.self.inside.most) (sym c.deref_mut.ensures.value) c.self.invariant.2))),
   unready_ok c.deliver_at.new.queue (drop (length c.deliver_at.new.queue) c.self.inside.queue.items) c.self.inside.queue.len c.lesser-unready.result (omega arith)
       (c.in_ok-deliver_at.ensures.unready c.lesser-unready.result c.lesser-unready.ensures.other
-      (fewer_unready c.deref_mut.result.now c.self.inside.unready c.lesser-unready.result c.lesser-unready.ensures.one (subst (λ (rs : List Record). UnreadyUpTo rs c.self.inside.unready) (sym c.deref_mut.ensures.value) c.self.invariant.3))),
+      (fewer_unready c.deref_mut.result.now c.self.inside.unready c.lesser-unready.result c.lesser-unready.ensures.one (subst (λ (rs : List QueuedUpdate). UnreadyUpTo rs c.self.inside.unready) (sym c.deref_mut.ensures.value) c.self.invariant.3))),
   none_known _ c.self.inside.versions (take c.self.inside.queue.len (c.deliver_at.new.queue ++ drop (length c.deliver_at.new.queue) c.self.inside.queue.items)) (record { update = 0; made = c.self.inside.known.made; marks = c.self.inside.known.marks }) refl,
 )
 

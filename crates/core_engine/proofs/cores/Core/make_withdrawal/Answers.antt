@@ -4,7 +4,7 @@ use Rattle.def_machine.specs.Effects.{Withdraws}
 use Rattle.core_queue.specs.Queues.{AreFrom}
 use Rattle.core_queue.specs.Renewals.{AllHaveOneMore}
 use Rattle.core_queue.specs.Settings.{settings_of}
-use Rattle.core_queue.specs.declared.records.Record.{Record}
+use Rattle.core_queue.specs.declared.updates.QueuedUpdate.{QueuedUpdate}
 use Rattle.def_chase.specs.Mappings.{Rule}
 use Rattle.core_engine.specs.Withdrawals.{WithdrawsTo}
 use Rattle.core_engine.proofs.Losing.{live_number, live_within, core_withdraws, same_all}
@@ -21,10 +21,10 @@ withdraw_at-requires-clause-place c =
     c.deref_mut.ensures.value
 
 pub withdraw_at-requires-clause-numbers : goal.withdraw_at-requires-clause-numbers
-withdraw_at-requires-clause-numbers c = subst (λ (rs : List Record). AreFrom 1 rs) (sym c.deref_mut.ensures.value) c.self.invariant.0.numbers
+withdraw_at-requires-clause-numbers c = subst (λ (rs : List QueuedUpdate). AreFrom 1 rs) (sym c.deref_mut.ensures.value) c.self.invariant.0.numbers
 
 pub withdraw_at-requires-clause-more : goal.withdraw_at-requires-clause-more
-withdraw_at-requires-clause-more c = subst (λ (rs : List Record). AllHaveOneMore rs) (sym c.deref_mut.ensures.value) (all_one_more _ c.self.inside.versions c.self.inside.queue.items _ c.self.invariant.0)
+withdraw_at-requires-clause-more c = subst (λ (rs : List QueuedUpdate). AllHaveOneMore rs) (sym c.deref_mut.ensures.value) (all_one_more _ c.self.inside.versions c.self.inside.queue.items _ c.self.invariant.0)
 
 pub invariant_of-self : goal.invariant_of-self
 invariant_of-self c =

@@ -1,5 +1,5 @@
 use Rattle.std.proofs.Common.{◌∙◌, refl, sym, subst, List, arith, drop, length}
-use Rattle.core_queue.specs.declared.records.Record.{Record}
+use Rattle.core_queue.specs.declared.updates.QueuedUpdate.{QueuedUpdate}
 use Rattle.core_engine.specs.Known.{IsKnown}
 use Rattle.core_engine.proofs.Making.{front, some_number, ready_within, ready_numbers, ready_placed, left_placed, held_placed, snapshot_update, snapshot_step}
 use Rattle.core_engine.proofs.Placing.{if_ok}
@@ -30,7 +30,7 @@ plan_at-requires-clause-held c =
     held_placed _ c.self.inside.versions c.self.inside.queue.items _ _ c.self.invariant.0 c.self.view_is c.args.update c.requires.ready c.place_of-place.result c.place_of-place.ensures c.deref_mut.result.now c.deref_mut.ensures.value
 
 pub plan_at-requires-clause-known : goal.plan_at-requires-clause-known
-plan_at-requires-clause-known c = subst (λ (rs : List Record). IsKnown c.self.inside.mappings c.self.inside.versions rs c.self.inside.known) (sym c.deref_mut.ensures.value) c.self.invariant.4
+plan_at-requires-clause-known c = subst (λ (rs : List QueuedUpdate). IsKnown c.self.inside.mappings c.self.inside.versions rs c.self.inside.known) (sym c.deref_mut.ensures.value) c.self.invariant.4
 
 pub returns-clause-update : goal.returns-clause-update
 returns-clause-update c =
@@ -50,4 +50,4 @@ pub invariant_of-self : goal.invariant_of-self
 invariant_of-self c =
     let back = front c.plan_at.new.queue (drop (length c.plan_at.new.queue) c.self.inside.queue.items) c.self.inside.queue.len (omega arith) ∙ c.plan_at.ensures.same in
     let before = as_before _ _ _ _ _ _ _ _ _ (back ∙ c.deref_mut.ensures.value) c.self.invariant in
-    (before.0, before.1, before.2, before.3, subst (λ (rs : List Record). IsKnown c.self.inside.mappings c.self.inside.versions rs c.plan_at.new.known) (sym back) c.plan_at.ensures.known)
+    (before.0, before.1, before.2, before.3, subst (λ (rs : List QueuedUpdate). IsKnown c.self.inside.mappings c.self.inside.versions rs c.plan_at.new.known) (sym back) c.plan_at.ensures.known)

@@ -9,8 +9,8 @@ pub returns-in-Some-clause-finish : goal.returns-in-Some-clause-finish
 returns-in-Some-clause-finish g c =
     let i = c.self.inside in
     let b = shared (g.C.Core.over i.core) (g.C.Core.history i.core) i.opened i.marks.items i.busy.items i.given in
-    finish_stale (λ H. g.C.Core.in_question c.args.plan c.args.self.now.over H c.args.ticket.stamp) b _ _ c.args.seat c.args.ticket c.in-Some.entry c.self.invariant.0 c.self.view_is
-    (ap (λ (z : Shared). g.C.Core.in_question c.args.plan z.over b.history c.args.ticket.stamp) (sym c.self.view_is) ∙ (sym c.touched.ensures.entry ∙ c.in-Some.is)) c.give_back.ensures.back
+    finish_stale (λ H. g.C.Core.stale_since c.args.plan c.args.self.now.over H c.args.ticket.stamp) b _ _ c.args.seat c.args.ticket c.in-Some.entry c.self.invariant.0 c.self.view_is
+    (ap (λ (z : Shared). g.C.Core.stale_since c.args.plan z.over b.history c.args.ticket.stamp) (sym c.self.view_is) ∙ (sym c.stale_by.ensures.entry ∙ c.in-Some.is)) c.give_back.ensures.back
 
 pub step-requires-clause-plan : goal.step-requires-clause-plan
 step-requires-clause-plan g c =
@@ -24,5 +24,5 @@ pub returns-in-Ok-clause-finish : goal.returns-in-Ok-clause-finish
 returns-in-Ok-clause-finish g c =
     let i = c.self.inside in
     let b = shared (g.C.Core.over i.core) (g.C.Core.history i.core) i.opened i.marks.items i.busy.items i.given in
-    finish_stepped (λ H. g.C.Core.in_question c.args.plan c.args.self.now.over H c.args.ticket.stamp) b _ _ c.args.seat c.args.ticket c.in-Ok.entry c.self.invariant.0 c.self.view_is
-    (ap (λ (z : Shared). g.C.Core.in_question c.args.plan z.over b.history c.args.ticket.stamp) (sym c.self.view_is) ∙ (sym c.touched.ensures.entry ∙ c.in_default.is)) c.in-Ok.ensures.step
+    finish_stepped (λ H. g.C.Core.stale_since c.args.plan c.args.self.now.over H c.args.ticket.stamp) b _ _ c.args.seat c.args.ticket c.in-Ok.entry c.self.invariant.0 c.self.view_is
+    (ap (λ (z : Shared). g.C.Core.stale_since c.args.plan z.over b.history c.args.ticket.stamp) (sym c.self.view_is) ∙ (sym c.stale_by.ensures.entry ∙ c.in_default.is)) c.in-Ok.ensures.step

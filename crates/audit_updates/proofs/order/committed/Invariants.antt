@@ -1,0 +1,12 @@
+use Rattle.std.proofs.Common.{◌≡◌, ℕ, suc, ◌+◌, List, drop}
+use Rattle.def_machine.specs.Updates.{committed}
+use Rattle.def_chase.specs.Mappings.{Rule}
+use Rattle.def_steps.specs.Chase.{caused_chase}
+use Rattle.audit_updates.specs.Updates.{updates_of, AreFrom}
+use Rattle.audit_updates.proofs.order.committed.Given as goal
+
+abbrev pub invariant-loop-seat : goal.invariant-loop-seat
+invariant-loop-seat l = record {
+  from : AreFrom (suc l.count) (drop l.seat-index l.seats);
+  left : (ms : List Rule) (B : ℕ) → l.count + committed (caused_chase ms B) (updates_of ms B (drop l.seat-index l.seats)) ≡ committed (caused_chase ms B) (updates_of ms B l.seats);
+}

@@ -1,0 +1,69 @@
+//! Which of the updates come first.
+ghost use Rattle.std.specs.Prelude.{◌≡◌, is_none as is_none_def};
+ghost use Rattle.audit_updates.specs.Settings.{settings_of};
+ghost use Rattle.audit_updates.specs.Updates.{AreFrom};
+ghost use Rattle.audit_updates.specs.Order.{HasCommitted, IsFirstReady, IsFirstDeliverable, IsQuiet};
+
+use crate::settings::Settings;
+use crate::updates::AuditedUpdate;
+
+/// How many updates are committed: the longest prefix of those that are over. It takes no memory.
+pub fn committed(seats: &[AuditedUpdate]) -> u32
+    requires from { AreFrom 1 seats.now }
+    ensures committed { HasCommitted seats.now result }
+{
+    let mut count = 0;
+    for seat in seats {
+        if !seat.is_over() {
+            return count;
+        }
+        count = seat.number();
+    }
+    count
+}
+
+/// Whether nothing is ready, and nothing is deliverable. It takes no memory.
+pub fn is_quiet(seats: &[AuditedUpdate], settings: Settings) -> bool
+    requires from { AreFrom 1 seats.now }
+    ensures quiet { IsQuiet (settings_of settings) seats.now result }
+{
+    let committed = committed(seats);
+    let none_ready = is_none(first_ready(seats, settings, committed));
+    let none_deliverable = is_none(first_deliverable(seats, settings, committed));
+    none_ready && none_deliverable
+}
+
+// The least number of a ready update, where so many are committed.
+fn first_ready(seats: &[AuditedUpdate], settings: Settings, committed: u32) -> Option<u32>
+    requires from { AreFrom 1 seats.now }
+    ensures first { IsFirstReady (settings_of settings) committed 1 seats.now result }
+{
+    for seat in seats {
+        let number = seat.number();
+        if seat.is_ready(settings, committed, number) {
+            return Some(number);
+        }
+    }
+    None
+}
+
+// The least number of a deliverable update, where so many are committed.
+fn first_deliverable(seats: &[AuditedUpdate], settings: Settings, committed: u32) -> Option<u32>
+    requires from { AreFrom 1 seats.now }
+    ensures first { IsFirstDeliverable (settings_of settings) committed 1 seats.now result }
+{
+    for seat in seats {
+        let number = seat.number();
+        if seat.is_deliverable(settings, committed, number) {
+            return Some(number);
+        }
+    }
+    None
+}
+
+// Whether there is no such update.
+fn is_none(number: Option<u32>) -> bool
+    ensures none { result ≡ is_none_def number }
+{
+    number.is_none()
+}

@@ -1,0 +1,32 @@
+use Rattle.std.proofs.Common.{subst, sym, ℕ}
+use Rattle.core_queue.specs.Settings.{settings_of}
+use Rattle.core_queue.specs.Queues.{AreFrom}
+use Rattle.core_queue.specs.Order.{IsFirstDeliverable}
+use Rattle.core_queue.proofs.Walking.{deliverable_test, found, passed, ended, first_number, next_number, stand_behind}
+use Rattle.core_queue.proofs.order.first_deliverable.Goals as goal
+
+pub loop-record-init : goal.loop-record-init
+loop-record-init c =
+    record {
+      from = subst (λ (n : ℕ). AreFrom n c.args.rest.now) (first_number c.args.committed) c.requires.from;
+      left = λ o first. subst (λ (n : ℕ). IsFirstDeliverable (settings_of c.args.settings) c.args.committed n c.args.rest.now o) (sym (first_number c.args.committed)) first;
+    }
+
+pub returns-then-is_deliverable : goal.returns-then-is_deliverable
+returns-then-is_deliverable c =
+    record {
+      first = c.loop-record.invariant.left _
+          (found (deliverable_test (settings_of c.args.settings) c.args.committed) c.args.rest.now c.loop-record.record-index _ c.number-number.result c.record-item.result c.is_deliverable.result c.loop-record-test.true c.record-item.is c.loop-record.invariant.from c.number-number.ensures.number c.is_deliverable.ensures.deliverable c.if-is_deliverable.true);
+    }
+
+pub loop-record-preserved : goal.loop-record-preserved
+loop-record-preserved c =
+    record {
+      from = stand_behind c.args.rest.now c.loop-record.record-index _ _ c.record-item.result c.loop-record-test.true c.record-item.is (next_number c.loop-record.record-index c.args.committed) c.loop-record.invariant.from;
+      left = λ o first. c.loop-record.invariant.left o
+          (passed (deliverable_test (settings_of c.args.settings) c.args.committed) c.args.rest.now c.loop-record.record-index _ _ c.number-number.result c.record-item.result c.is_deliverable.result o c.loop-record-test.true c.record-item.is c.loop-record.invariant.from c.number-number.ensures.number c.is_deliverable.ensures.deliverable c.if-is_deliverable.false (next_number c.loop-record.record-index c.args.committed) first);
+    }
+
+pub returns : goal.returns
+returns c =
+    record { first = c.loop-record.invariant.left _ (ended (deliverable_test (settings_of c.args.settings) c.args.committed) c.args.rest.now c.loop-record.record-index _ c.loop-record-test.false) }

@@ -1,0 +1,11 @@
+use Rattle.std.proofs.Common.{ℕ, suc, ◌+◌, drop, Option}
+use Rattle.core_queue.specs.Settings.{settings_of}
+use Rattle.core_queue.specs.Queues.{AreFrom}
+use Rattle.core_queue.specs.Order.{IsFirstDeliverable}
+use Rattle.core_queue.proofs.order.first_deliverable.Given as goal
+
+abbrev pub invariant-loop-record : goal.invariant-loop-record
+invariant-loop-record l = record {
+  from : AreFrom (l.record-index + suc l.committed) (drop l.record-index l.rest);
+  left : (o : Option ℕ) → IsFirstDeliverable (settings_of l.settings) l.committed (l.record-index + suc l.committed) (drop l.record-index l.rest) o → IsFirstDeliverable (settings_of l.settings) l.committed (suc l.committed) l.rest o;
+}

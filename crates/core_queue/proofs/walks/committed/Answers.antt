@@ -1,5 +1,0 @@
-use Rattle.core_queue.proofs.Walking.{none_committed}
-use Rattle.core_queue.proofs.walks.committed.Goals as goal
-
-pub committed_from-requires-clause-least : goal.committed_from-requires-clause-least
-committed_from-requires-clause-least c = none_committed c.args.queue.now

@@ -1,0 +1,76 @@
+//! An update with its present attempt, and what others see of it.
+ghost use Rattle.std.specs.Prelude.{◌≡◌};
+ghost use Rattle.core_queue.specs.Programs.{IsBetween, HasWritten};
+ghost use Rattle.core_queue.specs.Updates.{HasTrail, IsOver, IsLive};
+
+use crate::outcomes::{outcome, shown};
+use base_types::{Choice, ChoiceList, Write};
+use chase_plan::Plan;
+use chase_query::ReadLog;
+use chase_update::Attempt;
+use core_conflict::Footprint;
+use std::collections::VecDeque;
+
+/// An update with its present attempt, between two steps: the reads of that attempt, whether the update was withdrawn,
+/// the answers delivered, and those that are recorded and not delivered yet; and what its attempt has to do with writes.
+#[derive(Debug, Drop)]
+pub struct QueuedUpdate {
+    pub program: Attempt,
+    pub log: ReadLog,
+    pub withdrawn: bool,
+    pub answers: ChoiceList,
+    pub inbox: VecDeque<Choice>,
+    pub footprint: Footprint,
+}
+
+impl QueuedUpdate {
+    /// The number of the update. It takes no memory.
+    pub fn number(&self) -> u32
+        ensures number { result ≡ self.now.program.attempt.number }
+    {
+        self.program.number()
+    }
+
+    /// The writes that others see of it: none where it was withdrawn, or its attempt ended spent or refused. It takes no
+    /// memory.
+    pub fn trail(&self) -> &[Write]
+        requires between { IsBetween self.now.program }
+        ensures trail { HasTrail self.now result.now }
+    {
+        if self.withdrawn {
+            return &[];
+        }
+        shown(&self.program)
+    }
+
+    /// The writes that the step of the plan shows: none where the attempt ends by it spent or refused. It takes no
+    /// memory.
+    pub fn written<'a>(&self, plan: &'a Plan) -> &'a [Write]
+        requires between { IsBetween plan.now.program }
+        ensures written { HasWritten self.now plan.now result.now }
+    {
+        let shown = shown(&plan.program);
+        let made = self.program.own().len();
+        if made <= shown.len() {
+            &shown[made..]
+        } else {
+            &[]
+        }
+    }
+
+    /// Whether it was withdrawn or its attempt has ended. It takes no memory.
+    pub fn is_over(&self) -> bool
+        requires between { IsBetween self.now.program }
+        ensures over { IsOver self.now result }
+    {
+        self.withdrawn || outcome(&self.program).is_some()
+    }
+
+    /// Whether it is neither withdrawn nor committed, where so many updates are committed and it has this number. It
+    /// takes no memory.
+    pub fn is_live(&self, committed: u32, number: u32) -> bool
+        ensures live { IsLive committed number self.now result }
+    {
+        committed < number && !self.withdrawn
+    }
+}
