@@ -13,7 +13,8 @@ pub trait Cut<K: Ord> {
     fn reaches(&self, key: &K) -> bool
         ensures { result ≡ reaches self.now key.now };
 
-    ghost rises: { (c : Self) (x y : K) → K.cmp x y ≡ Less → reaches c x ≡ true → reaches c y ≡ true };
+    ghost rises: { (c : Self) (x y : K) → K.cmp x y ≡ Less → reaches c x ≡ true → reaches c y
+        ≡ true };
 }
 
 /// Before all keys.

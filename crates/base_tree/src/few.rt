@@ -20,7 +20,10 @@ impl<'a, T> Model for Few<'a, T> {
 
     ghost Value = { Batch T };
 
-    ghost view = { λ f. record { left = items_in (drop f.given f.items.items); room = most - array_vec_len f.items } };
+    ghost view = { λ f. record {
+      left = items_in (drop f.given f.items.items);
+      room = most - array_vec_len f.items;
+    } };
 
     ghost invariant = { λ f. AreFilled f.items.items × (f.given ≤ array_vec_len f.items) };
 }

@@ -37,7 +37,10 @@ impl<T> Model for List<T> {
 
     ghost coded = { listed_code T.code };
 
-    ghost view = { λ l. record { items = l.items.items; spare = vec_capacity l.items - vec_len l.items } };
+    ghost view = { λ l. record {
+      items = l.items.items;
+      spare = vec_capacity l.items - vec_len l.items;
+    } };
 }
 
 impl<T> List<T> {

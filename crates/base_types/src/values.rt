@@ -81,7 +81,9 @@ impl Ord for Value {
 impl Hash for Value {
     ghost hash_input = { λ v. fed_of (datum_of v) };
 
-    ghost respects_eq = { λ v w e. ap fed_of (datum_exact (datum_of v) (datum_of w) ((Equal-is (datum_cmp (datum_of v) (datum_of w))).0 e)) };
+    ghost respects_eq = { λ v w e.
+        ap fed_of (datum_exact (datum_of v) (datum_of w) ((Equal-is (datum_cmp (datum_of v)
+        (datum_of w))).0 e)) };
 
     fn hash<H: Hasher>(&self, state: &mut H) {
         match self {

@@ -72,9 +72,19 @@ impl<'s> Model for Core<'s> {
 
     ghost Value = { State };
 
-    ghost view = { λ c. record { over = ground_by c.mappings c.budget (settings_of c.settings) c.base.now c.updates.now c.later; history = map entry_of c.history.items } };
+    ghost view = { λ c.
+        record {
+          over = ground_by c.mappings c.budget (settings_of c.settings) c.base.now
+              c.updates.now c.later;
+          history = map entry_of c.history.items;
+        } };
 
-    ghost invariant = { λ c. IsKept (ground_by c.mappings c.budget (settings_of c.settings) c.base.now c.updates.now c.later) c.versions c.queue.items (map entry_of c.history.items) × CommitsAtLeast c.queue.items c.least × ReadsAtMost c.queue.items c.most × UnreadyUpTo c.queue.items c.unready × IsKnown c.mappings c.versions c.queue.items c.known };
+    ghost invariant = { λ c.
+        IsKept (ground_by c.mappings c.budget (settings_of c.settings) c.base.now c.updates.now
+        c.later) c.versions c.queue.items (map entry_of c.history.items)
+        × CommitsAtLeast c.queue.items c.least × ReadsAtMost c.queue.items c.most
+        × UnreadyUpTo c.queue.items c.unready
+        × IsKnown c.mappings c.versions c.queue.items c.known };
 }
 
 impl<'s> Core<'s> {

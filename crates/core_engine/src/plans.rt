@@ -36,7 +36,11 @@ impl Model for Plan {
 
     ghost Value = { PlanMeant };
 
-    ghost view = { λ p. record { update = p.update; program = p.step.program; reads = reads_in p.step.reads.items } };
+    ghost view = { λ p. record {
+      update = p.update;
+      program = p.step.program;
+      reads = reads_in p.step.reads.items;
+    } };
 }
 
 impl Plan {

@@ -29,7 +29,8 @@ impl Model for Base {
 
     ghost view = { λ b. gathered b.relations.items };
 
-    ghost invariant = { λ b. AreApart 0 b.relations.items × (length (gathered b.relations.items) ≤ b.most) };
+    ghost invariant = { λ b. AreApart 0 b.relations.items
+        × (length (gathered b.relations.items) ≤ b.most) };
 }
 
 impl Base {

@@ -38,7 +38,13 @@ impl Model for Draft {
 
     ghost Value = { SessionData };
 
-    ghost view = { λ d. record { format = d.format; relations = d.schema; mappings = map session_mapping_of d.mappings.items; base = d.base; updates = d.updates } };
+    ghost view = { λ d. record {
+      format = d.format;
+      relations = d.schema;
+      mappings = map session_mapping_of d.mappings.items;
+      base = d.base;
+      updates = d.updates;
+    } };
 
     ghost invariant = { λ d. length d.schema ≤ 128 };
 }

@@ -32,7 +32,9 @@ impl Model for Updates {
 
     ghost view = { λ u. map update_of u.updates.items };
 
-    ghost invariant = { λ u. (u.label_names.items ≡ labels (map update_of u.updates.items)) × (u.curator_names.items ≡ curators (map update_of u.updates.items)) × (u.answers ≡ answer_count (map update_of u.updates.items)) × (length u.updates.items ≤ 1000) };
+    ghost invariant = { λ u. (u.label_names.items ≡ labels (map update_of u.updates.items))
+        × (u.curator_names.items ≡ curators (map update_of u.updates.items)) × (u.answers
+        ≡ answer_count (map update_of u.updates.items)) × (length u.updates.items ≤ 1000) };
 }
 
 impl Updates {

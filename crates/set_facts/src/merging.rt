@@ -33,9 +33,12 @@ impl<'a, H: Hides> Model for Merging<'a, H> {
 
     ghost Value = { List Fact };
 
-    ghost view = { λ m. merged (ahead_of m.left (left_of (H.hidden m.hidden.now) (run_of m.base))) (ahead_of m.put (run_of m.added)) };
+    ghost view = { λ m.
+        merged (ahead_of m.left (left_of (H.hidden m.hidden.now) (run_of m.base))) (ahead_of m.put
+        (run_of m.added)) };
 
-    ghost invariant = { λ m. IfNone m.left (left_of (H.hidden m.hidden.now) (run_of m.base) ≡ []) × IfNone m.put (run_of m.added ≡ []) };
+    ghost invariant = { λ m. IfNone m.left (left_of (H.hidden m.hidden.now) (run_of m.base) ≡ [])
+        × IfNone m.put (run_of m.added ≡ []) };
 }
 
 impl<'a, H: Hides> Merging<'a, H> {

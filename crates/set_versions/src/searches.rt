@@ -73,9 +73,11 @@ impl<'c> Search<Handle, Marks> for Beyond<'c> {
 
     ghost passes = { λ s e. stands s.number e.1 };
 
-    ghost stays_past = { λ s x y. beyond_past (option_map fact_of (option_copied s.past)) (fact_of x) (fact_of y) };
+    ghost stays_past = { λ s x y.
+        beyond_past (option_map fact_of (option_copied s.past)) (fact_of x) (fact_of y) };
 
-    ghost stays_before = { λ s x y. beyond_before (option_map fact_of (option_copied s.past)) (fact_of x) (fact_of y) };
+    ghost stays_before = { λ s x y.
+        beyond_before (option_map fact_of (option_copied s.past)) (fact_of x) (fact_of y) };
 
     fn place(&self, key: &Handle) -> Ordering {
         place_after(self.past, key.get())
@@ -95,13 +97,16 @@ pub struct Zone<'c> {
 }
 
 impl<'c> Search<Handle, Marks> for Zone<'c> {
-    ghost place = { λ s k. place_of s.relation (option_map fact_of (option_copied s.past)) (fact_of k) };
+    ghost place = { λ s k.
+        place_of s.relation (option_map fact_of (option_copied s.past)) (fact_of k) };
 
     ghost passes = { λ s e. stands s.number e.1 };
 
-    ghost stays_past = { λ s x y. of_past s.relation (option_map fact_of (option_copied s.past)) (fact_of x) (fact_of y) };
+    ghost stays_past = { λ s x y.
+        of_past s.relation (option_map fact_of (option_copied s.past)) (fact_of x) (fact_of y) };
 
-    ghost stays_before = { λ s x y. of_before s.relation (option_map fact_of (option_copied s.past)) (fact_of x) (fact_of y) };
+    ghost stays_before = { λ s x y.
+        of_before s.relation (option_map fact_of (option_copied s.past)) (fact_of x) (fact_of y) };
 
     fn place(&self, key: &Handle) -> Ordering {
         place_in_relation(self.relation, self.past, key.get())
@@ -130,13 +135,16 @@ pub struct Onward<'c> {
 }
 
 impl<'c> Search<Handle, ()> for Onward<'c> {
-    ghost place = { λ s k. place_of s.relation (option_map fact_of (option_copied s.past)) (fact_of k) };
+    ghost place = { λ s k.
+        place_of s.relation (option_map fact_of (option_copied s.past)) (fact_of k) };
 
     ghost passes = { λ _ _. true };
 
-    ghost stays_past = { λ s x y. of_past s.relation (option_map fact_of (option_copied s.past)) (fact_of x) (fact_of y) };
+    ghost stays_past = { λ s x y.
+        of_past s.relation (option_map fact_of (option_copied s.past)) (fact_of x) (fact_of y) };
 
-    ghost stays_before = { λ s x y. of_before s.relation (option_map fact_of (option_copied s.past)) (fact_of x) (fact_of y) };
+    ghost stays_before = { λ s x y.
+        of_before s.relation (option_map fact_of (option_copied s.past)) (fact_of x) (fact_of y) };
 
     fn place(&self, key: &Handle) -> Ordering {
         place_in_relation(self.relation, self.past, key.get())
@@ -266,13 +274,17 @@ pub struct Further<'c> {
 }
 
 impl<'c> Search<Handle, Marks> for Further<'c> {
-    ghost place = { λ s k. place_of s.relation (option_map fact_of (option_copied s.past)) (fact_of k) };
+    ghost place = { λ s k.
+        place_of s.relation (option_map fact_of (option_copied s.past)) (fact_of k) };
 
-    ghost passes = { λ s e. stands s.number e.1 && has_datum_at s.column (datum_of s.value.now) (fact_of e.0) };
+    ghost passes = { λ s e. stands s.number e.1
+        && has_datum_at s.column (datum_of s.value.now) (fact_of e.0) };
 
-    ghost stays_past = { λ s x y. of_past s.relation (option_map fact_of (option_copied s.past)) (fact_of x) (fact_of y) };
+    ghost stays_past = { λ s x y.
+        of_past s.relation (option_map fact_of (option_copied s.past)) (fact_of x) (fact_of y) };
 
-    ghost stays_before = { λ s x y. of_before s.relation (option_map fact_of (option_copied s.past)) (fact_of x) (fact_of y) };
+    ghost stays_before = { λ s x y.
+        of_before s.relation (option_map fact_of (option_copied s.past)) (fact_of x) (fact_of y) };
 
     fn place(&self, key: &Handle) -> Ordering {
         place_in_relation(self.relation, self.past, key.get())
@@ -305,13 +317,19 @@ pub struct Scan<'c> {
 }
 
 impl<'c> Search<Cell, Marks> for Scan<'c> {
-    ghost place = { λ s k. place_in s.relation s.column (datum_of s.value.now) (option_map fact_of (option_copied s.past)) (cell_of k) };
+    ghost place = { λ s k.
+        place_in s.relation s.column (datum_of s.value.now) (option_map fact_of (option_copied
+        s.past)) (cell_of k) };
 
     ghost passes = { λ s e. stands s.number e.1 };
 
-    ghost stays_past = { λ s x y. in_past s.relation s.column (datum_of s.value.now) (option_map fact_of (option_copied s.past)) (cell_of x) (cell_of y) };
+    ghost stays_past = { λ s x y.
+        in_past s.relation s.column (datum_of s.value.now) (option_map fact_of (option_copied
+        s.past)) (cell_of x) (cell_of y) };
 
-    ghost stays_before = { λ s x y. in_before s.relation s.column (datum_of s.value.now) (option_map fact_of (option_copied s.past)) (cell_of x) (cell_of y) };
+    ghost stays_before = { λ s x y.
+        in_before s.relation s.column (datum_of s.value.now) (option_map fact_of (option_copied
+        s.past)) (cell_of x) (cell_of y) };
 
     fn place(&self, key: &Cell) -> Ordering {
         match key.column.cmp(&self.column) {

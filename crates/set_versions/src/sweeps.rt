@@ -39,9 +39,13 @@ impl<'a> Model for Sweep<'a> {
 
     ghost Value = { List Fact };
 
-    ghost view = { λ s. merged (ahead_of s.left (left_of (to_pass s.taken) (run_of s.base))) (ahead_of s.put (visible s.number s.rows)) };
+    ghost view = { λ s.
+        merged (ahead_of s.left (left_of (to_pass s.taken) (run_of s.base))) (ahead_of s.put
+        (visible s.number s.rows)) };
 
-    ghost invariant = { λ s. AreToPass s.taken × (IsRepository (run_of s.base) × (IfNone s.left (left_of (to_pass s.taken) (run_of s.base) ≡ []) × IfNone s.put (visible s.number s.rows ≡ []))) };
+    ghost invariant = { λ s. AreToPass s.taken × (IsRepository (run_of s.base)
+        × (IfNone s.left (left_of (to_pass s.taken) (run_of s.base) ≡ [])
+        × IfNone s.put (visible s.number s.rows ≡ []))) };
 }
 
 impl<'a> Sweep<'a> {

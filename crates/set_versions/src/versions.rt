@@ -39,7 +39,11 @@ impl Model for Versions {
 
     ghost view = { λ v. record { base = v.base.value; taken = v.taken; rows = v.table } };
 
-    ghost invariant = { λ v. AreKept (record { base = v.base.value; taken = v.taken; rows = v.table }) };
+    ghost invariant = { λ v. AreKept (record {
+      base = v.base.value;
+      taken = v.taken;
+      rows = v.table;
+    }) };
 }
 
 impl Versions {

@@ -30,7 +30,8 @@ pub struct Board {
     pub given: u64,
     pub holders: Vec<u64>,
     ghost room: { vec_len items + vec_len holders ≤ vec_capacity items },
-    ghost balanced: { (j : ℕ) → given_to j (made_all items.items) ≡ returned_by j (made_all items.items) + count_for j holders.items },
+    ghost balanced: { (j : ℕ) → given_to j (made_all items.items)
+        ≡ returned_by j (made_all items.items) + count_for j holders.items },
 }
 
 /// A ticket. It has to be spent.

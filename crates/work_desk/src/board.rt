@@ -63,9 +63,13 @@ impl<C: Core> Model for Board<C> {
 
     ghost Value = { Shared };
 
-    ghost view = { λ b. shared (C.over b.core) (C.history b.core) b.opened b.marks.items b.busy.items b.given };
+    ghost view = { λ b.
+        shared (C.over b.core) (C.history b.core) b.opened b.marks.items b.busy.items b.given };
 
-    ghost invariant = { λ b. IsShared (shared (C.over b.core) (C.history b.core) b.opened b.marks.items b.busy.items b.given) × (vec_len b.marks + vec_len b.busy ≤ vec_capacity b.marks) };
+    ghost invariant = { λ b.
+        IsShared (shared (C.over b.core) (C.history b.core) b.opened b.marks.items b.busy.items
+        b.given)
+        × (vec_len b.marks + vec_len b.busy ≤ vec_capacity b.marks) };
 }
 
 impl<C: Core> Grows for Board<C> {

@@ -42,9 +42,15 @@ impl<'s> Model for WorkedSession<'s> {
 
     ghost Value = { Run };
 
-    ghost view = { λ w. record { session = session_of w.session.now; budget = w.budget; settings = settings_of w.settings; history = w.core.history } };
+    ghost view = { λ w. record {
+      session = session_of w.session.now;
+      budget = w.budget;
+      settings = settings_of w.settings;
+      history = w.core.history;
+    } };
 
-    ghost invariant = { λ w. IsWorked (session_of w.session.now) w.budget (settings_of w.settings) w.core };
+    ghost invariant = { λ w.
+        IsWorked (session_of w.session.now) w.budget (settings_of w.settings) w.core };
 }
 
 impl<'s> WorkedSession<'s> {
