@@ -13,6 +13,7 @@ mod marks;
 mod passing;
 mod ranks;
 mod reading;
+mod scans;
 mod searches;
 mod spots;
 mod spreads;

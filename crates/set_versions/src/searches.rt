@@ -1,14 +1,13 @@
-//! What is looked for among the marked tuples and their cells.
+//! What is looked for among the marked tuples.
 ghost use Rattle.std.specs.Prelude.{◌≡◌, ◌&&◌, None, Some, true};
 ghost use Rattle.std.specs.Option.{option_map, option_copied};
 ghost use Rattle.def_chase.specs.Cursors.{has_at as has_datum_at};
 ghost use Rattle.base_types.specs.Meanings.{fact_of, datum_of};
-ghost use Rattle.set_versions.specs.Indexed.{cell_of};
 ghost use Rattle.set_versions.specs.Marked.{is_marked, stands};
-ghost use Rattle.set_versions.specs.Zones.{place_beyond, place_of, place_in, place_lead};
-ghost use Rattle.set_versions.specs.ZoneLaws.{beyond_before, beyond_past, of_before, of_past, in_before, in_past, lead_before, lead_past};
+ghost use Rattle.set_versions.specs.Zones.{place_beyond, place_of, place_lead};
+ghost use Rattle.set_versions.specs.ZoneLaws.{beyond_before, beyond_past, of_before, of_past, lead_before, lead_past};
 
-use crate::cells::{Cell, values_order};
+use crate::cells::values_order;
 use crate::handles::Handle;
 use crate::marks::Marks;
 use crate::ranks::{rank, rank_at};
@@ -305,59 +304,6 @@ impl<'c> Show<Handle, Marks, Tuple> for Further<'c> {
     }
 }
 
-/// The cells with the value in the column, whose tuple is of the relation, comes after a tuple, where one is given, and
-/// is there for the update.
-#[derive(Drop)]
-pub struct Scan<'c> {
-    pub number: u32,
-    pub relation: u16,
-    pub column: usize,
-    pub value: &'c Value,
-    pub past: Option<&'c Tuple>,
-}
-
-impl<'c> Search<Cell, Marks> for Scan<'c> {
-    ghost place = { λ s k.
-        place_in s.relation s.column (datum_of s.value.now) (option_map fact_of (option_copied
-        s.past)) (cell_of k) };
-
-    ghost passes = { λ s e. stands s.number e.1 };
-
-    ghost stays_past = { λ s x y.
-        in_past s.relation s.column (datum_of s.value.now) (option_map fact_of (option_copied
-        s.past)) (cell_of x) (cell_of y) };
-
-    ghost stays_before = { λ s x y.
-        in_before s.relation s.column (datum_of s.value.now) (option_map fact_of (option_copied
-        s.past)) (cell_of x) (cell_of y) };
-
-    fn place(&self, key: &Cell) -> Ordering {
-        match key.column.cmp(&self.column) {
-            Ordering::Less => Ordering::Less,
-            Ordering::Equal => match values_order(key.value(), Some(self.value)) {
-                Ordering::Less => Ordering::Less,
-                Ordering::Equal => place_in_relation(self.relation, self.past, key.tuple.get()),
-                Ordering::Greater => Ordering::Greater,
-            },
-            Ordering::Greater => Ordering::Greater,
-        }
-    }
-
-    fn passes(&self, entry: &(Cell, Marks)) -> bool {
-        entry.1.stands(self.number)
-    }
-}
-
-impl<'c> Show<Cell, Marks, Tuple> for Scan<'c> {
-    ghost shown = { λ e. e.0.tuple };
-
-    fn show(entry: &(Cell, Marks)) -> &Tuple
-        ensures { result.now ≡ entry.now.0.tuple }
-    {
-        entry.0.tuple.get()
-    }
-}
-
 // Where the tuple lies to those of the relation with the first value that come after `past`, where that is given.
 fn place_at(relation: u16, value: &Value, past: Option<&Tuple>, tuple: &Tuple) -> Ordering
     ensures { result ≡ place_lead relation (datum_of value.now)
@@ -390,8 +336,8 @@ fn place_after(past: Option<&Tuple>, tuple: &Tuple) -> Ordering
     }
 }
 
-// The same among the tuples of the relation.
-fn place_in_relation(relation: u16, past: Option<&Tuple>, tuple: &Tuple) -> Ordering
+/// Where the tuple lies to those of the relation that come after `past`, if one is given.
+pub fn place_in_relation(relation: u16, past: Option<&Tuple>, tuple: &Tuple) -> Ordering
     ensures { result
         ≡ place_of relation (option_map fact_of (option_copied past.entry)) (fact_of tuple.now) }
 {
