@@ -1,7 +1,9 @@
 # The pages: what they name is there, and what they show is what the program writes.
 check 'README has at most 120 lines' "$(wc -l < README.md | awk '$1 > 120')"
-check 'the map of the architecture names each crate' \
-  "$(for crate in crates/*/; do grep -q "\`$(basename "$crate")\`" docs/ARCHITECTURE.md || basename "$crate"; done)"
+check 'RESULTS has at most 150 lines' "$(wc -l < bench/RESULTS.md | awk '$1 > 150')"
+check 'each crate stands on its own layer and lower ones, and the three lists of layers are one' "$(tests/pages/layers.py 2>&1)"
+check 'the pages are in plain English' "$(tests/pages/english.py 2>&1)"
+check 'the code that CALLING shows stands in its crates' "$(tests/pages/shown.py docs/CALLING.md 2>&1)"
 check 'each link of the pages leads somewhere' "$(tests/pages/links.py 2>&1)"
 check 'each contract that PROOFS cites is there' "$(tests/pages/citations.py 2>&1)"
 check 'each name of the crates that the pages quote is there' "$(tests/pages/names.py 2>&1)"
