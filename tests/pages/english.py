@@ -18,7 +18,8 @@ EXAMPLES = "| | Avoid |"    # the head of the table that shows what to avoid
 HOUSE = {
     "a clause as the subject": r"(?:^|(?<=[.:] ))(?:What|Who|Whoever|Whatever|How many) (?!if\b|is\b|kind\b)[^?]*?[.:](?=\s|$)",
     "where for if": (r"(?:^|(?<=[.;:] ))Where (?![^.]*\?|is\b|are\b|what\b|things\b)|\b(?:only|exactly|just|except|but|also) where\b"
-                     r"|(?<!says )(?<!shows )(?<!knows )(?<!folder )(?<!file )(?<!place )(?<!line )\bwhere (?=(?:there (?:is|are)|no|none|nothing|nobody|memory|somebody|it (?:is|has|does)|they (?:are|have|do))\b)"),
+                     r"|(?<!says )(?<!shows )(?<!knows )(?<!folder )(?<!file )(?<!place )(?<!line )\bwhere "
+                     r"(?=(?:there (?:is|are)|no|none|nothing|nobody|memory|somebody|it (?:is|has|does)|they (?:are|have|do))\b)"),
     "behind, past for after": r"\bbehind\b|\bpast (?:it|the|what|so|that|which|an?|its|\d)\b",
     "a thing without its name": r"\bso (?:many|much)\b|\bthose (?:of|that|who|which|whose)\b|\bno such\b|\bas many\b",
     "a house word": (r"\bwanted\b|\bare due\b|\bis due\b|\blet(?:s|ting)? (?:\w+ )?go\b|\bwork(?:s|ed|ing)? (?:\w+ )?out\b|\btold\b"

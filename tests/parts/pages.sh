@@ -2,6 +2,7 @@
 check 'README has at most 120 lines' "$(wc -l < README.md | awk '$1 > 120')"
 check 'RESULTS has at most 150 lines' "$(wc -l < bench/RESULTS.md | awk '$1 > 150')"
 check 'each crate stands on its own layer and lower ones, and the three lists of layers are one' "$(tests/pages/layers.py 2>&1)"
+check 'the decisions are numbered, each number once' "$(grep -o '^[0-9]*\.' docs/DECISIONS.md | diff - <(seq -f '%.0f.' "$(grep -c '^[0-9]*\.' docs/DECISIONS.md)") 2>&1)"
 check 'the pages are in plain English' "$(tests/pages/english.py 2>&1)"
 check 'the code that CALLING shows stands in its crates' "$(tests/pages/shown.py docs/CALLING.md 2>&1)"
 check 'each link of the pages leads somewhere' "$(tests/pages/links.py 2>&1)"
