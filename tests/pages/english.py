@@ -21,7 +21,7 @@ HOUSE = {
                      r"|(?<!says )(?<!shows )(?<!knows )(?<!folder )(?<!file )(?<!place )(?<!line )\bwhere "
                      r"(?=(?:there (?:is|are)|no|none|nothing|nobody|memory|somebody|it (?:is|has|does)|they (?:are|have|do))\b)"),
     "behind, past for after": r"\bbehind\b|\bpast (?:it|the|what|so|that|which|an?|its|\d)\b",
-    "a thing without its name": r"\bso (?:many|much)\b|\bthose (?:of|that|who|which|whose)\b|\bno such\b|\bas many\b",
+    "a thing without its name": r"\bso (?:many|much)\b|\bthose (?:of|that|who|which|whose)\b|\bno such\b|(?<!twice )\bas many\b",
     "a house word": (r"\bwanted\b|\bare due\b|\bis due\b|\blet(?:s|ting)? (?:\w+ )?go\b|\bwork(?:s|ed|ing)? (?:\w+ )?out\b|\btold\b"
                      r"|\bin vain\b|\banew\b|\bdear(?:er|est)?\b|\bhandles? of\b|\bis refused only\b|\btakes no memory\b"),
     "a diary": r"\b(?:half a|the half|a|the) day before\b|\bday before\b|\bhalf a day\b|\bbefore that\b(?! )",
