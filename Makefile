@@ -2,6 +2,7 @@
 PREFIX ?= /usr/local
 NAME = youtopia
 PROGRAM = crates/$(NAME)/out/$(NAME)
+UNPROVED = crates/$(NAME)/out/$(NAME)-unproved
 EXAMPLE ?= examples/first.session
 SEED ?= 1
 COUNT ?= 1000
@@ -25,14 +26,14 @@ LIVE_FISH = $(DESTDIR)$(PREFIX)/share/fish/vendor_completions.d/$(LIVE_NAME).fis
 .PHONY: help run build install uninstall share quick checks differential hostile test
 
 help:
-	@echo 'make run               run the first example, by the program as proved, or by the quick run without proof'
+	@echo 'make run               run the first example, by the program as proved, or without proof; that leaves a command to run'
 	@echo 'make run EXAMPLE=examples/travel/travel.session'
 	@echo '                       run another session'
 	@echo 'make build             prove and build the program'
 	@echo 'make install PREFIX=/usr/local'
 	@echo '                       put both built programs, their man pages and the completions of bash, zsh and fish below PREFIX'
 	@echo 'make uninstall         take them away'
-	@echo 'make quick             build without proof and run every stored row, in less than three minutes'
+	@echo 'make quick             the quick tier: pages, sources, and every stored row by the program without proof'
 	@echo 'make checks            what needs no prover: pages, figures, stored rows and tables of the built program'
 	@echo 'make differential SEED=1 COUNT=1000'
 	@echo '                       compare the built program with the reference in Python on random sessions'
@@ -43,10 +44,14 @@ help:
 run:
 	@if [ -x $(PROGRAM) ]; then \
 	  echo '$(NAME) run, as it was proved and built:'; $(PROGRAM) run < $(EXAMPLE); \
+	elif [ -x $(UNPROVED) ] && [ -z "$$(find crates -name '*.rt' -newer $(UNPROVED) -print -quit)" ]; then \
+	  echo '$(NAME) run, by $(UNPROVED), which was built without proof:'; $(UNPROVED) run < $(EXAMPLE); \
 	else \
-	  echo '$(NAME) run, by the quick run without proof (make build proves it):'; told=$$(mktemp); \
-	  (cd crates/$(NAME) && rt try -- run < ../../$(EXAMPLE)) 2> $$told; status=$$?; \
-	  grep -vE '^(checked: |run=)' $$told >&2; rm -f $$told; exit $$status; \
+	  echo '$(NAME) run, built without proof in about three minutes (make build proves it):'; told=$$(mktemp); \
+	  tests/unproved $(NAME) $(UNPROVED) -- run < $(EXAMPLE) 2> $$told; status=$$?; \
+	  grep -vE '^(checked: |run=)' $$told >&2; rm -f $$told; \
+	  [ ! -x $(UNPROVED) ] || echo 'The program without proof, slow and checked by tests alone, is $(UNPROVED)'; \
+	  exit $$status; \
 	fi
 
 build:

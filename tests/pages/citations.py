@@ -78,7 +78,7 @@ def items_of(lines):
     """The items of a list, each as one line, with the number of its first line."""
     items = []
     for number, line in lines:
-        if line.startswith("- "):
+        if re.match(r"(?:-|\d+\.) ", line):
             items.append([number, line])
         elif line.startswith("  ") and items:
             items[-1][1] += " " + line.strip()
@@ -101,7 +101,7 @@ def sections_of(page):
 def offences(page):
     for heading, lines in sections_of(page):
         crate = heading if heading in CRATES else None
-        if not crate and heading not in ("The whole program", "The formats"):
+        if not crate and heading not in ("Ten promises", "The whole program", "The formats"):
             continue
         for number, item in items_of(lines):
             quoted = re.findall(r"`([^`]+)`", item)

@@ -11,7 +11,8 @@ from pathlib import Path
 
 ROOT = Path(__file__).resolve().parent.parent.parent
 COLUMNS = {"Definitions": "specs/*.antt", "Code": "src/**/*.rt"}
-PAGES = ("README.md", "CONTRIBUTING.md", "docs/RULES.md", "docs/ARCHITECTURE.md", "docs/CONCURRENCY.md", "crates/*/README.md")
+PAGES = ("README.md", "CONTRIBUTING.md", "docs/RULES.md", "docs/ARCHITECTURE.md", "docs/CONCURRENCY.md", "docs/CALLING.md",
+         "crates/*/README.md")
 NOT_OURS = {"serde_json"}   # names that pages speak of without using them
 
 
