@@ -1,0 +1,4 @@
+mod Places
+mod Images
+mod Moments
+mod Counting

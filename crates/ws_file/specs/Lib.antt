@@ -1,0 +1,3 @@
+pub mod Traces
+pub mod Files
+pub mod Counted

@@ -1,0 +1,5 @@
+pub mod Seals
+pub mod Logs
+pub mod Answers
+pub mod Appends
+pub mod Changes
