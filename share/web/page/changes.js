@@ -5,7 +5,7 @@ import {askOne} from './link.js';
 import {ranges, readAtoms, readRow, rowText, tokens} from './values.js';
 import {columnsOf, myRecords, workspace} from './workspace.js';
 
-const SHOWN = 100;      // lines of an effect that are shown
+const SHOWN = 50;      // rows of an effect that are shown
 let refresh = async () => {};
 /** Sets what brings the page up to date, which is done after each change. */
 export const afterChanges = f => { refresh = f; };
@@ -26,16 +26,15 @@ export const showWrite = write => (write[0] === '+' ? comes : goes)({tuple: writ
 /** What a reply to `try`, or of a change, says that it does. */
 export function showEffect(reply) {
   const {came, went, question} = reply;
-  const lines = [...went.map(goes), ...came.map(comes), ...reply.filled.map(filled),
-    ...(reply.again ?? []).map(x => signed('other', '!', 'another update changes', showText(x.words))),
-    ...(reply.also ?? []).map(x => signed('other', '·', 'also', showText(x))),
-    ...(reply.notes ?? []).map(x => signed('note', 'i', 'note', showNote(x)))];
+  const rows = [...went.map(goes), ...came.map(comes), ...reply.filled.map(filled)];
+  const told = [...(reply.again ?? []).map(x => signed('again', '!', 'another update changes', showText(x.words))),
+    ...(reply.also ?? []).map(x => signed('also', '·', 'also', showText(x))), ...notesOf(reply).map(x => signed('note', 'i', 'note', showNote(x)))];
   const count = (list, one, many) => list.length ? `${plural(list.length, 'row')} ${list.length === 1 ? one : many}` : '';
   const counts = [count(went, 'goes', 'go'), count(came, 'comes', 'come')].filter(Boolean).join(', ');
-  return [counts ? make('p', null, counts + ':') : lines.length || question ? null : make('p', null, 'Nothing changes.'),
-    make('ul.effect', null, lines.slice(0, SHOWN)),
-    lines.length > SHOWN ? make('p.soft', null, `and ${(lines.length - SHOWN).toLocaleString('en')} more`) : null,
-    question ? showWaiting(question) : null];
+  const force = reply.did === 'in force' ? make('p', null, 'The mapping has no violation, and comes into force.') : null;
+  return [force, told.length ? make('ul.effect', null, told) : null, counts ? make('p', null, counts + ':') : null, make('ul.effect', null, rows.slice(0, SHOWN)),
+    rows.length > SHOWN ? make('p.soft', null, `and ${(rows.length - SHOWN).toLocaleString('en')} more`) : null,
+    question ? showWaiting(question) : rows.length || told.length || force ? null : make('p', null, 'Nothing changes.')];
 }
 function showWaiting(question) {
   return make('div.asks', null, make('b', null, 'It would wait with a question: '), questionInWords(question),
@@ -50,6 +49,9 @@ export function questionInWords(question) {
   return ['Which ', make('b', null, table), known.map(([c, v], i) => [i ? ' and ' : ' with ', c, ' ', showValue(v, true)]), ' is it?'];
 }
 
+// What goes along is shown by itself, with the rows.
+const notesOf = reply => (reply.notes ?? []).filter(n => !/^[0-9]+ tuples? went that you did not name$/.test(n.words));
+
 /** A note, with a button for each command that it proposes. */
 function showNote(note) {
   const row = readRow(note.words), rest = row && readAtoms(tokens(note.words)).rest.map(t => t.name ?? '').join(' ');
@@ -59,7 +61,7 @@ function showNote(note) {
 function noteButton(command) {
   const [verb, number] = tokens(command);
   if (verb?.name === 'questions') return make('a', {href: '#inbox/' + number?.value, onclick: closeDialog}, 'See its question');
-  return button(['Instead ', showLine(command)], () => attempt(() => propose(command, {title: 'Fill in an unknown'})), undefined, 'link');
+  return button(['Instead ', showLine(command)], () => attempt(() => propose(command, {title: 'Fill in an unknown', verb: 'Fill in'})), undefined, 'link');
 }
 
 // ---- doing it ----
@@ -92,9 +94,9 @@ function surprises(plan) {
 
 /**
  * Shows what a command would do, and does it when that is confirmed.
- * - `title`: of the dialog. `rows`: the lines that belong to `load --lines`.
+ * - `title`, `before`, `verb`: of the dialog: its heading, what it says first, and the words on its button.
+ * - `rows`: the lines that belong to `load --lines`.
  * - `quick`: it is done at once if it does no more than was said.
- * - `before`: what the dialog says first. `verb`: the words on its button.
  * - `done`: called with the reply.
  */
 export async function propose(line, options) {
@@ -107,7 +109,7 @@ export async function propose(line, options) {
 function showPlan(line, plan, options) {
   const nothing = plan.status === 13, going = goingAlong(plan).length;
   const note = make('input', {type: 'text', id: 'log-note', maxlength: 200, autocomplete: 'off', 'data-key': 'log-note'});
-  const go = button(options.verb ?? (plan.question ? 'Send it, and ask' : 'Do it'), async () => {
+  const go = button(plan.question ? 'Send it, and ask' : options.verb ?? 'Do it', async () => {
     go.disabled = true;
     try {
       await carryOut(line, plan, {...options, note: note.value});
@@ -123,7 +125,7 @@ function showPlan(line, plan, options) {
     going ? make('p.warning', null, going === 1 ? '1 row goes along that you did not name.' : `${going.toLocaleString('en')} rows go along that you did not name.`) : null,
     nothing ? null : make('div.field', null, make('label', {for: 'log-note'}, 'Note'), note, make('span.kind.soft', null, 'kept in the log, may be empty')),
     make('details', null, make('summary', null, 'As a command of yt'), code(line, 2000)),
-    actions(cancel, go)], {focus: plan.went.length || nothing ? cancel : go, closed: options.closed});
+    actions(cancel, go)], {focus: plan.went.length || nothing ? cancel : go});
 }
 
 /** Does what the plan says. If the log has gone on since, it is done only if it would still do the same. */
@@ -150,8 +152,8 @@ async function finish(line, reply, options) {
   if (document.getElementById('dialog').open) closeDialog();
   options.done?.(reply);
   const waits = reply.did === 'waits';
-  const notes = (reply.notes ?? []).slice(0, 3).map(n => make('div.soft', null, showNote(n)));
-  message([make('b', null, waits ? 'Waits: ' : reply.status === 13 ? 'Nothing changed: ' : 'Done: '), showLine(reply.line), notes],
+  const notes = notesOf(reply).slice(0, 3).map(n => make('div.soft', null, showNote(n)));
+  message('own', [make('b', null, waits ? 'Waits: ' : reply.status === 13 ? 'Nothing changed: ' : 'Done: '), showLine(reply.line), notes],
     waits ? make('a', {href: '#inbox/' + (reply.question?.number ?? '')}, 'See the question') : wayBack(line, reply));
   await refresh();
   return reply;
@@ -160,7 +162,7 @@ async function finish(line, reply, options) {
 /** A button that takes a change back, with a preview. */
 function wayBack(line, reply) {
   const verb = tokens(line)[0].name, numbers = [reply.number, ...(reply.numbers ?? []), ...(reply.waiting ?? [])].filter(Boolean);
-  const back = (words, command) => button(words, () => attempt(() => propose(command, {title: words})), 'back');
+  const back = (words, command) => button(words, () => attempt(() => propose(command, {title: words, verb: words})), 'back');
   if (reply.status === 13 || verb === 'relation' || verb === 'fold') return null;
   if (verb === 'undo') return line.includes('--answers') ? null : back('Redo', 'redo' + reply.line.slice(4));
   if (verb === 'redo') return back('Undo', 'undo' + reply.line.slice(4));
@@ -191,7 +193,7 @@ function lost(plan) {
 export async function tellPending() {
   for (const {line, at, limit, is} of pending.splice(0)) {
     const recorded = (await myRecords(at, limit)).some(is);
-    message([make('b', null, recorded ? 'Done before the connection broke: ' : 'Not done, the connection broke first: '), showLine(line)],
+    message('own', [make('b', null, recorded ? 'Done before the connection broke: ' : 'Not done, the connection broke first: '), showLine(line)],
       make('a', {href: '#log'}, 'See the log'));
   }
 }

@@ -1,10 +1,10 @@
 // The panel beside a view: a row and why it is there, an unknown and where it stands, or an update and what it did.
 import {attempt, faultBox} from './dialogs.js';
-import {actions, ago, badge, button, fill, focusOn, make, plural, showLine, showRow, showText, showValue, soft} from './elements.js';
+import {actions, ago, badge, button, fill, focusOn, listed, make, plural, showLine, showRow, showText, showValue, soft} from './elements.js';
 import {askOne} from './link.js';
 import {propose, showWrite} from './changes.js';
 import {changeRow, valueField} from './row-form.js';
-import {readRow, valueText} from './values.js';
+import {readAtoms, readRow, rowText, tokens, valueText} from './values.js';
 import {columnsOf, workspace} from './workspace.js';
 
 const panel = document.getElementById('details');
@@ -59,7 +59,7 @@ async function aboutRow(text, body) {
   const cells = [heading(table), make('dl', null, values.map((v, i) => [make('dt', null, columns[i]), make('dd', null, showValue(v))]))];
   if (!why.reasons) return [cells, make('p.warning', null, showText(why.words ?? 'It is not there any more.'))];
   const change = () => attempt(() => changeRow(workspace.table(table), text, values, followChange), body);
-  const remove = () => attempt(() => propose('delete ' + text, {title: `Delete from ${table}`, done: closeDetails}), body);
+  const remove = () => attempt(() => propose('delete ' + text, {title: `Delete from ${table}`, verb: 'Delete', done: closeDetails}), body);
   return [cells, actions(button('Change', change, 'change'), button('Delete …', remove, 'delete', 'danger')),
     make('h3', null, 'Why it is there'), make('ul.why', null, why.reasons.map(showReason))];
 }
@@ -83,13 +83,22 @@ async function aboutUnknown(name, body) {
   const field = valueField('fill-in', 'It is', {from: place, fresh: false});
   const submit = event => {
     event.preventDefault();
-    attempt(() => propose(`replace ${name} with ${valueText(field.value())}`, {title: ['Fill in ', name], done: closeDetails}), body);
+    attempt(() => propose(`replace ${name} with ${valueText(field.value())}`, {title: ['Fill in ', name], verb: 'Fill in', done: closeDetails}), body);
   };
-  return [heading('Unknown ', make('span.chip', null, name)), make('p', null, showText(words, 600)),
+  return [heading('Unknown ', make('span.chip', null, name)), make('p', null, originInWords(words)),
     make('form', {onsubmit: submit}, field.row, actions(make('button.main', {'data-key': 'fill-in-button'}, 'Fill in …'))),
     make('h3', null, 'It stands in ' + plural(tuples.length, 'row')),
     make('ul.plain', null, tuples.slice(0, 100).map(t => make('li', null, showRow(t)))),
     tuples.length > 100 ? make('p', null, soft(`and ${tuples.length - 100} more`)) : null];
+}
+// `?6.1 is p of hung in 6 by carol, since Hangs(..)`, by its tokens; what is said otherwise stays as it is.
+function originInWords(words) {
+  const [, , ...rest] = tokens(words), names = rest.map(t => t.name ?? ''), number = rest.find(t => typeof t.value === 'number')?.value;
+  if (names[0] === 'new' && number) return ['It is new in update ', updateButton(number), ', by ', names.at(-1), '.'];
+  if (names[1] !== 'of' || names[3] !== 'in' || !number) return showText(words, 600);
+  const {atoms} = readAtoms(rest.slice(9)), since = atoms.map(a => showRow(rowText(a.table, a.terms.map(t => t.value)), true));
+  return ['Nobody has said this value yet. The mapping ', make('b', null, names[2]), ' wants one, as ', make('var', null, names[0]), ', since update ', updateButton(number),
+    ' by ', names[6], since.length ? [': there is ', listed(since)] : '', '.'];
 }
 function placeOf(text, name) {
   const {table, values} = readRow(text);
@@ -102,7 +111,7 @@ async function aboutUpdate(number, body) {
   const update = await askOne('log ' + number), {line, curator, time, state, answers, writes} = update;
   const list = (title, items, show) => items.length ? [make('h3', null, title), make('ul.effect', null, items.slice(0, 100).map(show)),
     items.length > 100 ? make('p', null, soft(`and ${items.length - 100} more`)) : null] : null;
-  const askAgain = () => attempt(() => propose(`undo ${number} --answers`, {title: `Take the answers of ${number} back`}), body);
+  const askAgain = () => attempt(() => propose(`undo ${number} --answers`, {title: `Ask ${number} again`, verb: 'Ask again', before: 'Its answers are taken back, and it asks again:'}), body);
   return [heading('Update ', number), make('p', null, curator, ', ', ago(time), ' ', stateBadge(state)), make('p', null, showLine(line)),
     state === 'waits' ? make('p', null, make('a', {href: '#inbox/' + number}, 'See its question')) : null,
     list('Answers', answers, a => make('li', null, showLine(`answer ${number} ${a}`))), list('What it wrote', writes, showWrite),
@@ -116,6 +125,6 @@ export const stateBadge = state => badge(STATES[state] ?? state, state.split(' '
 /** A button that undoes these updates, or brings them back, with a preview. `numbers`: as `undo` takes them. */
 export function undoButton(numbers, {state, line}, place, words) {
   const verb = state === 'undone' ? 'Redo' : 'Undo';
-  const work = () => propose(`${verb.toLowerCase()} ${numbers}`, {title: `${verb} ${numbers}`, before: line ? [showLine(line)] : undefined});
+  const work = () => propose(`${verb.toLowerCase()} ${numbers}`, {title: `${verb} ${numbers}`, verb, before: line ? [`${verb}: `, showLine(line)] : undefined});
   return button((words ?? verb) + ' …', () => attempt(work, place), `undo ${numbers}`, '', {'aria-label': `${words ?? verb} ${numbers}`});
 }

@@ -47,13 +47,16 @@ export async function attempt(work, place = document.getElementById('main')) {
   }
 }
 
-/** A message at the edge of the page, which goes by itself, but not while it has the focus or the pointer. */
-export function message(words, action) {
-  const box = make('div.message', null, make('div', null, words), action,
+/**
+ * A message at the edge of the page, which goes by itself, but not while it has the focus or the pointer. A new one takes the place
+ * of the last one of its kind.
+ */
+export function message(kind, words, action) {
+  messages.querySelector(`.message.${kind}`)?.remove();
+  const box = make('div.message.' + kind, null, make('div', null, words), action,
     button('×', () => box.remove(), undefined, 'close', {'aria-label': 'Close this message'}));
   const end = () => box.matches(':hover, :focus-within') ? setTimeout(end, 3000) : box.remove();
   messages.append(box);
-  while (messages.children.length > 3) messages.firstChild.remove();
   setTimeout(end, action ? 20000 : 8000);
 }
 

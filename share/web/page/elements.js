@@ -108,13 +108,20 @@ export const showRows = (rows, flat, most = 8) => [listed(rows.slice(0, most).ma
 /** A line of the log, in the words of the page: `add Hangs A · Room 1`. What it has no words for stays as it is. */
 export function showLine(line) {
   const [verb, ...rest] = tokens(line);
-  return make('span.line', null, lineInWords(verb?.name, rest, line) ?? code(line, 300));
+  return make('span.line', null, (verb?.name && lineInWords(verb.name, rest, line)) ?? code(line, 300));
 }
 function lineInWords(verb, rest, line) {
   const {atoms, rest: after} = readAtoms(rest), rows = atoms.map(rowOf), known = !rows.includes(undefined);
+  const name = rest[0]?.name && make('b', null, rest[0].name);
+  if (name && verb === 'relation') return ['make table ', name, ' ', soft(line.slice(line.indexOf('(')))];
+  if (name && verb === 'mapping') return ['declare mapping ', name, ': ', code(line.slice(line.indexOf(':') + 2))];
+  if (name && verb === 'force') return ['put mapping ', name, ' in force'];
+  if (name && verb === 'drop') return ['drop mapping ', name];
+  if (name && verb === 'adopt') return ['repair what violates ', name];
+  if (name && verb === 'load') return ['load a file into ', name];
+  if (/^(undo|redo|fold)$/.test(verb)) return line;
   if (verb === 'answer') return answerInWords(rest);
   if (verb === 'fix' && known && rows.length === 1) return ['repair ', make('b', null, atoms[0].table), ' for ', rows[0].slice(1)];
-  if (verb === 'force' && rest[0]?.name) return ['put ', make('b', null, rest[0].name), ' in force'];
   if (verb === 'replace' && rest[0]?.value) return ['fill in ', showValue(rest[0].value, true), ' with ', showValue(rest[2]?.value ?? '', true)];
   if (!known || !rows.length) return null;
   if (verb === 'insert') return ['add ', cut(rows)];
@@ -142,11 +149,11 @@ function answerInWords([number, choice, ...rest]) {
 export function mappingInWords(rule, columnsOf) {
   const {left, right} = readMapping(rule), all = [...left, ...right].flatMap(a => a.terms.map(t => t.name));
   const tells = term => !term.name || all.filter(n => n === term.name).length > 1;
-  const atom = a => {
+  const atom = article => a => {
     const columns = columnsOf(a.table);
     const said = a.terms.map((t, i) => [t, columns[i] ?? `column ${i + 1}`]).filter(([t]) => tells(t));
     const words = said.map(([t, column]) => [column, ' ', t.name ? make('var', null, t.name) : showValue(t.value ?? '', true)]);
-    return [make('b', null, a.table), words.length ? [' with ', listed(words)] : ''];
+    return [article, make('b', null, a.table), words.length ? [' with ', listed(words)] : ''];
   };
-  return make('span.words', null, 'For every ', listed(left.map(atom)), ' there has to be a ', listed(right.map(atom)), '.');
+  return make('span.words', null, 'For ', listed(left.map(atom('every '))), ' there has to be ', listed(right.map(atom('a '))), '.');
 }

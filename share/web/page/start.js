@@ -60,7 +60,7 @@ async function refresh(thorough) {
 }
 async function look(thorough) {
   if (!link.up) return;
-  const first = workspace.at < 0, missing = workspace.missing;
+  const missing = workspace.missing;
   let news;
   try {
     news = await learn(thorough);
@@ -70,16 +70,16 @@ async function look(thorough) {
     return;
   }
   if (!news) return;
-  if (!first && news.anew) message([make('b', null, 'The workspace was folded, or is another file now.')]);
+  if (news.replaced) message('replaced', [make('b', null, 'The workspace was folded, or is another file now.')]);
   tellOthers(news.records);
   drawHeader();
-  if (!view || first) await show(); else await view.update(news);
+  if (!view || news.first) await show(); else await view.update(news);
   if (detailsOpen()) await updateDetails();
 }
 function tellOthers(records) {
   const others = records.filter(r => r.curator !== me()), names = [...new Set(others.map(r => r.curator))].join(', ');
   const lines = others.flatMap(r => r.lines), count = others.reduce((sum, r) => sum + r.count, 0);
-  if (count) message([make('b', null, names + ': '), lines[0].number ? lines[0].number + ' ' : '', showLine(lines[0].line), count > 1 ? `, and ${plural(count - 1, 'more line')}` : '']);
+  if (count) message('others', [make('b', null, names + ': '), lines[0].number ? lines[0].number + ' ' : '', showLine(lines[0].line), count > 1 ? `, and ${plural(count - 1, 'more line')}` : '']);
 }
 
 let polls = 0;
@@ -151,7 +151,7 @@ const THEMES = {auto: 'dark', dark: 'light', light: 'auto'};
 function setTheme(theme) {
   localStorage.setItem('yt-theme', theme);
   if (theme === 'auto') delete document.documentElement.dataset.theme; else document.documentElement.dataset.theme = theme;
-  at('theme').textContent = theme;
+  fill(at('theme'), make('span', {'aria-hidden': 'true'}, {auto: '◐ ', dark: '● ', light: '○ '}[theme]), theme);
   at('theme').title = `Light or dark: ${theme}`;
 }
 

@@ -31,29 +31,32 @@ function forget() {
 }
 
 /**
- * Brings this up to date. Resolves to undefined if nothing is new, else to the records that are new, and to whether the workspace
- * is another one than before (`anew`: the first time, after a fold, or if there is another file).
+ * Brings this up to date. Resolves to undefined if nothing is new, else to the new `records`, and to whether everything may be
+ * another than before: `first` at the first time, `replaced` after a fold and if there is another file, `renamed` if yt writes
+ * another curator's name now. `thorough`: the status is asked for also if there is no new record.
  */
 export async function learn(thorough) {
-  let records = [], anew = workspace.at < 0;
-  if (!anew) {
+  const before = workspace.status;
+  let records = [], unread = workspace.at < 0;      // whether the records since are not to be had
+  if (!unread) {
     try {
       records = await newRecords();
     } catch (error) {
       if (error.reply?.status !== 3) throw error;
-      anew = true;
+      unread = true;
     }
-    if (!anew && !records.length && !thorough) return undefined;
+    if (!unread && !records.length && !thorough) return undefined;
   }
-  const before = workspace.status, status = await statusNow();
-  anew ||= status.created !== before?.created || status.folded !== before?.folded;
-  if (!anew && !records.length) return undefined;
+  const status = await statusNow(), news = {records, first: !before};
+  news.replaced = Boolean(before) && (status.created !== before.created || status.folded !== before.folded || unread);
+  news.renamed = status.curator !== before?.curator;
   if (status.created !== before?.created) forget();
   workspace.missing = false;
   workspace.status = status;
-  workspace.at = anew ? status.at : records.at(-1).at;      // what came between the two replies comes with the next ones
+  // What was recorded between the two replies comes with the next ones.
+  workspace.at = unread || news.replaced || !records.length ? status.at : records.at(-1).at;
   workspace.records = [...workspace.records, ...records].slice(-300);
-  return {records, anew};
+  return records.length || news.first || news.replaced || news.renamed ? news : undefined;
 }
 
 async function statusNow() {

@@ -36,7 +36,7 @@ function asking(body) {
     hidden = new Set([...hidden].filter(v => all.includes(v)));
     const box = v => make('label.check', null, make('input', {type: 'checkbox', checked: !hidden.has(v), 'data-key': 'show ' + v,
       onchange: e => { hidden[e.target.checked ? 'delete' : 'add'](v); changed(); }}), make('var', null, v));
-    fill(columns, all.length > 1 ? ['Columns of the answer: ', all.map(box)] : null);
+    fill(columns, all.length > 1 ? make('p.choices', null, 'Columns of the answer: ', all.map(box)) : null);
     fill(line, code(command()));
     go.disabled = !all.length;
   };
@@ -46,7 +46,7 @@ function asking(body) {
     fill(result, answers(reply, uncertain.checked));
   }
   const go = make('button.main', {'data-key': 'ask'}, 'Ask');
-  const editor = patternEditor('ask', i => i ? 'and' : 'From', () => editor && changed());
+  const editor = patternEditor('ask', i => i ? 'and' : 'From', () => changed());
   const form = make('form', {onsubmit: e => { e.preventDefault(); attempt(ask, form); }}, howToFill(), editor.node, columns,
     make('label.check', {for: 'uncertain'}, uncertain, 'also rows with unknowns in them'), actions(go, line));
   fill(body, make('p', null, 'Say which rows you look for. What comes is certain: it is so whatever the unknowns turn out to be.'), form, result);
@@ -57,7 +57,7 @@ function asking(body) {
 
 function answers(reply, withUnknowns) {
   const more = reply.count - reply.rows.length, left = withUnknowns ? 0 : reply.uncertain;
-  return [make('h3', {role: 'status'}, reply.count ? plural(reply.count, 'answer') : 'No answers'),
+  return [make('h3.result', {role: 'status'}, reply.count ? plural(reply.count, 'answer') : 'No answers'),
     reply.rows.length ? make('div.wide', null, make('table.rows', null, make('thead', null, make('tr', null, reply.columns.map(c => make('th', {scope: 'col'}, c)))),
       make('tbody', null, reply.rows.map(r => make('tr', null, r.map(v => make('td', null, showValue(v)))))))) : null,
     more > 0 ? make('p', null, soft(`and ${more.toLocaleString('en')} more`)) : null,

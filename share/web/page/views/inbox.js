@@ -15,7 +15,7 @@ let most = CARDS;
 
 export function open(argument) {
   const place = make('div'), node = make('section', null, make('h2', null, 'Inbox'), place);
-  let wanted = Number(argument);
+  const wanted = Number(argument);      // its card stands first
   const update = async () => {
     const waits = workspace.status?.waits ?? [], numbers = waits.map(w => w.number);
     const first = numbers.includes(wanted) ? [wanted, ...numbers.filter(n => n !== wanted)] : numbers, now = first.slice(0, most);
@@ -27,8 +27,6 @@ export function open(argument) {
     fill(place, make('p.soft', null, numbers.length ? `${plural(numbers.length, 'change waits', 'changes wait')} for an answer. Nothing of a change is done before.` :
       gone.length ? '' : 'No questions: nothing waits for an answer.'), gone, now.map(n => cards.get(n)?.node),
     more > 0 ? button(`Show more: ${more} not shown`, () => { most += CARDS; attempt(update); }, 'more-cards', 'link') : null);
-    if (wanted && cards.has(wanted)) cards.get(wanted).node.scrollIntoView({block: 'nearest'});
-    wanted = 0;
   };
   redraw = update;
   return {node, update};
@@ -72,10 +70,9 @@ function questionCard(number) {
   function draw() {
     const q = card.question;
     node.className = 'card';
-    const head = make('h3', null, soft(`${number} · `), q.curator, ' wants to ', showLine(q.line));
-    const about = [head, make('p', null, soft(ago(q.time)))];
-    if (!q.candidates) { fill(node, about, make('p', null, 'It waits: ', showText(q.words ?? q.kind), '.'), actions(tryAgain(), withdraw())); return; }
-    fill(node, about, make('p.ask', null, questionInWords(q)), make('p.why', null, 'Why: ', mappingInWords(q.rule, columnsOf),
+    const head = make('h3', null, soft(`${number} · `), q.curator, ' wants to ', showLine(q.line), ' ', soft('· ', ago(q.time)));
+    if (!q.candidates) { fill(node, head, make('p', null, 'It waits: ', showText(q.words ?? q.kind), '.'), actions(tryAgain(), withdraw())); return; }
+    fill(node, head, make('p.ask', null, questionInWords(q)), make('p.why', null, 'Why: ', mappingInWords(q.rule, columnsOf),
       q.since.length ? [' There is ', showRows(q.since, true), '.'] : null), candidates, soFar(q), buttons);
     drawCandidates();
   }
@@ -130,13 +127,13 @@ function questionCard(number) {
       if (!card.stale && !node.classList.contains('gone')) showFault(error, node);
     }
   }
-  const withdraw = () => button('Withdraw …', () => attempt(() => propose(`undo ${number}`, {title: `Withdraw ${number}`, done: forget}), node), 'withdraw ' + number);
-  const tryAgain = () => button('Try it again', () => attempt(() => propose(`answer ${number} go`, {title: `Try ${number} again`}), node), 'again ' + number);
+  const withdraw = () => button('Withdraw …', () => attempt(() => propose(`undo ${number}`, {title: `Withdraw ${number}`, verb: 'Withdraw', before: 'The change is taken back, as if it had never been said:', done: forget}), node), 'withdraw ' + number);
+  const tryAgain = () => button('Try it again', () => attempt(() => propose(`answer ${number} go`, {title: `Try ${number} again`, verb: 'Try again'}), node), 'again ' + number);
   function drawButtons() {
     const off = card.stale || !chosen(), showNow = async () => { clear(); await update(); };
     fill(buttons, card.stale ? make('p.warning', {role: 'alert'}, 'This question has changed since you looked. ', button('Show it as it is now', () => attempt(showNow, node), 'now ' + number)) : null,
       actions(button('Answer', send, 'answer ' + number, 'main', {disabled: off}),
-        button('What would happen?', () => attempt(() => propose(command(), {title: `Answer ${number}`, done: forget}), node), 'preview ' + number, '', {disabled: off}), withdraw()));
+        button('What would happen?', () => attempt(() => propose(command(), {title: `Answer ${number}`, verb: 'Answer', done: forget}), node), 'preview ' + number, '', {disabled: off}), withdraw()));
   }
   function soFar(q) {
     const details = make('details', {open: card.open, ontoggle: () => { card.open = details.open; }}, make('summary', {'data-key': 'so far ' + number}, 'What it would do before it asks'),

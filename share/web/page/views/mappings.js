@@ -21,7 +21,7 @@ export function open() {
 }
 
 function card({mapping, rule, count, in_force: inForce}) {
-  const drop = () => attempt(() => propose('drop ' + mapping, {title: `Drop ${mapping}`, before: 'The mapping goes, and what it made stays. Its name is free again after a fold.'}));
+  const drop = () => attempt(() => propose('drop ' + mapping, {title: `Drop ${mapping}`, verb: 'Drop', before: 'The mapping goes, and what it made stays. Its name is free again after a fold.'}));
   return make('article.card', null, make('h3', null, mapping, ' ', inForce ? badge('in force', 'stands') : badge('proposed', 'waits')),
     make('p', null, mappingInWords(rule, columnsOf)), make('p', null, code(rule)),
     inForce ? null : make('p', null, count ? ['It has ', make('a', {href: '#violations'}, plural(count, 'violation')), ', so it is not in force.'] : 'It has no violation, and can be put in force.'),
@@ -33,17 +33,16 @@ function newMapping() {
   const name = make('input', {id: 'mapping-name', type: 'text', required: true, autocomplete: 'off', pattern: '[A-Za-z][A-Za-z0-9_]*', maxlength: 60, title: 'letters, digits and _, a letter first',
     oninput: () => changed()});
   const words = make('p', {role: 'status'}), line = make('p');
-  const left = patternEditor('left', i => i ? 'and' : 'For every', () => changed()), right = patternEditor('right', i => i ? 'and a' : 'there has to be a', () => changed());
+  const left = patternEditor('left', i => i ? 'and' : 'For every', () => changed()), right = patternEditor('right', i => i ? 'and a' : 'there has to be a', () => changed(), 1);
   const rule = () => `${name.value.trim() || 'name'}: ${left.text()} -> ${right.text()}`;
   function changed() {
-    if (!left || !right) return;
     const shared = variablesOf(left.patterns()).filter(v => variablesOf(right.patterns()).includes(v));
     fill(words, mappingInWords(rule(), columnsOf), shared.length ? null : soft(' Write the same variable on both sides, else any row will do.'));
     fill(line, code(rule()));
   }
   const submit = event => {
     event.preventDefault();
-    attempt(() => propose('mapping ' + rule(), {title: `New mapping ${name.value}`, before: 'This would be its state:', verb: 'Declare it'}), form);
+    attempt(() => propose('mapping ' + rule(), {title: `New mapping ${name.value}`, before: 'This would happen:', verb: 'Declare it'}), form);
   };
   const form = make('form', {onsubmit: submit}, make('div.field', null, make('label', {for: 'mapping-name'}, 'Name'), name), howToFill(), left.node, right.node,
     words, line, actions(cancelButton(), make('button.main', null, 'Check …')));

@@ -116,7 +116,7 @@ function tableView(name) {
   }
 
   return {node: area, update: async news => {
-    if (!news || news.anew || news.records.some(r => r.tables.includes(name))) all = null;
+    if (!news || news.replaced || news.records.some(r => r.tables.includes(name))) all = null;
     drawBar();
     await draw();
   }};

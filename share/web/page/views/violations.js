@@ -18,7 +18,7 @@ export function open() {
 }
 
 function mappingCard({mapping, rule, count, violations}) {
-  const add = rows => attempt(() => propose('insert ' + rows.join(', '), {title: 'Add what is lacking'}));
+  const add = rows => attempt(() => propose('insert ' + rows.join(', '), {title: 'Add what is lacking', verb: 'Add'}));
   const line = x => make('li', null, x.since.map(r => showRow(r)), soft(' lacks '), showRows(x.lacks, true), ' ', button('Add it …', () => add(x.lacks), 'add ' + x.lacks, 'link'));
   return make('article.card', null, make('h3', null, mapping, ' ', badge('proposed', 'waits')), make('p', null, mappingInWords(rule, columnsOf)),
     make('ul.plain', null, violations.slice(0, SHOWN).map(line)), more(count - Math.min(SHOWN, violations.length)), actions(adoptButton(mapping)));
@@ -32,5 +32,5 @@ const more = n => n > 0 ? make('p', null, soft(`and ${n.toLocaleString('en')} mo
 
 /** A button that repairs the violations of a mapping and puts it in force, with a preview. */
 export function adoptButton(mapping) {
-  return button('Repair all and put it in force …', () => attempt(() => propose('adopt ' + mapping, {title: `Repair all and put ${mapping} in force`})), 'adopt ' + mapping);
+  return button('Repair all and put it in force …', () => attempt(() => propose('adopt ' + mapping, {title: `Repair all and put ${mapping} in force`, verb: 'Repair'})), 'adopt ' + mapping);
 }
