@@ -8,6 +8,7 @@ import tempfile
 import threading
 import time
 
+PATIENCE = float(os.environ.get("PATIENCE", 60))      # seconds that a page has for what is expected of it
 NAMES = ("chromium", "chromium-browser", "google-chrome", "google-chrome-stable")
 KEYS = {"Enter": (13, "\r"), "Tab": (9, ""), "Escape": (27, ""), "ArrowDown": (40, ""), "ArrowUp": (38, ""), " ": (32, " ")}
 
@@ -56,7 +57,7 @@ class Chromium:
                     listener(message["method"], message["params"])
             self.changed.notify_all()
 
-    def send(self, method, session=None, seconds=120, **params):
+    def send(self, method, session=None, seconds=2 * PATIENCE, **params):
         """Sends one command of the protocol, and answers its result."""
         with self.changed:
             self.number += 1
@@ -94,13 +95,17 @@ class Page:
         self.context = context
         self.session = chromium.send("Target.attachToTarget", targetId=target["targetId"], flatten=True)["sessionId"]
         chromium.listeners[self.session] = self.heard
-        for domain in ("Page", "Runtime", "Log", "Accessibility", "Network"):
+        for domain in ("Page", "Runtime", "Log", "DOM", "Accessibility"):
             self.send(domain + ".enable")
         self.size(width, height)
         self.send("Page.navigate", url=url)
 
     def send(self, method, **params):
         return self.chromium.send(method, self.session, **params)
+
+    def close(self):
+        self.chromium.listeners.pop(self.session, None)
+        self.chromium.send("Target.disposeBrowserContext", browserContextId=self.context)
 
     def heard(self, method, params):
         if method == "Runtime.consoleAPICalled":
@@ -126,7 +131,7 @@ class Page:
 
     # ---- what a person does ----
 
-    def find(self, css, words=None, seconds=25):
+    def find(self, css, words=None, seconds=PATIENCE):
         """The middle of the first visible element of this selector that has these words in it; waits for it."""
         expression = """(() => { const e = [...document.querySelectorAll(%s)].find(e => e.checkVisibility() && !e.disabled &&
             (e.innerText + ' ' + (e.getAttribute('aria-label') ?? '')).includes(%s));
@@ -164,6 +169,25 @@ class Page:
         self.js("document.activeElement.select()")
         self.press(text)
 
+    def choose(self, css, words):
+        """Chooses an option of the first visible list of this selector."""
+        self.find(css)
+        self.js("""(() => { const e = [...document.querySelectorAll(%s)].find(e => e.checkVisibility());
+            e.value = [...e.options].find(o => o.text === %s).value; e.dispatchEvent(new Event('change')); })()""" % (json.dumps(css), json.dumps(words)))
+
+    def upload(self, css, path, text):
+        """Writes a file, and gives it to a field for files."""
+        with open(path, "w") as file:
+            file.write(text)
+        self.until("there is %s" % css, "Boolean(document.querySelector(%s))" % json.dumps(css))
+        root = self.send("DOM.getDocument")["root"]["nodeId"]
+        node = self.send("DOM.querySelector", nodeId=root, selector=css)["nodeId"]
+        self.send("DOM.setFileInputFiles", nodeId=node, files=[path])
+
+    def downloads(self, folder):
+        """Says where files go that this page saves."""
+        self.chromium.send("Browser.setDownloadBehavior", behavior="allow", downloadPath=folder, browserContextId=self.context)
+
     def go(self, part):
         self.js("location.hash = %s" % json.dumps(part))
 
@@ -172,7 +196,7 @@ class Page:
     def text(self, css):
         return self.js("document.querySelector(%s)?.innerText ?? ''" % json.dumps(css))
 
-    def until(self, what, expression, seconds=25):
+    def until(self, what, expression, seconds=PATIENCE):
         """Waits until an expression of the page is true."""
         end = time.time() + seconds
         while time.time() < end:
@@ -182,10 +206,10 @@ class Page:
             time.sleep(0.1)
         raise AssertionError("%s: %s; the page says: %s" % (self.name, what, self.text("body")[:1500]))
 
-    def sees(self, css, words, seconds=25):
-        """Waits until an element of this selector has these words in it."""
-        return self.until("%s says %s" % (css, words), "[...document.querySelectorAll(%s)].some(e => e.innerText.replace(/\\s+/g, ' ').includes(%s))" % (
-            json.dumps(css), json.dumps(words)), seconds)
+    def sees(self, css, *words):
+        """Waits until an element of this selector has these words in it, or some of these words."""
+        return self.until("%s says %s" % (css, " or ".join(words)), "[...document.querySelectorAll(%s)].some(e => %s.some(w => (e.innerText ?? e.textContent).replace(/\\s+/g, ' ').includes(w)))" % (
+            json.dumps(css), json.dumps(words)))
 
     def picture(self, path):
         """Writes what is seen as a PNG."""

@@ -5,19 +5,23 @@ import {askOne} from './link.js';
 import {ranges, readAtoms, readRow, rowText, tokens} from './values.js';
 import {columnsOf, myRecords, workspace} from './workspace.js';
 
-const SHOWN = 50;      // rows of an effect that are shown
+const SHOWN = 50;  // rows of an effect that are shown
 let refresh = async () => {};
 /** Sets what brings the page up to date, which is done after each change. */
-export const afterChanges = f => { refresh = f; };
+export const afterChanges = f => {
+  refresh = f;
+};
 export const bringUpToDate = () => refresh();
 
 // ---- what a command would do ----
 
-const signed = (kind, sign, words, ...kids) => make('li.' + kind, null, make('span.sign', {role: 'img', 'aria-label': words}, sign), kids);
+const signed = (kind, sign, words, ...kids) =>
+  make('li.' + kind, null, make('span.sign', {role: 'img', 'aria-label': words}, sign), kids);
 const by = mapping => mapping ? soft(' by ', mapping) : null;
 const comes = x => signed('came', '+', 'comes', showRow(x.tuple, true), by(x.by));
 const goes = x => signed('went', '−', 'goes', showRow(x.tuple, true), by(x.by));
-const filled = x => signed('filled', '=', 'is filled in', make('span.chip', null, x.unknown), ' becomes ',
+const filled = x => signed(
+  'filled', '=', 'is filled in', make('span.chip', null, x.unknown), ' becomes ',
   showValue(tokens(x.value)[0].value, true), ` in ${plural(x.tuples, 'row')}`);
 
 /** A write of an update, `+Painter("Vermeer", "NL")`, as a line of an effect. */
@@ -27,18 +31,31 @@ export const showWrite = write => (write[0] === '+' ? comes : goes)({tuple: writ
 export function showEffect(reply) {
   const {came, went, question} = reply;
   const rows = [...went.map(goes), ...came.map(comes), ...reply.filled.map(filled)];
-  const told = [...(reply.again ?? []).map(x => signed('again', '!', 'another update changes', showText(x.words))),
-    ...(reply.also ?? []).map(x => signed('also', '·', 'also', showText(x))), ...notesOf(reply).map(x => signed('note', 'i', 'note', showNote(x)))];
-  const count = (list, one, many) => list.length ? `${plural(list.length, 'row')} ${list.length === 1 ? one : many}` : '';
+  const told = [
+    ...(reply.again ?? []).map(x => signed('again', '!', 'another update changes', showText(x.words))),
+    ...(reply.also ?? []).map(x => signed('also', '·', 'also', showText(x))),
+    ...notesOf(reply).map(x => signed('note', 'i', 'note', showNote(x)))
+  ];
+  const count = (list, one, many) =>
+    list.length ? `${plural(list.length, 'row')} ${list.length === 1 ? one : many}` : '';
   const counts = [count(went, 'goes', 'go'), count(came, 'comes', 'come')].filter(Boolean).join(', ');
-  const force = reply.did === 'in force' ? make('p', null, 'The mapping has no violation, and comes into force.') : null;
-  return [force, told.length ? make('ul.effect', null, told) : null, counts ? make('p', null, counts + ':') : null, make('ul.effect', null, rows.slice(0, SHOWN)),
+  const force =
+    reply.did === 'in force' ? make('p', null, 'The mapping has no violation, and comes into force.') : null;
+  return [
+    force, told.length ? make('ul.effect', null, told) : null, counts ? make('p', null, counts + ':') : null,
+    make('ul.effect', null, rows.slice(0, SHOWN)),
     rows.length > SHOWN ? make('p.soft', null, `and ${(rows.length - SHOWN).toLocaleString('en')} more`) : null,
-    question ? showWaiting(question) : rows.length || told.length || force ? null : make('p', null, 'Nothing changes.')];
+    question                              ? showWaiting(question) :
+      rows.length || told.length || force ? null :
+                                            make('p', null, 'Nothing changes.')
+  ];
 }
 function showWaiting(question) {
-  return make('div.asks', null, make('b', null, 'It would wait with a question: '), questionInWords(question),
-    make('p.soft', null, `${plural(question.count, 'candidate')}. Nothing changes until somebody answers it in the inbox.`));
+  return make(
+    'div.asks', null, make('b', null, 'It would wait with a question: '), questionInWords(question),
+    make(
+      'p.soft', null,
+      `${plural(question.count, 'candidate')}. Nothing changes until somebody answers it in the inbox.`));
 }
 
 /** The question of an update, in one sentence. */
@@ -46,7 +63,10 @@ export function questionInWords(question) {
   if (question.kind !== 'positive') return 'These cannot all stay. Which of them go?';
   const {table, values} = readRow(question.wanted), columns = columnsOf(table);
   const known = values.map((v, i) => [columns[i], v]).filter(([, v]) => typeof v !== 'object');
-  return ['Which ', make('b', null, table), known.map(([c, v], i) => [i ? ' and ' : ' with ', c, ' ', showValue(v, true)]), ' is it?'];
+  return [
+    'Which ', make('b', null, table), known.map(([c, v], i) => [i ? ' and ' : ' with ', c, ' ', showValue(v, true)]),
+    ' is it?'
+  ];
 }
 
 // What goes along is shown by itself, with the rows.
@@ -55,13 +75,18 @@ const notesOf = reply => (reply.notes ?? []).filter(n => !/^[0-9]+ tuples? went 
 /** A note, with a button for each command that it proposes. */
 function showNote(note) {
   const row = readRow(note.words), rest = row && readAtoms(tokens(note.words)).rest.map(t => t.name ?? '').join(' ');
-  const words = rest === 'may be the same' ? [showRow(note.words.slice(0, -' may be the same'.length), true), ' ', rest] : showText(note.words);
+  const words = rest === 'may be the same' ?
+    [showRow(note.words.slice(0, -' may be the same'.length), true), ' ', rest] :
+    showText(note.words);
   return [words, note.commands.map(c => [' ', noteButton(c)])];
 }
 function noteButton(command) {
   const [verb, number] = tokens(command);
-  if (verb?.name === 'questions') return make('a', {href: '#inbox/' + number?.value, onclick: closeDialog}, 'See its question');
-  return button(['Instead ', showLine(command)], () => attempt(() => propose(command, {title: 'Fill in an unknown', verb: 'Fill in'})), undefined, 'link');
+  if (verb?.name === 'questions')
+    return make('a', {href: '#inbox/' + number?.value, onclick: closeDialog}, 'See its question');
+  return button(
+    ['Instead ', showLine(command)],
+    () => attempt(() => propose(command, {title: 'Fill in an unknown', verb: 'Fill in'})), undefined, 'link');
 }
 
 // ---- doing it ----
@@ -75,14 +100,16 @@ const mayTakeAlong = line => /^(delete|replace [A-Za-z])/.test(line);
 /** The rows that would go though the command does not name them. */
 function goingAlong(plan) {
   if (!mayTakeAlong(plan.line)) return [];
-  const [verb, ...rest] = tokens(plan.line), rows = readAtoms(rest).atoms.map(a => rowText(a.table, a.terms.map(t => t.value)));
+  const [verb, ...rest] = tokens(plan.line),
+               rows = readAtoms(rest).atoms.map(a => rowText(a.table, a.terms.map(t => t.value)));
   const named = new Set(verb.name === 'delete' ? rows : rows.slice(0, 1));
   return plan.went.filter(x => !named.has(printed(x.tuple)));
 }
 
 // `try` takes --cascade, so that it shows what would go along. The command itself gets it after that was confirmed.
 const trial = (line, rows) => askOne(`try ${line}${mayTakeAlong(line) ? ' --cascade' : ''}`, rows);
-const effectKey = p => JSON.stringify([p.did, p.came, p.went, p.filled, p.again, p.question?.wanted, p.question?.candidates, p.question?.count]);
+const effectKey = p => JSON.stringify(
+  [p.did, p.came, p.went, p.filled, p.again, p.question?.wanted, p.question?.candidates, p.question?.count]);
 /** Whether a command with `--still` was refused because something was recorded since. */
 export const newer = error => error.reply?.status === 3 && /^the log is at [0-9]+$/.test(error.reply.words);
 
@@ -100,7 +127,8 @@ function surprises(plan) {
  * - `done`: called with the reply.
  */
 export async function propose(line, options) {
-  if (workspace.missing) return finish(line, await askOne(line + ' --still 0', options.rows), options);      // nothing to try it on
+  if (workspace.missing)
+    return finish(line, await askOne(line + ' --still 0', options.rows), options);  // nothing to try it on
   const plan = await trial(line, options.rows);
   if (options.quick && !surprises(plan)) return carryOut(line, plan, options);
   return showPlan(line, plan, options);
@@ -108,7 +136,8 @@ export async function propose(line, options) {
 
 function showPlan(line, plan, options) {
   const nothing = plan.status === 13, going = goingAlong(plan).length;
-  const note = make('input', {type: 'text', id: 'log-note', maxlength: 200, autocomplete: 'off', 'data-key': 'log-note'});
+  const note =
+    make('input', {type: 'text', id: 'log-note', maxlength: 200, autocomplete: 'off', 'data-key': 'log-note'});
   const go = button(plan.question ? 'Send it, and ask' : options.verb ?? 'Do it', async () => {
     go.disabled = true;
     try {
@@ -119,13 +148,29 @@ function showPlan(line, plan, options) {
     }
   }, 'go', plan.went.length ? 'main.danger' : 'main', {disabled: nothing});
   const cancel = cancelButton(nothing ? 'Close' : 'Cancel');
-  openDialog(options.title, [
-    options.warning ? make('p.warning', {role: 'alert'}, options.warning) : make('p.soft', null, options.before ?? 'This would happen:'),
-    make('div.scroll', {tabindex: 0, role: 'region', 'aria-label': 'What would happen'}, showEffect(plan)),
-    going ? make('p.warning', null, going === 1 ? '1 row goes along that you did not name.' : `${going.toLocaleString('en')} rows go along that you did not name.`) : null,
-    nothing ? null : make('div.field', null, make('label', {for: 'log-note'}, 'Note'), note, make('span.kind.soft', null, 'kept in the log, may be empty')),
-    make('details', null, make('summary', null, 'As a command of yt'), code(line, 2000)),
-    actions(cancel, go)], {focus: plan.went.length || nothing ? cancel : go});
+  openDialog(
+    options.title,
+    [
+      options.warning ? make('p.warning', {role: 'alert'}, options.warning) :
+                        make('p.soft', null, options.before ?? 'This would happen:'),
+      make('div.scroll', {tabindex: 0, role: 'region', 'aria-label': 'What would happen'}, showEffect(plan)),
+      going ? make(
+                'p.warning', null,
+                going === 1 ? '1 row goes along that you did not name.' :
+                              `${going.toLocaleString('en')} rows go along that you did not name.`) :
+                              null,
+      nothing ? null :
+                                make(
+                                  'div.field', null,
+                                  make(
+                                    'label',
+                                    {for: 'log-note'
+                    },
+                    'Note'),
+                  note, make('span.kind.soft', null, 'kept in the log, may be empty')),
+      make('details', null, make('summary', null, 'As a command of yt'), code(line, 2000)), actions(cancel, go)
+    ],
+    {focus: plan.went.length || nothing ? cancel : go});
 }
 
 /** Does what the plan says. If the log has gone on since, it is done only if it would still do the same. */
@@ -141,7 +186,8 @@ async function carryOut(line, plan, options) {
     }
     const now = await trial(line, options.rows);
     if (effectKey(now) !== effectKey(plan)) {
-      return showPlan(line, now, {...options, warning: 'The workspace changed while you looked. This is what it would do now:'});
+      return showPlan(
+        line, now, {...options, warning: 'The workspace changed while you looked. This is what it would do now:'});
     }
     plan = now;
   }
@@ -153,7 +199,16 @@ async function finish(line, reply, options) {
   options.done?.(reply);
   const waits = reply.did === 'waits';
   const notes = notesOf(reply).slice(0, 3).map(n => make('div.soft', null, showNote(n)));
-  message('own', [make('b', null, waits ? 'Waits: ' : reply.status === 13 ? 'Nothing changed: ' : 'Done: '), showLine(reply.line), notes],
+  message(
+    'own',
+    [
+      make(
+        'b', null,
+        waits                 ? 'Waits: ' :
+          reply.status === 13 ? 'Nothing changed: ' :
+                                'Done: '),
+      showLine(reply.line), notes
+    ],
     waits ? make('a', {href: '#inbox/' + (reply.question?.number ?? '')}, 'See the question') : wayBack(line, reply));
   await refresh();
   return reply;
@@ -161,8 +216,10 @@ async function finish(line, reply, options) {
 
 /** A button that takes a change back, with a preview. */
 function wayBack(line, reply) {
-  const verb = tokens(line)[0].name, numbers = [reply.number, ...(reply.numbers ?? []), ...(reply.waiting ?? [])].filter(Boolean);
-  const back = (words, command) => button(words, () => attempt(() => propose(command, {title: words, verb: words})), 'back');
+  const verb = tokens(line)[0].name,
+        numbers = [reply.number, ...(reply.numbers ?? []), ...(reply.waiting ?? [])].filter(Boolean);
+  const back = (words, command) =>
+    button(words, () => attempt(() => propose(command, {title: words, verb: words})), 'back');
   if (reply.status === 13 || verb === 'relation' || verb === 'fold') return null;
   if (verb === 'undo') return line.includes('--answers') ? null : back('Redo', 'redo' + reply.line.slice(4));
   if (verb === 'redo') return back('Undo', 'undo' + reply.line.slice(4));
@@ -176,7 +233,12 @@ export async function doNow(line, at, options = {}) {
     return await finish(line, await askOne(line), options);
   } catch (error) {
     if (!error.reply?.lost) throw error;
-    pending.push({line, at, limit: 100, is: record => record.lines.some(l => l.line.startsWith(line.split(' ', 2).join(' ') + ' '))});
+    pending.push({
+      line,
+      at,
+      limit: 100,
+      is: record => record.lines.some(l => l.line.startsWith(line.split(' ', 2).join(' ') + ' '))
+    });
   }
 }
 
@@ -193,7 +255,12 @@ function lost(plan) {
 export async function tellPending() {
   for (const {line, at, limit, is} of pending.splice(0)) {
     const recorded = (await myRecords(at, limit)).some(is);
-    message('own', [make('b', null, recorded ? 'Done before the connection broke: ' : 'Not done, the connection broke first: '), showLine(line)],
+    message(
+      'own',
+      [
+        make('b', null, recorded ? 'Done before the connection broke: ' : 'Not done, the connection broke first: '),
+        showLine(line)
+      ],
       make('a', {href: '#log'}, 'See the log'));
   }
 }

@@ -3,8 +3,10 @@
 import {isUnknown, looksLikeNumber, readAtoms, readMapping, readRow, tokens, valueText} from './values.js';
 
 const HIDDEN = /[\u0000-\u001f\u007f-\u009f\u00ad\u061c\u200b-\u200f\u2028-\u202e\u2060-\u2069\ufeff]/u;
-const PROPERTIES = new Set(['value', 'checked', 'disabled', 'hidden', 'onclick', 'onchange', 'oninput', 'onsubmit', 'onkeydown',
-  'ontoggle', 'ondragover', 'ondragleave', 'ondrop']);
+const PROPERTIES = new Set([
+  'value', 'checked', 'disabled', 'hidden', 'onclick', 'onchange', 'oninput', 'onsubmit', 'onkeydown', 'ontoggle',
+  'ondragover', 'ondragleave', 'ondrop'
+]);
 
 const children = kids => kids.flat(9).filter(k => k !== null && k !== undefined && k !== false);
 
@@ -14,7 +16,8 @@ export function make(tag, properties, ...kids) {
   if (classes.length) element.className = classes.join(' ');
   for (const [key, value] of Object.entries(properties ?? {})) {
     if (PROPERTIES.has(key)) element[key] = value ?? (key === 'value' ? '' : null);
-    else if (value !== undefined && value !== null && value !== false) element.setAttribute(key, value === true ? '' : String(value));
+    else if (value !== undefined && value !== null && value !== false)
+      element.setAttribute(key, value === true ? '' : String(value));
   }
   element.append(...children(kids));
   return element;
@@ -50,8 +53,10 @@ export const listed = items => items.map((x, i) => [i === 0 ? '' : i === items.l
 /** When something was, in words, with the exact time on the pointer. */
 export function ago(time) {
   const s = Math.round((Date.now() - Date.parse(time)) / 1000);
-  const words = s < 60 ? 'just now' : s < 3600 ? `${Math.floor(s / 60)} min ago` : s < 86400 ? `${Math.floor(s / 3600)} h ago` :
-    time.slice(0, 10);
+  const words = s < 60 ? 'just now' :
+    s < 3600           ? `${Math.floor(s / 60)} min ago` :
+              s < 86400 ? `${Math.floor(s / 3600)} h ago` :
+                          time.slice(0, 10);
   return make('time', {datetime: time, title: time}, words);
 }
 
@@ -84,9 +89,15 @@ export function showValue(value, flat) {
     return quotes ? make('span', {title: 'a text, not a number'}, '"', showText(value), '"') : showText(value);
   }
   if (isUnknown(value) && !flat) {
-    return make('button.chip', {type: 'button', 'data-unknown': value.unknown, 'data-key': 'unknown ' + value.unknown,
-      'aria-label': `Unknown ${value.unknown.slice(1)}: see where it stands, fill it in`,
-      title: 'not known yet: see where it stands, fill it in'}, value.unknown);
+    return make(
+      'button.chip', {
+        type: 'button',
+        'data-unknown': value.unknown,
+        'data-key': 'unknown ' + value.unknown,
+        'aria-label': `Unknown ${value.unknown.slice(1)}: see where it stands, fill it in`,
+        title: 'not known yet: see where it stands, fill it in'
+      },
+      value.unknown);
   }
   return make(typeof value === 'object' ? 'span.chip' : 'span.number', null, valueText(value));
 }
@@ -98,10 +109,10 @@ export function showRow(text, flat) {
   const values = row.values.map((v, i) => [i ? make('span.dot', null, ' · ') : ' ', showValue(v, flat)]);
   return make('span.row', null, make('b', null, row.table), values, flat ? null : openButton(text));
 }
-export const openButton = text => make('button.open', {type: 'button', 'data-row': text, 'data-key': 'open ' + text,
-  'aria-label': 'Open ' + text}, '›');
-export const showRows = (rows, flat, most = 8) => [listed(rows.slice(0, most).map(r => showRow(r, flat))),
-  rows.length > most ? ` and ${rows.length - most} more` : ''];
+export const openButton = text => make(
+  'button.open', {type: 'button', 'data-row': text, 'data-key': 'open ' + text, 'aria-label': 'Open ' + text}, '›');
+export const showRows = (rows, flat, most = 8) =>
+  [listed(rows.slice(0, most).map(r => showRow(r, flat))), rows.length > most ? ` and ${rows.length - most} more` : ''];
 
 // ---- lines of the log ----
 
@@ -121,8 +132,10 @@ function lineInWords(verb, rest, line) {
   if (name && verb === 'load') return ['load a file into ', name];
   if (/^(undo|redo|fold)$/.test(verb)) return line;
   if (verb === 'answer') return answerInWords(rest);
-  if (verb === 'fix' && known && rows.length === 1) return ['repair ', make('b', null, atoms[0].table), ' for ', rows[0].slice(1)];
-  if (verb === 'replace' && rest[0]?.value) return ['fill in ', showValue(rest[0].value, true), ' with ', showValue(rest[2]?.value ?? '', true)];
+  if (verb === 'fix' && known && rows.length === 1)
+    return ['repair ', make('b', null, atoms[0].table), ' for ', rows[0].slice(1)];
+  if (verb === 'replace' && rest[0]?.value)
+    return ['fill in ', showValue(rest[0].value, true), ' with ', showValue(rest[2]?.value ?? '', true)];
   if (!known || !rows.length) return null;
   if (verb === 'insert') return ['add ', cut(rows)];
   if (verb === 'delete') return ['delete ', cut(rows)];
@@ -133,14 +146,18 @@ const cut = rows => [listed(rows.slice(0, 4)), rows.length > 4 ? `, and ${rows.l
 function rowOf(atom) {
   const values = atom.terms.map(t => t.value);
   if (values.includes(undefined)) return undefined;
-  return [make('b', null, atom.table), ...values.map((v, i) => [i ? make('span.dot', null, ' · ') : ' ', showValue(v, true)])];
+  return [
+    make('b', null, atom.table), ...values.map((v, i) => [i ? make('span.dot', null, ' · ') : ' ', showValue(v, true)])
+  ];
 }
 function answerInWords([number, choice, ...rest]) {
   const said = ['answer ', String(number?.value ?? ''), ': '], rows = readAtoms(rest).atoms.map(rowOf);
   if (choice?.name === 'expand') return [said, 'none of them, a new one'];
   if (choice?.name === 'go') return [said, 'try again'];
   if (choice?.name === 'unify' && rows[0]) return [said, 'it is ', rows[0]];
-  return choice?.name === 'delete' && rows.length && !rows.includes(undefined) ? [said, cut(rows), rows.length > 1 ? ' go' : ' goes'] : null;
+  return choice?.name === 'delete' && rows.length && !rows.includes(undefined) ?
+    [said, cut(rows), rows.length > 1 ? ' go' : ' goes'] :
+    null;
 }
 
 // ---- mappings ----
@@ -152,8 +169,11 @@ export function mappingInWords(rule, columnsOf) {
   const atom = article => a => {
     const columns = columnsOf(a.table);
     const said = a.terms.map((t, i) => [t, columns[i] ?? `column ${i + 1}`]).filter(([t]) => tells(t));
-    const words = said.map(([t, column]) => [column, ' ', t.name ? make('var', null, t.name) : showValue(t.value ?? '', true)]);
+    const words =
+      said.map(([t, column]) => [column, ' ', t.name ? make('var', null, t.name) : showValue(t.value ?? '', true)]);
     return [article, make('b', null, a.table), words.length ? [' with ', listed(words)] : ''];
   };
-  return make('span.words', null, 'For ', listed(left.map(atom('every '))), ' there has to be ', listed(right.map(atom('a '))), '.');
+  return make(
+    'span.words', null, 'For ', listed(left.map(atom('every '))), ' there has to be ', listed(right.map(atom('a '))),
+    '.');
 }

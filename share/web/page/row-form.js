@@ -22,40 +22,78 @@ async function suggestions(table, column, text) {
 export function valueField(id, label, {from, value, fresh}) {
   const start = value === undefined ? '' : fieldText(value), long = /\p{Cc}/u.test(start);
   const kind = make('span.kind.soft', {id: id + '-kind'}), list = make('datalist', {id: id + '-list'});
-  const now = () => input.value === start && value !== undefined ? value : typed(input.value);      // what was not edited stays as it is
-  const tell = () => { kind.textContent = fresh || input.value ? kindOf(now()) : ''; };
+  const now = () =>
+    input.value === start && value !== undefined ? value : typed(input.value);  // what was not edited stays as it is
+  const tell = () => {
+    kind.textContent = fresh || input.value ? kindOf(now()) : '';
+  };
   let timer;
   const suggest = async () => {
     const found = await suggestions(from[0], from[1], input.value.trim()).catch(() => []);
     list.replaceChildren(...found.map(v => make('option', {value: v})));
   };
-  const input = make(long ? 'textarea' : 'input', {id, type: long ? null : 'text', list: id + '-list', 'data-key': id, autocomplete: 'off', dir: 'auto',
-    spellcheck: 'false', required: !fresh, value: start, 'aria-describedby': id + '-kind',
-    oninput: () => { tell(); clearTimeout(timer); timer = setTimeout(suggest, 150); }});
+  const input = make(long ? 'textarea' : 'input', {
+    id,
+    type: long ? null : 'text',
+    list: id + '-list',
+    'data-key': id,
+    autocomplete: 'off',
+    dir: 'auto',
+    spellcheck: 'false',
+    required: !fresh,
+    value: start,
+    'aria-describedby': id + '-kind',
+    oninput: () => {
+      tell();
+      clearTimeout(timer);
+      timer = setTimeout(suggest, 150);
+    }
+  });
   input.addEventListener('focus', suggest, {once: true});
   tell();
-  return {input, value: now, row: make('div.field', null, make('label', {for: id}, label), input, kind, list)};
+  return {
+    input,
+    value: now,
+    row: make(
+      'div.field', null,
+      make(
+        'label',
+        {for: id
+        },
+        label),
+      input, kind, list)
+  };
 }
 
-export const keyMark = () => make('span.key', {title: 'part of the key'}, 'key');
+/** Says beside the name of a column that it belongs to the key. */
+export const keyMark = () => [' ', make('span.key', {title: 'part of the key'}, 'key')];
 
 function rowForm(table, title, values, words, lineOf, options) {
-  const fields = table.columns.map((column, i) => valueField('field' + i, [column, table.key.includes(i + 1) ? keyMark() : null],
-    {from: [table.name, i], value: values?.[i], fresh: true}));
+  const fields = table.columns.map(
+    (column, i) => valueField(
+      'field' + i, [column, table.key.includes(i + 1) ? keyMark() : null],
+      {from: [table.name, i], value: values?.[i], fresh: true}));
   const submit = event => {
     event.preventDefault();
     attempt(() => propose(lineOf(rowText(table.name, fields.map(f => f.value()))), {title, ...options}), form);
   };
-  const form = make('form', {onsubmit: submit}, fields.map(f => f.row),
-    make('p', null, soft('Leave a field empty if the value is not known yet. To write a number as a text, put it between quotes: "12".')),
+  const form = make(
+    'form', {onsubmit: submit}, fields.map(f => f.row),
+    make(
+      'p', null,
+      soft(
+        'Leave a field empty if the value is not known yet. To write a number as a text, put it between quotes: "12".')),
     actions(cancelButton(), make('button.main', {'data-key': 'submit'}, words)));
   openDialog(title, [form], {focus: fields[0].input});
 }
 
 /** Asks for the values of a new row, and adds it. */
-export const addRow = table => rowForm(table, `Add a row to ${table.name}`, null, 'Add', row => 'insert ' + row, {quick: true});
+export const addRow = table =>
+  rowForm(table, `Add a row to ${table.name}`, null, 'Add', row => 'insert ' + row, {quick: true});
 
 /** Asks for the new values of a row, and changes it. What hangs on the row stays. */
 export function changeRow(table, text, values, done) {
-  rowForm(table, `Change a row of ${table.name}`, values, 'Change', row => `replace ${text} with ${row}`, {quick: true, done});
+  rowForm(
+    table, `Change a row of ${table.name}`, values, 'Change', row => `replace ${text} with ${row}`,
+    {quick: true, done});
 }

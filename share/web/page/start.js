@@ -13,13 +13,22 @@ import * as tables from './views/tables.js';
 import * as violations from './views/violations.js';
 import * as whole from './views/workspace.js';
 
-const VIEWS = {tables, inbox, ask, mappings, violations, log, workspace: whole};
-const POLL = 2000, HIDDEN_POLLS = 15, THOROUGH = 15;      // milliseconds; polls that a hidden page leaves out; between two looks at the status
-const SLOW = 3, STUCK = 30;                                // seconds without a reply
+const VIEWS = {
+  tables,
+  inbox,
+  ask,
+  mappings,
+  violations,
+  log,
+  workspace: whole
+};
+const POLL = 2000, HIDDEN_POLLS = 15,
+      THOROUGH = 10;         // milliseconds; polls that a hidden page leaves out; between two looks at the status
+const SLOW = 3, STUCK = 30;  // seconds without a reply
 
 const at = id => document.getElementById(id);
 const main = at('main');
-let view = null;      // the view that is shown: {node, update(news)}
+let view = null;  // the view that is shown: {node, update(news)}
 
 // ---- views ----
 
@@ -30,9 +39,16 @@ const route = () => {
 
 function drawHeader() {
   const status = workspace.status, [now] = route();
-  const counts = {inbox: status?.waits.length, violations: Object.values(status?.proposed ?? {}).reduce((a, b) => a + b, 0)};
-  fill(at('nav'), Object.keys(VIEWS).map(v => make('a', {href: '#' + v, 'data-key': 'view ' + v, 'aria-current': v === now ? 'page' : null},
-    v[0].toUpperCase() + v.slice(1), counts[v] ? [' ', make('span.count', null, counts[v])] : null)));
+  const counts = {
+    inbox: status?.waits.length,
+    violations: Object.values(status?.proposed ?? {}).reduce((a, b) => a + b, 0)
+  };
+  fill(
+    at('nav'),
+    Object.keys(VIEWS).map(
+      v => make(
+        'a', {href: '#' + v, 'data-key': 'view ' + v, 'aria-current': v === now ? 'page' : null},
+        v[0].toUpperCase() + v.slice(1), counts[v] ? [' ', make('span.count', null, counts[v])] : null)));
   at('file').textContent = status?.file ?? 'yt';
   document.title = (status?.waits.length ? `(${status.waits.length}) ` : '') + `${status?.file ?? 'yt'} · ${now}`;
   at('me').textContent = me() || localStorage.getItem('yt-name') || '';
@@ -52,10 +68,19 @@ async function show() {
 let busy = null, again = false;
 /** Learns what is new and shows it. Two calls at once are one and another after it. */
 async function refresh(thorough) {
-  if (busy) { again = true; return busy; }
+  if (busy) {
+    again = true;
+    return busy;
+  }
   busy = (async () => {
-    do { again = false; await look(thorough); } while (again);
-  })().finally(() => { busy = null; });
+           do {
+             again = false;
+             await look(thorough);
+           } while (again);
+         })()
+           .finally(() => {
+             busy = null;
+           });
   return busy;
 }
 async function look(thorough) {
@@ -73,13 +98,18 @@ async function look(thorough) {
   if (news.replaced) message('replaced', [make('b', null, 'The workspace was folded, or is another file now.')]);
   tellOthers(news.records);
   drawHeader();
-  if (!view || news.first) await show(); else await view.update(news);
+  if (!view || news.first || news.replaced) await show();
+  else await view.update(news);
   if (detailsOpen()) await updateDetails();
 }
 function tellOthers(records) {
   const others = records.filter(r => r.curator !== me()), names = [...new Set(others.map(r => r.curator))].join(', ');
   const lines = others.flatMap(r => r.lines), count = others.reduce((sum, r) => sum + r.count, 0);
-  if (count) message('others', [make('b', null, names + ': '), lines[0].number ? lines[0].number + ' ' : '', showLine(lines[0].line), count > 1 ? `, and ${plural(count - 1, 'more line')}` : '']);
+  if (count)
+    message('others', [
+      make('b', null, names + ': '), lines[0].number ? lines[0].number + ' ' : '', showLine(lines[0].line),
+      count > 1 ? `, and ${plural(count - 1, 'more line')}` : ''
+    ]);
 }
 
 let polls = 0;
@@ -91,7 +121,8 @@ async function poll() {
       if (link.up) banner();
     }
   } catch (error) {
-    if (error.reply && !error.reply.lost) banner(faultBox(error.reply)); else if (!error.reply) console.error(error);
+    if (error.reply && !error.reply.lost) banner(faultBox(error.reply));
+    else if (!error.reply) console.error(error);
   }
   setTimeout(poll, POLL);
 }
@@ -105,24 +136,35 @@ function drawState() {
   state.className = link.up ? 'up' : 'down';
   document.body.classList.toggle('off', !link.up);
   if (link.up && link.waited > STUCK) {
-    banner(make('b', null, `yt has not replied for ${Math.floor(link.waited)} seconds. `), 'It may be busy with something large. ', button('Connect anew', () => link.reopen(), 'anew'));
+    banner(
+      make('b', null, `yt has not replied for ${Math.floor(link.waited)} seconds. `),
+      'It may be busy with something large. ', button('Connect anew', () => link.reopen(), 'anew'));
   }
 }
 link.onchange = () => {
   drawState();
   if (link.up) {
     banner();
-    attempt(async () => { await refresh(true); askWho(); await tellPending(); });
+    attempt(async () => {
+      await refresh(true);
+      askWho();
+      await tellPending();
+    });
   } else {
-    banner(make('b', null, 'The connection is lost. '), 'What you see may be old, and nothing can be changed until it is back. It is tried again by itself. ', button('Try now', () => link.reopen(), 'try-now'));
+    banner(
+      make('b', null, 'The connection is lost. '),
+      'What you see may be old, and nothing can be changed until it is back. It is tried again by itself. ',
+      button('Try now', () => link.reopen(), 'try-now'));
   }
 };
-link.onfault = object => { if (object.reply === 'fault') banner(faultBox(object)); };
+link.onfault = object => {
+  if (object.reply === 'fault') banner(faultBox(object));
+};
 setInterval(drawState, 1000);
 
 // ---- who ----
 
-const NAMELESS = 'someone';      // the name that yt writes if nobody said one
+const NAMELESS = 'someone';  // the name that yt writes if nobody said one
 
 /** Asks for a name if none is known. If a login gave one, that one counts, and cannot be changed here. */
 function askWho() {
@@ -133,24 +175,57 @@ function askWho() {
 }
 function whoDialog() {
   const said = localStorage.getItem('yt-name');
-  const field = make('input', {id: 'name', type: 'text', value: said ?? '', required: true, autocomplete: 'username', pattern: '[A-Za-z][A-Za-z0-9_]*', maxlength: 40, 'aria-describedby': 'name-help'});
+  const field = make('input', {
+    id: 'name',
+    type: 'text',
+    value: said ?? '',
+    required: true,
+    autocomplete: 'username',
+    pattern: '[A-Za-z][A-Za-z0-9_]*',
+    maxlength: 40,
+    'aria-describedby': 'name-help'
+  });
   const submit = event => {
     event.preventDefault();
     localStorage.setItem('yt-name', field.value);
     at('dialog').close();
     link.open(field.value);
   };
-  openDialog('Who are you?', [make('form', {onsubmit: submit}, make('p', null, make('label', {for: 'name'}, 'Your name')), field,
-    make('p.soft', {id: 'name-help'}, 'Letters, digits and _. It is written beside each change that you make, and kept in this browser. It is a label and proves nothing.'),
-    actions(make('button.main', null, 'Work under this name')))], {focus: field, closed: () => { if (!localStorage.getItem('yt-name')) whoDialog(); }});
+  openDialog(
+    'Who are you?',
+    [make(
+      'form', {onsubmit: submit},
+      make(
+        'p', null,
+        make(
+          'label',
+          {for: 'name'
+          },
+          'Your name')),
+      field,
+      make(
+        'p.soft', {id: 'name-help'},
+        'Letters, digits and _. It is written beside each change that you make, and kept in this browser. It is a label and proves nothing.'),
+      actions(make('button.main', null, 'Work under this name')))],
+    {
+      focus: field,
+      closed: () => {
+        if (!localStorage.getItem('yt-name')) whoDialog();
+      }
+    });
 }
 
 // ---- light and dark ----
 
-const THEMES = {auto: 'dark', dark: 'light', light: 'auto'};
+const THEMES = {
+  auto: 'dark',
+  dark: 'light',
+  light: 'auto'
+};
 function setTheme(theme) {
   localStorage.setItem('yt-theme', theme);
-  if (theme === 'auto') delete document.documentElement.dataset.theme; else document.documentElement.dataset.theme = theme;
+  if (theme === 'auto') delete document.documentElement.dataset.theme;
+  else document.documentElement.dataset.theme = theme;
   fill(at('theme'), make('span', {'aria-hidden': 'true'}, {auto: '◐ ', dark: '● ', light: '○ '}[theme]), theme);
   at('theme').title = `Light or dark: ${theme}`;
 }
@@ -161,17 +236,27 @@ function setTheme(theme) {
 const keyOf = element => element.dataset.key ?? 'open ' + element.dataset.row;
 document.addEventListener('click', event => {
   const from = event.target.closest('[data-unknown], [data-row], [data-update]');
-  if (!from || from.closest('#dialog') || from.tagName === 'TR' && (getSelection().toString() || event.target.closest('button'))) return;
+  if (
+    !from || from.closest('#dialog') ||
+    from.tagName === 'TR' && (getSelection().toString() || event.target.closest('button')))
+    return;
   const {unknown, row, update} = from.dataset;
   attempt(() => openDetails({...(unknown ? {unknown} : update ? {update} : {row}), from: keyOf(from)}));
 });
 document.addEventListener('keydown', event => {
   if (event.key === 'Escape' && detailsOpen() && !at('dialog').open) closeDetails();
 });
-addEventListener('hashchange', () => { if (detailsOpen()) closeDetails(); show(); });
-addEventListener('online', () => { if (!link.up) link.reopen(); });
+addEventListener('hashchange', () => {
+  if (detailsOpen()) closeDetails();
+  show();
+});
+addEventListener('online', () => {
+  if (!link.up) link.reopen();
+});
 for (const type of ['dragover', 'drop']) addEventListener(type, event => event.preventDefault());
-document.addEventListener('visibilitychange', () => { if (!document.hidden) refresh().catch(() => {}); });
+document.addEventListener('visibilitychange', () => {
+  if (!document.hidden) refresh().catch(() => {});
+});
 at('me').onclick = whoDialog;
 at('theme').onclick = () => setTheme(THEMES[localStorage.getItem('yt-theme') ?? 'auto']);
 setTheme(localStorage.getItem('yt-theme') ?? 'auto');

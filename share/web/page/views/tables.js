@@ -1,184 +1,249 @@
 // The view of tables: the rows of one, by pages, with a filter, and what can be done with them.
+import {mark} from '../details.js';
 import {attempt, cancelButton, openDialog} from '../dialogs.js';
 import {actions, button, fill, listed, make, openButton, plural, showValue, soft} from '../elements.js';
 import {askOne} from '../link.js';
-import {propose} from '../changes.js';
-import {mark} from '../details.js';
 import {fileInput, loadFile} from '../load.js';
 import {addRow, keyMark} from '../row-form.js';
 import {saveButton} from '../saving.js';
+import {changeKey, firstSteps, newTable} from '../table-forms.js';
 import {plainText, quoted, rowText} from '../values.js';
 import {workspace} from '../workspace.js';
 
-const PAGE = 50;         // rows of a page
-const SORTABLE = 2000;   // rows that the page sorts by itself; yt shows them in its own order
-const COLUMNS = 8;
+const PAGE = 50;        // rows of a page
+const SORTABLE = 2000;  // rows that the page sorts by itself; yt shows them in its own order
+const TYPING = 150;     // milliseconds after the last key before the filter is sent
 
-const letters = new Intl.Collator('en', {numeric: true});
-const rank = v => typeof v === 'string' ? 1 : typeof v === 'object' ? 2 : 0;
-function compare(a, b) {
-  if (rank(a) !== rank(b)) return rank(a) - rank(b);
-  return rank(a) === 0 ? (a < b ? -1 : a > b ? 1 : 0) : letters.compare(plainText(a), plainText(b));
-}
-
-const kept = new Map();      // how each table was looked at last: filter, page, order
-const freshState = () => ({like: '', unknowns: false, page: 0, sort: -1, down: false});
+const kept = new Map();  // how each table was looked at last
 
 export function open(argument) {
-  const names = make('nav.tables', {'aria-label': 'Tables'}), body = make('section'), node = make('div.split', null, names, body);
-  let name = argument, view;
+  const names = make('nav.tables', {'aria-label': 'Tables'});
+  const body = make('section');
+  let name = argument;
+  let view;
   const update = async news => {
-    if (!workspace.table(name)) name = workspace.tables[0]?.name;
-    const link = t => make('a', {href: '#tables/' + t.name, 'data-key': 'table ' + t.name, 'aria-current': t.name === name ? 'page' : null},
-      t.name, soft(t.count.toLocaleString('en')));
-    fill(names, workspace.tables.map(link), button('New table …', () => attempt(newTable), 'new-table', 'link'));
-    if (!name) { fill(body, firstSteps()); return; }
-    if (!view) { view = tableView(name); body.replaceChildren(view.node); }
-    await view.update(news);
+    if (!workspace.table(name)) {
+      name = workspace.tables[0]?.name;
+      view = undefined;
+    }
+    fill(names, workspace.tables.map(t => tableLink(t, t.name === name)), newTableButton());
+    if (!name) return fill(body, firstSteps());
+    if (!view) {
+      view = new TableView(name);
+      body.replaceChildren(view.node);
+    }
+    return view.update(news);
   };
-  return {node, update};
+  return {node: make('div.split', null, names, body), update};
 }
+
+function tableLink({name, count}, current) {
+  const properties = {href: '#tables/' + name, 'data-key': 'table ' + name, 'aria-current': current ? 'page' : null};
+  return make('a', properties, name, soft(count.toLocaleString('en')));
+}
+const newTableButton = () => button('New table …', () => attempt(newTable), 'new-table', 'link');
 
 // ---- one table ----
 
-function tableView(name) {
-  const state = kept.get(name) ?? freshState();
-  kept.set(name, state);
-  const bar = make('div.bar'), rows = make('div'), pages = make('div.pages');
-  const filter = make('input', {type: 'search', 'data-key': 'filter', value: state.like, maxlength: 80, placeholder: 'Filter', 'aria-label': `Filter ${name}`,
-    oninput: () => { state.like = filter.value.trim(); state.page = 0; clearTimeout(timer); timer = setTimeout(() => attempt(draw), 150); }});
-  const unknowns = make('input', {type: 'checkbox', checked: state.unknowns, onchange: () => { state.unknowns = unknowns.checked; state.page = 0; attempt(draw); }});
-  const file = fileInput('csv', f => attempt(() => loadFile(f, workspace.table(name))));
-  const area = make('section.drop', {'aria-label': name, ondragover: e => { e.preventDefault(); area.classList.add('over'); },
-    ondragleave: () => area.classList.remove('over'), ondrop: e => { e.preventDefault(); area.classList.remove('over');
-      const f = e.dataTransfer.files[0]; if (f) attempt(() => loadFile(f, workspace.table(name))); }},
-  bar, make('div.bar', null, filter, make('label.check', null, unknowns, 'only rows with unknowns'), make('span.space'), pages), rows);
-  let timer, turn = 0, all = null, last = null;
+const letters = new Intl.Collator('en', {numeric: true});
+const rank = v => typeof v === 'string' ? 1 : typeof v === 'object' ? 2 : 0;
+/** Numbers first, then texts, then unknowns. */
+function compare(a, b) {
+  if (rank(a) !== rank(b)) return rank(a) - rank(b);
+  return rank(a) === 0 ? Number(a > b) - Number(a < b) : letters.compare(plainText(a), plainText(b));
+}
 
-  // The rows that are meant: a page from yt, or all of them if the page has to sort.
-  async function read() {
-    const options = (state.like ? ' --like ' + quoted(state.like) : '') + (state.unknowns ? ' --unknowns' : '');
-    if (state.sort < 0) return askOne(`show ${name} --from ${state.page * PAGE + 1} --limit ${PAGE}${options}`);
-    if (all?.options !== options) all = {options, table: await askOne(`show ${name} --limit ${SORTABLE}${options}`)};
-    const sorted = [...all.table.rows].sort((a, b) => compare(a[state.sort], b[state.sort]) * (state.down ? -1 : 1));
-    return {...all.table, rows: sorted.slice(state.page * PAGE, (state.page + 1) * PAGE)};
+class TableView {
+  #turn = 0;    // of the last drawing that was begun
+  #all;         // all rows that are meant, if the page sorts them: {options, reply}
+  #drawn = '';  // how the table was looked at when it was drawn last, and the rows that it had then
+  #texts = [];
+  #timer;
+
+  constructor(name) {
+    this.name = name;
+    this.look = kept.get(name) ?? {like: '', unknowns: false, page: 0, sort: -1, down: false};
+    kept.set(name, this.look);
+    this.file = fileInput('csv', f => this.#load(f));
+    this.bar = make('div.bar');
+    this.pages = make('div.pages');
+    this.rows = make('div');
+    this.filter = make('input', {
+      type: 'search',
+      'data-key': 'filter',
+      value: this.look.like,
+      maxlength: 80,
+      placeholder: 'Filter',
+      'aria-label': `Filter ${name}`,
+      oninput: () => this.#filterLater(),
+    });
+    const unknowns = make('input', {
+      type: 'checkbox',
+      checked: this.look.unknowns,
+      onchange: event => this.#lookAt({unknowns: event.target.checked, page: 0}),
+    });
+    const only = make('label.check', null, unknowns, 'only rows with unknowns');
+    this.node = make(
+      'section.drop', {'aria-label': name}, this.bar, make('div.bar', null, this.filter, only, space(), this.pages),
+      this.rows);
+    this.#takeDrops();
   }
 
-  async function draw() {
-    const mine = ++turn;
-    let found = await read();
+  async update(news) {
+    if (!news || news.replaced || news.records.some(r => r.tables.includes(this.name))) this.#all = undefined;
+    this.#drawBar();
+    await this.#draw();
+  }
+
+  #load(file) { attempt(() => loadFile(file, workspace.table(this.name))); }
+  #takeDrops() {
+    const over = is => event => {
+      event.preventDefault();
+      this.node.classList.toggle('over', is);
+    };
+    this.node.addEventListener('dragover', over(true));
+    this.node.addEventListener('dragleave', over(false));
+    this.node.addEventListener('drop', over(false));
+    this.node.addEventListener('drop', event => {
+      const file = event.dataTransfer.files[0];
+      if (file) this.#load(file);
+    });
+  }
+
+  #lookAt(change) {
+    Object.assign(this.look, change);
+    attempt(() => this.#draw());
+  }
+  #filterLater() {
+    clearTimeout(this.#timer);
+    this.#timer = setTimeout(() => this.#lookAt({like: this.filter.value.trim(), page: 0}), TYPING);
+  }
+
+  /** The rows that are shown: a page from yt, or a part of all of them if the page sorts. */
+  async #read() {
+    const {like, unknowns, page, sort, down} = this.look;
+    const options = (like ? ' --like ' + quoted(like) : '') + (unknowns ? ' --unknowns' : '');
+    if (sort < 0) return askOne(`show ${this.name} --from ${page * PAGE + 1} --limit ${PAGE}${options}`);
+    if (this.#all?.options !== options) {
+      this.#all = {options, reply: await askOne(`show ${this.name} --limit ${SORTABLE}${options}`)};
+    }
+    const {reply} = this.#all;
+    const rows = reply.rows.toSorted((a, b) => compare(a[sort], b[sort]) * (down ? -1 : 1));
+    return {...reply, rows: rows.slice(page * PAGE, (page + 1) * PAGE)};
+  }
+
+  /** The rows that are shown, after the page and the order are such that there are some. */
+  async #readShown() {
+    const found = await this.#read();
     const count = found.count ?? 0;
-    if (count > SORTABLE && state.sort >= 0) { state.sort = -1; found = await read(); }
-    if (state.page && state.page * PAGE >= count) { state.page = Math.max(0, Math.ceil(count / PAGE) - 1); found = await read(); }
-    if (mine !== turn) return;
-    const texts = found.rows.map(r => rowText(name, r)), seen = last && last.state === JSON.stringify(state) ? new Set(last.texts) : null;
-    last = {state: JSON.stringify(state), texts};
-    fill(rows, waitingRows(found.waiting ?? []), tableOf(found, texts, seen, count));
-    fill(pages, pager(found.rows.length, count));
+    const last = Math.max(0, Math.ceil(count / PAGE) - 1);
+    const sorted = this.look.sort >= 0 && count > SORTABLE;
+    if (!sorted && this.look.page <= last) return found;
+    if (sorted) this.look.sort = -1;
+    this.look.page = Math.min(this.look.page, last);
+    return this.#read();
+  }
+
+  async #draw() {
+    const turn = ++this.#turn;
+    const found = await this.#readShown();
+    if (turn !== this.#turn) return;
+    const texts = found.rows.map(r => rowText(this.name, r));
+    const look = JSON.stringify(this.look);
+    const before = this.#drawn === look ? new Set(this.#texts) : null;
+    this.#drawn = look;
+    this.#texts = texts;
+    fill(this.rows, waitingRows(found.waiting ?? []), this.#table(found, texts, before));
+    fill(this.pages, this.#pager(found.rows.length, found.count ?? 0));
     mark();
   }
 
-  function tableOf(found, texts, seen, count) {
-    const {columns, key} = workspace.table(name);
-    const head = columns.map((c, i) => make('th', {scope: 'col', 'aria-sort': state.sort === i ? (state.down ? 'descending' : 'ascending') : 'none'},
-      button([c, key.includes(i + 1) ? keyMark() : null, state.sort === i ? (state.down ? ' ▼' : ' ▲') : ''], () => sortBy(i, count), 'sort ' + i, 'sort')));
-    const row = (r, i) => make('tr', {'data-row': texts[i], class: seen && !seen.has(texts[i]) ? 'fresh' : null},
-      r.map(v => make('td', null, showValue(v))), make('td.end', null, openButton(texts[i])));
-    const empty = state.like || state.unknowns ? 'No row has that.' : 'No rows yet. Add one, or drop a file of comma-separated values here.';
-    return [make('div.wide', null, make('table.rows', null, make('caption.away', null, name),
-      make('thead', null, make('tr', null, head, make('th', {scope: 'col'}, make('span.away', null, 'Open')))),
-      make('tbody', {onkeydown: arrows}, found.rows.map(row)))), found.rows.length ? null : make('p.soft.empty', null, empty)];
-  }
-
-  function sortBy(column, count) {
-    if (count > SORTABLE) {
-      return openDialog('Too many rows to sort', [make('p', null, `The page sorts ${SORTABLE.toLocaleString('en')} rows at most, and there are ${count.toLocaleString('en')}. `,
-        'They stand in the order of their first column. Filter them first.'), actions(cancelButton('Close'))]);
-    }
-    if (state.sort === column && state.down) state.sort = -1;
-    else { state.down = state.sort === column; state.sort = column; }
-    attempt(draw);
-  }
-
-  function pager(shown, count) {
-    const first = state.page * PAGE, turnTo = page => () => { state.page = page; attempt(draw); }, last = Math.ceil(count / PAGE) - 1;
-    const words = shown ? `${(first + 1).toLocaleString('en')} to ${(first + shown).toLocaleString('en')} of ${count.toLocaleString('en')}` : 'none';
-    const step = (sign, words, page, off) => button(sign, turnTo(page), 'page ' + words, '', {'aria-label': words, title: words, disabled: off});
-    return [make('span', {role: 'status'}, words), last > 0 ? [step('«', 'First rows', 0, state.page === 0), step('‹', 'Rows before', state.page - 1, state.page === 0),
-      step('›', 'Next rows', state.page + 1, state.page >= last), step('»', 'Last rows', last, state.page >= last)] : null];
-  }
-
-  function drawBar() {
-    const table = workspace.table(name);
-    fill(bar, make('h2', null, name), soft(plural(table.count, 'row')), make('span.space'), button('Add a row', () => attempt(() => addRow(table)), 'add', 'main'),
-      button('Load a file …', () => file.click(), 'load'), file, saveButton('Export', `export ${name}`, `${name}.csv`, 'export'),
+  #drawBar() {
+    const table = workspace.table(this.name);
+    fill(
+      this.bar, make('h2', null, this.name), soft(plural(table.count, 'row')), space(),
+      button('Add a row', () => attempt(() => addRow(table)), 'add', 'main'),
+      button('Load a file …', () => this.file.click(), 'load'), this.file,
+      saveButton('Export', `export ${this.name}`, `${this.name}.csv`, 'export'),
       button('Key …', () => attempt(() => changeKey(table)), 'key'));
   }
 
-  return {node: area, update: async news => {
-    if (!news || news.replaced || news.records.some(r => r.tables.includes(name))) all = null;
-    drawBar();
-    await draw();
-  }};
+  #table(found, texts, before) {
+    const {columns, key} = workspace.table(this.name);
+    const head = columns.map((c, i) => this.#heading(c, i, key.includes(i + 1), found.count));
+    const row = (values, i) => make(
+      'tr', {'data-row': texts[i], class: before && !before.has(texts[i]) ? 'fresh' : null},
+      values.map(v => make('td', null, showValue(v))), make('td.end', null, openButton(texts[i])));
+    const table = make(
+      'table.rows', null, make('caption.away', null, this.name),
+      make('thead', null, make('tr', null, head, make('th', {scope: 'col'}, make('span.away', null, 'Open')))),
+      make('tbody', {onkeydown: arrows}, found.rows.map(row)));
+    return [make('div.wide', null, table), found.rows.length ? null : this.#empty()];
+  }
+  #empty() {
+    const filtered = this.look.like || this.look.unknowns;
+    return make(
+      'p.soft.empty', null,
+      filtered ? 'No row has that.' : 'No rows yet. Add one, or drop a file of comma-separated values here.');
+  }
+  #heading(column, i, isKey, count) {
+    const {sort, down} = this.look;
+    const order = sort !== i ? 'none' : down ? 'descending' : 'ascending';
+    const arrow = {none: '', descending: ' ▼', ascending: ' ▲'}[order];
+    const words = [column, isKey ? keyMark() : null, arrow];
+    return make(
+      'th', {scope: 'col', 'aria-sort': order}, button(words, () => this.#sortBy(i, count), 'sort ' + i, 'sort'));
+  }
+
+  #sortBy(column, count) {
+    const {sort, down} = this.look;
+    if (count > SORTABLE) tooManyToSort(count);
+    else if (sort === column && down) this.#lookAt({sort: -1});
+    else this.#lookAt({sort: column, down: sort === column});
+  }
+
+  #pager(shown, count) {
+    const {page} = this.look;
+    const last = Math.ceil(count / PAGE) - 1;
+    const first = (page * PAGE + 1).toLocaleString('en');
+    const words =
+      shown ? `${first} to ${(page * PAGE + shown).toLocaleString('en')} of ${count.toLocaleString('en')}` : 'none';
+    const step = (sign, title, to) => button(
+      sign, () => this.#lookAt({page: to}), 'page ' + title, '',
+      {'aria-label': title, title, disabled: to === page || to < 0 || to > last});
+    const steps = [
+      step('«', 'First rows', 0), step('‹', 'Rows before', page - 1), step('›', 'Next rows', page + 1),
+      step('»', 'Last rows', last)
+    ];
+    return [make('span', {role: 'status'}, words), last > 0 ? steps : null];
+  }
+}
+
+const space = () => make('span.space');
+
+function tooManyToSort(count) {
+  const most = SORTABLE.toLocaleString('en');
+  openDialog('Too many rows to sort', [
+    make(
+      'p', null, `The page sorts ${most} rows at most, and there are ${count.toLocaleString('en')}. `,
+      'They stand in the order of their first column. Filter them first.'),
+    actions(cancelButton('Close')),
+  ]);
 }
 
 function waitingRows(numbers) {
   if (!numbers.length) return null;
   const links = numbers.slice(0, 20).map(n => make('a', {href: '#inbox/' + n}, n));
-  return make('p.asks', null, numbers.length === 1 ? 'A change of this table waits for an answer: ' : 'Changes of this table wait for answers: ', listed(links),
-    numbers.length > 20 ? ` and ${numbers.length - 20} more` : '');
+  const words =
+    numbers.length === 1 ? 'A change of this table waits for an answer: ' : 'Changes of this table wait for answers: ';
+  return make('p.asks', null, words, listed(links), numbers.length > 20 ? ` and ${numbers.length - 20} more` : '');
 }
 
 // The arrow keys go from row to row.
 function arrows(event) {
   const next = {ArrowDown: 'nextElementSibling', ArrowUp: 'previousElementSibling'}[event.key];
   const row = next && event.target.closest('tr')[next];
-  if (row) { event.preventDefault(); row.querySelector('.open').focus(); }
-}
-
-// ---- new tables, keys ----
-
-const namePattern = {type: 'text', autocomplete: 'off', spellcheck: 'false', pattern: '[A-Za-z][A-Za-z0-9_]*', maxlength: 60, title: 'letters, digits and _, a letter first'};
-
-function firstSteps() {
-  const file = fileInput('first-csv', f => attempt(() => loadFile(f, null, goTo)));
-  return [make('h2', null, 'There are no tables yet'), make('p', null, 'Make the first one, or make it of a file of comma-separated values.'),
-    actions(button('New table …', () => attempt(newTable), 'first-table', 'main'), button('Load a file …', () => file.click(), 'first-load')), file];
-}
-const goTo = reply => { location.hash = '#tables/' + reply.line.match(/^(?:relation|load) (\w+)/)[1]; };
-
-function newTable() {
-  const name = make('input', {id: 'new-name', required: true, ...namePattern}), columns = make('div'), rows = [];
-  const file = fileInput('new-csv', f => attempt(() => loadFile(f, null, goTo)));
-  const add = () => {
-    const i = rows.length, input = make('input', {id: 'new-column' + i, required: i === 0, ...namePattern}), key = make('input', {type: 'checkbox', id: 'new-key' + i});
-    rows.push({input, key});
-    columns.append(make('div.field', null, make('label', {for: input.id}, `Column ${i + 1}`), input, make('label.check', {for: key.id}, key, 'key')));
-    more.hidden = rows.length >= COLUMNS;
-    return input;
-  };
-  const more = button('Another column', () => add().focus(), 'more-columns', 'link');
-  const submit = event => {
-    event.preventDefault();
-    const said = rows.filter(r => r.input.value.trim()).map(r => r.input.value.trim() + (r.key.checked ? '*' : ''));
-    attempt(() => propose(`relation ${name.value.trim()}(${said.join(', ')})`, {title: 'New table', quick: true, done: goTo}), form);
-  };
-  const form = make('form', {onsubmit: submit}, make('div.field', null, make('label', {for: 'new-name'}, 'Name'), name), columns, more,
-    make('p', null, soft('Two rows with the same values in their key columns are told as a clash. A table has 8 columns at most.')),
-    actions(button('From a file …', () => file.click(), 'new-load'), make('span.space'), cancelButton(), make('button.main', null, 'Make it')), file);
-  add();
-  add();
-  openDialog('New table', [form], {focus: name});
-}
-
-function changeKey(table) {
-  const boxes = table.columns.map((c, i) => make('input', {type: 'checkbox', id: 'key' + i, checked: table.key.includes(i + 1)}));
-  const submit = event => {
-    event.preventDefault();
-    const columns = table.columns.map((c, i) => c + (boxes[i].checked ? '*' : '')).join(', ');
-    attempt(() => propose(`relation ${table.name}(${columns})`, {title: `Key of ${table.name}`, quick: true}), form);
-  };
-  const form = make('form', {onsubmit: submit}, make('p', null, 'Two rows with the same values in all of these columns are told as a clash:'),
-    table.columns.map((c, i) => make('p', null, make('label.check', {for: 'key' + i}, boxes[i], c))), actions(cancelButton(), make('button.main', null, 'Set the key')));
-  openDialog(`Key of ${table.name}`, [form], {focus: boxes[0]});
+  if (!row) return;
+  event.preventDefault();
+  row.querySelector('.open').focus();
 }
