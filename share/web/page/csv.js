@@ -1,4 +1,4 @@
-// Comma-separated values, as far as the page has to look at them before yt reads them: the separator, the header, the first rows.
+// Comma-separated values, as far as the page looks at them before yt reads them: the separator, and the first rows.
 
 const SEPARATORS = [',', ';', '\t'];
 
@@ -6,7 +6,9 @@ const SEPARATORS = [',', ';', '\t'];
 export function textOf(bytes) {
   try {
     return {text: new TextDecoder('utf-8', {fatal: true}).decode(bytes), encoding: 'UTF-8'};
-  } catch { return {text: new TextDecoder('windows-1252').decode(bytes), encoding: 'Windows-1252'}; }
+  } catch {
+    return {text: new TextDecoder('windows-1252').decode(bytes), encoding: 'Windows-1252'};
+  }
 }
 
 /** The first rows of a file, as lists of cells. */
@@ -21,15 +23,11 @@ export function readCsv(text, separator, most) {
   };
   for (let i = 0; i < text.length && rows.length < most; i++) {
     const c = text[i];
-    if (inside && c === '"' && text[i + 1] === '"') {
-      cell += '"';
-      i++;
-    } else if (c === '"' && (inside || cell === '')) inside = !inside;
+    if (inside && c === '"' && text[i + 1] === '"') { cell += '"'; i++; }
+    else if (c === '"' && (inside || cell === '')) inside = !inside;
     else if (inside) cell += c;
-    else if (c === separator) {
-      cells.push(cell);
-      cell = '';
-    } else if (c === '\n') endRow();
+    else if (c === separator) { cells.push(cell); cell = ''; }
+    else if (c === '\n') endRow();
     else cell += c;
   }
   if (rows.length < most && (cell || cells.length)) endRow();

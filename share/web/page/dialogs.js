@@ -3,7 +3,7 @@ import {button, fill, focusOn, make, showText} from './elements.js';
 
 const dialog = document.getElementById('dialog');
 const messages = document.getElementById('messages');
-let opener;  // the key of what had the focus before the dialog
+let opener;      // the key of what had the focus before the dialog
 let whenClosed;
 
 /** Shows a dialog, or puts another content into the one that is open. `closed` is called when it closes. */
@@ -26,8 +26,7 @@ dialog.addEventListener('close', () => {
 /** A fault of yt: what is wrong, where, and what to do. */
 export function faultBox({words, faults = [], hint, line}) {
   const more = faults.length > 20 ? make('li', null, `and ${faults.length - 20} more`) : null;
-  return make(
-    'div.fault', {role: 'alert'}, make('b', null, showText(words)),
+  return make('div.fault', {role: 'alert'}, make('b', null, showText(words)),
     faults.length ? make('ul', null, faults.slice(0, 20).map(f => make('li', null, showText(f))), more) : null,
     hint ? make('div', null, showText(hint)) : null);
 }
@@ -49,13 +48,12 @@ export async function attempt(work, place = document.getElementById('main')) {
 }
 
 /**
- * A message at the edge of the page, which goes by itself, but not while it has the focus or the pointer. A new one takes the place
- * of the last one of its kind.
+ * A message at the edge of the page, which goes by itself, but not while it has the focus or the pointer. A new one takes
+ * the place of the last one of its kind.
  */
 export function message(kind, words, action) {
   messages.querySelector(`.message.${kind}`)?.remove();
-  const box = make(
-    'div.message.' + kind, null, make('div', null, words), action,
+  const box = make('div.message.' + kind, null, make('div', null, words), action,
     button('×', () => box.remove(), undefined, 'close', {'aria-label': 'Close this message'}));
   const end = () => box.matches(':hover, :focus-within') ? setTimeout(end, 3000) : box.remove();
   messages.append(box);

@@ -18,8 +18,8 @@ export function parseReply(text) {
 
 export class Link {
   up = false;
-  onchange = () => {};  // it is up, or lost
-  onfault = () => {};   // a fault that no line asked for
+  onchange = () => {};      // it is up, or lost
+  onfault = () => {};       // a fault that no line asked for
   #socket = null;
   #queue = [];
   #tries = 0;
@@ -35,16 +35,9 @@ export class Link {
     address.hash = '';
     address.search = name ? 'as=' + encodeURIComponent(name) : '';
     const socket = this.#socket = new WebSocket(address);
-    socket.onopen = () => {
-      this.up = true;
-      this.onchange();
-    };
-    socket.onmessage = e => {
-      if (socket === this.#socket) this.#take(e.data);
-    };
-    socket.onclose = () => {
-      if (socket === this.#socket) this.#lost();
-    };
+    socket.onopen = () => { this.up = true; this.onchange(); };
+    socket.onmessage = e => { if (socket === this.#socket) this.#take(e.data); };
+    socket.onclose = () => { if (socket === this.#socket) this.#lost(); };
   }
 
   reopen() { this.open(this.#name); }
@@ -89,7 +82,9 @@ export class Link {
     let object;
     try {
       object = parseReply(text);
-    } catch { object = {reply: 'fault', words: 'this is no reply of yt: ' + text.slice(0, 200)}; }
+    } catch {
+      object = {reply: 'fault', words: 'this is no reply of yt: ' + text.slice(0, 200)};
+    }
     const q = this.#queue[0];
     if (!q) return this.onfault(object);
     this.#tries = 0;
@@ -97,8 +92,7 @@ export class Link {
     if (object.more) return;
     this.#queue.shift();
     if (this.#queue[0]) this.#queue[0].since = Date.now();
-    if (object.reply === 'fault') q.reject(new Fault(object));
-    else q.resolve(q.reply);
+    if (object.reply === 'fault') q.reject(new Fault(object)); else q.resolve(q.reply);
   }
 }
 

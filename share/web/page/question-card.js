@@ -1,42 +1,32 @@
 // The card of an update that waits: its question, its candidates, and what can be answered.
-import {bringUpToDate, doNow, propose, questionInWords, showWrite} from './changes.js';
+import {bringUpToDate, doNow, propose} from './changes.js';
 import {openDetails} from './details.js';
 import {attempt, showFault} from './dialogs.js';
+import {questionInWords, showWrite} from './effects.js';
 import {
-  actions,
-  ago,
-  button,
-  code,
-  fill,
-  make,
-  mappingInWords,
-  plural,
-  showLine,
-  showRow,
-  showRows,
-  showText,
-  showValue,
-  soft
+  actions, ago, button, code, fill, labelFor, make, plural, showRow, showRows, showText, showValue, soft,
 } from './elements.js';
+import {mappingInWords, showLine} from './lines.js';
 import {askOne} from './link.js';
 import {quoted, readRow} from './values.js';
 import {columnsOf, workspace} from './workspace.js';
 
 const CANDIDATES = 50;  // that are asked for at once
 const FEW = 8;          // candidates that need no filter
+const NONE = 'none of them: a new one, with what is not known yet left open';
 const TYPING = 150;     // milliseconds after the last key before the filter is sent
 
 /** What makes a question the same, as far as the page has seen its candidates. */
 const identity = q => JSON.stringify([q.kind, q.mapping, q.wanted, q.count, q.candidates]);
 
 export class QuestionCard {
-  #question;            // as it is shown, its candidates filtered
-  #identity;            // of the question that the choice is made on
-  #picked = new Set();  // numbers of candidates
-  #none = false;        // whether none of them is chosen
-  #at = 0;              // the record after which what is chosen was seen
-  #stale = false;       // whether the question changed after something was chosen
-  #refused = false;     // whether an answer was refused
+  #question;               // as it is shown, its candidates filtered
+  #identity;               // of the question that the choice is made on
+  #picked = new Set();     // numbers of candidates
+  #none = false;           // whether none of them is chosen
+  #at = 0;                 // the record after which what is chosen was seen
+  #stale = false;          // whether the question changed after something was chosen
+  #refused = false;        // whether an answer was refused
   #like = '';
   #limit = CANDIDATES;
   #turn;
@@ -100,30 +90,20 @@ export class QuestionCard {
   #draw() {
     const q = this.#question;
     this.node.className = 'card';
-    const head =
-      make('h3', null, soft(`${q.number} · `), q.curator, ' wants to ', showLine(q.line), ' ', soft('· ', ago(q.time)));
+    const wants = [q.curator, ' wants to ', showLine(q.line)];
+    const head = make('h3', null, soft(`${q.number} · `), wants, ' ', soft('· ', ago(q.time)));
     if (!q.candidates) {
-      fill(
-        this.node, head, make('p', null, 'It waits: ', showText(q.words ?? q.kind), '.'),
-        actions(this.#tryAgain(), this.#withdraw()));
-      return;
+      const waits = make('p', null, 'It waits: ', showText(q.words ?? q.kind), '.');
+      return fill(this.node, head, waits, actions(this.#tryAgain(), this.#withdraw()));
     }
     const since = q.since.length ? [' There is ', showRows(q.since, true), '.'] : null;
-    fill(
-      this.node, head, make('p.ask', null, questionInWords(q)),
-      make('p.why', null, 'Why: ', mappingInWords(q.rule, columnsOf), since), this.#candidates, this.#soFar(q),
-      this.#buttons);
-    this.#drawCandidates();
+    const why = make('p.why', null, 'Why: ', mappingInWords(q.rule, columnsOf), since);
+    fill(this.node, head, make('p.ask', null, questionInWords(q)), why, this.#candidates, this.#soFar(q), this.#buttons);
+    return this.#drawCandidates();
   }
 
   #soFar(q) {
-    const details = make(
-      'details', {
-        open: this.#soFarOpen,
-        ontoggle: () => {
-          this.#soFarOpen = details.open;
-        }
-      },
+    const details = make('details', {open: this.#soFarOpen, ontoggle: () => { this.#soFarOpen = details.open; }},
       make('summary', {'data-key': 'so far ' + this.number}, 'What it would do before it asks'),
       make('p', null, code(q.rule)), make('ul.effect', null, q.so_far.slice(0, 20).map(showWrite)));
     return details;
@@ -132,16 +112,11 @@ export class QuestionCard {
   #drawCandidates() {
     const q = this.#question;
     const left = (q.fit ?? q.count) - q.candidates.length;
-    const more =
-      button(`Show more: ${left.toLocaleString('en')} not shown`, () => this.#more(), 'more ' + this.number, 'link');
-    const none = make(
-      'label.check.none', null, this.#choice(null), 'none of them: a new one, with what is not known yet left open');
-    fill(
-      this.#candidates,
-      make(
-        'fieldset', {disabled: this.#stale}, make('legend.away', null, `Candidates of ${this.number}`),
-        q.count > FEW ? this.#search(q) : null, make('div.wide', null, this.#table(q.candidates)),
-        left > 0 ? more : null, q.kind === 'positive' ? none : null));
+    const more = button(`Show more: ${left.toLocaleString('en')} not shown`, () => this.#more(), 'more ' + this.number, 'link');
+    const none = make('label.check.none', null, this.#choice(null), NONE);
+    fill(this.#candidates, make('fieldset', {disabled: this.#stale}, make('legend.away', null, `Candidates of ${this.number}`),
+      q.count > FEW ? this.#search(q) : null, make('div.wide', null, this.#table(q.candidates)), left > 0 ? more : null,
+      q.kind === 'positive' ? none : null));
     this.#drawButtons();
   }
   #more() {
@@ -150,13 +125,9 @@ export class QuestionCard {
   }
   #search(q) {
     const field = make('input', {
-      type: 'search',
-      'data-key': 'like ' + this.number,
-      value: this.#like,
-      maxlength: 80,
+      type: 'search', 'data-key': 'like ' + this.number, value: this.#like, maxlength: 80,
+      placeholder: `Filter ${plural(q.count, 'candidate')}`, 'aria-label': `Filter the candidates of ${this.number}`,
       oninput: () => this.#filterLater(field.value),
-      placeholder: `Filter ${plural(q.count, 'candidate')}`,
-      'aria-label': `Filter the candidates of ${this.number}`,
     });
     const found = this.#like ? `${(q.fit ?? q.count).toLocaleString('en')} found` : '';
     return make('div.bar', null, field, make('span.soft', {role: 'status'}, found));
@@ -167,14 +138,10 @@ export class QuestionCard {
     const rows = candidates.map(c => readRow(c.tuple));
     const table = rows[0]?.table;
     const alike = rows.every(r => r.table === table);
-    const label = (c, ...words) => make('td', null, make('label', {for: this.#id(c)
-                                        }, words));
-    const cells = (c, i) =>
-      alike ? rows[i].values.map(v => label(c, showValue(v, true))) : label(c, showRow(c.tuple, true));
-    const head =
-      [make('th', null, make('span.away', null, 'Choose')), columnsOf(table).map(c => make('th', {scope: 'col'}, c))];
-    return make(
-      'table.candidates', null, alike && table ? make('thead', null, make('tr', null, head)) : null,
+    const label = (c, ...words) => make('td', null, labelFor(this.#id(c), words));
+    const cells = (c, i) => alike ? rows[i].values.map(v => label(c, showValue(v, true))) : label(c, showRow(c.tuple, true));
+    const head = [make('th', null, make('span.away', null, 'Choose')), columnsOf(table).map(c => make('th', {scope: 'col'}, c))];
+    return make('table.candidates', null, alike && table ? make('thead', null, make('tr', null, head)) : null,
       make('tbody', null, candidates.map((c, i) => make('tr', null, make('td', null, this.#choice(c)), cells(c, i)))));
   }
 
@@ -185,12 +152,9 @@ export class QuestionCard {
   /** What chooses a candidate, or none of them. */
   #choice(candidate) {
     return make('input', {
-      type: this.#question.kind === 'positive' ? 'radio' : 'checkbox',
-      name: 'question-' + this.number,
-      id: this.#id(candidate),
-      'data-key': this.#id(candidate),
+      type: this.#question.kind === 'positive' ? 'radio' : 'checkbox', name: 'question-' + this.number,
+      id: this.#id(candidate), 'data-key': this.#id(candidate), 'aria-label': candidate ? candidate.tuple : 'none of them',
       checked: candidate ? this.#picked.has(candidate.number) : this.#none,
-      'aria-label': candidate ? candidate.tuple : 'none of them',
       onchange: event => this.#choose(candidate, event.target.checked),
     });
   }
@@ -226,10 +190,8 @@ export class QuestionCard {
   #drawButtons() {
     const disabled = this.#stale || !this.#chosen;
     const look = () => this.#propose(this.#command(), 'Answer', 'Answer');
-    fill(
-      this.#buttons, this.#stale ? this.#warning() : null,
-      actions(
-        button('Answer', () => this.#send(), 'answer ' + this.number, 'main', {disabled}),
+    fill(this.#buttons, this.#stale ? this.#warning() : null,
+      actions(button('Answer', () => this.#send(), 'answer ' + this.number, 'main', {disabled}),
         button('What would happen?', look, 'preview ' + this.number, '', {disabled}), this.#withdraw()));
   }
   #warning() {
@@ -237,20 +199,17 @@ export class QuestionCard {
       this.#clear();
       await this.update();
     };
-    return make(
-      'p.warning', {role: 'alert'}, 'This question has changed since you looked. ',
+    return make('p.warning', {role: 'alert'}, 'This question has changed since you looked. ',
       button('Show it as it is now', () => attempt(show, this.node), 'now ' + this.number));
   }
   #withdraw() {
     const before = 'The change is taken back, as if it had never been said:';
-    return button(
-      'Withdraw …', () => this.#propose(`undo ${this.number}`, 'Withdraw', 'Withdraw', before),
-      'withdraw ' + this.number);
+    const withdraw = () => this.#propose(`undo ${this.number}`, 'Withdraw', 'Withdraw', before);
+    return button('Withdraw …', withdraw, 'withdraw ' + this.number);
   }
   #tryAgain() {
-    return button(
-      'Try it again', () => this.#propose(`answer ${this.number} go`, 'Try again', 'Try again'),
-      'again ' + this.number);
+    const again = () => this.#propose(`answer ${this.number} go`, 'Try again', 'Try again');
+    return button('Try it again', again, 'again ' + this.number);
   }
 
   // ---- afterwards ----
@@ -267,8 +226,7 @@ export class QuestionCard {
     };
     const look = () => attempt(() => openDetails({update: this.number, from: 'fine ' + this.number}));
     this.node.className = 'card gone';
-    fill(
-      this.node, make('h3', {role: 'status'}, `${this.number} waits no longer; your answer was not sent`),
+    fill(this.node, make('h3', {role: 'status'}, `${this.number} waits no longer; your answer was not sent`),
       by ? make('p', null, make('b', null, by.curator), ' was faster: ', said) : null,
       actions(button('Fine', close, 'fine ' + this.number), button('Look at it', look, 'look ' + this.number)));
     return true;

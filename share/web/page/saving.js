@@ -8,8 +8,8 @@ export function saveButton(words, line, name, key) {
   return button(words, () => attempt(async () => save((await askOne(line)).text, name)), key);
 }
 function save(text, name) {
-  const link =
-    make('a', {href: URL.createObjectURL(new Blob([text], {type: 'text/plain;charset=utf-8'})), download: name});
+  const href = URL.createObjectURL(new Blob([text], {type: 'text/plain;charset=utf-8'}));
+  const link = make('a', {href, download: name});
   link.click();
-  setTimeout(() => URL.revokeObjectURL(link.href), 1000);
+  setTimeout(() => URL.revokeObjectURL(href), 1000);
 }

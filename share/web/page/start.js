@@ -1,10 +1,11 @@
-// The page: who works here, which view is shown, and what is new.
+// The page: which view is shown, what is new, and whether the connection stands.
 import {afterChanges, tellPending} from './changes.js';
 import {closeDetails, detailsOpen, openDetails, updateDetails} from './details.js';
-import {attempt, banner, faultBox, message, openDialog} from './dialogs.js';
-import {actions, button, fill, make, plural, showLine} from './elements.js';
+import {attempt, banner, faultBox, message} from './dialogs.js';
+import {button, fill, make, plural} from './elements.js';
+import {showLine} from './lines.js';
 import {link} from './link.js';
-import {learn, me, workspace} from './workspace.js';
+import './theme.js';
 import * as ask from './views/ask.js';
 import * as inbox from './views/inbox.js';
 import * as log from './views/log.js';
@@ -12,237 +13,166 @@ import * as mappings from './views/mappings.js';
 import * as tables from './views/tables.js';
 import * as violations from './views/violations.js';
 import * as whole from './views/workspace.js';
+import {saidName, showWho} from './who.js';
+import {learn, me, workspace} from './workspace.js';
 
-const VIEWS = {
-  tables,
-  inbox,
-  ask,
-  mappings,
-  violations,
-  log,
-  workspace: whole
-};
-const POLL = 2000, HIDDEN_POLLS = 15,
-      THOROUGH = 10;         // milliseconds; polls that a hidden page leaves out; between two looks at the status
-const SLOW = 3, STUCK = 30;  // seconds without a reply
+const VIEWS = {tables, inbox, ask, mappings, violations, log, workspace: whole};
+const POLL = 2000;     // milliseconds between two looks at the log
+const HIDDEN = 15;     // of so many looks, a page that is not seen makes one
+const THOROUGH = 10;   // of so many looks, one asks for the status in any case
+const SLOW = 3;        // seconds after which yt is said to be at work
+const STUCK = 30;      // seconds after which the page offers to connect anew
 
 const at = id => document.getElementById(id);
-const main = at('main');
 let view = null;  // the view that is shown: {node, update(news)}
 
 // ---- views ----
 
-const route = () => {
+function route() {
   const [name, argument] = location.hash.slice(1).split('/');
-  return VIEWS[name] ? [name, argument] : ['tables', name === 'tables' ? argument : undefined];
-};
+  return Object.hasOwn(VIEWS, name) ? [name, argument] : ['tables'];
+}
 
 function drawHeader() {
-  const status = workspace.status, [now] = route();
-  const counts = {
-    inbox: status?.waits.length,
-    violations: Object.values(status?.proposed ?? {}).reduce((a, b) => a + b, 0)
-  };
-  fill(
-    at('nav'),
-    Object.keys(VIEWS).map(
-      v => make(
-        'a', {href: '#' + v, 'data-key': 'view ' + v, 'aria-current': v === now ? 'page' : null},
-        v[0].toUpperCase() + v.slice(1), counts[v] ? [' ', make('span.count', null, counts[v])] : null)));
+  const {status} = workspace;
+  const waits = status?.waits.length ?? 0;
+  const violated = Object.values(status?.proposed ?? {}).reduce((a, b) => a + b, 0);
+  const counts = {inbox: waits, violations: violated};
+  fill(at('nav'), Object.keys(VIEWS).map(name => viewLink(name, counts[name])));
   at('file').textContent = status?.file ?? 'yt';
-  document.title = (status?.waits.length ? `(${status.waits.length}) ` : '') + `${status?.file ?? 'yt'} · ${now}`;
-  at('me').textContent = me() || localStorage.getItem('yt-name') || '';
+  document.title = `${waits ? `(${waits}) ` : ''}${status?.file ?? 'yt'} · ${route()[0]}`;
+  at('me').textContent = me() || saidName();
+}
+function viewLink(name, count) {
+  const current = name === route()[0] ? 'page' : null;
+  const words = [name[0].toUpperCase() + name.slice(1), count ? [' ', make('span.count', null, count)] : null];
+  return make('a', {href: '#' + name, 'data-key': 'view ' + name, 'aria-current': current}, words);
 }
 
 async function show() {
-  const [name, argument] = route(), mine = VIEWS[name].open(argument);
+  const [name, argument] = route();
+  const mine = VIEWS[name].open(argument);
   view = mine;
   drawHeader();
-  main.replaceChildren(mine.node);
+  at('main').replaceChildren(mine.node);
   scrollTo(0, 0);
   await attempt(() => mine.update());
 }
 
 // ---- what is new ----
 
-let busy = null, again = false;
-/** Learns what is new and shows it. Two calls at once are one and another after it. */
-async function refresh(thorough) {
-  if (busy) {
-    again = true;
-    return busy;
-  }
-  busy = (async () => {
-           do {
-             again = false;
-             await look(thorough);
-           } while (again);
-         })()
-           .finally(() => {
-             busy = null;
-           });
+let busy = null;
+let again = false;
+/** Learns what is new and shows it. A call while another one is at work is done after it. */
+function refresh(thorough) {
+  again = Boolean(busy);
+  busy ??= refreshAll(thorough).finally(() => { busy = null; });
   return busy;
 }
+async function refreshAll(thorough) {
+  do {
+    again = false;
+    await look(thorough);
+  } while (again);
+}
+
 async function look(thorough) {
   if (!link.up) return;
   const missing = workspace.missing;
-  let news;
   try {
-    news = await learn(thorough);
+    const news = await learn(thorough);
+    if (news) await showNews(news);
   } catch (error) {
     if (!error.reply?.missing) throw error;
     if (!view || !missing) await show();
-    return;
   }
-  if (!news) return;
+}
+
+async function showNews(news) {
   if (news.replaced) message('replaced', [make('b', null, 'The workspace was folded, or is another file now.')]);
-  tellOthers(news.records);
+  tellOthers(news.records.filter(r => r.curator !== me()));
   drawHeader();
   if (!view || news.first || news.replaced) await show();
   else await view.update(news);
   if (detailsOpen()) await updateDetails();
 }
+
 function tellOthers(records) {
-  const others = records.filter(r => r.curator !== me()), names = [...new Set(others.map(r => r.curator))].join(', ');
-  const lines = others.flatMap(r => r.lines), count = others.reduce((sum, r) => sum + r.count, 0);
-  if (count)
-    message('others', [
-      make('b', null, names + ': '), lines[0].number ? lines[0].number + ' ' : '', showLine(lines[0].line),
-      count > 1 ? `, and ${plural(count - 1, 'more line')}` : ''
-    ]);
+  if (!records.length) return;
+  const names = [...new Set(records.map(r => r.curator))].join(', ');
+  const [first] = records[0].lines;
+  const more = records.reduce((sum, r) => sum + r.count, -1);
+  const number = first.number ? first.number + ' ' : '';
+  const rest = more ? `, and ${plural(more, 'more line')}` : '';
+  message('others', [make('b', null, names + ': '), number, showLine(first.line), rest]);
 }
 
 let polls = 0;
 async function poll() {
   polls++;
-  try {
-    if (!document.hidden || polls % HIDDEN_POLLS === 0) {
+  if (!document.hidden || polls % HIDDEN === 0) {
+    try {
       await refresh(polls % THOROUGH === 0);
       if (link.up) banner();
+    } catch (error) {
+      tellTrouble(error);
     }
-  } catch (error) {
-    if (error.reply && !error.reply.lost) banner(faultBox(error.reply));
-    else if (!error.reply) console.error(error);
   }
   setTimeout(poll, POLL);
+}
+function tellTrouble(error) {
+  if (!error.reply) console.error(error);
+  else if (!error.reply.lost) banner(faultBox(error.reply));
 }
 
 // ---- the connection ----
 
 function drawState() {
-  const slow = link.up && link.waited > SLOW;
-  const words = !link.up ? 'not connected' : slow ? 'working …' : 'connected', state = at('state');
+  const state = at('state');
+  const words = !link.up ? 'not connected' : link.waited > SLOW ? 'working …' : 'connected';
   if (state.textContent !== words) state.textContent = words;
   state.className = link.up ? 'up' : 'down';
   document.body.classList.toggle('off', !link.up);
   if (link.up && link.waited > STUCK) {
-    banner(
-      make('b', null, `yt has not replied for ${Math.floor(link.waited)} seconds. `),
-      'It may be busy with something large. ', button('Connect anew', () => link.reopen(), 'anew'));
+    const words = make('b', null, `yt has not replied for ${Math.floor(link.waited)} seconds. `);
+    banner(words, 'It may be busy with something large. ', button('Connect anew', () => link.reopen(), 'anew'));
   }
 }
+
+function tellLost() {
+  banner(make('b', null, 'The connection is lost. '),
+    'What you see may be old, and nothing can be changed until it is back. It is tried again by itself. ',
+    button('Try now', () => link.reopen(), 'try-now'));
+}
+
+async function connected() {
+  banner();
+  await refresh(true);
+  showWho();
+  await tellPending();
+}
+
 link.onchange = () => {
   drawState();
-  if (link.up) {
-    banner();
-    attempt(async () => {
-      await refresh(true);
-      askWho();
-      await tellPending();
-    });
-  } else {
-    banner(
-      make('b', null, 'The connection is lost. '),
-      'What you see may be old, and nothing can be changed until it is back. It is tried again by itself. ',
-      button('Try now', () => link.reopen(), 'try-now'));
-  }
+  if (link.up) attempt(connected);
+  else tellLost();
 };
 link.onfault = object => {
   if (object.reply === 'fault') banner(faultBox(object));
 };
-setInterval(drawState, 1000);
 
-// ---- who ----
+// ---- what is pressed ----
 
-const NAMELESS = 'someone';  // the name that yt writes if nobody said one
-
-/** Asks for a name if none is known. If a login gave one, that one counts, and cannot be changed here. */
-function askWho() {
-  const said = localStorage.getItem('yt-name'), login = Boolean(me()) && me() !== (said ?? NAMELESS);
-  at('me').disabled = login;
-  at('me').title = login ? 'The name of your login' : 'Change the name under which you work';
-  if (!said && !login) whoDialog();
-}
-function whoDialog() {
-  const said = localStorage.getItem('yt-name');
-  const field = make('input', {
-    id: 'name',
-    type: 'text',
-    value: said ?? '',
-    required: true,
-    autocomplete: 'username',
-    pattern: '[A-Za-z][A-Za-z0-9_]*',
-    maxlength: 40,
-    'aria-describedby': 'name-help'
-  });
-  const submit = event => {
-    event.preventDefault();
-    localStorage.setItem('yt-name', field.value);
-    at('dialog').close();
-    link.open(field.value);
-  };
-  openDialog(
-    'Who are you?',
-    [make(
-      'form', {onsubmit: submit},
-      make(
-        'p', null,
-        make(
-          'label',
-          {for: 'name'
-          },
-          'Your name')),
-      field,
-      make(
-        'p.soft', {id: 'name-help'},
-        'Letters, digits and _. It is written beside each change that you make, and kept in this browser. It is a label and proves nothing.'),
-      actions(make('button.main', null, 'Work under this name')))],
-    {
-      focus: field,
-      closed: () => {
-        if (!localStorage.getItem('yt-name')) whoDialog();
-      }
-    });
-}
-
-// ---- light and dark ----
-
-const THEMES = {
-  auto: 'dark',
-  dark: 'light',
-  light: 'auto'
-};
-function setTheme(theme) {
-  localStorage.setItem('yt-theme', theme);
-  if (theme === 'auto') delete document.documentElement.dataset.theme;
-  else document.documentElement.dataset.theme = theme;
-  fill(at('theme'), make('span', {'aria-hidden': 'true'}, {auto: '◐ ', dark: '● ', light: '○ '}[theme]), theme);
-  at('theme').title = `Light or dark: ${theme}`;
-}
-
-// ---- start ----
-
-/** The key of the element that opens something, so that the focus goes back to it. */
-const keyOf = element => element.dataset.key ?? 'open ' + element.dataset.row;
-document.addEventListener('click', event => {
+/** Opens the details of what was pressed: an unknown, a row or an update. The focus goes back to it afterwards. */
+function openPressed(event) {
   const from = event.target.closest('[data-unknown], [data-row], [data-update]');
-  if (
-    !from || from.closest('#dialog') ||
-    from.tagName === 'TR' && (getSelection().toString() || event.target.closest('button')))
-    return;
-  const {unknown, row, update} = from.dataset;
-  attempt(() => openDetails({...(unknown ? {unknown} : update ? {update} : {row}), from: keyOf(from)}));
-});
+  if (!from || from.closest('#dialog')) return;
+  if (from.tagName === 'TR' && (getSelection().toString() || event.target.closest('button'))) return;
+  const {unknown, row, update, key} = from.dataset;
+  const what = unknown ? {unknown} : update ? {update} : {row};
+  attempt(() => openDetails({...what, from: key ?? 'open ' + row}));
+}
+document.addEventListener('click', openPressed);
 document.addEventListener('keydown', event => {
   if (event.key === 'Escape' && detailsOpen() && !at('dialog').open) closeDetails();
 });
@@ -253,13 +183,12 @@ addEventListener('hashchange', () => {
 addEventListener('online', () => {
   if (!link.up) link.reopen();
 });
-for (const type of ['dragover', 'drop']) addEventListener(type, event => event.preventDefault());
 document.addEventListener('visibilitychange', () => {
-  if (!document.hidden) refresh().catch(() => {});
+  if (!document.hidden) refresh().catch(tellTrouble);
 });
-at('me').onclick = whoDialog;
-at('theme').onclick = () => setTheme(THEMES[localStorage.getItem('yt-theme') ?? 'auto']);
-setTheme(localStorage.getItem('yt-theme') ?? 'auto');
+for (const type of ['dragover', 'drop']) addEventListener(type, event => event.preventDefault());
+
 afterChanges(refresh);
-link.open(localStorage.getItem('yt-name') ?? '');
+setInterval(drawState, 1000);
+link.open(saidName());
 setTimeout(poll, POLL);

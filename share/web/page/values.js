@@ -1,19 +1,16 @@
-// Values, rows and mappings in the text of yt. Text is read by tokens, so that nothing inside quotes can pass for syntax,
-// and written so that yt reads the same back. Nothing here touches the page.
+// Values, rows and mappings in the text of yt. Text is read by tokens, so that nothing inside quotes can pass for
+// syntax, and written so that yt reads the same back. Nothing here touches the page.
 //
 // A value is a number (a BigInt beyond 2^53), a text, {unknown: '?8.1'}, or {fresh: 'x'} for a new unknown.
 
 const CONTROL = /[\u0000-\u001f\u007f-\u009f\u061c\u200e\u200f\u2028-\u202e\u2066-\u2069]/u;
-const ESCAPES = {
-  '"': '\\"',
-  '\\': '\\\\',
-  '\n': '\\n'
-};
+const ESCAPES = {'"': '\\"', '\\': '\\\\', '\n': '\\n'};
 const TOKEN = /\s*(?:("(?:[^"\\]|\\.)*")|(\?[0-9]+\.[0-9]+)|(\?\w*)|(-?[0-9]+)|([A-Za-z_]\w*)|(->|.))/suy;
-export const LONGEST = 256;  // bytes of a text
+const LONGEST = 256;  // bytes of a text
+const TOO_LONG = `too long: a text has ${LONGEST} bytes at most`;
 
 export const isUnknown = value => typeof value === 'object' && Boolean(value.unknown);
-export const bytesOf = text => new TextEncoder().encode(text).length;
+const bytesOf = text => new TextEncoder().encode(text).length;
 
 /** Whether yt would take this text of a cell for a number. */
 export function looksLikeNumber(text) {
@@ -41,11 +38,8 @@ export const rowText = (table, values) => `${table}(${values.map(valueText).join
 // ---- reading ----
 
 function unescaped(text) {
-  return text.replace(
-    /\\(?:u\{([0-9a-f]+)\}|(.))/giu,
-    (_, hex, c) => hex ? String.fromCodePoint(parseInt(hex, 16)) :
-      c === 'n'        ? '\n' :
-                         c);
+  return text.replace(/\\(?:u\{([0-9a-f]+)\}|(.))/giu, (_, hex, c) =>
+    hex ? String.fromCodePoint(parseInt(hex, 16)) : c === 'n' ? '\n' : c);
 }
 const numberOf = digits => Number.isSafeInteger(Number(digits)) ? Number(digits) : BigInt(digits);
 
@@ -69,8 +63,7 @@ export function readAtoms(list) {
   let i = 0;
   while (list[i]?.name && list[i + 1]?.sign === '(') {
     const atom = {table: list[i].name, terms: []};
-    for (i += 2; list[i] && list[i].sign !== ')'; i++)
-      if (list[i].sign !== ',') atom.terms.push(list[i]);
+    for (i += 2; list[i] && list[i].sign !== ')'; i++) if (list[i].sign !== ',') atom.terms.push(list[i]);
     atoms.push(atom);
     i++;
     if (list[i]?.sign !== ',') break;
@@ -113,8 +106,7 @@ export function fieldText(value) {
 /** What the page says about a typed value, below its field. */
 export function kindOf(value) {
   if (typeof value === 'bigint' || typeof value === 'number') return 'a number';
-  if (typeof value === 'string')
-    return bytesOf(value) > LONGEST ? `too long: a text has ${LONGEST} bytes at most` : 'a text';
+  if (typeof value === 'string') return bytesOf(value) > LONGEST ? TOO_LONG : 'a text';
   if (value.unknown) return 'an unknown that is there';
   return value.fresh ? `a new unknown, the same in every field with ?${value.fresh}` : 'not known yet';
 }
@@ -134,8 +126,7 @@ export function ranges(numbers) {
   const runs = [];
   for (const n of [...new Set(numbers)].sort((a, b) => a - b)) {
     const last = runs.at(-1);
-    if (last && last[1] === n - 1) last[1] = n;
-    else runs.push([n, n]);
+    if (last && last[1] === n - 1) last[1] = n; else runs.push([n, n]);
   }
   return runs.map(([a, b]) => a === b ? `${a}` : `${a}..${b}`).join(', ');
 }

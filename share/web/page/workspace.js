@@ -1,16 +1,16 @@
-// What the page knows about the workspace, and how it learns what is new: it asks for the records of the log after the last
-// one that it has seen, and for the status if there are any.
+// What the page knows about the workspace, and how it learns what is new: it asks for the records of the log after the
+// last one that it has seen, and for the status if there are any.
 import {Fault, askOne, link} from './link.js';
 
-const MANY = 100;  // records asked for at once
+const MANY = 100;      // records asked for at once
 
 export const workspace = {
-  at: -1,          // the last record that was seen; -1 before the first status
-  status: null,    // the last reply to `status`
-  missing: false,  // whether there is no file yet
-  records: [],     // the last records that came while the page was open, oldest first
-  get tables() { return this.status?.relations ?? [];},
-  table(name) { return this.tables.find(t => t.name === name);},
+  at: -1,            // the last record that was seen; -1 before the first status
+  status: null,      // the last reply to `status`
+  missing: false,    // whether there is no file yet
+  records: [],       // the last records that came while the page was open, oldest first
+  get tables() { return this.status?.relations ?? []; },
+  table(name) { return this.tables.find(t => t.name === name); },
 };
 export const columnsOf = name => workspace.table(name)?.columns ?? [];
 /** The curator whose name yt writes for this page. */
@@ -26,16 +26,18 @@ async function newRecords() {
   return found;
 }
 
-function forget() { Object.assign(workspace, {at: -1, status: null, records: []}); }
+function forget() {
+  Object.assign(workspace, {at: -1, status: null, records: []});
+}
 
 /**
- * Brings this up to date. Resolves to undefined if nothing is new, else to the new `records`, and to whether everything may be
- * another than before: `first` at the first time, `replaced` after a fold and if there is another file, `renamed` if yt writes
- * another curator's name now. `thorough`: the status is asked for also if there is no new record.
+ * Brings this up to date. Resolves to undefined if nothing is new, else to the new `records` and to what else is new:
+ * `first` at the first time, `replaced` after a fold or if there is another file, `renamed` if yt writes another name.
+ * `thorough`: the status is asked for also if there is no new record.
  */
 export async function learn(thorough) {
   const before = workspace.status;
-  let records = [], unread = workspace.at < 0;  // whether the records since are not to be had
+  let records = [], unread = workspace.at < 0;      // whether the records since are not to be had
   if (!unread) {
     try {
       records = await newRecords();

@@ -24,22 +24,18 @@ async function draw(place, wanted, redraw) {
     if (!cards.has(n)) cards.set(n, new QuestionCard(n, () => cards.delete(n), redraw));
     await cards.get(n).update();
   }
-  for (const [n, card] of cards)
-    if (!numbers.includes(n) && !card.gone()) cards.delete(n);
+  for (const [n, card] of cards) if (!numbers.includes(n) && !card.gone()) cards.delete(n);
   const gone = [...cards].filter(([n]) => !numbers.includes(n)).map(([, card]) => card.node);
   const more = () => {
     most += CARDS;
     attempt(redraw);
   };
-  fill(
-    place, headline(numbers.length, gone.length), gone, shown.map(n => cards.get(n)?.node),
+  fill(place, headline(numbers.length, gone.length), gone, shown.map(n => cards.get(n)?.node),
     order.length > most ? button(`Show more: ${order.length - most} not shown`, more, 'more-cards', 'link') : null);
 }
 
 function headline(waiting, gone) {
-  const words = waiting ?
-    `${plural(waiting, 'change waits', 'changes wait')} for an answer. Nothing of a change is done before.` :
-    gone ? '' :
-           'No questions: nothing waits for an answer.';
-  return make('p.soft', null, words);
+  const some = `${plural(waiting, 'change waits', 'changes wait')} for an answer. Nothing of a change is done before.`;
+  const none = gone ? '' : 'No questions: nothing waits for an answer.';
+  return make('p.soft', null, waiting ? some : none);
 }

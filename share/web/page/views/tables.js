@@ -54,9 +54,9 @@ function compare(a, b) {
 }
 
 class TableView {
-  #turn = 0;    // of the last drawing that was begun
-  #all;         // all rows that are meant, if the page sorts them: {options, reply}
-  #drawn = '';  // how the table was looked at when it was drawn last, and the rows that it had then
+  #turn = 0;     // of the last drawing that was begun
+  #all;          // all rows that are meant, if the page sorts them: {options, reply}
+  #drawn = '';   // how the table was looked at when it was drawn last, and the rows that it had then
   #texts = [];
   #timer;
 
@@ -69,23 +69,16 @@ class TableView {
     this.pages = make('div.pages');
     this.rows = make('div');
     this.filter = make('input', {
-      type: 'search',
-      'data-key': 'filter',
-      value: this.look.like,
-      maxlength: 80,
-      placeholder: 'Filter',
-      'aria-label': `Filter ${name}`,
-      oninput: () => this.#filterLater(),
+      type: 'search', 'data-key': 'filter', value: this.look.like, maxlength: 80, placeholder: 'Filter',
+      'aria-label': `Filter ${name}`, oninput: () => this.#filterLater(),
     });
     const unknowns = make('input', {
-      type: 'checkbox',
-      checked: this.look.unknowns,
+      type: 'checkbox', checked: this.look.unknowns,
       onchange: event => this.#lookAt({unknowns: event.target.checked, page: 0}),
     });
     const only = make('label.check', null, unknowns, 'only rows with unknowns');
-    this.node = make(
-      'section.drop', {'aria-label': name}, this.bar, make('div.bar', null, this.filter, only, space(), this.pages),
-      this.rows);
+    const look = make('div.bar', null, this.filter, only, space(), this.pages);
+    this.node = make('section.drop', {'aria-label': name}, this.bar, look, this.rows);
     this.#takeDrops();
   }
 
@@ -95,7 +88,9 @@ class TableView {
     await this.#draw();
   }
 
-  #load(file) { attempt(() => loadFile(file, workspace.table(this.name))); }
+  #load(file) {
+    attempt(() => loadFile(file, workspace.table(this.name)));
+  }
   #takeDrops() {
     const over = is => event => {
       event.preventDefault();
@@ -160,8 +155,7 @@ class TableView {
 
   #drawBar() {
     const table = workspace.table(this.name);
-    fill(
-      this.bar, make('h2', null, this.name), soft(plural(table.count, 'row')), space(),
+    fill(this.bar, make('h2', null, this.name), soft(plural(table.count, 'row')), space(),
       button('Add a row', () => attempt(() => addRow(table)), 'add', 'main'),
       button('Load a file …', () => this.file.click(), 'load'), this.file,
       saveButton('Export', `export ${this.name}`, `${this.name}.csv`, 'export'),
@@ -171,19 +165,17 @@ class TableView {
   #table(found, texts, before) {
     const {columns, key} = workspace.table(this.name);
     const head = columns.map((c, i) => this.#heading(c, i, key.includes(i + 1), found.count));
-    const row = (values, i) => make(
-      'tr', {'data-row': texts[i], class: before && !before.has(texts[i]) ? 'fresh' : null},
+    const fresh = text => before && !before.has(text) ? 'fresh' : null;
+    const row = (values, i) => make('tr', {'data-row': texts[i], class: fresh(texts[i])},
       values.map(v => make('td', null, showValue(v))), make('td.end', null, openButton(texts[i])));
-    const table = make(
-      'table.rows', null, make('caption.away', null, this.name),
+    const table = make('table.rows', null, make('caption.away', null, this.name),
       make('thead', null, make('tr', null, head, make('th', {scope: 'col'}, make('span.away', null, 'Open')))),
       make('tbody', {onkeydown: arrows}, found.rows.map(row)));
     return [make('div.wide', null, table), found.rows.length ? null : this.#empty()];
   }
   #empty() {
     const filtered = this.look.like || this.look.unknowns;
-    return make(
-      'p.soft.empty', null,
+    return make('p.soft.empty', null,
       filtered ? 'No row has that.' : 'No rows yet. Add one, or drop a file of comma-separated values here.');
   }
   #heading(column, i, isKey, count) {
@@ -191,8 +183,8 @@ class TableView {
     const order = sort !== i ? 'none' : down ? 'descending' : 'ascending';
     const arrow = {none: '', descending: ' ▼', ascending: ' ▲'}[order];
     const words = [column, isKey ? keyMark() : null, arrow];
-    return make(
-      'th', {scope: 'col', 'aria-sort': order}, button(words, () => this.#sortBy(i, count), 'sort ' + i, 'sort'));
+    const sortButton = button(words, () => this.#sortBy(i, count), 'sort ' + i, 'sort');
+    return make('th', {scope: 'col', 'aria-sort': order}, sortButton);
   }
 
   #sortBy(column, count) {
@@ -205,16 +197,12 @@ class TableView {
   #pager(shown, count) {
     const {page} = this.look;
     const last = Math.ceil(count / PAGE) - 1;
-    const first = (page * PAGE + 1).toLocaleString('en');
-    const words =
-      shown ? `${first} to ${(page * PAGE + shown).toLocaleString('en')} of ${count.toLocaleString('en')}` : 'none';
-    const step = (sign, title, to) => button(
-      sign, () => this.#lookAt({page: to}), 'page ' + title, '',
-      {'aria-label': title, title, disabled: to === page || to < 0 || to > last});
-    const steps = [
-      step('«', 'First rows', 0), step('‹', 'Rows before', page - 1), step('›', 'Next rows', page + 1),
-      step('»', 'Last rows', last)
-    ];
+    const [from, to, all] = [page * PAGE + 1, page * PAGE + shown, count].map(n => n.toLocaleString('en'));
+    const words = shown ? `${from} to ${to} of ${all}` : 'none';
+    const step = (sign, title, goal) => button(sign, () => this.#lookAt({page: goal}), 'page ' + title, '',
+      {'aria-label': title, title, disabled: goal === page || goal < 0 || goal > last});
+    const steps = [step('«', 'First rows', 0), step('‹', 'Rows before', page - 1)];
+    steps.push(step('›', 'Next rows', page + 1), step('»', 'Last rows', last));
     return [make('span', {role: 'status'}, words), last > 0 ? steps : null];
   }
 }
@@ -224,8 +212,7 @@ const space = () => make('span.space');
 function tooManyToSort(count) {
   const most = SORTABLE.toLocaleString('en');
   openDialog('Too many rows to sort', [
-    make(
-      'p', null, `The page sorts ${most} rows at most, and there are ${count.toLocaleString('en')}. `,
+    make('p', null, `The page sorts ${most} rows at most, and there are ${count.toLocaleString('en')}. `,
       'They stand in the order of their first column. Filter them first.'),
     actions(cancelButton('Close')),
   ]);
@@ -234,9 +221,8 @@ function tooManyToSort(count) {
 function waitingRows(numbers) {
   if (!numbers.length) return null;
   const links = numbers.slice(0, 20).map(n => make('a', {href: '#inbox/' + n}, n));
-  const words =
-    numbers.length === 1 ? 'A change of this table waits for an answer: ' : 'Changes of this table wait for answers: ';
-  return make('p.asks', null, words, listed(links), numbers.length > 20 ? ` and ${numbers.length - 20} more` : '');
+  const words = numbers.length === 1 ? 'A change of this table waits for an answer' : 'Changes of this table wait for answers';
+  return make('p.asks', null, words, ': ', listed(links), numbers.length > 20 ? ` and ${numbers.length - 20} more` : '');
 }
 
 // The arrow keys go from row to row.
