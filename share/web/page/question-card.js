@@ -40,7 +40,7 @@ export class QuestionCard {
     this.number = number;
     this.forget = forget;
     this.redraw = redraw;
-    this.node = make('article.card');
+    this.node = make('article.card', {id: 'question-' + number});
   }
 
   get #chosen() { return this.#none || this.#picked.size > 0; }

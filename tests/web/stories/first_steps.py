@@ -114,4 +114,45 @@ def a_fold_is_confirmed_and_told(stage):
     stage.picture(ann, "workspace")
 
 
-STORIES = [a_stranger_makes_a_workspace, a_curator_declares_a_mapping_and_asks, violations_are_repaired_with_a_preview, a_fold_is_confirmed_and_told]
+def a_curator_who_has_never_seen_a_shell(stage):
+    """By what stands on the page alone: three answers, a value filled in, a row corrected, a mistake undone."""
+    served = stage.serve()
+    for title, room in (("Girl with a Pearl Earring", 15), ("The Goldfinch", 14), ("The Bull", 12)):
+        served.says('insert Hangs("%s", "Room %d")' % (title, room))
+    ann = stage.page(served, None)
+    ann.type("#name", "ann")
+    ann.click("button", "Work under this name")
+    ann.click("a", "Inbox")
+    for number, choice in ((6, "Vermeer"), (7, "none of them"), (8, "none of them")):
+        ann.click("#question-%d label" % number, choice)
+        ann.click("#question-%d button" % number, "Answer")
+        ann.sees(".message", "Done: answer %d" % number)
+    ann.sees("#main", "No questions")
+
+    ann.click("a", "Tables")
+    ann.click("a", "Painter")
+    ann.click("button", "?7.1")
+    ann.click("#fill-in")
+    ann.press("Fabritius")
+    ann.click("button", "Fill in")
+    ann.click("#dialog button", "Fill in")
+    ann.sees(".rows", "Fabritius")
+
+    ann.click("td", "Vermeer")
+    ann.click("button", "Change")
+    ann.type("#field1", "Netherlands")
+    ann.click("#dialog button", "Change")
+    ann.sees(".rows", "Vermeer Netherlands")
+
+    ann.click("#details button", "Delete")
+    ann.click("#dialog button", "Delete")
+    ann.until("Vermeer is gone", "!document.querySelector('.rows').innerText.includes('Vermeer')")
+    ann.click(".message button", "Undo")
+    ann.click("#dialog button", "Undo")
+    ann.sees(".rows", "Vermeer Netherlands")
+    painters = served.says("show Painter")
+    assert "Fabritius" in painters and "Netherlands" in painters and "?8.1" in painters, painters
+    assert served.says("show Hangs").startswith("Hangs: 4 rows")
+
+
+STORIES = [a_curator_who_has_never_seen_a_shell, a_stranger_makes_a_workspace, a_curator_declares_a_mapping_and_asks, violations_are_repaired_with_a_preview, a_fold_is_confirmed_and_told]
