@@ -8,7 +8,7 @@ check 'the page makes no HTML and no code of text' \
 check 'the page takes nothing from elsewhere' "$(grep -rnE 'https?:|//[a-z0-9-]+\.[a-z]' $page | grep -v 'www.w3.org/2000/svg')"
 check 'the page has no script, style or handler in its HTML' "$(grep -nE '<script[^>]*>[^<]|<style|style=| on[a-z]+=' $page/index.html)"
 
-told=$(tests/web/run --keep 2>&1) && failures= || failures=$told
+told=$(PATIENCE=${PATIENCE:-180} tests/web/run --keep 2>&1) && failures= || failures=$told
 case $told in
   skipped:*) echo "the stories of the page in a browser are $told" ;;
   *) check 'each story of the page goes well in a browser, and its console is quiet' "$failures" ;;
