@@ -1,0 +1,158 @@
+"""From an empty folder: a name, the first tables, the first rows, a mapping, a question to the tables, a fold."""
+
+
+def a_stranger_makes_a_workspace(stage):
+    served = stage.serve(script=None)
+    ann = stage.page(served, None)
+    ann.find("#name")
+    ann.press("Escape")
+    ann.type("#name", "ann")
+    ann.press("Enter")
+    ann.sees("h2", "There are no tables yet")
+    ann.click("[data-key=first-table]")
+    ann.type("#new-name", "Painting")
+    ann.type("#new-column0", "title")
+    ann.click("label[for=new-key0]")
+    ann.type("#new-column1", "painter")
+    ann.click("#dialog button.main")
+    ann.sees("#main h2", "Painting")
+    ann.sees("#me", "ann")
+    ann.sees("th", "key")
+    assert "relation Painting(title*, painter)" in served.says("log"), served.says("log")
+
+    ann.click("[data-key=add]")
+    ann.type("#field0", "The Milkmaid")
+    ann.sees(".kind", "a text")
+    ann.press("Enter")
+    ann.sees(".rows .chip", "?1.1")          # the painter was left empty
+    ann.sees(".message", "Done: add Painting The Milkmaid")
+    ann.click(".message button", "Undo")
+    ann.sees("#dialog", "1 row goes")
+    ann.click("#dialog button.main")
+    ann.sees("#main", "No rows yet")
+
+    ann.click("[data-key=new-table]")
+    ann.type("#new-name", "painting")
+    ann.type("#new-column0", "x")
+    ann.click("#dialog button.main")
+    ann.sees("#dialog .fault", "names differ by more than capitals")
+    ann.press("Escape")
+
+
+def a_curator_declares_a_mapping_and_asks(stage):
+    served = stage.serve()
+    ann = stage.page(served, "ann", "mappings")
+    ann.sees("svg", "hung")
+    ann.click("[data-key=new-mapping]")
+    ann.type("#mapping-name", "lent")
+    ann.choose("#dialog .pattern select", "Loan")
+    ann.sees("#dialog code", "lent: Loan(title, museum) -> Painter(name, country)")
+    ann.click("#dialog button.main")
+    ann.sees("#dialog .note", "shares no variable with the left side")
+    ann.press("Escape")
+    ann.click("[data-key=new-mapping]")
+    ann.type("#mapping-name", "lent")
+    ann.choose("#dialog .pattern select", "Loan")
+    ann.choose("#dialog .patterns + .patterns select", "Painting")
+    ann.click("#dialog button.main")
+    ann.sees("#dialog", "comes into force")
+    ann.click("#dialog button.main")
+    ann.sees(".card h3", "lent in force")
+    assert "lent: Loan(title, museum) -> Painting(title, painter)" in served.says("status")
+    ann.click("[data-key='drop lent']")
+    ann.sees("#dialog", "what it made stays")
+    ann.click("#dialog button.main")
+    ann.until("the mapping is gone", "![...document.querySelectorAll('.card h3')].some(e => e.innerText.includes('lent'))")
+
+    ann.go("ask")
+    ann.choose(".pattern select", "Painting")
+    ann.click("[data-key=ask-add]")
+    ann.choose(".pattern + .pattern select", "Hangs")
+    ann.click("[data-key='show painter']")
+    ann.sees("code", "ask q(title, room): Painting(title, painter), Hangs(title, room)")
+    ann.click("[data-key=ask]")
+    ann.sees(".result", "1 answer")
+    ann.sees(".rows", "The Milkmaid Room 15")
+    served.says('insert Hangs("The Night Watch", ?)')
+    ann.sees("#main", "1 more row has unknowns in it")
+    ann.click("#uncertain")
+    ann.sees(".result", "2 answers")
+    stage.picture(ann, "ask")
+
+
+def violations_are_repaired_with_a_preview(stage):
+    served = stage.serve()
+    ann = stage.page(served, "ann", "violations")
+    ann.sees(".card", "lacks Hangs The Night Watch")
+    stage.picture(ann, "violations")
+    ann.click(".card button", "Repair all")
+    ann.sees("#dialog", "shown is in force from")
+    ann.click("#dialog button.main")
+    ann.sees("#main", "None: every mapping holds")
+    served.says('insert Painter("Vermeer", "Netherlands")')
+    ann.sees(".card", "One key, several rows")
+    ann.sees(".card", "Vermeer · Netherlands")
+
+
+def a_fold_is_confirmed_and_told(stage):
+    served = stage.serve()
+    ann, bob = stage.page(served, "ann", "workspace"), stage.page(served, "bob", "log")
+    bob.sees(".log", "add Hangs The Milkmaid · Room 15")
+    ann.sees("#main", "Changes that can be undone")
+    ann.click("[data-key=fold]")
+    ann.sees("#dialog", "none of them can be undone after the fold")
+    ann.click("[data-key=fold-now]")
+    ann.until("nothing can be undone any more", "[...document.querySelectorAll('dt')].find(e => e.innerText === 'Changes that can be undone').nextSibling.innerText === '0'")
+    bob.sees(".message", "The workspace was folded")
+    bob.sees("#main", "was folded and cannot be undone")
+    bob.go("tables/Painter")
+    bob.sees(".rows", "Vermeer NL")
+    served.says('insert Painter("Hals", "NL")')
+    bob.sees(".rows", "Hals NL")
+    bob.go("log")
+    bob.sees(".log", "add Painter Hals · NL")
+    stage.picture(ann, "workspace")
+
+
+def a_curator_who_has_never_seen_a_shell(stage):
+    """By what stands on the page alone: three answers, a value filled in, a row corrected, a mistake undone."""
+    served = stage.serve()
+    for title, room in (("Girl with a Pearl Earring", 15), ("The Goldfinch", 14), ("The Bull", 12)):
+        served.says('insert Hangs("%s", "Room %d")' % (title, room))
+    ann = stage.page(served, None)
+    ann.type("#name", "ann")
+    ann.click("button", "Work under this name")
+    ann.click("a", "Inbox")
+    for number, choice in ((6, "Vermeer"), (7, "none of them"), (8, "none of them")):
+        ann.click("#question-%d label" % number, choice)
+        ann.click("#question-%d button" % number, "Answer")
+        ann.sees(".message", "Done: answer %d" % number)
+    ann.sees("#main", "No questions")
+
+    ann.click("a", "Tables")
+    ann.click("a", "Painter")
+    ann.click("button", "?7.1")
+    ann.click("#fill-in")
+    ann.press("Fabritius")
+    ann.click("button", "Fill in")
+    ann.click("#dialog button", "Fill in")
+    ann.sees(".rows", "Fabritius")
+
+    ann.click("td", "Vermeer")
+    ann.click("button", "Change")
+    ann.type("#field1", "Netherlands")
+    ann.click("#dialog button", "Change")
+    ann.sees(".rows", "Vermeer Netherlands")
+
+    ann.click("#details button", "Delete")
+    ann.click("#dialog button", "Delete")
+    ann.until("Vermeer is gone", "!document.querySelector('.rows').innerText.includes('Vermeer')")
+    ann.click(".message button", "Undo")
+    ann.click("#dialog button", "Undo")
+    ann.sees(".rows", "Vermeer Netherlands")
+    painters = served.says("show Painter")
+    assert "Fabritius" in painters and "Netherlands" in painters and "?8.1" in painters, painters
+    assert served.says("show Hangs").startswith("Hangs: 4 rows")
+
+
+STORIES = [a_curator_who_has_never_seen_a_shell, a_stranger_makes_a_workspace, a_curator_declares_a_mapping_and_asks, violations_are_repaired_with_a_preview, a_fold_is_confirmed_and_told]
