@@ -8,7 +8,6 @@ use crate::file_disk::FileDisk;
 use std::alloc::Global;
 use std::fs::{self, File, OpenOptions, TryLockError};
 use std::io::{self, ErrorKind, Read, Seek, SeekFrom};
-use std::os::fd::AsRawFd;
 use std::os::unix::fs::MetadataExt;
 use std::thread;
 use std::time::{Duration, Instant};
@@ -143,7 +142,7 @@ impl Locked {
     {
         let Locked { mut file, access } = self;
         make_last(&file, access).map_err(OpenFault::Unreadable)?;
-        let bytes = read_fresh(alloc, &mut file, place).map_err(OpenFault::Unreadable)?;
+        let bytes = read_on(alloc, &mut file, place).map_err(OpenFault::Unreadable)?;
         Ok(FileDisk::of(alloc, file, place, bytes)?)
     }
 }
@@ -163,10 +162,8 @@ fn is_only_read(kind: ErrorKind) -> bool {
     )
 }
 
-// Drops the system's copies of the file, which a sync that failed in an earlier process may have left other than the file is,
-// and reads from the place on.
-fn read_fresh(alloc: Global, file: &mut File, place: u64) -> io::Result<Vec<u8>> {
-    let _advice = libc::posix_fadvise(file.as_raw_fd(), 0, 0, libc::POSIX_FADV_DONTNEED);
+// Reads from the place on.
+fn read_on(alloc: Global, file: &mut File, place: u64) -> io::Result<Vec<u8>> {
     file.seek(SeekFrom::Start(place))?;
     let mut bytes = Vec::new(alloc);
     file.read_to_end(&mut bytes)?;
