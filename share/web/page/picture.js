@@ -76,10 +76,11 @@ function rank(nodes, edges) {
 
 /** Places the nodes in columns, by rank; answers how wide and high that is. */
 function place(nodes) {
-  const columns = Map.groupBy(nodes.toSorted((a, b) => a.rank - b.rank), n => n.rank);
+  const ranks = [...new Set(nodes.map(n => n.rank))].sort((a, b) => a - b);
+  const columns = ranks.map(r => nodes.filter(n => n.rank === r));
   let x = BETWEEN / 2;
   let high = 0;
-  for (const column of columns.values()) {
+  for (const column of columns) {
     column.forEach((n, i) => Object.assign(n, {x, y: 10 + GAP * i, width: 24 + LETTER * n.name.length}));
     high = Math.max(high, 10 + GAP * column.length);
     x += Math.max(...column.map(n => n.width)) + BETWEEN;

@@ -81,10 +81,12 @@ async function look(thorough) {
   const missing = workspace.missing;
   try {
     const news = await learn(thorough);
+    if (news?.first || news?.renamed) showWho();
     if (news) await showNews(news);
   } catch (error) {
     if (!error.reply?.missing) throw error;
     if (!view || !missing) await show();
+    showWho();
   }
 }
 
@@ -148,7 +150,6 @@ function tellLost() {
 async function connected() {
   banner();
   await refresh(true);
-  showWho();
   await tellPending();
 }
 
