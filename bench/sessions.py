@@ -1,5 +1,5 @@
 #!/usr/bin/env python3
-"""Prints a session to measure on: `sessions.py random|chain|groups|shop|join|contention`, each with options (`-h` lists them).
+"""Prints a session to measure on: `sessions.py random|chain|groups|shop|join|contention|orders`, each with options (`-h` lists them).
 
 random      insertions and deletions over four relations and three mappings, some with a question that is answered `expand`
 chain       one relation after the other, each copied into the next; every update inserts a number into the first
@@ -8,6 +8,7 @@ shop        customers, orders and products: joins of 4 to 6 atoms with a fan-out
             find nothing (`quiet`), or a quarter of them 1 to 3 violations (`mixed`), which may ask (`ask`)
 join        three mappings with joins of two atoms over a base that meets them, without unknowns
 contention  insertions at one end of a chain of relations, deletions at the other, so that updates conflict
+orders      a mapping whose atoms are written in a bad order, over a base that meets it; for `check`
 
 The sessions are the same at each run: numbers come from generators with a seed.
 """
@@ -299,14 +300,79 @@ def contention_session(length, values, updates, seed):
     yield 'end'
 
 
+# ---- orders ----
+
+# Mappings whose atoms are written in a bad order, by the order's name: relations with how many columns they have, the mapping, and
+# its tuples for a size. Few of the tuples join.
+
+def product_order(size):
+    yield 'A', [(x,) for x in range(size // 2)]
+    yield 'B', [(y,) for y in range(size // 2)]
+    yield 'C', [(n, n) for n in range(5)]
+    yield 'D', [(n, n) for n in range(5)]
+
+
+def star_order(size):
+    yield 'A', [(n, n % 10) for n in range(size // 2)]
+    yield 'B', [(n % 10, n) for n in range(size // 2)]
+    yield 'C', [(n, 10000 + n) for n in range(5)]
+    yield 'D', [(n, n) for n in range(size)]
+
+
+def triangle_order(size):
+    third = size // 3
+    yield 'A', [(n, 0) for n in range(third)]
+    yield 'B', [(0, n) for n in range(third)]
+    yield 'C', [(n, n + third) for n in range(third)]
+    yield 'D', []
+
+
+def chain_order(size):
+    fourth = size // 4
+    yield 'A', [(n, n % 50) for n in range(fourth)]
+    yield 'B', [(n % 50, n) for n in range(fourth)]
+    yield 'C', [(n, n + fourth) for n in range(fourth)]
+    yield 'E', [(fourth + 3, 1)]
+    yield 'D', [(n, 1) for n in range(fourth)]
+
+
+def right_order(size):
+    yield 'A', [(n,) for n in range(20)]
+    yield 'B', [(n,) for n in range(size // 2)]
+    yield 'C', [(n,) for n in range(size // 2)]
+    yield 'D', [(n, n, n) for n in range(20)]
+
+
+ORDERS = {
+    'product': (dict(A=1, B=1, C=2, D=2), 'A(x), B(y), C(x, y) -> D(x, y)', product_order),
+    'star': (dict(A=2, B=2, C=2, D=2), 'A(a, x), B(x, b), C(b, c) -> D(a, a)', star_order),
+    'triangle': (dict(A=2, B=2, C=2, D=2), 'A(x, y), B(y, z), C(x, z) -> D(x, z)', triangle_order),
+    'chain': (dict(A=2, B=2, C=2, E=2, D=2), 'A(a, b), B(b, c), C(c, d), E(d, e) -> D(a, e)', chain_order),
+    'right': (dict(A=1, B=1, C=1, D=3), 'A(x) -> B(y), C(z), D(x, y, z)', right_order),
+}
+
+
+def orders_session(order, size):
+    relations, mapping, tuples = ORDERS[order]
+    yield 'youtopia 1'
+    yield from (f'relation {name} {columns}' for name, columns in relations.items())
+    yield 'mapping m: ' + mapping
+    for name, rows in tuples(size):
+        yield from (f'base {name}({", ".join(map(str, row))})' for row in rows)
+    yield 'end'
+
+
 SESSIONS = {
-    'random': random_session, 'chain': chain_session, 'groups': groups_session, 'shop': shop_session, 'join': join_session,
+    'orders': orders_session, 'random': random_session, 'chain': chain_session, 'groups': groups_session, 'shop': shop_session, 'join': join_session,
     'contention': contention_session}
 
 
 def main():
     parser = argparse.ArgumentParser(description=__doc__, formatter_class=argparse.RawDescriptionHelpFormatter)
     kinds = parser.add_subparsers(dest='kind', required=True)
+    one = kinds.add_parser('orders')
+    one.add_argument('--order', choices=ORDERS, default='product')
+    one.add_argument('--size', type=int, default=4000)
     one = kinds.add_parser('random')
     one.add_argument('--count', type=int, default=1000)
     one.add_argument('--seed', type=int, default=7)
