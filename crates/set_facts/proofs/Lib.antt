@@ -17,4 +17,6 @@ pub mod AtHand
 pub mod Behind
 pub mod Beside
 pub mod Sought
+pub mod Spanning
+pub mod Newer
 mod Ahead

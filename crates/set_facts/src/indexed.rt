@@ -7,8 +7,9 @@ ghost use Rattle.set_facts.specs.Indexes.{IsIndex, IsIndexBut};
 ghost use Rattle.set_facts.specs.Places.{is_inside};
 ghost use Rattle.set_facts.specs.Runs.{run_of};
 
+use crate::holding::{first_holding, newest_of, newest_with};
 use crate::plain::PlainFacts;
-use crate::relations::{Columns, drop_out, keep, keeps, kept};
+use crate::relations::{Columns, drop_out, keep, keeps, kept, values};
 use crate::runs::Run;
 use base_types::{Candidates, Column, Facts, Memory, TryCopy, Tuple, TupleList, Value};
 use std::alloc::Global;
@@ -23,6 +24,8 @@ use std::marker::Model;
 pub struct IndexedFacts {
     all: PlainFacts,
     relations: Vec<Columns>,
+    // No null of the tuples was drawn by a newer update.
+    newest: u32,
     alloc: Global,
 }
 
@@ -34,10 +37,11 @@ impl Model for IndexedFacts {
 
     ghost use Rattle.def_chase.specs.Repository.{IsRepository};
     ghost use Rattle.set_facts.specs.Indexes.{IsIndex};
+    ghost use Rattle.set_facts.specs.Newest.{AreNoNewer};
 
     ghost view = { λ f. f.all };
 
-    ghost invariant = { λ f. IsRepository f.all × IsIndex f.all f.relations.items };
+    ghost invariant = { λ f. IsRepository f.all × IsIndex f.all f.relations.items × AreNoNewer f.newest f.all };
 }
 
 impl IndexedFacts {
@@ -48,6 +52,7 @@ impl IndexedFacts {
         IndexedFacts {
             all: PlainFacts::new(alloc),
             relations: Vec::new(alloc),
+            newest: 0,
             alloc,
         }
     }
@@ -59,9 +64,11 @@ impl IndexedFacts {
     {
         match index_all(alloc, &facts) {
             Ok(relations) => {
+                let newest = newest_of(&facts);
                 return Ok(IndexedFacts {
                     all: facts,
                     relations,
+                    newest,
                     alloc,
                 });
             }
@@ -91,8 +98,12 @@ impl IndexedFacts {
                 return Err((tuple, Memory));
             }
         }
+        let newest = newest_with(self.newest, &tuple);
         match self.all.insert(tuple) {
-            Ok(added) => return Ok(added),
+            Ok(added) => {
+                self.newest = newest;
+                return Ok(added);
+            }
             Err(refused) => {
                 take_back(&mut self.relations, &self.all, &refused.0);
                 return Err(refused);
@@ -212,6 +223,18 @@ impl Facts for IndexedFacts {
             },
             None => self.all.relation(relation, past),
         }
+    }
+
+    // Each tuple is looked at, unless the update is too new to have drawn a null of any.
+    fn holding(&self, update: u32, place: u32, past: Option<&Tuple>) -> Option<&Tuple> {
+        if update > self.newest {
+            return None;
+        }
+        first_holding(&self.all, update, place, past)
+    }
+
+    fn values(&self, relation: u16, column: u16) -> Option<&[Value]> {
+        values(&self.relations, relation, column)
     }
 }
 

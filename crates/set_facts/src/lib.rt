@@ -3,9 +3,11 @@
 #![tactic(auto)]
 
 mod changed;
+mod column;
 mod columns;
 mod course;
 mod group;
+mod holding;
 mod indexed;
 mod listed;
 mod merging;
@@ -18,6 +20,7 @@ mod runs;
 mod scanned;
 
 pub use crate::course::{Course, Hides, least, remaining};
+pub use crate::holding::holds_null;
 pub use crate::indexed::IndexedFacts;
 pub use crate::merging::Merging;
 pub use crate::overlay::Overlay;

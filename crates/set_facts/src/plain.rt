@@ -6,6 +6,7 @@ ghost use Rattle.def_chase.specs.Cursors.{first_of};
 ghost use Rattle.base_types.specs.Meanings.{fact_of};
 ghost use Rattle.set_facts.specs.Courses.{is_ahead};
 
+use crate::holding::first_holding;
 use crate::scanned::{is_scanned, of_relation};
 use base_types::{Facts, Memory, TryCopy, Tuple, Value};
 use std::alloc::Global;
@@ -178,5 +179,9 @@ impl Facts for PlainFacts {
             cursor = self.after(found);
         }
         None
+    }
+
+    fn holding(&self, update: u32, place: u32, past: Option<&Tuple>) -> Option<&Tuple> {
+        first_holding(self, update, place, past)
     }
 }

@@ -5,7 +5,9 @@ use Rattle.def_chase.proofs.Sets.{insert_in_order}
 use Rattle.base_types.specs.Meanings.{fact_of}
 use Rattle.base_types.specs.declared.tuples.Tuple.{Tuple}
 use Rattle.set_facts.specs.Indexes.{IsIndex, IsIndexBut}
+use Rattle.set_facts.specs.Newest.{AreNoNewer}
 use Rattle.set_facts.proofs.Indexing.{index_grows}
+use Rattle.set_facts.proofs.Newer.{newer_with}
 use Rattle.set_facts.proofs.Refusals.{index_but}
 use Rattle.set_facts.proofs.Related.{adds_at_most}
 use Rattle.set_facts.proofs.indexed.IndexedFacts.insert.Goals as goal
@@ -22,5 +24,8 @@ take_back-requires-in-Err-insert c =
 pub invariant_of-self-in-Ok-insert : goal.invariant_of-self-in-Ok-insert
 invariant_of-self-in-Ok-insert c =
     let t = fact_of c.args.tuple in
-    subst (λ (D : List Fact). IsRepository D × IsIndex D c.keep.new.relations.items) (sym c.in-Ok-insert.ensures.ok)
-    (insert_in_order c.self.inside.all t c.self.invariant.0, index_grows c.self.inside.all c.self.inside.relations.items c.keep.new.relations.items t c.self.invariant.1 c.in-Ok.ensures.ok)
+    subst (λ (D : List Fact). IsRepository D × IsIndex D c.keep.new.relations.items × AreNoNewer c.newest_with-newest.result D) (sym c.in-Ok-insert.ensures.ok) (
+      insert_in_order c.self.inside.all t c.self.invariant.0,
+      index_grows c.self.inside.all c.self.inside.relations.items c.keep.new.relations.items t c.self.invariant.1 c.in-Ok.ensures.ok,
+      newer_with c.self.inside.newest c.newest_with-newest.result c.self.inside.all t c.newest_with-newest.ensures.no_less c.self.invariant.2 c.newest_with-newest.ensures.newest,
+    )
