@@ -1,0 +1,13 @@
+pub mod Lines
+pub mod Names
+pub mod Places
+pub mod Hidden
+pub mod Runs
+pub mod Ops
+pub mod Worlds
+pub mod States
+pub mod RunLaws
+pub mod KeepLaws
+pub mod UndoLaws
+pub mod Rows
+pub mod NameLaws
