@@ -216,7 +216,7 @@ impl State {
 }
 
 // The most steps that a budget has.
-const MOST_STEPS: u32 = 300;
+const MOST_STEPS: u32 = 1_000_001;
 
 // A budget of one step more than so many, as far as budgets go.
 fn budget_for(steps: u32) -> Budget {
