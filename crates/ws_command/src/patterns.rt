@@ -1,0 +1,17 @@
+//! Tuples of commands in which `_` may stand.
+
+use ws_line::{NewValue, Value};
+
+/// A tuple in which `_`, here `None`, stands for any value.
+#[derive(Drop)]
+pub struct Pattern {
+    pub relation: u32,
+    pub values: Vec<Option<Value>>,
+}
+
+/// The second tuple of `replace`, in which `_`, here `None`, keeps what stands there in the first.
+#[derive(Drop)]
+pub struct Replacement {
+    pub relation: u32,
+    pub values: Vec<Option<NewValue>>,
+}

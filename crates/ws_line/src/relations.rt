@@ -1,0 +1,15 @@
+//! Relations and their columns.
+
+/// A column of a relation; `key` says whether it belongs to the key.
+#[derive(Clone, Drop)]
+pub struct Column {
+    pub name: String,
+    pub key: bool,
+}
+
+/// A relation, with its columns in order.
+#[derive(Clone, Drop)]
+pub struct Relation {
+    pub name: String,
+    pub columns: Vec<Column>,
+}

@@ -1,0 +1,24 @@
+//! Mappings as they are written.
+
+/// What stands in a place of an atom.
+#[derive(Clone, Drop)]
+pub enum Term {
+    Variable(String),
+    Number(i64),
+    Text(String),
+}
+
+/// A relation with a term for each of its columns.
+#[derive(Clone, Drop)]
+pub struct Atom {
+    pub relation: u32,
+    pub terms: Vec<Term>,
+}
+
+/// A mapping: wherever the left atoms are there, the right ones have to be.
+#[derive(Clone, Drop)]
+pub struct Rule {
+    pub name: String,
+    pub left: Vec<Atom>,
+    pub right: Vec<Atom>,
+}

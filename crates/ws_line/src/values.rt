@@ -1,0 +1,26 @@
+//! Values, by names.
+
+/// The name of an unknown, `?U.P`: the P-th that update U drew.
+#[derive(Clone, Copy, Debug, PartialEq, Eq, PartialOrd, Ord, Hash)]
+pub struct Unknown {
+    pub update: u32,
+    pub place: u32,
+}
+
+/// A value that stands in a tuple.
+#[derive(Clone, Drop, PartialEq, Eq)]
+pub enum Value {
+    Number(i64),
+    Text(String),
+    Unknown(Unknown),
+}
+
+/// A value of a tuple that is to be inserted: one that is there, or a new unknown.
+#[derive(Clone, Drop)]
+pub enum NewValue {
+    Known(Value),
+    /// `?`: a new unknown, each time that it stands.
+    Fresh,
+    /// `?x`: a new unknown, the same wherever the name stands in the command.
+    Named(String),
+}
