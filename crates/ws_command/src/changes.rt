@@ -1,7 +1,7 @@
 //! Commands that change the workspace.
 
 use crate::patterns::{Pattern, Replacement};
-use ws_line::{Fact, NewFact, Relation, Rule, Unknown, Value};
+use ws_written::{Fact, NewFact, Relation, Rule, Unknown, Value};
 
 /// How far an update may go.
 #[derive(Clone, Copy)]

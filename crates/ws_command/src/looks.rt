@@ -1,7 +1,7 @@
 //! Commands that only look.
 
 use crate::patterns::Pattern;
-use ws_line::{Atom, Unknown};
+use ws_written::{Atom, Unknown};
 
 /// A table that is shown, or the rows that an atom matches.
 #[derive(Drop)]

@@ -1,6 +1,6 @@
 //! Tuples of commands in which `_` may stand.
 
-use ws_line::{NewValue, Value};
+use ws_written::{NewValue, Value};
 
 /// A tuple in which `_`, here `None`, stands for any value.
 #[derive(Drop)]

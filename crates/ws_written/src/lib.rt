@@ -1,4 +1,4 @@
-//! What a workspace's file says, as plain types: values by their names, tuples, mappings, updates, answers, lines,
+//! What a workspace's file says, as it is written, in plain types: values by their names, tuples, mappings, updates, answers, lines,
 //! records and the head. Every crate of the workspace speaks of these.
 //!
 //! A relation is named by its number: its place among the relations in the order of their declaration, from 0.
