@@ -46,8 +46,7 @@ const OUT: [Verb; 6] = [
     Verb::Quit,
 ];
 
-const STATUSES: &str = "\
-
+const STATUSES: &str = "
 A value is a number, a \"text\", or an unknown such as ?12.1. # begins a comment. help COMMAND tells more.
 Statuses: 0 done, 1 waits for an answer, 2 cannot be read, 3 refused, 4 violations, 5 a file cannot be read,
 6 cannot be written, 7 out of memory, 12 damaged, 13 nothing changed, 14 spent.";
