@@ -57,7 +57,6 @@ pub struct Load {
 #[derive(Drop)]
 pub enum Change {
     Relation(Relation),
-    /// The rule has a variable of its own for each `_`.
     Mapping(Rule),
     /// Repairs what violates a mapping, each repair with a budget.
     Adopt(String, u32),

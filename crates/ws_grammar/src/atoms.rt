@@ -1,6 +1,5 @@
 //! Atoms, mappings and queries.
 
-use crate::apart::set_apart;
 use crate::bytes::name_run;
 use crate::cursors::Cursor;
 use std::alloc::{AllocError, Global};
@@ -69,7 +68,7 @@ impl<'a> Cursor<'a> {
         self.sides(relations, name)
     }
 
-    // `: LEFT -> RIGHT`, each `_` a variable of its own.
+    // `: LEFT -> RIGHT`.
     fn sides(&mut self, relations: &[Relation], name: String) -> Result<Rule, Refusal> {
         self.sign(":", ": behind the name of the mapping")?;
         let at = self.at();
@@ -79,9 +78,7 @@ impl<'a> Cursor<'a> {
         if MOST < left.len() || MOST < right.len() {
             return self.unread(at, "a side has 8 atoms at most", "");
         }
-        let mut rule = Rule { name, left, right };
-        set_apart(self.alloc, &mut rule)?;
-        Ok(rule)
+        Ok(Rule { name, left, right })
     }
 
     /// A query: `[NAME(NAME, ..):] ATOM, ..`; without a head all variables, by their first places.

@@ -27,6 +27,7 @@ mod texts;
 mod updates;
 mod values;
 
+pub use crate::apart::set_apart;
 pub use crate::commands::read_command;
 pub use crate::heads::read_head;
 pub use crate::names::Names;

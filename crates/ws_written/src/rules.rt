@@ -15,7 +15,7 @@ pub struct Atom {
     pub terms: Vec<Term>,
 }
 
-/// A mapping: wherever the left atoms are there, the right ones have to be.
+/// A mapping as it was said: wherever the left atoms are there, the right ones have to be. Each `_` is a variable of its own.
 #[derive(Clone, Drop)]
 pub struct Rule {
     pub name: String,
