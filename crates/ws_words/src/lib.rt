@@ -8,6 +8,6 @@ mod times;
 mod whose;
 mod words;
 
-pub use crate::times::{is_time, time_of};
+pub use crate::times::time_of;
 pub use crate::whose::curator_of;
 pub use crate::words::{Asked, Words, WordsFault, file_first, joined, read_words, wants_json};

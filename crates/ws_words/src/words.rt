@@ -2,6 +2,7 @@
 
 use std::alloc::{AllocError, AllocFailed, Global};
 use ws_fault::Nearest;
+use ws_grammar::is_name;
 use ws_print::add_escaped;
 
 /// What the words ask for.
@@ -232,12 +233,6 @@ fn is_curator(name: Option<&str>) -> bool {
         Some(name) => is_name(name),
         None => true,
     }
-}
-
-fn is_name(text: &str) -> bool {
-    !text.is_empty()
-        && !text.starts_with(|c: char| c.is_ascii_digit())
-        && text.bytes().all(|b| b.is_ascii_alphanumeric() || b == b'_')
 }
 
 fn owned(alloc: Global, text: Option<&str>) -> Result<Option<String>, AllocError> {

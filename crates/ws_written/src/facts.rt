@@ -3,14 +3,14 @@
 use crate::values::{NewValue, Value};
 
 /// A tuple of a relation, with a value for each of its columns.
-#[derive(Clone, Drop, PartialEq, Eq)]
+#[derive(Drop)]
 pub struct Fact {
     pub relation: u32,
     pub values: Vec<Value>,
 }
 
 /// A tuple that is to be inserted.
-#[derive(Clone, Drop)]
+#[derive(Drop)]
 pub struct NewFact {
     pub relation: u32,
     pub values: Vec<NewValue>,

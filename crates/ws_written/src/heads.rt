@@ -8,7 +8,7 @@ use crate::updates::NumberedUpdate;
 use crate::values::Unknown;
 
 /// The image by which an update drew an unknown.
-#[derive(Clone, Drop)]
+#[derive(Drop)]
 pub enum Image {
     /// It is the new unknown of this number in the update, from 1.
     New(u32),
@@ -17,7 +17,7 @@ pub enum Image {
 }
 
 /// `drew N P MAPPING VARIABLE [IMAGE]`: what drew the unknown at this place of the update.
-#[derive(Clone, Drop)]
+#[derive(Drop)]
 pub struct Drawn {
     pub place: u32,
     pub mapping: String,

@@ -3,7 +3,7 @@
 //!
 //! A relation is named by its number: its place among the relations in the order of their declaration, from 0.
 //! An unknown is named by the update that drew it and its place there. Texts are UTF-8 without U+0000.
-//! A copy (`clone`) is refused only for want of memory.
+//! A copy of a relation (`clone`) is refused only for want of memory.
 #![tactic(auto)]
 
 mod facts;

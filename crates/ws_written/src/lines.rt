@@ -6,7 +6,7 @@ use crate::rules::Rule;
 use crate::updates::NumberedUpdate;
 
 /// What was chosen as the answer to a question.
-#[derive(Clone, Drop)]
+#[derive(Drop)]
 pub enum Choice {
     Expand,
     Unify(Fact),
@@ -15,14 +15,14 @@ pub enum Choice {
 
 /// A question, as an answer names it: its mapping (`_fix_m` if it is that of a `fix`), and the tuple that it wants or
 /// the tuples of which it asks.
-#[derive(Clone, Drop)]
+#[derive(Drop)]
 pub struct Question {
     pub mapping: String,
     pub facts: Vec<Fact>,
 }
 
 /// A choice, and the question that it was given to.
-#[derive(Clone, Drop)]
+#[derive(Drop)]
 pub struct Answer {
     pub choice: Choice,
     pub question: Question,
@@ -54,7 +54,7 @@ pub struct SaidLine {
 }
 
 /// When something was said, as `YYYY-MM-DDThh:mm:ssZ`, and by whom.
-#[derive(Clone, Drop)]
+#[derive(Drop)]
 pub struct Stamp {
     pub time: String,
     pub curator: String,

@@ -1,7 +1,7 @@
 //! Mappings as they are written.
 
 /// What stands in a place of an atom.
-#[derive(Clone, Drop)]
+#[derive(Drop)]
 pub enum Term {
     Variable(String),
     Number(i64),
@@ -9,14 +9,14 @@ pub enum Term {
 }
 
 /// A relation with a term for each of its columns.
-#[derive(Clone, Drop)]
+#[derive(Drop)]
 pub struct Atom {
     pub relation: u32,
     pub terms: Vec<Term>,
 }
 
 /// A mapping as it was said: wherever the left atoms are there, the right ones have to be. Each `_` is a variable of its own.
-#[derive(Clone, Drop)]
+#[derive(Drop)]
 pub struct Rule {
     pub name: String,
     pub left: Vec<Atom>,

@@ -7,7 +7,7 @@ use crate::values::{Unknown, Value};
 pub const STEPS: u32 = 300;
 
 /// What an update does.
-#[derive(Clone, Drop)]
+#[derive(Drop)]
 pub enum Update {
     Insert(Vec<NewFact>),
     Delete(Vec<Fact>),
@@ -24,7 +24,7 @@ pub enum Update {
 }
 
 /// An update with its number and its budget of steps.
-#[derive(Clone, Drop)]
+#[derive(Drop)]
 pub struct NumberedUpdate {
     pub number: u32,
     pub steps: u32,

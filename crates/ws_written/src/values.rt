@@ -8,7 +8,7 @@ pub struct Unknown {
 }
 
 /// A value that stands in a tuple.
-#[derive(Clone, Drop, PartialEq, Eq)]
+#[derive(Drop)]
 pub enum Value {
     Number(i64),
     Text(String),
@@ -16,7 +16,7 @@ pub enum Value {
 }
 
 /// A value of a tuple that is to be inserted: one that is there, or a new unknown.
-#[derive(Clone, Drop)]
+#[derive(Drop)]
 pub enum NewValue {
     Known(Value),
     /// `?`: a new unknown, each time that it stands.
