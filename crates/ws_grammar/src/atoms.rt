@@ -1,6 +1,6 @@
 //! Atoms, mappings and queries.
 
-use crate::bytes::name_run;
+use crate::bytes::{is_white, name_run, text_of};
 use crate::cursors::Cursor;
 use std::alloc::{AllocError, Global};
 use ws_command::Asked;
@@ -131,17 +131,8 @@ impl<'a> Cursor<'a> {
     }
 }
 
-// Whether a byte is white, as a line may have it.
-fn is_white(byte: u8) -> bool {
-    match byte {
-        b' ' | 9..=13 | 28..=31 => true,
-        _ => false,
-    }
-}
-
 fn behind_white(bytes: &[u8]) -> &[u8] {
-    let start = bytes.iter().position(|b| !is_white(*b));
-    bytes.get(start.unwrap_or(bytes.len())..).unwrap_or(b"")
+    text_of(bytes).trim_start_matches(is_white).as_bytes()
 }
 
 // What stands behind the bracket that closes the one here, with no other between.

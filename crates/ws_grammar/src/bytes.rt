@@ -5,6 +5,11 @@ pub(crate) fn is_blank(byte: u8) -> bool {
     byte == b' ' || byte == b'\t' || byte == b'\r'
 }
 
+/// A blank of any kind, as it is cut off around comments.
+pub(crate) fn is_white(letter: char) -> bool {
+    letter.is_whitespace() || ('\u{1c}' <= letter && letter <= '\u{1f}')
+}
+
 fn is_letter(byte: u8) -> bool {
     byte.is_ascii_alphabetic() || byte == b'_'
 }

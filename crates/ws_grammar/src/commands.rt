@@ -1,5 +1,6 @@
 //! A line of commands.
 
+use crate::bytes::is_white;
 use crate::cursors::Cursor;
 use crate::names::Names;
 use std::alloc::{AllocError, Global};
@@ -127,14 +128,9 @@ impl<'a> Cursor<'a> {
     pub(crate) fn comment(&self) -> Result<String, AllocError> {
         let mut comment = String::new(self.alloc);
         let text = str::from_utf8(self.comment).unwrap_or("");
-        add_escaped(&mut comment, text.trim_matches(is_margin))?;
+        add_escaped(&mut comment, text.trim_matches(is_white))?;
         Ok(comment)
     }
-}
-
-// What is cut off around a comment.
-fn is_margin(letter: char) -> bool {
-    letter.is_whitespace() || ('\u{1c}' <= letter && letter <= '\u{1f}')
 }
 
 /// The command of a line over the names that stand; none if it is blank or a comment alone.
