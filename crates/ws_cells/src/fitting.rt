@@ -212,7 +212,11 @@ fn declared(alloc: Global, line: &str) -> Result<Relation, Refusal> {
 }
 
 fn relation_of(alloc: Global, said: Said) -> Result<Relation, Refusal> {
-    match said.command {
+    let Said {
+        command,
+        comment: _,
+    } = said;
+    match command {
         Command::Change {
             change: Change::Relation(relation),
             still: _,

@@ -119,8 +119,9 @@ impl<'a> CsvReader<'a> {
         let mut cell = String::new(self.alloc);
         for _ in 0..u64::MAX {
             let Some((part, rest)) = self.rest.split_once('"') else {
+                let rest = self.rest;
                 self.faults.push(CsvFault::Open(open))?;
-                self.add_part(&mut cell, self.rest)?;
+                self.add_part(&mut cell, rest)?;
                 self.rest = "";
                 return Ok(cell);
             };

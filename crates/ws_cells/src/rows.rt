@@ -72,7 +72,13 @@ pub fn facts_of(
         };
         loading.add_row(&mut loaded, fitted, number, &row)?;
     }
-    let all = all_faults(alloc, reader.faults(), loading.faults)?;
+    let Loading {
+        alloc: _,
+        form: _,
+        standing: _,
+        faults: found,
+    } = loading;
+    let all = all_faults(alloc, reader.faults(), found)?;
     if all.is_empty() {
         return Ok(loaded);
     }

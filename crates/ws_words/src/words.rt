@@ -72,6 +72,7 @@ struct Said<'a> {
 }
 
 // What a word in front of the command is.
+#[derive(Clone, Copy)]
 enum Kind<'a> {
     Help,
     Version,
@@ -138,7 +139,7 @@ impl<'a> Said<'a> {
 fn no_option<T>(alloc: Global, word: &str) -> Result<T, WordsFault> {
     let mut nearest = Nearest::to(alloc, word)?;
     for option in OPTIONS.iter() {
-        nearest.consider(option)?;
+        nearest.consider(*option)?;
     }
     let words = format!(in alloc; "there is no option {word}")?;
     match nearest.question()? {
@@ -149,6 +150,56 @@ fn no_option<T>(alloc: Global, word: &str) -> Result<T, WordsFault> {
             "options of a command stand behind it",
         ),
     }
+}
+
+// What comes behind a word.
+#[derive(Clone, Copy)]
+enum Next<'a> {
+    Help,
+    Version,
+    /// These words are left.
+    Words(&'a [String]),
+    /// The word begins the command.
+    Command,
+}
+
+// Takes a word in front of the command, with the words behind it.
+fn step<'a>(
+    alloc: Global,
+    said: &mut Said<'a>,
+    word: &'a str,
+    behind: &'a [String],
+) -> Result<Next<'a>, WordsFault> {
+    match kind_of(word, said.file.is_some()) {
+        Kind::Help => return Ok(Next::Help),
+        Kind::Version => return Ok(Next::Version),
+        Kind::Flag => said.set_flag(word),
+        Kind::Value(option, value) => said.set_value(option, value),
+        Kind::Unknown => return no_option(alloc, word),
+        Kind::Valued => return valued(alloc, said, word, behind),
+        Kind::Other => {
+            if said.file.is_some() {
+                return Ok(Next::Command);
+            }
+            said.file = Some(word);
+        }
+    }
+    Ok(Next::Words(behind))
+}
+
+// Takes the value of an option.
+fn valued<'a>(
+    alloc: Global,
+    said: &mut Said<'a>,
+    word: &str,
+    behind: &'a [String],
+) -> Result<Next<'a>, WordsFault> {
+    let Some((value, further)) = behind.split_first() else {
+        let words = format!(in alloc; "{word} takes a value")?;
+        return wrong(alloc, words.as_str(), "");
+    };
+    said.set_value(word, value.as_str());
+    Ok(Next::Words(further))
 }
 
 /// What the words behind the program's name ask for. They are refused for the first fault from the left.
@@ -166,35 +217,17 @@ pub fn read_words(alloc: Global, words: &[String]) -> Result<Asked, WordsFault> 
         let Some((word, behind)) = rest.split_first() else {
             break;
         };
-        let word = word.as_str();
-        match kind_of(word, said.file.is_some()) {
-            Kind::Help => return Ok(Asked::Help),
-            Kind::Version => return Ok(Asked::Version),
-            Kind::Flag => said.set_flag(word),
-            Kind::Value(option, value) => said.set_value(option, value),
-            Kind::Unknown => return no_option(alloc, word),
-            Kind::Valued => {
-                let Some((value, further)) = behind.split_first() else {
-                    let words = format!(in alloc; "{word} takes a value")?;
-                    return wrong(alloc, words.as_str(), "");
-                };
-                said.set_value(word, value.as_str());
-                rest = further;
-                continue;
-            }
-            Kind::Other => {
-                if said.file.is_some() {
-                    break;
-                }
-                said.file = Some(word);
-            }
+        match step(alloc, &mut said, word.as_str(), behind)? {
+            Next::Help => return Ok(Asked::Help),
+            Next::Version => return Ok(Asked::Version),
+            Next::Words(left) => rest = left,
+            Next::Command => break,
         }
-        rest = behind;
     }
     work_of(alloc, &said, rest)
 }
 
-// What was said comes to, with the command's words.
+// What was said comes to this, with the words of the command.
 fn work_of(alloc: Global, said: &Said<'_>, command: &[String]) -> Result<Asked, WordsFault> {
     let Some(file) = said.file else {
         return wrong(alloc, "a file is missing", USAGE);
