@@ -10,13 +10,15 @@ mod cells;
 mod columns;
 mod fitting;
 mod forms;
+mod matching;
 mod readers;
 mod refusing;
 mod rows;
 mod written;
 
-pub use crate::fitting::{Fitted, FittedColumn, fit};
+pub use crate::fitting::{Fitted, fit};
 pub use crate::forms::{Empty, Form, form_of, separator_of};
+pub use crate::matching::FittedColumn;
 pub use crate::readers::{CsvFault, CsvReader, CsvRow};
 pub use crate::rows::{Loaded, LoadedRow, facts_of};
 pub use crate::written::{add_csv_cell, text_of};

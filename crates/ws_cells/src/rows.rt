@@ -1,8 +1,9 @@
 //! The rows of a file as tuples, or all faults of them.
 
 use crate::cells::{unknown_of, unknown_parts, value_of};
-use crate::fitting::{Fitted, FittedColumn};
+use crate::fitting::Fitted;
 use crate::forms::{Empty, Form};
+use crate::matching::FittedColumn;
 use crate::readers::{CsvFault, CsvReader, CsvRow};
 use crate::refusing::{faults, has};
 use std::alloc::{AllocError, Global};
