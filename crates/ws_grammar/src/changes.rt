@@ -2,8 +2,8 @@
 
 use crate::bytes::option_run;
 use crate::cursors::Cursor;
-use crate::names::Names;
 use crate::options::Options;
+use crate::standing::Names;
 use ws_command::{Bounds, Change, Load, Opt, Source, Verb};
 use ws_fault::{Refusal, Status};
 use ws_written::{Column, Relation, Unknown, Value};

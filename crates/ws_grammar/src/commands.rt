@@ -2,7 +2,7 @@
 
 use crate::bytes::is_white;
 use crate::cursors::Cursor;
-use crate::names::Names;
+use crate::standing::Names;
 use std::alloc::{AllocError, Global};
 use ws_command::{Command, Said, VERBS, Verb};
 use ws_fault::{Nearest, Refusal, Status, meant};

@@ -1,7 +1,7 @@
 //! Commands that look.
 
 use crate::cursors::Cursor;
-use crate::names::Names;
+use crate::standing::Names;
 use ws_command::{Export, Look, Opt, Paging, Shown, Verb, Why};
 use ws_fault::Refusal;
 use ws_written::Relation;

@@ -2,7 +2,7 @@
 
 use crate::bytes::name_run;
 use crate::cursors::Cursor;
-use crate::names::number_of;
+use crate::standing::number_of;
 use std::alloc::{AllocError, Global};
 use ws_fault::Refusal;
 use ws_written::{Line, Record, Relation, SaidLine, Stamp};

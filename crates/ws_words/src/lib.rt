@@ -4,10 +4,10 @@
 //! fault has its own words.
 #![tactic(auto)]
 
+mod spoken;
 mod times;
 mod whose;
-mod words;
 
+pub use crate::spoken::{Asked, Words, WordsFault, file_first, joined, read_words, wants_json};
 pub use crate::times::time_of;
 pub use crate::whose::curator_of;
-pub use crate::words::{Asked, Words, WordsFault, file_first, joined, read_words, wants_json};
