@@ -33,11 +33,11 @@ pub enum Sense {
 /// What the reads of an attempt are asked by: the mappings, the direction of the attempt, its own writes, and how the
 /// writes of the trails turned what lies below it.
 #[derive(Drop)]
-pub(crate) struct Reader<'r> {
-    pub(crate) mappings: &'r MappingList,
-    pub(crate) direction: Direction,
-    pub(crate) own: &'r [Write],
-    pub(crate) sense: Sense,
+pub struct Reader<'r> {
+    pub mappings: &'r MappingList,
+    pub direction: Direction,
+    pub own: &'r [Write],
+    pub sense: Sense,
 }
 
 impl<'r> Reader<'r> {
