@@ -21,10 +21,9 @@ use crate::places::{above, go_to, standing_at};
 use crate::replays::Replay;
 use crate::restarts::restart_named;
 use audit_updates::{AuditedUpdate, Deps, Settings, committed, has_spent, shown};
-use base_limits::{Budget, Mappings};
 use base_types::{Memory, TryCopy, Write, WriteList};
 use chase_eval::Settled;
-use chase_plan::{Plan, plan_step};
+use chase_plan::{Chase, Plan, Seen, plan_step};
 use core_entries::{CauseList, Entry};
 use set_facts::{IndexedFacts, Overlay};
 use std::alloc::Global;
@@ -59,13 +58,15 @@ impl<'s> Replay<'s> {
         ensures err { OnErr result (IsLeftOf self.old self.new) }
     {
         let settings = self.settings;
-        let mappings = &self.mappings;
-        let budget = self.budget;
+        let chase = Chase {
+            mappings: &self.mappings,
+            budget: self.budget,
+        };
         let seats = self.seats.as_slice();
         go_to(alloc, &mut self.levels, seats, place)?;
         let levels = &mut self.levels;
         let deps = settings.deps;
-        let prepared = prepare(alloc, levels, seats, place, mappings, budget, deps, before)?;
+        let prepared = prepare(alloc, levels, seats, place, &chase, deps, before)?;
         let entry = install(alloc, self.seats.as_mut_slice(), settings, place, prepared)?;
         Ok(entry)
     }
@@ -87,28 +88,28 @@ fn prepare(
     levels: &mut Levels,
     seats: &[AuditedUpdate],
     place: usize,
-    mappings: &Mappings<'_>,
-    budget: Budget,
+    chase: &Chase<'_>,
     deps: Deps,
     before: u32,
 ) -> Result<Prepared, Memory>
     requires within { place < length seats.now }
     requires numbers { AreFrom 1 seats.now }
     requires ready { AtPlace place seats.now IsReadySomewhere }
-    requires left { AtPlace place seats.now (λ r. r.program.attempt.steps < budget) }
+    requires left { AtPlace place seats.now (λ r. r.program.attempt.steps < chase.now.budget) }
     ensures prepared { IfOk result (λ prepared. AtPlace place seats.now (λ r. IsPreparedFor
-        mappings.now budget (deps_of deps) before r (top levels.old) (drop (suc place) seats.now)
-        prepared)) }
+        chase.now.mappings.now chase.now.budget (deps_of deps) before r (top levels.old)
+        (drop (suc place) seats.now) prepared)) }
     ensures levels { OnOk result (levels.new ≡ levels.old) }
 {
     let seat = &seats[place];
     let upper = above(seats, place);
-    let plan = planned(alloc, mappings, budget, levels.facts(), seat)?;
+    let plan = planned(alloc, chase, levels.facts(), seat)?;
     let scene = Scene {
-        mappings: mappings.list(),
+        mappings: chase.mappings.list(),
+        deps,
         committed: before,
     };
-    match told_of_step(alloc, levels, seat, upper, scene, deps, &plan) {
+    match told_of_step(alloc, levels, seat, upper, scene, &plan) {
         Ok((writes, causes)) => Ok(Prepared {
             plan,
             attempt: seat.program.attempt(),
@@ -130,7 +131,6 @@ fn told_of_step(
     seat: &AuditedUpdate,
     upper: &[AuditedUpdate],
     scene: Scene<'_>,
-    deps: Deps,
     plan: &Plan,
 ) -> Result<(WriteList, CauseList), Memory>
     requires between { IsBetween seat.now.program }
@@ -138,12 +138,12 @@ fn told_of_step(
     requires above { AreBetween upper.now }
     ensures writes { IfOk result (λ told. HasWritten seat.now plan.now told.0.items) }
     ensures causes { IfOk result (λ told. AreOfStep (rules_in scene.entry.mappings.now)
-        (deps_of deps) scene.entry.committed seat.now plan.now (top levels.old) upper.now
-        told.1.items) }
+        (deps_of scene.entry.deps) scene.entry.committed seat.now plan.now (top levels.old)
+        upper.now told.1.items) }
     ensures levels { OnOk result (levels.new ≡ levels.old) }
 {
     let writes = copies(alloc, seat.written(plan))?;
-    let causes = causes_of_step(alloc, levels, seat, upper, scene, deps, plan)?;
+    let causes = causes_of_step(alloc, levels, seat, upper, scene, plan)?;
     Ok((writes, causes))
 }
 
@@ -178,51 +178,53 @@ fn install(
 // The next step of the update, which is ready, over the facts below it. It is refused only for want of memory.
 fn planned(
     alloc: Global,
-    mappings: &Mappings<'_>,
-    budget: Budget,
+    chase: &Chase<'_>,
     facts: &IndexedFacts,
     seat: &AuditedUpdate,
 ) -> Result<Plan, Memory>
     requires between { IsBetween seat.now.program }
     requires ready { IsReadySomewhere seat.now }
-    requires left { seat.now.program.attempt.steps < budget }
-    ensures planned { IfOk result (IsPlanOf mappings.now budget facts.now seat.now) }
+    requires left { seat.now.program.attempt.steps < chase.now.budget }
+    ensures planned { IfOk result (IsPlanOf chase.now.mappings.now chase.now.budget facts.now
+        seat.now) }
 {
     let mut with = Overlay::new(alloc, facts);
-    planned_over(alloc, mappings, budget, facts, &mut with, seat)
+    planned_over(alloc, chase, facts, &mut with, seat)
 }
 
 // The next step of the update, which is ready, over the facts below it, where its own writes are made in an overlay of them. It
 // is refused only for want of memory; the overlay is then one to be let go.
 fn planned_over<'f>(
     alloc: Global,
-    mappings: &Mappings<'_>,
-    budget: Budget,
+    chase: &Chase<'_>,
     facts: &'f IndexedFacts,
     with: &mut Overlay<'f, IndexedFacts>,
     seat: &AuditedUpdate,
 ) -> Result<Plan, Memory>
     requires between { IsBetween seat.now.program }
     requires ready { IsReadySomewhere seat.now }
-    requires left { seat.now.program.attempt.steps < budget }
+    requires left { seat.now.program.attempt.steps < chase.now.budget }
     requires with { with.old ≡ facts.now }
-    ensures planned { IfOk result (IsPlanOf mappings.now budget facts.now seat.now) }
+    ensures planned { IfOk result (IsPlanOf chase.now.mappings.now chase.now.budget facts.now
+        seat.now) }
 {
     with.write_all(alloc, seat.program.own().as_slice())?;
-    let mut settled = Settled::none(alloc, mappings.list().len())?;
+    let mut settled = Settled::none(alloc, chase.mappings.list().len())?;
     let answer = seat.next_answer();
     let program = &seat.program;
     let below = Overlay::new(alloc, facts);
+    let sight = Seen {
+        below: &below,
+        with,
+    };
     let branch = program.copy(alloc)?;
     plan_step(
         alloc,
         program,
         branch,
         answer,
-        mappings,
-        budget,
-        &below,
-        with,
+        chase,
+        &sight,
         &mut settled,
     )
 }
@@ -235,26 +237,25 @@ fn causes_of_step(
     seat: &AuditedUpdate,
     upper: &[AuditedUpdate],
     scene: Scene<'_>,
-    deps: Deps,
     plan: &Plan,
 ) -> Result<CauseList, Memory>
     requires between { IsBetween seat.now.program }
     requires planned { IsBetween plan.now.program }
     requires above { AreBetween upper.now }
     ensures causes { IfOk result (λ causes. AreOfStep (rules_in scene.entry.mappings.now)
-        (deps_of deps) scene.entry.committed seat.now plan.now (top levels.old) upper.now
-        causes.items) }
+        (deps_of scene.entry.deps) scene.entry.committed seat.now plan.now (top levels.old)
+        upper.now causes.items) }
     ensures levels { OnOk result (levels.new ≡ levels.old) }
 {
     let number = seat.number();
     if has_spent(&plan.program) {
         let trail = seat.trail();
-        let causes = causes_of_loss(alloc, levels, upper, scene, deps, number, trail)?;
+        let causes = causes_of_loss(alloc, levels, upper, scene, number, trail)?;
         return Ok(causes);
     }
     let trail = shown(&plan.program);
     let writes = seat.written(plan);
-    let causes = causes_of_writes(alloc, levels, upper, scene, deps, number, trail, writes)?;
+    let causes = causes_of_writes(alloc, levels, upper, scene, number, trail, writes)?;
     Ok(causes)
 }
 

@@ -85,11 +85,12 @@ fn prepare(
     let upper = above(seats, place);
     let scene = Scene {
         mappings,
+        deps,
         committed: before,
     };
     let number = seat.number();
     let trail = seat.trail();
-    let causes = causes_of_loss(alloc, levels, upper, scene, deps, number, trail)?;
+    let causes = causes_of_loss(alloc, levels, upper, scene, number, trail)?;
     Ok(causes)
 }
 

@@ -14,6 +14,7 @@ ghost use Rattle.chase_update.specs.Wishes.{wish};
 ghost use Rattle.chase_update.specs.Logged.{read_after};
 ghost use Rattle.chase_plan.specs.Planned.{at_rest, HasSettled, WantsStep, next_attempt, next_reads};
 
+use crate::grounds::{Chase, Seen};
 use base_limits::{Budget, Mappings};
 use base_types::{Choice, Direction, Facts, Memory, TryCopy};
 use chase_eval::{AppliedView, Settled};
@@ -32,41 +33,41 @@ pub struct Plan {
 }
 
 /// The next step of the attempt over what lies below it, with the answer where it is at a question. It is made on the branch, a
-/// copy of the attempt, which stays as it is. `with` is what lies below it with its own writes applied, and `settled` the
-/// mappings of which it is known that they have no violation that these caused; those of which it is known after the step are
-/// put in their place. It is refused only for want of memory.
+/// copy of the attempt, which stays as it is. `settled` are the mappings of which it is known that they have no violation that
+/// its own writes caused; those of which it is known after the step are put in their place. It is refused only for want of
+/// memory.
 pub fn plan_step<F: Facts>(
     alloc: Global,
     program: &Attempt,
     branch: Attempt,
     choice: Option<&Choice>,
-    mappings: &Mappings<'_>,
-    budget: Budget,
-    below: &F,
-    with: &F,
+    chase: &Chase<'_>,
+    seen: &Seen<'_, F>,
     settled: &mut Settled,
 ) -> Result<Plan, Memory>
     requires branch { branch ≡ program.now }
-    requires applied { F.tuples with.now ≡ apply (F.tuples below.now) program.now.attempt.own }
-    requires settled { HasSettled mappings.now (F.tuples below.now) program.now.attempt settled.old }
+    requires applied { F.tuples seen.now.with.now
+        ≡ apply (F.tuples seen.now.below.now) program.now.attempt.own }
+    requires settled { HasSettled chase.now.mappings.now (F.tuples seen.now.below.now)
+        program.now.attempt settled.old }
     requires wanted { WantsStep (wish program.now) (option_map choice_of (option_copied choice)) }
-    requires left { program.now.attempt.steps < budget }
+    requires left { program.now.attempt.steps < chase.now.budget }
     ensures program { IfOk result (λ plan.
         plan.program
         ≡ at_rest
-        (next_attempt mappings.now budget (F.tuples below.now) program.now.attempt
+        (next_attempt chase.now.mappings.now chase.now.budget (F.tuples seen.now.below.now)
+        program.now.attempt
         (option_map choice_of (option_copied choice.entry)))) }
     ensures reads { IfOk result (λ plan.
         reads_in plan.reads.items
-        ≡ next_reads mappings.now (F.tuples below.now) program.now.attempt
+        ≡ next_reads chase.now.mappings.now (F.tuples seen.now.below.now) program.now.attempt
         (option_map choice_of (option_copied choice.entry))) }
     ensures settled { OnOk result
-        (HasSettled mappings.now (F.tuples below.now) program.now.attempt settled.new) }
+        (HasSettled chase.now.mappings.now (F.tuples seen.now.below.now) program.now.attempt
+        settled.new) }
 {
     let mut after = branch;
-    match take_step(
-        alloc, program, &mut after, choice, mappings, budget, below, with, settled,
-    ) {
+    match take_step(alloc, program, &mut after, choice, chase, seen, settled) {
         Ok(reads) => Ok(Plan {
             program: after,
             reads,
@@ -84,32 +85,35 @@ fn take_step<F: Facts>(
     program: &Attempt,
     after: &mut Attempt,
     choice: Option<&Choice>,
-    mappings: &Mappings<'_>,
-    budget: Budget,
-    below: &F,
-    with: &F,
+    chase: &Chase<'_>,
+    seen: &Seen<'_, F>,
     settled: &mut Settled,
 ) -> Result<ReadLog, Memory>
     requires same { after.old ≡ program.now }
-    requires applied { F.tuples with.now ≡ apply (F.tuples below.now) program.now.attempt.own }
-    requires settled { HasSettled mappings.now (F.tuples below.now) program.now.attempt settled.old }
+    requires applied { F.tuples seen.now.with.now
+        ≡ apply (F.tuples seen.now.below.now) program.now.attempt.own }
+    requires settled { HasSettled chase.now.mappings.now (F.tuples seen.now.below.now)
+        program.now.attempt settled.old }
     requires wanted { WantsStep (wish program.now) (option_map choice_of (option_copied choice)) }
-    requires left { program.now.attempt.steps < budget }
+    requires left { program.now.attempt.steps < chase.now.budget }
     ensures program { OnOk result (after.new ≡ at_rest
-        (next_attempt mappings.now budget (F.tuples below.now) program.now.attempt
+        (next_attempt chase.now.mappings.now chase.now.budget (F.tuples seen.now.below.now)
+        program.now.attempt
         (option_map choice_of (option_copied choice.entry)))) }
     ensures reads { IfOk result (λ reads.
         reads_in reads.items
-        ≡ next_reads mappings.now (F.tuples below.now) program.now.attempt
+        ≡ next_reads chase.now.mappings.now (F.tuples seen.now.below.now) program.now.attempt
         (option_map choice_of (option_copied choice.entry))) }
     ensures settled { OnOk result
-        (HasSettled mappings.now (F.tuples below.now) program.now.attempt settled.new) }
+        (HasSettled chase.now.mappings.now (F.tuples seen.now.below.now) program.now.attempt
+        settled.new) }
 {
     // The set tells that it is in order.
-    below.is_in_order();
+    seen.below.is_in_order();
     let own = program.own();
-    let view = AppliedView::new(below, with, own);
-    begin(alloc, after, choice, mappings, budget)?;
+    let view = AppliedView::new(seen.below, seen.with, own);
+    let mappings = chase.mappings;
+    begin(alloc, after, choice, mappings, chase.budget)?;
     let made = own.len() as u64;
     let direction = program.direction();
     let reads = answer_all(alloc, after, &view, settled, mappings, direction, made)?;
