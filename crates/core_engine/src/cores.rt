@@ -20,6 +20,7 @@ use crate::known::Known;
 use crate::plans::{Plan, Snapshot, plan_at, snapshot_at};
 use crate::putting::{least_below, step_at};
 use crate::refusals::{DeliverRefusal, StepRefusal};
+use crate::scenes::Scene;
 use crate::standings::{has_waiting, place_of, question, standing};
 use crate::stepping::{lesser, raised};
 use base_limits::Budget;
@@ -62,29 +63,14 @@ pub struct Core<'s> {
 }
 
 impl<'s> Model for Core<'s> {
-    ghost use Rattle.std.specs.Prelude.{map};
-    ghost use Rattle.core_entries.specs.Meanings.{entry_of};
-    ghost use Rattle.core_queue.specs.Settings.{settings_of};
     ghost use Rattle.core_engine.specs.States.{State};
-    ghost use Rattle.core_queue.specs.Order.{CommitsAtLeast, ReadsAtMost, UnreadyUpTo};
-    ghost use Rattle.core_engine.specs.Kept.{ground_by, IsKept};
-    ghost use Rattle.core_engine.specs.Known.{IsKnown};
+    ghost use Rattle.core_engine.specs.Wholes.{state_of, IsWhole};
 
     ghost Value = { State };
 
-    ghost view = { λ c.
-        record {
-          over = ground_by c.mappings c.budget (settings_of c.settings) c.base.now
-              c.updates.now c.later;
-          history = map entry_of c.history.items;
-        } };
+    ghost view = { state_of };
 
-    ghost invariant = { λ c.
-        IsKept (ground_by c.mappings c.budget (settings_of c.settings) c.base.now c.updates.now
-        c.later) c.versions c.queue.items (map entry_of c.history.items)
-        × CommitsAtLeast c.queue.items c.least × ReadsAtMost c.queue.items c.most
-        × UnreadyUpTo c.queue.items c.unready
-        × IsKnown c.mappings c.versions c.queue.items c.known };
+    ghost invariant = { IsWhole };
 }
 
 impl<'s> Core<'s> {
@@ -288,12 +274,15 @@ impl<'s> Core<'s> {
         self.unready = 0;
         let known = self.known.number_of(update);
         self.known.update = 0;
-        let committed = step_at(
-            alloc,
-            self.mappings.all(),
-            self.settings,
+        let scene = Scene {
+            mappings: self.mappings.all(),
+            settings: self.settings,
             least,
             most,
+        };
+        let committed = step_at(
+            alloc,
+            &scene,
             &mut self.versions,
             &mut self.queue,
             &mut self.history,
