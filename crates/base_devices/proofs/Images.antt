@@ -4,8 +4,7 @@ use Rattle.std.specs.List.{list_any}
 use Rattle.std.proofs.Common.{◌≡◌, ℕ, zero, suc, ◌+◌, ◌<◌, ◌≤◌, ap, refl, ◌∙◌, sym, subst, List, [], ◌∷◌, ◌++◌, length, Bool, true, false, ◌||◌, if◌then◌else◌, arith}
 use Rattle.std.proofs.lemmas.List.Folds.{list_any-append}
 use Rattle.base_devices.specs.Torn.{Range, covers, range_of, written, IsTorn}
-use Rattle.base_devices.specs.Logs.{Call, Load, Sync, Write}
-use Rattle.base_devices.specs.InMemory.{Held, fresh, after, after_all, may_leave, IsImage}
+use Rattle.base_devices.specs.Traces.{Call, Load, Sync, Write, Held, fresh, after, after_all, may_leave, IsImage}
 use Rattle.base_devices.proofs.Places.{written_longer, written_elsewhere}
 
 neither : (a b : Bool) → (a || b) ≡ false → (a ≡ false) × (b ≡ false)

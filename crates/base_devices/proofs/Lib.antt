@@ -2,4 +2,5 @@ pub mod Pieces
 pub mod Going
 mod Places
 mod Images
-mod Moments
+pub mod Moments
+mod Counting

@@ -3,7 +3,7 @@ use Rattle.std.specs.Prelude.{Bool}
 use Rattle.base_devices.specs.declared.logs.Deed.{Deed}
 use Rattle.base_devices.specs.declared.logs.Deed.TheVariants as deeds
 use Rattle.base_devices.specs.declared.logs.Counted.{Counted}
-use Rattle.base_devices.specs.Logs.{Call, Load, Sync, Write}
+use Rattle.base_devices.specs.Traces.{Call, Load, Sync, Write}
 
 -- the call, once it is known whether it failed
 abbrev pub deed_of : Deed → Bool → Call

@@ -5,6 +5,7 @@ pub mod Writing
 pub mod Given
 pub mod States
 pub mod Torn
+pub mod Traces
 pub mod Logs
 pub mod InMemory
 pub mod Counted

@@ -4,12 +4,7 @@ use Rattle.std.specs.List.{list_any}
 use Rattle.base_devices.specs.Faults.{next_count}
 use Rattle.base_devices.specs.declared.disks.DiskRefusal.{DiskRefusal}
 use Rattle.base_devices.specs.declared.disks.DiskRefusal.TheVariants.{Failed, Memory}
-
--- a counted call, with whether it failed
-pub data Call : Type 0 where
-  Load : Bool → Call
-  Sync : Bool → Call
-  Write : ℕ → List ℕ → Bool → Call
+use Rattle.base_devices.specs.Traces.{Call}
 
 -- The counted calls, the numbers of the calls that fail, and how many have failed. The first call has the number 1.
 pub record Log : Type 0 where

@@ -11,6 +11,7 @@ mod lines;
 mod logs;
 mod mem_disk;
 mod whole;
+mod writing;
 
 pub use crate::lines::{LineRefusal, Lines, NextLine};
 pub use adapters::{StdSink, StdSource};
@@ -19,3 +20,4 @@ pub use devices::{Failed, Sink, Source};
 pub use disks::{Disk, DiskRefusal};
 pub use mem_disk::MemDisk;
 pub use whole::{ReadRefusal, WriteFault, read_all, write_all};
+pub use writing::overwrite;

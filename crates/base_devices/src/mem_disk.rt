@@ -1,12 +1,13 @@
 // A disk in memory that fails at chosen calls.
-ghost use Rattle.std.specs.Prelude.{◌≡◌, ◌+◌, ◌≤◌, length, vec_len, vec_capacity, IfOk, OnOk};
+ghost use Rattle.std.specs.Prelude.{◌≡◌, ◌≤◌, length, IfOk, OnOk};
 ghost use Rattle.base_devices.specs.InMemory.{bytes_of, state_of, unused_disk};
-ghost use Rattle.base_devices.specs.Logs.{IsCounted, Load, Sync, Write};
+ghost use Rattle.base_devices.specs.Logs.{IsCounted};
 ghost use Rattle.base_devices.specs.States.{GoesOn, IsLeft, IsLeftTorn, IsRefused, IsSettled, LeavesOnly};
 ghost use Rattle.base_devices.specs.Torn.{range_of, written};
+ghost use Rattle.base_devices.specs.Traces.{Load, Sync, Write};
 
 use crate::logs::{Deed, Log};
-use crate::{Disk, DiskRefusal, Memory};
+use crate::{Disk, DiskRefusal, Memory, overwrite};
 use std::alloc::Global;
 use std::marker::Model;
 
@@ -22,7 +23,8 @@ pub struct MemDisk {
 
 impl Model for MemDisk {
     ghost use Rattle.std.specs.Prelude.{◌≡◌};
-    ghost use Rattle.base_devices.specs.InMemory.{MemState, after_all, fresh};
+    ghost use Rattle.base_devices.specs.InMemory.{MemState};
+    ghost use Rattle.base_devices.specs.Traces.{after_all, fresh};
 
     ghost Value = { MemState };
 
@@ -30,20 +32,6 @@ impl Model for MemDisk {
 
     ghost invariant = { λ s.
         s.bytes.items ≡ (after_all (fresh s.made_of.items) s.log.calls).bytes };
-}
-
-// Writes over what is there from the place on, and past the end, for which there is room.
-fn overwrite(file: &mut Vec<u8>, at: usize, bytes: &[u8])
-    requires at { at ≤ length file.old.items }
-    requires room { vec_len file.old + length bytes.now ≤ vec_capacity file.old }
-    ensures { file.new.items ≡ written at bytes.now file.old.items }
-{
-    if bytes.len() >= file.len() - at {
-        file.truncate(at);
-        file.extend_from_slice(bytes).unwrap();
-        return;
-    }
-    file[at..at + bytes.len()].copy_from_slice(bytes);
 }
 
 impl MemDisk {

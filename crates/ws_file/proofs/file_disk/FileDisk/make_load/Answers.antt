@@ -1,0 +1,18 @@
+use Rattle.std.proofs.Common.{refl, sym, ◌∙◌}
+use Rattle.base_devices.specs.Traces.{Load}
+use Rattle.base_devices.proofs.Moments.{still, still_load}
+use Rattle.ws_file.specs.Files.{FileState, trace_of}
+use Rattle.ws_file.proofs.Counting.{made}
+use Rattle.ws_file.proofs.file_disk.FileDisk.make_load.Goals as goal
+
+pub invariant_of-self : goal.invariant_of-self
+invariant_of-self c =
+    let old : FileState = record { base = c.self.inside.base; made_of = c.self.inside.made_of.items; log = c.self.inside.log } in
+    let new : FileState = record { base = c.self.inside.base; made_of = c.self.inside.made_of.items; log = c.make.new.self } in
+    c.self.invariant ∙ sym (still Load (trace_of old) (trace_of new) still_load c.make.result (made Load old new refl c.make.result c.make.ensures.counted))
+
+pub invariant_of-self-2 : goal.invariant_of-self-2
+invariant_of-self-2 c =
+    let old : FileState = record { base = c.self.inside.base; made_of = c.self.inside.made_of.items; log = c.self.inside.log } in
+    let new : FileState = record { base = c.self.inside.base; made_of = c.self.inside.made_of.items; log = c.make.new.self } in
+    c.self.invariant ∙ sym (still Load (trace_of old) (trace_of new) still_load c.make.result (made Load old new refl c.make.result c.make.ensures.counted))

@@ -1,0 +1,162 @@
+// A file is locked, and read from a place on.
+ghost use Rattle.std.specs.Prelude.{◌≡◌, IfOk};
+ghost use Rattle.base_devices.specs.States.{IsSettled};
+ghost use Rattle.ws_file.specs.Files.{state_of};
+
+use crate::faults::OpenFault;
+use crate::file_disk::FileDisk;
+use std::alloc::Global;
+use std::fs::{self, File, OpenOptions, TryLockError};
+use std::io::{self, ErrorKind, Read, Seek, SeekFrom};
+use std::os::fd::AsRawFd;
+use std::os::unix::fs::MetadataExt;
+use std::thread;
+use std::time::{Duration, Instant};
+
+/// What a process wants of a file: any number read it at once, and one alone changes it.
+#[derive(Clone, Copy, Debug, PartialEq, Eq)]
+pub enum Access {
+    Read,
+    Change,
+}
+
+/// A file that this process has locked, and not read yet. The lock goes with the value, and with the process.
+#[derive(Drop)]
+pub struct Locked {
+    file: File,
+}
+
+/// A file that is open and not locked any more. As long as it is, no other file has its number.
+#[derive(Drop)]
+pub struct Released {
+    file: File,
+}
+
+// How often a file is opened whose name went over to another one while its lock was waited for.
+const TURNS: u32 = 1_000;
+
+// How long a process sleeps before it asks for the lock again.
+const PAUSE_IN_MILLIS: u64 = 10;
+
+/// Opens the file and locks it, and waits as long as it may while other processes have it in hand. A file whose name went
+/// over to another one meanwhile is let go, and the other one is locked.
+pub fn lock(
+    rt: &HostRuntime,
+    path: &str,
+    access: Access,
+    wait: Duration,
+) -> Result<Locked, OpenFault> {
+    let start = now(rt)?;
+    for _turn in 0..TURNS {
+        let file = opened(rt, path, access)?;
+        wait_for(rt, &file, access, start, wait)?;
+        if is_named(rt, &file, path)? {
+            return Ok(Locked { file });
+        }
+    }
+    Err(OpenFault::InUse)
+}
+
+// The clock that only goes on.
+fn now(rt: &HostRuntime) -> Result<Instant, OpenFault> {
+    Instant::now(rt).map_err(OpenFault::NotLocked)
+}
+
+fn opened(rt: &HostRuntime, path: &str, access: Access) -> Result<File, OpenFault> {
+    let mut how = OpenOptions::new();
+    how.read(true).write(access == Access::Change);
+    how.open(rt, path)
+        .map_err(|error| not_opened(error, access))
+}
+
+fn not_opened(error: io::Error, access: Access) -> OpenFault {
+    match (error.kind(), access) {
+        (ErrorKind::NotFound, _) => OpenFault::Absent,
+        (ErrorKind::PermissionDenied | ErrorKind::ReadOnlyFilesystem, Access::Change) => {
+            OpenFault::Unwritable(error)
+        }
+        _ => OpenFault::Unreadable(error),
+    }
+}
+
+// Asks for the lock until it has it, or the time since the start is over.
+fn wait_for(
+    rt: &HostRuntime,
+    file: &File,
+    access: Access,
+    start: Instant,
+    wait: Duration,
+) -> Result<(), OpenFault> {
+    for _try in 0..u32::MAX {
+        match try_lock(file, access) {
+            Ok(()) => return Ok(()),
+            Err(TryLockError::Error(error)) => return Err(OpenFault::NotLocked(error)),
+            Err(TryLockError::WouldBlock) => {}
+        }
+        if now(rt)?.duration_since(start) >= wait {
+            return Err(OpenFault::InUse);
+        }
+        thread::sleep(rt, Duration::from_millis(PAUSE_IN_MILLIS));
+    }
+    Err(OpenFault::InUse)
+}
+
+fn try_lock(file: &File, access: Access) -> Result<(), TryLockError> {
+    match access {
+        Access::Read => file.try_lock_shared(),
+        Access::Change => file.try_lock(),
+    }
+}
+
+// Whether the path names the open file.
+fn is_named(rt: &HostRuntime, file: &File, path: &str) -> Result<bool, OpenFault> {
+    match fs::metadata(rt, path) {
+        Ok(named) => {
+            let found = file.metadata().map_err(OpenFault::Unreadable)?;
+            Ok(found.dev() == named.dev() && found.ino() == named.ino())
+        }
+        Err(error) if error.kind() == ErrorKind::NotFound => Ok(false),
+        Err(error) => Err(OpenFault::Unreadable(error)),
+    }
+}
+
+impl Released {
+    pub(crate) fn of(file: File) -> Released {
+        Released { file }
+    }
+}
+
+impl Locked {
+    pub(crate) fn of(file: File) -> Locked {
+        Locked { file }
+    }
+
+    /// Whether it is the file that was let go, and no other one that has its name now.
+    pub fn is(&self, released: &Released) -> Result<bool, OpenFault> {
+        let here = self.file.metadata().map_err(OpenFault::Unreadable)?;
+        let there = released.file.metadata().map_err(OpenFault::Unreadable)?;
+        Ok(here.dev() == there.dev() && here.ino() == there.ino())
+    }
+
+    /// Reads the file from the place on. What it has is made last first, so nothing is pending at `Ok`.
+    pub fn read_from(self, alloc: Global, place: u64) -> Result<FileDisk, OpenFault>
+        ensures settled { IfOk result (λ disk. IsSettled (state_of disk)) }
+        ensures base { IfOk result (λ disk. disk.base ≡ place) }
+        ensures faults { IfOk result (λ disk. disk.log.faults ≡ 0) }
+    {
+        let mut file = self.file;
+        let bytes = read_settled(alloc, &mut file, place).map_err(OpenFault::Unreadable)?;
+        Ok(FileDisk::of(alloc, file, place, bytes)?)
+    }
+}
+
+// Makes last what the file has, drops the system's copies of it, which a sync that failed in an earlier process may have left
+// other than the file is, and reads from the place on.
+fn read_settled(alloc: Global, file: &mut File, place: u64) -> io::Result<Vec<u8>> {
+    file.sync_data()?;
+    let _advice = libc::posix_fadvise(file.as_raw_fd(), 0, 0, libc::POSIX_FADV_DONTNEED);
+    file.seek(SeekFrom::Start(place))?;
+    let mut bytes = Vec::new(alloc);
+    file.read_to_end(&mut bytes)?;
+    Ok(bytes)
+}

@@ -1,0 +1,89 @@
+// A log is opened, and read on.
+ghost use Rattle.std.specs.Prelude.{IfOk};
+ghost use Rattle.base_devices.specs.States.{IsSettled};
+ghost use Rattle.ws_file.specs.Files.{bytes_of, state_of};
+ghost use Rattle.ws_seal.specs.Logs.{HasGateAt};
+ghost use Rattle.ws_log.specs.Held.{IsFresh};
+ghost use Rattle.ws_log.specs.Opened.{IsReopened};
+
+use crate::faults::{Fault, not_read};
+use crate::logs::{OpenLog, RestingLog, from_gate};
+use std::alloc::Global;
+use std::time::Duration;
+use ws_file::{Access, FileDisk, Locked, lock};
+use ws_seal::{Texts, read_log, read_tail};
+
+/// A log in hand, and the texts that were read of it, in order.
+#[derive(Drop)]
+pub struct Opened {
+    pub log: OpenLog,
+    pub texts: Vec<Vec<u8>>,
+}
+
+/// A log that was read on.
+#[derive(Drop)]
+pub enum Reopened {
+    /// The same file, with the texts that are new.
+    Same(Opened),
+    /// Another file has the path: all its texts, the head first.
+    Another(Opened),
+}
+
+/// Opens the log in the file: locks it, waiting as long as it may, makes last what it has, and reads and checks all, the head
+/// first. It writes nothing.
+pub fn open(rt: &HostRuntime, path: &str, access: Access, wait: Duration) -> Result<Opened, Fault> {
+    let locked = lock(rt, path, access, wait)?;
+    read_whole(rt.alloc(), locked)
+}
+
+/// Opens again the log that this process let go of, and reads what is new; another file that has its path by now is read whole.
+pub fn reopen(
+    rt: &HostRuntime,
+    resting: RestingLog,
+    path: &str,
+    access: Access,
+    wait: Duration,
+) -> Result<Reopened, Fault>
+    ensures { IfOk result IsReopened }
+{
+    let locked = lock(rt, path, access, wait)?;
+    if locked.is(&resting.released)? {
+        return Ok(Reopened::Same(read_new(rt.alloc(), locked, resting)?));
+    }
+    Ok(Reopened::Another(read_whole(rt.alloc(), locked)?))
+}
+
+fn read_whole(alloc: Global, locked: Locked) -> Result<Opened, Fault>
+    ensures { IfOk result (λ opened. IsFresh opened.log) }
+{
+    let mut disk = locked.read_from(alloc, 0)?;
+    match read_log(alloc, &mut disk) {
+        Ok(found) => in_hand(disk, found, 0),
+        Err(fault) => Err(not_read(&disk, fault, 0)),
+    }
+}
+
+fn read_new(alloc: Global, locked: Locked, resting: RestingLog) -> Result<Opened, Fault>
+    ensures { IfOk result (λ opened. IsFresh opened.log) }
+{
+    let mut disk = locked.read_from(alloc, resting.place)?;
+    match read_tail(alloc, &mut disk, resting.mark) {
+        Ok(found) => in_hand(disk, found, resting.count),
+        Err(fault) => Err(not_read(&disk, fault, resting.count)),
+    }
+}
+
+// What was read of the disk, with its gate in hand; so many texts were read before.
+fn in_hand(disk: FileDisk, found: Texts, known: u64) -> Result<Opened, Fault>
+    requires gate { HasGateAt found.gate (bytes_of disk) }
+    requires settled { IsSettled (state_of disk) }
+    ensures { IfOk result (λ opened. IsFresh opened.log) }
+{
+    let Texts { texts, gate, mark } = found;
+    let log = from_gate(disk, gate, mark)?;
+    let count = known.saturating_add(texts.len() as u64);
+    Ok(Opened {
+        log: OpenLog::of(log, count),
+        texts,
+    })
+}

@@ -1,0 +1,4 @@
+pub mod Seals
+pub mod Logs
+pub mod Answers
+pub mod Appends

@@ -1,0 +1,132 @@
+// A log is read, from its head on or behind a mark.
+ghost use Rattle.std.specs.Prelude.{◌≡◌, ◌≤◌, ◌++◌, ◌∷◌, [], length, take, map, true, false, IfOk, OnOk};
+ghost use Rattle.base_devices.specs.States.{IsSettled};
+ghost use Rattle.ws_roll.specs.Histories.{IsReading};
+ghost use Rattle.ws_seal.specs.Answers.{BehindTold, DiskTold, GateTold, LogTold, TailTold};
+ghost use Rattle.ws_seal.specs.Logs.{HasGateAt, IsHiddenBehind};
+
+use crate::seals::{Mark, unseal};
+use crate::types::{Damage, ReadFault, Texts};
+use base_devices::Disk;
+use def_memory::Memory;
+use std::alloc::Global;
+use ws_roll::{load_synced, split_frame};
+
+/// Reads the log that the disk has, from its head on. It writes nothing. At `Ok` the log is in hand and nothing is pending.
+pub fn read_log<D: Disk>(alloc: Global, disk: &mut D) -> Result<Texts, ReadFault>
+    ensures told { DiskTold LogTold (D.state disk.old) (D.state disk.new) result }
+    ensures gate { IfOk result (λ found. HasGateAt found.gate (D.state disk.new).bytes) }
+    ensures reads { IsReading (D.state disk.old) (D.state disk.new) }
+    ensures lasts { OnOk result (IsSettled (D.state disk.new)) }
+{
+    let bytes = load_synced(alloc, disk)?;
+    log_of(alloc, &bytes)
+}
+
+/// Reads the texts that the disk has behind the mark. It writes nothing. At `Ok` they are in hand and nothing is pending.
+pub fn read_tail<D: Disk>(alloc: Global, disk: &mut D, mark: Mark) -> Result<Texts, ReadFault>
+    ensures told { DiskTold (TailTold mark.digits) (D.state disk.old) (D.state disk.new) result }
+    ensures gate { IfOk result (λ found. HasGateAt found.gate (D.state disk.new).bytes) }
+    ensures reads { IsReading (D.state disk.old) (D.state disk.new) }
+    ensures lasts { OnOk result (IsSettled (D.state disk.new)) }
+{
+    let bytes = load_synced(alloc, disk)?;
+    tail_of(alloc, &bytes, mark)
+}
+
+// What the bytes are as texts behind the mark.
+fn tail_of(alloc: Global, bytes: &[u8], mark: Mark) -> Result<Texts, ReadFault>
+    ensures { TailTold mark.digits bytes.now result }
+{
+    texts_behind(alloc, bytes, 0, mark, Vec::new(alloc))
+}
+
+// What the bytes are as a log.
+fn log_of(alloc: Global, bytes: &[u8]) -> Result<Texts, ReadFault>
+    ensures { LogTold bytes.now result }
+{
+    let Some((payload, _behind)) = split_frame(bytes) else {
+        return Err(ReadFault::Damaged(Damage::At(0)));
+    };
+    let Some((mark, head)) = unseal(&[], payload) else {
+        return Err(ReadFault::Damaged(Damage::NotAsWritten(0)));
+    };
+    let start = payload.len() + 4;
+    let mut texts = Vec::new(alloc);
+    keep(alloc, &mut texts, head)?;
+    texts_behind(alloc, bytes, start, mark, texts)
+}
+
+// What the bytes from the place on are, as texts behind the mark and behind those that were read before the place.
+fn texts_behind(
+    alloc: Global,
+    bytes: &[u8],
+    start: usize,
+    mark: Mark,
+    texts: Vec<Vec<u8>>,
+) -> Result<Texts, ReadFault>
+    requires { start ≤ length bytes.now }
+    ensures { BehindTold (take start bytes.now) mark.digits (map (λ v. v.items) texts.items) bytes.now
+        result }
+{
+    let (mut mark, mut texts, mut rest) = (mark, texts, &bytes[start..]);
+    'records: loop {
+        let gate = bytes.len() - rest.len();
+        let [byte, behind @ ..] = rest else {
+            return Err(ReadFault::Damaged(Damage::At(gate as u64)));
+        };
+        if *byte != 1 {
+            return at_gate(texts, gate, mark, behind);
+        }
+        let Some((payload, more)) = split_frame(behind) else {
+            return Err(ReadFault::Damaged(Damage::At(gate as u64)));
+        };
+        let Some((next, text)) = unseal(&mark.digits, payload) else {
+            return Err(ReadFault::Damaged(Damage::NotAsWritten(texts.len() as u64)));
+        };
+        keep(alloc, &mut texts, text)?;
+        mark = next;
+        rest = more;
+    }
+}
+
+// What was read up to a closed gate, unless a record is hidden behind it.
+fn at_gate(texts: Vec<Vec<u8>>, gate: usize, mark: Mark, behind: &[u8]) -> Result<Texts, ReadFault>
+    ensures { GateTold mark.digits behind.now (map (λ v. v.items) texts.items) gate result }
+{
+    if hides(&mark, behind) {
+        return Err(ReadFault::Damaged(Damage::At(gate as u64)));
+    }
+    Ok(Texts { texts, gate, mark })
+}
+
+// Whether a record is hidden: it stands behind the closed gate whole, with the mark that it ought to have, and an open gate
+// behind it.
+fn hides(mark: &Mark, behind: &[u8]) -> bool
+    ensures hidden { result ≡ true → IsHiddenBehind mark.now.digits behind.now }
+    ensures not_hidden { result ≡ false → IsHiddenBehind mark.now.digits behind.now → ⊥ }
+{
+    let Some((payload, more)) = split_frame(behind) else {
+        return false;
+    };
+    let [byte, ..] = more else {
+        return false;
+    };
+    if *byte != 1 {
+        return false;
+    }
+    let Some(_found) = unseal(&mark.digits, payload) else {
+        return false;
+    };
+    true
+}
+
+// Puts a copy of the text behind the others.
+fn keep(alloc: Global, texts: &mut Vec<Vec<u8>>, text: &[u8]) -> Result<(), Memory>
+    ensures { OnOk result (map (λ v. v.items) texts.new.items
+        ≡ map (λ v. v.items) texts.old.items ++ text.now ∷ []) }
+{
+    let copy = Vec::from_slice(alloc, text)?;
+    texts.push(copy)?;
+    Ok(())
+}

@@ -1,0 +1,57 @@
+// What was read of a log, and why it was not.
+use crate::seals::Mark;
+use base_devices::DiskRefusal;
+use def_memory::Memory;
+
+/// The texts that were read, the place of the gate behind them, and the mark of the last.
+#[derive(Drop)]
+pub struct Texts {
+    pub texts: Vec<Vec<u8>>,
+    pub gate: usize,
+    pub mark: Mark,
+}
+
+/// What is damaged.
+#[derive(Clone, Copy, Debug, PartialEq, Eq)]
+pub enum Damage {
+    /// The gate at the place: it is missing, or it is open and no whole record stands behind it, or it hides one. 0: no whole head.
+    At(u64),
+    /// The record of this number is not as it was written. The head has the number 0, and what is read behind a mark begins with 0.
+    NotAsWritten(u64),
+}
+
+/// Why a log was not read. The disk reads as before.
+#[derive(Clone, Copy, Debug, PartialEq, Eq)]
+pub enum ReadFault {
+    /// The disk failed.
+    DiskFault,
+    /// The bytes are no log.
+    Damaged(Damage),
+    /// Memory was wanting.
+    Memory,
+}
+
+impl From<DiskRefusal> for ReadFault {
+    ghost use Rattle.std.specs.Prelude.{◌≡◌};
+    ghost use Rattle.ws_seal.specs.Answers.{read_fault};
+
+    ghost from_gives = { λ refusal fault. fault ≡ read_fault refusal };
+
+    fn from(refusal: DiskRefusal) -> ReadFault {
+        match refusal {
+            DiskRefusal::Failed => ReadFault::DiskFault,
+            DiskRefusal::Memory => ReadFault::Memory,
+        }
+    }
+}
+
+impl From<Memory> for ReadFault {
+    ghost use Rattle.std.specs.Prelude.{◌≡◌};
+    ghost use Rattle.ws_seal.specs.declared.types.ReadFault.TheVariants.{Memory};
+
+    ghost from_gives = { λ _ fault. fault ≡ Memory };
+
+    fn from(_memory: Memory) -> ReadFault {
+        ReadFault::Memory
+    }
+}
