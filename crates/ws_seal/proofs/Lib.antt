@@ -4,3 +4,4 @@ pub mod Hiding
 pub mod SoFar
 pub mod Appending
 pub mod OneLog
+pub mod Changed

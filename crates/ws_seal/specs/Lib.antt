@@ -2,3 +2,4 @@ pub mod Seals
 pub mod Logs
 pub mod Answers
 pub mod Appends
+pub mod Changes

@@ -5,12 +5,17 @@
 //! that was cut, and for two texts of one digest. That nobody finds such texts is trusted and not proved.
 #![tactic(auto)]
 
+mod laws;
 mod logs;
 mod making;
 mod reading;
 mod seals;
 mod types;
 
+pub use crate::laws::{
+    changes_are_told, logs_have_one_reading, processes_keep_what_is_acknowledged,
+    the_last_mark_tells_all_texts,
+};
 pub use crate::logs::{AppendFault, Log};
 pub use crate::making::{LogText, MakeFault, log_text};
 pub use crate::reading::{read_log, read_tail};

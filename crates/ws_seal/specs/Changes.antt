@@ -1,0 +1,31 @@
+-- A log that was changed on the disk, and what would keep that from being told.
+use Rattle.std.specs.Prelude.{◌≡◌, ℕ, List, [], ◌∷◌, ◌++◌, length}
+use Rattle.ws_roll.specs.Rolls.{gate_of}
+use Rattle.ws_seal.specs.Seals.{mark, payloads}
+
+-- the other bytes have another one at the place
+pub record IsOtherAt (place : ℕ) (bytes other : List ℕ) : Type 0 where
+  pub front : List ℕ
+  pub back : List ℕ
+  pub was : ℕ
+  pub is : ℕ
+  pub bytes_are : bytes ≡ front ++ (was ∷ back)
+  pub other_are : other ≡ front ++ (is ∷ back)
+  pub changed : was ≡ is → ⊥
+  pub place_is : place ≡ length front
+
+-- the place is that of the gate before the last of these texts
+pub record IsLastGate (before m : List ℕ) (texts : List (List ℕ)) (place : ℕ) : Type 0 where
+  pub earlier : List (List ℕ)
+  pub text : List ℕ
+  pub texts_are : texts ≡ earlier ++ text ∷ []
+  pub place_is : place ≡ gate_of before (payloads m earlier)
+
+-- two different inputs of the digest have one mark: the first 8 bytes of their digests are the same
+pub record Collision : Type 0 where
+  pub before : List ℕ
+  pub text : List ℕ
+  pub other_before : List ℕ
+  pub other_text : List ℕ
+  pub apart : before ++ text ≡ other_before ++ other_text → ⊥
+  pub same : mark before text ≡ mark other_before other_text

@@ -1,0 +1,52 @@
+// Laws of logs, each as the contract of a function that does nothing.
+ghost use Rattle.std.specs.Prelude.{◌≡◌, ◌≤◌, ◌<◌, ◌⊎◌, ◌∷◌, ℕ, List, length};
+ghost use Rattle.ws_roll.specs.Rolls.{gate_of};
+ghost use Rattle.ws_roll.specs.Lives.{AreKept, AreLives, Life};
+ghost use Rattle.ws_seal.specs.Changes.{Collision, IsLastGate, IsOtherAt};
+ghost use Rattle.ws_seal.specs.Logs.{HasTexts, IsLog, IsLogRead, IsRead, opening};
+ghost use Rattle.ws_seal.specs.Seals.{last_mark, mark, payloads};
+
+use base_devices::Disk;
+use ws_roll::rolls_have_one_reading;
+
+/// Bytes are a log of one list of texts at most.
+pub fn logs_have_one_reading()
+    ensures { (texts others : List (List ℕ)) (bytes : List ℕ) → IsLog texts bytes
+        → IsLog others bytes → texts ≡ others }
+{
+    rolls_have_one_reading();
+}
+
+/// Over the lives of many processes at the records of one log, each of which opens what the one before it left and is ended at any
+/// moment: what is left has each text that any of them acknowledged, in order, and of each process at most one text more than it
+/// acknowledged, unless a fault of the disk broke more of its appends.
+pub fn processes_keep_what_is_acknowledged<D: Disk>()
+    ensures { (before m : List ℕ) (texts : List (List ℕ)) (found : List ℕ)
+        (lives : List (Life (List ℕ) D)) (left : List ℕ) → HasTexts before m texts found
+        → AreLives (HasTexts before m) D.state found lives left
+        → AreKept (HasTexts before m) D.state texts lives left }
+{
+    rolls_have_one_reading();
+}
+
+/// The mark of the last text vouches for all: as many texts with the same last mark are the same texts, or two inputs of the digest
+/// have one mark.
+pub fn the_last_mark_tells_all_texts()
+    ensures { (m : List ℕ) (texts others : List (List ℕ)) → length texts ≡ length others
+        → last_mark m texts ≡ last_mark m others → (texts ≡ others) ⊎ Collision }
+{}
+
+/// A byte that was changed is told, but at the gate before the last text, and behind it: what is read of the other bytes then shows two
+/// inputs of the digest with one mark. The first clause is of the records, the second of the head.
+pub fn changes_are_told()
+    ensures records { (before m : List ℕ) (texts : List (List ℕ)) (bytes other : List ℕ) (place : ℕ)
+        → HasTexts before m texts bytes → IsOtherAt place bytes other → length before ≤ place
+        → place < gate_of before (payloads m texts) → (IsLastGate before m texts place → ⊥)
+        → (others : List (List ℕ)) (gate : ℕ) (last : List ℕ)
+        → IsRead before m other others gate last → Collision }
+    ensures head { (texts : List (List ℕ)) (bytes other : List ℕ) (place : ℕ) → IsLog texts bytes
+        → IsOtherAt place bytes other → (head : List ℕ) (records : List (List ℕ))
+        → texts ≡ head ∷ records → place < length (opening head)
+        → (others : List (List ℕ)) (gate : ℕ) (last : List ℕ) → IsLogRead other others gate last
+        → Collision }
+{}
