@@ -10,6 +10,7 @@ mod logs;
 mod making;
 mod reading;
 mod seals;
+mod telling;
 mod types;
 
 pub use crate::laws::{
@@ -20,4 +21,5 @@ pub use crate::logs::{AppendFault, Log};
 pub use crate::making::{LogText, MakeFault, log_text};
 pub use crate::reading::{read_log, read_tail};
 pub use crate::seals::{Mark, mark_of};
+pub use crate::telling::{TellFault, append_and_tell};
 pub use crate::types::{Damage, ReadFault, Texts};

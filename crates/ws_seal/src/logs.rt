@@ -73,6 +73,8 @@ impl<D: Disk + Drop> Log<D> {
             → IsHeld before m texts (D.state self.old.disk) self.old.gate self.old.mark.digits
             → OnOk result (IsHeld before m (texts ++ text.now ∷ []) (D.state self.new.disk)
             self.new.gate self.new.mark.digits) }
+        ensures hand { OnOk result
+            (IsInHand (D.state self.new.disk) (record { gate = self.new.gate })) }
         ensures told { AppendTold self.old self.new (D.state self.old.disk)
             (D.state self.new.disk) result }
     {

@@ -12,4 +12,4 @@ returns-clause-held c = held c.args.gate (bytes_of c.args.disk) c.args.mark.digi
 pub returns-clause-hand : goal.returns-clause-hand
 returns-clause-hand c =
     let h = held c.args.gate (bytes_of c.args.disk) c.args.mark.digits (state_of c.in_ok-disk.disk) c.requires.gate c.in_ok-disk.ensures.bytes c.in_ok-disk.ensures.lasts in
-    ([], ([], h.at))
+    ([], [], h.at)

@@ -29,3 +29,14 @@ returns-clause-acknowledged g c = λ before m texts held.
     let is : c.deref.result.now ≡ sealed c.args.self.now.mark.digits c.args.text.now = c.deref.ensures.value ∙ c.in_ok-payload.ensures.payload in
     appended before m texts c.args.self.now.mark.digits c.args.text.now c.deref.result.now held.mark_is is new c.gate-self.result c.in_ok-payload.mark.digits c.in_ok-payload.ensures.marked
     (subst (λ n. IsAt before (payloads m texts ++ c.deref.result.now ∷ []) new record { gate = n }) (sym c.gate-self.ensures) (c.in_ok-next.ensures.acknowledged before (payloads m texts) at))
+
+pub returns-clause-hand : goal.returns-clause-hand
+returns-clause-hand g c =
+    let before = c.requires.hand.0 in
+    let held = c.requires.hand.1 in
+    let new : State = g.D.Disk.state c.append.new.disk in
+    let at : IsAt before held (g.D.Disk.state c.args.self.now.disk) c.with_gate_at-roll.result = subst (λ h. IsAt before held (g.D.Disk.state c.args.self.now.disk) h) (sym c.with_gate_at-roll.ensures) c.requires.hand.2 in (
+      before,
+      held ++ c.deref.result.now ∷ [],
+      subst (λ n. IsAt before (held ++ c.deref.result.now ∷ []) new record { gate = n }) (sym c.gate-self.ensures) (c.in_ok-next.ensures.acknowledged before held at),
+    )
