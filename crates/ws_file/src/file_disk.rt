@@ -78,7 +78,7 @@ impl FileDisk {
     }
 
     /// The same file from a place further on, of which nothing is pending. What stands before the place is not kept.
-    pub fn behind(self, place: usize) -> Result<FileDisk, Memory>
+    pub fn from_place(self, place: usize) -> Result<FileDisk, Memory>
         requires within { place ≤ length (bytes_of self) }
         requires settled { IsSettled (state_of self) }
         ensures base { IfOk result (λ disk. disk.base ≡ self.base + place) }

@@ -24,6 +24,7 @@ pub enum Access {
 #[derive(Drop)]
 pub struct Locked {
     file: File,
+    access: Access,
 }
 
 /// A file that is open and not locked any more. As long as it is, no other file has its number.
@@ -51,7 +52,7 @@ pub fn lock(
         let file = opened(rt, path, access)?;
         wait_for(rt, &file, access, start, wait)?;
         if is_named(rt, &file, path)? {
-            return Ok(Locked { file });
+            return Ok(Locked { file, access });
         }
     }
     Err(OpenFault::InUse)
@@ -127,10 +128,6 @@ impl Released {
 }
 
 impl Locked {
-    pub(crate) fn of(file: File) -> Locked {
-        Locked { file }
-    }
-
     /// Whether it is the file that was let go, and no other one that has its name now.
     pub fn is(&self, released: &Released) -> Result<bool, OpenFault> {
         let here = self.file.metadata().map_err(OpenFault::Unreadable)?;
@@ -144,16 +141,31 @@ impl Locked {
         ensures base { IfOk result (λ disk. disk.base ≡ place) }
         ensures faults { IfOk result (λ disk. disk.log.faults ≡ 0) }
     {
-        let mut file = self.file;
-        let bytes = read_settled(alloc, &mut file, place).map_err(OpenFault::Unreadable)?;
+        let Locked { mut file, access } = self;
+        make_last(&file, access).map_err(OpenFault::Unreadable)?;
+        let bytes = read_fresh(alloc, &mut file, place).map_err(OpenFault::Unreadable)?;
         Ok(FileDisk::of(alloc, file, place, bytes)?)
     }
 }
 
-// Makes last what the file has, drops the system's copies of it, which a sync that failed in an earlier process may have left
-// other than the file is, and reads from the place on.
-fn read_settled(alloc: Global, file: &mut File, place: u64) -> io::Result<Vec<u8>> {
-    file.sync_data()?;
+// Makes last what the file has. A file system that is only read refuses a sync, and has nothing pending.
+fn make_last(file: &File, access: Access) -> io::Result<()> {
+    match file.sync_data() {
+        Err(error) if access == Access::Read && is_only_read(error.kind()) => Ok(()),
+        synced => synced,
+    }
+}
+
+fn is_only_read(kind: ErrorKind) -> bool {
+    matches!(
+        kind,
+        ErrorKind::InvalidInput | ErrorKind::ReadOnlyFilesystem | ErrorKind::Unsupported
+    )
+}
+
+// Drops the system's copies of the file, which a sync that failed in an earlier process may have left other than the file is,
+// and reads from the place on.
+fn read_fresh(alloc: Global, file: &mut File, place: u64) -> io::Result<Vec<u8>> {
     let _advice = libc::posix_fadvise(file.as_raw_fd(), 0, 0, libc::POSIX_FADV_DONTNEED);
     file.seek(SeekFrom::Start(place))?;
     let mut bytes = Vec::new(alloc);

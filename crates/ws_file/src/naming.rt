@@ -4,7 +4,7 @@ ghost use Rattle.ws_file.specs.Files.{just_opened};
 
 use crate::faults::OpenFault;
 use crate::file_disk::FileDisk;
-use std::fs::{self, File, OpenOptions};
+use std::fs::{self, File};
 use std::io::{self, ErrorKind};
 use std::path::PathBuf;
 use std::process;
@@ -15,20 +15,26 @@ pub struct MadeFile {
     name: String,
 }
 
-/// Makes an empty file beside the path, as PATH.PID.new, and locks it. What a process that had the same number left there
-/// goes.
+/// Makes an empty file beside the path, as PATH.PID.new, and locks it. A file that a process of the same number left there is let
+/// go by its name alone: it may be the file that has the path, under a second name.
 pub fn make_beside(rt: &HostRuntime, path: &str) -> Result<(MadeFile, FileDisk), OpenFault>
     ensures { IfOk result (λ made. made.1 ≡ just_opened 0 []) }
 {
     let alloc = rt.alloc();
     let pid = process::id(rt.process());
     let name = format!(in alloc; "{path}.{pid}.new")?;
-    let mut how = OpenOptions::new();
-    how.read(true).write(true).create(true).truncate(true);
-    let file = how.open(rt, name.as_str()).map_err(OpenFault::Unwritable)?;
+    let file = made_anew(rt, name.as_str()).map_err(OpenFault::Unwritable)?;
     file.lock().map_err(OpenFault::NotLocked)?;
     let disk = FileDisk::of(alloc, file, 0, Vec::new(alloc))?;
     Ok((MadeFile { name }, disk))
+}
+
+// A new file of the name; what has it loses it.
+fn made_anew(rt: &HostRuntime, name: &str) -> io::Result<File> {
+    match fs::remove_file(rt, name) {
+        Err(error) if error.kind() != ErrorKind::NotFound => Err(error),
+        _ => File::create_new(rt, name),
+    }
 }
 
 impl MadeFile {

@@ -56,7 +56,7 @@ pub(crate) fn from_gate(disk: FileDisk, gate: usize, mark: Mark) -> Result<Log<F
         IsInHand (state_of log.disk) (record { gate = log.gate })) }
     ensures marked { IfOk result (λ log. log.mark ≡ mark) }
 {
-    let disk = disk.behind(gate)?;
+    let disk = disk.from_place(gate)?;
     Ok(Log {
         disk,
         gate: 0,

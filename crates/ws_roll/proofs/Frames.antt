@@ -27,7 +27,7 @@ pub length_framed : (p : List ℕ) → length (framed p) ≡ 4 + length p
 unfolding framed
 length_framed p = omega (arith, length-append (to_be_bytes w32 (length p)) p)
 
--- bytes that begin with a length, and have so many bytes behind it, begin with a frame
+-- bytes that begin with a length, and have so many bytes after it, begin with a frame
 pub frame_there : (bytes front rest : List ℕ) (count : ℕ) → bytes ≡ front ++ rest → length front ≡ 4 → ((i : ℕ) → get_or front i 0 < 256) → count ≡ from_be_bytes w32 front → count ≤ length rest
     → bytes ≡ framed (take count rest) ++ drop count rest
 unfolding framed
@@ -60,7 +60,7 @@ small_taken (suc n) (b ∷ bytes) (suc i) h = small_taken n bytes i (λ j. h (su
 four_first : (bytes front rest : List ℕ) → front ≡ take 4 bytes → rest ≡ drop 4 bytes → bytes ≡ front ++ rest
 four_first bytes front rest f r = sym (take-append-drop 4 bytes) ∙ ap (λ xs. xs ++ drop 4 bytes) (sym f) ∙ ap (λ xs. front ++ xs) (sym r)
 
--- the payload behind a length of so many bytes, and what stands behind it
+-- the payload after a length of so many bytes, and what stands after it
 pub frame_split : (bytes front rest p q : List ℕ) (count : ℕ) → front ≡ take 4 bytes → rest ≡ drop 4 bytes → 4 ≤ length bytes → ((i : ℕ) → get_or bytes i 0 < 256) → count ≡ from_be_bytes w32 front → count ≤ length rest
     → p ≡ take count rest → q ≡ drop count rest → bytes ≡ framed p ++ q
 frame_split bytes front rest p q count f r l bounded is within a b =
@@ -68,7 +68,7 @@ frame_split bytes front rest p q count f r l bounded is within a b =
     let small : (i : ℕ) → get_or front i 0 < 256 = λ i. subst (λ xs. get_or xs i 0 < 256) (sym f) (small_taken 4 bytes i bounded) in
     frame_there bytes front rest count (four_first bytes front rest f r) four small is within ∙ ap (λ xs. framed xs ++ drop count rest) (sym a) ∙ ap (λ xs. framed p ++ xs) (sym b)
 
--- where fewer bytes are left than the length tells, no frame stands there
+-- if fewer bytes are left than the length tells, no frame stands there
 pub no_frame : (bytes front rest : List ℕ) (count : ℕ) → front ≡ take 4 bytes → rest ≡ drop 4 bytes → 4 ≤ length bytes → count ≡ from_be_bytes w32 front → length rest < count
     → (payload more : List ℕ) → length payload < 2 ^ 32 → bytes ≡ framed payload ++ more → ⊥
 no_frame bytes front rest count f r l is few payload more small e =

@@ -55,7 +55,7 @@ module _ (before : List ℕ) where
         (c.0, more, refl, c.3),
       )
 
-  -- with the record behind an open gate it is the roll with the record
+  -- with the record after an open gate it is the roll with the record
   pub opened_roll : (gate : ℕ) (payloads : List (List ℕ)) (payload old new : List ℕ) → gate ≡ gate_of before payloads → length payload < 2 ^ 32
       → IsRoll before payloads old → HasRecord 1 gate (framed payload ++ 0 ∷ []) old new → IsRoll before (payloads ++ payload ∷ []) new
   opened_roll gate payloads payload old new e one (rest, b, c) (more, is) =
@@ -67,7 +67,7 @@ module _ (before : List ℕ) where
         (0, more, refl, zero_one),
       )
 
-  -- with the record behind any gate it is the roll before or after
+  -- with the record after any gate it is the roll before or after
   pub torn_roll : (gate byte : ℕ) (payloads : List (List ℕ)) (payload old new : List ℕ) → gate ≡ gate_of before payloads → length payload < 2 ^ 32
       → IsRoll before payloads old → HasRecord byte gate (framed payload ++ 0 ∷ []) old new → IsBeforeOrAfter (IsRoll before) payloads payload new
   torn_roll gate byte payloads payload old new e one j h = elim (decided byte) [

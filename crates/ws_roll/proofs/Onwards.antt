@@ -21,7 +21,7 @@ pub on_ok_then : {T E P Q : Type 0} (r : Result T E) → OnOk r P → (P → Q) 
 on_ok_then (Ok x) p f = f p
 on_ok_then (Err e) p f = tt
 
--- a write behind the gate does not shorten the bytes
+-- a write after the gate does not shorten the bytes
 pub still_within : (gate : ℕ) (text old : List ℕ) → gate < length old → gate ≤ length (written (gate + 1) text old)
 still_within gate text old l =
     omega (arith, length-append (take (gate + 1) old) (text ++ drop (gate + 1 + length text) old), length-append text (drop (gate + 1 + length text) old), length-take (gate + 1) old, length-drop (gate + 1 + length text) old)
@@ -29,7 +29,7 @@ still_within gate text old l =
 pub goes_nowhere : (disk : State) → GoesOn disk disk
 goes_nowhere disk = record { later = omega arith; nothing_more = λ k bytes l i. i; nothing_less = λ k bytes l i. i }
 
--- where no call was made
+-- if no call was made
 pub unmoved : (before : List ℕ) (disk : State) (payloads : List (List ℕ)) (payload : List ℕ) (hold : Hold) → IsAt before payloads disk hold → IsAppending (IsRoll before) payloads payload disk disk
 unmoved before disk payloads payload hold at = record {
   goes = goes_nowhere disk;
@@ -39,7 +39,7 @@ unmoved before disk payloads payload hold at = record {
       inl (subst (λ b. IsRoll before payloads b) (sym is) at.roll);
 }
 
--- where the record was being logged
+-- while the record was being logged
 pub appending : (before : List ℕ) (old new : State) (payloads : List (List ℕ)) (payload text : List ℕ) (hold : Hold) → IsAt before payloads old hold → length payload < 2 ^ 32
     → text ≡ framed payload ++ (0 ∷ []) → GoesOn old new → LeavesOnly old new (IsBeingLogged hold.gate text old.bytes) → IsAppending (IsRoll before) payloads payload old new
 appending before old new payloads payload text hold at one e goes leaves = record {
@@ -48,7 +48,7 @@ appending before old new payloads payload text hold at one e goes leaves = recor
       (λ bytes b. logged_roll before hold.gate payloads payload old.bytes bytes at.gate one at.roll (subst (λ t. IsBeingLogged hold.gate t old.bytes bytes) e b)) leaves;
 }
 
--- where it was logged
+-- once it was logged
 pub appended : (before : List ℕ) (old new : State) (gate : ℕ) (payloads : List (List ℕ)) (payload text : List ℕ) (hold : Hold) → IsAt before payloads old hold → length payload < 2 ^ 32
     → text ≡ framed payload ++ (0 ∷ []) → IsSettled new → new.bytes ≡ opened_at hold.gate text old.bytes → gate ≡ hold.gate + length payload + 5
     → IsAt before (payloads ++ payload ∷ []) new record { gate = gate }

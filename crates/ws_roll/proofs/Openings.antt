@@ -14,7 +14,7 @@ reads_on a b c f g =
       read = g.read;
     }
 
--- a settled disk stays settled where nothing is written
+-- a settled disk stays settled if nothing is written
 pub stays_settled : (a b : State) → IsSettled a → IsReading a b → IsSettled b
 stays_settled a b settled f bytes i =
     let left : IsLeft a bytes = f.images b.now bytes f.goes.later (omega arith) i in

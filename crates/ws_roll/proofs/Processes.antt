@@ -2,7 +2,7 @@
 use Rattle.std.proofs.Common.{◌≡◌, ℕ, refl, ap, sym, subst, List, [], ◌∷◌, ◌++◌, ◌∙◌, drop, append_assoc, append-nil}
 use Rattle.base_devices.specs.States.{State}
 use Rattle.ws_roll.specs.Histories.{IsKept}
-use Rattle.ws_roll.specs.Lives.{Life, HasBehind, IsLife, AreLives, KeepsAll, AreKept}
+use Rattle.ws_roll.specs.Lives.{Life, HasAfter, IsLife, AreLives, KeepsAll, AreKept}
 use Rattle.ws_roll.proofs.Turns.{all_kept}
 
 same_rest : {R : Type 0} (ahead xs ys : List R) → ahead ++ xs ≡ ahead ++ ys → xs ≡ ys
@@ -10,9 +10,9 @@ same_rest [] xs ys e = e
 same_rest (a ∷ ahead) xs ys e = same_rest ahead xs ys (ap (drop 1) e)
 
 module _ {R D : Type 0} (has : List R → List ℕ → Type 0) (state : D → State) (one : (records others : List R) (bytes : List ℕ) → has records bytes → has others bytes → records ≡ others) where
-  -- the records behind those that stand ahead are one list too
-  one_behind : (life : Life R D) (records others : List R) (bytes : List ℕ) → HasBehind has life records bytes → HasBehind has life others bytes → records ≡ others
-  one_behind life records others bytes a b = same_rest life.ahead records others (one (life.ahead ++ records) (life.ahead ++ others) (life.before ++ bytes) a b)
+  -- the records after those that stand ahead are one list too
+  one_after : (life : Life R D) (records others : List R) (bytes : List ℕ) → HasAfter has life records bytes → HasAfter has life others bytes → records ≡ others
+  one_after life records others bytes a b = same_rest life.ahead records others (one (life.ahead ++ records) (life.ahead ++ others) (life.before ++ bytes) a b)
 
   pub over_lives : (records : List R) (found : List ℕ) (lives : List (Life R D)) (left : List ℕ) → has records found → AreLives has state found lives left → AreKept has state records lives left
   over_lives records found [] left all is = record {
@@ -23,8 +23,8 @@ module _ {R D : Type 0} (has : List R → List ℕ → Type 0) (state : D → St
   over_lives records found (life ∷ lives) left all is =
       let split = is.0.ahead records all in
       let here : has (life.ahead ++ split.0) found = subst (λ rs. has rs found) split.1 all in
-      let own : IsKept (HasBehind has life) life.moment state split.0 life.turns life.left =
-      all_kept (HasBehind has life) state (one_behind life) life.moment life.left life.start split.0 life.turns (subst (λ b. has (life.ahead ++ split.0) b) (sym is.0.opened) here, is.0.settled)
+      let own : IsKept (HasAfter has life) life.moment state split.0 life.turns life.left =
+      all_kept (HasAfter has life) state (one_after life) life.moment life.left life.start split.0 life.turns (subst (λ b. has (life.ahead ++ split.0) b) (sym is.0.opened) here, is.0.settled)
       (is.0.history split.0 here) is.0.first is.0.last is.0.image in
       let joined : life.ahead ++ (split.0 ++ own.later) ≡ records ++ own.later = sym (append_assoc life.ahead split.0 own.later) ∙ ap (λ rs. rs ++ own.later) (sym split.1) in
       let more : AreKept has state (records ++ own.later) lives left = over_lives (records ++ own.later) (life.before ++ life.left) lives left (subst (λ rs. has rs (life.before ++ life.left)) joined own.has_them) is.1 in

@@ -49,8 +49,8 @@ whole r k xs ys t free =
 before_range : (r : Range) (j : ℕ) → j < r.at → covers r j ≡ false
 before_range r j l = let a : nat_le r.at j ≡ false = grind (arith, nat_tests) in rw a refl
 
-behind_range : (r : Range) (j : ℕ) → r.at + r.count ≤ j → covers r j ≡ false
-behind_range r j l = by (nat_le r.at j)
+after_range : (r : Range) (j : ℕ) → r.at + r.count ≤ j → covers r j ≡ false
+after_range r j l = by (nat_le r.at j)
   where
     past : nat_lt j (r.at + r.count) ≡ false
     past = grind (arith, nat_tests)
@@ -59,7 +59,7 @@ behind_range r j l = by (nat_le r.at j)
     by true = past
     by false = refl
 
--- a write behind the gate keeps it
+-- a write after the gate keeps it
 pub keeps_gate : (gate : ℕ) (record_ old new : List ℕ) → gate < length old → IsTorn (range_of (gate + 1) record_) old new → KeepsGate gate old new
 keeps_gate gate record_ old new l t =
     let long : length (take (gate + 1) old) ≡ gate + 1 = length-take-le (gate + 1) old (omega arith) in
@@ -71,7 +71,7 @@ keeps_gate gate record_ old new l t =
 pub keeps_itself : (gate : ℕ) (old : List ℕ) → KeepsGate gate old old
 keeps_itself gate old = (drop (gate + 1) old, sym (take-append-drop (gate + 1) old))
 
--- a write of one byte in the place of the gate keeps what stands before and behind it
+-- a write of one byte in the place of the gate keeps what stands before and after it
 pub tears_gate : (gate byte : ℕ) (fs record_ rest new : List ℕ) → length fs ≡ gate → IsTorn (range_of gate (1 ∷ [])) (fs ++ (byte ∷ (record_ ++ rest))) new
     → (torn : ℕ) × (more : List ℕ) × (new ≡ fs ++ (torn ∷ (record_ ++ more)))
 tears_gate gate byte fs record_ rest new e t =
@@ -86,7 +86,7 @@ tears_gate gate byte fs record_ rest new e t =
           no_shorter = let long : suc (length (record_ ++ rest)) ≤ suc (length zs) = u.no_shorter in omega arith;
           elsewhere = λ i j f l c. u.elsewhere (suc i) j (omega arith) (omega arith) c;
         } in
-        let w = whole (range_of gate (1 ∷ [])) (suc gate) (record_ ++ rest) zs tail (λ j l. behind_range (range_of gate (1 ∷ [])) j (omega arith)) in
+        let w = whole (range_of gate (1 ∷ [])) (suc gate) (record_ ++ rest) zs tail (λ j l. after_range (range_of gate (1 ∷ [])) j (omega arith)) in
         (z, rest ++ w.0, is ∙ ap (λ ys. fs ++ (z ∷ ys)) (w.1 ∙ append_assoc record_ rest w.0))
 
 -- ---- the bytes after the writes
@@ -102,10 +102,10 @@ take_short gate old l = by gate old l
         let same : suc n + 1 ≡ suc (n + 1) = omega arith in
         (more.0, ap (λ k. take k (x ∷ xs)) same ∙ ap (λ zs. x ∷ zs) more.1)
 
--- after the first write the record stands behind the old gate
-pub record_behind : (gate : ℕ) (record_ old : List ℕ) → gate < length old
+-- after the first write the record stands after the old gate
+pub record_after : (gate : ℕ) (record_ old : List ℕ) → gate < length old
     → (byte : ℕ) × (written (gate + 1) record_ old ≡ take gate old ++ (byte ∷ (record_ ++ drop (gate + 1 + length record_) old)))
-record_behind gate record_ old l =
+record_after gate record_ old l =
     let t = take_short gate old l in
     (t.0, ap (λ xs. xs ++ (record_ ++ drop (gate + 1 + length record_) old)) t.1 ∙ append_assoc (take gate old) (t.0 ∷ []) (record_ ++ drop (gate + 1 + length record_) old))
 

@@ -44,8 +44,8 @@ module _ {R D : Type 0} (has : List R → List ℕ → Type 0) (state : D → St
   same_bytes : (payloads others : List R) (bytes : List ℕ) → payloads ≡ others → has payloads bytes → has others bytes
   same_bytes payloads others bytes e j = subst (λ cs. has cs bytes) e j
 
-  more_behind : (payloads : List R) (payload : R) (later : List R) → (payloads ++ payload ∷ []) ++ later ≡ payloads ++ (payload ∷ later)
-  more_behind payloads payload later = append_assoc payloads (payload ∷ []) later
+  more_after : (payloads : List R) (payload : R) (later : List R) → (payloads ++ payload ∷ []) ++ later ≡ payloads ++ (payload ∷ later)
+  more_after payloads payload later = append_assoc payloads (payload ∷ []) later
 
   -- what is left before the turns begin, with a record in doubt
   doubted_now : (k : ℕ) (payloads : List R) (payload : R) (turns : List (Turn R D)) (bytes : List ℕ) → Keeps k state turns [] → IsBeforeOrAfter has payloads payload bytes
@@ -81,7 +81,7 @@ module _ {R D : Type 0} (has : List R → List ℕ → Type 0) (state : D → St
   with_doubt k payloads found payload turns bytes (inl e) r = record { later = r.later; has_them = same_bytes (found ++ r.later) (payloads ++ r.later) bytes (ap (λ cs. cs ++ r.later) e) r.has_them; kept = inl r.kept }
   with_doubt k payloads found payload turns bytes (inr e) r = record {
     later = payload ∷ r.later;
-    has_them = same_bytes (found ++ r.later) (payloads ++ (payload ∷ r.later)) bytes (ap (λ cs. cs ++ r.later) e ∙ more_behind payloads payload r.later) r.has_them;
+    has_them = same_bytes (found ++ r.later) (payloads ++ (payload ∷ r.later)) bytes (ap (λ cs. cs ++ r.later) e ∙ more_after payloads payload r.later) r.has_them;
     kept = inr (r.later, refl, r.kept);
   }
 
@@ -96,17 +96,17 @@ module _ {R D : Type 0} (has : List R → List ℕ → Type 0) (state : D → St
       | inl before ↦
           let at : (state next).image k bytes = (all_go next (InHand (payloads ++ w ∷ [])) turns h.2).nothing_more k bytes (omega arith) i in
           kept_early k payloads w next turns bytes before (h.0.images k bytes l (omega arith) at) (none_kept k next (InHand (payloads ++ w ∷ [])) turns before h.2)
-      | inr behind ↦
-          let r : IsKept has k state (payloads ++ w ∷ []) turns bytes = all_kept k bytes next (payloads ++ w ∷ []) turns h.1 h.2 behind m i in
-          record { later = w ∷ r.later; has_them = same_bytes ((payloads ++ w ∷ []) ++ r.later) (payloads ++ (w ∷ r.later)) bytes (more_behind payloads w r.later) r.has_them; kept = inr (r.later, refl, r.kept) }
+      | inr after ↦
+          let r : IsKept has k state (payloads ++ w ∷ []) turns bytes = all_kept k bytes next (payloads ++ w ∷ []) turns h.1 h.2 after m i in
+          record { later = w ∷ r.later; has_them = same_bytes ((payloads ++ w ∷ []) ++ r.later) (payloads ++ (w ∷ r.later)) bytes (more_after payloads w r.later) r.has_them; kept = inr (r.later, refl, r.kept) }
     ]
     all_kept k bytes d payloads (Broken w next ∷ turns) rest h l m i = elim (early k (state next).now) [
       | inl before ↦
           let at : (state next).image k bytes = (all_go next (InDoubt payloads w) turns h.2).nothing_more k bytes (omega arith) i in
           let r : IsDoubted k payloads w turns bytes = doubted_now k payloads w turns bytes (none_kept k next (InDoubt payloads w) turns before h.2) (h.0.images k bytes l (omega arith) at) in
           record { later = r.later; has_them = r.has_them; kept = r.kept }
-      | inr behind ↦
-          let r : IsDoubted k payloads w turns bytes = doubted k bytes next payloads w turns (doubt_after d next payloads w h.0 h.1) h.2 behind m i in
+      | inr after ↦
+          let r : IsDoubted k payloads w turns bytes = doubted k bytes next payloads w turns (doubt_after d next payloads w h.0 h.1) h.2 after m i in
           record { later = r.later; has_them = r.has_them; kept = r.kept }
     ]
     all_kept k bytes d payloads (Opened next ∷ turns) rest h l m i = elim (early k (state next).now) [
@@ -114,8 +114,8 @@ module _ {R D : Type 0} (has : List R → List ℕ → Type 0) (state : D → St
           let at : (state next).image k bytes = (all_go next (InHand payloads) turns h.2).nothing_more k bytes (omega arith) i in
           let is : bytes ≡ (state d).bytes = rest.1 bytes (h.0.images k bytes l (omega arith) at) in
           record { later = []; has_them = same_bytes payloads (payloads ++ []) bytes (sym (append-nil payloads)) (subst (λ b. has payloads b) (sym is) rest.0); kept = none_kept k next (InHand payloads) turns before h.2 }
-      | inr behind ↦
-          let r : IsKept has k state payloads turns bytes = all_kept k bytes next payloads turns (subst (λ b. has payloads b) (sym h.0.same) rest.0, h.1) h.2 behind m i in
+      | inr after ↦
+          let r : IsKept has k state payloads turns bytes = all_kept k bytes next payloads turns (subst (λ b. has payloads b) (sym h.0.same) rest.0, h.1) h.2 after m i in
           record { later = r.later; has_them = r.has_them; kept = r.kept }
     ]
     all_kept k bytes d payloads (NotOpened next ∷ turns) rest h l m i = absurd h
@@ -132,8 +132,8 @@ module _ {R D : Type 0} (has : List R → List ℕ → Type 0) (state : D → St
           let at : (state next).image k bytes = (all_go next (InHand h.0) turns h.3).nothing_more k bytes (omega arith) i in
           let r : IsDoubted k payloads payload turns bytes = doubted_now k payloads payload turns bytes (none_kept k next (InHand h.0) turns before h.3) (doubt.0 bytes (h.1.images k bytes l (omega arith) at)) in
           record { later = r.later; has_them = r.has_them; kept = r.kept }
-      | inr behind ↦
-          let r : IsDoubted k payloads payload turns bytes = with_doubt k payloads h.0 payload turns bytes (found_again d next payloads h.0 payload h.1 doubt h.2.0) (all_kept k bytes next h.0 turns h.2 h.3 behind m i) in
+      | inr after ↦
+          let r : IsDoubted k payloads payload turns bytes = with_doubt k payloads h.0 payload turns bytes (found_again d next payloads h.0 payload h.1 doubt h.2.0) (all_kept k bytes next h.0 turns h.2 h.3 after m i) in
           record { later = r.later; has_them = r.has_them; kept = r.kept }
     ]
     doubted k bytes d payloads payload (NotOpened next ∷ turns) doubt h l m i = elim (early k (state next).now) [
@@ -141,7 +141,7 @@ module _ {R D : Type 0} (has : List R → List ℕ → Type 0) (state : D → St
           let at : (state next).image k bytes = (all_go next (InDoubt payloads payload) turns h.1).nothing_more k bytes (omega arith) i in
           let r : IsDoubted k payloads payload turns bytes = doubted_now k payloads payload turns bytes (none_kept k next (InDoubt payloads payload) turns before h.1) (doubt.0 bytes (h.0.images k bytes l (omega arith) at)) in
           record { later = r.later; has_them = r.has_them; kept = r.kept }
-      | inr behind ↦
-          let r : IsDoubted k payloads payload turns bytes = doubted k bytes next payloads payload turns (doubt_stays d next payloads payload h.0 doubt) h.1 behind m i in
+      | inr after ↦
+          let r : IsDoubted k payloads payload turns bytes = doubted k bytes next payloads payload turns (doubt_stays d next payloads payload h.0 doubt) h.1 after m i in
           record { later = r.later; has_them = r.has_them; kept = r.kept }
     ]

@@ -6,7 +6,7 @@ use Rattle.ws_roll.specs.declared.rolls.AppendFault.{AppendFault}
 use Rattle.ws_roll.specs.declared.rolls.AppendFault.TheVariants as appending
 use Rattle.ws_roll.specs.Rolls.{Hold}
 
--- a payload has too many bytes, or places behind it would pass 2 ^ 64
+-- a payload has too many bytes, or places after it would pass 2 ^ 64
 abbrev pub IsTooLarge : Hold → ℕ → Type 0
 IsTooLarge roll size = (PAYLOAD_LIMIT < size) ⊎ (2 ^ 64 ≤ roll.gate + size + 6)
 

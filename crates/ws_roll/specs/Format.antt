@@ -1,4 +1,4 @@
--- The format of a roll: records, each behind an open gate, and a closed gate. Anything may stand before a roll and behind it.
+-- The format of a roll: records, each after an open gate, and a closed gate. Anything may stand before a roll and after it.
 use Rattle.std.specs.Prelude.{◌≡◌, ℕ, ◌<◌, ◌^◌, List, [], ◌∷◌, ◌++◌, length}
 use Rattle.std.specs.Int.{w32, to_be_bytes}
 
@@ -18,7 +18,7 @@ records (payload ∷ payloads) = opened payload ++ records payloads
 abbrev pub front : List ℕ → List (List ℕ) → List ℕ
 front before payloads = before ++ records payloads
 
--- a roll with nothing behind its gate
+-- a roll with nothing after its gate
 abbrev pub roll_text : List ℕ → List (List ℕ) → List ℕ
 roll_text before payloads = front before payloads ++ (0 ∷ [])
 

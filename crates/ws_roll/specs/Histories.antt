@@ -20,7 +20,7 @@ pub record IsReading (old new : State) : Type 0 where
   pub same : new.bytes ≡ old.bytes
   pub read : IsLeft new new.bytes
 
--- A turn, with the disk behind it: a record that is acknowledged; one that is not, for a fault of the disk; and the records
+-- A turn, with the disk after it: a record that is acknowledged; one that is not, for a fault of the disk; and the records
 -- read again, well or not.
 pub data Turn (R D : Type 0) : Type 0 where
   Acknowledged : R → D → Turn R D
@@ -37,7 +37,7 @@ pub data Knowledge (R : Type 0) : Type 0 where
 abbrev pub IsAtRest : {R : Type 0} → (List R → List ℕ → Type 0) → State → List R → Type 0
 IsAtRest has disk records = has records disk.bytes × IsSettled disk
 
--- The turns are taken one after the other from a disk on. A record is appended only where the others are in hand; after a
+-- The turns are taken one after the other from a disk on. A record is appended only if the others are in hand; after a
 -- fault they are read again.
 abbrev pub IsHistory : {R D : Type 0} → (List R → List ℕ → Type 0) → (D → State) → D → Knowledge R → List (Turn R D) → Type 0
 IsHistory has state d known [] = Unit {0}
@@ -61,7 +61,7 @@ disk_after (Broken more d) = d
 disk_after (Opened d) = d
 disk_after (NotOpened d) = d
 
--- the disk behind the last turn
+-- the disk after the last turn
 abbrev pub last_disk : {R D : Type 0} → D → List (Turn R D) → D
 last_disk d [] = d
 last_disk d (turn ∷ turns) = last_disk (disk_after turn) turns
@@ -77,7 +77,7 @@ Keeps k state (Broken one d ∷ turns) kept =
 Keeps k state (Opened d ∷ turns) kept = Keeps k state turns kept
 Keeps k state (NotOpened d ∷ turns) kept = Keeps k state turns kept
 
--- A crash at moment k left these records, and behind them what is kept of the turns.
+-- A crash at moment k left these records, and after them what is kept of the turns.
 pub record IsKept {R D : Type 0} (has : List R → List ℕ → Type 0) (k : ℕ) (state : D → State) (records : List R) (turns : List (Turn R D)) (bytes : List ℕ) : Type 0 where
   pub later : List R
   pub has_them : has (records ++ later) bytes

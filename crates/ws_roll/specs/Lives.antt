@@ -13,17 +13,17 @@ pub record Life (R D : Type 0) : Type 0 where
   pub moment : ℕ
   pub left : List ℕ
 
--- the bytes of its disk have these records, behind those that stand before its place
-abbrev pub HasBehind : {R D : Type 0} → (List R → List ℕ → Type 0) → Life R D → List R → List ℕ → Type 0
-HasBehind has life records bytes = has (life.ahead ++ records) (life.before ++ bytes)
+-- the bytes of its disk have these records, after those that stand before its place
+abbrev pub HasAfter : {R D : Type 0} → (List R → List ℕ → Type 0) → Life R D → List R → List ℕ → Type 0
+HasAfter has life records bytes = has (life.ahead ++ records) (life.before ++ bytes)
 
--- The life of a process that found these bytes: nothing is pending when it has opened them, it appends behind the records that
+-- The life of a process that found these bytes: nothing is pending when it has opened them, it appends after the records that
 -- it found, and what is left is what a crash at its last moment may leave.
 pub record IsLife {R D : Type 0} (has : List R → List ℕ → Type 0) (state : D → State) (found : List ℕ) (life : Life R D) : Type 0 where
   pub opened : life.before ++ (state life.start).bytes ≡ found
   pub ahead : (records : List R) → has records found → (others : List R) × (records ≡ life.ahead ++ others)
   pub settled : IsSettled (state life.start)
-  pub history : (records : List R) → has (life.ahead ++ records) found → IsHistory (HasBehind has life) state life.start (InHand records) life.turns
+  pub history : (records : List R) → has (life.ahead ++ records) found → IsHistory (HasAfter has life) state life.start (InHand records) life.turns
   pub first : (state life.start).now ≤ life.moment
   pub last : life.moment ≤ (state (last_disk life.start life.turns)).now
   pub image : (state (last_disk life.start life.turns)).image life.moment life.left

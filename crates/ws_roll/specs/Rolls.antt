@@ -1,4 +1,4 @@
--- Which bytes have a roll behind some bytes, with which records, and where they are damaged.
+-- Which bytes have a roll after some bytes, with which records, and where they are damaged.
 use Rattle.std.specs.Prelude.{◌≡◌, ℕ, ◌<◌, ◌^◌, ◌⊎◌, List, [], ◌∷◌, ◌++◌, length}
 use Rattle.base_devices.specs.States.{State, IsSettled}
 use Rattle.ws_roll.specs.Format.{framed, front, AreShort}
@@ -10,9 +10,9 @@ pub record BeginsWith (before : List ℕ) (those : List (List ℕ)) (all rest : 
 
 -- a byte that is no 1, and whatever follows
 abbrev pub IsClosed : List ℕ → Type 0
-IsClosed rest = (gate : ℕ) × (behind : List ℕ) × (rest ≡ gate ∷ behind) × (gate ≡ 1 → ⊥)
+IsClosed rest = (gate : ℕ) × (after : List ℕ) × (rest ≡ gate ∷ after) × (gate ≡ 1 → ⊥)
 
--- The bytes have a roll of these records behind the first ones: a closed gate stands behind them.
+-- The bytes have a roll of these records after the first ones: a closed gate stands after them.
 abbrev pub IsRoll : List ℕ → List (List ℕ) → List ℕ → Type 0
 IsRoll before payloads bytes = (rest : List ℕ) × BeginsWith before payloads bytes rest × IsClosed rest
 
@@ -40,6 +40,6 @@ IsInHand disk hold = (before : List ℕ) × (payloads : List (List ℕ)) × IsAt
 abbrev pub HasNoRecord : List ℕ → Type 0
 HasNoRecord bytes = (payload rest : List ℕ) → length payload < 2 ^ 32 → bytes ≡ framed payload ++ rest → ⊥
 
--- the gate is missing, or it is open and no record stands behind it
+-- the gate is missing, or it is open and no record stands after it
 abbrev pub IsBroken : List ℕ → Type 0
-IsBroken rest = (rest ≡ []) ⊎ ((behind : List ℕ) × (rest ≡ 1 ∷ behind) × HasNoRecord behind)
+IsBroken rest = (rest ≡ []) ⊎ ((after : List ℕ) × (rest ≡ 1 ∷ after) × HasNoRecord after)

@@ -26,7 +26,7 @@ pub fn create<D: Disk>(disk: &mut D, text: &[u8]) -> Result<(), DiskRefusal>
     write_synced(disk, 0, text)
 }
 
-// The payload behind its length, and a closed gate behind it.
+// The payload after its length, and a closed gate after it.
 fn with_gate(alloc: Global, payload: &[u8]) -> Result<Vec<u8>, Memory>
     requires { length payload.now ≤ 4294967295 }
     ensures { IfOk result (λ made. made.items ≡ framed payload.now ++ (0 ∷ [])) }
@@ -37,7 +37,7 @@ fn with_gate(alloc: Global, payload: &[u8]) -> Result<Vec<u8>, Memory>
     Ok(record)
 }
 
-// The place of the gate behind a payload of so many bytes; None if it is too large.
+// The place of the gate after a payload of so many bytes; None if it is too large.
 fn next_gate(roll: &Roll, size: usize) -> Option<usize>
     ensures some { IfSome result (λ next. (next ≡ roll.now.gate + size + 5) × (size ≤ 4294967295)
         × (next + 1 < 2 ^ 64)) }

@@ -1,10 +1,10 @@
-// A length in 4 bytes, and so many bytes behind it.
+// A length in 4 bytes, and so many bytes after it.
 ghost use Rattle.std.specs.Prelude.{◌≡◌, ◌<◌, ◌≤◌, ◌^◌, ◌++◌, ◌∷◌, [], ℕ, List, length, IfSome, IfNone, OnOk};
 ghost use Rattle.ws_roll.specs.Format.{framed, opened};
 
 use def_memory::Memory;
 
-/// Adds the payload behind its length.
+/// Adds the payload after its length.
 #[tactic(auto, unfolding(crate::specs::Format::framed))]
 pub fn push_frame(text: &mut Vec<u8>, payload: &[u8]) -> Result<(), Memory>
     requires { length payload.now < 2 ^ 32 }
@@ -16,7 +16,7 @@ pub fn push_frame(text: &mut Vec<u8>, payload: &[u8]) -> Result<(), Memory>
     Ok(())
 }
 
-/// Adds an open gate and the payload behind it.
+/// Adds an open gate and the payload after it.
 pub fn push_record(text: &mut Vec<u8>, payload: &[u8]) -> Result<(), Memory>
     requires { length payload.now < 2 ^ 32 }
     ensures { OnOk result (text.new.items ≡ text.old.items ++ opened payload.now) }
@@ -25,7 +25,7 @@ pub fn push_record(text: &mut Vec<u8>, payload: &[u8]) -> Result<(), Memory>
     push_frame(text, payload)
 }
 
-/// The payload at the front, and what stands behind it; None where there is no whole one.
+/// The payload at the front, and what stands after it; None if there is no whole one.
 pub fn split_frame(bytes: &[u8]) -> Option<(&[u8], &[u8])>
     ensures some { IfSome result (λ parts. bytes.now ≡ framed parts.0.now ++ parts.1.now) }
     ensures short { IfSome result (λ parts. length parts.0.now < 2 ^ 32) }

@@ -6,7 +6,7 @@ ghost use Rattle.ws_roll.specs.Histories.{InHand, IsAtRest, IsHistory, IsKept, T
 
 use base_devices::Disk;
 
-/// Bytes have one roll at most behind the first ones.
+/// Bytes have one roll at most after the first ones.
 pub fn rolls_have_one_reading()
     ensures { (before : List ℕ) (payloads others : List (List ℕ)) (bytes : List ℕ)
         → IsRoll before payloads bytes → IsRoll before others bytes → payloads ≡ others }

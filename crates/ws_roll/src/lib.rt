@@ -1,5 +1,5 @@
 //! A roll of records on a disk, which survives a crash at any moment. A record is any bytes: `{1 FRAME} GATE`, a frame being a
-//! length in 4 bytes, the greatest first, and so many bytes; the gate any byte but 1. What stands before and behind is free.
+//! length in 4 bytes, the greatest first, and so many bytes; the gate any byte but 1. What stands before and after is free.
 #![tactic(auto)]
 
 mod appending;

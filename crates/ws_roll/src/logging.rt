@@ -1,4 +1,4 @@
-// The calls of the disk that put a record behind a gate.
+// The calls of the disk that put a record after a gate.
 ghost use Rattle.std.specs.Prelude.{◌≡◌, ◌+◌, ◌<◌, ◌≤◌, ◌^◌, ◌∷◌, [], length, OnOk, IsErrOf};
 ghost use Rattle.base_devices.specs.States.{GoesOn, HasFailed, IsLeft, IsSettled, LeavesOnly};
 ghost use Rattle.base_devices.specs.Torn.{IsTorn, range_of, written};
@@ -31,7 +31,7 @@ pub(crate) fn write_synced<D: Disk>(
     disk.sync()
 }
 
-/// Puts the text of a record behind the gate at the place, and then opens the gate. Each of the two writes lasts
+/// Puts the text of a record after the gate at the place, and then opens the gate. Each of the two writes lasts
 /// before what comes next.
 pub(crate) fn log_record<D: Disk>(disk: &mut D, gate: usize, text: &[u8]) -> Result<(), DiskRefusal>
     requires gate { gate < length (D.state disk.old).bytes }

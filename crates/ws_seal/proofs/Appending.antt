@@ -29,7 +29,7 @@ module _ (before m : List ℕ) (texts : List (List ℕ)) (last text payload : Li
     mark_is = e ∙ ap (λ x. mark x text) marked ∙ sym (last_more m texts text);
   }
 
--- where no call was made
+-- if no call was made
 pub unmoved : (before m : List ℕ) (texts : List (List ℕ)) (text : List ℕ) (disk : State) (gate : ℕ) (last : List ℕ) → IsHeld before m texts disk gate last → IsAppending (HasTexts before m) texts text disk disk
 unmoved before m texts text disk gate last held = record {
   goes = record { later = omega arith; nothing_more = λ k bytes l i. i; nothing_less = λ k bytes l i. i };

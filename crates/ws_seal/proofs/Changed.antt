@@ -86,15 +86,15 @@ none_of zero (x ∷ xs) ys e = absurd (omega arith)
 none_of (suc n) [] ys e = absurd (omega arith)
 none_of (suc n) (x ∷ xs) ys e = none_of n xs ys (omega arith)
 
--- the mark in a frame, and what stands behind it
+-- the mark in a frame, and what stands after it
 mark_in : (m t rest : List ℕ) → take 16 (drop 4 (framed (sealed m t) ++ rest)) ≡ mark m t
 unfolding framed
 mark_in m t rest =
     ap (take 16) (append_assoc (mark m t) (10 ∷ t) rest) ∙ take-append-le 16 (mark m t) ((10 ∷ t) ++ rest) (omega (arith, length_mark m t)) ∙ all_of 16 (mark m t) (length_mark m t)
 
-behind_mark : (m t rest : List ℕ) → drop 20 (framed (sealed m t) ++ rest) ≡ (10 ∷ t) ++ rest
+after_mark : (m t rest : List ℕ) → drop 20 (framed (sealed m t) ++ rest) ≡ (10 ∷ t) ++ rest
 unfolding framed
-behind_mark m t rest = ap (drop 16) (append_assoc (mark m t) (10 ∷ t) rest) ∙ none_of 16 (mark m t) ((10 ∷ t) ++ rest) (length_mark m t)
+after_mark m t rest = ap (drop 16) (append_assoc (mark m t) (10 ∷ t) rest) ∙ none_of 16 (mark m t) ((10 ∷ t) ++ rest) (length_mark m t)
 
 length_in : (p q x y : List ℕ) → length p < 2 ^ 32 → length q < 2 ^ 32 → take 4 (framed p ++ x) ≡ take 4 (framed q ++ y) → length p ≡ length q
 unfolding framed
@@ -118,7 +118,7 @@ module _ (m t xs front back : List ℕ) (was is : ℕ) (u ys : List ℕ) (e : fr
   marks_low : length front < 4 → mark m t ≡ mark m u
   marks_low l = sym (mark_in m t xs) ∙ ap (take 16) (ap (drop 4) e ∙ same_back 4 front back was is l ∙ ap (drop 4) f) ∙ mark_in m u ys
 
-  -- behind the mark
+  -- after the mark
   marks_high : 20 ≤ length front → mark m t ≡ mark m u
   marks_high l =
       let both : take 20 (framed (sealed m t) ++ xs) ≡ take 20 (framed (sealed m u) ++ ys) = ap (take 20) e ∙ same_front 20 front (was ∷ back) (is ∷ back) l ∙ ap (take 20) f in
@@ -130,7 +130,7 @@ module _ (m t xs front back : List ℕ) (was is : ℕ) (u ys : List ℕ) (e : fr
       let heads : take 4 (framed (sealed m t) ++ xs) ≡ take 4 (framed (sealed m u) ++ ys) = ap (take 4) e ∙ same_front 4 front (was ∷ back) (is ∷ back) l ∙ ap (take 4) f in
       let lengths : length (sealed m t) ≡ length (sealed m u) = length_in (sealed m t) (sealed m u) xs ys small short heads in
       let long : length (10 ∷ t) ≡ length (10 ∷ u) = omega (arith, lengths, length_sealed m t, length_sealed m u) in
-      let tails : (10 ∷ t) ++ xs ≡ (10 ∷ u) ++ ys = sym (behind_mark m t xs) ∙ ap (drop 20) e ∙ same_back 20 front back was is h ∙ ap (drop 20) f ∙ behind_mark m u ys in
+      let tails : (10 ∷ t) ++ xs ≡ (10 ∷ u) ++ ys = sym (after_mark m t xs) ∙ ap (drop 20) e ∙ same_back 20 front back was is h ∙ ap (drop 20) f ∙ after_mark m u ys in
       ap (drop 1) (same_parts (10 ∷ t) (10 ∷ u) xs ys long tails).0
 
   frame_change : (was ≡ is → ⊥) → length front < length (framed (sealed m t)) → Collision
@@ -149,11 +149,11 @@ module _ (m t xs front back : List ℕ) (was is : ℕ) (u ys : List ℕ) (e : fr
 
 -- ---- a change within the records
 
-behind : (xs ys front back : List ℕ) (was : ℕ) → xs ++ ys ≡ front ++ (was ∷ back) → length xs ≤ length front → (more : List ℕ) × (front ≡ xs ++ more) × (ys ≡ more ++ (was ∷ back))
-behind [] ys front back was e l = (front, refl, e)
-behind (x ∷ xs) ys [] back was e l = absurd (omega arith)
-behind (x ∷ xs) ys (f ∷ front) back was e l =
-    let r = behind xs ys front back was (ap (drop 1) e) (omega arith) in
+after : (xs ys front back : List ℕ) (was : ℕ) → xs ++ ys ≡ front ++ (was ∷ back) → length xs ≤ length front → (more : List ℕ) × (front ≡ xs ++ more) × (ys ≡ more ++ (was ∷ back))
+after [] ys front back was e l = (front, refl, e)
+after (x ∷ xs) ys [] back was e l = absurd (omega arith)
+after (x ∷ xs) ys (f ∷ front) back was e l =
+    let r = after xs ys front back was (ap (drop 1) e) (omega arith) in
     let first : f ≡ x = sym (ap (λ zs. get_or zs 0 0) e) in
     (r.0, (λ i. first i ∷ r.1 i), r.2)
 
@@ -185,7 +185,7 @@ told m (t ∷ texts) rest (g ∷ front) back was is (u ∷ others) r e f changed
     elim (either (length front) (length (framed (sealed m t)))) [
       | inl within ↦ frame_change m t (later ++ rest) front back was is u (records (payloads (mark m u) others) ++ r) here there small.0 short.0 changed within
       | inr past ↦
-          let cut = behind (framed (sealed m t)) (records (payloads (mark m t) texts) ++ rest) front back was here past in
+          let cut = after (framed (sealed m t)) (records (payloads (mark m t) texts) ++ rest) front back was here past in
           let joined : framed (sealed m t) ++ (cut.0 ++ (is ∷ back)) ≡ framed (sealed m u) ++ (records (payloads (mark m u) others) ++ r) = sym (append_assoc (framed (sealed m t)) cut.0 (is ∷ back)) ∙ ap (λ xs. xs ++ (is ∷ back)) (sym cut.1) ∙ there in
           let apart = frames_apart (sealed m t) (sealed m u) (cut.0 ++ (is ∷ back)) (records (payloads (mark m u) others) ++ r) small.0 short.0 joined in
           let same : u ≡ t = sym (text_of_sealed m u) ∙ ap (drop 17) (sym apart.0) ∙ text_of_sealed m t in
@@ -202,7 +202,7 @@ pub records_changed : (before m : List ℕ) (texts : List (List ℕ)) (bytes oth
     → (IsLastGate before m texts place → ⊥) → (others : List (List ℕ)) (gate : ℕ) (last : List ℕ) → IsRead before m other others gate last → Collision
 records_changed before m texts bytes other place (rest, b, c) o from until not_last others gate last r =
     let whole : before ++ (records (payloads m texts) ++ rest) ≡ o.front ++ (o.was ∷ o.back) = sym (append_assoc before (records (payloads m texts)) rest) ∙ sym b.bytes ∙ o.bytes_are in
-    let cut = behind before (records (payloads m texts) ++ rest) o.front o.back o.was whole (omega (arith, o.place_is)) in
+    let cut = after before (records (payloads m texts) ++ rest) o.front o.back o.was whole (omega (arith, o.place_is)) in
     let long : length o.front ≡ length before + length cut.0 = ap length cut.1 ∙ length-append before cut.0 in
     let joined : before ++ (cut.0 ++ (o.is ∷ o.back)) ≡ before ++ (records (payloads m others) ++ r.rest) =
     sym (append_assoc before cut.0 (o.is ∷ o.back)) ∙ ap (λ xs. xs ++ (o.is ∷ o.back)) (sym cut.1) ∙ sym o.other_are ∙ r.begins.bytes ∙ append_assoc before (records (payloads m others)) r.rest in

@@ -30,7 +30,7 @@ drop_front (suc n) (x ∷ xs) ys e = drop_front n xs ys (omega arith)
 pub length_sealed : (before text : List ℕ) → length (sealed before text) ≡ 17 + length text
 length_sealed before text = omega (arith, length-append (mark before text) (10 ∷ text), length_mark before text)
 
--- its text stands behind 17 bytes
+-- its text stands after 17 bytes
 pub text_of_sealed : (before text : List ℕ) → drop 17 (sealed before text) ≡ text
 text_of_sealed before text =
     let one : (mark before text ++ (10 ∷ [])) ++ text ≡ sealed before text = append_assoc (mark before text) (10 ∷ []) text in
@@ -71,9 +71,9 @@ module _ (before payload : List ℕ) where
   no_feed front f off text e =
       off (ap (λ xs. get_or xs 16 0) (f ∙ ap (take 17) e ∙ front_of_sealed before text) ∙ last_of 16 (mark before text) 10 (length_mark before text))
 
-  pub other_mark : (front behind m : List ℕ) → front ≡ take 17 payload → behind ≡ drop 17 payload → m ≡ mark before behind → (take 16 front ≡ m → ⊥) → HasNoSeal before payload
-  other_mark front behind m f b is off text e =
-      let same : behind ≡ text = b ∙ ap (drop 17) e ∙ text_of_sealed before text in
+  pub other_mark : (front after m : List ℕ) → front ≡ take 17 payload → after ≡ drop 17 payload → m ≡ mark before after → (take 16 front ≡ m → ⊥) → HasNoSeal before payload
+  other_mark front after m f b is off text e =
+      let same : after ≡ text = b ∙ ap (drop 17) e ∙ text_of_sealed before text in
       let here : take 16 front ≡ mark before text = ap (take 16) (f ∙ ap (take 17) e ∙ front_of_sealed before text) ∙ take_front 16 (mark before text) (10 ∷ []) (length_mark before text) in
       off (here ∙ ap (mark before) (sym same) ∙ sym is)
 
@@ -87,7 +87,7 @@ pub last_more : (m : List ℕ) (texts : List (List ℕ)) (text : List ℕ) → l
 last_more m [] text = refl
 last_more m (t ∷ texts) text = last_more (mark m t) texts text
 
--- payloads behind one mark are those of one list of texts
+-- payloads after one mark are those of one list of texts
 pub same_texts : (m : List ℕ) (texts others : List (List ℕ)) → payloads m texts ≡ payloads m others → texts ≡ others
 same_texts m [] [] e = refl
 same_texts m [] (u ∷ others) e = absurd (let w : ⊥ = cc in w)

@@ -7,7 +7,7 @@ use Rattle.ws_seal.specs.declared.types.Texts.{Texts}
 use Rattle.ws_seal.specs.declared.types.Damage.TheVariants.{At, NotAsWritten}
 use Rattle.ws_seal.specs.declared.types.ReadFault.{ReadFault}
 use Rattle.ws_seal.specs.declared.types.ReadFault.TheVariants as reading
-use Rattle.ws_seal.specs.Logs.{IsHiddenBehind, IsRead, BreaksAt, IsForgedAt, IsLogRead, LogBreaksAt, IsLogForgedAt}
+use Rattle.ws_seal.specs.Logs.{IsHiddenAfter, IsRead, BreaksAt, IsForgedAt, IsLogRead, LogBreaksAt, IsLogForgedAt}
 
 -- the texts that the program holds
 abbrev pub texts_of : Texts → List (List ℕ)
@@ -20,21 +20,21 @@ read_fault refusals.Memory = reading.Memory
 
 -- what was told at a closed gate, before which these texts stand
 abbrev pub GateTold : List ℕ → List ℕ → List (List ℕ) → ℕ → Result Texts ReadFault → Type 0
-GateTold m behind texts gate (Ok r) = (texts_of r ≡ texts) × (r.gate ≡ gate) × (r.mark.digits ≡ m) × (IsHiddenBehind m behind → ⊥)
-GateTold m behind texts gate (Err reading.DiskFault) = ⊥
-GateTold m behind texts gate (Err (reading.Damaged (At place))) = (place ≡ gate) × IsHiddenBehind m behind
-GateTold m behind texts gate (Err (reading.Damaged (NotAsWritten number))) = ⊥
-GateTold m behind texts gate (Err reading.Memory) = ⊥
+GateTold m after texts gate (Ok r) = (texts_of r ≡ texts) × (r.gate ≡ gate) × (r.mark.digits ≡ m) × (IsHiddenAfter m after → ⊥)
+GateTold m after texts gate (Err reading.DiskFault) = ⊥
+GateTold m after texts gate (Err (reading.Damaged (At place))) = (place ≡ gate) × IsHiddenAfter m after
+GateTold m after texts gate (Err (reading.Damaged (NotAsWritten number))) = ⊥
+GateTold m after texts gate (Err reading.Memory) = ⊥
 
--- what was told of bytes from the place behind the first ones, where some texts were read before it
-abbrev pub BehindTold : List ℕ → List ℕ → List (List ℕ) → List ℕ → Result Texts ReadFault → Type 0
-BehindTold before m earlier bytes (Ok r) = (texts : List (List ℕ)) × (texts_of r ≡ earlier ++ texts) × IsRead before m bytes texts r.gate r.mark.digits
-BehindTold before m earlier bytes (Err reading.DiskFault) = ⊥
-BehindTold before m earlier bytes (Err (reading.Damaged (At place))) = BreaksAt before m bytes place
-BehindTold before m earlier bytes (Err (reading.Damaged (NotAsWritten number))) = (k : ℕ) × (number ≡ length earlier + k) × IsForgedAt before m bytes k
-BehindTold before m earlier bytes (Err reading.Memory) = Unit {0}
+-- what was told of bytes from the place after the first ones, where some texts were read before it
+abbrev pub AfterTold : List ℕ → List ℕ → List (List ℕ) → List ℕ → Result Texts ReadFault → Type 0
+AfterTold before m earlier bytes (Ok r) = (texts : List (List ℕ)) × (texts_of r ≡ earlier ++ texts) × IsRead before m bytes texts r.gate r.mark.digits
+AfterTold before m earlier bytes (Err reading.DiskFault) = ⊥
+AfterTold before m earlier bytes (Err (reading.Damaged (At place))) = BreaksAt before m bytes place
+AfterTold before m earlier bytes (Err (reading.Damaged (NotAsWritten number))) = (k : ℕ) × (number ≡ length earlier + k) × IsForgedAt before m bytes k
+AfterTold before m earlier bytes (Err reading.Memory) = Unit {0}
 
--- what was told of bytes behind a mark
+-- what was told of bytes after a mark
 abbrev pub TailTold : List ℕ → List ℕ → Result Texts ReadFault → Type 0
 TailTold m bytes (Ok r) = IsRead [] m bytes (texts_of r) r.gate r.mark.digits
 TailTold m bytes (Err reading.DiskFault) = ⊥

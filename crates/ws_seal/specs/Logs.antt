@@ -1,11 +1,11 @@
--- Which bytes are a log: the payload of a first text, the head, and a roll of the payloads of the others behind it.
+-- Which bytes are a log: the payload of a first text, the head, and a roll of the payloads of the others after it.
 use Rattle.std.specs.Prelude.{◌≡◌, ℕ, ◌<◌, ◌^◌, ◌⊎◌, suc, List, [], ◌∷◌, ◌++◌, length}
 use Rattle.base_devices.specs.States.{State}
 use Rattle.ws_roll.specs.Format.{AreShort, framed, opened, roll_text}
 use Rattle.ws_roll.specs.Rolls.{BeginsWith, IsClosed, IsRoll, IsAt, IsBroken, HasNoRecord, Hold, gate_of}
 use Rattle.ws_seal.specs.Seals.{mark, sealed, payloads, last_mark, HasNoSeal}
 
--- the bytes have a roll of these texts behind the first ones, sealed behind the mark
+-- the bytes have a roll of these texts after the first ones, sealed after the mark
 abbrev pub HasTexts : List ℕ → List ℕ → List (List ℕ) → List ℕ → Type 0
 HasTexts before m texts bytes = IsRoll before (payloads m texts) bytes
 
@@ -18,7 +18,7 @@ abbrev pub IsLog : List (List ℕ) → List ℕ → Type 0
 IsLog [] bytes = ⊥
 IsLog (head ∷ texts) bytes = (length (sealed [] head) < 2 ^ 32) × HasTexts (opening head) (mark [] head) texts bytes
 
--- a log of the head and these texts, with nothing behind its gate, and the mark of the last
+-- a log of the head and these texts, with nothing after its gate, and the mark of the last
 pub record IsLogText (head : List ℕ) (texts : List (List ℕ)) (bytes : List ℕ) (gate : ℕ) (last : List ℕ) : Type 0 where
   pub head_short : length (sealed [] head) < 2 ^ 32
   pub short : AreShort (payloads (mark [] head) texts)
@@ -41,19 +41,19 @@ pub record IsHeld (before m : List ℕ) (texts : List (List ℕ)) (disk : State)
 
 -- ---- damage
 
--- Behind a closed gate a record stands whole, with the mark that it ought to have, and an open gate behind it. No append leaves
+-- After a closed gate a record stands whole, with the mark that it ought to have, and an open gate after it. No append leaves
 -- that.
-pub record IsHiddenBehind (m behind : List ℕ) : Type 0 where
+pub record IsHiddenAfter (m after : List ℕ) : Type 0 where
   pub text : List ℕ
   pub more : List ℕ
   pub short : length (sealed m text) < 2 ^ 32
-  pub stands : behind ≡ framed (sealed m text) ++ (1 ∷ more)
+  pub stands : after ≡ framed (sealed m text) ++ (1 ∷ more)
 
 -- the rest begins with a closed gate that hides a record
 abbrev pub IsHidden : List ℕ → List ℕ → Type 0
-IsHidden m rest = (gate : ℕ) × (behind : List ℕ) × (rest ≡ gate ∷ behind) × (gate ≡ 1 → ⊥) × IsHiddenBehind m behind
+IsHidden m rest = (gate : ℕ) × (after : List ℕ) × (rest ≡ gate ∷ after) × (gate ≡ 1 → ⊥) × IsHiddenAfter m after
 
--- What was read: these texts, no record hidden behind their gate, its place, and the mark of the last.
+-- What was read: these texts, no record hidden after their gate, its place, and the mark of the last.
 pub record IsRead (before m bytes : List ℕ) (texts : List (List ℕ)) (gate : ℕ) (last : List ℕ) : Type 0 where
   pub rest : List ℕ
   pub begins : BeginsWith before (payloads m texts) bytes rest
@@ -62,7 +62,7 @@ pub record IsRead (before m bytes : List ℕ) (texts : List (List ℕ)) (gate : 
   pub gate_is : gate ≡ gate_of before (payloads m texts)
   pub mark_is : last ≡ last_mark m texts
 
--- Behind these texts the gate at the place is missing, or it is open and no record stands behind it, or it hides one.
+-- After these texts the gate at the place is missing, or it is open and no record stands after it, or it hides one.
 pub record BreaksAt (before m bytes : List ℕ) (place : ℕ) : Type 0 where
   pub texts : List (List ℕ)
   pub rest : List ℕ
@@ -70,7 +70,7 @@ pub record BreaksAt (before m bytes : List ℕ) (place : ℕ) : Type 0 where
   pub place_is : place ≡ gate_of before (payloads m texts)
   pub broken : IsBroken rest ⊎ IsHidden (last_mark m texts) rest
 
--- Behind so many texts a record stands that is not as it was written: its mark is another one.
+-- After so many texts a record stands that is not as it was written: its mark is another one.
 pub record IsForgedAt (before m bytes : List ℕ) (number : ℕ) : Type 0 where
   pub texts : List (List ℕ)
   pub payload : List ℕ
@@ -80,11 +80,11 @@ pub record IsForgedAt (before m bytes : List ℕ) (number : ℕ) : Type 0 where
   pub number_is : number ≡ length texts
   pub unsealed : HasNoSeal (last_mark m texts) payload
 
--- there is no whole head, or the roll behind it breaks at the place
+-- there is no whole head, or the roll after it breaks at the place
 abbrev pub LogBreaksAt : List ℕ → ℕ → Type 0
 LogBreaksAt bytes place = ((place ≡ 0) × HasNoRecord bytes) ⊎ ((head : List ℕ) × BreaksAt (opening head) (mark [] head) bytes place)
 
--- the first payload is not as it was written, or one behind it; the head has the number 0
+-- the first payload is not as it was written, or one after it; the head has the number 0
 abbrev pub IsLogForgedAt : List ℕ → ℕ → Type 0
 IsLogForgedAt bytes number =
     ((number ≡ 0) × (payload : List ℕ) × (rest : List ℕ) × (bytes ≡ framed payload ++ rest) × HasNoSeal [] payload)

@@ -1,4 +1,4 @@
--- Texts that vouch for all before them: a payload is the mark of its text behind the mark of the payload before, a line feed, and
+-- Texts that vouch for all before them: a payload is the mark of its text after the mark of the payload before, a line feed, and
 -- the text.
 use Rattle.std.specs.Prelude.{◌≡◌, ℕ, List, [], ◌∷◌, ◌++◌, take}
 use Rattle.sha2.specs.Sha256.{sha256}
@@ -11,7 +11,7 @@ mark before text = encode_lower (take 8 (sha256 (before ++ text)))
 abbrev pub sealed : List ℕ → List ℕ → List ℕ
 sealed before text = mark before text ++ (10 ∷ text)
 
--- the payloads of texts, the first of which stands behind the mark
+-- the payloads of texts, the first of which stands after the mark
 abbrev pub payloads : List ℕ → List (List ℕ) → List (List ℕ)
 payloads before [] = []
 payloads before (text ∷ texts) = sealed before text ∷ payloads (mark before text) texts
@@ -21,6 +21,6 @@ abbrev pub last_mark : List ℕ → List (List ℕ) → List ℕ
 last_mark before [] = before
 last_mark before (text ∷ texts) = last_mark (mark before text) texts
 
--- the payload is that of no text behind the mark
+-- the payload is that of no text after the mark
 abbrev pub HasNoSeal : List ℕ → List ℕ → Type 0
 HasNoSeal before payload = (text : List ℕ) → payload ≡ sealed before text → ⊥

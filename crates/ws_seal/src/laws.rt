@@ -36,7 +36,7 @@ pub fn the_last_mark_tells_all_texts()
         → last_mark m texts ≡ last_mark m others → (texts ≡ others) ⊎ Collision }
 {}
 
-/// A byte that was changed is told, but at the gate before the last text, and behind it: what is read of the other bytes then shows two
+/// A byte that was changed is told, but at the gate before the last text, and after it: what is read of the other bytes then shows two
 /// inputs of the digest with one mark. The first clause is of the records, the second of the head.
 pub fn changes_are_told()
     ensures records { (before m : List ℕ) (texts : List (List ℕ)) (bytes other : List ℕ) (place : ℕ)

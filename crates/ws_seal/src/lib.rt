@@ -1,4 +1,4 @@
-//! A log of texts on a disk, in which each text vouches for all before it: the first is the head, the others stand behind it in a
+//! A log of texts on a disk, in which each text vouches for all before it: the first is the head, the others stand after it in a
 //! roll. A payload is `MARK LF TEXT`, MARK the first 8 bytes of SHA-256 over the mark before and the text, as 16 hexadecimal digits.
 //!
 //! So whatever was changed on the disk is told and never read, but for a change of the last gate, which is not told from an append

@@ -1,9 +1,9 @@
-// A log is read, from its head on or behind a mark.
+// A log is read, from its head on or after a mark.
 ghost use Rattle.std.specs.Prelude.{◌≡◌, ◌≤◌, ◌++◌, ◌∷◌, [], length, take, map, true, false, IfOk, OnOk};
 ghost use Rattle.base_devices.specs.States.{IsSettled};
 ghost use Rattle.ws_roll.specs.Histories.{IsReading};
-ghost use Rattle.ws_seal.specs.Answers.{BehindTold, DiskTold, GateTold, LogTold, TailTold};
-ghost use Rattle.ws_seal.specs.Logs.{HasGateAt, IsHiddenBehind};
+ghost use Rattle.ws_seal.specs.Answers.{AfterTold, DiskTold, GateTold, LogTold, TailTold};
+ghost use Rattle.ws_seal.specs.Logs.{HasGateAt, IsHiddenAfter};
 
 use crate::seals::{Mark, unseal};
 use crate::types::{Damage, ReadFault, Texts};
@@ -23,7 +23,7 @@ pub fn read_log<D: Disk>(alloc: Global, disk: &mut D) -> Result<Texts, ReadFault
     log_of(alloc, &bytes)
 }
 
-/// Reads the texts that the disk has behind the mark. It writes nothing. At `Ok` they are in hand and nothing is pending.
+/// Reads the texts that the disk has after the mark. It writes nothing. At `Ok` they are in hand and nothing is pending.
 pub fn read_tail<D: Disk>(alloc: Global, disk: &mut D, mark: Mark) -> Result<Texts, ReadFault>
     ensures told { DiskTold (TailTold mark.digits) (D.state disk.old) (D.state disk.new) result }
     ensures gate { IfOk result (λ found. HasGateAt found.gate (D.state disk.new).bytes) }
@@ -34,18 +34,18 @@ pub fn read_tail<D: Disk>(alloc: Global, disk: &mut D, mark: Mark) -> Result<Tex
     tail_of(alloc, &bytes, mark)
 }
 
-// What the bytes are as texts behind the mark.
+// What the bytes are as texts after the mark.
 fn tail_of(alloc: Global, bytes: &[u8], mark: Mark) -> Result<Texts, ReadFault>
     ensures { TailTold mark.digits bytes.now result }
 {
-    texts_behind(alloc, bytes, 0, mark, Vec::new(alloc))
+    texts_after(alloc, bytes, 0, mark, Vec::new(alloc))
 }
 
 // What the bytes are as a log.
 fn log_of(alloc: Global, bytes: &[u8]) -> Result<Texts, ReadFault>
     ensures { LogTold bytes.now result }
 {
-    let Some((payload, _behind)) = split_frame(bytes) else {
+    let Some((payload, _after)) = split_frame(bytes) else {
         return Err(ReadFault::Damaged(Damage::At(0)));
     };
     let Some((mark, head)) = unseal(&[], payload) else {
@@ -54,11 +54,11 @@ fn log_of(alloc: Global, bytes: &[u8]) -> Result<Texts, ReadFault>
     let start = payload.len() + 4;
     let mut texts = Vec::new(alloc);
     keep(alloc, &mut texts, head)?;
-    texts_behind(alloc, bytes, start, mark, texts)
+    texts_after(alloc, bytes, start, mark, texts)
 }
 
-// What the bytes from the place on are, as texts behind the mark and behind those that were read before the place.
-fn texts_behind(
+// What the bytes from the place on are, as texts after the mark and after those that were read before the place.
+fn texts_after(
     alloc: Global,
     bytes: &[u8],
     start: usize,
@@ -66,19 +66,19 @@ fn texts_behind(
     texts: Vec<Vec<u8>>,
 ) -> Result<Texts, ReadFault>
     requires { start ≤ length bytes.now }
-    ensures { BehindTold (take start bytes.now) mark.digits (map (λ v. v.items) texts.items) bytes.now
+    ensures { AfterTold (take start bytes.now) mark.digits (map (λ v. v.items) texts.items) bytes.now
         result }
 {
     let (mut mark, mut texts, mut rest) = (mark, texts, &bytes[start..]);
     'records: loop {
         let gate = bytes.len() - rest.len();
-        let [byte, behind @ ..] = rest else {
+        let [byte, after @ ..] = rest else {
             return Err(ReadFault::Damaged(Damage::At(gate as u64)));
         };
         if *byte != 1 {
-            return at_gate(texts, gate, mark, behind);
+            return at_gate(texts, gate, mark, after);
         }
-        let Some((payload, more)) = split_frame(behind) else {
+        let Some((payload, more)) = split_frame(after) else {
             return Err(ReadFault::Damaged(Damage::At(gate as u64)));
         };
         let Some((next, text)) = unseal(&mark.digits, payload) else {
@@ -90,23 +90,23 @@ fn texts_behind(
     }
 }
 
-// What was read up to a closed gate, unless a record is hidden behind it.
-fn at_gate(texts: Vec<Vec<u8>>, gate: usize, mark: Mark, behind: &[u8]) -> Result<Texts, ReadFault>
-    ensures { GateTold mark.digits behind.now (map (λ v. v.items) texts.items) gate result }
+// What was read up to a closed gate, unless a record is hidden after it.
+fn at_gate(texts: Vec<Vec<u8>>, gate: usize, mark: Mark, after: &[u8]) -> Result<Texts, ReadFault>
+    ensures { GateTold mark.digits after.now (map (λ v. v.items) texts.items) gate result }
 {
-    if hides(&mark, behind) {
+    if hides(&mark, after) {
         return Err(ReadFault::Damaged(Damage::At(gate as u64)));
     }
     Ok(Texts { texts, gate, mark })
 }
 
-// Whether a record is hidden: it stands behind the closed gate whole, with the mark that it ought to have, and an open gate
-// behind it.
-fn hides(mark: &Mark, behind: &[u8]) -> bool
-    ensures hidden { result ≡ true → IsHiddenBehind mark.now.digits behind.now }
-    ensures not_hidden { result ≡ false → IsHiddenBehind mark.now.digits behind.now → ⊥ }
+// Whether a record is hidden: it stands after the closed gate whole, with the mark that it ought to have, and an open gate
+// after it.
+fn hides(mark: &Mark, after: &[u8]) -> bool
+    ensures hidden { result ≡ true → IsHiddenAfter mark.now.digits after.now }
+    ensures not_hidden { result ≡ false → IsHiddenAfter mark.now.digits after.now → ⊥ }
 {
-    let Some((payload, more)) = split_frame(behind) else {
+    let Some((payload, more)) = split_frame(after) else {
         return false;
     };
     let [byte, ..] = more else {
@@ -121,7 +121,7 @@ fn hides(mark: &Mark, behind: &[u8]) -> bool
     true
 }
 
-// Puts a copy of the text behind the others.
+// Puts a copy of the text after the others.
 fn keep(alloc: Global, texts: &mut Vec<Vec<u8>>, text: &[u8]) -> Result<(), Memory>
     ensures { OnOk result (map (λ v. v.items) texts.new.items
         ≡ map (λ v. v.items) texts.old.items ++ text.now ∷ []) }

@@ -23,7 +23,7 @@ fn digest_of(before: &[u8], text: &[u8]) -> [u8; 32]
     hasher.finalize()
 }
 
-/// The mark of the text behind the mark before; behind nothing that of a head.
+/// The mark of the text after the mark before; after nothing that of a head.
 #[tactic(auto, unfolding(crate::specs::Seals::mark))]
 pub fn mark_of(before: &[u8], text: &[u8]) -> Mark
     ensures { result.digits ≡ mark before.now text.now }

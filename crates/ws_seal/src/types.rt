@@ -3,7 +3,7 @@ use crate::seals::Mark;
 use base_devices::DiskRefusal;
 use def_memory::Memory;
 
-/// The texts that were read, the place of the gate behind them, and the mark of the last.
+/// The texts that were read, the place of the gate after them, and the mark of the last.
 #[derive(Drop)]
 pub struct Texts {
     pub texts: Vec<Vec<u8>>,
@@ -14,9 +14,9 @@ pub struct Texts {
 /// What is damaged.
 #[derive(Clone, Copy, Debug, PartialEq, Eq)]
 pub enum Damage {
-    /// The gate at the place: it is missing, or it is open and no whole record stands behind it, or it hides one. 0: no whole head.
+    /// The gate at the place: it is missing, or it is open and no whole record stands after it, or it hides one. 0: no whole head.
     At(u64),
-    /// The record of this number is not as it was written. The head has the number 0, and what is read behind a mark begins with 0.
+    /// The record of this number is not as it was written. The head has the number 0, and what is read after a mark begins with 0.
     NotAsWritten(u64),
 }
 

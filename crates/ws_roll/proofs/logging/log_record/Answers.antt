@@ -5,7 +5,7 @@ use Rattle.base_devices.specs.Torn.{IsTorn, range_of, written}
 use Rattle.ws_roll.specs.Logging.{IsBeingLogged}
 use Rattle.ws_roll.proofs.Leaving.{goes_on, leaves_on, weaker, failed_later}
 use Rattle.ws_roll.proofs.Onwards.{on_ok_then, still_within}
-use Rattle.ws_roll.proofs.TornBytes.{keeps_gate, tears_gate, record_behind, gate_opened}
+use Rattle.ws_roll.proofs.TornBytes.{keeps_gate, tears_gate, record_after, gate_opened}
 use Rattle.ws_roll.proofs.logging.log_record.Goals as goal
 
 pub write_synced-requires-2-clause-at : goal.write_synced-requires-2-clause-at
@@ -25,7 +25,7 @@ returns-clause-images g c =
     let first : LeavesOnly (g.D.Disk.state c.args.disk.now) (g.D.Disk.state c.write_synced.new.disk) P =
     weaker (IsTorn (range_of (c.args.gate + 1) c.args.text.now) old) P (g.D.Disk.state c.args.disk.now) (g.D.Disk.state c.write_synced.new.disk)
     (λ bytes t. inl (keeps_gate c.args.gate c.args.text.now old bytes c.requires.gate t)) c.write_synced.ensures.images in
-    let rb = record_behind c.args.gate c.args.text.now old c.requires.gate in
+    let rb = record_after c.args.gate c.args.text.now old c.requires.gate in
     let is : (g.D.Disk.state c.write_synced.new.disk).bytes ≡ take c.args.gate old ++ (rb.0 ∷ (c.args.text.now ++ drop (c.args.gate + 1 + length c.args.text.now) old)) = c.in_ok-write_synced.ensures.written ∙ rb.1 in
     let long = length-take-le c.args.gate old (omega (arith, c.requires.gate)) in
     leaves_on P (g.D.Disk.state c.args.disk.now) (g.D.Disk.state c.write_synced.new.disk) (g.D.Disk.state c.write_synced-2.new.disk) first c.write_synced-2.ensures.time
@@ -37,7 +37,7 @@ returns-clause-images g c =
 pub returns-clause-logged : goal.returns-clause-logged
 returns-clause-logged g c =
     let old : List ℕ = (g.D.Disk.state c.args.disk.now).bytes in
-    let rb = record_behind c.args.gate c.args.text.now old c.requires.gate in
+    let rb = record_after c.args.gate c.args.text.now old c.requires.gate in
     let is : (g.D.Disk.state c.write_synced.new.disk).bytes ≡ take c.args.gate old ++ (rb.0 ∷ (c.args.text.now ++ drop (c.args.gate + 1 + length c.args.text.now) old)) = c.in_ok-write_synced.ensures.written ∙ rb.1 in
     let long = length-take-le c.args.gate old (omega (arith, c.requires.gate)) in
     on_ok_then c.write_synced-2.result c.write_synced-2.ensures.written
