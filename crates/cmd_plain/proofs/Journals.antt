@@ -16,7 +16,8 @@ use Rattle.def_chase.specs.Repository.{Change}
 use Rattle.def_language.specs.Printing.{printed}
 use Rattle.def_language.specs.Sessions.{RelationSchema, SessionData}
 use Rattle.base_devices.specs.InMemory.{MemState, bytes_of}
-use Rattle.run_journal.specs.Format.{IsWrite, commit_text, framed, front, journal_text, logged, opened, records}
+use Rattle.ws_roll.specs.Format.{framed, opened}
+use Rattle.run_journal.specs.Format.{IsWrite, commit_text, front, journal_text, logged, records}
 use Rattle.run_journal.specs.Journals.{Hold}
 use Rattle.run_laws.specs.Logged.{AreLogged, commits_of}
 use Rattle.cmd_plain.specs.Journaled.{HasJournal, IsOneTooMany, is_too_long}

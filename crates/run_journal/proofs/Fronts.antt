@@ -5,9 +5,11 @@ use Rattle.std.proofs.lemmas.Bool.{both_ways, eqb-true, eq-eqb}
 use Rattle.def_chase.specs.Repository.{Change}
 use Rattle.def_language.specs.Printing.{printed}
 use Rattle.def_language.specs.Sessions.{RelationSchema, SessionData}
-use Rattle.run_journal.specs.Format.{framed, commit_text, opened, records, front, IsCommit, AreCommits}
-use Rattle.run_journal.specs.Journals.{BeginsWith, IsJournal, IsJournalBeforeOrAfter, gate_of}
-use Rattle.run_journal.specs.Logging.{KeepsGate, HasRecord, IsBeingLogged}
+use Rattle.ws_roll.specs.Format.{framed, opened}
+use Rattle.run_journal.specs.Format.{commit_text, records, front, IsCommit, AreCommits}
+use Rattle.ws_roll.specs.Histories.{IsBeforeOrAfter}
+use Rattle.run_journal.specs.Journals.{BeginsWith, IsJournal, gate_of}
+use Rattle.ws_roll.specs.Logging.{KeepsGate, HasRecord, IsBeingLogged}
 
 records_more : (relations : List RelationSchema) (n m : ℕ) (commits : List (List Change)) (writes : List Change) → m ≡ n + length commits
     → records relations n (commits ++ writes ∷ []) ≡ records relations n commits ++ opened (commit_text relations m writes)
@@ -80,7 +82,7 @@ opened_journal s n gate commits writes old new e f one (rest, b, c) (more, is) =
 
 -- with the record behind any gate it is the journal before or after
 pub torn_journal : (s : SessionData) (n gate byte : ℕ) (commits : List (List Change)) (writes : List Change) (old new : List ℕ) → gate ≡ gate_of s commits → n ≡ length commits + 1 → IsCommit s.relations n writes
-    → IsJournal s commits old → HasRecord byte gate (framed (commit_text s.relations n writes) ++ 0 ∷ []) old new → IsJournalBeforeOrAfter s commits writes new
+    → IsJournal s commits old → HasRecord byte gate (framed (commit_text s.relations n writes) ++ 0 ∷ []) old new → IsBeforeOrAfter (IsJournal s) commits writes new
 torn_journal s n gate byte commits writes old new e f one j h = elim (decided byte) [
   | inl open_ ↦ inr (opened_journal s n gate commits writes old new e f one j (subst (λ x. HasRecord x gate (framed (commit_text s.relations n writes) ++ 0 ∷ []) old new) open_ h))
   | inr closed ↦ inl (shut closed j h)
@@ -96,6 +98,6 @@ torn_journal s n gate byte commits writes old new e f one j h = elim (decided by
 
 -- what a crash leaves while the record is logged
 pub logged_journal : (s : SessionData) (n gate : ℕ) (commits : List (List Change)) (writes : List Change) (old new : List ℕ) → gate ≡ gate_of s commits → n ≡ length commits + 1 → IsCommit s.relations n writes
-    → IsJournal s commits old → IsBeingLogged gate (framed (commit_text s.relations n writes) ++ 0 ∷ []) old new → IsJournalBeforeOrAfter s commits writes new
+    → IsJournal s commits old → IsBeingLogged gate (framed (commit_text s.relations n writes) ++ 0 ∷ []) old new → IsBeforeOrAfter (IsJournal s) commits writes new
 logged_journal s n gate commits writes old new e f one j (inl keeps) = inl (kept_journal s commits gate old new e j keeps)
 logged_journal s n gate commits writes old new e f one j (inr (byte, has)) = torn_journal s n gate byte commits writes old new e f one j has

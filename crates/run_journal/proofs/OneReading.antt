@@ -7,9 +7,11 @@ use Rattle.def_language.specs.Printing.{printed}
 use Rattle.def_language.specs.Sessions.{RelationSchema, SessionData}
 use Rattle.def_language.specs.Validity.{IsSession}
 use Rattle.run_journal.specs.Damage.{HasNoCommit, IsBroken, IsDamagedAt}
-use Rattle.run_journal.specs.Format.{framed, commit_line, commit_text, opened, records, front, write_lines, IsOpening, IsCommit, AreCommits}
-use Rattle.run_journal.specs.Journals.{BeginsWith, IsClosed, IsJournal}
-use Rattle.run_journal.proofs.Frames.{frames_apart}
+use Rattle.ws_roll.specs.Format.{framed, opened}
+use Rattle.run_journal.specs.Format.{commit_line, commit_text, records, front, write_lines, IsOpening, IsCommit, AreCommits}
+use Rattle.ws_roll.specs.Rolls.{IsClosed}
+use Rattle.run_journal.specs.Journals.{BeginsWith, IsJournal}
+use Rattle.ws_roll.proofs.Frames.{frames_apart}
 use Rattle.run_journal.proofs.WriteLines.{AreReadAgain, same_writes}
 
 pub one_opening : ((bytes : List ℕ) (s t : SessionData) → Spells bytes s → Spells bytes t → s ≡ t) → ((s : SessionData) → IsSession s → Spells (printed s) s)

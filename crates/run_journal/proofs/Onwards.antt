@@ -1,5 +1,4 @@
 -- Facts of a call's answer, and of a journal that no call has touched.
-use Rattle.std.specs.Prelude.{Result, Ok, Err, OnOk, IfOk}
 use Rattle.std.proofs.Common.{◌≡◌, ℕ, ◌+◌, ◌<◌, ◌≤◌, inl, ap, refl, ◌∙◌, sym, subst, List, [], ◌∷◌, ◌++◌, length, take, drop, arith, append_assoc, append-nil, length-append, length-drop}
 use Rattle.std.proofs.Math.ListN.{drop_of_length-le}
 use Rattle.std.proofs.Math.Seq.{take-append_seam}
@@ -9,32 +8,19 @@ use Rattle.base_devices.specs.Torn.{written}
 use Rattle.def_chase.specs.Repository.{Change}
 use Rattle.def_language.specs.Printing.{printed}
 use Rattle.def_language.specs.Sessions.{SessionData}
-use Rattle.run_journal.specs.Format.{framed, commit_text, front, journal_text, IsOpening, IsCommit}
-use Rattle.run_journal.specs.Journals.{IsJournal, IsJournalBeforeOrAfter, gate_of, Hold, IsAt}
-use Rattle.run_journal.specs.Histories.{IsAppending}
-use Rattle.run_journal.specs.Logging.{HasRecord, IsBeingLogged, opened_at}
-use Rattle.run_journal.proofs.Leaving.{weaker}
+use Rattle.ws_roll.specs.Format.{framed}
+use Rattle.run_journal.specs.Format.{commit_text, front, journal_text, IsOpening, IsCommit}
+use Rattle.ws_roll.specs.Histories.{IsBeforeOrAfter}
+use Rattle.run_journal.specs.Journals.{IsJournal, gate_of, Hold, IsAt}
+use Rattle.ws_roll.specs.Histories.{IsAppending}
+use Rattle.ws_roll.specs.Logging.{HasRecord, IsBeingLogged, opened_at}
+use Rattle.ws_roll.proofs.Leaving.{weaker}
 use Rattle.run_journal.proofs.Fronts.{logged_journal, opened_journal, front_more}
-use Rattle.run_journal.proofs.Frames.{length_framed}
+use Rattle.ws_roll.proofs.Frames.{length_framed}
+use Rattle.ws_roll.proofs.Onwards.{goes_nowhere}
 
-pub on_ok : {T E P : Type 0} (r : Result T E) → P → OnOk r P
-on_ok (Ok x) p = p
-on_ok (Err e) p = tt
-
-pub on_ok_then : {T E P Q : Type 0} (r : Result T E) → OnOk r P → (P → Q) → OnOk r Q
-on_ok_then (Ok x) p f = f p
-on_ok_then (Err e) p f = tt
-
--- a write behind the gate does not shorten the bytes
-pub still_within : (gate : ℕ) (text old : List ℕ) → gate < length old → gate ≤ length (written (gate + 1) text old)
-still_within gate text old l =
-    omega (arith, length-append (take (gate + 1) old) (text ++ drop (gate + 1 + length text) old), length-append text (drop (gate + 1 + length text) old), length-take (gate + 1) old, length-drop (gate + 1 + length text) old)
-
-pub goes_nowhere : (disk : State) → GoesOn disk disk
-goes_nowhere disk = record { later = omega arith; nothing_more = λ k bytes l i. i; nothing_less = λ k bytes l i. i }
-
--- where no call was made
-pub unmoved : (disk : State) (s : SessionData) (commits : List (List Change)) (writes : List Change) (hold : Hold) → IsAt disk s commits hold → IsAppending s commits writes disk disk
+-- if no call was made
+pub unmoved : (disk : State) (s : SessionData) (commits : List (List Change)) (writes : List Change) (hold : Hold) → IsAt disk s commits hold → IsAppending (IsJournal s) commits writes disk disk
 unmoved disk s commits writes hold at = record {
   goes = goes_nowhere disk;
   images = λ k bytes l m i.
@@ -43,16 +29,16 @@ unmoved disk s commits writes hold at = record {
       inl (subst (λ b. IsJournal s commits b) (sym is) at.journal);
 }
 
--- where the record was being logged
+-- while the record was being logged
 pub appending : (old new : State) (s : SessionData) (n : ℕ) (commits : List (List Change)) (writes : List Change) (text : List ℕ) (hold : Hold) → IsAt old s commits hold → n ≡ hold.commits + 1 → IsCommit s.relations n writes
-    → text ≡ framed (commit_text s.relations n writes) ++ (0 ∷ []) → GoesOn old new → LeavesOnly old new (IsBeingLogged hold.gate text old.bytes) → IsAppending s commits writes old new
+    → text ≡ framed (commit_text s.relations n writes) ++ (0 ∷ []) → GoesOn old new → LeavesOnly old new (IsBeingLogged hold.gate text old.bytes) → IsAppending (IsJournal s) commits writes old new
 appending old new s n commits writes text hold at next one e goes leaves = record {
   goes = goes;
-  images = weaker (IsBeingLogged hold.gate text old.bytes) (IsJournalBeforeOrAfter s commits writes) old new
+  images = weaker (IsBeingLogged hold.gate text old.bytes) (IsBeforeOrAfter (IsJournal s) commits writes) old new
       (λ bytes b. logged_journal s n hold.gate commits writes old.bytes bytes at.gate (next ∙ ap (λ k. k + 1) at.count) one at.journal (subst (λ t. IsBeingLogged hold.gate t old.bytes bytes) e b)) leaves;
 }
 
--- where it was logged
+-- once it was logged
 pub appended : (old new : State) (s : SessionData) (n gate : ℕ) (commits : List (List Change)) (writes : List Change) (text : List ℕ) (hold : Hold) → IsAt old s commits hold → n ≡ hold.commits + 1 → IsCommit s.relations n writes
     → text ≡ framed (commit_text s.relations n writes) ++ (0 ∷ []) → IsSettled new → new.bytes ≡ opened_at hold.gate text old.bytes → gate ≡ hold.gate + length (commit_text s.relations n writes) + 5
     → IsAt new s (commits ++ writes ∷ []) record { gate = gate; commits = n }
@@ -65,7 +51,7 @@ appended old new s n gate commits writes text hold at next one e settled has pla
       count = count ∙ sym (length-append commits (writes ∷ []));
     }
 
--- where nothing stood behind the gate
+-- if nothing stood after the gate
 pub appended_text : (old new : State) (s : SessionData) (n : ℕ) (commits : List (List Change)) (writes : List Change) (text : List ℕ) (hold : Hold) → IsAt old s commits hold → n ≡ hold.commits + 1
     → text ≡ framed (commit_text s.relations n writes) ++ (0 ∷ []) → old.bytes ≡ journal_text s commits → new.bytes ≡ opened_at hold.gate text old.bytes → new.bytes ≡ journal_text s (commits ++ writes ∷ [])
 appended_text old new s n commits writes text hold at next e whole made =
@@ -100,7 +86,3 @@ created old new s gate text opening empty e settled made place = record {
   gate = omega (arith, place, length_framed (printed s), length-append (framed (printed s)) []);
   count = refl;
 }
-
-pub if_ok_weaker : {T E : Type 0} {P Q : T → Type 0} (r : Result T E) → ((x : T) → P x → Q x) → IfOk r P → IfOk r Q
-if_ok_weaker (Ok x) f h = f x h
-if_ok_weaker (Err e) f h = h

@@ -3,7 +3,8 @@ use Rattle.std.proofs.Common.{◌≡◌, ℕ, ◌+◌, ◌-◌, ◌<◌, ◌≤�
 use Rattle.def_chase.specs.Values.{Fact}
 use Rattle.def_chase.specs.Repository.{Change, apply}
 use Rattle.def_language.specs.Sessions.{RelationSchema, SessionData}
-use Rattle.run_journal.specs.Format.{framed, commit_text, opened, front}
+use Rattle.ws_roll.specs.Format.{framed, opened}
+use Rattle.run_journal.specs.Format.{commit_text, front}
 use Rattle.run_journal.specs.Journals.{BeginsWith, gate_of, after_commits, repository_of}
 use Rattle.run_journal.specs.Damage.{IsBroken, BreaksAt, HasNoCommit}
 use Rattle.run_journal.specs.Taken.{TakesCommit}

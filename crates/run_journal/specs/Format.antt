@@ -1,7 +1,6 @@
 -- The format of a journal: a session, the commits behind it, each behind an open gate, and a closed gate.
 use Rattle.std.specs.Prelude.{◌≡◌, ℕ, ◌+◌, ◌<◌, ◌^◌, ◌==◌, List, [], ◌∷◌, ◌++◌, length, flat_map, codes, false, if◌then◌else◌}
 use Rattle.std.specs.Fmt.{decimal}
-use Rattle.std.specs.Int.{w32, to_be_bytes}
 use Rattle.std.specs.List.{AllByRecursion}
 use Rattle.def_chase.specs.Values.{outer}
 use Rattle.def_chase.specs.Mappings.{force_relation}
@@ -10,12 +9,9 @@ use Rattle.def_language.specs.Lone.{IsTuple}
 use Rattle.def_language.specs.Printing.{printed, tuple_text}
 use Rattle.def_language.specs.Sessions.{RelationSchema, SessionData}
 use Rattle.def_language.specs.Validity.{IsSession}
+use Rattle.ws_roll.specs.Format.{framed, opened}
 
 -- ---- texts
-
--- a length in 4 bytes, the greatest byte first, and so many bytes
-unfoldable pub framed : List ℕ → List ℕ
-framed payload = to_be_bytes w32 (length payload) ++ payload
 
 -- a write: +FACT or -FACT
 abbrev pub write_text : List RelationSchema → Change → List ℕ
@@ -33,10 +29,6 @@ commit_line n = codes "commit " ++ (decimal n ++ 10 ∷ [])
 -- a commit: its number, and its writes in turn
 abbrev pub commit_text : List RelationSchema → ℕ → List Change → List ℕ
 commit_text relations n writes = commit_line n ++ write_lines relations writes
-
--- a record: an open gate, and the payload
-abbrev pub opened : List ℕ → List ℕ
-opened payload = 1 ∷ framed payload
 
 -- the records of commits, the first of them number n
 abbrev pub records : List RelationSchema → ℕ → List (List Change) → List ℕ

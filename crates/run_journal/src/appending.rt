@@ -7,14 +7,13 @@ ghost use Rattle.def_language.specs.Validity.{IsSession};
 ghost use Rattle.base_devices.specs.States.{IsSettled};
 ghost use Rattle.lang_session.specs.Meanings.{session_of};
 ghost use Rattle.run_journal.specs.Format.{IsWrite, commit_text, journal_text};
-ghost use Rattle.run_journal.specs.Journals.{IsAt, IsInHand};
-ghost use Rattle.run_journal.specs.Histories.{IsAppending};
+ghost use Rattle.run_journal.specs.Journals.{IsAt, IsInHand, IsJournal};
+ghost use Rattle.ws_roll.specs.Histories.{IsAppending};
 ghost use Rattle.run_journal.specs.Answers.{AppendTold, CreateTold, writes_of};
 
-use crate::framing::with_gate;
-use crate::logging::{log_record, write_synced};
 use crate::printing::commit_text;
 use crate::{AppendFault, Commit, CreateFault, Journal};
+use ws_roll::{log_record, with_gate, write_synced};
 use base_devices::{Disk, DiskRefusal};
 use lang_print::print_session;
 use lang_session::Session;
@@ -80,7 +79,7 @@ pub fn append<D: Disk>(
     requires small { length (D.state disk.old).bytes < 2 ^ 63 }
     ensures images { (commits : List (List Change))
         → IsAt (D.state disk.old) (session_of session.now) commits journal
-        → IsAppending (session_of session.now) commits (writes_of commit.now) (D.state disk.old)
+        → IsAppending (IsJournal (session_of session.now)) commits (writes_of commit.now) (D.state disk.old)
         (D.state disk.new) }
     ensures acknowledged { (commits : List (List Change))
         → IsAt (D.state disk.old) (session_of session.now) commits journal

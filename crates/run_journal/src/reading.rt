@@ -11,13 +11,13 @@ ghost use Rattle.def_language.specs.Sessions.{RelationSchema, SessionData};
 ghost use Rattle.def_language.specs.Validity.{IsSession};
 ghost use Rattle.lang_reader.specs.Places.{IsOneLine};
 ghost use Rattle.lang_session.specs.Meanings.{session_of};
-ghost use Rattle.run_journal.specs.Format.{IsCommit, IsOpening, IsWrite, commit_text, framed, write_lines, write_text};
+ghost use Rattle.ws_roll.specs.Format.{framed};
+ghost use Rattle.run_journal.specs.Format.{IsCommit, IsOpening, IsWrite, commit_text, write_lines, write_text};
 ghost use Rattle.run_journal.specs.Journals.{BeginsWith};
 ghost use Rattle.run_journal.specs.Damage.{HasNoCommit};
 ghost use Rattle.run_journal.specs.Answers.{FaultTold, IsHeld, ReadTold};
 ghost use Rattle.run_journal.specs.Taken.{TakesCommit, begins_header};
 
-use crate::framing::split_frame;
 use crate::printing::commit_line;
 use crate::{Journal, RecoverFault, Recovered};
 use base_types::{Memory, Tuple, TupleList, Write, WriteList};
@@ -30,6 +30,7 @@ use lang_schema::print_tuple;
 use lang_session::Session;
 use memchr::memchr;
 use set_facts::PlainFacts;
+use ws_roll::split_frame;
 use std::alloc::Global;
 
 // The line at the front, and what stands behind its line feed; None where there is no line feed.

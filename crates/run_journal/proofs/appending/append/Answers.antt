@@ -2,7 +2,8 @@ use Rattle.std.proofs.Common.{◌≡◌, ◌+◌, ◌∙◌, subst, ◌++◌, �
 use Rattle.lang_session.specs.Meanings.{session_of}
 use Rattle.run_journal.specs.Answers.{writes_of}
 use Rattle.base_devices.specs.States.{State}
-use Rattle.run_journal.specs.Format.{framed, commit_text, IsCommit}
+use Rattle.ws_roll.specs.Format.{framed}
+use Rattle.run_journal.specs.Format.{commit_text, IsCommit}
 use Rattle.run_journal.specs.Journals.{Hold, IsAt}
 use Rattle.run_journal.proofs.Onwards.{unmoved, appending, appended, appended_text}
 use Rattle.run_journal.proofs.appending.append.Goals as goal

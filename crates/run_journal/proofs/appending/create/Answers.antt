@@ -1,6 +1,7 @@
 use Rattle.std.proofs.Common.{◌∙◌, ◌++◌, ◌∷◌, [], ◌+◌, ap, length, arith}
 use Rattle.lang_session.specs.Meanings.{session_of}
-use Rattle.run_journal.specs.Format.{framed, IsOpening}
+use Rattle.ws_roll.specs.Format.{framed}
+use Rattle.run_journal.specs.Format.{IsOpening}
 use Rattle.run_journal.proofs.Onwards.{created}
 use Rattle.run_journal.proofs.appending.create.Goals as goal
 
