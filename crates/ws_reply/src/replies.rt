@@ -1,6 +1,6 @@
 //! A reply, told in lines.
 
-use std::alloc::AllocError;
+use std::alloc::{AllocError, Global};
 use ws_fault::Status;
 use ws_json::Object;
 
@@ -35,11 +35,12 @@ impl Reply {
     /// A reply of objects, one a line, each with the status, and all but the last with the mark `more`. It is refused only
     /// for want of memory.
     pub fn of_objects(
+        alloc: Global,
         status: Status,
         kind: Kind,
         objects: Vec<Object>,
     ) -> Result<Reply, AllocError> {
-        let mut lines = Vec::new(objects.allocator());
+        let mut lines = Vec::new(alloc);
         let count = objects.len();
         for (place, object) in objects.into_iter().enumerate() {
             let mut object = object;
