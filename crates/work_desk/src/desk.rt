@@ -55,7 +55,7 @@ impl<C: Core> Desk<C> {
                 },
                 dealt,
             )),
-            Err((board, _)) => Err((board.into_core(), Memory)),
+            Err((board, memory)) => Err((board.into_core(), memory)),
         }
     }
 

@@ -9,7 +9,7 @@ use crate::pace::Pace;
 use crate::places::Places;
 use crate::rest::Rest;
 use crate::watch::Watch;
-use std::alloc::AllocError as Memory;
+use def_memory::Memory;
 use std::sync::Wait;
 use std::time::Clock;
 
