@@ -14,12 +14,17 @@ CRATES = ROOT / "crates"
 
 # What nothing uses and what stays, with the reason.
 KEPT = {
-    "core_engine.drained": "the promise that an opened and drained core gives the serial run, whatever the settings",
-    "set_versions.fold": "the state that versions stand for, for who folds them into a base",
-    "set_versions.wrote": "whether an update has written, as the versions tell it",
+    "chase_match.extends": "whether a match extends a binding: a promise of its own",
+    "chase_match.first_match": "the first match of a pattern: a promise of its own",
+    "chase_unifier.specific_by": "the more specific tuples by a binding: a promise of its own",
+    "chase_violation.holds": "whether a mapping holds: a promise of its own",
+    "core_engine.drained": "an opened and drained core gives the serial run, whatever the settings",
+    "def_machine.proofs.Sessions.committed_alike": "a law of the crate's README",
+    "run_laws.proofs.Serial.ms": "a word of its module for the mappings of the session",
+    "set_versions.fold": "the state that versions stand for, folded into a base",
     "set_versions.proofs.Sent.held_send": "versions may be sent to another thread",
     "set_versions.proofs.Sent.held_sync": "versions may be read by several threads",
-    "run_laws.proofs.Serial.ms": "a word of its module for the mappings of the session",
+    "set_versions.wrote": "whether an update has written, as the versions tell it",
 }
 
 GOALS = {"Answers.antt", "Invariants.antt", "Proof.antt"}
@@ -30,7 +35,7 @@ SCOPE = re.compile(r" *(?:abbrev )?(?:module _|mutual)")
 FORMED = re.compile(r" *(?:(?:pub|unfoldable|opaque) )*(record|data) ([^\s:(){}]+)")
 STATED = re.compile(r" *(?:(?:pub|abbrev|unfoldable|opaque) )*(?!(?:pub|abbrev|unfoldable|opaque) )([^\s:(){}]+)(?: [^:]*)? : ")
 IMPORT = re.compile(r"^ *(?:pub |ghost )?use [^;]*;", re.M)
-CLAUSE = re.compile(r"^ *(?:ensures|requires|ghost|prove!)\b[^{;]*\{[^\0]*?\}(?: *| ,)$", re.M)
+CLAUSE = re.compile(r"^ *(?:ensures|requires|ghost|prove!)\b[^{;]*\{[^\0]*?\}[;,]? *$", re.M)
 PUBLIC = re.compile(r"^( *)pub (?:const |unsafe )*fn (\w+)(?:<[^(]*>)?\(\s*(\S)", re.M)
 VARIANT = re.compile(r" +([^\s:(){}]+) :")
 
@@ -155,6 +160,8 @@ def roots(stored):
 def unused_items(stored):
     """The items to which no chain of names leads from a root, each as crate, module and name."""
     used, waiting = set(), list(roots(stored))
+    for crate, *path, name in (kept.split(".") for kept in KEPT):
+        waiting += filter(None, [known(stored, crate, ".".join(path), name)])
     while waiting:
         item = waiting.pop()
         if item not in used:
@@ -182,9 +189,11 @@ class Source:
             if first != ")":
                 yield name, margin != ""
 
-    def calls(self, name, method):
-        """Whether the code names the function outside its own body."""
-        code = re.sub(rf"^( *)(?:pub )?fn {name}\b[^\0]*?^\1}}$", "", self.code, flags=re.M)
+    def calls(self, crate, name, method):
+        """Whether the code names the function of the crate, outside its own body."""
+        code, margin = self.code, " +" if method else ""
+        if self.crate == crate:
+            code = re.sub(rf"^({margin})(?:pub )?fn {name}\b[^\0]*?^\1}}$", "", code, flags=re.M)
         return bool(re.search(rf"(?:\.|::){name}\b" if method else rf"\b{name}\b", code))
 
 
@@ -193,7 +202,7 @@ def uncalled():
     sources = [Source(file) for file in CRATES.rglob("*.rt") if is_stored(file)]
     for crate in sorted({source.crate for source in sources}):
         for name, method in sorted({function for source in sources if source.crate == crate for function in source.functions()}):
-            if not any(source.calls(name, method) for source in sources if may_call(source, crate, name, method)):
+            if not any(source.calls(crate, name, method) for source in sources if may_call(source, crate, name, method)):
                 yield crate, name
 
 

@@ -1,9 +1,9 @@
 -- A quiet history over a whole session is the serial machine there; turns that stand beside one another.
-use Rattle.std.proofs.Common.{subst, true, ◌≡◌, ℕ, suc, ◌≤◌, ◌+◌, ap, refl, ◌∙◌, List, [], ◌∷◌, ◌++◌, take, map, length, arith, Some}
+use Rattle.std.proofs.Common.{subst, true, ◌≡◌, ℕ, suc, ◌≤◌, ◌+◌, ap, refl, ◌∙◌, List, [], ◌∷◌, ◌++◌, take, map, length, arith, Some, None}
 use Rattle.std.specs.Prelude.{if◌then◌else◌, slice_get}
 use Rattle.def_machine.specs.Machine.{Machine, Laws}
-use Rattle.def_machine.specs.Updates.{Update, Session, Settings, below, committed}
-use Rattle.def_machine.specs.Serial.{Turn, Result, serial, committed_finishes, all_turns, first_stop, session_turns}
+use Rattle.def_machine.specs.Updates.{Update, Session, Settings, below, committed, is_over}
+use Rattle.def_machine.specs.Serial.{Turn, Result, serial, committed_turns, committed_finishes, all_turns, first_stop, session_turns}
 use Rattle.def_machine.specs.Simulation.{Simulation, AreTurns, AreResults}
 use Rattle.def_machine.specs.Effects.{Event}
 use Rattle.def_machine.specs.Histories.{Log, empty_log, after}
@@ -49,9 +49,25 @@ module _ (M K : Machine) (R : Simulation M K) (f : Turn M → Turn K) where
       (λ w. earlier n (suc n) (all_turns M (suc n) us) (map f (all_turns M (suc n) us)) (omega arith) rest)
       (λ w. (omega arith, h 0 n u (omega arith) refl, rest))
 
+  pub committed_beside : (n : ℕ) (us : List (Update M)) → ((k m : ℕ) (u : Update M) → m ≡ n + k → slice_get us k ≡ Some u → R.Turns (turn_of M m u u.answers) (f (turn_of M m u u.answers))) → AreTurns R n (committed_turns M n us) (map f (committed_turns M n us))
+  committed_beside n [] h = tt
+  committed_beside n (u ∷ us) h =
+      let rest : AreTurns R (suc n) (committed_turns M (suc n) us) (map f (committed_turns M (suc n) us)) = committed_beside (suc n) us (λ k m v e g. h (suc k) m v (omega (arith, e)) g) in
+      if_both (λ (ts : List (Turn M)). AreTurns R n ts (map f ts)) (is_over M u) (if u.withdrawn then committed_turns M (suc n) us else turn_of M n u u.answers ∷ committed_turns M (suc n) us) []
+      (λ o. if_both (λ (ts : List (Turn M)). AreTurns R n ts (map f ts)) u.withdrawn (committed_turns M (suc n) us) (turn_of M n u u.answers ∷ committed_turns M (suc n) us)
+      (λ w. earlier n (suc n) (committed_turns M (suc n) us) (map f (committed_turns M (suc n) us)) (omega arith) rest)
+      (λ w. (omega arith, h 0 n u (omega arith) refl, rest)))
+      (λ o. tt)
+
 -- ---- what a history leaves, beside the serial run of another machine
 
 module _ (M K : Machine) (L : Laws M) (R : Simulation M K) (f : Turn M → Turn K) (s : Settings) (S : Session M) (E : K.Repository) (es : List (Event M)) (l : Log M) (z : M.Sound S.base) (h : after M s S (empty_log M) es ≡ Some l) where
+  -- the committed updates
+  pub committed_alike : R.Repositories 1 S.base E → ((k m : ℕ) (u : Update M) → m ≡ 1 + k → slice_get l.updates k ≡ Some u → R.Turns (turn_of M m u u.answers) (f (turn_of M m u u.answers)))
+      → AreResults R (record { finishes = committed_finishes M 1 l.updates; stop = None; repository = below M S.base l.updates (committed M l.updates) }) (serial K E (map f (committed_turns M 1 l.updates)))
+  committed_alike r t =
+      subst (λ (x : Result M). AreResults R x (serial K E (map f (committed_turns M 1 l.updates)))) (history_law M L s S es l z h).as_serial
+      (serial_alike M K L R 1 (committed_turns M 1 l.updates) (map f (committed_turns M 1 l.updates)) S.base E (committed_beside M K R f 1 l.updates t) r)
 
   -- all updates, where it is quiet
   pub quiet_alike : is_quiet M s l.updates ≡ true → R.Repositories 1 S.base E
