@@ -27,17 +27,17 @@ pub(crate) struct Change {
 /// the update. It is refused only for want of memory.
 pub(crate) fn changed_read(
     alloc: Global,
-    seat: &AuditedUpdate,
+    audited: &AuditedUpdate,
     mappings: &MappingList,
     below: &IndexedFacts,
     relations: &[u16],
 ) -> Result<Option<Change>, Memory>
     ensures first { IfOk result
-        (IsFirstChange (rules_in mappings.now) relations.now below.now seat.now) }
+        (IsFirstChange (rules_in mappings.now) relations.now below.now audited.now) }
 {
-    let log = seat.log.as_slice();
-    let own = seat.program.own().as_slice();
-    let direction = seat.program.direction();
+    let log = audited.log.as_slice();
+    let own = audited.program.own().as_slice();
+    let direction = audited.program.direction();
     first_changed(alloc, log, own, direction, mappings, below, relations)
 }
 
