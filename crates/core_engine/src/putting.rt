@@ -161,9 +161,9 @@ fn step_entry(
     requires committed { HasCommitted queue.now committed }
     ensures told { TellsStep (settings_of settings) place attempt writes causes queue.now result }
 {
-    let record = &queue[place];
-    let update = record.number();
-    let standing = record.standing(settings, committed, update);
+    let queued = &queue[place];
+    let update = queued.number();
+    let standing = queued.standing(settings, committed, update);
     Entry::Stepped {
         update,
         attempt,

@@ -31,9 +31,9 @@ pub(crate) struct Prepared {
     pub(crate) left: Aftermath,
 }
 
-/// What the step of the plan leaves, where `upper` are the updates above that of the record, the first of which may have
-/// read something, and so many are committed. The versions after it are made aside, and put in place last. It is refused only
-/// for want of memory; the versions are then as they were.
+/// What the step of the plan leaves, where `upper` are the updates above that of the queued update, the first of which
+/// may have read something, and so many are committed. The versions after it are made aside, and put in place last. It
+/// is refused only for want of memory; the versions are then as they were.
 pub(crate) fn prepare(
     alloc: Global,
     mappings: &Mappings<'_>,
