@@ -17,3 +17,6 @@ pub const MOST_ADDED_MAPPINGS: usize = 16;
 
 /// The most curators of a session.
 pub const MOST_CURATORS: usize = 64;
+
+/// The most bytes of an input, of a journal's payload and of a saved session.
+pub const MOST_BYTES: usize = 16_777_216;

@@ -11,6 +11,7 @@ mod rules;
 
 pub use crate::budgets::Budget;
 pub use crate::counts::{
-    MOST_ADDED_MAPPINGS, MOST_CURATORS, MOST_MAPPINGS, MOST_RETRIES, MOST_STEPS, MOST_UPDATES,
+    MOST_ADDED_MAPPINGS, MOST_BYTES, MOST_CURATORS, MOST_MAPPINGS, MOST_RETRIES, MOST_STEPS,
+    MOST_UPDATES,
 };
 pub use crate::rules::Mappings;

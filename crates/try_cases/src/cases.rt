@@ -4,7 +4,7 @@ ghost use Rattle.def_language.specs.Validity.{IsSession};
 ghost use Rattle.lang_session.specs.Meanings.{session_of};
 
 use crate::refusals::CaseRefusal;
-use base_limits::{Budget, MOST_RETRIES, MOST_STEPS};
+use base_limits::{Budget, MOST_BYTES, MOST_RETRIES, MOST_STEPS};
 use core_queue::{Deps, Settings};
 use lang_reader::read_session;
 use lang_session::Session;
@@ -54,7 +54,7 @@ impl Case {
     pub fn session(&self, alloc: Global) -> Result<Session, CaseRefusal>
         ensures valid { IfOk result (λ session. IsSession (session_of session)) }
     {
-        if 16_777_216 < self.session.len() {
+        if MOST_BYTES < self.session.len() {
             return Err(CaseRefusal::Spelling);
         }
         let session = read_session(alloc, self.session.as_slice())?;
