@@ -153,8 +153,8 @@ pub(crate) fn copied(alloc: Global, writes: &[Write]) -> Result<WriteList, Memor
     Ok(copies)
 }
 
-/// What the step of the plan leaves, which is one of the update at the place. The versions are put in place with it. It is
-/// refused only for want of memory; the versions are then as they were.
+/// What the step of the plan leaves. The plan is one of the update at the place. The versions are put in place with it.
+/// It is refused only for want of memory; the versions are then as they were.
 pub(crate) fn prepare_at(
     alloc: Global,
     scene: &Scene<'_>,
