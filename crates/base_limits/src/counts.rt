@@ -3,7 +3,7 @@
 /// The most updates of a session.
 pub const MOST_UPDATES: u32 = 1000;
 
-/// The most steps of an update.
+/// The most steps of an update for which a call may ask.
 pub const MOST_STEPS: u32 = 300;
 
 /// The most retries of an update before it waits for all lower ones.
