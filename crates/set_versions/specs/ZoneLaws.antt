@@ -57,14 +57,6 @@ module _ {X Y : Type 0} {P : Y → Y → Ordering} (o : IsTotalOrder P) (f : X �
       by Equal i Greater j h = cc
       by Greater i b j h = absurd (up i)
 
--- ---- at a tuple
-
-pub at_before : (t x y : Fact) → fact_cmp x y ≡ Less → fact_cmp y t ≡ Less → fact_cmp x t ≡ Less
-at_before t x y h e = fact_total.trans x y t h e
-
-pub at_past : (t x y : Fact) → fact_cmp x y ≡ Less → fact_cmp x t ≡ Greater → fact_cmp y t ≡ Greater
-at_past t x y h e = fact_total.antisymm y t ∙ ap ordering_reverse (fact_total.trans t x y (fact_total.antisymm t x ∙ ap ordering_reverse e) h)
-
 -- ---- beyond a tuple
 
 beyond_rises : (past : Option Fact) (x y : Fact) → fact_cmp x y ≡ Less → is_beyond past x ≡ true → is_beyond past y ≡ true
