@@ -10,7 +10,8 @@ use base_types::Tuple;
 use std::alloc::Global;
 use std::collections::BTreeSet;
 use ws_fault::{Refusal, Status};
-use ws_report::{Counted, Report, count_text, ranges_text};
+use ws_question::count_text;
+use ws_report::{Counted, Report, ranges_text};
 use ws_space::Space;
 use ws_state::{Effect, Mark};
 use ws_written::{Line, Update};
@@ -63,8 +64,7 @@ fn line_of(alloc: Global, name: &str) -> Result<String, Refusal> {
 }
 
 fn refuse_rounds(alloc: Global, name: &str) -> Result<Done, Refusal> {
-    let words = format!(
-        in alloc;
+    let words = format!(in alloc;
         "spent: the repairs of {name} violate it anew, ten times over; nothing was changed"
     )?;
     let fault = spent(alloc, words.as_str(), "does it go round for ever?")?;
@@ -134,7 +134,9 @@ impl Repairs {
         let left = count_text(alloc, left, "violation")?;
         let words = format!(in alloc; "{name} is not in force yet: {left} left")?;
         done.report.also.push(words)?;
-        done.report.next.push(String::from_str(alloc, "questions")?)?;
+        done.report
+            .next
+            .push(String::from_str(alloc, "questions")?)?;
         done.report.next.push(line_of(alloc, name)?)?;
         Ok(done)
     }
@@ -170,7 +172,10 @@ impl Repairs {
         effect: Effect,
     ) -> Result<Done, Refusal> {
         let Repairs {
-            lines, fixed, asks, ..
+            lines,
+            fixed,
+            asks,
+            ..
         } = self;
         let mut report = Report::of(alloc, status, did, line_of(alloc, name)?);
         report.effect = effect;
@@ -198,9 +203,7 @@ impl Repairs {
 fn all_wait(alloc: Global, name: &str, left: usize) -> Result<Done, Refusal> {
     let mut report = Report::of(alloc, Status::Waits, "waits", line_of(alloc, name)?);
     let left = count_text(alloc, left, "violation")?;
-    report
-        .also
-        .push(format!(in alloc; "{left}, and each waits for its question")?)?;
+    report.also.push(format!(in alloc; "{left}, and each waits for its question")?)?;
     report.next.push(String::from_str(alloc, "questions")?)?;
     Ok(Done::unrecorded(alloc, report))
 }

@@ -3,7 +3,7 @@
 use crate::choosing::{answer_to, choose};
 use crate::done::Done;
 use crate::faults::{refuse, refuse_with};
-use crate::records::{has_answers, status_of, steps_of};
+use crate::records::{has_answers, steps_of};
 use crate::same::check_since;
 use crate::spending::spent_fault;
 use std::alloc::{AllocError, Global};
@@ -11,9 +11,11 @@ use ws_command::SaidChoice;
 use ws_fault::{Refusal, Status as Comes};
 use ws_lines::Deed;
 use ws_print::add_choice;
-use ws_question::{AskedNow, Shown, asked_now, question_lines, question_next, reason_words};
-use ws_report::{CANDIDATES, Report, count_text};
+use ws_question::{
+    AskedNow, Shown, asked_now, count_text, question_lines, question_next, reason_words, status_of,
+};
 use ws_reply::Context;
+use ws_report::{CANDIDATES, Report};
 use ws_run::{Question, Reason};
 use ws_space::Space;
 use ws_state::{Mark, Status, Told};
@@ -100,8 +102,7 @@ fn check_shown(
         shown.put(asked)?;
     }
     let number = asked.number;
-    let words =
-        format!(in alloc; "the candidates of {number} have changed since they were shown")?;
+    let words = format!(in alloc; "the candidates of {number} have changed since they were shown")?;
     let hint = format!(in alloc; "look again: questions {number}")?;
     let lines = question_lines(alloc, space, asked, None, CANDIDATES)?;
     refuse_with(alloc, words.as_str(), hint.as_str(), lines)
@@ -219,12 +220,7 @@ impl Answered {
 }
 
 // After a repair, how many violations are left of its mapping.
-fn add_left(
-    alloc: Global,
-    space: &Space,
-    number: u32,
-    report: &mut Report,
-) -> Result<(), Refusal> {
+fn add_left(alloc: Global, space: &Space, number: u32, report: &mut Report) -> Result<(), Refusal> {
     let Some(mapping) = fixed_by(space, number) else {
         return Ok(());
     };

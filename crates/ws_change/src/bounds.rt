@@ -1,15 +1,15 @@
 //! What `--only` and the want of `--cascade` refuse.
 
 use crate::faults::{refuse, refuse_with};
-use crate::names::known_fact;
 use base_types::Tuple;
 use def_memory::Memory;
 use std::alloc::Global;
 use std::collections::BTreeSet;
 use ws_command::Bounds;
 use ws_fault::Refusal;
-use ws_question::{AskedNow, question_line};
-use ws_report::{MANY, count_text, fact_text, moved_row};
+use ws_hint::known_fact;
+use ws_question::{AskedNow, count_text, fact_text, question_line};
+use ws_report::{MANY, moved_row};
 use ws_space::Space;
 use ws_state::{Effect, Moved};
 use ws_written::{Fact, Line, NewFact, Update};
@@ -123,18 +123,13 @@ fn add_texts(
     moved: &Moved,
 ) -> Result<(), Memory> {
     if texts.len() < TOLD {
-        texts.push(fact_text(alloc, space, &space.fact(alloc, &moved.tuple)?)?)?;
+        texts.push(fact_text(alloc, space, &moved.tuple)?)?;
     }
     Ok(())
 }
 
 // Nothing goes that is not named, and nothing comes by a mapping.
-fn check_only(
-    alloc: Global,
-    space: &Space,
-    named: &Named,
-    effect: &Effect,
-) -> Result<(), Refusal> {
+fn check_only(alloc: Global, space: &Space, named: &Named, effect: &Effect) -> Result<(), Refusal> {
     let mut texts = Vec::new(alloc);
     let mut count = 0usize;
     for moved in effect.went.as_slice() {

@@ -45,8 +45,8 @@ pub(crate) fn choose(
 // That the question asks which one it is.
 fn refuse_which<T: Drop>(alloc: Global, asked: &AskedNow) -> Result<T, Refusal> {
     let number = asked.number;
-    let words = format!(
-        in alloc; "update {number} asks which one it is: answer with one candidate, or new"
+    let words = format!(in alloc;
+        "update {number} asks which one it is: answer with one candidate, or new"
     )?;
     refuse(alloc, words.as_str(), "")
 }
@@ -54,8 +54,9 @@ fn refuse_which<T: Drop>(alloc: Global, asked: &AskedNow) -> Result<T, Refusal> 
 // That the question asks what goes.
 fn refuse_what<T: Drop>(alloc: Global, asked: &AskedNow) -> Result<T, Refusal> {
     let number = asked.number;
-    let words =
-        format!(in alloc; "update {number} asks what goes: answer with one candidate or more")?;
+    let words = format!(in alloc;
+        "update {number} asks what goes: answer with one candidate or more"
+    )?;
     refuse(alloc, words.as_str(), "")
 }
 

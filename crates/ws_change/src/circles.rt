@@ -41,12 +41,7 @@ fn add_way(
 }
 
 // Adds what leads where by the mapping, unless a mapping before it does.
-fn add_rule(
-    alloc: Global,
-    leads: &mut Leads,
-    rule: &Rule,
-    by: Option<u16>,
-) -> Result<(), Memory> {
+fn add_rule(alloc: Global, leads: &mut Leads, rule: &Rule, by: Option<u16>) -> Result<(), Memory> {
     for atom in rule.right.iter() {
         if is_plain(rule, atom) {
             for left in rule.left.iter() {

@@ -9,7 +9,8 @@ use def_memory::Memory;
 use std::alloc::Global;
 use ws_fault::{Refusal, Status};
 use ws_print::{add_fact, add_new_facts};
-use ws_report::{Report, count_text};
+use ws_question::count_text;
+use ws_report::Report;
 use ws_space::{Space, Violation};
 use ws_written::{Line, Rule};
 
@@ -71,9 +72,7 @@ fn proposed(
 ) -> Result<Done, Refusal> {
     let mut report = Report::of(alloc, Status::Done, "proposed", text);
     let count = count_text(alloc, violations.len(), "violation")?;
-    report
-        .also
-        .push(format!(in alloc; "it has {count}, so it is not in force")?)?;
+    report.also.push(format!(in alloc; "it has {count}, so it is not in force")?)?;
     for violation in violations.iter().take(TOLD) {
         report
             .also

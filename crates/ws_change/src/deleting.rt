@@ -1,7 +1,8 @@
 //! `delete`.
 
 use crate::done::Done;
-use crate::names::{check_fact, check_value, is_there};
+use crate::fitting::fitting_facts;
+use crate::names::{check_fact, is_there};
 use crate::single::single;
 use base_types::Tuple;
 use def_memory::Memory;
@@ -12,46 +13,8 @@ use ws_fault::Refusal;
 use ws_print::add_pattern;
 use ws_question::near_texts;
 use ws_report::{Note, facts_text};
-use ws_space::{Space, copy_fact, copy_value};
-use ws_written::{Fact, Update, Value};
-
-/// The tuple, if no `_` stands in it. It is refused only for want of memory.
-pub(crate) fn plain_fact(alloc: Global, pattern: &Pattern) -> Result<Option<Fact>, Memory> {
-    let mut values = Vec::new(alloc);
-    for value in pattern.values.iter() {
-        match value {
-            Some(known) => values.push(copy_value(alloc, known)?)?,
-            None => return Ok(None),
-        }
-    }
-    Ok(Some(Fact {
-        relation: pattern.relation,
-        values,
-    }))
-}
-
-/// The tuples for which a pattern stands, in order: a pattern without `_` for itself. It is refused if it has a `_` and names
-/// an unknown that is not there.
-pub(crate) fn fitting_facts(
-    alloc: Global,
-    space: &Space,
-    pattern: &Pattern,
-) -> Result<Vec<Fact>, Refusal> {
-    let mut facts = Vec::new(alloc);
-    if let Some(fact) = plain_fact(alloc, pattern)? {
-        facts.push(fact)?;
-        return Ok(facts);
-    }
-    for value in pattern.values.iter() {
-        if let Some(known) = value {
-            check_value(alloc, space, known)?;
-        }
-    }
-    for tuple in space.matching(alloc, pattern)?.iter() {
-        facts.push(space.shown(alloc, tuple)?)?;
-    }
-    Ok(facts)
-}
+use ws_space::{Space, copy_fact};
+use ws_written::{Fact, Update};
 
 /// Deletes the tuples for which patterns stand. It is refused if one names an unknown that is not there.
 pub(crate) fn delete(
@@ -82,9 +45,7 @@ pub(crate) fn delete(
 }
 
 fn has_any(patterns: &[Pattern]) -> bool {
-    patterns
-        .iter()
-        .any(|pattern| pattern.values.iter().any(|value| value.is_none()))
+    patterns.iter().any(|pattern| pattern.values.iter().any(|value| value.is_none()))
 }
 
 // The tuples for which the patterns stand, in order; each once if a `_` stands in one.
@@ -131,20 +92,10 @@ fn not_there(alloc: Global, space: &Space, facts: &[Fact]) -> Result<Done, Refus
     let mut done = Done::nothing(alloc, "not there", line);
     if let Some(first) = facts.first() {
         for text in near_texts(alloc, space, first)?.iter() {
-            done.report.also.push(format!(in alloc; "there is {text}")?)?;
+            done.report
+                .also
+                .push(format!(in alloc; "there is {text}")?)?;
         }
     }
     Ok(done)
-}
-
-/// The value of a tuple in a column; it is refused only for want of memory.
-pub(crate) fn value_at(
-    alloc: Global,
-    fact: &Fact,
-    column: usize,
-) -> Result<Option<Value>, Memory> {
-    match fact.values.get(column) {
-        Some(value) => Ok(Some(copy_value(alloc, value)?)),
-        None => Ok(None),
-    }
 }

@@ -2,12 +2,13 @@
 
 use crate::done::Done;
 use crate::faults::refuse;
-use crate::names::{check_new_fact, is_there, known_fact};
+use crate::names::{check_new_fact, is_there};
 use crate::single::single;
 use def_memory::Memory;
 use std::alloc::Global;
 use ws_command::Bounds;
 use ws_fault::Refusal;
+use ws_hint::known_fact;
 use ws_print::add_new_facts;
 use ws_space::Space;
 use ws_written::{NewFact, Update};

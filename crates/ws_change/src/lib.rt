@@ -14,6 +14,7 @@ mod deleting;
 mod done;
 mod dropping;
 mod faults;
+mod fitting;
 mod forcing;
 mod inserting;
 mod lints;

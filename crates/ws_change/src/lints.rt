@@ -82,8 +82,7 @@ fn add_lone(
         let name = name.as_str();
         if stands_once(rule, name) && is_text_of(alloc, space, atom.relation, column, name)? {
             let relation = relation_name(space, atom.relation);
-            let words = format!(
-                in alloc;
+            let words = format!(in alloc;
                 "the variable {name} of {relation} stands for any value; for the text write \"{name}\""
             )?;
             notes.push(Note::of(alloc, words))?;

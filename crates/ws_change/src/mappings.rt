@@ -78,8 +78,9 @@ pub(crate) fn check_mapping(alloc: Global, space: &Space, rule: &Rule) -> Result
     }
     if let Some(circle) = circle_words(alloc, space, rule)? {
         let name = rule.name.as_str();
-        let words =
-            format!(in alloc; "mapping {name} closes a circle without an unknown: {circle}")?;
+        let words = format!(in alloc;
+            "mapping {name} closes a circle without an unknown: {circle}"
+        )?;
         let hint = "a circle has to go through a variable that stands on a right side alone";
         return refuse(alloc, words.as_str(), hint);
     }
@@ -95,8 +96,7 @@ fn check_name(alloc: Global, space: &Space, name: &str) -> Result<(), Refusal> {
         return Ok(());
     };
     if space.state.is_gone(mapping) {
-        let words =
-            format!(in alloc; "there was a mapping {name}; its name is free after `fold`")?;
+        let words = format!(in alloc; "there was a mapping {name}; its name is free after `fold`")?;
         return refuse(alloc, words.as_str(), "");
     }
     if is_in_force(space, name) {
@@ -141,8 +141,16 @@ fn count_new_shared(rule: &Rule, place: usize, atom: &Atom) -> usize {
     for (column, term) in atom.terms.iter().enumerate() {
         if let Term::Variable(name) = term {
             let name = name.as_str();
-            let before = rule.left.iter().take(place).any(|other| stands_in(other, name));
-            let above = atom.terms.iter().take(column).any(|other| same_term(other, term));
+            let before = rule
+                .left
+                .iter()
+                .take(place)
+                .any(|other| stands_in(other, name));
+            let above = atom
+                .terms
+                .iter()
+                .take(column)
+                .any(|other| same_term(other, term));
             if !before && !above && stands_among(rule.right.as_slice(), name) {
                 count = count.saturating_add(1);
             }

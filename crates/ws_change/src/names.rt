@@ -3,7 +3,7 @@
 use def_memory::Memory;
 use std::alloc::Global;
 use ws_fault::Refusal;
-use ws_space::{Space, copy_value};
+use ws_space::Space;
 use ws_written::{Fact, NewFact, NewValue, Unknown, Value};
 
 /// Refuses an unknown that is not there.
@@ -38,21 +38,6 @@ pub(crate) fn check_new_fact(alloc: Global, space: &Space, fact: &NewFact) -> Re
         }
     }
     Ok(())
-}
-
-/// The tuple, if it has no new unknown. It is refused only for want of memory.
-pub(crate) fn known_fact(alloc: Global, fact: &NewFact) -> Result<Option<Fact>, Memory> {
-    let mut values = Vec::new(alloc);
-    for value in fact.values.iter() {
-        match value {
-            NewValue::Known(known) => values.push(copy_value(alloc, known)?)?,
-            _ => return Ok(None),
-        }
-    }
-    Ok(Some(Fact {
-        relation: fact.relation,
-        values,
-    }))
 }
 
 /// Whether the tuple is there. It is refused only for want of memory.

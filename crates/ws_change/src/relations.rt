@@ -41,7 +41,10 @@ pub(crate) fn declare_relation(
 }
 
 fn place_of(space: &Space, name: &str) -> Option<usize> {
-    space.relations.iter().position(|other| other.name.as_str() == name)
+    space
+        .relations
+        .iter()
+        .position(|other| other.name.as_str() == name)
 }
 
 fn has_same_columns(one: &Relation, other: &Relation) -> bool {
@@ -94,8 +97,8 @@ fn check_new(alloc: Global, space: &Space, name: &str) -> Result<(), Refusal> {
     for other in space.relations.iter() {
         if is_lower(alloc, other.name.as_str(), lower.as_str())? {
             let name = other.name.as_str();
-            let words = format!(
-                in alloc; "there is a relation {name}; names differ by more than capitals"
+            let words = format!(in alloc;
+                "there is a relation {name}; names differ by more than capitals"
             )?;
             return refuse(alloc, words.as_str(), "");
         }

@@ -1,10 +1,10 @@
 //! `replace`, of an unknown and of a tuple.
 
-use crate::deleting::{fitting_facts, value_at};
 use crate::done::Done;
 use crate::faults::{refuse, refuse_with};
+use crate::fitting::fitting_facts;
 use crate::names::{
-    check_fact, check_new_fact, check_unknown, check_value, is_there, known_fact, same_fact,
+    check_fact, check_new_fact, check_unknown, check_value, is_there, same_fact,
     same_value,
 };
 use crate::single::single;
@@ -12,9 +12,10 @@ use def_memory::Memory;
 use std::alloc::Global;
 use ws_command::{Bounds, Pattern, Replacement};
 use ws_fault::Refusal;
+use ws_hint::known_fact;
 use ws_print::{add_pattern, add_update};
-use ws_question::near_texts;
-use ws_report::{count_text, fact_text, joined};
+use ws_question::{count_text, near_texts};
+use ws_report::{joined, said_text};
 use ws_space::{Space, copy_value};
 use ws_written::{Fact, NewFact, NewValue, Unknown, Update, Value};
 
@@ -83,7 +84,7 @@ fn one_fact(alloc: Global, space: &Space, pattern: &Pattern) -> Result<Fact, Ref
     words.push_str(count_text(alloc, facts.len(), "tuple")?.as_str())?;
     let mut texts = Vec::new(alloc);
     for fact in facts.iter().take(TOLD) {
-        texts.push(fact_text(alloc, space, fact)?)?;
+        texts.push(said_text(alloc, space, fact)?)?;
     }
     refuse_with(alloc, words.as_str(), "", texts)
 }
@@ -99,8 +100,8 @@ fn replacement(alloc: Global, old: &Fact, new: &Replacement) -> Result<NewFact, 
         match value {
             Some(value) => values.push(copy_new_value(alloc, value)?)?,
             None => {
-                if let Some(kept) = value_at(alloc, old, column)? {
-                    values.push(NewValue::Known(kept))?;
+                if let Some(kept) = old.values.get(column) {
+                    values.push(NewValue::Known(copy_value(alloc, kept)?))?;
                 }
             }
         }
@@ -128,7 +129,7 @@ fn is_same(alloc: Global, old: &Fact, new: &NewFact) -> Result<bool, Memory> {
 
 // The tuple is not there: those that are like it are told.
 fn refuse_absent(alloc: Global, space: &Space, fact: &Fact) -> Result<Done, Refusal> {
-    let text = fact_text(alloc, space, fact)?;
+    let text = said_text(alloc, space, fact)?;
     let words = format!(in alloc; "{text} is not there")?;
     let mut near = Vec::new(alloc);
     for text in near_texts(alloc, space, fact)?.iter() {

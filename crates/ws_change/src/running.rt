@@ -21,11 +21,7 @@ pub(crate) struct Taken {
 fn next_number(alloc: Global, space: &Space) -> Result<u32, Refusal> {
     match space.state.last().checked_add(1) {
         Some(number) => Ok(number),
-        None => Err(Refusal::Fault(refused(
-            alloc,
-            "no number is left for an update",
-            "",
-        )?)),
+        None => Err(Refusal::Fault(refused(alloc, "no number is left for an update", "")?)),
     }
 }
 

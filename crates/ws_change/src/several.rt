@@ -3,11 +3,12 @@
 use crate::choosing::answer_to;
 use crate::done::Done;
 use crate::faults::refuse;
-use crate::records::{is_waiting, status_of, steps_of};
+use crate::records::{is_waiting, steps_of};
 use crate::spending::spent_fault;
 use std::alloc::{AllocError, Global};
 use ws_command::SaidChoice;
 use ws_fault::{Refusal, Status};
+use ws_question::status_of;
 use ws_report::{Counted, Report, Telling, ranges_text};
 use ws_run::Reason;
 use ws_space::Space;

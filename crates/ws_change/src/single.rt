@@ -8,8 +8,8 @@ use std::alloc::Global;
 use ws_command::Bounds;
 use ws_fault::{Refusal, Status};
 use ws_hint::Hints;
-use ws_question::{asked_now, question_next};
-use ws_report::{Note, Report, count_text};
+use ws_question::{asked_now, count_text, question_next};
+use ws_report::{Note, Report};
 use ws_run::{Question, Reason};
 use ws_space::Space;
 use ws_state::Effect;
@@ -91,12 +91,7 @@ fn along(line: &Line, effect: &Effect) -> usize {
 }
 
 // The hints about what the update inserts.
-fn hints_of(
-    alloc: Global,
-    space: &Space,
-    line: &Line,
-    number: u32,
-) -> Result<Vec<Note>, Memory> {
+fn hints_of(alloc: Global, space: &Space, line: &Line, number: u32) -> Result<Vec<Note>, Memory> {
     let mut notes = Vec::new(alloc);
     let Line::Update(numbered) = line else {
         return Ok(notes);

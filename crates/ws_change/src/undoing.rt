@@ -2,14 +2,14 @@
 
 use crate::done::Done;
 use crate::faults::refuse;
-use crate::records::{has_answers, is_waiting, status_of, status_word};
+use crate::records::{has_answers, is_waiting};
 use crate::running::told_line;
 use base_types::TupleList;
 use def_memory::Memory;
 use std::alloc::{AllocError, Global};
 use std::collections::BTreeSet;
 use ws_fault::{Refusal, Status as Comes};
-use ws_question::reason_words;
+use ws_question::{reason_words, status_of, status_word};
 use ws_report::{AgainTold, Note, Report, ranges_text};
 use ws_space::Space;
 use ws_state::{Again, Moved, MovedList, Status, Told};
@@ -101,7 +101,14 @@ pub(crate) fn undo_answers(
         return Ok(Done::nothing(alloc, "no answers", text));
     }
     let line = Line::UndoAnswers(copy_of(alloc, answered.as_slice())?);
-    replay(alloc, space, line, answered.as_slice(), Vec::new(alloc), Vec::new(alloc))
+    replay(
+        alloc,
+        space,
+        line,
+        answered.as_slice(),
+        Vec::new(alloc),
+        Vec::new(alloc),
+    )
 }
 
 /// Does undone updates again. It is refused if none of them is undone.

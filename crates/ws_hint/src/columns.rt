@@ -1,6 +1,6 @@
 //! What is there by now in each column of a relation.
 
-use base_types::{Memory, Tuple, Value};
+use base_types::{Memory, TryCopy, Tuple, Value};
 use std::alloc::Global;
 use std::collections::BTreeMap;
 use ws_space::Space;

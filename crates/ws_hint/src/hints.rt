@@ -77,8 +77,8 @@ impl Hints {
     }
 }
 
-// The tuple, if it has no new unknown.
-fn known_fact(alloc: Global, fact: &NewFact) -> Result<Option<Fact>, Memory> {
+/// The tuple, if it has no new unknown.
+pub fn known_fact(alloc: Global, fact: &NewFact) -> Result<Option<Fact>, Memory> {
     let mut values = Vec::new(alloc);
     for value in fact.values.iter() {
         match value {

@@ -43,8 +43,9 @@ pub(crate) fn add_kinds(
             let relation = declared.name.as_str();
             let name = name.name.as_str();
             let text = value_text(alloc, &space.value(alloc, value)?)?;
-            let words =
-                format!(in alloc; "{relation}.{name} has numbers so far, and {text} is a text")?;
+            let words = format!(in alloc;
+                "{relation}.{name} has numbers so far, and {text} is a text"
+            )?;
             notes.push(Note::of(alloc, words))?;
         }
     }

@@ -10,4 +10,4 @@ mod kinds;
 mod twins;
 mod waits;
 
-pub use crate::hints::Hints;
+pub use crate::hints::{Hints, known_fact};

@@ -6,7 +6,8 @@ use chase_unifier::is_more_specific;
 use std::alloc::Global;
 use std::collections::BTreeSet;
 use ws_print::{add_unknown, add_value};
-use ws_report::{Note, fact_text};
+use ws_question::inner_text;
+use ws_report::Note;
 use ws_space::{Space, unknown_of};
 
 /// The most twins that are told.
@@ -73,7 +74,7 @@ pub(crate) fn add_twins(
     notes: &mut Vec<Note>,
 ) -> Result<(), Memory> {
     for twin in twins.iter().take(TWINS) {
-        let text = fact_text(alloc, space, &space.shown(alloc, twin)?)?;
+        let text = inner_text(alloc, space, twin)?;
         notes.push(Note {
             words: format!(in alloc; "{text} may be the same")?,
             commands: fillings(alloc, space, twin, tuple)?,
@@ -156,7 +157,7 @@ pub(crate) fn add_key(
     let key = key_places(alloc, space, relation)?;
     if let Some(same) = same_key(space, twins, tuple, key.as_slice()) {
         let names = column_names(alloc, space, relation, key.as_slice())?;
-        let text = fact_text(alloc, space, &space.shown(alloc, same)?)?;
+        let text = inner_text(alloc, space, same)?;
         let words = format!(in alloc; "the key {names} is there already: {text}")?;
         notes.push(Note::of(alloc, words))?;
     }

@@ -3,7 +3,7 @@
 use base_types::{Memory, Tuple, Value};
 use std::alloc::Global;
 use ws_lines::{Deed, Spelled, SpelledTuple, Update};
-use ws_report::{Note, fact_text};
+use ws_report::{Note, said_text};
 use ws_space::Space;
 use ws_written::Fact;
 
@@ -64,7 +64,7 @@ pub(crate) fn add_waits(
     let tuple = space.tuple(alloc, fact)?;
     for other in waiting_with(alloc, space, &tuple, number)?.iter() {
         let curator = space.curator_of(*other);
-        let text = fact_text(alloc, space, fact)?;
+        let text = said_text(alloc, space, fact)?;
         let mut note = Note::of(
             alloc,
             format!(in alloc; "update {other} of {curator} waits with {text} too")?,

@@ -14,4 +14,4 @@ pub use crate::notes::Note;
 pub use crate::replies::CANDIDATES;
 pub use crate::reports::{AgainTold, Counted, Report, Telling, no_effect};
 pub use crate::rows::{MANY, moved_row};
-pub use crate::words::{count_text, fact_text, facts_text, joined, ranges_text, value_text};
+pub use crate::words::{facts_text, joined, ranges_text, said_text, value_text};

@@ -2,11 +2,11 @@
 
 use crate::replies::CANDIDATES;
 use crate::reports::{AgainTold, Report, Telling};
-use crate::words::{fact_text, value_text};
+use crate::words::value_text;
 use def_memory::Memory;
 use std::alloc::Global;
 use ws_json::{Items, Object};
-use ws_question::question_object;
+use ws_question::{fact_text, question_object};
 use ws_space::Space;
 use ws_state::{Filled, Moved};
 
@@ -103,7 +103,7 @@ fn moved_items(
     let mut items = Items::new(alloc);
     for one in moved {
         let mut object = Object::new(alloc);
-        let fact = fact_text(alloc, space, &space.fact(alloc, &one.tuple)?)?;
+        let fact = fact_text(alloc, space, &one.tuple)?;
         object.text("tuple", fact.as_str())?;
         if let Some(number) = one.by {
             if with_mapping {

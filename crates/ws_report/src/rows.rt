@@ -1,9 +1,10 @@
 //! What came, went and was filled, in lines.
 
 use crate::reports::{Report, Telling};
-use crate::words::{count_text, fact_text, value_text};
+use crate::words::value_text;
 use def_memory::Memory;
 use std::alloc::Global;
+use ws_question::{count_text, fact_text};
 use ws_space::Space;
 use ws_state::{Effect, Filled, Moved};
 
@@ -18,7 +19,7 @@ pub fn moved_row(
     moved: &Moved,
     with_mapping: bool,
 ) -> Result<String, Memory> {
-    let fact = fact_text(alloc, space, &space.fact(alloc, &moved.tuple)?)?;
+    let fact = fact_text(alloc, space, &moved.tuple)?;
     let fact = fact.as_str();
     let mut row = format!(in alloc; "{sign} {fact}")?;
     if let Some(number) = moved.by {
@@ -80,7 +81,9 @@ fn whole_rows(alloc: Global, space: &Space, effect: &Effect) -> Result<Vec<Strin
     add_moved(alloc, space, &mut rows, "-", effect.went.as_slice(), true)?;
     add_filled(alloc, space, &mut rows, effect.filled.as_slice())?;
     let moved = effect.came.len().saturating_add(effect.went.len());
-    let more = moved.saturating_add(effect.filled.len()).saturating_sub(MANY);
+    let more = moved
+        .saturating_add(effect.filled.len())
+        .saturating_sub(MANY);
     if 0 < more {
         rows.push(more_row(alloc, effect, more)?)?;
     }

@@ -2,12 +2,12 @@
 
 use def_memory::Memory;
 use std::alloc::Global;
-use ws_print::{add_count, add_fact, add_facts, add_ranges, add_value};
+use ws_print::{add_fact, add_facts, add_ranges, add_value};
 use ws_space::Space;
 use ws_written::{Fact, Value};
 
 /// A tuple as a command takes it.
-pub fn fact_text(alloc: Global, space: &Space, fact: &Fact) -> Result<String, Memory> {
+pub fn said_text(alloc: Global, space: &Space, fact: &Fact) -> Result<String, Memory> {
     let mut text = String::new(alloc);
     add_fact(&mut text, space.relations.as_slice(), fact)?;
     Ok(text)
@@ -24,13 +24,6 @@ pub fn facts_text(alloc: Global, space: &Space, facts: &[Fact]) -> Result<String
 pub fn value_text(alloc: Global, value: &Value) -> Result<String, Memory> {
     let mut text = String::new(alloc);
     add_value(&mut text, value)?;
-    Ok(text)
-}
-
-/// A count and its noun, `1 tuple` or `2 tuples`.
-pub fn count_text(alloc: Global, count: usize, noun: &str) -> Result<String, Memory> {
-    let mut text = String::new(alloc);
-    add_count(&mut text, count, noun)?;
     Ok(text)
 }
 
