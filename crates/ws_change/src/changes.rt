@@ -13,7 +13,7 @@ use crate::replacing::{fill, replace};
 use crate::several::answer_several;
 use crate::undoing::{redo, undo, undo_answers};
 use std::alloc::Global;
-use ws_command::{Change, SaidChoice};
+use ws_command::Change;
 use ws_fault::Refusal;
 use ws_question::Shown;
 use ws_reply::{Context, Outcome};
