@@ -1,9 +1,17 @@
 //! Which command looks at what.
 
+use crate::answers::ask;
+use crate::log::{log, log_since};
+use crate::log_one::log_one;
 use crate::questions::{Wanted, questions};
+use crate::status::status;
+use crate::tables::show;
+use crate::unknowns::why_unknown;
+use crate::violating::violations;
+use crate::why::why;
 use crate::written::text_reply;
 use std::alloc::Global;
-use ws_command::Look;
+use ws_command::{Look, Why};
 use ws_fault::{Refusal, Status};
 use ws_question::Shown;
 use ws_reply::{Context, Reply};
@@ -19,6 +27,14 @@ pub fn look(
     look: &Look,
 ) -> Result<Reply, Refusal> {
     match look {
+        Look::Show(what, paging) => Ok(show(alloc, space, context, what.as_slice(), paging)?),
+        Look::Ask {
+            asked,
+            unknowns,
+            limit,
+        } => Ok(ask(alloc, space, context, asked, *unknowns, *limit)?),
+        Look::Why(Why::Fact(pattern), dot) => why(alloc, space, context, pattern, *dot),
+        Look::Why(Why::Unknown(unknown), _) => why_unknown(alloc, space, context, *unknown),
         Look::Questions {
             number,
             like,
@@ -33,7 +49,18 @@ pub fn look(
             };
             questions(alloc, space, shown, context, wanted)
         }
-        _ => Ok(text_reply(Status::Done, Vec::new(alloc))),
+        Look::Violations { mapping, limit } => {
+            Ok(violations(alloc, space, context, text_of(mapping), *limit)?)
+        }
+        Look::Log {
+            number,
+            since,
+            limit,
+        } => logged(alloc, space, context, *number, *since, *limit),
+        Look::Status => Ok(status(alloc, space, context)?),
+        Look::Graph(_) | Look::Page(_) | Look::Dump(_) | Look::Export(_) => {
+            Ok(text_reply(Status::Done, Vec::new(alloc)))
+        }
     }
 }
 
@@ -41,5 +68,22 @@ fn text_of(text: &Option<String>) -> Option<&str> {
     match text {
         Some(text) => Some(text.as_str()),
         None => None,
+    }
+}
+
+fn logged(
+    alloc: Global,
+    space: &mut Space,
+    context: &Context<'_>,
+    number: Option<u32>,
+    since: Option<u32>,
+    limit: Option<u32>,
+) -> Result<Reply, Refusal> {
+    if let Some(number) = number {
+        return log_one(alloc, space, context, number);
+    }
+    match since {
+        Some(since) => log_since(alloc, space, context, since, limit),
+        None => Ok(log(alloc, space, context, limit)?),
     }
 }
