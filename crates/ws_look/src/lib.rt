@@ -1,28 +1,25 @@
-//! Commands that only look at a workspace: tables, answers, explanations, questions, violations, the log, and the status.
+//! Commands that only look at a workspace: tables, questions, violations, the log, the status, and the help.
 #![tactic(auto)]
 
-mod answers;
 mod clashes;
-mod collecting;
+mod counts;
 mod entries;
-mod gone;
 mod helping;
 mod log;
+mod log_objects;
 mod log_one;
 mod looking;
-mod queries;
+mod question_told;
 mod questions;
-mod reasons;
 mod rows;
 mod status;
-mod steps;
+mod status_object;
+mod table_told;
 mod tables;
-mod unknowns;
 mod violating;
+mod violation_lines;
+mod violation_objects;
 mod waiting;
-mod why;
-mod why_dot;
-mod written;
 
 pub use crate::helping::help;
 pub use crate::looking::look;

@@ -1,8 +1,5 @@
 //! `log N`: what one update did.
 
-use crate::written::{
-    copied, object_of, objects_reply, text_items, text_reply,
-};
 use base_types::{Memory, Write};
 use std::alloc::Global;
 use ws_fault::{Refusal, Status as Code};
@@ -11,6 +8,7 @@ use ws_lines::Given;
 use ws_print::{add_choice, add_count};
 use ws_question::{fact_text, reason_words, status_of, status_word};
 use ws_reply::{Context, Reply};
+use ws_seen::{object_of, seen_object, seen_text, text_items};
 use ws_space::Space;
 use ws_state::{Standing, Status};
 use ws_written::Line;
@@ -43,27 +41,20 @@ pub(crate) fn log_one(
     let status = status_of(alloc, space, number)?;
     let told = told_of(alloc, space, number, status)?;
     if context.is_json() {
-        let mut objects = Vec::new(alloc);
-        objects.push(object(alloc, space, &told)?)?;
-        return Ok(objects_reply(alloc, Code::Done, objects)?);
+        return Ok(seen_object(alloc, Code::Done, object(alloc, space, &told)?)?);
     }
     let lines = lines(alloc, space, &told)?;
-    Ok(text_reply(Code::Done, lines))
+    Ok(seen_text(Code::Done, lines))
 }
 
-fn told_of(
-    alloc: Global,
-    space: &mut Space,
-    number: u32,
-    status: Status,
-) -> Result<Told, Memory> {
+fn told_of(alloc: Global, space: &mut Space, number: u32, status: Status) -> Result<Told, Memory> {
     let words = match status {
         Status::Waits => {
             let reason = space.question(alloc, number)?;
             let words = reason_words(alloc, space, reason.as_ref())?;
             format!(in alloc; "waits: {words}")?
         }
-        other => copied(alloc, status_word(other))?,
+        other => String::from_str(alloc, status_word(other))?,
     };
     let mut told = Told {
         number,
@@ -89,12 +80,14 @@ fn is_held(space: &Space, held: usize, number: u32) -> bool {
 
 fn standing_of(space: &Space, number: u32) -> Option<&Standing> {
     let order = space.state.order().as_slice();
-    order.iter().find(|standing| is_held(space, standing.held, number))
+    order
+        .iter()
+        .find(|standing| is_held(space, standing.held, number))
 }
 
 // `done in K steps, with L unknowns`.
 fn done_words(alloc: Global, standing: &Standing) -> Result<String, Memory> {
-    let mut words = copied(alloc, "done in ")?;
+    let mut words = String::from_str(alloc, "done in ")?;
     add_count(&mut words, standing.steps.len(), "step")?;
     words.push_str(", with ")?;
     let mut drawn = 0u32;
@@ -124,7 +117,10 @@ fn answers_of(alloc: Global, space: &Space, number: u32) -> Result<Vec<String>, 
         return choices(alloc, space, standing.answers.as_slice());
     }
     let waiting = space.state.waiting().as_slice();
-    if let Some(waiting) = waiting.iter().find(|waiting| is_held(space, waiting.held, number)) {
+    if let Some(waiting) = waiting
+        .iter()
+        .find(|waiting| is_held(space, waiting.held, number))
+    {
         return choices(alloc, space, waiting.answers.as_slice());
     }
     given(alloc, space, number)

@@ -1,21 +1,20 @@
 //! Which command looks at what.
 
-use crate::answers::ask;
 use crate::log::{log, log_since};
 use crate::log_one::log_one;
 use crate::questions::{Wanted, questions};
 use crate::status::status;
 use crate::tables::show;
-use crate::unknowns::why_unknown;
 use crate::violating::violations;
-use crate::why::why;
-use crate::written::text_reply;
 use std::alloc::Global;
+use ws_ask::ask;
 use ws_command::{Look, Why};
 use ws_fault::{Refusal, Status};
 use ws_question::Shown;
 use ws_reply::{Context, Reply};
+use ws_seen::seen_text;
 use ws_space::Space;
+use ws_why::{why_fact, why_unknown};
 
 /// The reply to a command that only looks. Of `graph`, `page`, `dump` and `export`, which give out texts, it tells nothing.
 /// It is refused if what is asked for is not there, or for want of memory.
@@ -33,7 +32,7 @@ pub fn look(
             unknowns,
             limit,
         } => Ok(ask(alloc, space, context, asked, *unknowns, *limit)?),
-        Look::Why(Why::Fact(pattern), dot) => why(alloc, space, context, pattern, *dot),
+        Look::Why(Why::Fact(pattern), dot) => why_fact(alloc, space, context, pattern, *dot),
         Look::Why(Why::Unknown(unknown), _) => why_unknown(alloc, space, context, *unknown),
         Look::Questions {
             number,
@@ -43,7 +42,7 @@ pub fn look(
         } => {
             let wanted = Wanted {
                 number: *number,
-                like: text_of(like),
+                like: text_of(like).filter(|like| !like.is_empty()),
                 mine: *mine,
                 limit: *limit,
             };
@@ -59,7 +58,7 @@ pub fn look(
         } => logged(alloc, space, context, *number, *since, *limit),
         Look::Status => Ok(status(alloc, space, context)?),
         Look::Graph(_) | Look::Page(_) | Look::Dump(_) | Look::Export(_) => {
-            Ok(text_reply(Status::Done, Vec::new(alloc)))
+            Ok(seen_text(Status::Done, Vec::new(alloc)))
         }
     }
 }

@@ -52,20 +52,24 @@ fn is_one_variable(term: &Term, other: &Term) -> bool {
     }
 }
 
-/// Those of the tuples that have an unknown, if such are asked for, and the text of `--like` in a cell, if there is one. It is
-/// refused only for want of memory.
-pub(crate) fn meant(
+/// Those of the tuples that have an unknown, if such are asked for.
+pub(crate) fn uncertain(tuples: Vec<Tuple>, paging: &Paging) -> Vec<Tuple> {
+    let mut tuples = tuples;
+    if paging.unknowns {
+        tuples.retain(|tuple| has_unknown(tuple));
+    }
+    tuples
+}
+
+/// Those of the tuples that have the text of `--like` in a cell, if there is one. It is refused only for want of memory.
+pub(crate) fn alike(
     alloc: Global,
     space: &Space,
     tuples: Vec<Tuple>,
     paging: &Paging,
 ) -> Result<Vec<Tuple>, Memory> {
-    let mut tuples = tuples;
-    if paging.unknowns {
-        tuples.retain(|tuple| has_unknown(tuple));
-    }
     match &paging.like {
-        Some(like) => alike(alloc, space, tuples, like.as_str()),
+        Some(like) => having(alloc, space, tuples, like.as_str()),
         None => Ok(tuples),
     }
 }
@@ -79,7 +83,7 @@ pub(crate) fn has_unknown(tuple: &Tuple) -> bool {
         .any(|value| matches!(value, Value::Null(_)))
 }
 
-fn alike(
+fn having(
     alloc: Global,
     space: &Space,
     tuples: Vec<Tuple>,

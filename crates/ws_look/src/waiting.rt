@@ -11,19 +11,11 @@ pub(crate) fn waiting_numbers(alloc: Global, space: &Space) -> Result<Vec<u32>, 
 }
 
 /// The numbers, rising, of those that have tuples of the relation. It is refused only for want of memory.
-pub(crate) fn waiting_for(
-    alloc: Global,
-    space: &Space,
-    relation: u32,
-) -> Result<Vec<u32>, Memory> {
+pub(crate) fn waiting_for(alloc: Global, space: &Space, relation: u32) -> Result<Vec<u32>, Memory> {
     waiting_that(alloc, space, Some(relation))
 }
 
-fn waiting_that(
-    alloc: Global,
-    space: &Space,
-    relation: Option<u32>,
-) -> Result<Vec<u32>, Memory> {
+fn waiting_that(alloc: Global, space: &Space, relation: Option<u32>) -> Result<Vec<u32>, Memory> {
     let mut numbers = Vec::new(alloc);
     for waiting in space.state.waiting().as_slice() {
         if let Some(held) = space.state.held().get(waiting.held) {

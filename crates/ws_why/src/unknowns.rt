@@ -1,6 +1,5 @@
 //! `why ?U.P`: what drew an unknown, and where it stands.
 
-use crate::written::{copied, object_of, objects_reply, text_items, text_reply};
 use base_types::{Mapping, Memory, Tuple, Value};
 use std::alloc::Global;
 use std::collections::BTreeSet;
@@ -11,12 +10,13 @@ use ws_print::add_unknown;
 use ws_question::{fact_text, inner_text};
 use ws_reply::{Context, Reply};
 use ws_run::fixing_mapping;
+use ws_seen::{object_of, seen_object, seen_text, text_items};
 use ws_space::Space;
 use ws_state::{Held, Status};
 use ws_written::Unknown;
 
 /// What drew the unknown, and the tuples that it stands in. It is refused if it is not there, or for want of memory.
-pub(crate) fn why_unknown(
+pub fn why_unknown(
     alloc: Global,
     space: &Space,
     context: &Context<'_>,
@@ -48,15 +48,14 @@ fn standing_in(alloc: Global, space: &Space, value: &Value) -> Result<BTreeSet<T
     Ok(found)
 }
 
-fn words_of(
-    alloc: Global,
-    space: &Space,
-    name: &str,
-    unknown: Unknown,
-) -> Result<String, Memory> {
+fn words_of(alloc: Global, space: &Space, name: &str, unknown: Unknown) -> Result<String, Memory> {
     let number = unknown.update;
     let stands = space.state.status(number) == Some(Status::Stands);
-    let held = space.state.held().iter().find(|held| held.update.number == number);
+    let held = space
+        .state
+        .held()
+        .iter()
+        .find(|held| held.update.number == number);
     let (Some(held), true) = (held, stands) else {
         return Ok(format!(in alloc; "{name} is in the base")?);
     };
@@ -68,7 +67,11 @@ fn words_of(
 }
 
 fn cause_of(held: &Held, place: u32) -> Option<&Cause> {
-    let found = held.places.as_slice().iter().find(|other| other.number == place)?;
+    let found = held
+        .places
+        .as_slice()
+        .iter()
+        .find(|other| other.number == place)?;
     Some(&found.cause)
 }
 
@@ -86,8 +89,7 @@ fn caused(
     };
     let variable = variable_of(alloc, space, cause, mapping)?;
     let by = space.mapping_name(mapping);
-    let mut words =
-        format!(in alloc; "{name} is {variable} of {by} in {number} by {curator}")?;
+    let mut words = format!(in alloc; "{name} is {variable} of {by} in {number} by {curator}")?;
     if let Source::By(_) = cause.source {
         for (place, tuple) in cause.image.as_slice().iter().enumerate() {
             words.push_str(if place == 0 { ", since " } else { ", " })?;
@@ -115,7 +117,10 @@ fn variable_of(
 
 fn name_at(alloc: Global, mapping: &Mapping, variable: u16) -> Result<String, Memory> {
     match mapping.names.get(usize::from(variable)) {
-        Some(name) => copied(alloc, str::from_utf8(name.as_slice()).unwrap_or("")),
+        Some(name) => {
+            let name = str::from_utf8(name.as_slice()).unwrap_or("");
+            Ok(String::from_str(alloc, name)?)
+        }
         None => Ok(String::new(alloc)),
     }
 }
@@ -132,14 +137,12 @@ fn reply(
         object.text("unknown", name)?;
         object.text("words", words.as_str())?;
         object.items("tuples", text_items(alloc, texts.as_slice())?)?;
-        let mut objects = Vec::new(alloc);
-        objects.push(object)?;
-        return objects_reply(alloc, Code::Done, objects);
+        return seen_object(alloc, Code::Done, object);
     }
     let mut lines = Vec::new(alloc);
     lines.push(words)?;
     for text in texts.iter() {
         lines.push(format!(in alloc; "  stands in {text}")?)?;
     }
-    Ok(text_reply(Code::Done, lines))
+    Ok(seen_text(Code::Done, lines))
 }

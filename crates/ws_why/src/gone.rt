@@ -1,7 +1,6 @@
 //! What took a tuple away that is not there.
 
 use crate::steps::{Made, rewritten};
-use crate::written::{object_of, objects_reply, refused, text_reply};
 use base_types::{Memory, Tuple};
 use run_explain::Way;
 use std::alloc::Global;
@@ -10,6 +9,7 @@ use ws_print::add_fact;
 use ws_question::{inner_text, near_texts};
 use ws_reply::{Context, Reply};
 use ws_run::Taking;
+use ws_seen::{object_of, refused, seen_object, seen_text};
 use ws_space::Space;
 use ws_written::Fact;
 
@@ -46,7 +46,11 @@ fn near_hint(alloc: Global, space: &Space, fact: &Fact) -> Result<Option<String>
     }
     let mut hint = String::new(alloc);
     for text in near.iter() {
-        hint.push_str(if hint.is_empty() { "there is " } else { "; there is " })?;
+        hint.push_str(if hint.is_empty() {
+            "there is "
+        } else {
+            "; there is "
+        })?;
         hint.push_str(text.as_str())?;
     }
     Ok(Some(hint))
@@ -130,7 +134,7 @@ fn reply(
     if !context.is_json() {
         let mut lines = Vec::new(alloc);
         lines.push(told.words)?;
-        return Ok(text_reply(Status::Nothing, lines));
+        return Ok(seen_text(Status::Nothing, lines));
     }
     let mut object = object_of(alloc, "gone")?;
     object.text("tuple", said)?;
@@ -138,7 +142,5 @@ fn reply(
     object.number("number", i64::from(told.number))?;
     object.text("curator", space.curator_of(told.number))?;
     object.text("words", told.words.as_str())?;
-    let mut objects = Vec::new(alloc);
-    objects.push(object)?;
-    objects_reply(alloc, Status::Nothing, objects)
+    seen_object(alloc, Status::Nothing, object)
 }

@@ -1,6 +1,6 @@
 //! The steps of what stands, and which of them put a tuple.
 
-use base_types::{Memory, Tuple, TupleList, Value, ValueList, TryCopy};
+use base_types::{Memory, TryCopy, Tuple, TupleList, Value, ValueList};
 use chase_unifier::apply;
 use run_explain::{Rewriting, Way};
 use std::alloc::Global;

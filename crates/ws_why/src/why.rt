@@ -3,9 +3,6 @@
 use crate::gone::gone;
 use crate::reasons::{How, Reason, reasons_for};
 use crate::why_dot::dot_lines;
-use crate::written::{
-    lines_text, number, object_of, objects_reply, refused, text_reply,
-};
 use base_types::{Memory, Tuple};
 use std::alloc::Global;
 use ws_command::Pattern;
@@ -14,6 +11,7 @@ use ws_json::{Items, Object};
 use ws_print::add_pattern;
 use ws_question::{count_text, fact_text, inner_text};
 use ws_reply::{Context, Reply};
+use ws_seen::{lines_text, number_of, object_of, refused, seen_object, seen_text};
 use ws_space::{Space, copy_value};
 use ws_written::{Fact, Value};
 
@@ -22,7 +20,7 @@ const TOLD: usize = 3;
 
 /// Why the tuple that fits is there, as a graph if that is asked for, or what took it away. It is refused if several fit or none was
 /// ever there, or for want of memory.
-pub(crate) fn why(
+pub fn why_fact(
     alloc: Global,
     space: &Space,
     context: &Context<'_>,
@@ -96,13 +94,11 @@ fn dot_reply(
 ) -> Result<Reply, Memory> {
     let lines = dot_lines(alloc, space, reasons)?;
     if !context.is_json() {
-        return Ok(text_reply(Status::Done, lines));
+        return Ok(seen_text(Status::Done, lines));
     }
     let mut object = object_of(alloc, "dot")?;
     object.text("text", lines_text(alloc, lines.as_slice())?.as_str())?;
-    let mut objects = Vec::new(alloc);
-    objects.push(object)?;
-    objects_reply(alloc, Status::Done, objects)
+    seen_object(alloc, Status::Done, object)
 }
 
 fn why_reply(
@@ -118,15 +114,13 @@ fn why_reply(
         }
         let mut object = object_of(alloc, "why")?;
         object.items("reasons", items)?;
-        let mut objects = Vec::new(alloc);
-        objects.push(object)?;
-        return objects_reply(alloc, Status::Done, objects);
+        return seen_object(alloc, Status::Done, object);
     }
     let mut lines = Vec::new(alloc);
     for reason in reasons {
         lines.push(line(alloc, space, reason)?)?;
     }
-    Ok(text_reply(Status::Done, lines))
+    Ok(seen_text(Status::Done, lines))
 }
 
 // The reason in a line, two blanks deeper for what a tuple rests on.
@@ -161,21 +155,19 @@ fn line(alloc: Global, space: &Space, reason: &Reason) -> Result<String, Memory>
 fn object(alloc: Global, space: &Space, reason: &Reason) -> Result<Object, Memory> {
     let mut object = Object::new(alloc);
     object.text("tuple", fact_text(alloc, space, &reason.tuple)?.as_str())?;
-    object.number("depth", number(reason.depth))?;
+    object.number("depth", number_of(reason.depth))?;
     if let Some(number) = reason.number {
         object.number("number", i64::from(number))?;
         object.text("curator", space.curator_of(number))?;
     }
+    object.text("how", reason.how.word())?;
     match &reason.how {
-        How::Base => object.text("how", "base")?,
-        How::Inserted => object.text("how", "inserted")?,
+        How::Base | How::Inserted => (),
         How::Generated(mapping, image) => {
-            object.text("how", "generated")?;
             object.text("mapping", space.mapping_name(*mapping))?;
             object.items("image", fact_items(alloc, space, image.as_slice())?)?;
         }
         How::Rewritten(from) => {
-            object.text("how", "rewritten")?;
             object.text("from", fact_text(alloc, space, from)?.as_str())?;
         }
     }

@@ -18,6 +18,18 @@ pub(crate) enum How {
     Rewritten(Tuple),
 }
 
+impl How {
+    /// What it is called.
+    pub(crate) fn word(&self) -> &'static str {
+        match self {
+            How::Base => "base",
+            How::Inserted => "inserted",
+            How::Generated(_, _) => "generated",
+            How::Rewritten(_) => "rewritten",
+        }
+    }
+}
+
 /// A reason: the tuple by names, the update that put it, how deep it stands, and whether it was told above.
 #[derive(Drop)]
 pub(crate) struct Reason {
@@ -56,7 +68,15 @@ pub(crate) fn reasons_for(
         let Some(next) = open.pop() else {
             break;
         };
-        explain(alloc, space, &steps, &mut seen, &mut reasons, &mut open, next)?;
+        explain(
+            alloc,
+            space,
+            &steps,
+            &mut seen,
+            &mut reasons,
+            &mut open,
+            next,
+        )?;
     }
     Ok(reasons)
 }

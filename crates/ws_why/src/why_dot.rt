@@ -1,16 +1,24 @@
 //! The reasons for a tuple as a graph for `dot`.
 
 use crate::reasons::{How, Reason};
-use base_types::Memory;
+use base_types::{Memory, Tuple};
 use std::alloc::Global;
 use ws_question::fact_text;
 use ws_space::Space;
 
-// The tuples so far, each by its number: the label, which says what it is and who put it.
+// A tuple by names, the update that put it, and how.
+#[derive(Drop, PartialEq, Eq)]
+struct Node {
+    tuple: Tuple,
+    number: Option<u32>,
+    how: &'static str,
+}
+
+// The lines, the nodes by number, and the edges so far.
 #[derive(Drop)]
 struct Graph {
     lines: Vec<String>,
-    labels: Vec<String>,
+    nodes: Vec<Node>,
     edges: Vec<(usize, usize)>,
     // The numbers of those that the next one may be a reason for.
     path: Vec<usize>,
@@ -24,7 +32,7 @@ pub(crate) fn dot_lines(
 ) -> Result<Vec<String>, Memory> {
     let mut graph = Graph {
         lines: Vec::new(alloc),
-        labels: Vec::new(alloc),
+        nodes: Vec::new(alloc),
         edges: Vec::new(alloc),
         path: Vec::new(alloc),
     };
@@ -40,8 +48,7 @@ pub(crate) fn dot_lines(
 
 impl Graph {
     fn add(&mut self, alloc: Global, space: &Space, reason: &Reason) -> Result<(), Memory> {
-        let label = label_of(alloc, space, reason)?;
-        let number = self.number_of(alloc, label)?;
+        let number = self.number_of(alloc, space, reason)?;
         self.path.truncate(reason.depth);
         if let Some(last) = self.path.last() {
             let edge = (number, *last);
@@ -55,15 +62,26 @@ impl Graph {
         Ok(())
     }
 
-    // The number of the tuple with this label; a new one has its line.
-    fn number_of(&mut self, alloc: Global, label: String) -> Result<usize, Memory> {
-        let same = |other: &String| other.as_str() == label.as_str();
-        if let Some(number) = self.labels.iter().position(same) {
+    // The number of the reason's node; a new one has its line.
+    fn number_of(
+        &mut self,
+        alloc: Global,
+        space: &Space,
+        reason: &Reason,
+    ) -> Result<usize, Memory> {
+        let node = Node {
+            tuple: reason.tuple.share()?,
+            number: reason.number,
+            how: reason.how.word(),
+        };
+        if let Some(number) = self.nodes.iter().position(|other| *other == node) {
             return Ok(number);
         }
-        let number = self.labels.len();
-        self.lines.push(format!(in alloc; "  t{number} [label=\"{label}\"];")?)?;
-        self.labels.push(label)?;
+        let number = self.nodes.len();
+        let label = label_of(alloc, space, reason)?;
+        self.lines
+            .push(format!(in alloc; "  t{number} [label=\"{label}\"];")?)?;
+        self.nodes.push(node)?;
         Ok(number)
     }
 }
