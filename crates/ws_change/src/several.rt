@@ -4,12 +4,11 @@ use crate::choosing::answer_to;
 use crate::done::Done;
 use crate::faults::refuse;
 use crate::records::{is_waiting, steps_of};
-use crate::spending::spent_fault;
 use std::alloc::{AllocError, Global};
 use ws_command::SaidChoice;
 use ws_fault::{Refusal, Status};
 use ws_question::status_of;
-use ws_report::{Counted, Report, Telling, ranges_text};
+use ws_report::{Counted, Report, Telling, ranges_text, spent_fault};
 use ws_run::Reason;
 use ws_space::Space;
 use ws_state::Told;
@@ -131,8 +130,8 @@ impl Answers {
         line: Line,
     ) -> Result<Option<Reason>, Refusal> {
         let Told { reason, .. } = space.take(alloc, &line)?;
-        if let Some(Reason::TooLong) = &reason {
-            return Err(spent_fault(alloc, space, steps_of(space, number))?);
+        if let Some(Reason::TooLong(made)) = &reason {
+            return Err(spent_fault(alloc, space, steps_of(space, number), made)?);
         }
         self.lines.push(line)?;
         if reason.is_none() {
