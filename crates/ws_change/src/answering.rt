@@ -3,7 +3,7 @@
 use crate::choosing::{answer_to, choose};
 use crate::done::Done;
 use crate::faults::{refuse, refuse_with};
-use crate::records::{has_answers, steps_of};
+use crate::records::{answered_numbers, steps_of};
 use crate::same::check_since;
 use std::alloc::{AllocError, Global};
 use ws_command::SaidChoice;
@@ -75,7 +75,7 @@ fn check_waits(alloc: Global, space: &Space, number: u32) -> Result<(), Refusal>
         Status::GivenUp => "given up",
     };
     let words = format!(in alloc; "update {number} waits for no answer: it is {stands}")?;
-    if stands == "done" && has_answers(space, number) {
+    if stands == "done" && answered_numbers(alloc, space)?.contains(&number) {
         let hint = format!(in alloc; "undo {number} --answers makes it ask again")?;
         return refuse(alloc, words.as_str(), hint.as_str());
     }
