@@ -1,6 +1,10 @@
 //! What a run is over: the tuples, the names of their nulls, and what was written.
+ghost use Rattle.std.specs.Prelude.{◌≡◌, map, drop, take, OnOk};
+ghost use Rattle.base_types.specs.Meanings.{change_of};
+ghost use Rattle.def_chase.specs.Repository.{change};
+ghost use Rattle.ws_run.specs.Trails.{HasMade, before, undoing};
 
-use base_types::{Memory, Write, WriteList};
+use base_types::{Facts, Memory, Tuple, Write, WriteList};
 use set_facts::IndexedFacts;
 use std::alloc::Global;
 use ws_names::Names;
@@ -44,48 +48,107 @@ impl Ground {
     }
 
     /// Takes back what was done since the mark. It is refused only for want of memory.
-    pub fn back_to(&mut self, mark: Mark) -> Result<(), Memory> {
-        let mut more = self.trail.len();
-        while more > mark.trail {
-            match self.trail.pop() {
-                Some(Write::Insert(tuple)) => {
-                    self.facts.remove(&tuple);
-                }
-                Some(Write::Delete(tuple)) => {
-                    self.facts.insert(tuple)?;
-                }
-                None => return Ok(()),
-            }
-            more -= 1;
-        }
+    pub fn back_to(&mut self, mark: Mark) -> Result<(), Memory>
+        ensures facts { OnOk result (self.new.facts ≡
+            before (map change_of (drop mark.trail self.old.trail.items)) self.old.facts) }
+        ensures trail { OnOk result
+            (self.new.trail.items ≡ take mark.trail self.old.trail.items) }
+    {
+        take_back(&mut self.facts, &mut self.trail, mark.trail)?;
         self.names.keep(mark.names);
         self.last = mark.last;
         Ok(())
     }
 
-    /// Makes writes in turn. It is refused only for want of memory.
-    pub fn make(&mut self, writes: WriteList) -> Result<(), Memory> {
-        for write in writes.into_vec() {
-            self.make_one(write)?;
-        }
-        Ok(())
+    /// Makes writes in turn, and keeps those that change something. It is refused only for want of memory.
+    pub fn make(&mut self, writes: WriteList) -> Result<(), Memory>
+        ensures made { OnOk result (HasMade self.old.trail.items self.old.facts
+            self.new.trail.items self.new.facts) }
+    {
+        make_all(&mut self.facts, &mut self.trail, writes)
     }
+}
 
-    fn make_one(&mut self, write: Write) -> Result<(), Memory> {
-        self.trail.reserve(1)?;
-        match write {
-            Write::Insert(tuple) => {
-                let same = tuple.share()?;
-                if self.facts.insert(tuple)? {
-                    self.trail.push(Write::Insert(same))?;
-                }
-            }
-            Write::Delete(tuple) => {
-                if self.facts.remove(&tuple) {
-                    self.trail.push(Write::Delete(tuple))?;
-                }
-            }
+// Takes back the writes after the first so many, the last of them first. It is refused only for want of memory.
+fn take_back(
+    facts: &mut IndexedFacts,
+    trail: &mut WriteList,
+    count: usize,
+) -> Result<(), Memory>
+    ensures facts { OnOk result
+        (facts.new ≡ before (map change_of (drop count trail.old.items)) facts.old) }
+    ensures trail { OnOk result (trail.new.items ≡ take count trail.old.items) }
+{
+    'writes: while trail.len() > count {
+        if let Some(write) = trail.pop() {
+            undo(facts, write)?;
         }
-        Ok(())
     }
+    Ok(())
+}
+
+// Takes back the write, which changed something. It is refused only for want of memory.
+fn undo(facts: &mut IndexedFacts, write: Write) -> Result<(), Memory>
+    ensures undone { OnOk result (facts.new ≡ change facts.old (undoing (change_of write))) }
+{
+    match write {
+        Write::Insert(tuple) => {
+            facts.remove(&tuple);
+        }
+        Write::Delete(tuple) => {
+            facts.insert(tuple)?;
+        }
+    }
+    Ok(())
+}
+
+// Makes the writes in turn, and adds to the trail those that change something. It is refused only for want of memory.
+fn make_all(
+    facts: &mut IndexedFacts,
+    trail: &mut WriteList,
+    writes: WriteList,
+) -> Result<(), Memory>
+    ensures made { OnOk result (HasMade trail.old.items facts.old trail.new.items facts.new) }
+{
+    'writes: for write in writes.into_vec() {
+        make_one(facts, trail, write)?;
+    }
+    Ok(())
+}
+
+fn make_one(
+    facts: &mut IndexedFacts,
+    trail: &mut WriteList,
+    write: Write,
+) -> Result<(), Memory>
+    ensures made { OnOk result (HasMade trail.old.items facts.old trail.new.items facts.new) }
+{
+    match write {
+        Write::Insert(tuple) => insert(facts, trail, tuple),
+        Write::Delete(tuple) => remove(facts, trail, tuple),
+    }
+}
+
+fn insert(facts: &mut IndexedFacts, trail: &mut WriteList, tuple: Tuple) -> Result<(), Memory>
+    ensures made { OnOk result (HasMade trail.old.items facts.old trail.new.items facts.new) }
+{
+    // The set tells that it is in order.
+    facts.is_in_order();
+    trail.reserve(1)?;
+    let same = tuple.share()?;
+    if facts.insert(tuple)? {
+        trail.push(Write::Insert(same))?;
+    }
+    Ok(())
+}
+
+fn remove(facts: &mut IndexedFacts, trail: &mut WriteList, tuple: Tuple) -> Result<(), Memory>
+    ensures made { OnOk result (HasMade trail.old.items facts.old trail.new.items facts.new) }
+{
+    facts.is_in_order();
+    trail.reserve(1)?;
+    if facts.remove(&tuple) {
+        trail.push(Write::Delete(tuple))?;
+    }
+    Ok(())
 }
