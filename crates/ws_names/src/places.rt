@@ -57,10 +57,7 @@ fn found<'a>(places: &'a Places, given: &NumberList, cause: &Cause) -> Option<&'
     ensures found { option_map place_of (option_copied result) ≡
         place_found (places_of places.now) given.now.items (cause_of cause.now) }
 {
-    places
-        .as_slice()
-        .iter()
-        .find(|place| place.cause.is(cause) && !is_among(given, place.number))
+    places.as_slice().iter().find(|place| place.cause.is(cause) && !is_among(given, place.number))
 }
 
 fn is_among(given: &NumberList, number: u32) -> bool

@@ -3,14 +3,13 @@
 use crate::halts::Question as Told;
 use crate::ops::Over;
 use crate::settings::Setting;
-use crate::since::image_for;
-use crate::touched::Touched;
 use base_types::{Choice, Mapping, Memory, Tuple, TupleList, ValueList, WriteList};
 use chase_question::Question;
 use chase_repair::image;
 use chase_update::Attempt;
 use set_facts::Overlay;
 use std::alloc::Global;
+use ws_ground::{Touched, image_for};
 use ws_lines::{Asked, Given, Source};
 use ws_names::Names;
 

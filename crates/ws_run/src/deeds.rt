@@ -1,15 +1,14 @@
 //! The ops of an update, one after the other.
 
 use crate::following::{follow, followed};
-use crate::grounds::Ground;
 use crate::halts::Halt;
-use crate::hidden::{found_as, news_of, to_fix, wanted};
 use crate::ops::{Run, take_op};
 use crate::resolving::{drawn_as, found, found_all, found_null, found_spelled, found_tuples};
 use crate::settings::Setting;
 use crate::threads::Thread;
 use base_types::{Facts, Memory, Null, Operation, Tuple, TupleList, Value};
 use std::alloc::Global;
+use ws_ground::{Ground, found_as, news_of, to_fix, wanted};
 use ws_lines::{Deed, GivenList, SpelledTuple};
 
 /// Takes the ops of an update whole over the ground, one after the other, with these answers. If it halts, the ops that were

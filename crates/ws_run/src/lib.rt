@@ -7,27 +7,21 @@ mod deeds;
 mod drawing;
 mod following;
 mod going;
-mod grounds;
 mod halts;
-mod hidden;
 mod in_force;
 mod ops;
 mod resolving;
 mod settings;
-mod since;
 mod stepping;
 mod threads;
-mod touched;
 
 pub use crate::deeds::run_deed;
 pub use crate::following::follow;
-pub use crate::grounds::{Ground, Mark};
 pub use crate::halts::{Halt, Made, MadeList, Question, Reason};
-pub use crate::hidden::{
-    FIX, UNKNOWN, WANT, drawing_mapping, fixing_mapping, news_of, shared_variables,
-};
 pub use crate::in_force::InForce;
 pub use crate::settings::{Setting, SourceList};
-pub use crate::since::image_for;
 pub use crate::threads::{Op, OpList, Step, StepList, Taking, Thread};
-pub use crate::touched::{Touch, Touched};
+pub use ws_ground::{
+    FIX, Ground, Mark, Touch, Touched, UNKNOWN, WANT, drawing_mapping, fixing_mapping, image_for,
+    news_of, shared_variables,
+};

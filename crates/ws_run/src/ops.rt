@@ -1,15 +1,14 @@
 //! One op taken whole over the ground.
 
 use crate::going::go;
-use crate::grounds::Ground;
 use crate::halts::Halt;
-use crate::hidden::WANT;
 use crate::settings::Setting;
 use crate::threads::{Op, Thread};
 use base_types::{ChoiceList, Memory, Name, Operation, Tuple, Update, Write};
 use chase_update::Attempt;
 use set_facts::IndexedFacts;
 use std::alloc::Global;
+use ws_ground::{Ground, WANT};
 use ws_lines::GivenList;
 use ws_names::Names;
 

@@ -1,11 +1,10 @@
 //! What the values of an update are in the tuples.
 
-use crate::grounds::Ground;
 use crate::halts::{Halt, Reason};
-use crate::hidden::FIX;
 use base_types::{Facts, Memory, Null, TryCopy, Tuple, TupleList, Value, ValueList};
 use set_facts::IndexedFacts;
 use std::alloc::Global;
+use ws_ground::{FIX, Ground};
 use ws_lines::{Spelled, SpelledTuple};
 
 /// What the value is in the tuples; halted at an unknown that is not there.
@@ -88,12 +87,7 @@ pub(crate) fn found_spelled(
     Ok(all)
 }
 
-fn found_value(
-    alloc: Global,
-    ground: &Ground,
-    first: u32,
-    value: &Spelled,
-) -> Result<Value, Halt> {
+fn found_value(alloc: Global, ground: &Ground, first: u32, value: &Spelled) -> Result<Value, Halt> {
     match value {
         Spelled::Known(value) => found(alloc, ground, value),
         Spelled::New(number) => Ok(Value::Null(drawn_as(first, *number)?)),

@@ -117,7 +117,10 @@ fn wait_kept(
 
 // The new number of a mapping; None if it is not kept.
 fn new_number(numbers: &List<u16>, mapping: u16) -> Option<u16> {
-    let place = numbers.as_slice().iter().position(|number| *number == mapping)?;
+    let place = numbers
+        .as_slice()
+        .iter()
+        .position(|number| *number == mapping)?;
     u16::try_from(place).ok()
 }
 

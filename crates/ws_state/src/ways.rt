@@ -43,7 +43,11 @@ pub(crate) fn ways_of(
 }
 
 /// Puts the value under the tuple. It is refused only for want of memory.
-pub(crate) fn put<V: Drop>(map: &mut BTreeMap<Tuple, V>, tuple: &Tuple, value: V) -> Result<(), Memory> {
+pub(crate) fn put<V: Drop>(
+    map: &mut BTreeMap<Tuple, V>,
+    tuple: &Tuple,
+    value: V,
+) -> Result<(), Memory> {
     match map.insert(tuple.share()?, value) {
         Ok(_) => Ok(()),
         Err(_) => Err(Memory),

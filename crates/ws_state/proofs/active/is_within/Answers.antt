@@ -12,8 +12,8 @@ returns c =
     let few : length (map rule_of c.args.list.now.items) ≤ 65536 = omega (arith, c.if-len.false, c.len.ensures.length, length-map c.args.list.now.items rule_of) in
     record {
       within = λ e. record {
-            count = few;
-            each = λ n m there. all_at (λ (r : Rule). r.existential ≤ 64) (map rule_of c.args.list.now.items) n m
-                (subst (λ (ms : List Mapping). AllByRecursion (λ (r : Rule). r.existential ≤ 64) (map rule_of ms)) c.as_slice.ensures.items (c.are_small.ensures.small e)) there;
-          };
+        count = few;
+        each = λ n m there. all_at (λ (r : Rule). r.existential ≤ 64) (map rule_of c.args.list.now.items) n m
+            (subst (λ (ms : List Mapping). AllByRecursion (λ (r : Rule). r.existential ≤ 64) (map rule_of ms)) c.as_slice.ensures.items (c.are_small.ensures.small e)) there;
+      };
     }

@@ -1,5 +1,5 @@
-use Rattle.ws_run.specs.Trails.{HasMade}
-use Rattle.ws_run.proofs.grounds.make_all.Given as goal
+use Rattle.ws_ground.specs.Trails.{HasMade}
+use Rattle.ws_ground.proofs.grounds.make_all.Given as goal
 
 -- The writes so far are made.
 abbrev pub invariant-writes : goal.invariant-writes

@@ -5,7 +5,7 @@ use Rattle.base_types.specs.Meanings.{change_of}
 use Rattle.base_types.specs.declared.updates.Write.{Write}
 use Rattle.def_chase.specs.Values.{Fact}
 use Rattle.def_chase.specs.Repository.{Change, change}
-use Rattle.ws_run.specs.Trails.{HasMade, before, undoing}
+use Rattle.ws_ground.specs.Trails.{HasMade, before, undoing}
 
 -- Before writes and more writes.
 pub before_both : (ws vs : List Change) (D : List Fact) → before (ws ++ vs) D ≡ before ws (before vs D)

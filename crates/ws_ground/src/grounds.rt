@@ -2,7 +2,7 @@
 ghost use Rattle.std.specs.Prelude.{◌≡◌, map, drop, take, OnOk};
 ghost use Rattle.base_types.specs.Meanings.{change_of};
 ghost use Rattle.def_chase.specs.Repository.{change};
-ghost use Rattle.ws_run.specs.Trails.{HasMade, before, undoing};
+ghost use Rattle.ws_ground.specs.Trails.{HasMade, before, undoing};
 
 use base_types::{Facts, Memory, Tuple, Write, WriteList};
 use set_facts::IndexedFacts;
@@ -70,11 +70,7 @@ impl Ground {
 }
 
 // Takes back the writes after the first so many, the last of them first. It is refused only for want of memory.
-fn take_back(
-    facts: &mut IndexedFacts,
-    trail: &mut WriteList,
-    count: usize,
-) -> Result<(), Memory>
+fn take_back(facts: &mut IndexedFacts, trail: &mut WriteList, count: usize) -> Result<(), Memory>
     ensures facts { OnOk result
         (facts.new ≡ before (map change_of (drop count trail.old.items)) facts.old) }
     ensures trail { OnOk result (trail.new.items ≡ take count trail.old.items) }
@@ -116,11 +112,7 @@ fn make_all(
     Ok(())
 }
 
-fn make_one(
-    facts: &mut IndexedFacts,
-    trail: &mut WriteList,
-    write: Write,
-) -> Result<(), Memory>
+fn make_one(facts: &mut IndexedFacts, trail: &mut WriteList, write: Write) -> Result<(), Memory>
     ensures made { OnOk result (HasMade trail.old.items facts.old trail.new.items facts.new) }
 {
     match write {

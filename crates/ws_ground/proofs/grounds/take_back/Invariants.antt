@@ -1,7 +1,7 @@
 use Rattle.std.proofs.Common.{◌≡◌, map, length, drop, take}
 use Rattle.base_types.specs.Meanings.{change_of}
-use Rattle.ws_run.specs.Trails.{before}
-use Rattle.ws_run.proofs.grounds.take_back.Given as goal
+use Rattle.ws_ground.specs.Trails.{before}
+use Rattle.ws_ground.proofs.grounds.take_back.Given as goal
 
 -- What was there before the writes to be taken back stays, and so do the others.
 abbrev pub invariant-writes : goal.invariant-writes

@@ -17,14 +17,14 @@ pub const UNKNOWN: u16 = 101;
 pub const FIX: u16 = 102;
 
 /// That the new unknown of this number is wanted. It is refused only for want of memory.
-pub(crate) fn wanted(alloc: Global, number: u32) -> Result<Tuple, Memory> {
+pub fn wanted(alloc: Global, number: u32) -> Result<Tuple, Memory> {
     let mut values = ValueList::new(alloc);
     values.push(Value::Int(i64::from(number)))?;
     Tuple::new(alloc, WANT, values)
 }
 
 /// That the new unknown of this number is this value. It is refused only for want of memory.
-pub(crate) fn found_as(alloc: Global, number: u32, value: Value) -> Result<Tuple, Memory> {
+pub fn found_as(alloc: Global, number: u32, value: Value) -> Result<Tuple, Memory> {
     let mut values = ValueList::new(alloc);
     values.push(Value::Int(i64::from(number)))?;
     values.push(value)?;
@@ -32,7 +32,7 @@ pub(crate) fn found_as(alloc: Global, number: u32, value: Value) -> Result<Tuple
 }
 
 /// That a mapping is to be repaired for these values. It is refused only for want of memory.
-pub(crate) fn to_fix(alloc: Global, values: ValueList) -> Result<Tuple, Memory> {
+pub fn to_fix(alloc: Global, values: ValueList) -> Result<Tuple, Memory> {
     let mut values = values;
     if values.is_empty() {
         values.push(Value::Int(0))?;
