@@ -98,25 +98,6 @@ module _ (test : List ℕ → Bool) (text : List ℕ) where
       let further : drop n (drop p text) ≡ drop (p + n) text = drop-drop n p text in
       so_far ∙ ap (from test) next ∙ rw fails (ap (λ t. from test (lines_in t)) further)
 
-  -- The first that passes ends it.
-  pub found_before : (p n : ℕ) → lines_in (drop p text) ≡ take n (drop p text) ∷ lines_in (drop n (drop p text)) → test (take n (drop p text)) ≡ true
-      → concat (before test (lines_in text)) ≡ take p text ++ concat (before test (lines_in (drop p text))) → take p text ≡ concat (before test (lines_in text))
-  found_before p n next fits so_far =
-      let none : before test (lines_in (drop p text)) ≡ [] = ap (before test) next ∙ rw fits refl in
-      sym (so_far ∙ ap (λ ls. take p text ++ concat ls) none ∙ append-nil (take p text))
-
-  pub found_from : (p n : ℕ) → lines_in (drop p text) ≡ take n (drop p text) ∷ lines_in (drop n (drop p text)) → test (take n (drop p text)) ≡ true
-      → from test (lines_in text) ≡ from test (lines_in (drop p text)) → lines_in (drop p text) ≡ from test (lines_in text)
-  found_from p n next fits so_far = sym (so_far ∙ ap (from test) next ∙ rw fits (sym next))
-
-  -- At the end of the text none has passed.
-  pub ended_before : (p : ℕ) → drop p text ≡ [] → concat (before test (lines_in text)) ≡ take p text ++ concat (before test (lines_in (drop p text)))
-      → take p text ≡ concat (before test (lines_in text))
-  ended_before p end so_far = sym (so_far ∙ ap (λ t. take p text ++ concat (before test (lines_in t))) end ∙ append-nil (take p text))
-
-  pub ended_from : (p : ℕ) → drop p text ≡ [] → from test (lines_in text) ≡ from test (lines_in (drop p text)) → lines_in (drop p text) ≡ from test (lines_in text)
-  ended_from p end so_far = ap lines_in end ∙ sym (so_far ∙ ap (λ t. from test (lines_in t)) end)
-
 -- ---- the parts of an input
 
 -- A session ends with the line that is found.
@@ -130,13 +111,3 @@ pub behind_found : (input : List ℕ) (p n : ℕ) → lines_in (drop p input) �
     → lines_in (drop p input) ≡ take n (drop p input) ∷ lines_in (drop n (drop p input)) → drop (p + n) input ≡ behind_session input
 behind_found input p n rest next =
     sym (ap (λ ls. concat (drop 1 ls)) (sym rest ∙ next) ∙ whole (drop n (drop p input)) ∙ drop-drop n p input)
-
--- Without one it is all.
-pub session_whole : (input : List ℕ) (p : ℕ) → p ≡ length input → take p input ≡ concat (before is_end (lines_in input)) → lines_in (drop p input) ≡ from is_end (lines_in input)
-    → (input ≡ session_in input) × ([] ≡ behind_session input)
-session_whole input p end ahead rest =
-    let all : take p input ≡ input = take_all p input (omega arith) in
-    let none : from is_end (lines_in input) ≡ [] = sym rest ∙ ap lines_in (drop_all p input (omega arith)) in (
-      sym (ap (λ ls. concat (before is_end (lines_in input)) ++ concat (take 1 ls)) none ∙ append-nil (concat (before is_end (lines_in input))) ∙ sym ahead ∙ all),
-      sym (ap (λ ls. concat (drop 1 ls)) none),
-    )

@@ -5,6 +5,7 @@ ghost use Rattle.serde_json.specs.View.{view};
 ghost use Rattle.audit_claims.specs.Claims.{IsAnswerIn, IsClaimIn, IsClaimOn, IsNumberIn, IsPlainClaim, IsTextIn};
 
 use crate::choices::{ChoiceText, read_choice};
+use base_limits::MOST_UPDATES;
 use base_types::{Choice, Memory};
 use lang_schema::Schema;
 use serde_json::Value;
@@ -21,7 +22,7 @@ pub enum Claim {
 }
 
 // The most that the number of an update may be.
-const MOST: u64 = 1000;
+const MOST: u64 = MOST_UPDATES as u64;
 
 /// The event that a line tells, if it tells one: it is a JSON object that names an event and the number of an update, and for
 /// an answer a choice. It is refused only for want of memory.

@@ -27,11 +27,11 @@ front [] ys (suc n) h = absurd (omega (arith, h))
 front (x ∷ xs) ys zero h = absurd (omega (arith, h))
 front (x ∷ xs) ys (suc n) h = ap (λ zs. x ∷ zs) (front xs ys n (omega (arith, h)))
 
--- What is left of a replay where its seats are these, and all else but its levels is as before.
-pub left_with : (r r' : Replay) (rs : List AuditedUpdate) → r'.seats.items ≡ rs → AreFrom 1 rs → r'.mappings ≡ r.mappings → r'.budget ≡ r.budget → r'.settings ≡ r.settings → r'.handed ≡ r.handed → IsLeftOf r r'
+-- What is left of a replay where its audited updates are these, and all else but its levels is as before.
+pub left_with : (r r' : Replay) (rs : List AuditedUpdate) → r'.updates.items ≡ rs → AreFrom 1 rs → r'.mappings ≡ r.mappings → r'.budget ≡ r.budget → r'.settings ≡ r.settings → r'.handed ≡ r.handed → IsLeftOf r r'
 left_with r r' rs e numbers mappings budget settings handed = record { mappings = mappings; budget = budget; settings = settings; handed = handed; numbers = subst (λ (qs : List AuditedUpdate). AreFrom 1 qs) (sym e) numbers }
 
-module _ (r : Replay) (k : IsReplay r) (rs : List AuditedUpdate) (slice : rs ≡ r.seats.items) where
+module _ (r : Replay) (k : IsReplay r) (rs : List AuditedUpdate) (slice : rs ≡ r.updates.items) where
   pub its_numbers : AreFrom 1 rs
   its_numbers = subst (λ (qs : List AuditedUpdate). AreFrom 1 qs) (sym slice) k.replays.numbers
 
@@ -41,13 +41,13 @@ module _ (r : Replay) (k : IsReplay r) (rs : List AuditedUpdate) (slice : rs ≡
   pub its_more : AllHaveOneMore rs
   its_more = subst AllHaveOneMore (sym slice) (all_one_more k.over k.history r k.replays)
 
-  pub is_within : (i : ℕ) → i < length r.seats.items → i < length rs
+  pub is_within : (i : ℕ) → i < length r.updates.items → i < length rs
   is_within i l = subst (λ (qs : List AuditedUpdate). i < length qs) (sym slice) l
 
-  pub is_most : (i : ℕ) → i < length r.seats.items → i ≤ length rs
+  pub is_most : (i : ℕ) → i < length r.updates.items → i ≤ length rs
   is_most i l = let m = is_within i l in omega (arith, m)
 
-  pub is_ready_there : (i c n : ℕ) → AtPlace i r.seats.items (IsReadyOf (settings_of r.settings) c n) → AtPlace i rs IsReadySomewhere
+  pub is_ready_there : (i c n : ℕ) → AtPlace i r.updates.items (IsReadyOf (settings_of r.settings) c n) → AtPlace i rs IsReadySomewhere
   is_ready_there i c n ready x spot = record {
     rules = [];
     budget = 0;
@@ -57,7 +57,7 @@ module _ (r : Replay) (k : IsReplay r) (rs : List AuditedUpdate) (slice : rs ≡
     ready = ready x (sym (ap (λ (qs : List AuditedUpdate). slice_get qs i) slice) ∙ spot) [] 0;
   }
 
-  pub is_left_there : (i c n : ℕ) → AtPlace i r.seats.items (IsReadyOf (settings_of r.settings) c n) → AtPlace i rs (λ x. x.program.attempt.steps < r.budget)
+  pub is_left_there : (i c n : ℕ) → AtPlace i r.updates.items (IsReadyOf (settings_of r.settings) c n) → AtPlace i rs (λ x. x.program.attempt.steps < r.budget)
   is_left_there i c n ready x spot =
       let at = sym (ap (λ (qs : List AuditedUpdate). slice_get qs i) slice) ∙ spot in
       step_left k.over k.history r k.replays i c n x at

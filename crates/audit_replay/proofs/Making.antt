@@ -86,23 +86,23 @@ module _ (g : Ground) (H : List PlainEntry) (r : Replay) (k : IsReplayOf g H r) 
   laws = chase_laws caused g.rules g.budget k.some
 
   abbrev us : List (Update M)
-  us = updates_of g.rules g.budget r.seats.items
+  us = updates_of g.rules g.budget r.updates.items
 
   history_of : IsHistory M g.settings (session_over g) (record { updates = updates_after g H; entries = entries_over g H })
   history_of = history_law M laws g.settings (session_over g) (map event_of (entries_over g H)) (record { updates = updates_after g H; entries = entries_over g H }) k.sorted k.left.legal
 
-  update_there : (i : ℕ) (x : AuditedUpdate) → slice_get r.seats.items i ≡ Some x → slice_get us i ≡ Some (update_of g.rules g.budget x)
-  update_there i x spot = slice_get-map (update_of g.rules g.budget) r.seats.items i ∙ ap (option_map (update_of g.rules g.budget)) spot
+  update_there : (i : ℕ) (x : AuditedUpdate) → slice_get r.updates.items i ≡ Some x → slice_get us i ≡ Some (update_of g.rules g.budget x)
+  update_there i x spot = slice_get-map (update_of g.rules g.budget) r.updates.items i ∙ ap (option_map (update_of g.rules g.budget)) spot
 
-  left_there : (i : ℕ) (x : AuditedUpdate) → slice_get r.seats.items i ≡ Some x → slice_get (updates_after g H) i ≡ Some (update_of g.rules g.budget x)
+  left_there : (i : ℕ) (x : AuditedUpdate) → slice_get r.updates.items i ≡ Some x → slice_get (updates_after g H) i ≡ Some (update_of g.rules g.budget x)
   left_there i x spot = ap (λ (vs : List (Update M)). slice_get vs i) k.left.leaves ∙ update_there i x spot
 
   -- One more attempt of each update has a number.
-  pub all_one_more : AllHaveOneMore r.seats.items
-  all_one_more = one_more_each r.seats.items (λ i x spot. omega (arith, history_of.attempts i (update_of g.rules g.budget x) (left_there i x spot), k.retries))
+  pub all_one_more : AllHaveOneMore r.updates.items
+  all_one_more = one_more_each r.updates.items (λ i x spot. omega (arith, history_of.attempts i (update_of g.rules g.budget x) (left_there i x spot), k.retries))
 
   -- A ready update has a step left.
-  pub step_left : (i c n : ℕ) (x : AuditedUpdate) → slice_get r.seats.items i ≡ Some x → is_ready (standing M g.settings c n (update_of g.rules g.budget x)) ≡ true → x.program.attempt.steps < r.budget
+  pub step_left : (i c n : ℕ) (x : AuditedUpdate) → slice_get r.updates.items i ≡ Some x → is_ready (standing M g.settings c n (update_of g.rules g.budget x)) ≡ true → x.program.attempt.steps < r.budget
   step_left i c n x spot ready =
       let u : Update M = update_of g.rules g.budget x in
       let o = (ready_parts M g.settings c n u ready).0 in
@@ -110,7 +110,7 @@ module _ (g : Ground) (H : List PlainEntry) (r : Replay) (k : IsReplayOf g H r) 
       omega (arith, more, k.budget)
 
   -- An attempt that its next step refuses has written nothing.
-  pub refused_unwritten : (i c n : ℕ) (x : AuditedUpdate) → slice_get r.seats.items i ≡ Some x → is_ready (standing M g.settings c n (update_of g.rules g.budget x)) ≡ true
+  pub refused_unwritten : (i c n : ℕ) (x : AuditedUpdate) → slice_get r.updates.items i ≡ Some x → is_ready (standing M g.settings c n (update_of g.rules g.budget x)) ≡ true
       → hides (M.outcome (stepped M (below M g.base us i) (update_of g.rules g.budget x)).state) ≡ true → is_spent (M.outcome (stepped M (below M g.base us i) (update_of g.rules g.budget x)).state) ≡ false
       → trail M (update_of g.rules g.budget x) ≡ []
   refused_unwritten i c n x spot ready h e =
@@ -141,20 +141,20 @@ module _ (g : Ground) (H : List PlainEntry) (r : Replay) (k : IsReplayOf g H r) 
   below_sorted i = sound_below M laws g.base us i k.sorted
 
   -- The uppermost level lies there, where so many stand.
-  pub top_is : (i : ℕ) (levels : List (List Fact)) → StandOn g.base r.seats.items i levels → top levels ≡ below M g.base us i
-  top_is i levels s = ap top s ∙ laid_top trail_of [] g.base (take i r.seats.items) ∙ ap (λ ws. apply g.base ws) (flat_same g.rules g.budget r.seats.items i)
+  pub top_is : (i : ℕ) (levels : List (List Fact)) → StandOn g.base r.updates.items i levels → top levels ≡ below M g.base us i
+  top_is i levels s = ap top s ∙ laid_top trail_of [] g.base (take i r.updates.items) ∙ ap (λ ws. apply g.base ws) (flat_same g.rules g.budget r.updates.items i)
 
 -- ---- any event
 
--- The same seats below a place have the same levels there.
+-- The same audited updates below a place have the same levels there.
 pub stand_same : (D : List Fact) (rs rs' : List AuditedUpdate) (k : ℕ) (levels : List (List Fact)) → map trail_of (take k rs') ≡ map trail_of (take k rs) → StandOn D rs k levels → StandOn D rs' k levels
 stand_same D rs rs' k levels e s = s ∙ sym (ap (laid [] D) e)
 
 -- What was made of a replay is the replay that the entry of the event leaves.
 pub follows : (g : Ground) (H : List PlainEntry) (r r' : Replay) (e : Event (machine g)) (x : Effect (machine g)) (entry : Entry) (height : ℕ) → IsReplayOf g H r
-    → effect (machine g) g.settings (session_over g) (updates_of g.rules g.budget r.seats.items) e ≡ Some x
+    → effect (machine g) g.settings (session_over g) (updates_of g.rules g.budget r.updates.items) e ≡ Some x
     → r'.mappings ≡ r.mappings → r'.budget ≡ r.budget → r'.settings ≡ r.settings → r'.handed ≡ r.handed
-    → updates_of g.rules g.budget r'.seats.items ≡ x.updates → AreFrom 1 r'.seats.items → height ≤ length r'.seats.items → StandOn g.base r'.seats.items height r'.levels
+    → updates_of g.rules g.budget r'.updates.items ≡ x.updates → AreFrom 1 r'.updates.items → height ≤ length r'.updates.items → StandOn g.base r'.updates.items height r'.levels
     → plain_entry g.rules g.budget x.entry ≡ entry_of entry → HasGrown g H e entry r'
 follows g H r r' e x entry height k made mappings budget settings handed us numbers within levels told =
     let allowed : effect_after g H e ≡ Some x = ap (λ (ws : List (Update (machine g))). effect (machine g) g.settings (session_over g) ws e) k.left.leaves ∙ made in
@@ -170,7 +170,7 @@ follows g H r r' e x entry height k made mappings budget settings handed us numb
         later = k.later;
         sorted = k.sorted;
         retries = k.retries;
-        left = subst (λ (K : List PlainEntry). Leave g K (updates_of g.rules g.budget r'.seats.items)) same (subst (λ (ws : List (Update (machine g))). Leave g (H ++ plain_entry g.rules g.budget x.entry ∷ []) ws) (sym us) more);
+        left = subst (λ (K : List PlainEntry). Leave g K (updates_of g.rules g.budget r'.updates.items)) same (subst (λ (ws : List (Update (machine g))). Leave g (H ++ plain_entry g.rules g.budget x.entry ∷ []) ws) (sym us) more);
         numbers = numbers;
         height = height;
         within = within;

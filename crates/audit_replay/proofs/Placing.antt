@@ -31,7 +31,7 @@ use Rattle.audit_replay.specs.Restarts.{HaveRestarted}
 use Rattle.audit_replay.specs.Steps.{AtPlace, IsAnswered, IsDelivered, IsPlanSomewhere, IsStepMade, IsRemoved, TellsStep, TellsWithdrawal}
 use Rattle.audit_replay.proofs.Restarting.{there_is, put_with, restarted_behind, set_is, set_long, set_there, stands_placed, within}
 
--- After the step of a plan the seats stand where they stood.
+-- After the step of a plan the audited updates stand where they stood.
 pub numbers_stepped : (rs : List AuditedUpdate) (k : ℕ) (r v : AuditedUpdate) (plan : Plan) → AreFrom 1 rs → k < length rs → r ≡ get_or rs k r → AtPlace k rs (IsPlanSomewhere plan) → KeepsPlaceBy plan (get_or rs k r) v → AreFrom 1 (set rs k v)
 numbers_stepped rs k r v plan a l e planned keeps =
     let is : IsPlanSomewhere plan (get_or rs k r) = subst (IsPlanSomewhere plan) e (planned r (there_is rs k r l e)) in

@@ -1,4 +1,4 @@
--- The plan of the next step of a seat's update.
+-- The plan of the next step of an audited update.
 use Rattle.std.proofs.Common.{◌≡◌, ◌∙◌, ap, refl, ℕ, zero, suc, slice_index_or, replicate, Bool, false, Option, List}
 use Rattle.std.specs.Prelude.{IfOk, Result, Ok, Err}
 use Rattle.std.proofs.lemmas.Bool.{both_ways}

@@ -32,7 +32,7 @@ above_between rs up k r a l e u = all_between (suc r.program.attempt.number) up 
 pub written_copies : (r : AuditedUpdate) (plan : Plan) (ws vs : List Write) → map change_of vs ≡ map change_of ws → HasWritten r plan ws → HasWritten r plan vs
 written_copies r plan ws vs same written ms B D p = same ∙ written ms B D p
 
--- What was prepared for the seat at the place.
+-- What was prepared for the audited update at the place.
 pub prepared_there : (ms : List Rule) (B : ℕ) (deps : Deps) (c : ℕ) (rs up : List AuditedUpdate) (k : ℕ) (r : AuditedUpdate) (D : List Fact) (plan : Plan) (causes : Listed CauseOfProgram) (writes : Listed Write) (attempt : ℕ) → k < length rs → r ≡ get_or rs k r → up ≡ drop (suc k) rs
     → IsPlanOf ms B D r plan → AreOfStep ms deps c r plan D up causes.items → HasWritten r plan writes.items → attempt ≡ r.program.attempt.attempt
     → AtPlace k rs (λ q. IsPreparedFor ms B deps c q D (drop (suc k) rs) (record { plan = plan; attempt = attempt; writes = writes; causes = causes }))

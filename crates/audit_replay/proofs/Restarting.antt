@@ -1,4 +1,4 @@
--- Restarts one after the other, seat by seat, and what stands at a place.
+-- Restarts one after the other, update by update, and what stands at a place.
 use Rattle.std.proofs.Common.{◌≡◌, ◌∙◌, ap, sym, refl, subst, ℕ, suc, zero, ◌<◌, ◌≤◌, ◌+◌, Bool, true, List, [], ◌∷◌, ◌++◌, length, get_or, take, drop, arith}
 use Rattle.std.specs.Prelude.{if◌then◌else◌, Some, slice_get, option_map}
 use Rattle.std.proofs.Math.ListN.{set}
@@ -38,7 +38,7 @@ stands_at [] n k r a e = absurd (none-some r e)
 stands_at (x ∷ rs) n zero r a e = let same : n ≡ n + 0 = omega arith in subst (λ (m : ℕ). StandsAt m r) same (subst (λ (y : AuditedUpdate). StandsAt n y) (same_Some x r e) a.0)
 stands_at (x ∷ rs) n (suc k) r a e = let same : suc n + k ≡ n + suc k = omega arith in subst (λ (m : ℕ). StandsAt m r) same (stands_at rs (suc n) k r a.1 e)
 
--- The seat at a place of all of them stands there.
+-- The audited update at a place of all of them stands there.
 pub stands_placed : (rs : List AuditedUpdate) (k : ℕ) (r : AuditedUpdate) → AreFrom 1 rs → k < length rs → r ≡ get_or rs k r → StandsAt (suc k) r
 stands_placed rs k r a l e = let one : 1 + k ≡ suc k = omega arith in subst (λ (n : ℕ). StandsAt n r) one (stands_at rs 1 k r a (there_is rs k r l e))
 
@@ -56,11 +56,11 @@ put_there [] n k r v a h e f = absurd (omega (arith, h))
 put_there (x ∷ rs) n zero r v a h e f = (f n (subst (λ (y : AuditedUpdate). StandsAt n y) (sym e) a.0), a.1)
 put_there (x ∷ rs) n (suc k) r v a h e f = let l : k < length rs = omega (arith, h) in (a.0, put_there rs (suc n) k r v a.1 l e f)
 
--- A seat that keeps its place can be put there.
+-- An audited update that keeps its place can be put there.
 pub put_with : (rs : List AuditedUpdate) (k : ℕ) (r v : AuditedUpdate) → AreFrom 1 rs → k < length rs → r ≡ get_or rs k r → KeepsPlace (get_or rs k r) v → AreFrom 1 (set rs k v)
 put_with rs k r v a l e f = put_there rs 1 k r v a l e (subst (λ (q : AuditedUpdate). KeepsPlace q v) (sym e) f)
 
--- A seat that stands for the same update, at the same moment, keeps its place.
+-- An audited update that stands for the same update, at the same moment, keeps its place.
 pub same_place : (r v : AuditedUpdate) → IsSame r v → KeepsPlace r v
 same_place r v same n at = record { number = ap (λ (s : State). s.attempt.number) same.0 ∙ at.number; between = ap (λ (s : State). s.reading) same.0 ∙ at.between }
 
@@ -104,7 +104,7 @@ more_above rs zero a = a
 more_above [] (suc k) a = tt
 more_above (r ∷ rs) (suc k) a = more_above rs k a.1
 
--- Of the seat at the place.
+-- Of the audited update at the place.
 pub more_there : (rs : List AuditedUpdate) (k : ℕ) (r : AuditedUpdate) → k < length rs → r ≡ get_or rs k r → AllHaveOneMore (drop k rs) → HasOneMore (get_or rs k r)
 more_there rs k r l e a = subst HasOneMore e (subst AllHaveOneMore (next_left rs k r l e) a).0
 
@@ -122,7 +122,7 @@ turn M [] k n v ns u h e r = absurd (omega (arith, h))
 turn M (x ∷ us) zero n v ns u h e r = λ j. (r ∙ (λ i. if has_number ns n then anew M n (sym e i) else sym e i)) j ∷ restarted M ns (suc n) us
 turn M (x ∷ us) (suc k) n v ns u h e r = let l : k < length us = omega (arith, h) in λ j. x ∷ turn M us k n v ns u l e r j
 
--- What is restarted from the place on, once the seat there has its say.
+-- What is restarted from the place on, once the audited update there has its say.
 pub turned : (ms : List Rule) (B : ℕ) (rs : List AuditedUpdate) (k : ℕ) (r v : AuditedUpdate) (causes : List CauseOfProgram) → AreFrom 1 rs → k < length rs → r ≡ get_or rs k r → HasRestartedIf causes (get_or rs k r) v
     → take (k + 1) (updates_of ms B (set rs k v)) ++ restarted (caused_chase ms B) (readers_in causes) (suc (k + 1)) (drop (k + 1) (updates_of ms B (set rs k v)))
     ≡ take k (updates_of ms B rs) ++ restarted (caused_chase ms B) (readers_in causes) (suc k) (drop k (updates_of ms B rs))

@@ -88,7 +88,7 @@ stand_less D rs h k levels levels' l m e s = by s.many refl
         let le : n ≤ length rs = omega (arith, lt) in
         record { many = n; within = le; stand = e ∙ ap (λ (Gs : List (List Fact)). drop 1 Gs) (s.stand ∙ ap (λ j. laid [] D (map trail_of (take j rs))) q) ∙ laid_less trail_of [] D rs n lt }
 
--- One more, where not so many stand there as there are seats.
+-- One more, where not so many stand there as there are audited updates.
 pub stand_raised : (D : List Fact) (rs : List AuditedUpdate) (h : ℕ) (r : AuditedUpdate) (ws : List Change) (levels levels' : List (List Fact)) → length levels ≡ suc h → h < length rs → r ≡ get_or rs h r → ws ≡ trail_of r → levels' ≡ raised levels ws → Stand D rs levels → Stand D rs levels'
 stand_raised D rs h r ws levels levels' l m e w f s =
     let long = stand_long D rs s.many levels s.within s.stand in
@@ -126,7 +126,7 @@ raised_long Ds Es ws h l e = let m : length Es ≡ suc (length Ds) = ap (λ (Gs 
 pub sunk_one : (Ds Es Fs : List (List Fact)) (ws : List Change) → Es ≡ raised Ds ws → Fs ≡ drop 1 Es → Fs ≡ Ds
 sunk_one Ds Es Fs ws e f = f ∙ ap (λ (Gs : List (List Fact)). drop 1 Gs) e
 
--- The seat at a place stands between two steps.
+-- The audited update at a place stands between two steps.
 pub between_at : (rs : List AuditedUpdate) (k : ℕ) (r : AuditedUpdate) → AreBetween rs → k < length rs → r ≡ get_or rs k r → IsBetween r.program
 between_at [] k r b l e = absurd (omega (arith, l))
 between_at (q ∷ rs) zero r b l e = subst (λ (x : AuditedUpdate). IsBetween x.program) (sym e) b.0

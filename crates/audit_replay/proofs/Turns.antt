@@ -23,7 +23,7 @@ use Rattle.audit_replay.specs.declared.losses.Losses.{Losses}
 use Rattle.audit_replay.proofs.Found.{unmet_has_none}
 use Rattle.audit_replay.proofs.Leftover.{next_left}
 
--- ---- seats that are left
+-- ---- audited updates that are left
 
 pub first_between : (rs : List AuditedUpdate) (i : ℕ) (r : AuditedUpdate) → i < length rs → r ≡ get_or rs i r → AreBetween (drop i rs) → AreBetween (r ∷ drop (i + 1) rs)
 first_between rs i r l e b = subst AreBetween (next_left rs i r l e) b
@@ -35,7 +35,7 @@ meant_more ms B xs (Some x) = map-append (cause_meant ms B) xs (x ∷ [])
 
 -- ---- conflicts
 
--- What is found so far and what is met of the seats that are left are all.
+-- What is found so far and what is met of the audited updates that are left are all.
 pub record ConflictsLeft (ms : List Rule) (c j : ℕ) (relations : List ℕ) (B : ℕ) (all : List (Cause (caused_chase ms B))) (D : List Fact) (rs : List AuditedUpdate) (causes : List CauseOfProgram) : Type 0 where
   pub number : ℕ
   pub from : AreFrom number rs
@@ -61,7 +61,7 @@ conflicts_on ms c j relations B all D D' r rs causes causes' found ws is e trail
           ∙ left.rest;
     }
 
--- Once the next seat has its say.
+-- Once the next audited update has its say.
 pub conflicts_next : (ms : List Rule) (c j : ℕ) (relations : List ℕ) (B : ℕ) (all : List (Cause (caused_chase ms B))) (levels levels' : List (List Fact)) (i : ℕ) (rs : List AuditedUpdate) (r : AuditedUpdate) (causes causes' : List CauseOfProgram) (found : Option CauseOfProgram) (ws : List Write)
     → i < length rs → r ≡ get_or rs i r → IsMetConflict ms c j relations (top levels) r found → causes' ≡ causes ++ option_to_list found → HasTrail r ws → levels' ≡ raised levels (map change_of ws)
     → ConflictsLeft ms c j relations B all (top levels) (drop i rs) causes → ConflictsLeft ms c j relations B all (top levels') (drop (i + 1) rs) causes'
@@ -102,7 +102,7 @@ reached_all ms c j relations B n (suc k) D (r ∷ rs) a u =
 
 -- ---- dependences
 
--- What is found so far and what the cascade finds of the seats that are left are all.
+-- What is found so far and what the cascade finds of the audited updates that are left are all.
 pub record DependencesLeft (ms : List Rule) (deps : Deps) (c : ℕ) (firsts : List ℕ) (B : ℕ) (all : List (Cause (caused_chase ms B))) (D : List Fact) (l : Losses) (rs : List AuditedUpdate) (causes : List CauseOfProgram) : Type 0 where
   pub number : ℕ
   pub from : AreFrom number rs

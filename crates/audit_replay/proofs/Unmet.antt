@@ -133,10 +133,6 @@ module _ (ms : List Rule) (B : ℕ) where
 
   -- ---- who is not in conflict
 
-  not_live : (b : Bool) → (b && false) ≡ false
-  not_live true = refl
-  not_live false = refl
-
   open_parts : (live named : Bool) → (live && not named) ≡ true → (live ≡ true) × (named ≡ false)
   open_parts true true h = absurd (both_ways false refl h)
   open_parts true false h = (refl, refl)
@@ -304,17 +300,3 @@ module _ (ms : List Rule) (B : ℕ) where
       by : (b : Bool) (X : Option (Cause N)) → (if b && false then X else None) ≡ None
       by true X = refl
       by false X = refl
-
-  -- Nor does what has read nothing.
-  pub unread_depends_not : (deps : Deps) (c : ℕ) (firsts : List ℕ) (D : List Fact) (members : List (Member N)) (n : ℕ) (us : List (Update N)) → AllByRecursion (λ u. u.log ≡ []) us → met_cascade ms B deps c firsts D members n us ≡ []
-  unread_depends_not deps c firsts D members n [] h = refl
-  unread_depends_not deps c firsts D members n (u ∷ us) h =
-      let x : Option (Cause N) = met_join ms B deps c firsts D members n u in
-      let none : x ≡ None = by (has_number firsts n) (is_live N c n u) (ap (first_that (λ r. is_reached ms B members r && has_turned ms B deps u.operation D (N.own u.state) r)) h.0) in
-      let b : Bool = has_number firsts n || is_some x in
-      (λ i. option_to_list (none i) ++ unread_depends_not deps c firsts (without_member N b D u) (with_member N b members n u) (suc n) us h.1 i)
-    where
-      by : (f l : Bool) {o : Option (ℕ × Read N)} → o ≡ None → (if f then None else if l then depends_by members n o else None) ≡ None
-      by true l e = refl
-      by false true e = ap (depends_by members n) e
-      by false false e = refl

@@ -63,12 +63,12 @@ module _ (ms : List Rule) (B : ℕ) where
 
 -- ---- conflicts
 
--- The first read of the seat's update that mentions one of the relations and isn't valid over D, as a conflict with update j.
+-- The first read of the audited update that mentions one of the relations and isn't valid over D, as a conflict with update j.
 abbrev pub IsMetConflict : List Rule → ℕ → ℕ → List ℕ → List Fact → AuditedUpdate → Option CauseOfProgram → Type 0
 IsMetConflict ms c j relations D r found =
     (B n : ℕ) → StandsAt n r → option_map (cause_meant ms B) found ≡ met_conflict ms B c j relations D n (update_of ms B r)
 
--- Those of the seats' updates in turn, where D lies below the first.
+-- Those of the audited updates in turn, where D lies below the first.
 abbrev pub AreMetConflicts : List Rule → ℕ → ℕ → List ℕ → List Fact → List AuditedUpdate → List CauseOfProgram → Type 0
 AreMetConflicts ms c j relations D rs causes =
     (B n : ℕ) → AreFrom n rs → causes_meant ms B causes ≡ met_conflicts ms B c j relations D n (updates_of ms B rs)
@@ -112,7 +112,7 @@ abbrev pub depends_by : Deps → List Rule → List ℕ → Direction → List F
 depends_by Precise ms relations h D own r = is_met_and_changed ms relations h D own r
 depends_by Coarse ms relations h D own r = meets ms relations r.query
 
--- It is the first read of the seat's update that depends on what is lost.
+-- It is the first read of the audited update that depends on what is lost.
 abbrev pub IsFirstDependent : Deps → List Rule → Losses → List Fact → AuditedUpdate → Option Numbered → Type 0
 IsFirstDependent deps ms l D r found =
     option_map numbered_of found ≡ first_that (depends_by deps ms l.relations.items (direction_of r.program.attempt.operation) D r.program.attempt.own) (reads_in r.log.items)
@@ -126,17 +126,17 @@ least_writer ms r (m ∷ ks) = if any_of (mentions ms r.query) (writes_of m) the
 abbrev pub dependence_meant : List Rule → List MemberOfProgram → ℕ → ℕ × Read → PlainCause
 dependence_meant ms ks n t = Dependent (record { reader = n; read = t.0; on = least_writer ms t.1 ks })
 
--- It is why the seat's update joins the members, if it does and is none of the first.
+-- It is why the audited update joins the members, if it does and is none of the first.
 abbrev pub IsJoinOf : List Rule → Deps → ℕ → List ℕ → List Fact → Losses → AuditedUpdate → Option CauseOfProgram → Type 0
 IsJoinOf ms deps c firsts D l r found =
     (B n : ℕ) → AreTold l → StandsAt n r → option_map (cause_meant ms B) found ≡ met_join ms B deps c firsts D (members_of ms B l.members.items) n (update_of ms B r)
 
--- These are why those of the seats' updates that join the members do, where D lies below the first without the members' trails.
+-- These are why those of the audited updates that join the members do, where D lies below the first without the members' trails.
 abbrev pub AreMetDependences : List Rule → Deps → ℕ → List ℕ → List Fact → Losses → List AuditedUpdate → List CauseOfProgram → Type 0
 AreMetDependences ms deps c firsts D l rs causes =
     (B n : ℕ) → AreTold l → AreFrom n rs → causes_meant ms B causes ≡ met_cascade ms B deps c firsts D (members_of ms B l.members.items) n (updates_of ms B rs)
 
--- They are why each of the seats' updates depends that does on those of these numbers, where the reads of the other live ones are valid.
+-- They are why each of the audited updates depends that does on those of these numbers, where the reads of the other live ones are valid.
 abbrev pub AreDependencesOn : List Rule → Deps → ℕ → List ℕ → List Fact → List AuditedUpdate → List CauseOfProgram → Type 0
 AreDependencesOn ms deps c firsts D rs causes =
     (B n : ℕ) → AreFrom n rs → IsRepository D → AreValidThat (caused_chase ms B) (is_open (caused_chase ms B) c firsts) n D (updates_of ms B rs)

@@ -64,7 +64,7 @@ first_change_behind n ms relations h D own rs = option_map (changed_at ms h D ow
 abbrev pub first_change : List Rule → List ℕ → Direction → List Fact → List Write → List Read → Option ChangeMeant
 first_change ms relations h D own log = option_map (changed_at ms h D own) (first_that (is_met_and_changed ms relations h D own) log)
 
--- It is that read of the seat's update.
+-- It is that read of the audited update.
 abbrev pub IsFirstChange : List Rule → List ℕ → List Fact → AuditedUpdate → Option Change → Type 0
 IsFirstChange ms relations D r found =
     option_map change_meant found ≡ first_change ms relations (direction_of r.program.attempt.operation) D r.program.attempt.own (reads_in r.log.items)

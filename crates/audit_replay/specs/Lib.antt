@@ -1,6 +1,7 @@
 pub mod Relations
 pub mod Levels
 pub mod Changes
+pub mod Asked
 pub mod Met
 pub mod Causes
 pub mod Restarts

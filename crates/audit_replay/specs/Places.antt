@@ -1,4 +1,4 @@
--- Seats and their trails, as levels of a set are made of them.
+-- Audited updates and their trails, as levels of a set are made of them.
 use Rattle.std.specs.Prelude.{◌≡◌, ℕ, ◌≤◌, List, [], ◌∷◌, map, take, length}
 use Rattle.def_machine.specs.Updates.{trail}
 use Rattle.def_chase.specs.Repository.{Change}
@@ -9,26 +9,26 @@ use Rattle.audit_updates.specs.Updates.{update_of}
 use Rattle.audit_updates.specs.declared.updates.AuditedUpdate.{AuditedUpdate}
 use Rattle.audit_replay.specs.Levels.{laid}
 
--- Each of the seats stands between two steps.
+-- Each of the audited updates stands between two steps.
 abbrev pub AreBetween : List AuditedUpdate → Type 0
 AreBetween [] = Unit {0}
 AreBetween (r ∷ rs) = IsBetween r.program × AreBetween rs
 
--- The writes that others see of the seat's update, which are the same whatever the mappings and the budget.
+-- The writes that others see of the audited update, which are the same whatever the mappings and the budget.
 abbrev pub trail_of : AuditedUpdate → List Change
 trail_of r = trail (caused_chase [] 0) (update_of [] 0 r)
 
--- The levels are D and what lies above each of so many of the seats, the uppermost one first.
+-- The levels are D and what lies above each of so many of the audited updates, the uppermost one first.
 abbrev pub StandOn : List Fact → List AuditedUpdate → ℕ → List (List Fact) → Type 0
 StandOn D rs k levels = levels ≡ laid [] D (map trail_of (take k rs))
 
--- The levels stand on some of the seats.
+-- The levels stand on some of the audited updates.
 pub record Stand (D : List Fact) (rs : List AuditedUpdate) (levels : List (List Fact)) : Type 0 where
   pub many : ℕ
   pub within : many ≤ length rs
   pub stand : StandOn D rs many levels
 
--- Levels that stood on some of the seats still do.
+-- Levels that stood on some of the audited updates still do.
 abbrev pub StandStill : List (List Fact) → List (List Fact) → Type 0
 StandStill old new = (D : List Fact) (rs : List AuditedUpdate) → Stand D rs old → Stand D rs new
 
@@ -36,6 +36,6 @@ StandStill old new = (D : List Fact) (rs : List AuditedUpdate) → Stand D rs ol
 abbrev pub HaveRisen : ℕ → List AuditedUpdate → List (List Fact) → List (List Fact) → Type 0
 HaveRisen k rs old new = (D : List Fact) → Stand D rs old → StandOn D rs k new
 
--- From any number of the seats the levels have come to so many.
+-- From any number of the audited updates the levels have come to so many.
 abbrev pub HaveCome : ℕ → List AuditedUpdate → List (List Fact) → List (List Fact) → Type 0
 HaveCome k rs old new = (D : List Fact) (h : ℕ) → h ≤ length rs → StandOn D rs h old → StandOn D rs k new

@@ -1,4 +1,4 @@
--- Steps that are to be made, and what is made of the seats with its entry.
+-- Steps that are to be made, and what is made of the audited updates with its entry.
 use Rattle.std.specs.Prelude.{◌≡◌, ℕ, List}
 use Rattle.base_types.specs.Listed.{Listed}
 use Rattle.core_entries.specs.declared.causes.Cause.{Cause as CauseOfProgram}
@@ -11,7 +11,7 @@ use Rattle.audit_updates.specs.declared.updates.AuditedUpdate.{AuditedUpdate}
 use Rattle.audit_replay.specs.Steps.{AreOfStep, IsRemoved, IsStepMade, TellsStep, TellsWithdrawal}
 use Rattle.audit_replay.specs.declared.stepping.Prepared.{Prepared}
 
--- It is the next step of the seat's update over D, with these seats above it, where so many updates are committed.
+-- It is the next step of the audited update over D, with these audited updates above it, where so many updates are committed.
 pub record IsPreparedFor (ms : List Rule) (B : ℕ) (deps : Deps) (c : ℕ) (r : AuditedUpdate) (D : List Fact) (rs : List AuditedUpdate) (p : Prepared) : Type 0 where
   pub planned : IsPlanOf ms B D r p.plan
   pub causes : AreOfStep ms deps c r p.plan D rs p.causes.items

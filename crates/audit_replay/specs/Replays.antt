@@ -34,12 +34,12 @@ pub record IsReplayOf (g : Ground) (H : List PlainEntry) (r : Replay) : Type 0 w
   pub later : g.later ≡ []
   pub sorted : IsRepository g.base
   pub retries : g.settings.retries ≤ 4
-  pub left : Leave g H (updates_of g.rules g.budget r.seats.items)
-  pub numbers : AreFrom 1 r.seats.items
+  pub left : Leave g H (updates_of g.rules g.budget r.updates.items)
+  pub numbers : AreFrom 1 r.updates.items
   -- the levels are the base and what lies above each of so many of the updates
   pub height : ℕ
-  pub within : height ≤ length r.seats.items
-  pub levels : StandOn g.base r.seats.items height r.levels
+  pub within : height ≤ length r.updates.items
+  pub levels : StandOn g.base r.updates.items height r.levels
   pub few : length r.handed.now ≤ 1000
 
 -- It is the replay of some history.
@@ -48,13 +48,13 @@ pub record IsReplay (r : Replay) : Type 0 where
   pub history : List PlainEntry
   pub replays : IsReplayOf over history r
 
--- It is of the same session by the same terms, and its seats are those of updates 1, 2, .. between two steps. Of which history it is is left open.
+-- It is of the same session by the same terms, and its audited updates are those of updates 1, 2, .. between two steps. Of which history it is is left open.
 pub record IsLeftOf (old new : Replay) : Type 0 where
   pub mappings : new.mappings ≡ old.mappings
   pub budget : new.budget ≡ old.budget
   pub settings : new.settings ≡ old.settings
   pub handed : new.handed ≡ old.handed
-  pub numbers : AreFrom 1 new.seats.items
+  pub numbers : AreFrom 1 new.updates.items
 
 -- What a replay of the session is over, by these terms.
 abbrev pub ground_of : SessionData → ℕ → Settings → Ground

@@ -24,7 +24,7 @@ use Rattle.audit_updates.specs.declared.updates.AuditedUpdate.{AuditedUpdate}
 use Rattle.audit_replay.specs.Causes.{causes_meant, readers_in}
 use Rattle.audit_replay.specs.Met.{AreValid}
 
--- The seat's update is ready, in some history.
+-- The audited update is ready, in some history.
 pub record IsReadySomewhere (r : AuditedUpdate) : Type 0 where
   pub rules : List Rule
   pub budget : ℕ
@@ -41,18 +41,18 @@ IsReadyOf s c n r = (ms : List Rule) (B : ℕ) → is_ready (standing (caused_ch
 abbrev pub IsLiveOf : ℕ → ℕ → AuditedUpdate → Type 0
 IsLiveOf c n r = (ms : List Rule) (B : ℕ) → is_live (caused_chase ms B) c n (update_of ms B r) ≡ true
 
--- The plan is that of a step of the seat's update, over something.
+-- The plan is that of a step of the audited update, over something.
 pub record IsPlanSomewhere (plan : Plan) (r : AuditedUpdate) : Type 0 where
   pub rules : List Rule
   pub budget : ℕ
   pub below : List Fact
   pub planned : IsPlanOf rules budget below r plan
 
--- The seat at the place, if there is one, meets this.
+-- The audited update at the place, if there is one, meets this.
 abbrev pub AtPlace : ℕ → List AuditedUpdate → (AuditedUpdate → Type 0) → Type 0
 AtPlace k rs P = (r : AuditedUpdate) → slice_get rs k ≡ Some r → P r
 
--- These are the causes of the step of the plan, where D lies below the seat's update, which is ready, and these seats are above it: all
+-- These are the causes of the step of the plan, where D lies below the audited update, which is ready, and these audited updates are above it: all
 -- their reads were valid before, and an attempt that is refused by the step has written nothing.
 abbrev pub AreOfStep : List Rule → Deps → ℕ → AuditedUpdate → Plan → List Fact → List AuditedUpdate → List CauseOfProgram → Type 0
 AreOfStep ms deps c r plan D rs causes =

@@ -1,4 +1,4 @@
-//! Deliveries of recorded answers, and answers by people, at a place among the seats.
+//! Deliveries of recorded answers, and answers by people, at a place among the audited updates.
 ghost use Rattle.std.specs.Prelude.{◌<◌, length, IfOk, OnOk, OnErr};
 ghost use Rattle.base_types.specs.Meanings.{choice_of};
 ghost use Rattle.audit_updates.specs.Updates.{AreFrom};
@@ -13,42 +13,42 @@ use std::alloc::Global;
 
 /// Delivers the first recorded answer to the update at the place, and gives the entry. It is refused only for want of memory.
 pub(crate) fn deliver_to(
-    seats: &mut [AuditedUpdate],
+    updates: &mut [AuditedUpdate],
     settings: Settings,
     place: usize,
 ) -> Result<Entry, Memory>
-    requires within { place < length seats.old }
-    requires numbers { AreFrom 1 seats.old }
+    requires within { place < length updates.old }
+    requires numbers { AreFrom 1 updates.old }
     ensures delivered { IfOk result
-        (IsDelivered (settings_of settings) place seats.old seats.new) }
-    ensures numbers { OnOk result (AreFrom 1 seats.new) }
-    ensures err { OnErr result (AreFrom 1 seats.new) }
+        (IsDelivered (settings_of settings) place updates.old updates.new) }
+    ensures numbers { OnOk result (AreFrom 1 updates.new) }
+    ensures err { OnErr result (AreFrom 1 updates.new) }
 {
-    seats[place].deliver()?;
-    let update = seats[place].number();
-    let standing = standing_at(seats, settings, place);
+    updates[place].deliver()?;
+    let update = updates[place].number();
+    let standing = standing_at(updates, settings, place);
     Ok(Entry::Delivered { update, standing })
 }
 
 /// Answers the question of the update at the place, and gives the entry. It is refused only for want of memory.
 pub(crate) fn answer_to(
     alloc: Global,
-    seats: &mut [AuditedUpdate],
+    updates: &mut [AuditedUpdate],
     settings: Settings,
     place: usize,
     choice: Choice,
 ) -> Result<Entry, Memory>
-    requires within { place < length seats.old }
-    requires numbers { AreFrom 1 seats.old }
+    requires within { place < length updates.old }
+    requires numbers { AreFrom 1 updates.old }
     ensures answered { IfOk result
-        (IsAnswered (settings_of settings) place (choice_of choice) seats.old seats.new) }
-    ensures numbers { OnOk result (AreFrom 1 seats.new) }
-    ensures err { OnErr result (AreFrom 1 seats.new) }
+        (IsAnswered (settings_of settings) place (choice_of choice) updates.old updates.new) }
+    ensures numbers { OnOk result (AreFrom 1 updates.new) }
+    ensures err { OnErr result (AreFrom 1 updates.new) }
 {
     let copy = choice.copy(alloc)?;
-    seats[place].answer(alloc, copy)?;
-    let update = seats[place].number();
-    let standing = standing_at(seats, settings, place);
+    updates[place].answer(alloc, copy)?;
+    let update = updates[place].number();
+    let standing = standing_at(updates, settings, place);
     Ok(Entry::Answered {
         update,
         choice,

@@ -58,12 +58,12 @@ fn dependences_above<'r>(
     ensures levels { OnOk result (RisesFrom levels.old levels.new) }
 {
     let mut causes = CauseList::new(alloc);
-    'seats: for seat in upper {
-        let found = join_of(alloc, levels, seat, scene, deps, firsts, &losses)?;
-        let named = is_named(firsts, seat.number());
+    'updates: for audited in upper {
+        let found = join_of(alloc, levels, audited, scene, deps, firsts, &losses)?;
+        let named = is_named(firsts, audited.number());
         let goes = either(named, found.is_some());
         put(&mut causes, found)?;
-        losses.pass(alloc, levels, goes, seat)?;
+        losses.pass(alloc, levels, goes, audited)?;
     }
     Ok(causes)
 }
@@ -79,23 +79,23 @@ fn either(one: bool, other: bool) -> bool
 fn join_of(
     alloc: Global,
     levels: &Levels,
-    seat: &AuditedUpdate,
+    audited: &AuditedUpdate,
     scene: Scene<'_>,
     deps: Deps,
     firsts: &CauseList,
     losses: &Losses<'_>,
 ) -> Result<Option<Cause>, Memory>
     ensures join { IfOk result (IsJoinOf (rules_in scene.entry.mappings.now) (deps_of deps)
-        scene.entry.committed (readers_in firsts.now.items) (top levels.now) losses.now seat.now) }
+        scene.entry.committed (readers_in firsts.now.items) (top levels.now) losses.now audited.now) }
 {
-    let reader = seat.number();
+    let reader = audited.number();
     if is_named(firsts, reader) {
         return Ok(None);
     }
-    if !seat.is_live(scene.committed, reader) {
+    if !audited.is_live(scene.committed, reader) {
         return Ok(None);
     }
-    let read = losses.first_dependent(alloc, levels, seat, scene.mappings, deps)?;
+    let read = losses.first_dependent(alloc, levels, audited, scene.mappings, deps)?;
     let cause = dependence_by(reader, read, losses, scene.mappings);
     Ok(cause)
 }

@@ -4,7 +4,8 @@ ghost use Rattle.std.specs.Option.{option_map};
 ghost use Rattle.base_types.specs.Contents.{rules_in};
 ghost use Rattle.base_types.specs.Meanings.{change_of, heading_of};
 ghost use Rattle.chase_query.specs.Meanings.{finds_none as finds_none_def, passing, read_of, reads_in, reads_of, reply_of};
-ghost use Rattle.audit_replay.specs.Changes.{IsFirstChange, change_meant, first_change, first_change_behind, value_now as value_now_def};
+ghost use Rattle.audit_replay.specs.Changes.{IsFirstChange, change_meant, first_change, value_now as value_now_def};
+ghost use Rattle.audit_replay.specs.Asked.{changed_behind};
 
 use crate::relations::is_met;
 use audit_updates::AuditedUpdate;
@@ -23,44 +24,52 @@ pub(crate) struct Change {
     pub(crate) now: Reply,
 }
 
+/// What the reads of an update are asked by: the mappings, the facts below it, its own writes, and its direction.
+#[derive(Drop)]
+pub(crate) struct Reader<'r> {
+    pub(crate) mappings: &'r MappingList,
+    pub(crate) below: &'r IndexedFacts,
+    pub(crate) own: &'r [Write],
+    pub(crate) direction: Direction,
+}
+
 /// The first read of the update's log that mentions one of the relations and has another value, where the facts lie below
 /// the update. It is refused only for want of memory.
 pub(crate) fn changed_read(
     alloc: Global,
-    seat: &AuditedUpdate,
+    audited: &AuditedUpdate,
     mappings: &MappingList,
     below: &IndexedFacts,
     relations: &[u16],
 ) -> Result<Option<Change>, Memory>
     ensures first { IfOk result
-        (IsFirstChange (rules_in mappings.now) relations.now below.now seat.now) }
+        (IsFirstChange (rules_in mappings.now) relations.now below.now audited.now) }
 {
-    let log = seat.log.as_slice();
-    let own = seat.program.own().as_slice();
-    let direction = seat.program.direction();
-    first_changed(alloc, log, own, direction, mappings, below, relations)
+    let reader = Reader {
+        mappings,
+        below,
+        own: audited.program.own().as_slice(),
+        direction: audited.program.direction(),
+    };
+    first_changed(alloc, &reader, relations, audited.log.as_slice())
 }
 
-// The same of a log, by an attempt in this direction with these own writes.
+// The same of a log.
 fn first_changed(
     alloc: Global,
-    log: &[Logged],
-    own: &[Write],
-    direction: Direction,
-    mappings: &MappingList,
-    below: &IndexedFacts,
+    reader: &Reader<'_>,
     relations: &[u16],
+    log: &[Logged],
 ) -> Result<Option<Change>, Memory>
     ensures first { IfOk result (λ found. option_map change_meant found ≡
-        first_change (rules_in mappings.now) relations.now (heading_of direction) below.now
-        (map change_of own.now) (reads_in log.now)) }
+        first_change (rules_in reader.now.mappings.now) relations.now
+        (heading_of reader.now.direction) reader.now.below.now (map change_of reader.now.own.now)
+        (reads_in log.now)) }
 {
     let mut number = 0;
     'entries: for entry in log {
         let all = entry.count_on(number)?;
-        let found = changed_by(
-            alloc, number, entry, own, direction, mappings, below, relations,
-        )?;
+        let found = changed_by(alloc, reader, relations, number, entry)?;
         if let Some(change) = found {
             return Ok(Some(change));
         }
@@ -72,59 +81,37 @@ fn first_changed(
 // The same of the reads of an entry, where so many reads come before it.
 fn changed_by(
     alloc: Global,
+    reader: &Reader<'_>,
+    relations: &[u16],
     before: u64,
     entry: &Logged,
-    own: &[Write],
-    direction: Direction,
-    mappings: &MappingList,
-    below: &IndexedFacts,
-    relations: &[u16],
 ) -> Result<Option<Change>, Memory>
     requires fits { before + length (reads_of entry.now) < 2 ^ 64 }
     ensures first { IfOk result (λ found. option_map change_meant found ≡
-        first_change_behind before (rules_in mappings.now) relations.now (heading_of direction)
-        below.now (map change_of own.now) (reads_of entry.now)) }
+        changed_behind before reader.now relations.now (reads_of entry.now)) }
 {
     match entry {
-        Logged::Asked(read) => changed_at(
-            alloc, before, read, own, direction, mappings, below, relations,
-        ),
-        Logged::Passed(passage) => changed_in_passage(
-            alloc, before, passage, own, direction, mappings, below, relations,
-        ),
+        Logged::Asked(read) => changed_at(alloc, reader, relations, before, read),
+        Logged::Passed(passage) => changed_in_passage(alloc, reader, relations, before, passage),
     }
 }
 
 // The same of the reads of a passage.
 fn changed_in_passage(
     alloc: Global,
+    reader: &Reader<'_>,
+    relations: &[u16],
     before: u64,
     passage: &Passage,
-    own: &[Write],
-    direction: Direction,
-    mappings: &MappingList,
-    below: &IndexedFacts,
-    relations: &[u16],
 ) -> Result<Option<Change>, Memory>
     requires fits { before + (passage.now.end - passage.now.start) < 2 ^ 64 }
     ensures first { IfOk result (λ found. option_map change_meant found ≡
-        first_change_behind before (rules_in mappings.now) relations.now (heading_of direction)
-        below.now (map change_of own.now)
+        changed_behind before reader.now relations.now
         (passing passage.now.start (passage.now.end - passage.now.start) passage.now.own)) }
 {
     let mut number = before;
     for mapping in passage.start..passage.end {
-        let found = changed_mapping(
-            alloc,
-            number,
-            mapping,
-            passage.own,
-            own,
-            direction,
-            mappings,
-            below,
-            relations,
-        )?;
+        let found = changed_mapping(alloc, reader, relations, number, mapping, passage.own)?;
         if let Some(change) = found {
             return Ok(Some(change));
         }
@@ -137,47 +124,37 @@ fn changed_in_passage(
 // the relations and has another value.
 fn changed_mapping(
     alloc: Global,
+    reader: &Reader<'_>,
+    relations: &[u16],
     before: u64,
     mapping: u16,
     made: u64,
-    own: &[Write],
-    direction: Direction,
-    mappings: &MappingList,
-    below: &IndexedFacts,
-    relations: &[u16],
 ) -> Result<Option<Change>, Memory>
     requires fits { before + 1 < 2 ^ 64 }
     ensures first { IfOk result (λ found. option_map change_meant found ≡
-        first_change_behind before (rules_in mappings.now) relations.now (heading_of direction)
-        below.now (map change_of own.now) (finds_none_def mapping made ∷ [])) }
+        changed_behind before reader.now relations.now (finds_none_def mapping made ∷ [])) }
 {
     let read = finds_none(mapping, made);
-    let change = changed_at(
-        alloc, before, &read, own, direction, mappings, below, relations,
-    )?;
+    let change = changed_at(alloc, reader, relations, before, &read)?;
     Ok(change)
 }
 
 // The read behind so many, if it mentions one of the relations and has another value.
 fn changed_at(
     alloc: Global,
+    reader: &Reader<'_>,
+    relations: &[u16],
     before: u64,
     read: &LoggedRead,
-    own: &[Write],
-    direction: Direction,
-    mappings: &MappingList,
-    below: &IndexedFacts,
-    relations: &[u16],
 ) -> Result<Option<Change>, Memory>
     requires fits { before + 1 < 2 ^ 64 }
     ensures first { IfOk result (λ found. option_map change_meant found ≡
-        first_change_behind before (rules_in mappings.now) relations.now (heading_of direction)
-        below.now (map change_of own.now) (read_of read.now ∷ [])) }
+        changed_behind before reader.now relations.now (read_of read.now ∷ [])) }
 {
-    if !is_met(&read.query, mappings, relations) {
+    if !is_met(&read.query, reader.mappings, relations) {
         return Ok(None);
     }
-    let now = value_now(alloc, read, mappings, below, own, direction)?;
+    let now = value_now(alloc, reader, read)?;
     if now.is_same(&read.answer) {
         return Ok(None);
     }
@@ -188,23 +165,15 @@ fn changed_at(
     }))
 }
 
-// The value that the read has now, by an attempt in this direction with these own writes. It is refused only for want of
-// memory.
-fn value_now(
-    alloc: Global,
-    read: &LoggedRead,
-    mappings: &MappingList,
-    below: &IndexedFacts,
-    own: &[Write],
-    direction: Direction,
-) -> Result<Reply, Memory>
+// The value that the read has now. It is refused only for want of memory.
+fn value_now(alloc: Global, reader: &Reader<'_>, read: &LoggedRead) -> Result<Reply, Memory>
     ensures value { IfOk result (λ answer. reply_of answer ≡
-        value_now_def (rules_in mappings.now) (heading_of direction) below.now
-        (map change_of own.now) (read_of read.now)) }
+        value_now_def (rules_in reader.now.mappings.now) (heading_of reader.now.direction)
+        reader.now.below.now (map change_of reader.now.own.now) (read_of read.now)) }
 {
-    let mut view = View::new(alloc, below);
-    view.write_all(alloc, first_of(own, read.own))?;
-    view.eval(&read.query, mappings, direction, alloc)
+    let mut view = View::new(alloc, reader.below);
+    view.write_all(alloc, first_of(reader.own, read.own))?;
+    view.eval(&read.query, reader.mappings, reader.direction, alloc)
 }
 
 #[tactic(auto, using(crate::proofs::Seen::first_taken))]

@@ -62,10 +62,10 @@ fn conflicts_above(
     ensures levels { OnOk result (RisesFrom levels.old levels.new) }
 {
     let mut causes = CauseList::new(alloc);
-    'seats: for seat in upper {
-        let found = conflict_of(alloc, levels, seat, scene, writer, relations)?;
+    'updates: for audited in upper {
+        let found = conflict_of(alloc, levels, audited, scene, writer, relations)?;
         put(&mut causes, found)?;
-        levels.rise(alloc, seat.trail())?;
+        levels.rise(alloc, audited.trail())?;
     }
     Ok(causes)
 }
@@ -85,20 +85,20 @@ pub(crate) fn put(causes: &mut CauseList, found: Option<Cause>) -> Result<(), Me
 fn conflict_of(
     alloc: Global,
     levels: &Levels,
-    seat: &AuditedUpdate,
+    audited: &AuditedUpdate,
     scene: Scene<'_>,
     writer: u32,
     relations: &[u16],
 ) -> Result<Option<Cause>, Memory>
     ensures cause { IfOk result (IsMetConflict (rules_in scene.entry.mappings.now)
-        scene.entry.committed writer relations.now (top levels.now) seat.now) }
+        scene.entry.committed writer relations.now (top levels.now) audited.now) }
 {
-    let reader = seat.number();
-    if !seat.is_live(scene.committed, reader) {
+    let reader = audited.number();
+    if !audited.is_live(scene.committed, reader) {
         return Ok(None);
     }
     let below = levels.facts();
-    let change = changed_read(alloc, seat, scene.mappings, below, relations)?;
+    let change = changed_read(alloc, audited, scene.mappings, below, relations)?;
     let cause = conflict_by(reader, writer, change);
     Ok(cause)
 }
@@ -131,9 +131,9 @@ fn reach(upper: &[AuditedUpdate], scene: Scene<'_>, relations: &[u16]) -> usize
 {
     let mut reach = 0;
     let mut place = 0;
-    'seats: for seat in upper {
+    'updates: for audited in upper {
         place += 1;
-        if !may_conflict(seat, scene, relations) {
+        if !may_conflict(audited, scene, relations) {
             continue;
         }
         reach = place;
@@ -142,12 +142,12 @@ fn reach(upper: &[AuditedUpdate], scene: Scene<'_>, relations: &[u16]) -> usize
 }
 
 // Whether the update is live, and a read of it mentions one of the relations.
-fn may_conflict(seat: &AuditedUpdate, scene: Scene<'_>, relations: &[u16]) -> bool
+fn may_conflict(audited: &AuditedUpdate, scene: Scene<'_>, relations: &[u16]) -> bool
     ensures met { result ≡ may_conflict_def (rules_in scene.entry.mappings.now)
-        scene.entry.committed relations.now seat.now }
+        scene.entry.committed relations.now audited.now }
 {
-    let live = seat.is_live(scene.committed, seat.number());
-    let met = any_met(seat.log.as_slice(), scene.mappings, relations);
+    let live = audited.is_live(scene.committed, audited.number());
+    let met = any_met(audited.log.as_slice(), scene.mappings, relations);
     live && met
 }
 

@@ -72,18 +72,18 @@ impl<'r> Losses<'r> {
         alloc: Global,
         levels: &mut Levels,
         goes: bool,
-        seat: &'r AuditedUpdate,
+        audited: &'r AuditedUpdate,
     ) -> Result<(), Memory>
-        requires between { IsBetween seat.now.program }
+        requires between { IsBetween audited.now.program }
         ensures left { OnOk result
-            (LeavesBelow goes seat.now levels.old levels.new self.old self.new) }
+            (LeavesBelow goes audited.now levels.old levels.new self.old self.new) }
         ensures rises { OnOk result (RisesFrom levels.old levels.new) }
     {
         if goes {
-            self.lose(seat.number(), seat.trail())?;
+            self.lose(audited.number(), audited.trail())?;
             return Ok(());
         }
-        levels.rise(alloc, seat.trail())?;
+        levels.rise(alloc, audited.trail())?;
         Ok(())
     }
 
@@ -94,16 +94,16 @@ impl<'r> Losses<'r> {
         &self,
         alloc: Global,
         levels: &Levels,
-        seat: &AuditedUpdate,
+        audited: &AuditedUpdate,
         mappings: &MappingList,
         deps: Deps,
     ) -> Result<Option<Numbered>, Memory>
         ensures first { IfOk result (IsFirstDependent (deps_of deps) (rules_in mappings.now)
-            self.now (top levels.now) seat.now) }
+            self.now (top levels.now) audited.now) }
     {
         match deps {
-            Deps::Precise => self.first_changed(alloc, levels, seat, mappings),
-            Deps::Coarse => self.first_met(alloc, seat.log.as_slice(), mappings),
+            Deps::Precise => self.first_changed(alloc, levels, audited, mappings),
+            Deps::Coarse => self.first_met(alloc, audited.log.as_slice(), mappings),
         }
     }
 
@@ -112,15 +112,15 @@ impl<'r> Losses<'r> {
         &self,
         alloc: Global,
         levels: &Levels,
-        seat: &AuditedUpdate,
+        audited: &AuditedUpdate,
         mappings: &MappingList,
     ) -> Result<Option<Numbered>, Memory>
         ensures first { IfOk result (IsFirstDependent Precise
-            (rules_in mappings.now) self.now (top levels.now) seat.now) }
+            (rules_in mappings.now) self.now (top levels.now) audited.now) }
     {
         let relations = self.relations.as_slice();
         let below = levels.facts();
-        match changed_read(alloc, seat, mappings, below, relations)? {
+        match changed_read(alloc, audited, mappings, below, relations)? {
             Some(change) => Ok(Some(Numbered {
                 number: change.number,
                 read: change.read,

@@ -38,13 +38,13 @@ impl<'s> Replay<'s> {
         let handed = session.updates.as_slice();
         let base = base_of(alloc, session)?;
         let levels = Levels::new(alloc, base);
-        let seats = Vec::new(alloc);
+        let updates = Vec::new(alloc);
         Ok(Replay {
             mappings,
             budget,
             settings,
             handed,
-            seats,
+            updates,
             levels,
         })
     }
@@ -55,13 +55,13 @@ impl<'s> Replay<'s> {
         ensures made { IfOk result (HasMade events.Admits self.old self.new) }
         ensures err { OnErr result (IsLeftOf self.old self.new) }
     {
-        let place = self.seats.len();
+        let place = self.updates.len();
         let Some(next) = handed_at(self.handed, place) else {
             return Ok(None);
         };
         let update = number_at(place);
-        let seat = AuditedUpdate::admit(alloc, &next.update, update, &next.answers)?;
-        self.seats.push(seat)?;
+        let audited = AuditedUpdate::admit(alloc, &next.update, update, &next.answers)?;
+        self.updates.push(audited)?;
         Ok(Some(Entry::Admitted { update }))
     }
 
@@ -74,9 +74,9 @@ impl<'s> Replay<'s> {
         let Some(place) = self.place_of(update) else {
             return Ok(None);
         };
-        let seats = self.seats.as_slice();
-        let before = committed(seats);
-        if !seats[place].is_deliverable(self.settings, before, update) {
+        let updates = self.updates.as_slice();
+        let before = committed(updates);
+        if !updates[place].is_deliverable(self.settings, before, update) {
             return Ok(None);
         }
         let entry = self.deliver_at(place)?;
@@ -86,13 +86,13 @@ impl<'s> Replay<'s> {
     // Delivers the first recorded answer to the update at the place, which is pending and has one.
     fn deliver_at(&mut self, place: usize) -> Result<Entry, Memory>
         requires replay { IsReplay self.old }
-        requires within { place < length self.old.seats.items }
+        requires within { place < length self.old.updates.items }
         requires deliverable { IsDeliverableOf (settings_of self.old.settings) place
-            self.old.seats.items }
+            self.old.updates.items }
         ensures made { IfOk result (HasMadeAt events.Delivers place self.old self.new) }
         ensures err { OnErr result (IsLeftOf self.old self.new) }
     {
-        let entry = deliver_to(self.seats.as_mut_slice(), self.settings, place)?;
+        let entry = deliver_to(self.updates.as_mut_slice(), self.settings, place)?;
         Ok(entry)
     }
 
@@ -110,9 +110,9 @@ impl<'s> Replay<'s> {
         let Some(place) = self.place_of(update) else {
             return Ok(None);
         };
-        let seats = self.seats.as_slice();
-        let before = committed(seats);
-        if !seats[place].takes(self.settings, before, update, &choice) {
+        let updates = self.updates.as_slice();
+        let before = committed(updates);
+        if !updates[place].takes(self.settings, before, update, &choice) {
             return Ok(None);
         }
         let entry = self.answer_at(alloc, place, choice)?;
@@ -122,15 +122,15 @@ impl<'s> Replay<'s> {
     // Answers the question of the update at the place, which is paused and takes the choice.
     fn answer_at(&mut self, alloc: Global, place: usize, choice: Choice) -> Result<Entry, Memory>
         requires replay { IsReplay self.old }
-        requires within { place < length self.old.seats.items }
+        requires within { place < length self.old.updates.items }
         requires taken { TakesOf (settings_of self.old.settings) (choice_of choice) place
-            self.old.seats.items }
+            self.old.updates.items }
         ensures made { IfOk result (HasMadeAt (λ u. events.Answers u choice) place self.old
             self.new) }
         ensures err { OnErr result (IsLeftOf self.old self.new) }
     {
-        let seats = self.seats.as_mut_slice();
-        let entry = answer_to(alloc, seats, self.settings, place, choice)?;
+        let updates = self.updates.as_mut_slice();
+        let entry = answer_to(alloc, updates, self.settings, place, choice)?;
         Ok(entry)
     }
 }

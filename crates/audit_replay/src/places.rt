@@ -15,15 +15,15 @@ use std::alloc::Global;
 pub(crate) fn go_to(
     alloc: Global,
     levels: &mut Levels,
-    seats: &[AuditedUpdate],
+    updates: &[AuditedUpdate],
     place: usize,
 ) -> Result<(), Memory>
-    requires within { place ≤ length seats.now }
-    requires between { AreBetween seats.now }
-    ensures there { OnOk result (HaveCome place seats.now levels.old levels.new) }
+    requires within { place ≤ length updates.now }
+    requires between { AreBetween updates.now }
+    ensures there { OnOk result (HaveCome place updates.now levels.old levels.new) }
 {
     sink_below(levels, place)?;
-    rise_to(alloc, levels, seats, place)?;
+    rise_to(alloc, levels, updates, place)?;
     Ok(())
 }
 
@@ -42,35 +42,35 @@ fn sink_below(levels: &mut Levels, place: usize) -> Result<(), Memory>
 fn rise_to(
     alloc: Global,
     levels: &mut Levels,
-    seats: &[AuditedUpdate],
+    updates: &[AuditedUpdate],
     place: usize,
 ) -> Result<(), Memory>
-    requires within { place ≤ length seats.now }
-    requires between { AreBetween seats.now }
+    requires within { place ≤ length updates.now }
+    requires between { AreBetween updates.now }
     requires most { length levels.old ≤ place + 1 }
-    ensures there { OnOk result (HaveRisen place seats.now levels.old levels.new) }
+    ensures there { OnOk result (HaveRisen place updates.now levels.old levels.new) }
 {
     'up: while levels.height() < place {
         let next = levels.height();
-        levels.rise(alloc, seats[next].trail())?;
+        levels.rise(alloc, updates[next].trail())?;
     }
     Ok(())
 }
 
 /// What the update at the place may do next. It takes no memory.
-pub(crate) fn standing_at(seats: &[AuditedUpdate], settings: Settings, place: usize) -> Standing
-    requires within { place < length seats.now }
-    requires numbers { AreFrom 1 seats.now }
-    ensures standing { HasStandingAt (settings_of settings) seats.now place result }
+pub(crate) fn standing_at(updates: &[AuditedUpdate], settings: Settings, place: usize) -> Standing
+    requires within { place < length updates.now }
+    requires numbers { AreFrom 1 updates.now }
+    ensures standing { HasStandingAt (settings_of settings) updates.now place result }
 {
-    let seat = &seats[place];
-    seat.standing(settings, committed(seats), seat.number())
+    let audited = &updates[place];
+    audited.standing(settings, committed(updates), audited.number())
 }
 
 /// The updates above the one at the place. It takes no memory.
-pub(crate) fn above(seats: &[AuditedUpdate], place: usize) -> &[AuditedUpdate]
-    requires within { place < length seats.now }
-    ensures above { result.now ≡ drop (suc place) seats.now }
+pub(crate) fn above(updates: &[AuditedUpdate], place: usize) -> &[AuditedUpdate]
+    requires within { place < length updates.now }
+    ensures above { result.now ≡ drop (suc place) updates.now }
 {
-    &seats[place + 1..]
+    &updates[place + 1..]
 }

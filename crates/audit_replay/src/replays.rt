@@ -19,7 +19,7 @@ pub struct Replay<'s> {
     pub budget: Budget,
     pub settings: Settings,
     pub handed: &'s [SessionUpdate],
-    pub seats: Vec<AuditedUpdate>,
+    pub updates: Vec<AuditedUpdate>,
     pub levels: Levels,
 }
 
@@ -28,14 +28,14 @@ impl<'s> Replay<'s> {
     pub fn count(&self) -> usize
         ensures count { HasCount self.now result }
     {
-        self.seats.len()
+        self.updates.len()
     }
 
     /// Whether all updates that were handed in are admitted. It takes no memory.
     pub fn is_whole(&self) -> bool
         ensures whole { IsWholeReplay self.now result }
     {
-        self.seats.len() == self.handed.len()
+        self.updates.len() == self.handed.len()
     }
 
     /// Whether nothing is ready, and nothing is deliverable. It takes no memory.
@@ -43,7 +43,7 @@ impl<'s> Replay<'s> {
         requires replay { IsReplay self.now }
         ensures quiet { IsQuietReplay self.now result }
     {
-        is_quiet(self.seats.as_slice(), self.settings)
+        is_quiet(self.updates.as_slice(), self.settings)
     }
 
     /// What the event does, and its entry; None exactly where it is not allowed, and then nothing is done. It is refused only
@@ -64,9 +64,9 @@ impl<'s> Replay<'s> {
 
     // The place of the update of this number, where there is one.
     pub(crate) fn place_of(&self, update: u32) -> Option<usize>
-        ensures place { result ≡ place_in self.now.seats.items update }
+        ensures place { result ≡ place_in self.now.updates.items update }
     {
-        if 0 < update && update as usize <= self.seats.len() {
+        if 0 < update && update as usize <= self.updates.len() {
             Some(update as usize - 1)
         } else {
             None

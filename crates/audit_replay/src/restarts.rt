@@ -14,19 +14,19 @@ use std::alloc::Global;
 /// Restarts each of the updates from the place on that one of the causes is for. It is refused only for want of memory.
 pub(crate) fn restart_named(
     alloc: Global,
-    seats: &mut [AuditedUpdate],
+    updates: &mut [AuditedUpdate],
     from: usize,
     causes: &CauseList,
 ) -> Result<(), Memory>
-    requires place { from ≤ length seats.old }
-    requires numbers { AreFrom 1 seats.old }
-    requires more { AllHaveOneMore (drop from seats.old) }
-    ensures restarted { OnOk result (HaveRestarted from causes.now.items seats.old seats.new) }
-    ensures numbers { OnOk result (AreFrom 1 seats.new) }
-    ensures err { OnErr result (AreFrom 1 seats.new) }
+    requires place { from ≤ length updates.old }
+    requires numbers { AreFrom 1 updates.old }
+    requires more { AllHaveOneMore (drop from updates.old) }
+    ensures restarted { OnOk result (HaveRestarted from causes.now.items updates.old updates.new) }
+    ensures numbers { OnOk result (AreFrom 1 updates.new) }
+    ensures err { OnErr result (AreFrom 1 updates.new) }
 {
-    for place in from..seats.len() {
-        restart_if_named(alloc, &mut seats[place], causes)?;
+    for place in from..updates.len() {
+        restart_if_named(alloc, &mut updates[place], causes)?;
     }
     Ok(())
 }
@@ -34,16 +34,16 @@ pub(crate) fn restart_named(
 // Restarts the update where one of the causes is for it.
 fn restart_if_named(
     alloc: Global,
-    seat: &mut AuditedUpdate,
+    audited: &mut AuditedUpdate,
     causes: &CauseList,
 ) -> Result<(), Memory>
-    requires more { HasOneMore seat.old }
-    ensures restarted { OnOk result (HasRestartedIf causes.now.items seat.old seat.new) }
-    ensures place { OnOk result (KeepsPlace seat.old seat.new) }
-    ensures err { OnErr result (IsSame seat.old seat.new) }
+    requires more { HasOneMore audited.old }
+    ensures restarted { OnOk result (HasRestartedIf causes.now.items audited.old audited.new) }
+    ensures place { OnOk result (KeepsPlace audited.old audited.new) }
+    ensures err { OnErr result (IsSame audited.old audited.new) }
 {
-    if is_named(causes, seat.number()) {
-        seat.restart(alloc)?;
+    if is_named(causes, audited.number()) {
+        audited.restart(alloc)?;
         return Ok(());
     }
     Ok(())

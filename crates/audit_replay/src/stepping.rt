@@ -39,9 +39,9 @@ impl<'s> Replay<'s> {
         let Some(place) = self.place_of(update) else {
             return Ok(None);
         };
-        let seats = self.seats.as_slice();
-        let before = committed(seats);
-        if !seats[place].is_ready(self.settings, before, update) {
+        let updates = self.updates.as_slice();
+        let before = committed(updates);
+        if !updates[place].is_ready(self.settings, before, update) {
             return Ok(None);
         }
         let entry = self.step_at(alloc, place, before)?;
@@ -51,9 +51,9 @@ impl<'s> Replay<'s> {
     // Makes the next step of the update at the place, which is ready, where so many updates are committed.
     fn step_at(&mut self, alloc: Global, place: usize, before: u32) -> Result<Entry, Memory>
         requires replay { IsReplay self.old }
-        requires within { place < length self.old.seats.items }
-        requires committed { HasCommitted self.old.seats.items before }
-        requires ready { AtPlace place self.old.seats.items
+        requires within { place < length self.old.updates.items }
+        requires committed { HasCommitted self.old.updates.items before }
+        requires ready { AtPlace place self.old.updates.items
             (IsReadyOf (settings_of self.old.settings) before (suc place)) }
         ensures made { IfOk result (HasMadeAt events.Steps place self.old self.new) }
         ensures err { OnErr result (IsLeftOf self.old self.new) }
@@ -61,12 +61,20 @@ impl<'s> Replay<'s> {
         let settings = self.settings;
         let mappings = &self.mappings;
         let budget = self.budget;
-        let seats = self.seats.as_slice();
-        go_to(alloc, &mut self.levels, seats, place)?;
+        let updates = self.updates.as_slice();
+        go_to(alloc, &mut self.levels, updates, place)?;
         let levels = &mut self.levels;
         let deps = settings.deps;
-        let prepared = prepare(alloc, levels, seats, place, mappings, budget, deps, before)?;
-        let entry = install(alloc, self.seats.as_mut_slice(), settings, place, prepared)?;
+        let prepared = prepare(
+            alloc, levels, updates, place, mappings, budget, deps, before,
+        )?;
+        let entry = install(
+            alloc,
+            self.updates.as_mut_slice(),
+            settings,
+            place,
+            prepared,
+        )?;
         Ok(entry)
     }
 }
@@ -85,33 +93,33 @@ pub(crate) struct Prepared {
 fn prepare(
     alloc: Global,
     levels: &mut Levels,
-    seats: &[AuditedUpdate],
+    updates: &[AuditedUpdate],
     place: usize,
     mappings: &Mappings<'_>,
     budget: Budget,
     deps: Deps,
     before: u32,
 ) -> Result<Prepared, Memory>
-    requires within { place < length seats.now }
-    requires numbers { AreFrom 1 seats.now }
-    requires ready { AtPlace place seats.now IsReadySomewhere }
-    requires left { AtPlace place seats.now (λ r. r.program.attempt.steps < budget) }
-    ensures prepared { IfOk result (λ prepared. AtPlace place seats.now (λ r. IsPreparedFor
-        mappings.now budget (deps_of deps) before r (top levels.old) (drop (suc place) seats.now)
+    requires within { place < length updates.now }
+    requires numbers { AreFrom 1 updates.now }
+    requires ready { AtPlace place updates.now IsReadySomewhere }
+    requires left { AtPlace place updates.now (λ r. r.program.attempt.steps < budget) }
+    ensures prepared { IfOk result (λ prepared. AtPlace place updates.now (λ r. IsPreparedFor
+        mappings.now budget (deps_of deps) before r (top levels.old) (drop (suc place) updates.now)
         prepared)) }
     ensures levels { OnOk result (levels.new ≡ levels.old) }
 {
-    let seat = &seats[place];
-    let upper = above(seats, place);
-    let plan = planned(alloc, mappings, budget, levels.facts(), seat)?;
+    let audited = &updates[place];
+    let upper = above(updates, place);
+    let plan = planned(alloc, mappings, budget, levels.facts(), audited)?;
     let scene = Scene {
         mappings: mappings.list(),
         committed: before,
     };
-    match told_of_step(alloc, levels, seat, upper, scene, deps, &plan) {
+    match told_of_step(alloc, levels, audited, upper, scene, deps, &plan) {
         Ok((writes, causes)) => Ok(Prepared {
             plan,
-            attempt: seat.program.attempt(),
+            attempt: audited.program.attempt(),
             writes,
             causes,
         }),
@@ -127,42 +135,42 @@ fn prepare(
 fn told_of_step(
     alloc: Global,
     levels: &mut Levels,
-    seat: &AuditedUpdate,
+    audited: &AuditedUpdate,
     upper: &[AuditedUpdate],
     scene: Scene<'_>,
     deps: Deps,
     plan: &Plan,
 ) -> Result<(WriteList, CauseList), Memory>
-    requires between { IsBetween seat.now.program }
+    requires between { IsBetween audited.now.program }
     requires planned { IsBetween plan.now.program }
     requires above { AreBetween upper.now }
-    ensures writes { IfOk result (λ told. HasWritten seat.now plan.now told.0.items) }
+    ensures writes { IfOk result (λ told. HasWritten audited.now plan.now told.0.items) }
     ensures causes { IfOk result (λ told. AreOfStep (rules_in scene.entry.mappings.now)
-        (deps_of deps) scene.entry.committed seat.now plan.now (top levels.old) upper.now
+        (deps_of deps) scene.entry.committed audited.now plan.now (top levels.old) upper.now
         told.1.items) }
     ensures levels { OnOk result (levels.new ≡ levels.old) }
 {
-    let writes = copies(alloc, seat.written(plan))?;
-    let causes = causes_of_step(alloc, levels, seat, upper, scene, deps, plan)?;
+    let writes = copies(alloc, audited.written(plan))?;
+    let causes = causes_of_step(alloc, levels, audited, upper, scene, deps, plan)?;
     Ok((writes, causes))
 }
 
 // Makes the step at the place, and gives its entry. It is refused only for want of memory.
 fn install(
     alloc: Global,
-    seats: &mut [AuditedUpdate],
+    updates: &mut [AuditedUpdate],
     settings: Settings,
     place: usize,
     prepared: Prepared,
 ) -> Result<Entry, Memory>
-    requires within { place < length seats.old }
-    requires numbers { AreFrom 1 seats.old }
-    requires more { AllHaveOneMore seats.old }
-    requires planned { AtPlace place seats.old (IsPlanSomewhere prepared.plan) }
+    requires within { place < length updates.old }
+    requires numbers { AreFrom 1 updates.old }
+    requires more { AllHaveOneMore updates.old }
+    requires planned { AtPlace place updates.old (IsPlanSomewhere prepared.plan) }
     ensures made { IfOk result
-        (IsInstalled (settings_of settings) place prepared seats.old seats.new) }
-    ensures numbers { OnOk result (AreFrom 1 seats.new) }
-    ensures err { OnErr result (AreFrom 1 seats.new) }
+        (IsInstalled (settings_of settings) place prepared updates.old updates.new) }
+    ensures numbers { OnOk result (AreFrom 1 updates.new) }
+    ensures err { OnErr result (AreFrom 1 updates.new) }
 {
     let Prepared {
         plan,
@@ -170,8 +178,8 @@ fn install(
         writes,
         causes,
     } = prepared;
-    make_step(alloc, seats, place, plan, &causes)?;
-    let entry = step_entry(seats, settings, place, attempt, writes, causes);
+    make_step(alloc, updates, place, plan, &causes)?;
+    let entry = step_entry(updates, settings, place, attempt, writes, causes);
     Ok(entry)
 }
 
@@ -181,15 +189,15 @@ fn planned(
     mappings: &Mappings<'_>,
     budget: Budget,
     facts: &IndexedFacts,
-    seat: &AuditedUpdate,
+    audited: &AuditedUpdate,
 ) -> Result<Plan, Memory>
-    requires between { IsBetween seat.now.program }
-    requires ready { IsReadySomewhere seat.now }
-    requires left { seat.now.program.attempt.steps < budget }
-    ensures planned { IfOk result (IsPlanOf mappings.now budget facts.now seat.now) }
+    requires between { IsBetween audited.now.program }
+    requires ready { IsReadySomewhere audited.now }
+    requires left { audited.now.program.attempt.steps < budget }
+    ensures planned { IfOk result (IsPlanOf mappings.now budget facts.now audited.now) }
 {
     let mut with = Overlay::new(alloc, facts);
-    planned_over(alloc, mappings, budget, facts, &mut with, seat)
+    planned_over(alloc, mappings, budget, facts, &mut with, audited)
 }
 
 // The next step of the update, which is ready, over the facts below it, where its own writes are made in an overlay of them. It
@@ -200,18 +208,18 @@ fn planned_over<'f>(
     budget: Budget,
     facts: &'f IndexedFacts,
     with: &mut Overlay<'f, IndexedFacts>,
-    seat: &AuditedUpdate,
+    audited: &AuditedUpdate,
 ) -> Result<Plan, Memory>
-    requires between { IsBetween seat.now.program }
-    requires ready { IsReadySomewhere seat.now }
-    requires left { seat.now.program.attempt.steps < budget }
+    requires between { IsBetween audited.now.program }
+    requires ready { IsReadySomewhere audited.now }
+    requires left { audited.now.program.attempt.steps < budget }
     requires with { with.old ≡ facts.now }
-    ensures planned { IfOk result (IsPlanOf mappings.now budget facts.now seat.now) }
+    ensures planned { IfOk result (IsPlanOf mappings.now budget facts.now audited.now) }
 {
-    with.write_all(alloc, seat.program.own().as_slice())?;
+    with.write_all(alloc, audited.program.own().as_slice())?;
     let mut settled = Settled::none(alloc, mappings.list().len())?;
-    let answer = seat.next_answer();
-    let program = &seat.program;
+    let answer = audited.next_answer();
+    let program = &audited.program;
     let below = Overlay::new(alloc, facts);
     let branch = program.copy(alloc)?;
     plan_step(
@@ -232,28 +240,28 @@ fn planned_over<'f>(
 fn causes_of_step(
     alloc: Global,
     levels: &mut Levels,
-    seat: &AuditedUpdate,
+    audited: &AuditedUpdate,
     upper: &[AuditedUpdate],
     scene: Scene<'_>,
     deps: Deps,
     plan: &Plan,
 ) -> Result<CauseList, Memory>
-    requires between { IsBetween seat.now.program }
+    requires between { IsBetween audited.now.program }
     requires planned { IsBetween plan.now.program }
     requires above { AreBetween upper.now }
     ensures causes { IfOk result (λ causes. AreOfStep (rules_in scene.entry.mappings.now)
-        (deps_of deps) scene.entry.committed seat.now plan.now (top levels.old) upper.now
+        (deps_of deps) scene.entry.committed audited.now plan.now (top levels.old) upper.now
         causes.items) }
     ensures levels { OnOk result (levels.new ≡ levels.old) }
 {
-    let number = seat.number();
+    let number = audited.number();
     if has_spent(&plan.program) {
-        let trail = seat.trail();
+        let trail = audited.trail();
         let causes = causes_of_loss(alloc, levels, upper, scene, deps, number, trail)?;
         return Ok(causes);
     }
     let trail = shown(&plan.program);
-    let writes = seat.written(plan);
+    let writes = audited.written(plan);
     let causes = causes_of_writes(alloc, levels, upper, scene, deps, number, trail, writes)?;
     Ok(causes)
 }
@@ -261,44 +269,44 @@ fn causes_of_step(
 // Makes the step of the plan at the place, which restarts others for these causes. It is refused only for want of memory.
 fn make_step(
     alloc: Global,
-    seats: &mut [AuditedUpdate],
+    updates: &mut [AuditedUpdate],
     place: usize,
     plan: Plan,
     causes: &CauseList,
 ) -> Result<(), Memory>
-    requires within { place < length seats.old }
-    requires numbers { AreFrom 1 seats.old }
-    requires more { AllHaveOneMore seats.old }
-    requires planned { AtPlace place seats.old (IsPlanSomewhere plan) }
-    ensures made { OnOk result (IsStepMade place plan causes.now.items seats.old seats.new) }
-    ensures numbers { OnOk result (AreFrom 1 seats.new) }
-    ensures err { OnErr result (AreFrom 1 seats.new) }
+    requires within { place < length updates.old }
+    requires numbers { AreFrom 1 updates.old }
+    requires more { AllHaveOneMore updates.old }
+    requires planned { AtPlace place updates.old (IsPlanSomewhere plan) }
+    ensures made { OnOk result (IsStepMade place plan causes.now.items updates.old updates.new) }
+    ensures numbers { OnOk result (AreFrom 1 updates.new) }
+    ensures err { OnErr result (AreFrom 1 updates.new) }
 {
-    seats[place].step(plan)?;
-    restart_named(alloc, seats, place + 1, causes)?;
+    updates[place].step(plan)?;
+    restart_named(alloc, updates, place + 1, causes)?;
     Ok(())
 }
 
 // The entry of a step of the update at the place, by this attempt, with these writes and causes.
 fn step_entry(
-    seats: &[AuditedUpdate],
+    updates: &[AuditedUpdate],
     settings: Settings,
     place: usize,
     attempt: u32,
     writes: WriteList,
     causes: CauseList,
 ) -> Entry
-    requires within { place < length seats.now }
-    requires numbers { AreFrom 1 seats.now }
-    ensures told { TellsStep (settings_of settings) place attempt writes causes seats.now result }
+    requires within { place < length updates.now }
+    requires numbers { AreFrom 1 updates.now }
+    ensures told { TellsStep (settings_of settings) place attempt writes causes updates.now result }
 {
     Entry::Stepped {
-        update: seats[place].number(),
+        update: updates[place].number(),
         attempt,
-        standing: standing_at(seats, settings, place),
+        standing: standing_at(updates, settings, place),
         writes,
         causes,
-        committed: committed(seats),
+        committed: committed(updates),
     }
 }
 

@@ -34,9 +34,9 @@ impl<'s> Replay<'s> {
         let Some(place) = self.place_of(update) else {
             return Ok(None);
         };
-        let seats = self.seats.as_slice();
-        let before = committed(seats);
-        if !seats[place].is_live(before, update) {
+        let updates = self.updates.as_slice();
+        let before = committed(updates);
+        if !updates[place].is_live(before, update) {
             return Ok(None);
         }
         let entry = self.withdraw_at(alloc, place, before)?;
@@ -46,19 +46,19 @@ impl<'s> Replay<'s> {
     // Withdraws the update at the place, which is live, where so many updates are committed.
     fn withdraw_at(&mut self, alloc: Global, place: usize, before: u32) -> Result<Entry, Memory>
         requires replay { IsReplay self.old }
-        requires within { place < length self.old.seats.items }
-        requires committed { HasCommitted self.old.seats.items before }
-        requires live { AtPlace place self.old.seats.items (IsLiveOf before (suc place)) }
+        requires within { place < length self.old.updates.items }
+        requires committed { HasCommitted self.old.updates.items before }
+        requires live { AtPlace place self.old.updates.items (IsLiveOf before (suc place)) }
         ensures made { IfOk result (HasMadeAt events.Withdraws place self.old self.new) }
         ensures err { OnErr result (IsLeftOf self.old self.new) }
     {
         let mappings = self.mappings.list();
         let deps = self.settings.deps;
-        let seats = self.seats.as_slice();
-        go_to(alloc, &mut self.levels, seats, place)?;
+        let updates = self.updates.as_slice();
+        go_to(alloc, &mut self.levels, updates, place)?;
         let levels = &mut self.levels;
-        let causes = prepare(alloc, levels, seats, place, mappings, deps, before)?;
-        let entry = remove(alloc, self.seats.as_mut_slice(), place, causes)?;
+        let causes = prepare(alloc, levels, updates, place, mappings, deps, before)?;
+        let entry = remove(alloc, self.updates.as_mut_slice(), place, causes)?;
         Ok(entry)
     }
 }
@@ -68,27 +68,27 @@ impl<'s> Replay<'s> {
 fn prepare(
     alloc: Global,
     levels: &mut Levels,
-    seats: &[AuditedUpdate],
+    updates: &[AuditedUpdate],
     place: usize,
     mappings: &MappingList,
     deps: Deps,
     before: u32,
 ) -> Result<CauseList, Memory>
-    requires within { place < length seats.now }
-    requires numbers { AreFrom 1 seats.now }
-    ensures causes { IfOk result (λ causes. AtPlace place seats.now (λ r. AreOfLoss
+    requires within { place < length updates.now }
+    requires numbers { AreFrom 1 updates.now }
+    ensures causes { IfOk result (λ causes. AtPlace place updates.now (λ r. AreOfLoss
         (rules_in mappings.now) (deps_of deps) before (suc place) (trail_of r) (top levels.old)
-        (drop (suc place) seats.now) causes.items)) }
+        (drop (suc place) updates.now) causes.items)) }
     ensures levels { OnOk result (levels.new ≡ levels.old) }
 {
-    let seat = &seats[place];
-    let upper = above(seats, place);
+    let audited = &updates[place];
+    let upper = above(updates, place);
     let scene = Scene {
         mappings,
         committed: before,
     };
-    let number = seat.number();
-    let trail = seat.trail();
+    let number = audited.number();
+    let trail = audited.trail();
     let causes = causes_of_loss(alloc, levels, upper, scene, deps, number, trail)?;
     Ok(causes)
 }
@@ -96,50 +96,50 @@ fn prepare(
 // Withdraws the update at the place, and gives the entry. It is refused only for want of memory.
 fn remove(
     alloc: Global,
-    seats: &mut [AuditedUpdate],
+    updates: &mut [AuditedUpdate],
     place: usize,
     causes: CauseList,
 ) -> Result<Entry, Memory>
-    requires within { place < length seats.old }
-    requires numbers { AreFrom 1 seats.old }
-    requires more { AllHaveOneMore seats.old }
-    ensures removed { IfOk result (IsWithdrawal place causes seats.old seats.new) }
-    ensures numbers { OnOk result (AreFrom 1 seats.new) }
-    ensures err { OnErr result (AreFrom 1 seats.new) }
+    requires within { place < length updates.old }
+    requires numbers { AreFrom 1 updates.old }
+    requires more { AllHaveOneMore updates.old }
+    ensures removed { IfOk result (IsWithdrawal place causes updates.old updates.new) }
+    ensures numbers { OnOk result (AreFrom 1 updates.new) }
+    ensures err { OnErr result (AreFrom 1 updates.new) }
 {
-    make_withdrawal(alloc, seats, place, &causes)?;
-    let entry = withdrawal_entry(seats, place, causes);
+    make_withdrawal(alloc, updates, place, &causes)?;
+    let entry = withdrawal_entry(updates, place, causes);
     Ok(entry)
 }
 
 // Withdraws the update at the place, which restarts others for these causes. It is refused only for want of memory.
 fn make_withdrawal(
     alloc: Global,
-    seats: &mut [AuditedUpdate],
+    updates: &mut [AuditedUpdate],
     place: usize,
     causes: &CauseList,
 ) -> Result<(), Memory>
-    requires within { place < length seats.old }
-    requires numbers { AreFrom 1 seats.old }
-    requires more { AllHaveOneMore seats.old }
-    ensures made { OnOk result (IsRemoved place causes.now.items seats.old seats.new) }
-    ensures numbers { OnOk result (AreFrom 1 seats.new) }
-    ensures err { OnErr result (AreFrom 1 seats.new) }
+    requires within { place < length updates.old }
+    requires numbers { AreFrom 1 updates.old }
+    requires more { AllHaveOneMore updates.old }
+    ensures made { OnOk result (IsRemoved place causes.now.items updates.old updates.new) }
+    ensures numbers { OnOk result (AreFrom 1 updates.new) }
+    ensures err { OnErr result (AreFrom 1 updates.new) }
 {
-    seats[place].withdraw();
-    restart_named(alloc, seats, place + 1, causes)?;
+    updates[place].withdraw();
+    restart_named(alloc, updates, place + 1, causes)?;
     Ok(())
 }
 
 // The entry of a withdrawal of the update at the place, with these causes.
-fn withdrawal_entry(seats: &[AuditedUpdate], place: usize, causes: CauseList) -> Entry
-    requires within { place < length seats.now }
-    requires numbers { AreFrom 1 seats.now }
-    ensures told { TellsWithdrawal place causes seats.now result }
+fn withdrawal_entry(updates: &[AuditedUpdate], place: usize, causes: CauseList) -> Entry
+    requires within { place < length updates.now }
+    requires numbers { AreFrom 1 updates.now }
+    ensures told { TellsWithdrawal place causes updates.now result }
 {
     Entry::Withdrawn {
-        update: seats[place].number(),
+        update: updates[place].number(),
         causes,
-        committed: committed(seats),
+        committed: committed(updates),
     }
 }

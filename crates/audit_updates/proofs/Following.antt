@@ -103,11 +103,11 @@ unwritten ms B D r plan ws n p h e l =
 
 -- ---- a log with more room
 
--- The seat with this log.
+-- The audited update with this log.
 abbrev with_log : AuditedUpdate → Listed Logged → AuditedUpdate
 with_log r log = record { program = r.program; log = log; withdrawn = r.withdrawn; answers = r.answers; inbox = r.inbox }
 
--- What a step makes of a seat rests on the reads of its log alone.
+-- What a step makes of an audited update rests on the reads of its log alone.
 pub stepped_roomy : (r : AuditedUpdate) (log : Listed Logged) (plan : Plan) (r' : AuditedUpdate) → log.items ≡ r.log.items → HasStepped plan (with_log r log) r' → HasStepped plan r r'
 stepped_roomy r log plan r' e h ms B D p =
     h ms B D (record { program = p.program; reads = p.reads })

@@ -1,4 +1,4 @@
--- What is told of seats, for the machine of any mappings and any budget.
+-- What is told of audited updates, for the machine of any mappings and any budget.
 use Rattle.std.specs.Prelude.{◌≡◌, ℕ, Bool, List, Option}
 use Rattle.def_machine.specs.Standings.{standing, is_ready, is_deliverable, lowest_that, is_quiet}
 use Rattle.def_machine.specs.Updates.{Settings, committed}

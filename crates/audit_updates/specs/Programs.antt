@@ -69,11 +69,11 @@ HasSpent s b = b ≡ is_spent (option_map ending (outcome_in s.attempt.phase))
 abbrev pub HasShown : State → List Write → Type 0
 HasShown s ws = (ms : List Rule) (B : ℕ) → map change_of ws ≡ shown (caused_chase ms B) s.attempt
 
--- The next answer for the seat's attempt: there is one only where it is at a question.
+-- The next answer for the audited update's attempt: there is one only where it is at a question.
 abbrev pub HasNext : AuditedUpdate → Option Choice → Type 0
 HasNext r c = (ms : List Rule) (B : ℕ) → c ≡ next_answer (caused_chase ms B) (map choice_of r.answers.items) r.program.attempt
 
--- The plan is that of the seat's next step over D.
+-- The plan is that of the audited update's next step over D.
 pub record IsPlanOf (ms : List Rule) (B : ℕ) (D : List Fact) (r : AuditedUpdate) (plan : Plan) : Type 0 where
   pub program : plan.program ≡ at_rest (next_attempt ms B D r.program.attempt (next_answer (caused_chase ms B) (map choice_of r.answers.items) r.program.attempt))
   pub reads : reads_in plan.reads.items ≡ next_reads ms D r.program.attempt (next_answer (caused_chase ms B) (map choice_of r.answers.items) r.program.attempt)

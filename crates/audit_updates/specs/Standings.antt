@@ -1,4 +1,4 @@
--- What is told of one seat, for the machine of any mappings and any budget: c updates are committed, and the seat has number n.
+-- What is told of one audited update, for the machine of any mappings and any budget: c updates are committed, and the audited update has number n.
 use Rattle.std.specs.Prelude.{◌≡◌, ℕ, Bool, ◌&&◌, List, map}
 use Rattle.base_types.specs.declared.updates.Write.{Write}
 use Rattle.base_types.specs.Meanings.{change_of}

@@ -1,4 +1,4 @@
--- What seats mean: the updates of a history of the chase.
+-- What audited updates mean: the updates of a history of the chase.
 use Rattle.std.specs.Prelude.{◌≡◌, ℕ, suc, List, [], ◌∷◌, map, None}
 use Rattle.base_types.specs.Meanings.{choice_of}
 use Rattle.def_machine.specs.Updates.{Read, Update}
@@ -12,7 +12,7 @@ module _ (ms : List Rule) (B : ℕ) where
   abbrev pub logged : ReadMeant → Read (caused_chase ms B)
   logged r = record { query = r.query; answer = r.reply; own = r.own }
 
-  -- The update that a seat stands for.
+  -- The update that an audited update stands for.
   abbrev pub update_of : AuditedUpdate → Update (caused_chase ms B)
   update_of r =
       record {
@@ -25,16 +25,16 @@ module _ (ms : List Rule) (B : ℕ) where
         inbox = map choice_of r.inbox.items;
       }
 
-  -- The updates that the seats stand for.
+  -- The updates that the audited updates stand for.
   abbrev pub updates_of : List AuditedUpdate → List (Update (caused_chase ms B))
   updates_of rs = map update_of rs
 
--- The seat is that of update n, and between two steps.
+-- The audited update is that of update n, and between two steps.
 pub record StandsAt (n : ℕ) (r : AuditedUpdate) : Type 0 where
   pub number : r.program.attempt.number ≡ n
   pub between : r.program.reading ≡ None
 
--- The seats are those of the updates from number n on.
+-- The audited updates are those of the updates from number n on.
 abbrev pub AreFrom : ℕ → List AuditedUpdate → Type 0
 AreFrom n [] = Unit {0}
 AreFrom n (r ∷ rs) = StandsAt n r × AreFrom (suc n) rs

@@ -1,4 +1,4 @@
-//! What an event does to one seat.
+//! What an event does to one audited update.
 ghost use Rattle.std.specs.Prelude.{◌≡◌, ◌≤◌, ◌++◌, [], ◌∷◌, length, map, take, IfOk, OnOk, OnErr, IsOk};
 ghost use Rattle.base_types.specs.Meanings.{choice_of};
 ghost use Rattle.audit_updates.specs.Updates.{StandsAt};

@@ -1,8 +1,9 @@
-//! The seats of a replay: each update with its present attempt, what it may do next, and what an event does to it.
+//! The audited updates of a replay: each update with its present attempt, what it may do next, and what an event does
+//! to it.
 //!
-//! What seats mean is said in `specs/Updates.antt`: they are the updates of a history of the chase. The seats of a
-//! replay have the numbers of their places, from 1, and stand between two steps (`AreFrom 1 seats`). What is told of
-//! them is said for the machine of any mappings and any budget.
+//! What audited updates mean is said in `specs/Updates.antt`: they are the updates of a history of the chase. The
+//! audited updates of a replay have the numbers of their places, from 1, and stand between two steps (`AreFrom 1
+//! updates`). What is told of them is said for the machine of any mappings and any budget.
 #![tactic(auto)]
 
 mod events;

@@ -8,39 +8,39 @@ use crate::settings::Settings;
 use crate::updates::AuditedUpdate;
 
 /// How many updates are committed: the longest prefix of those that are over. It takes no memory.
-pub fn committed(seats: &[AuditedUpdate]) -> u32
-    requires from { AreFrom 1 seats.now }
-    ensures committed { HasCommitted seats.now result }
+pub fn committed(updates: &[AuditedUpdate]) -> u32
+    requires from { AreFrom 1 updates.now }
+    ensures committed { HasCommitted updates.now result }
 {
     let mut count = 0;
-    for seat in seats {
-        if !seat.is_over() {
+    for audited in updates {
+        if !audited.is_over() {
             return count;
         }
-        count = seat.number();
+        count = audited.number();
     }
     count
 }
 
 /// Whether nothing is ready, and nothing is deliverable. It takes no memory.
-pub fn is_quiet(seats: &[AuditedUpdate], settings: Settings) -> bool
-    requires from { AreFrom 1 seats.now }
-    ensures quiet { IsQuiet (settings_of settings) seats.now result }
+pub fn is_quiet(updates: &[AuditedUpdate], settings: Settings) -> bool
+    requires from { AreFrom 1 updates.now }
+    ensures quiet { IsQuiet (settings_of settings) updates.now result }
 {
-    let committed = committed(seats);
-    let none_ready = is_none(first_ready(seats, settings, committed));
-    let none_deliverable = is_none(first_deliverable(seats, settings, committed));
+    let committed = committed(updates);
+    let none_ready = is_none(first_ready(updates, settings, committed));
+    let none_deliverable = is_none(first_deliverable(updates, settings, committed));
     none_ready && none_deliverable
 }
 
 // The least number of a ready update, where so many are committed.
-fn first_ready(seats: &[AuditedUpdate], settings: Settings, committed: u32) -> Option<u32>
-    requires from { AreFrom 1 seats.now }
-    ensures first { IsFirstReady (settings_of settings) committed 1 seats.now result }
+fn first_ready(updates: &[AuditedUpdate], settings: Settings, committed: u32) -> Option<u32>
+    requires from { AreFrom 1 updates.now }
+    ensures first { IsFirstReady (settings_of settings) committed 1 updates.now result }
 {
-    for seat in seats {
-        let number = seat.number();
-        if seat.is_ready(settings, committed, number) {
+    for audited in updates {
+        let number = audited.number();
+        if audited.is_ready(settings, committed, number) {
             return Some(number);
         }
     }
@@ -48,13 +48,13 @@ fn first_ready(seats: &[AuditedUpdate], settings: Settings, committed: u32) -> O
 }
 
 // The least number of a deliverable update, where so many are committed.
-fn first_deliverable(seats: &[AuditedUpdate], settings: Settings, committed: u32) -> Option<u32>
-    requires from { AreFrom 1 seats.now }
-    ensures first { IsFirstDeliverable (settings_of settings) committed 1 seats.now result }
+fn first_deliverable(updates: &[AuditedUpdate], settings: Settings, committed: u32) -> Option<u32>
+    requires from { AreFrom 1 updates.now }
+    ensures first { IsFirstDeliverable (settings_of settings) committed 1 updates.now result }
 {
-    for seat in seats {
-        let number = seat.number();
-        if seat.is_deliverable(settings, committed, number) {
+    for audited in updates {
+        let number = audited.number();
+        if audited.is_deliverable(settings, committed, number) {
             return Some(number);
         }
     }

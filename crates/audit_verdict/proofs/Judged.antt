@@ -26,9 +26,6 @@ pub record Behind (t : Trial) (lines : List (List ℕ)) (rest : List ℕ) (n : �
   pub stands : Stands t before r
   pub count : n ≡ length before
 
-pub begins : (t : Trial) (lines : List (List ℕ)) (text : List ℕ) (r : Replay) → Stands t [] r → IsOf text lines → Behind t lines text 0 r
-begins t lines text r stands of = record { before = []; after = lines; whole = refl; of = of; stands = stands; count = refl }
-
 module _ (t : Trial) (lines : List (List ℕ)) (rest : List ℕ) (n : ℕ) (r : Replay) (b : Behind t lines rest n r) (line behind : List ℕ) (is : rest ≡ line ++ 10 ∷ behind) (single : IsOneLine line) where
   -- The next line is made.
   pub goes_behind : (new : Replay) → ((before : List (List ℕ)) → Stands t before r → AfterLine t before line new None) → Behind t lines behind (n + 1) new

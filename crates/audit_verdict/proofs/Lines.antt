@@ -27,9 +27,6 @@ module _ (relations : List RelationSchema) (line : List ℕ) (old new : Replay) 
     tells_of : (t : Trial) → t.relations ≡ relations → Tells t.relations line e
     tells_of t same = subst (λ rs. Tells rs line e) (sym same) tells
 
-    pub not_due : HasEvent old e None → HasJudged relations line old new (Some whys.Event)
-    not_due none t lines same stands = (stands.H, stands.replays.history, stands.told, (e, tells_of t same, λ due. absurd (none t.over stands.H stands.replays due)))
-
     module _ (event : Event) (due : HasEvent old e (Some event)) where
       pub not_allowed : HasMade event old new None → HasJudged relations line old new (Some whys.Event)
       not_allowed made t lines same stands =

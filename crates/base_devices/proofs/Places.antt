@@ -36,17 +36,6 @@ outside r i e = by (nat_le r.at i) refl (nat_lt i (r.at + r.count)) refl e
     by true p false q f = inr (grind (arith, nat_tests))
     by false p b q f = inl (grind (arith, nat_tests))
 
--- and the other way round
-pub before_range : (r : Range) (i : ℕ) → i < r.at → covers r i ≡ false
-before_range r i l = let a : nat_le r.at i ≡ false = grind (arith, nat_tests) in rw a refl
-
-pub behind_range : (r : Range) (i : ℕ) → r.at + r.count ≤ i → covers r i ≡ false
-behind_range r i l = let b : nat_lt i (r.at + r.count) ≡ false = grind (arith, nat_tests) in by (nat_le r.at i) b
-  where
-    by : (a : Bool) {b : Bool} → b ≡ false → (a && b) ≡ false
-    by true e = e
-    by false e = refl
-
 pub written_longer : (at : ℕ) (bytes old : List ℕ) → length old ≤ length (written at bytes old)
 written_longer at bytes old =
     omega (arith, length-append (take at old) (bytes ++ drop (at + length bytes) old), length-append bytes (drop (at + length bytes) old), length-take at old, length-drop (at + length bytes) old)

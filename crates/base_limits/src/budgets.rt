@@ -3,7 +3,7 @@ ghost use Rattle.std.specs.Prelude.{◌≡◌, ◌≤◌, nat_lt};
 
 use std::marker::Model;
 
-/// How many steps an update may take: from 1 to 300. Contracts see that number.
+/// How many steps an update may take: from 1 to 1,000,001, one more than a workspace allows. Contracts see that number.
 #[derive(Clone, Copy, Debug)]
 pub struct Budget {
     steps: u32,
@@ -16,7 +16,7 @@ impl Model for Budget {
 
     ghost view = { λ b. b.steps };
 
-    ghost invariant = { λ b. (1 ≤ b.steps) × (b.steps ≤ 300) };
+    ghost invariant = { λ b. (1 ≤ b.steps) × (b.steps ≤ 1000001) };
 
     ghost inverse = { λ n. record { steps = n } };
 }
@@ -25,7 +25,7 @@ impl Budget {
     /// The budget of so many steps.
     pub fn new(steps: u32) -> Budget
         requires some { 1 ≤ steps }
-        requires most { steps ≤ 300 }
+        requires most { steps ≤ 1000001 }
         ensures same { result ≡ steps }
     {
         Budget { steps }
@@ -48,7 +48,7 @@ impl Budget {
     /// Each budget is within the limits. It does nothing but say so.
     pub fn is_within(self)
         ensures some { 1 ≤ self }
-        ensures most { self ≤ 300 }
+        ensures most { self ≤ 1000001 }
     {
         let _steps = self.steps;
     }

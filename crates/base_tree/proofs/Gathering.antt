@@ -156,14 +156,3 @@ module _ {K V : Type 0} {R : K → K → Ordering} (place : K → Ordering) (b :
       both : (m : List (K × V)) → AreWithin b place m → AllByRecursion (λ (x : K × V). R e.0 x.0 ≡ Less) m → AreWithin c place m
       both [] w u = tt
       both (x ∷ m) w u = (record { low = λ _. not_before x u.0 (place x.0) refl; high = λ q. w.0.high (sym high ∙ q) }, both m w.1 u.1)
-
--- A key that is known to lie neither before the zone nor past it lies in it.
-pub in_zone : (a : Ordering) → is_lt a ≡ false → is_gt a ≡ false → Equal ≡ a
-in_zone Less l g = absurd (true≢false l)
-in_zone Equal l g = refl
-in_zone Greater l g = absurd (true≢false g)
-
--- Where nothing is known all keys keep within.
-pub nothing_known : {K V : Type 0} (b : Bounds) (place : K → Ordering) → b.low ≡ false → b.high ≡ false → (es : List (K × V)) → AreWithin b place es
-nothing_known b place low high [] = tt
-nothing_known b place low high (e ∷ es) = (record { low = λ q. absurd (true≢false (sym q ∙ low)); high = λ q. absurd (true≢false (sym q ∙ high)) }, nothing_known b place low high es)

@@ -1,5 +1,5 @@
 //! Binary trees of entries, whose nodes may be shared with other trees. Nothing is claimed of their balance.
-ghost use Rattle.std.specs.Prelude.{◌≡◌, ◌-◌, ◌≤◌, [], ◌∷◌, ◌++◌, map, filter, vec_len, IfOk, IfErr};
+ghost use Rattle.std.specs.Prelude.{◌≡◌, ◌≤◌, [], ◌∷◌, ◌++◌, map, filter, IfOk, IfErr};
 ghost use Rattle.std.specs.Option.{option_copied};
 ghost use Rattle.base_tree.specs.Nodes.{entries_at};
 ghost use Rattle.base_tree.specs.Orders.{IsOrdered, entry_at, first_reached, first_sought};
@@ -106,29 +106,6 @@ impl<K: Drop, V: Drop> Branch<K, V> {
             },
         )?;
         Ok(Branch { node: Some(node) })
-    }
-
-    /// The tree of the last entries of the list, `count` of them or all where there are fewer, and the entries that are left. It
-    /// is refused only for want of memory; the list, which is handed over, is then let go.
-    pub fn of_last(
-        alloc: Global,
-        entries: Vec<(K, V)>,
-        count: usize,
-    ) -> Result<(Vec<(K, V)>, Branch<K, V>), AllocError>
-        ensures taken { IfOk result (λ r. entries.items ≡ r.0.items ++ r.1) }
-        ensures left { IfOk result (λ r. vec_len r.0 ≡ vec_len entries - count) }
-    {
-        if count == 0 {
-            return Ok((entries, Branch::new()));
-        }
-        let after = (count - 1) / 2;
-        let (mut rest, right) = Branch::of_last(alloc, entries, after)?;
-        let Some(entry) = rest.pop() else {
-            return Ok((rest, right));
-        };
-        let (first, left) = Branch::of_last(alloc, rest, count - 1 - after)?;
-        let branch = Branch::joined(alloc, left, entry, right)?;
-        Ok((first, branch))
     }
 
     // The tree of one entry. For want of memory the entry comes back.

@@ -49,19 +49,6 @@ impl<K: Ord + Share, V: Share> TreeMap<K, V> {
         }
     }
 
-    /// The map of these entries, made in as many steps as there are. It is refused only for want of memory.
-    pub fn from_sorted(alloc: Global, entries: Vec<(K, V)>) -> Result<TreeMap<K, V>, AllocError>
-        requires in_order { IsOrdered K.cmp entries.items }
-        ensures same { IfOk result (λ map. map ≡ entries.items) }
-    {
-        let count = entries.len();
-        let (_, all) = Branch::of_last(alloc, entries, count)?;
-        Ok(TreeMap {
-            entries: all,
-            count,
-        })
-    }
-
     /// How many entries there are.
     pub fn len(&self) -> usize
         ensures length { result ≡ length self.now }

@@ -1,21 +1,16 @@
 -- What the lists of the program mean: their items, in the terms of the definitions of the chase.
 use Rattle.std.specs.Prelude.{List, map}
-use Rattle.def_chase.specs.Values.{NullName, Datum, Fact}
+use Rattle.def_chase.specs.Values.{Datum, Fact}
 use Rattle.def_chase.specs.Mappings.{Rule}
 use Rattle.def_chase.specs.Repository.{Change}
 use Rattle.def_chase.specs.Updates.{Choice}
 use Rattle.base_types.specs.Listed.{Listed}
-use Rattle.base_types.specs.Meanings.{null_of, datum_of, fact_of, rule_of, change_of, choice_of}
+use Rattle.base_types.specs.Meanings.{datum_of, fact_of, rule_of, change_of, choice_of}
 use Rattle.base_types.specs.declared.mappings.Mapping.{Mapping}
-use Rattle.base_types.specs.declared.nulls.Null.{Null}
 use Rattle.base_types.specs.declared.values.Value.{Value}
 use Rattle.base_types.specs.declared.tuples.Tuple.{Tuple}
 use Rattle.base_types.specs.declared.updates.Write.{Write}
 use Rattle.base_types.specs.declared.updates.Choice.{Choice as ChoiceOfProgram}
-
--- The nulls of a list.
-abbrev pub nulls_of : Listed Null → List NullName
-nulls_of ns = map null_of ns.items
 
 -- The values of a row.
 abbrev pub data_of : Listed Value → List Datum

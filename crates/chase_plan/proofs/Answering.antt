@@ -17,11 +17,11 @@ use Rattle.chase_query.specs.declared.log.LoggedRead.{LoggedRead}
 use Rattle.chase_query.proofs.Entries.{with_last}
 use Rattle.def_steps.specs.Attempts.{Attempt}
 use Rattle.def_steps.specs.Steps.{Asking, step, moved}
-use Rattle.chase_update.specs.Courses.{Course, Reading, State, coming_to, by_reply, first_asked, course, course_by}
+use Rattle.chase_update.specs.Courses.{Course, coming_to, by_reply, first_asked}
 use Rattle.chase_update.specs.Wishes.{Wish, WishesReply, TakesAnswer}
 use Rattle.chase_update.specs.Settled.{IsShorter}
 use Rattle.chase_update.specs.Logged.{read_after}
-use Rattle.chase_plan.specs.Planned.{at_rest, answers_over, next_attempt, next_reads}
+use Rattle.chase_plan.specs.Planned.{answers_over, next_attempt, next_reads}
 
 -- What a course asks first, answered so, and what is left of it.
 pub record IsOn (val : Query → Reply) (t : Course) (q : Query) (a : Reply) : Type 0 where
@@ -57,14 +57,6 @@ comes_to val B P (Node q k) = comes_to val B P (k (val q))
 pub comes_by : (val : Query → Reply) (B : ℕ) (P : Attempt) (t : Asking) → log_of val (coming_to B P t) ≡ log_of val t
 comes_by val B P (Leaf m) = refl
 comes_by val B P (Node q k) = ap (λ es. (q, val q) ∷ es) (comes_by val B P (k (val q)))
-
--- A program without a step in hand is at the result of its course, and reads nothing more.
-pub at_result : (val : Query → Reply) (ms : List Rule) (s : State) → s.reading ≡ None → s ≡ at_rest (result_of val (course ms s))
-at_result val ms s e =
-    (λ i. record { attempt = s.attempt; reading = e i }) ∙ ap at_rest (sym (ap (λ (o : Option Reading). result_of val (course_by ms s.attempt o)) e))
-
-pub reads_no_more : (val : Query → Reply) (ms : List Rule) (s : State) → s.reading ≡ None → log_of val (course ms s) ≡ []
-reads_no_more val ms s e = ap (λ (o : Option Reading). log_of val (course_by ms s.attempt o)) e
 
 -- An answer of the query's kind is one that is taken.
 pub takes : (ms : List Rule) (w : Wish) (q : Query) (a : Reply) → WishesReply q ≡ w → IsOfKind ms q a → TakesAnswer ms w a

@@ -7,8 +7,7 @@ use Rattle.base_types.specs.declared.tuples.Tuple.{Tuple}
 use Rattle.base_types.specs.declared.values.Value.{Value}
 use Rattle.base_types.specs.Meanings.{datum_of, fact_of}
 use Rattle.def_steps.specs.Rewriting.{standing_for}
-use Rattle.def_steps.specs.Steps.{Holders, resolve, unless_none, Asking, makes}
-use Rattle.def_steps.specs.Attempts.{Ended, Refused}
+use Rattle.def_steps.specs.Steps.{Holders, resolve, unless_none, Asking}
 use Rattle.chase_update.specs.Found.{found_in, is_found, settled, first_named, some_of}
 
 -- Tuples that are not none.
@@ -50,8 +49,3 @@ goes (t ∷ ts) us e = cc
 pub goes_on_with : (n : NullName) (ts us : List Fact) (rest : Asking) → Some us ≡ some_of ts → unless_none n ts rest ≡ rest
 goes_on_with n [] us rest e = cc
 goes_on_with n (t ∷ ts) us rest e = refl
-
--- Where there is none, the null is refused.
-pub refuses : (n : NullName) (ts : List Fact) (rest : Asking) → None ≡ some_of ts → makes [] (Ended (Refused n)) ≡ unless_none n ts rest
-refuses n [] rest e = refl
-refuses n (t ∷ ts) rest e = cc

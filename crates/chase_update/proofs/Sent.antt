@@ -1,4 +1,4 @@
--- A program may go to other threads.
+-- An attempt may go to other threads.
 use denote.Param.Send.{IsSend, sendable, view_send}
 use denote.Param.SendFields.{declared_send}
 use Rattle.std.proofs.Crossing.{crosses}
@@ -9,7 +9,7 @@ use Rattle.chase_update.specs.contracts.own.Own as own
 use Rattle.chase_update.specs.contracts.own.Own.TheInside as own_inside
 use Rattle.chase_update.specs.contracts.points.Point as points
 use Rattle.chase_update.specs.contracts.attempts.Parts as parts
-use Rattle.chase_update.specs.contracts.attempts.Attempt as programs
+use Rattle.chase_update.specs.contracts.attempts.Attempt as attempts
 use Rattle.chase_update.specs.contracts.shared.SharedWrites as shared
 use Rattle.chase_update.specs.contracts.shared.SharedWrites.TheInside as shared_inside
 use Rattle.chase_update.specs.contracts.attempts.Attempt.TheInside as inside
@@ -20,7 +20,7 @@ operation_send = search (sendable, crosses) depth 60 fits 6000
 point_send : IsSend points.the_row
 point_send = search (sendable, crosses, tuple_send, repair_send) depth 60 fits 6000
 
--- The writes, which copies of a program share.
+-- The writes, which copies of an attempt share.
 shared_inside_send : IsSend shared_inside.the_row
 shared_inside_send = search (sendable, crosses) depth 60 fits 6000
 
@@ -40,5 +40,5 @@ parts_send = search (sendable, crosses, operation_send, point_send, own_send, de
 inside_send : IsSend inside.the_row
 inside_send = search (sendable, crosses, parts_send) depth 60 fits 6000
 
-pub program_send : IsSend programs.the_row
-program_send = view_send _ _ _ _ _ inside_send
+pub attempt_send : IsSend attempts.the_row
+attempt_send = view_send _ _ _ _ _ inside_send

@@ -24,9 +24,9 @@ state_of p =
       reading = option_map (λ row. record { budget = p.hand.budget; row = row }) (row_at p.point);
     }
 
--- At most 300 steps, each of which draws at most 64 nulls and takes at most one answer. A step in hand is within its budget, and takes an answer where it began at a question.
+-- At most 1000001 steps, each of which draws at most 64 nulls and takes at most one answer. A step in hand is within its budget, and takes an answer where it began at a question.
 pub record IsCounted (p : Parts) : Type 0 where
-  pub steps : p.steps ≤ 300
+  pub steps : p.steps ≤ 1000001
   pub nulls : p.nulls ≤ 64 * p.steps
   pub taken : p.taken ≤ p.steps
   pub budget : is_some (row_at p.point) ≡ true → p.steps < p.hand.budget

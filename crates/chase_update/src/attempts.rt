@@ -364,7 +364,7 @@ impl Attempt {
     // From where the attempt draws its nulls.
     fn fresh(&self) -> Fresh
         ensures draws { DrawsFrom self.now.attempt result }
-        ensures room { result.drawn ≤ 19200 }
+        ensures room { result.drawn ≤ 64000064 }
     {
         Fresh {
             update: self.parts.number,

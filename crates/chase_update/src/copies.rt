@@ -71,7 +71,7 @@ impl Attempt {
     /// How many steps it has made.
     pub fn steps(&self) -> u32
         ensures steps { result ≡ self.now.attempt.steps }
-        ensures most { result ≤ 300 }
+        ensures most { result ≤ 1000001 }
     {
         self.parts.steps
     }

@@ -9,7 +9,7 @@ use base_limits::Budget;
 
 /// The count of answers after a step that takes one or none.
 pub(crate) fn taken_after(taken: u32, answers: bool) -> u32
-    requires { taken ≤ 300 }
+    requires { taken ≤ 1000001 }
     ensures value { result ≡ (if answers then suc taken else taken) }
     ensures most { result ≤ taken + 1 }
 {

@@ -3,7 +3,6 @@
 
 mod caused;
 mod first;
-mod least;
 mod remembered;
 mod scope;
 mod unmet;

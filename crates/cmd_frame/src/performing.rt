@@ -8,10 +8,11 @@ ghost use Rattle.cmd_frame.specs.Statuses.{line_of, status_of_failure};
 
 use crate::{Command, Failure, Memory, Output, Status};
 use base_devices::{Sink, Source, read_all, write_all};
+use base_limits::MOST_BYTES;
 use std::alloc::Global;
 
 /// The most bytes that an input may have.
-pub const INPUT_LIMIT: usize = 16_777_216;
+pub const INPUT_LIMIT: usize = MOST_BYTES;
 
 /// Reads all of `source`, runs the command on it, and writes its text to `out` or its refusal to
 /// `err`. Each status has its row, which says what was read, written and told. A fault of `err`

@@ -136,9 +136,6 @@ record IsOther (words : List Word) : Type 0 where
   free : AllByRecursion IsFree words
   other : is_head (laid_out words ++ 10 ∷ []) ≡ false
 
-differs : (b : ℕ) (bs : List ℕ) → nat_eq 116 b ≡ false → is_head (b ∷ bs) ≡ false
-differs b bs e = rw e refl
-
 apart : (ps bs rest : List ℕ) → AllByRecursion (λ p. nat_eq p 40 ≡ false) ps → IsSolid bs → pointwise nat_eq (ps ++ 32 ∷ []) (take (length (ps ++ 32 ∷ [])) (bs ++ 40 ∷ rest)) ≡ false
 apart [] [] rest none all = refl
 apart [] (b ∷ bs) rest none all = rw all.0.1 refl

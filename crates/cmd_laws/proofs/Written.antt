@@ -9,7 +9,7 @@ use Rattle.audit_claims.specs.Claimed.{IsText}
 use Rattle.def_language.specs.Checks.{rules_of}
 use Rattle.def_language.specs.Sessions.{RelationSchema, SessionData, SessionUpdate}
 use Rattle.def_language.specs.Validity.{IsSession}
-use Rattle.def_history.specs.Cores.{Ground, session_over}
+use Rattle.def_history.specs.Cores.{session_over}
 use Rattle.run_laws.proofs.Attempts.{reached_passing}
 use Rattle.run_laws.proofs.Closed.{Closed, goes, is_plain, write_passes}
 use Rattle.run_laws.proofs.Enacting.{Acts, AllAct, session_acts}
@@ -51,9 +51,6 @@ acts_at rs below (x ∷ ys) (suc k) y all h =
 module _ (s : SessionData) (v : IsSession s) (B : ℕ) (some : 1 ≤ B) (c : Settings) where
   abbrev ms : List Rule
   ms = rules_of s.mappings
-
-  abbrev pub ground : Ground
-  ground = (trial_of s B c).over
 
   abbrev M : Machine
   M = caused_chase (rules_of s.mappings) B

@@ -24,7 +24,7 @@ told_text s left e text f here h =
 
 -- ---- what the run left can be logged
 
-pub run_of : (s : SessionData) (steps : ℕ) → IsSession s → 1 ≤ steps → steps ≤ 300 → IsRun steps s
+pub run_of : (s : SessionData) (steps : ℕ) → IsSession s → 1 ≤ steps → steps ≤ 1000001 → IsRun steps s
 run_of s steps v some most = record { session = v; some = some; most = most }
 
 pub left_logged : (steps : ℕ) (s : SessionData) (left : Trailed) → IsTrailed steps s left → AreLogged s.relations (commits_of (trails_by steps s)) → AreLogged s.relations (commits_of (trails_of left.trails))

@@ -11,7 +11,6 @@ use Rattle.std.proofs.lemmas.List.{append-nil, map-append}
 use Rattle.base_types.specs.Contents.{changes_of}
 use Rattle.base_types.specs.Listed.{Listed}
 use Rattle.base_types.specs.declared.updates.Write.{Write}
-use Rattle.def_chase.proofs.Maps.{length_map}
 use Rattle.def_chase.specs.Repository.{Change}
 use Rattle.def_language.specs.Printing.{printed}
 use Rattle.def_language.specs.Sessions.{RelationSchema, SessionData}
@@ -19,7 +18,7 @@ use Rattle.base_devices.specs.InMemory.{MemState, bytes_of}
 use Rattle.run_journal.specs.Format.{IsWrite, commit_text, framed, front, journal_text, logged, opened, records}
 use Rattle.run_journal.specs.Journals.{Hold}
 use Rattle.run_laws.specs.Logged.{AreLogged, commits_of}
-use Rattle.cmd_plain.specs.Journaled.{HasJournal, IsOneTooMany, is_too_long}
+use Rattle.cmd_plain.specs.Journaled.{IsOneTooMany, is_too_long}
 
 length_frame : (p : List ℕ) → length (framed p) ≡ 4 + length p
 unfolding framed
@@ -82,14 +81,6 @@ commit_long disk s writes hold n e l commits has =
 -- one trail more
 pub made_more : (done : List (Listed Write)) (writes : Listed Write) → commits_of (map changes_of done) ++ logged (changes_of writes) ∷ [] ≡ commits_of (map changes_of (done ++ writes ∷ []))
 made_more done writes = sym (ap commits_of (map-append changes_of done (writes ∷ [])) ∙ map-append logged (map changes_of done) (changes_of writes ∷ []))
-
--- the number of the next one
-pub next_number : (done : List (Listed Write)) (disk : MemState) (s : SessionData) (hold : Hold) (n : ℕ) → HasJournal disk s (commits_of (map changes_of done)) hold → n ≡ length done + 1 → n ≡ hold.commits + 1
-next_number done disk s hold n has e =
-    let count : hold.commits ≡ length (commits_of (map changes_of done)) = has.at.count in
-    let commits : length (commits_of (map changes_of done)) ≡ length (map changes_of done) = length_map logged (map changes_of done) in
-    let trails : length (map changes_of done) ≡ length done = length_map changes_of done in
-    omega arith
 
 -- what is logged of each is writes of tuples
 pub one_logged : (relations : List RelationSchema) (done rest : List (Listed Write)) (writes : Listed Write) → AreLogged relations (commits_of (map changes_of (done ++ writes ∷ rest))) → AllByRecursion (IsWrite relations) (logged (changes_of writes))

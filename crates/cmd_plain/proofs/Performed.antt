@@ -42,7 +42,7 @@ Valid = (bytes : List ℕ) (s : SessionData) → Spells bytes s → IsSession s
 abbrev Leaves : Type 0
 Leaves = (n : ℕ) (s : SessionData) → IsRunnable n s → InForceHold s (serial_told n s)
 
-ended : Valid → Leaves → (n : ℕ) (e : Ending) (source out err : Change) → 1 ≤ n → n ≤ 300 → Ends e (on_session (ran n)) source out err → WroteWhatHolds n source out
+ended : Valid → Leaves → (n : ℕ) (e : Ending) (source out err : Change) → 1 ≤ n → n ≤ 1000001 → Ends e (on_session (ran n)) source out err → WroteWhatHolds n source out
 ended valid leaves n e source out err some most row =
     let all = row.0 in
     let made = all.4 in
@@ -59,6 +59,6 @@ ended valid leaves n e source out err some most row =
       hold = leaves n s (record { session = valid all.0 s one.1; met = met.0; some = some; most = most });
     }
 
-pub written : Valid → Leaves → (n : ℕ) (status : Status) (source out err : Change) → 1 ≤ n → n ≤ 300 → HasWritten status → Row status (on_session (ran n)) source out err → WroteWhatHolds n source out
+pub written : Valid → Leaves → (n : ℕ) (status : Status) (source out err : Change) → 1 ≤ n → n ≤ 1000001 → HasWritten status → Row status (on_session (ran n)) source out err → WroteWhatHolds n source out
 written valid leaves n status source out err some most (inl is) row = ended valid leaves n _ source out err some most (subst (λ (k : Status). Row k (on_session (ran n)) source out err) is row)
 written valid leaves n status source out err some most (inr is) row = ended valid leaves n _ source out err some most (subst (λ (k : Status). Row k (on_session (ran n)) source out err) is row)

@@ -29,7 +29,7 @@ pub fn runs_write_what_holds()
 /// Where `serial`, performed with a budget, ends or stops, the repository that it has written is one in which every
 /// mapping in force holds.
 pub fn performed_runs_write_what_holds()
-    ensures { (steps : ℕ) (status : Status) (source out err : Change) → 1 ≤ steps → steps ≤ 300 →
+    ensures { (steps : ℕ) (status : Status) (source out err : Change) → 1 ≤ steps → steps ≤ 1000001 →
         HasWritten status → Row status (on_session (ran steps)) source out err →
         WroteWhatHolds steps source out }
 {

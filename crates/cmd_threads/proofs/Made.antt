@@ -1,8 +1,7 @@
 -- What is printed of a session that workers ran is an output of `run`.
-use Rattle.std.proofs.Common.{◌≡◌, ◌∙◌, ◌++◌, ℕ, Bool, List, Some, None, sym, ap, ap₂, subst}
-use Rattle.cmd_frame.specs.Outputs.{OutputView, Text, view_of}
+use Rattle.std.proofs.Common.{◌≡◌, ◌∙◌, ◌++◌, ℕ, Bool, List, Some, ap, ap₂, subst}
+use Rattle.cmd_frame.specs.Outputs.{OutputView, Text}
 use Rattle.cmd_frame.specs.declared.outputs.Ending.{Ending}
-use Rattle.cmd_frame.specs.declared.outputs.Output.{Output}
 use Rattle.cmd_plain.specs.Runs.{ending_by}
 use Rattle.def_language.specs.Sessions.{SessionData}
 use Rattle.def_history.specs.PlainEntries.{PlainEntry}
@@ -10,9 +9,7 @@ use Rattle.def_machine.specs.Updates.{Settings}
 use Rattle.chase_update.specs.Results.{ResultTold}
 use Rattle.lang_report.specs.Results.{result_text, serial_told}
 use Rattle.work_session.specs.Runs.{IsRunOf, IsWholeRun, Run}
-use Rattle.lang_session.specs.Base.{base_violation}
-use Rattle.cmd_threads.specs.Refusals.{IsRefusal}
-use Rattle.cmd_threads.specs.Runs.{RunsTo, UnlessViolated, run_text, running, trace_part}
+use Rattle.cmd_threads.specs.Runs.{RunsTo, run_text, trace_part}
 
 pub printed : (trace : Bool) (r : Run) (s : SessionData) (told : ResultTold) (text whole : List ℕ) (entries : List PlainEntry) (e : Ending) → r.session ≡ s
     → IsWholeRun r → told ≡ serial_told r.budget r.session → text ≡ result_text s told → whole ≡ text ++ trace_part trace s.relations entries
@@ -32,9 +29,3 @@ asked_for trace m n c d s x steps settings is =
     subst (λ (y : Settings). RunsTo trace n y s x) settings (subst (λ (k : ℕ). RunsTo trace k c s x) steps is)
 
 -- ---- the base
-
-pub refused : (trace : Bool) (n : ℕ) (c : Settings) (s : SessionData) (output : Output) → IsRefusal s output → running trace n c s (view_of output)
-refused trace n c s output is = subst (λ found. UnlessViolated s (RunsTo trace n c s) found (view_of output)) (sym is.1) is.2
-
-pub met : (trace : Bool) (n : ℕ) (c : Settings) (s : SessionData) (x : OutputView) → base_violation s ≡ None → RunsTo trace n c s x → running trace n c s x
-met trace n c s x none is = subst (λ found. UnlessViolated s (RunsTo trace n c s) found x) (sym none) is

@@ -44,7 +44,7 @@ Valid = (bytes : List ℕ) (s : SessionData) → Spells bytes s → IsSession s
 abbrev Leaves : Type 0
 Leaves = (n : ℕ) (s : SessionData) → IsRunnable n s → InForceHold s (serial_told n s)
 
-ended : Valid → Leaves → (trace : Bool) (n : ℕ) (c : Settings) (e : Ending) (source out err : Change) → 1 ≤ n → n ≤ 300
+ended : Valid → Leaves → (trace : Bool) (n : ℕ) (c : Settings) (e : Ending) (source out err : Change) → 1 ≤ n → n ≤ 1000001
     → Ends e (on_session_by (running trace n c)) source out err → WroteRun trace n c source out
 ended valid leaves trace n c e source out err some most row =
     let all = row.0 in
@@ -65,7 +65,7 @@ ended valid leaves trace n c e source out err some most row =
       hold = leaves n s (record { session = valid all.0 s one.1; met = met.0; some = some; most = most });
     }
 
-pub written : Valid → Leaves → (trace : Bool) (n : ℕ) (c : Settings) (status : Status) (source out err : Change) → 1 ≤ n → n ≤ 300 → HasWritten status
+pub written : Valid → Leaves → (trace : Bool) (n : ℕ) (c : Settings) (status : Status) (source out err : Change) → 1 ≤ n → n ≤ 1000001 → HasWritten status
     → Row status (on_session_by (running trace n c)) source out err → WroteRun trace n c source out
 written valid leaves trace n c status source out err some most (inl is) row =
     ended valid leaves trace n c _ source out err some most (subst (λ (k : Status). Row k (on_session_by (running trace n c)) source out err) is row)

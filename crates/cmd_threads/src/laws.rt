@@ -33,7 +33,7 @@ pub fn runs_have_the_serial_status()
 /// repository that the result tells.
 pub fn performed_runs_write_their_trace()
     ensures { (trace : Bool) (steps : ℕ) (c : Settings) (status : Status)
-        (source out err : Change) → 1 ≤ steps → steps ≤ 300 → HasWritten status →
+        (source out err : Change) → 1 ≤ steps → steps ≤ 1000001 → HasWritten status →
         Row status (on_session_by (running trace steps c)) source out err →
         WroteRun trace steps c source out }
 {

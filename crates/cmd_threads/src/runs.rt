@@ -33,7 +33,7 @@ use std::sync::Wait;
 use std::thread::Threads;
 use std::time::Clock;
 use work_loop::Gate;
-use work_session::{Answers, WorkedSession, worked_over};
+use work_session::{Answers, WorkedSession, Working, worked_over};
 
 /// `run`: the updates taken by workers, each in a thread of its own; how each update ended, where they stopped, if they did,
 /// and the repository that they left. Where it is asked for, the trace of the workers' history follows.
@@ -122,20 +122,13 @@ impl Run {
         ensures { IfOk result (λ output. RunsTo self.trace self.budget
             (settings_of self.crew.settings) (session_of session.now) (view_of output)) }
     {
-        let settings = self.crew.settings();
-        let seats = self.crew.seats();
-        let answers = answers_for(self.trace);
-        let run = worked_over(
-            rt,
-            gate,
-            alloc,
-            session,
-            base,
-            settings,
-            self.budget,
-            seats,
-            answers,
-        )?;
+        let working = Working {
+            settings: self.crew.settings(),
+            budget: self.budget,
+            seats: self.crew.seats(),
+            answers: answers_for(self.trace),
+        };
+        let run = worked_over(rt, gate, alloc, session, base, working)?;
         let output = run_output(alloc, session, &run, self.trace)?;
         // The process ends with the command, and gives back at once what the workers leave.
         mem::forget(run);

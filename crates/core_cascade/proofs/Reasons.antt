@@ -118,7 +118,7 @@ module _ (ms : List Rule) (B : ℕ) where
       by true e g rest = absurd (none-some (record { number = n; read = r }) (sym g))
       by false e g rest = and_from (is_valid (caused_chase ms B) op E own (logged ms B r)) (list_all (is_valid (caused_chase ms B) op E own) (map (logged ms B) rs)) (was_not (is_valid (caused_chase ms B) op E own (logged ms B r)) e) (rest g)
 
-  -- The reads of a record's log.
+  -- The reads of a queued update's log.
   abbrev reads : QueuedUpdate → List Read
   reads r = reads_in r.log.items
 

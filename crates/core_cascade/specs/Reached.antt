@@ -40,7 +40,7 @@ abbrev pub AreMetAlike : List Rule → Direction → List Change → List (List 
 AreMetAlike ms h own ts us [] = Unit {0}
 AreMetAlike ms h own ts us (q ∷ qs) = (is_met ms h own Went ts q ≡ is_met ms h own Went us q) × AreMetAlike ms h own ts us qs
 
--- The same of the reads of a record.
+-- The same of the reads of a queued update.
 abbrev pub MeetAlike : List Rule → List (List Change) → List (List Change) → QueuedUpdate → Type 0
 MeetAlike ms ts us r = AreMetAlike ms (direction_of r.program.attempt.operation) r.program.attempt.own ts us (reads_in r.log.items)
 
@@ -48,7 +48,7 @@ MeetAlike ms ts us r = AreMetAlike ms (direction_of r.program.attempt.operation)
 abbrev pub numbered_of : NumberedOfProgram → Numbered
 numbered_of x = record { number = x.number; read = read_of x.read }
 
--- The first logged read of the record that a write of these trails meets and that has another value over what its update
+-- The first logged read of the queued update that a write of these trails meets and that has another value over what its update
 -- sees of the versions.
 abbrev pub first_changed_in : List Rule → Kept → Sense → List (List Change) → QueuedUpdate → Option Changed
 first_changed_in ms v g trails r =

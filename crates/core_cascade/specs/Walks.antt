@@ -134,7 +134,7 @@ LosesWhere restarts r old new =
     (ms : List Rule) (B : ℕ) (us : List (Update (caused_chase ms B))) → HoldFrom ms B (number_of r) (update_of ms B r ∷ us) old.without
     → LeavesLost ms B restarts (number_of r) (update_of ms B r) us old new
 
--- The records' updates, the first of which has number n, ran over what lay below them before the event. Both versions have
+-- The queued updates, the first of which has number n, ran over what lay below them before the event. Both versions have
 -- their trails; these writes came or went below them, and the trails of the members are lost.
 pub record StandAbove (a : Above) (B : ℕ) (ws : List Change) (lost : Lost) (n : ℕ) (rs : List QueuedUpdate) : Type 0 where
   pub whole : HoldFrom a.rules B n (updates_of a.rules B rs) a.whole
@@ -144,7 +144,7 @@ pub record StandAbove (a : Above) (B : ℕ) (ws : List Change) (lost : Lost) (n 
   pub event : AgreeBut a.sense (ws ∷ []) before (seen n a.whole)
   pub gone : AgreeBut Went (trails_of lost.members.items) (seen n a.whole) (seen n lost.without)
 
--- These are why each of the records' updates is restarted, which are those above the event's.
+-- These are why each of the queued updates is restarted, which are those above the event's.
 abbrev pub AreFound : Above → List Change → Lost → List QueuedUpdate → List (Option Cause) → Type 0
 AreFound a ws lost rs xs =
     (B : ℕ) (conflicting : Bool) → 1 ≤ B → LooksFor conflicting ws → StandAbove a B ws lost (suc a.update) rs

@@ -117,8 +117,3 @@ pub one_still : (ms : List Rule) (h : Direction) (D : List Fact) (own : List Cha
     → is_met ms h own g ts (read_of r) ≡ true → a ≡ value_now ms h D own (read_of r) → (t ≡ true) ↔ (a ≡ reply_of r.answer) → t ≡ true
     → None ≡ first_changed_from ms h D own g ts n (read_of r ∷ [])
 one_still ms h D own g ts n r t a m v s f = one_by ms h D own g ts n (read_of r) false (test_tells ms h D own g ts r t a m v s ∙ ap not f)
-
--- Nor is one that no write meets.
-pub one_unmet : (ms : List Rule) (h : Direction) (D : List Fact) (own : List Change) (g : Sense) (ts : List (List Change)) (n : ℕ) (r : LoggedRead)
-    → is_met ms h own g ts (read_of r) ≡ false → None ≡ first_changed_from ms h D own g ts n (read_of r ∷ [])
-one_unmet ms h D own g ts n r m = one_by ms h D own g ts n (read_of r) false (λ j. m j && is_changed ms h D own (read_of r))

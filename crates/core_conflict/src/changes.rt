@@ -2,7 +2,7 @@
 ghost use Rattle.std.specs.Prelude.{◌≡◌, ◌+◌, ◌-◌, ◌<◌, ◌^◌, [], ◌∷◌, length, map, IfOk, OnOk};
 ghost use Rattle.std.specs.Option.{option_map};
 ghost use Rattle.base_types.specs.Meanings.{change_of, heading_of};
-ghost use Rattle.chase_query.specs.Meanings.{finds_none as finds_none_def, passing, read_of, reads_in, reads_of};
+ghost use Rattle.chase_query.specs.Meanings.{passing, read_of, reads_in, reads_of};
 ghost use Rattle.core_conflict.specs.Changes.{first_changed as first_changed_def};
 ghost use Rattle.core_conflict.specs.Meanings.{changed_of};
 ghost use Rattle.core_conflict.specs.Looking.{SeesFirst, changed_from};
@@ -10,8 +10,8 @@ ghost use Rattle.core_conflict.specs.Trails.{trails_of};
 ghost use Rattle.base_types.specs.Contents.{changes_of, rules_in};
 
 use crate::concerns::{Reader, Sense, Trail};
-use crate::views::{see, standing_then};
-use base_types::{Direction, Facts, MappingList, Memory, TryCopy, Write, WriteList};
+use crate::views::{EarlierView, see, standing_then};
+use base_types::{Direction, Facts, MappingList, Memory, TryCopy, WriteList};
 use chase_eval::View;
 use chase_query::{Logged, LoggedRead, Passage, ReadLog, Reply, finds_none};
 use std::alloc::Global;
@@ -42,37 +42,34 @@ pub fn first_changed<F: Facts>(
         first_changed_def (rules_in mappings.now) (heading_of direction) (F.tuples below.now)
         (changes_of own.now) sense (trails_of trails.now) (reads_in log.now.items)) }
 {
-    let log = log.as_slice();
-    let own = own.as_slice();
-    first_in(alloc, log, mappings, below, own, direction, sense, trails)
+    let reader = Reader {
+        mappings,
+        direction,
+        own: own.as_slice(),
+        sense,
+    };
+    first_in(alloc, &reader, trails, below, log.as_slice())
 }
 
 // The same of a slice.
 fn first_in<F: Facts>(
     alloc: Global,
-    log: &[Logged],
-    mappings: &MappingList,
-    below: &F,
-    own: &[Write],
-    direction: Direction,
-    sense: Sense,
+    reader: &Reader<'_>,
     trails: &[Trail<'_>],
+    below: &F,
+    log: &[Logged],
 ) -> Result<Option<Changed>, Memory>
     ensures first { IfOk result (λ found. option_map changed_of found ≡
-        first_changed_def (rules_in mappings.now) (heading_of direction) (F.tuples below.now)
-        (map change_of own.now) sense (trails_of trails.now) (reads_in log.now)) }
+        changed_from reader.now trails.now (F.tuples below.now) 1 (reads_in log.now)) }
 {
-    let reader = Reader {
-        mappings,
-        direction,
-        own,
-        sense,
-    };
     if !reader.may_be_met(trails, log) {
         return Ok(None);
     }
-    let mut view = View::new(alloc, below);
-    let found = changed_in(alloc, &reader, trails, below, &mut view, log)?;
+    let mut earlier = EarlierView {
+        view: View::new(alloc, below),
+        seen: 0,
+    };
+    let found = changed_in(alloc, reader, trails, below, &mut earlier, log)?;
     Ok(found)
 }
 
@@ -82,18 +79,18 @@ fn changed_in<'a, F: Facts>(
     reader: &Reader<'_>,
     trails: &[Trail<'_>],
     below: &'a F,
-    view: &mut View<'a, F>,
+    earlier: &mut EarlierView<'a, F>,
     log: &[Logged],
 ) -> Result<Option<Changed>, Memory>
-    requires sees { SeesFirst (F.tuples below.now) (map change_of reader.now.own.now) 0 view.old }
+    requires sees { SeesFirst (F.tuples below.now) (map change_of reader.now.own.now)
+        earlier.old.seen earlier.old.view }
     ensures first { IfOk result (λ found. option_map changed_of found ≡
         changed_from reader.now trails.now (F.tuples below.now) 1 (reads_in log.now)) }
 {
-    let mut seen = 0;
     let mut number = 0;
     'entries: for entry in log {
         let all = entry.count_on(number)?;
-        let found = changed_by(alloc, reader, trails, below, view, &mut seen, number, entry)?;
+        let found = changed_by(alloc, reader, trails, below, earlier, number, entry)?;
         if let Some(changed) = found {
             return Ok(Some(changed));
         }
@@ -102,52 +99,49 @@ fn changed_in<'a, F: Facts>(
     Ok(None)
 }
 
-// The first of the entry's reads that is met and has another value now, where so many reads come before it. The view is as the
-// attempt saw it when it had made the first `seen` of its writes.
+// The first of the entry's reads that is met and has another value now, where so many reads come before it.
 fn changed_by<'a, F: Facts>(
     alloc: Global,
     reader: &Reader<'_>,
     trails: &[Trail<'_>],
     below: &'a F,
-    view: &mut View<'a, F>,
-    seen: &mut usize,
+    earlier: &mut EarlierView<'a, F>,
     before: u64,
     entry: &Logged,
 ) -> Result<Option<Changed>, Memory>
     requires sees { SeesFirst (F.tuples below.now) (map change_of reader.now.own.now)
-        seen.old view.old }
+        earlier.old.seen earlier.old.view }
     requires fits { before + length (reads_of entry.now) < 2 ^ 64 }
-    ensures sees { OnOk result
-        (SeesFirst (F.tuples below.now) (map change_of reader.now.own.now) seen.new view.new) }
+    ensures sees { OnOk result (SeesFirst (F.tuples below.now)
+        (map change_of reader.now.own.now) earlier.new.seen earlier.new.view) }
     ensures first { IfOk result (λ found. option_map changed_of found ≡
         changed_from reader.now trails.now (F.tuples below.now) (before + 1) (reads_of entry.now)) }
 {
     match entry {
         Logged::Asked(read) => {
-            changed_read(alloc, reader, trails, below, view, seen, before + 1, read)
+            changed_read(alloc, reader, trails, below, earlier, before + 1, read)
         }
         Logged::Passed(passage) => {
-            changed_in_passage(alloc, reader, trails, below, view, seen, before, passage)
+            changed_in_passage(alloc, reader, trails, below, earlier, before, passage)
         }
     }
 }
 
-// The same of the reads of a passage.
+// The same of the reads of a passage: of each mapping that it has no violation, by an attempt that had made so many writes.
 fn changed_in_passage<'a, F: Facts>(
     alloc: Global,
     reader: &Reader<'_>,
     trails: &[Trail<'_>],
     below: &'a F,
-    view: &mut View<'a, F>,
-    seen: &mut usize,
+    earlier: &mut EarlierView<'a, F>,
     before: u64,
     passage: &Passage,
 ) -> Result<Option<Changed>, Memory>
     requires sees { SeesFirst (F.tuples below.now) (map change_of reader.now.own.now)
-        seen.old view.old }
+        earlier.old.seen earlier.old.view }
     requires fits { before + (passage.now.end - passage.now.start) < 2 ^ 64 }
-    ensures sees { OnOk result
-        (SeesFirst (F.tuples below.now) (map change_of reader.now.own.now) seen.new view.new) }
+    ensures sees { OnOk result (SeesFirst (F.tuples below.now)
+        (map change_of reader.now.own.now) earlier.new.seen earlier.new.view) }
     ensures first { IfOk result (λ found. option_map changed_of found ≡
         changed_from reader.now trails.now (F.tuples below.now) (before + 1)
         (passing passage.now.start (passage.now.end - passage.now.start) passage.now.own)) }
@@ -155,48 +149,13 @@ fn changed_in_passage<'a, F: Facts>(
     let mut number = before;
     for mapping in passage.start..passage.end {
         number += 1;
-        let found = changed_mapping(
-            alloc,
-            reader,
-            trails,
-            below,
-            view,
-            seen,
-            number,
-            mapping,
-            passage.own,
-        )?;
+        let read = finds_none(mapping, passage.own);
+        let found = changed_read(alloc, reader, trails, below, earlier, number, &read)?;
         if let Some(changed) = found {
             return Ok(Some(changed));
         }
     }
     Ok(None)
-}
-
-// The read of this number, that the mapping has no violation by an attempt that had made so many writes, if it is met and has
-// another value now.
-fn changed_mapping<'a, F: Facts>(
-    alloc: Global,
-    reader: &Reader<'_>,
-    trails: &[Trail<'_>],
-    below: &'a F,
-    view: &mut View<'a, F>,
-    seen: &mut usize,
-    number: u64,
-    mapping: u16,
-    made: u64,
-) -> Result<Option<Changed>, Memory>
-    requires sees { SeesFirst (F.tuples below.now) (map change_of reader.now.own.now)
-        seen.old view.old }
-    ensures sees { OnOk result
-        (SeesFirst (F.tuples below.now) (map change_of reader.now.own.now) seen.new view.new) }
-    ensures first { IfOk result (λ found. option_map changed_of found ≡
-        changed_from reader.now trails.now (F.tuples below.now) number
-        (finds_none_def mapping made ∷ [])) }
-{
-    let read = finds_none(mapping, made);
-    let changed = changed_read(alloc, reader, trails, below, view, seen, number, &read)?;
-    Ok(changed)
 }
 
 // The read of this number, if it is met and has another value now.
@@ -205,15 +164,14 @@ fn changed_read<'a, F: Facts>(
     reader: &Reader<'_>,
     trails: &[Trail<'_>],
     below: &'a F,
-    view: &mut View<'a, F>,
-    seen: &mut usize,
+    earlier: &mut EarlierView<'a, F>,
     number: u64,
     read: &LoggedRead,
 ) -> Result<Option<Changed>, Memory>
     requires sees { SeesFirst (F.tuples below.now) (map change_of reader.now.own.now)
-        seen.old view.old }
-    ensures sees { OnOk result
-        (SeesFirst (F.tuples below.now) (map change_of reader.now.own.now) seen.new view.new) }
+        earlier.old.seen earlier.old.view }
+    ensures sees { OnOk result (SeesFirst (F.tuples below.now)
+        (map change_of reader.now.own.now) earlier.new.seen earlier.new.view) }
     ensures first { IfOk result (λ found. option_map changed_of found ≡
         changed_from reader.now trails.now (F.tuples below.now) number (read_of read.now ∷ [])) }
 {
@@ -221,9 +179,18 @@ fn changed_read<'a, F: Facts>(
         return Ok(None);
     }
     let count = standing_then(read.own, reader.own);
-    see(alloc, view, below, reader.own, *seen, count)?;
-    *seen = count;
-    let now = view.eval(&read.query, reader.mappings, reader.direction, alloc)?;
+    see(
+        alloc,
+        &mut earlier.view,
+        below,
+        reader.own,
+        earlier.seen,
+        count,
+    )?;
+    earlier.seen = count;
+    let now = earlier
+        .view
+        .eval(&read.query, reader.mappings, reader.direction, alloc)?;
     if now.is_same(&read.answer) {
         return Ok(None);
     }

@@ -6,6 +6,13 @@ use base_types::{Facts, Memory, Write};
 use chase_eval::View;
 use std::alloc::Global;
 
+/// The view of an attempt as it was at an earlier moment: when the attempt had made the first `seen` of its writes.
+#[derive(Drop)]
+pub(crate) struct EarlierView<'a, F: Facts> {
+    pub(crate) view: View<'a, F>,
+    pub(crate) seen: usize,
+}
+
 #[tactic(auto, using(crate::proofs::Seeing::seen_anew, crate::proofs::Seeing::seen_on))]
 /// Takes the view from the first `seen` own writes to the first `count`. It is refused only for want of memory.
 pub(crate) fn see<'a, F: Facts>(

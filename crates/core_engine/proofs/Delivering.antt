@@ -1,4 +1,4 @@
--- A delivery follows, and changes of records that change nothing of what they mean.
+-- A delivery follows, and changes of queued updates that change nothing of what they mean.
 use Rattle.std.proofs.Common.{◌≡◌, ◌-◌, ◌∙◌, ap, refl, sym, subst, ℕ, zero, suc, ◌<◌, ◌+◌, ◌^◌, true, Some, None, List, [], ◌∷◌, ◌++◌, map, take, drop, length, get_or, arith}
 use Rattle.std.proofs.Math.ListN.{set}
 use Rattle.std.specs.Prelude.{if◌then◌else◌, option_map, option_and_then, slice_get}
@@ -69,7 +69,7 @@ same_by rs k r r' l spot same place = record {
   numbers = λ a. put_there rs 1 k r r' a l spot place;
 }
 
--- The record that stands at the place is changed.
+-- The queued update that stands at the place is changed.
 pub same_with : (rs : List QueuedUpdate) (k : ℕ) (r r' : QueuedUpdate) → k < length rs → r ≡ get_or rs k r → IsSame (get_or rs k r) r' → KeepsPlace (get_or rs k r) r' → AreSame rs (set rs k r')
 same_with rs k r r' l e same place = same_by rs k r r' l (sym e) (subst (λ (q : QueuedUpdate). IsSame q r') (sym e) same) (subst (λ (q : QueuedUpdate). KeepsPlace q r') (sym e) place)
 
@@ -125,7 +125,7 @@ same_plan (r ∷ rs) [] k plan e p = no (update_of [] 0 r) (updates_of [] 0 rs) 
 same_plan (r ∷ rs) (r' ∷ rs') zero plan e p = plan_for r r' plan (λ ms B. first_is (update_of ms B r') (update_of ms B r) (updates_of ms B rs') (updates_of ms B rs) (e ms B)) p
 same_plan (r ∷ rs) (r' ∷ rs') (suc k) plan e p = same_plan rs rs' k plan (λ ms B. rest_is (update_of ms B r') (update_of ms B r) (updates_of ms B rs') (updates_of ms B rs) (e ms B)) p
 
--- The parts of a core with such records are those of a core.
+-- The parts of a core with such queued updates are those of a core.
 pub kept_same : (g : Ground) (v : Kept) (rs rs' : List QueuedUpdate) (H : List PlainEntry) → AreSame rs rs' → length rs' ≡ length rs → IsKept g v rs H → IsKept g v rs' H
 kept_same g v rs rs' H same long k =
     let us : updates_of g.rules g.budget rs ≡ updates_of g.rules g.budget rs' = sym (same.updates g.rules g.budget) in
@@ -141,14 +141,14 @@ kept_same g v rs rs' H same long k =
       all = long ∙ k.all;
     }
 
--- What follows from such records follows from these.
+-- What follows from such queued updates follows from these.
 pub from_same : (g : Ground) (e : Event (machine g)) (v v' : Kept) (rs mid rs' : List QueuedUpdate) (es between es' : List Entry) → AreSame rs mid → length mid ≡ length rs → between ≡ es → IsKept g v rs (map entry_of es)
     → (IsKept g v mid (map entry_of between) → Follows g e (map entry_of between) v' rs' (map entry_of es')) → Follows g e (map entry_of es) v' rs' (map entry_of es')
 from_same g e v v' rs mid rs' es between es' same long is kept makes =
     subst (λ (xs : List Entry). Follows g e (map entry_of xs) v' rs' (map entry_of es')) is
     (makes (subst (λ (xs : List Entry). IsKept g v mid (map entry_of xs)) (sym is) (kept_same g v rs mid (map entry_of es) same long kept)))
 
--- A step from such records is one from these.
+-- A step from such queued updates is one from these.
 pub steps_from : (ms : List Rule) (s : Settings) (k : ℕ) (plan : Plan) (v v' : Kept) (rs mid rs' : List QueuedUpdate) (es between es' : List Entry) → AreSame rs mid → length mid ≡ length rs → between ≡ es
     → StepsTo ms s k plan v mid between v' rs' es' → StepsTo ms s k plan v rs es v' rs' es'
 steps_from ms s k plan v v' rs mid rs' es between es' same long e steps B D requests later kept ready planned =

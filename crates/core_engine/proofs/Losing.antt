@@ -39,7 +39,7 @@ use Rattle.core_engine.specs.Withdrawals.{IsLossLeft, WereLost, IsLossPrepared, 
 use Rattle.core_engine.specs.declared.aftermaths.Aftermath.{Aftermath}
 use Rattle.core_engine.proofs.Delivering.{mapped_more}
 use Rattle.core_engine.proofs.Following.{follows, cut_at, dropped_map, marks_for, marked_so, taken_long, within}
-use Rattle.core_engine.proofs.Making.{placed_within, record_placed}
+use Rattle.core_engine.proofs.Making.{placed_within, queued_placed}
 use Rattle.core_engine.proofs.Placing.{restarted_behind}
 use Rattle.core_engine.proofs.Preparing.{left_by}
 use Rattle.core_engine.proofs.Telling.{there_is, number_there}
@@ -108,7 +108,7 @@ pub withdraws_to : (ms : List Rule) (s : Settings) (k : ℕ) (es es' : List Entr
 withdraws_to ms s k es es' rs rs' v v' left e l prepared removed numbers long told grew B D requests later kept allowed =
     let g : Ground = ground_with ms s B D requests later in
     let us : List (Update (caused_chase ms B)) = updates_of ms B rs in
-    let at_rs : (r : QueuedUpdate) × (slice_get rs k ≡ Some r) = record_placed rs k l in
+    let at_rs : (r : QueuedUpdate) × (slice_get rs k ≡ Some r) = queued_placed rs k l in
     let r : QueuedUpdate = at_rs.0 in
     let u : Update (caused_chase ms B) = update_of ms B r in
     let at_us : slice_get us k ≡ Some u = slice_get-map (update_of ms B) rs k ∙ ap (option_map (update_of ms B)) at_rs.1 in
@@ -167,6 +167,6 @@ module _ (g : Ground) (v : Kept) (rs : List QueuedUpdate) (es : List Entry) (s :
       subst (λ (xs : List QueuedUpdate). WithdrawsTo g.rules g.settings i v xs es v' qs' es') slice withdraws g.budget g.base g.requests g.later kept (withdrawn_if (machine g) g.settings us i (slice_get us i) live_here) in
       subst (λ (m : ℕ). Follows g (Withdraws m) (map entry_of es) v' qs' (map entry_of es')) e made
 
--- The same records.
+-- The same queued updates.
 pub same_all : (rs rs' : List QueuedUpdate) → rs' ≡ rs → AreSame rs rs'
 same_all rs rs' e = record { updates = λ ms B. ap (updates_of ms B) e; numbers = λ a. subst (λ (xs : List QueuedUpdate). AreFrom 1 xs) (sym e) a }

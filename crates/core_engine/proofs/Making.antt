@@ -104,7 +104,7 @@ module _ (g : Ground) (v : Kept) (rs : List QueuedUpdate) (H : List PlainEntry) 
   some_there f None b e = absurd (none-some b e)
   some_there f (Some a) b e = (a, refl)
 
-  -- There is a record of this number.
+  -- There is a queued update of this number.
   pub at_least_one : 1 ≤ n
   at_least_one = by n refl
     where
@@ -121,9 +121,9 @@ module _ (g : Ground) (v : Kept) (rs : List QueuedUpdate) (H : List PlainEntry) 
       let x = some_there (standing (machine g) g.settings (committed (machine g) (updates_of g.rules g.budget rs)) (suc i)) (slice_get (updates_of g.rules g.budget rs) i) st (stands_placed i e) in
       omega (arith, within (updates_of g.rules g.budget rs) i x.0 x.1, mapped_long (update_of g.rules g.budget) rs)
 
-  -- That is what the record there says.
-  pub record_stands : (i : ℕ) (r : QueuedUpdate) → n ≡ suc i → slice_get rs i ≡ Some r → standing (machine g) g.settings (committed (machine g) (updates_of g.rules g.budget rs)) (suc i) (update_of g.rules g.budget r) ≡ st
-  record_stands i r e spot =
+  -- That is what the queued update there says.
+  pub queued_stands : (i : ℕ) (r : QueuedUpdate) → n ≡ suc i → slice_get rs i ≡ Some r → standing (machine g) g.settings (committed (machine g) (updates_of g.rules g.budget rs)) (suc i) (update_of g.rules g.budget r) ≡ st
+  queued_stands i r e spot =
       same_Some _ _ (sym (ap (option_map (standing (machine g) g.settings (committed (machine g) (updates_of g.rules g.budget rs)) (suc i))) (slice_get-map (update_of g.rules g.budget) rs i ∙ ap (option_map (update_of g.rules g.budget)) spot)) ∙ stands_placed i e)
 
 -- ---- ready updates
@@ -135,8 +135,8 @@ module _ (g : Ground) (v : Kept) (rs : List QueuedUpdate) (H : List PlainEntry) 
   pub ready_numbers : AreFrom 1 qs
   ready_numbers = subst (λ (xs : List QueuedUpdate). AreFrom 1 xs) (sym slice) kept.numbers
 
-  ready_record : (r : QueuedUpdate) → slice_get qs i ≡ Some r → standing (machine g) g.settings (committed (machine g) (updates_of g.rules g.budget rs)) (suc i) (update_of g.rules g.budget r) ≡ Ready
-  ready_record r spot = record_stands g v rs H s kept same n Ready stands i r (sym e) (ap (λ xs. slice_get xs i) (sym slice) ∙ spot)
+  ready_queued : (r : QueuedUpdate) → slice_get qs i ≡ Some r → standing (machine g) g.settings (committed (machine g) (updates_of g.rules g.budget rs)) (suc i) (update_of g.rules g.budget r) ≡ Ready
+  ready_queued r spot = queued_stands g v rs H s kept same n Ready stands i r (sym e) (ap (λ xs. slice_get xs i) (sym slice) ∙ spot)
 
   pub ready_placed : AtPlace i qs IsReadySomewhere
   ready_placed r spot = record {
@@ -145,7 +145,7 @@ module _ (g : Ground) (v : Kept) (rs : List QueuedUpdate) (H : List PlainEntry) 
     settings = g.settings;
     committed = committed (machine g) (updates_of g.rules g.budget rs);
     number = suc i;
-    ready = ap is_ready (ready_record r spot);
+    ready = ap is_ready (ready_queued r spot);
   }
 
   -- A ready update shows the writes of its attempt, so that the next update sees what it sees with them.
@@ -156,7 +156,7 @@ module _ (g : Ground) (v : Kept) (rs : List QueuedUpdate) (H : List PlainEntry) 
       let there : slice_get rs i ≡ Some r = ap (λ xs. slice_get xs i) (sym slice) ∙ spot in
       let found : slice_get us i ≡ Some u = slice_get-map (update_of g.rules g.budget) rs i ∙ ap (option_map (update_of g.rules g.budget)) there in
       let number : r.program.attempt.number ≡ suc i = (let one : 1 + i ≡ suc i = omega arith in (stands_at rs 1 i r kept.numbers there).number ∙ one) in
-      let o = (ready_parts (machine g) g.settings (committed (machine g) us) (suc i) u (ap is_ready (ready_record r spot))).0 in
+      let o = (ready_parts (machine g) g.settings (committed (machine g) us) (suc i) u (ap is_ready (ready_queued r spot))).0 in
       let own : trail (machine g) u ≡ r.program.attempt.own =
       ap (λ (b : Bool). if b then [] else if hides ((machine g).outcome u.state) then [] else u.state.own) o.present
       ∙ ap (λ (b : Bool). if b then [] else u.state.own) (ap hides o.going) in
@@ -174,7 +174,7 @@ module _ (g : Ground) (v : Kept) (rs : List QueuedUpdate) (H : List PlainEntry) 
 
   pub left_placed : AtPlace i qs (λ r. r.program.attempt.steps < g.budget)
   left_placed r spot =
-      step_left g v rs H i (committed (machine g) (updates_of g.rules g.budget rs)) (suc i) r kept (ap (λ xs. slice_get xs i) (sym slice) ∙ spot) (ap is_ready (ready_record r spot))
+      step_left g v rs H i (committed (machine g) (updates_of g.rules g.budget rs)) (suc i) r kept (ap (λ xs. slice_get xs i) (sym slice) ∙ spot) (ap is_ready (ready_queued r spot))
 
 -- ---- plans
 
@@ -196,7 +196,7 @@ plan_placed g v rs H s i r plan kept same spot is =
     subst (λ (o : Option QueuedUpdate). IsSomeThat (λ (q : QueuedUpdate). IsPlanFor q plan) o) (sym spot)
     (record { rules = g.rules; budget = g.budget; below = below (machine g) g.base us i; planned = record { program = step.program; reads = step.reads } })
 
--- A snapshot of the record is the step of its update.
+-- A snapshot of the queued update is the step of its update.
 pub snapshot_is : (g : Ground) (v : Kept) (rs : List QueuedUpdate) (H : List PlainEntry) (s : State) (i : ℕ) (r : QueuedUpdate) (p : PlanMeant) → IsKept g v rs H → record { over = g; history = H } ≡ s → slice_get rs i ≡ Some r
     → IsSnapshotOf g.rules g.budget v r p → IsStepAt s p
 snapshot_is g v rs H s i r p kept same spot is =
@@ -268,16 +268,16 @@ opened_kept ms B c base us later v rs es n none some retries within' sorted few 
 
 -- ---- snapshots
 
-pub record_placed : (rs : List QueuedUpdate) (i : ℕ) → i < length rs → (r : QueuedUpdate) × (slice_get rs i ≡ Some r)
-record_placed [] i l = absurd (omega (arith, l))
-record_placed (r ∷ rs) zero l = (r, refl)
-record_placed (r ∷ rs) (suc i) l = record_placed rs i (omega (arith, l))
+pub queued_placed : (rs : List QueuedUpdate) (i : ℕ) → i < length rs → (r : QueuedUpdate) × (slice_get rs i ≡ Some r)
+queued_placed [] i l = absurd (omega (arith, l))
+queued_placed (r ∷ rs) zero l = (r, refl)
+queued_placed (r ∷ rs) (suc i) l = queued_placed rs i (omega (arith, l))
 
 module _ (g : Ground) (v : Kept) (rs : List QueuedUpdate) (H : List PlainEntry) (s : State) (kept : IsKept g v rs H) (same : record { over = g; history = H } ≡ s) (n : ℕ) (stands : standing_at s n ≡ Some Ready) (i : ℕ) (e : suc i ≡ n) (qs : List QueuedUpdate) (slice : qs ≡ rs)
     (ms : List Rule) (rules : ms ≡ g.rules) (p : PlanMeant) (taken : AtPlace i qs (λ r. IsSnapshotOf ms g.budget v r p)) where
   taken_there : (r : QueuedUpdate) × (slice_get rs i ≡ Some r) × IsSnapshotOf g.rules g.budget v r p
   taken_there =
-      let x = record_placed rs i (placed_within g v rs H s kept same n Ready stands i (sym e)) in
+      let x = queued_placed rs i (placed_within g v rs H s kept same n Ready stands i (sym e)) in
       (x.0, x.1, subst (λ (ks : List Rule). IsSnapshotOf ks g.budget v x.0 p) rules (taken x.0 (ap (λ xs. slice_get xs i) slice ∙ x.1)))
 
   pub snapshot_update : p.update ≡ n
@@ -329,12 +329,12 @@ module _ (g : Ground) (v : Kept) (rs : List QueuedUpdate) (es : List Entry) (s :
 
   pub plan_ready : IsPlanAt i plan qs
   plan_ready =
-      let x = record_placed rs i (placed_within g v rs (map entry_of es) s kept same n Ready stands i (sym e)) in
+      let x = queued_placed rs i (placed_within g v rs (map entry_of es) s kept same n Ready stands i (sym e)) in
       subst (λ (xs : List QueuedUpdate). IsPlanAt i plan xs) (sym slice) (plan_placed g v rs (map entry_of es) s i x.0 plan kept same x.1 step_here)
 
   pub plan_between : plan.program.reading ≡ None
   plan_between =
-      let x = record_placed qs i (subst (λ (xs : List QueuedUpdate). i < length xs) (sym slice) (placed_within g v rs (map entry_of es) s kept same n Ready stands i (sym e))) in
+      let x = queued_placed qs i (subst (λ (xs : List QueuedUpdate). i < length xs) (sym slice) (placed_within g v rs (map entry_of es) s kept same n Ready stands i (sym e))) in
       let f : IsPlanFor x.0 plan = subst (λ (o : Option QueuedUpdate). IsSomeThat (λ (q : QueuedUpdate). IsPlanFor q plan) o) x.1 plan_ready in
       reading_of plan.program (at_rest (next_attempt f.rules f.budget f.below x.0.program.attempt (next_answer (caused_chase f.rules f.budget) (map choice_of x.0.answers.items) x.0.program.attempt))) f.planned.program
 
@@ -343,7 +343,7 @@ module _ (g : Ground) (v : Kept) (rs : List QueuedUpdate) (es : List Entry) (s :
       step_made g v v' rs qs' es es' s s i n plan kept same (sym e) stands (subst (λ (q : PlanMeant). IsStepAt s q) (sym meant) is)
       (subst (λ (xs : List QueuedUpdate). StepsTo g.rules g.settings i plan v xs es v' qs' es') slice steps)
 
--- ---- records in place
+-- ---- queued updates in place
 
 pub front : {A : Type 0} (xs ys : List A) (n : ℕ) → length xs ≡ n → take n (xs ++ ys) ≡ xs
 front [] [] zero h = refl

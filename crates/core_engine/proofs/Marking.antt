@@ -35,7 +35,7 @@ use Rattle.core_engine.specs.Planned.{IsSomeThat}
 use Rattle.core_engine.specs.States.{numbered_at}
 use Rattle.core_engine.specs.declared.known.Known.{Known}
 use Rattle.core_engine.proofs.Following.{marks_for, marked_so, mapped_long, stands_at, from_mapped, within}
-use Rattle.core_engine.proofs.Making.{front, record_placed}
+use Rattle.core_engine.proofs.Making.{front, queued_placed}
 
 -- Of no update there is nothing to show.
 pub none_known : (ms : List Rule) (v : Kept) (rs : List QueuedUpdate) (k : Known) → k.update ≡ 0 → IsKnown ms v rs k
@@ -44,7 +44,7 @@ none_known ms v rs k e r there = absurd (none-some r (ap (λ n. numbered_at rs n
 number_at : (rs : List QueuedUpdate) (i : ℕ) (r : QueuedUpdate) → AreFrom 1 rs → slice_get rs i ≡ Some r → r.program.attempt.number ≡ suc i
 number_at rs i r numbers spot = let one : 1 + i ≡ suc i = omega arith in (stands_at rs 1 i r numbers spot).number ∙ one
 
--- What is known is known of the record at its place.
+-- What is known is known of the queued update at its place.
 pub marks_here : (ms : List Rule) (v : Kept) (rs : List QueuedUpdate) (k : Known) (i : ℕ) (r : QueuedUpdate) → AreFrom 1 rs → slice_get rs i ≡ Some r → IsKnown ms v rs k → k.update ≡ r.program.attempt.number
     → AreMarksOver ms (seen r.program.attempt.number v) r k
 marks_here ms v rs k i r numbers spot known e =
@@ -95,7 +95,7 @@ marks_kept ms v r k marks update made e settled =
 attempt_of : (ms : List Rule) (B : ℕ) (r q : QueuedUpdate) → update_of ms B r ≡ update_of ms B q → r.program.attempt ≡ q.program.attempt
 attempt_of ms B r q e = ap (λ (u : Update (caused_chase ms B)). u.state) e
 
--- The record's attempt has grown by its step.
+-- The queued update's attempt has grown by its step.
 stepped_grown : (r r' : QueuedUpdate) (plan : Plan) → IsPlanFor r plan → HasStepped plan r r' → HasGrown r r'
 stepped_grown r r' plan f steps =
     let e = ap (λ (u : Update (caused_chase f.rules f.budget)). u.state) (steps f.rules f.budget f.below f.planned) in
@@ -121,7 +121,7 @@ grows_at rs rs' k r r' plan fs l spot planned steps restarts =
           subst (λ (p : QueuedUpdate). HasGrown p q') (same_Some r q (sym spot ∙ at)) (grown_as r q' r' (attempt_of [] 0 q' r' same) (stepped_grown r r' plan f steps));
     }
 
--- Records that stand for the same updates grow so.
+-- Queued updates that stand for the same updates grow so.
 pub same_grows : (rs qs rs' : List QueuedUpdate) (k : ℕ) → AreSame rs qs → GrowsAt k qs rs' → GrowsAt k rs rs'
 same_grows rs qs rs' k same grows =
     record {
@@ -160,7 +160,7 @@ grown_marks ms D D' r r' k below grown are =
 pub known_kept : (g : Ground) (v v' : Kept) (rs rs' : List QueuedUpdate) (H H' : List PlainEntry) (i : ℕ) (k : Known) → IsKept g v rs H → IsKept g v' rs' H' → GrowsAt i rs rs' → i < length rs → k.update ≡ suc i
     → IsKnown g.rules v rs k → IsKnown g.rules v' rs' k
 known_kept g v v' rs rs' H H' i k kept kept' grows l e known q there =
-    let x = record_placed rs i l in
+    let x = queued_placed rs i l in
     let spot' : slice_get rs' i ≡ Some q = ap (λ n. numbered_at rs' n) (sym e) ∙ there in
     let us : List (Update (machine g)) = updates_of g.rules g.budget rs in
     let us' : List (Update (machine g)) = updates_of g.rules g.budget rs' in

@@ -100,9 +100,9 @@ module _ (ms : List Rule) (B : ℕ) where
   pub versions_begin : (D : List Fact) (xs : List (Submission (caused_chase ms B))) (v : Kept) → StandFor v D no_trails → HaveTrails ms B D (admitted_from (caused_chase ms B) 1 xs) v
   versions_begin D xs v h = subst (λ (ts : ℕ → List Change). StandFor v D ts) (sym (λ i k. no_writes_yet xs k i)) h
 
--- ---- records
+-- ---- queued updates
 
--- One more record behind those from number n on.
+-- One more queued update behind those from number n on.
 pub from_more : (n : ℕ) (rs : List QueuedUpdate) (r : QueuedUpdate) → AreFrom n rs → StandsAt (n + length rs) r → AreFrom n (rs ++ r ∷ [])
 from_more n [] r a s = let same : n + 0 ≡ n = omega arith in (subst (λ (m : ℕ). StandsAt m r) same s, tt)
 from_more n (q ∷ rs) r a s = let same : n + suc (length rs) ≡ suc n + length rs = omega arith in (a.0, from_more (suc n) rs r a.1 (subst (λ (m : ℕ). StandsAt m r) same s))

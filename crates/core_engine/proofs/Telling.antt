@@ -24,7 +24,7 @@ use Rattle.core_engine.specs.States.{State, updates_at, numbered_at, committed_a
 use Rattle.core_engine.specs.Told.{HasStandingAt, HasQuestionAt, HasWaitingAt}
 use Rattle.core_engine.proofs.Following.{there, stands_at, mapped_long}
 
--- ---- records at places
+-- ---- queued updates at places
 
 pub there_is : (rs : List QueuedUpdate) (k : ℕ) (r : QueuedUpdate) → k < length rs → r ≡ get_or rs k r → slice_get rs k ≡ Some r
 there_is rs k r l e = there rs k r l (sym e)
@@ -34,14 +34,14 @@ set_back [] k r r' spot e = refl
 set_back (q ∷ rs) zero r r' spot e = ap (λ p. p ∷ rs) (e ∙ sym (same_Some q r spot))
 set_back (q ∷ rs) (suc k) r r' spot e = ap (λ ps. q ∷ ps) (set_back rs k r r' spot e)
 
--- A record is put back with the same attempt.
+-- A queued update is put back with the same attempt.
 pub put_back : (rs : List QueuedUpdate) (k : ℕ) (r : QueuedUpdate) (p : ProgramState) → slice_get rs k ≡ Some r → p ≡ r.program
     → set rs k (record { program = p; log = r.log; withdrawn = r.withdrawn; answers = r.answers; inbox = r.inbox; footprint = r.footprint }) ≡ rs
 put_back rs k r p spot e =
     set_back rs k r (record { program = p; log = r.log; withdrawn = r.withdrawn; answers = r.answers; inbox = r.inbox; footprint = r.footprint }) spot
     (λ i. record { program = e i; log = r.log; withdrawn = r.withdrawn; answers = r.answers; inbox = r.inbox; footprint = r.footprint })
 
--- The records are the same where the attempt of one was lent, and is as it was.
+-- The queued updates are the same where the attempt of one was lent, and is as it was.
 pub lent_back : (rs : List QueuedUpdate) (k : ℕ) (r : QueuedUpdate) (p : ProgramState) → k < length rs → r ≡ get_or rs k r → p ≡ (get_or rs k r).program
     → set rs k (record { program = p; log = (get_or rs k r).log; withdrawn = (get_or rs k r).withdrawn; answers = (get_or rs k r).answers; inbox = (get_or rs k r).inbox; footprint = (get_or rs k r).footprint }) ≡ rs
 lent_back rs k r p l e stays = put_back rs k (get_or rs k r) p (there_is rs k r l e ∙ ap (λ q. Some q) e) stays

@@ -15,7 +15,7 @@ use Rattle.set_versions.specs.Standing.{Kept}
 use Rattle.core_engine.specs.Follows.{Follows, ground_with}
 use Rattle.core_engine.specs.Kept.{IsKept}
 
--- Behind the records stands one more: update n as it is when it is admitted, with no recorded answers.
+-- Behind the queued updates stands one more: update n as it is when it is admitted, with no recorded answers.
 pub record IsNew (n : ℕ) (op : Operation) (rs rs' : List QueuedUpdate) : Type 0 where
   pub last : QueuedUpdate
   pub longer : rs' ≡ rs ++ last ∷ []

@@ -20,6 +20,6 @@ admitted_from M n (x ∷ xs) = admitted M n x ∷ admitted_from M (suc n) xs
 abbrev pub handed_in : (ms : List Rule) (B : ℕ) → List SessionUpdate → List (Submission (caused_chase ms B))
 handed_in ms B us = submissions ms B (map request_of (map session_update_of us))
 
--- The records are those of the session's updates, just admitted.
+-- The queued updates are those of the session's updates, just admitted.
 abbrev pub AreAdmitted : List SessionUpdate → List QueuedUpdate → Type 0
 AreAdmitted us rs = (ms : List Rule) (B : ℕ) → updates_of ms B rs ≡ admitted_from (caused_chase ms B) 1 (handed_in ms B us)

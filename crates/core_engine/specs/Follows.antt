@@ -44,7 +44,7 @@ abbrev pub ground_with : List Rule → Settings → ℕ → List Fact → List R
 ground_with ms s B D requests later =
     record { rules = ms; budget = B; settings = s; base = D; requests = requests; later = later }
 
--- The records stand for the same updates, in the same places.
+-- The queued updates stand for the same updates, in the same places.
 pub record AreSame (rs rs' : List QueuedUpdate) : Type 0 where
   pub updates : (ms : List Rule) (B : ℕ) → updates_of ms B rs' ≡ updates_of ms B rs
   pub numbers : AreFrom 1 rs → AreFrom 1 rs'
@@ -53,14 +53,14 @@ pub record AreSame (rs rs' : List QueuedUpdate) : Type 0 where
 abbrev pub meant_of : ℕ → Plan → PlanMeant
 meant_of n plan = record { update = n; program = plan.program; reads = reads_in plan.reads.items }
 
--- The plan is that of a step of the record, over something.
+-- The plan is that of a step of the queued update, over something.
 pub record IsPlanFor (r : QueuedUpdate) (plan : Plan) : Type 0 where
   pub rules : List Rule
   pub budget : ℕ
   pub below : List Fact
   pub planned : IsPlanOf rules budget below r plan
 
--- There is a record at the place, which has room for the reads of the plan, of whose step that is.
+-- There is a queued update at the place, which has room for the reads of the plan, of whose step that is.
 abbrev pub HasRoomAt : ℕ → Plan → List QueuedUpdate → Type 0
 HasRoomAt k plan rs = IsSomeThat (λ (r : QueuedUpdate). HasRoomFor plan r) (slice_get rs k)
 

@@ -16,7 +16,7 @@ pub record AreMarksOver (ms : List Rule) (D : List Fact) (r : QueuedUpdate) (k :
   pub few : k.made ≤ length r.program.attempt.own
   pub settled : HasSettledBy k.made ms D r.program.attempt k.marks
 
--- They are the record's marks, over what its update sees.
+-- They are the queued update's marks, over what its update sees.
 pub record AreMarksOf (ms : List Rule) (v : Kept) (r : QueuedUpdate) (k : Known) : Type 0 where
   pub update : k.update ≡ r.program.attempt.number
   pub marks : AreMarksOver ms (seen r.program.attempt.number v) r k

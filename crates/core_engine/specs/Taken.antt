@@ -1,4 +1,4 @@
--- The snapshot that is taken of a record.
+-- The snapshot that is taken of a queued update.
 use Rattle.std.specs.Prelude.{◌≡◌, ◌<◌, ◌+◌, ◌^◌, ℕ, suc, true, List, map, Some, slice_get}
 use Rattle.base_types.specs.Meanings.{choice_of}
 use Rattle.def_machine.specs.Standings.{standing, is_ready, next_answer}
@@ -14,7 +14,7 @@ use Rattle.def_steps.specs.Chase.{caused_chase}
 use Rattle.set_versions.specs.Standing.{Kept, seen}
 use Rattle.core_engine.specs.Planned.{PlanMeant}
 
--- The record at the place, if there is one, meets this.
+-- The queued update at the place, if there is one, meets this.
 abbrev pub AtPlace : ℕ → List QueuedUpdate → (QueuedUpdate → Type 0) → Type 0
 AtPlace k rs P = (r : QueuedUpdate) → slice_get rs k ≡ Some r → P r
 
@@ -34,7 +34,7 @@ pub record IsHeldBy (ms : List Rule) (v : Kept) (r : QueuedUpdate) : Type 0 wher
   pub few : r.program.attempt.number + 1 < 2 ^ 32
   pub valid : AreValidOver ms (seen r.program.attempt.number v) r.program.attempt (reads_in r.log.items)
 
--- It plans the next step of the record's attempt over what its update sees.
+-- It plans the next step of the queued update's attempt over what its update sees.
 pub record IsSnapshotOf (ms : List Rule) (B : ℕ) (v : Kept) (r : QueuedUpdate) (p : PlanMeant) : Type 0 where
   pub update : p.update ≡ r.program.attempt.number
   pub program : p.program ≡ at_rest (next_attempt ms B (seen r.program.attempt.number v) r.program.attempt (next_answer (caused_chase ms B) (map choice_of r.answers.items) r.program.attempt))

@@ -49,8 +49,8 @@ fn next_number(queue: &[QueuedUpdate]) -> u32
     queue.len() as u32 + 1
 }
 
-// Makes room for the entry and for the update, and then puts its record behind the others. It is refused only for want of
-// memory.
+// Makes room for the entry and for the update, and then puts its queued update behind the others. It is refused only
+// for want of memory.
 fn prepare_admission(
     alloc: Global,
     queue: &mut Vec<QueuedUpdate>,
@@ -70,8 +70,8 @@ fn prepare_admission(
     history.reserve(1)?;
     later.reserve(1)?;
     let none = ChoiceList::new(alloc);
-    let record = QueuedUpdate::admit(alloc, update, number, &none)?;
-    queue.push(record)?;
+    let queued = QueuedUpdate::admit(alloc, update, number, &none)?;
+    queue.push(queued)?;
     Ok(())
 }
 

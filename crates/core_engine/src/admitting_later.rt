@@ -7,6 +7,7 @@ ghost use Rattle.core_engine.specs.States.{updates_at};
 use crate::admissions::admit_at;
 use crate::cores::Core;
 use crate::refusals::AdmitRefusal;
+use base_limits::MOST_UPDATES;
 use base_types::Update;
 use lang_schema::Schema;
 use lang_session::admits;
@@ -31,7 +32,7 @@ impl<'s> Core<'s> {
         ensures answer { AnswersAdmission (length (updates_at self.old)) result }
         ensures back { IfErr result (λ refused. refused.1 ≡ update) }
     {
-        if self.count() >= 1000 {
+        if self.count() >= MOST_UPDATES {
             return Err((AdmitRefusal::Full, update));
         }
         match self.make_admission(alloc, update) {

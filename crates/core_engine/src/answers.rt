@@ -95,9 +95,9 @@ fn answer_entry(settings: Settings, queue: &[QueuedUpdate], place: usize, choice
     ensures told { TellsAnswer (settings_of settings) place (choice_of choice) queue.now result }
 {
     let committed = committed(queue);
-    let record = &queue[place];
-    let update = record.number();
-    let standing = record.standing(settings, committed, update);
+    let queued = &queue[place];
+    let update = queued.number();
+    let standing = queued.standing(settings, committed, update);
     Entry::Answered {
         update,
         choice,

@@ -20,6 +20,7 @@ use crate::known::Known;
 use crate::plans::{Plan, Snapshot, plan_at, snapshot_at};
 use crate::putting::{least_below, step_at};
 use crate::refusals::{DeliverRefusal, StepRefusal};
+use crate::scenes::Scene;
 use crate::standings::{has_waiting, place_of, question, standing};
 use crate::stepping::{lesser, raised};
 use base_limits::Budget;
@@ -288,12 +289,15 @@ impl<'s> Core<'s> {
         self.unready = 0;
         let known = self.known.number_of(update);
         self.known.update = 0;
-        let committed = step_at(
-            alloc,
-            self.mappings.all(),
-            self.settings,
+        let scene = Scene {
+            mappings: self.mappings.all(),
+            settings: self.settings,
             least,
             most,
+        };
+        let committed = step_at(
+            alloc,
+            &scene,
             &mut self.versions,
             &mut self.queue,
             &mut self.history,

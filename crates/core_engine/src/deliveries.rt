@@ -81,8 +81,8 @@ fn delivery_entry(settings: Settings, queue: &[QueuedUpdate], place: usize) -> E
     ensures told { TellsDelivery (settings_of settings) place queue.now result }
 {
     let committed = committed(queue);
-    let record = &queue[place];
-    let update = record.number();
-    let standing = record.standing(settings, committed, update);
+    let queued = &queue[place];
+    let update = queued.number();
+    let standing = queued.standing(settings, committed, update);
     Entry::Delivered { update, standing }
 }

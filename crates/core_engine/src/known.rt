@@ -35,8 +35,8 @@ impl Known {
         })
     }
 
-    /// The mappings that are settled for the record's update, by its marks if they are there, and else by its log. From then on
-    /// there are marks of no update. It is refused only for want of memory.
+    /// The mappings that are settled for the queued update, by its marks if they are there, and else by its log. From
+    /// then on there are marks of no update. It is refused only for want of memory.
     pub(crate) fn take(
         &mut self,
         alloc: Global,

@@ -19,6 +19,7 @@ mod plans;
 mod putting;
 mod refusals;
 mod results;
+mod scenes;
 mod standings;
 mod stepping;
 mod withdrawals;

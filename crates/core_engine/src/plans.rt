@@ -155,7 +155,8 @@ pub(crate) fn plan_at(
     plan_of(alloc, mappings, budget, versions, item, branch, known)
 }
 
-// The plan of the next step of the record, which is ready, on a branch of its attempt, by what is known of it; its marks are kept.
+// The plan of the next step of the queued update, which is ready, on a branch of its attempt, by what is known of it;
+// its marks are kept.
 fn plan_of(
     alloc: Global,
     mappings: &TouchedMappings<'_>,
@@ -222,7 +223,7 @@ pub(crate) fn snapshot_at<'s>(
     Ok(snapshot)
 }
 
-// A snapshot of the next step of the record, which is ready.
+// A snapshot of the next step of the queued update, which is ready.
 fn snapshot_of<'s>(
     alloc: Global,
     mappings: &TouchedMappings<'s>,

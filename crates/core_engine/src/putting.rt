@@ -10,8 +10,8 @@ ghost use Rattle.set_versions.specs.Standing.{Kept};
 ghost use Rattle.core_engine.specs.Known.{GrowsAt};
 ghost use Rattle.core_engine.specs.Follows.{AreSame, HasRoomAt, IsPlanAt, IsPreparedAt, KeepsUnread, KeepsUnready, TellsStep, StepsTo};
 
+use crate::scenes::Scene;
 use crate::stepping::{Prepared, install, prepare_at, put_last, reserve_step};
-use base_limits::Mappings;
 use base_types::{Memory, WriteList};
 use chase_plan::Plan;
 use core_entries::{CauseList, Entry, EntryList};
@@ -19,15 +19,11 @@ use core_queue::{QueuedUpdate, Settings, committed_from};
 use set_versions::Versions;
 use std::alloc::Global;
 
-/// Makes the step of the plan, which is the next one of the update at the place, where at least so many are committed and
-/// at most so many have read something. It gives how many are committed at least then. It is refused only for want of
-/// memory; what the queue and the history mean then stays.
+/// Makes the step of the plan, which is the next one of the update at the place. It gives how many are committed at least
+/// then. It is refused only for want of memory; what the queue and the history mean then stays.
 pub(crate) fn step_at(
     alloc: Global,
-    mappings: &Mappings<'_>,
-    settings: Settings,
-    least: u32,
-    most: u32,
+    scene: &Scene<'_>,
     versions: &mut Versions,
     queue: &mut [QueuedUpdate],
     history: &mut EntryList,
@@ -36,14 +32,15 @@ pub(crate) fn step_at(
 ) -> Result<u32, Memory>
     requires place { place < length queue.old }
     requires numbers { AreFrom 1 queue.old }
-    requires least { CommitsAtLeast queue.old least }
-    requires most { ReadsAtMost queue.old most }
-    requires few { most ≤ length queue.old }
+    requires least { CommitsAtLeast queue.old scene.now.least }
+    requires most { ReadsAtMost queue.old scene.now.most }
+    requires few { scene.now.most ≤ length queue.old }
     requires more { AllHaveOneMore queue.old }
     requires plan { IsPlanAt place plan queue.old }
     requires after { IsBetween plan.program }
-    ensures made { OnOk result (StepsTo mappings.now (settings_of settings) place plan versions.old
-        queue.old history.old.items versions.new queue.new history.new.items) }
+    ensures made { OnOk result (StepsTo scene.now.mappings.now
+        (settings_of scene.now.settings) place plan versions.old queue.old history.old.items
+        versions.new queue.new history.new.items) }
     ensures committed { IfOk result (CommitsAtLeast queue.new) }
     ensures most { OnOk result (KeepsUnread place queue.old queue.new) }
     ensures unready { OnOk result (KeepsUnready place queue.old queue.new) }
@@ -53,10 +50,16 @@ pub(crate) fn step_at(
     ensures history { OnErr result (history.new.items ≡ history.old.items) }
     ensures long { length queue.new ≡ length queue.old }
 {
-    match ready_step(
-        alloc, mappings, settings, least, most, versions, queue, history, place, &plan,
-    ) {
-        Ok(prepared) => Ok(put_step(settings, least, queue, history, place, plan, prepared)),
+    match ready_step(alloc, scene, versions, queue, history, place, &plan) {
+        Ok(prepared) => Ok(put_step(
+            scene.settings,
+            scene.least,
+            queue,
+            history,
+            place,
+            plan,
+            prepared,
+        )),
         Err(refusal) => {
             drop(plan);
             Err(refusal)
@@ -64,15 +67,11 @@ pub(crate) fn step_at(
     }
 }
 
-// Makes room for the step of the plan, and prepares what it leaves, where at least so many are committed and at most so many
-// have read something. The versions are put in place with it. It is refused only for want of memory; the versions are then
-// as they were. What queue and history mean stays.
+// Makes room for the step of the plan, and prepares what it leaves. The versions are put in place with it. It is refused only
+// for want of memory; the versions are then as they were. What queue and history mean stays.
 fn ready_step(
     alloc: Global,
-    mappings: &Mappings<'_>,
-    settings: Settings,
-    least: u32,
-    most: u32,
+    scene: &Scene<'_>,
     versions: &mut Versions,
     queue: &mut [QueuedUpdate],
     history: &mut EntryList,
@@ -81,15 +80,15 @@ fn ready_step(
 ) -> Result<Prepared, Memory>
     requires place { place < length queue.old }
     requires numbers { AreFrom 1 queue.old }
-    requires least { CommitsAtLeast queue.old least }
-    requires most { ReadsAtMost queue.old most }
-    requires few { most ≤ length queue.old }
+    requires least { CommitsAtLeast queue.old scene.now.least }
+    requires most { ReadsAtMost queue.old scene.now.most }
+    requires few { scene.now.most ≤ length queue.old }
     requires more { AllHaveOneMore queue.old }
     requires after { IsBetween plan.now.program }
     ensures room { OnOk result (HasRoomAt place plan.now queue.new) }
     ensures spare { OnOk result (1 ≤ history.new.spare) }
-    ensures prepared { IfOk result (IsPreparedAt mappings.now
-        (settings_of settings) place plan.now versions.old queue.new versions.new) }
+    ensures prepared { IfOk result (IsPreparedAt scene.now.mappings.now
+        (settings_of scene.now.settings) place plan.now versions.old queue.new versions.new) }
     ensures fresh { IfOk result (λ p. AreFresh (drop (suc place) queue.new) p.left.fresh.items) }
     ensures versions { OnErr result (versions.new ≡ versions.old) }
     ensures same { AreSame queue.old queue.new }
@@ -97,9 +96,7 @@ fn ready_step(
     ensures history { history.new.items ≡ history.old.items }
 {
     reserve_step(queue, history, place, plan)?;
-    prepare_at(
-        alloc, mappings, settings, least, most, versions, queue, place, plan,
-    )
+    prepare_at(alloc, scene, versions, queue, place, plan)
 }
 
 // Puts the step of the plan in place, which was prepared and whose versions are in place: it is the next one of the update at the
@@ -161,9 +158,9 @@ fn step_entry(
     requires committed { HasCommitted queue.now committed }
     ensures told { TellsStep (settings_of settings) place attempt writes causes queue.now result }
 {
-    let record = &queue[place];
-    let update = record.number();
-    let standing = record.standing(settings, committed, update);
+    let queued = &queue[place];
+    let update = queued.number();
+    let standing = queued.standing(settings, committed, update);
     Entry::Stepped {
         update,
         attempt,

@@ -13,9 +13,9 @@ use chase_question::Question;
 use core_entries::Standing;
 use core_queue::{QueuedUpdate, Settings, committed};
 
-/// The record of the update of this number, counted from 1; None exactly where there is none.
-pub(crate) fn record_at(queue: &[QueuedUpdate], number: u32) -> Option<&QueuedUpdate>
-    ensures record { option_copied result ≡ numbered_at queue.now number }
+/// The queued update of the update of this number, counted from 1; None exactly where there is none.
+pub(crate) fn queued_at(queue: &[QueuedUpdate], number: u32) -> Option<&QueuedUpdate>
+    ensures queued { option_copied result ≡ numbered_at queue.now number }
 {
     if number == 0 {
         return None;
@@ -30,8 +30,8 @@ pub(crate) fn standing(queue: &[QueuedUpdate], settings: Settings, number: u32) 
     ensures standing { HasStandingAt (settings_of settings) queue.now number
         (option_map standing_of result) }
 {
-    match record_at(queue, number) {
-        Some(record) => Some(record.standing(settings, committed(queue), number)),
+    match queued_at(queue, number) {
+        Some(queued) => Some(queued.standing(settings, committed(queue), number)),
         None => None,
     }
 }
@@ -43,8 +43,8 @@ pub(crate) fn question(queue: &[QueuedUpdate], settings: Settings, number: u32) 
     ensures question { HasQuestionAt (settings_of settings) queue.now number
         (option_map inquiry_of (option_copied result)) }
 {
-    match record_at(queue, number) {
-        Some(record) => record.question(settings, committed(queue), number),
+    match queued_at(queue, number) {
+        Some(queued) => queued.question(settings, committed(queue), number),
         None => None,
     }
 }
@@ -53,8 +53,8 @@ pub(crate) fn question(queue: &[QueuedUpdate], settings: Settings, number: u32) 
 pub(crate) fn has_waiting(queue: &[QueuedUpdate], number: u32) -> bool
     ensures waiting { HasWaitingAt queue.now number result }
 {
-    match record_at(queue, number) {
-        Some(record) => !record.inbox.is_empty(),
+    match queued_at(queue, number) {
+        Some(queued) => !queued.inbox.is_empty(),
         None => false,
     }
 }

@@ -13,14 +13,14 @@ ghost use Rattle.core_engine.specs.Steps.{HasHidden, HasTurned, ShowsStep, WereF
 
 use crate::aftermaths::{Aftermath, settled};
 use crate::alone::{is_alone, prepare_alone};
-use base_limits::Mappings;
+use crate::scenes::{Scene, Spot};
 use base_types::{Memory, TryCopy, Write, WriteList};
 use chase_plan::Plan;
 use chase_update::{Attempt, Outcome};
 use core_cascade::Cascade;
 use core_conflict::Sense;
 use core_entries::{Cause, Entry, EntryList};
-use core_queue::{QueuedUpdate, Settings, committed_from, has_spent, outcome, restart_marked};
+use core_queue::{QueuedUpdate, committed_from, has_spent, outcome, restart_marked};
 use set_versions::Versions;
 use std::alloc::Global;
 
@@ -31,69 +31,62 @@ pub(crate) struct Prepared {
     pub(crate) left: Aftermath,
 }
 
-/// What the step of the plan leaves, where `upper` are the updates above that of the record, the first of which may have
-/// read something, and so many are committed. The versions after it are made aside, and put in place last. It is refused only
-/// for want of memory; the versions are then as they were.
+/// What the step of the plan leaves. The plan is one of the update at the spot, and so many updates are committed. The
+/// versions after it are made aside, and put in place last. It is refused only for want of memory; the versions are then
+/// as they were.
 pub(crate) fn prepare(
     alloc: Global,
-    mappings: &Mappings<'_>,
-    settings: Settings,
+    scene: &Scene<'_>,
     committed: u32,
     versions: &mut Versions,
-    item: &QueuedUpdate,
-    upper: &[QueuedUpdate],
-    readers: usize,
+    spot: &Spot<'_>,
     plan: &Plan,
 ) -> Result<Prepared, Memory>
-    requires between { IsBetween item.now.program }
+    requires between { IsBetween spot.now.item.now.program }
     requires after { IsBetween plan.now.program }
-    requires numbers { AreFrom (suc item.now.program.attempt.number) upper.now }
-    requires read { ReadsAtMost upper.now readers }
-    requires within { readers ≤ length upper.now }
-    requires more { AllHaveOneMore upper.now }
-    ensures prepared { IfOk result (IsPrepared mappings.now (settings_of settings) committed
-        versions.old item.now upper.now plan.now versions.new) }
-    ensures fresh { IfOk result (λ p. AreFresh upper.now p.left.fresh.items) }
+    requires numbers { AreFrom (suc spot.now.item.now.program.attempt.number) spot.now.upper.now }
+    requires read { ReadsAtMost spot.now.upper.now spot.now.readers }
+    requires within { spot.now.readers ≤ length spot.now.upper.now }
+    requires more { AllHaveOneMore spot.now.upper.now }
+    ensures prepared { IfOk result (IsPrepared scene.now.mappings.now
+        (settings_of scene.now.settings) committed versions.old spot.now.item.now
+        spot.now.upper.now plan.now versions.new) }
+    ensures fresh { IfOk result (λ p. AreFresh spot.now.upper.now p.left.fresh.items) }
     ensures err { OnErr result (versions.new ≡ versions.old) }
 {
-    let mut after = versions_after(alloc, versions, item, plan)?;
-    let found = found(
-        alloc, mappings, settings, committed, versions, &after, item, upper, readers, plan,
-    )?;
-    let writes = copied(alloc, item.written(plan))?;
-    let left = settled(alloc, &mut after, upper, found)?;
+    let mut after = versions_after(alloc, versions, spot.item, plan)?;
+    let found = found(alloc, scene, committed, versions, &after, spot, plan)?;
+    let writes = copied(alloc, spot.item.written(plan))?;
+    let left = settled(alloc, &mut after, spot.upper, found)?;
     *versions = after;
     Ok(Prepared { writes, left })
 }
 
-// Why each of the updates above is restarted by the step, if it is; the first may have read something, so many. `after` are
-// the versions after it.
+// Why each of the updates above is restarted by the step, if it is. `after` are the versions after it.
 fn found<'a>(
     alloc: Global,
-    mappings: &'a Mappings<'a>,
-    settings: Settings,
+    scene: &'a Scene<'a>,
     committed: u32,
     versions: &'a Versions,
     after: &'a Versions,
-    item: &QueuedUpdate,
-    upper: &[QueuedUpdate],
-    readers: usize,
+    spot: &Spot<'_>,
     plan: &Plan,
 ) -> Result<Vec<Option<Cause>>, Memory>
-    requires between { IsBetween item.now.program }
+    requires between { IsBetween spot.now.item.now.program }
     requires after { IsBetween plan.now.program }
-    requires numbers { AreFrom (suc item.now.program.attempt.number) upper.now }
-    requires read { ReadsAtMost upper.now readers }
-    requires within { readers ≤ length upper.now }
-    ensures found { IfOk result (λ found. WereFound mappings.now
-        (settings_of settings) committed versions.now after.now item.now upper.now plan.now
-        found.items) }
-    ensures long { IfOk result (λ found. length found.items ≤ readers) }
+    requires numbers { AreFrom (suc spot.now.item.now.program.attempt.number) spot.now.upper.now }
+    requires read { ReadsAtMost spot.now.upper.now spot.now.readers }
+    requires within { spot.now.readers ≤ length spot.now.upper.now }
+    ensures found { IfOk result (λ found. WereFound scene.now.mappings.now
+        (settings_of scene.now.settings) committed versions.now after.now spot.now.item.now
+        spot.now.upper.now plan.now found.items) }
+    ensures long { IfOk result (λ found. length found.items ≤ spot.now.readers) }
 {
+    let item = spot.item;
     let (sense, written) = turned(item, plan);
     let mut walk = Cascade {
-        mappings,
-        deps: settings.deps,
+        mappings: scene.mappings,
+        deps: scene.settings.deps,
         committed,
         update: item.number(),
         sense,
@@ -101,9 +94,9 @@ fn found<'a>(
     };
     if has_spent(&plan.program) {
         walk.whole = versions;
-        return walk.causes_of_loss(alloc, item.trail(), upper, readers);
+        return walk.causes_of_loss(alloc, item.trail(), spot.upper, spot.readers);
     }
-    walk.causes_of_writes(alloc, written, upper, readers)
+    walk.causes_of_writes(alloc, written, spot.upper, spot.readers)
 }
 
 // The writes that come by the step, or that go where the attempt ends by it spent or refused.
@@ -160,15 +153,11 @@ pub(crate) fn copied(alloc: Global, writes: &[Write]) -> Result<WriteList, Memor
     Ok(copies)
 }
 
-/// What the step of the plan leaves, which is one of the update at the place, where at least so many are committed and at
-/// most so many have read something. The versions are put in place with it. It is refused only for want of memory; the versions
-/// are then as they were.
+/// What the step of the plan leaves. The plan is one of the update at the place. The versions are put in place with it.
+/// It is refused only for want of memory; the versions are then as they were.
 pub(crate) fn prepare_at(
     alloc: Global,
-    mappings: &Mappings<'_>,
-    settings: Settings,
-    least: u32,
-    most: u32,
+    scene: &Scene<'_>,
     versions: &mut Versions,
     queue: &[QueuedUpdate],
     place: usize,
@@ -176,26 +165,29 @@ pub(crate) fn prepare_at(
 ) -> Result<Prepared, Memory>
     requires place { place < length queue.now }
     requires numbers { AreFrom 1 queue.now }
-    requires least { CommitsAtLeast queue.now least }
-    requires most { ReadsAtMost queue.now most }
-    requires few { most ≤ length queue.now }
+    requires least { CommitsAtLeast queue.now scene.now.least }
+    requires most { ReadsAtMost queue.now scene.now.most }
+    requires few { scene.now.most ≤ length queue.now }
     requires more { AllHaveOneMore queue.now }
     requires after { IsBetween plan.now.program }
-    ensures prepared { IfOk result (IsPreparedAt mappings.now
-        (settings_of settings) place plan.now versions.old queue.now versions.new) }
+    ensures prepared { IfOk result (IsPreparedAt scene.now.mappings.now
+        (settings_of scene.now.settings) place plan.now versions.old queue.now versions.new) }
     ensures fresh { IfOk result (λ p. AreFresh (drop (suc place) queue.now) p.left.fresh.items) }
     ensures err { OnErr result (versions.new ≡ versions.old) }
 {
-    let committed = committed_from(queue, least);
+    let committed = committed_from(queue, scene.least);
     let item = &queue[place];
     let upper = above(queue, place);
-    let readers = readers_above(queue, place, most);
+    let readers = readers_above(queue, place, scene.most);
     if is_alone(readers, &plan.program) {
         return prepare_alone(alloc, versions, item, plan);
     }
-    prepare(
-        alloc, mappings, settings, committed, versions, item, upper, readers, plan,
-    )
+    let spot = Spot {
+        item,
+        upper,
+        readers,
+    };
+    prepare(alloc, scene, committed, versions, &spot, plan)
 }
 
 /// The updates above the place.

@@ -98,8 +98,9 @@ fn prepare_loss_at(
     prepare_loss(alloc, mappings, settings, committed, versions, item, upper)
 }
 
-// What the withdrawal of the record leaves, where `upper` are the updates above it, and so many are committed. The versions
-// after it are made aside, and put in place last. It is refused only for want of memory; the versions are then as they were.
+// What the withdrawal of the queued update leaves, where `upper` are the updates above it, and so many are committed.
+// The versions after it are made aside, and put in place last. It is refused only for want of memory; the versions are
+// then as they were.
 fn prepare_loss(
     alloc: Global,
     mappings: &Mappings<'_>,
@@ -182,8 +183,8 @@ fn withdrawal_entry(queue: &[QueuedUpdate], place: usize, causes: CauseList) -> 
     ensures told { TellsWithdrawal place causes queue.now result }
 {
     let committed = committed(queue);
-    let record = &queue[place];
-    let update = record.number();
+    let queued = &queue[place];
+    let update = queued.number();
     Entry::Withdrawn {
         update,
         causes,

@@ -1,4 +1,4 @@
--- Restarts one after the other, over the records of a queue.
+-- Restarts one after the other, over the queued updates of a queue.
 use Rattle.std.proofs.Common.{◌≡◌, ◌∙◌, ap, sym, refl, subst, ℕ, suc, zero, ◌<◌, ◌+◌, Bool, Option, List, [], ◌∷◌, ◌++◌, map, length, get_or, take, drop, arith}
 use Rattle.std.specs.Prelude.{if◌then◌else◌, is_some}
 use Rattle.std.proofs.Math.ListN.{set}
@@ -39,7 +39,7 @@ turn M (x ∷ us) (suc k) n v b bs u h e r = let l : k < length us = omega (arit
 
 -- ---- places
 
--- The record at a place stands there.
+-- The queued update at a place stands there.
 pub stands_there : (rs : List QueuedUpdate) (n k : ℕ) (r : QueuedUpdate) → AreFrom n rs → k < length rs → get_or rs k r ≡ r → StandsAt (n + k) r
 stands_there [] n k r a h e = absurd (omega (arith, h))
 stands_there (x ∷ rs) n zero r a h e = let same : n ≡ n + 0 = omega arith in subst (λ (m : ℕ). StandsAt m r) same (subst (λ (y : QueuedUpdate). StandsAt n y) e a.0)
@@ -47,7 +47,7 @@ stands_there (x ∷ rs) n (suc k) r a h e =
     let l : k < length rs = omega (arith, h) in
     let same : suc n + k ≡ n + suc k = omega arith in subst (λ (m : ℕ). StandsAt m r) same (stands_there rs (suc n) k r a.1 l e)
 
--- A record that keeps its place can be put there.
+-- A queued update that keeps its place can be put there.
 pub put_there : (rs : List QueuedUpdate) (n k : ℕ) (r v : QueuedUpdate) → AreFrom n rs → k < length rs → get_or rs k r ≡ r → KeepsPlace r v → AreFrom n (set rs k v)
 put_there [] n k r v a h e f = absurd (omega (arith, h))
 put_there (x ∷ rs) n zero r v a h e f = (f n (subst (λ (y : QueuedUpdate). StandsAt n y) e a.0), a.1)
@@ -55,14 +55,14 @@ put_there (x ∷ rs) n (suc k) r v a h e f = let l : k < length rs = omega (arit
 
 -- ---- fresh attempts
 
--- There is a record for each.
+-- There is a queued update for each.
 pub fresh_within : (rs : List QueuedUpdate) (k : ℕ) (f : Option State) (fs : List (Option State)) → AreFresh (drop k rs) (f ∷ fs) → k < length rs
 fresh_within [] zero f fs h = absurd h
 fresh_within [] (suc k) f fs h = absurd h
 fresh_within (x ∷ rs) zero f fs h = omega arith
 fresh_within (x ∷ rs) (suc k) f fs h = let l : k < length rs = fresh_within rs k f fs h in omega (arith, l)
 
--- The others are those of the records behind it.
+-- The others are those of the queued updates behind it.
 pub fresh_rest : (rs : List QueuedUpdate) (k : ℕ) (f : Option State) (fs : List (Option State)) (v : QueuedUpdate) → AreFresh (drop k rs) (f ∷ fs) → AreFresh (drop (suc k) (set rs k v)) fs
 fresh_rest [] zero f fs v h = absurd h
 fresh_rest [] (suc k) f fs v h = absurd h
@@ -71,7 +71,7 @@ fresh_rest (x ∷ rs) (suc k) f fs v h = fresh_rest rs k f fs v h
 
 -- ---- one turn
 
--- The record at place k begins its next attempt, if there is one.
+-- The queued update at place k begins its next attempt, if there is one.
 pub turned : (ms : List Rule) (B : ℕ) (rs : List QueuedUpdate) (k m : ℕ) (r v : QueuedUpdate) (f : Option State) (bs : List Bool) → AreFrom 1 rs → k < length rs → get_or rs k r ≡ r → HasRestartedIf f r v → m ≡ suc k
     → take m (updates_of ms B (set rs k v)) ++ restart_by (caused_chase ms B) (suc m) bs (drop m (updates_of ms B (set rs k v)))
     ≡ take k (updates_of ms B rs) ++ restart_by (caused_chase ms B) (suc k) (is_some f ∷ bs) (drop k (updates_of ms B rs))
@@ -85,7 +85,7 @@ turned ms B rs k m r v f bs a h e g q =
     (λ i. take (q i) (map-set (update_of ms B) rs k v i) ++ restart_by M (suc (q i)) bs (drop (q i) (map-set (update_of ms B) rs k v i)))
     ∙ turn M (updates_of ms B rs) k (suc k) (update_of ms B v) (is_some f) bs u l (get_or-map (update_of ms B) rs k r u h ∙ ap (update_of ms B) e) made
 
--- The records behind those that were restarted stay as they are.
+-- The queued updates behind those that were restarted stay as they are.
 pub restarted : (ms : List Rule) (B : ℕ) (us all : List (Update (caused_chase ms B))) (k n : ℕ) (xs : List (Option (Cause (caused_chase ms B)))) (fs gs : List (Option State)) → gs ≡ [] → map is_some xs ≡ map is_some fs
     → take k us ++ restart_by (caused_chase ms B) (suc k) (map is_some gs) (drop k us) ≡ take n all ++ restart_by (caused_chase ms B) (suc n) (map is_some fs) (drop n all)
     → us ≡ take n all ++ restart (caused_chase ms B) (suc n) xs (drop n all)

@@ -50,7 +50,7 @@ one_more_unready rs n k r e l at fails h ms B =
     let here : get_or (updates_of ms B rs) n (update_of ms B r) ≡ update_of ms B r = get_or-map (update_of ms B) rs n r (update_of ms B r) l ∙ ap (update_of ms B) at in
     subst (λ (i : ℕ). AreUnready M i (updates_of ms B rs)) (sym e) (longer M n (updates_of ms B rs) (update_of ms B r) m here (fails ms B) (h ms B))
 
--- The record at the place stands between two steps.
+-- The queued update at the place stands between two steps.
 pub between_here : (rs : List QueuedUpdate) (i : ℕ) (r : QueuedUpdate) → i < length rs → r ≡ get_or rs i r → AreFrom 1 rs → IsBetween r.program
 between_here rs i r l is from = let m : i ≤ length rs = omega (arith, l) in (stands_here rs i (i + 1) r l is (from_behind rs 1 i m from)).between
 

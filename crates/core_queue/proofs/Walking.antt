@@ -1,4 +1,4 @@
--- Walks over a queue, record by record.
+-- Walks over a queue, update by update.
 use Rattle.std.proofs.Common.{◌≡◌, ◌∙◌, ap, refl, sym, subst, ℕ, zero, suc, [], map, ◌&&◌, not, ◌≤◌, ◌<◌, ◌+◌, Bool, true, false, Option, Some, None, List, ◌∷◌, length, get_or, drop, arith}
 use Rattle.std.specs.Prelude.{if◌then◌else◌}
 use Rattle.std.proofs.lemmas.Bool.{both_ways, eq-eqb, ne_eqb}
@@ -17,11 +17,11 @@ use Rattle.core_queue.specs.Updates.{IsOver}
 use Rattle.core_queue.specs.Order.{CommitsAtLeast, CommitsOn, HasCommitted, IsNextDeliverable, IsNextOf, only}
 use Rattle.core_queue.specs.declared.updates.QueuedUpdate.{QueuedUpdate}
 
--- What is left of a queue is the record at the place, and what is left behind it.
+-- What is left of a queue is the queued update at the place, and what is left behind it.
 left_of : (rs : List QueuedUpdate) (i : ℕ) (r : QueuedUpdate) → i < length rs → r ≡ get_or rs i r → drop i rs ≡ r ∷ drop (i + 1) rs
 left_of rs i r h e = drop_more rs i r h ∙ ap (λ (x : QueuedUpdate). x ∷ drop (i + 1) rs) (sym e)
 
--- The record at the place stands there.
+-- The queued update at the place stands there.
 pub stands_here : (rs : List QueuedUpdate) (i n : ℕ) (r : QueuedUpdate) → i < length rs → r ≡ get_or rs i r → AreFrom n (drop i rs) → StandsAt n r
 stands_here rs i n r h e a =
     let all : AreFrom n (r ∷ drop (i + 1) rs) = subst (AreFrom n) (left_of rs i r h e) a in all.0
@@ -44,7 +44,7 @@ IsFirst p n rs o = (ms : List Rule) (B : ℕ) → o ≡ lowest_that {M = caused_
 abbrev pub Tells : Test → ℕ → QueuedUpdate → Bool → Type 0
 Tells p k r b = (ms : List Rule) (B : ℕ) → b ≡ p ms B k (update_of ms B r)
 
--- The record at the place passes it.
+-- The queued update at the place passes it.
 pub found : (p : Test) (rs : List QueuedUpdate) (i n k : ℕ) (r : QueuedUpdate) (b : Bool) → i < length rs → r ≡ get_or rs i r → AreFrom n (drop i rs) → k ≡ r.program.attempt.number → Tells p k r b → b ≡ true → IsFirst p n (drop i rs) (Some k)
 found p rs i n k r b h e a q t f = λ ms B.
     let M = caused_chase ms B in
@@ -54,7 +54,7 @@ found p rs i n k r b h e a q t f = λ ms B.
     ∙ (ap (λ (x : Bool). if x then Some n else lowest_that {M = M} (p ms B) (suc n) (updates_of ms B (drop (i + 1) rs))) passes
     ∙ sym (ap (λ (xs : List QueuedUpdate). lowest_that {M = M} (p ms B) n (updates_of ms B xs)) (left_of rs i r h e)))
 
--- The record at the place does not.
+-- The queued update at the place does not.
 pub passed : (p : Test) (rs : List QueuedUpdate) (i n m k : ℕ) (r : QueuedUpdate) (b : Bool) (o : Option ℕ) → i < length rs → r ≡ get_or rs i r → AreFrom n (drop i rs) → k ≡ r.program.attempt.number → Tells p k r b → b ≡ false → m ≡ suc n
     → IsFirst p m (drop (i + 1) rs) o → IsFirst p n (drop i rs) o
 passed p rs i n m k r b o h e a q t f j first = λ ms B.
@@ -66,7 +66,7 @@ passed p rs i n m k r b o h e a q t f j first = λ ms B.
     ∙ (ap (λ (x : Bool). if x then Some n else lowest_that {M = M} (p ms B) (suc n) (updates_of ms B (drop (i + 1) rs))) fails
     ∙ sym (ap (λ (xs : List QueuedUpdate). lowest_that {M = M} (p ms B) n (updates_of ms B xs)) (left_of rs i r h e))))
 
--- No record is left.
+-- No queued update is left.
 pub ended : (p : Test) (rs : List QueuedUpdate) (i n : ℕ) → length rs ≤ i → IsFirst p n (drop i rs) None
 ended p rs i n h = λ ms B. sym (ap (λ (xs : List QueuedUpdate). lowest_that {M = caused_chase ms B} (p ms B) n (updates_of ms B xs)) (drop_all i rs h))
 
@@ -112,7 +112,7 @@ counted ms B rs i r b h e t =
     ap (λ (xs : List QueuedUpdate). committed (caused_chase ms B) (updates_of ms B xs)) (left_of rs i r h e)
     ∙ ap (λ (x : Bool). if x then suc (committed (caused_chase ms B) (updates_of ms B (drop (i + 1) rs))) else 0) (sym (t ms B))
 
--- The record at the place is over.
+-- The queued update at the place is over.
 pub one_more : (ms : List Rule) (B : ℕ) (rs : List QueuedUpdate) (i c k all : ℕ) (r : QueuedUpdate) (b : Bool) → i < length rs → r ≡ get_or rs i r → AreFrom (suc c) (drop i rs) → k ≡ r.program.attempt.number → IsOver r b → b ≡ true
     → c + committed (caused_chase ms B) (updates_of ms B (drop i rs)) ≡ all → k + committed (caused_chase ms B) (updates_of ms B (drop (i + 1) rs)) ≡ all
 one_more ms B rs i c k all r b h e a q t f g =

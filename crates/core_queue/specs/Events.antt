@@ -1,4 +1,4 @@
--- What an event leaves of one record, for the machine of any mappings and any budget.
+-- What an event leaves of one queued update, for the machine of any mappings and any budget.
 use Rattle.std.specs.Prelude.{◌≡◌, ℕ, ◌≤◌, List, length, map}
 use Rattle.base_types.specs.Listed.{Listed}
 use Rattle.base_types.specs.Meanings.{choice_of, operation_of}
@@ -14,11 +14,11 @@ use Rattle.core_queue.specs.Programs.{IsPlanOf}
 use Rattle.core_queue.specs.Queues.{update_of, StandsAt}
 use Rattle.core_queue.specs.declared.updates.QueuedUpdate.{QueuedUpdate}
 
--- The record is still the update of that number, between two steps.
+-- The queued update is still the update of that number, between two steps.
 abbrev pub KeepsPlace : QueuedUpdate → QueuedUpdate → Type 0
 KeepsPlace r r' = (n : ℕ) → StandsAt n r → StandsAt n r'
 
--- The records stand for the same update.
+-- The queued updates stand for the same update.
 abbrev pub IsSame : QueuedUpdate → QueuedUpdate → Type 0
 IsSame r r' = (ms : List Rule) (B : ℕ) → update_of ms B r' ≡ update_of ms B r
 
@@ -39,7 +39,7 @@ HasRoom r = 1 ≤ r.answers.spare
 abbrev pub HasStepped : Plan → QueuedUpdate → QueuedUpdate → Type 0
 HasStepped plan r r' = (ms : List Rule) (B : ℕ) (D : List Fact) → IsPlanOf ms B D r plan → update_of ms B r' ≡ stepped (caused_chase ms B) D (update_of ms B r)
 
--- The record is still that update where the plan is that of its step.
+-- The queued update is still that update where the plan is that of its step.
 abbrev pub KeepsPlaceBy : Plan → QueuedUpdate → QueuedUpdate → Type 0
 KeepsPlaceBy plan r r' = (ms : List Rule) (B : ℕ) (D : List Fact) (n : ℕ) → IsPlanOf ms B D r plan → StandsAt n r → StandsAt n r'
 

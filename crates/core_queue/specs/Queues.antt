@@ -1,4 +1,4 @@
--- What records and queues mean: the updates of a history of the chase.
+-- What queued updates and queues mean: the updates of a history of the chase.
 use Rattle.std.specs.Prelude.{◌≡◌, ℕ, suc, List, [], ◌∷◌, map, None}
 use Rattle.base_types.specs.Meanings.{choice_of}
 use Rattle.core_conflict.specs.Footprints.{Covers}
@@ -13,7 +13,7 @@ module _ (ms : List Rule) (B : ℕ) where
   abbrev pub logged : ReadMeant → Read (caused_chase ms B)
   logged r = record { query = r.query; answer = r.reply; own = r.own }
 
-  -- The update that a record stands for.
+  -- The update that a queued update stands for.
   abbrev pub update_of : QueuedUpdate → Update (caused_chase ms B)
   update_of r =
       record {
@@ -26,17 +26,17 @@ module _ (ms : List Rule) (B : ℕ) where
         inbox = map choice_of r.inbox.items;
       }
 
-  -- The updates that the records of a queue stand for.
+  -- The updates that the queued updates of a queue stand for.
   abbrev pub updates_of : List QueuedUpdate → List (Update (caused_chase ms B))
   updates_of rs = map update_of rs
 
--- The record is that of update n, and between two steps; its footprint is that of its own writes and its reads.
+-- The queued update is that of update n, and between two steps; its footprint is that of its own writes and its reads.
 pub record StandsAt (n : ℕ) (r : QueuedUpdate) : Type 0 where
   pub number : r.program.attempt.number ≡ n
   pub between : r.program.reading ≡ None
   pub covers : Covers r.footprint r.program.attempt.own (reads_in r.log.items)
 
--- The records are those of the updates from number n on.
+-- The queued updates are those of the updates from number n on.
 abbrev pub AreFrom : ℕ → List QueuedUpdate → Type 0
 AreFrom n [] = Unit {0}
 AreFrom n (r ∷ rs) = StandsAt n r × AreFrom (suc n) rs

@@ -1,4 +1,4 @@
--- Restarts: fresh attempts, made before anything is changed, and the records that take them over.
+-- Restarts: fresh attempts, made before anything is changed, and the queued updates that take them over.
 use Rattle.std.specs.Prelude.{◌≡◌, ℕ, suc, ◌+◌, ◌<◌, ◌^◌, List, [], ◌∷◌, ◌++◌, map, take, drop, Option, Some, None, is_some, if◌then◌else◌}
 use Rattle.core_entries.specs.declared.causes.Cause.{Cause}
 use Rattle.def_machine.specs.Cascade as machine
@@ -29,7 +29,7 @@ abbrev pub IsFreshIf : QueuedUpdate → Option State → Type 0
 IsFreshIf r None = Unit {0}
 IsFreshIf r (Some s) = IsFresh r s
 
--- For each of the first records its next attempt, or none; for those behind them there is none.
+-- For each of the first queued updates its next attempt, or none; for those behind them there is none.
 abbrev pub AreFresh : List QueuedUpdate → List (Option State) → Type 0
 AreFresh rs [] = Unit {0}
 AreFresh [] (f ∷ fs) = ⊥

@@ -1,4 +1,4 @@
--- What is told of one record, for the machine of any mappings and any budget: c updates are committed, and the record has number n.
+-- What is told of one queued update, for the machine of any mappings and any budget: c updates are committed, and the queued update has number n.
 use Rattle.std.specs.Prelude.{◌≡◌, ℕ, Bool, false, List, map, Option}
 use Rattle.std.specs.Option.{option_map}
 use Rattle.base_types.specs.declared.updates.Write.{Write}

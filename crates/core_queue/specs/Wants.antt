@@ -1,4 +1,4 @@
--- What a record's attempt lacks and wants, for the machine of any mappings and any budget.
+-- What a queued update's attempt lacks and wants, for the machine of any mappings and any budget.
 use Rattle.std.specs.Prelude.{◌≡◌, ℕ, suc, Bool, true, List, map, Option, Some, None, if◌then◌else◌}
 use Rattle.base_types.specs.Meanings.{choice_of}
 use Rattle.chase_question.specs.Inquiries.{Inquiry, fits_inquiry}

@@ -1,4 +1,4 @@
-//! What an event does to one record. Whatever may be refused for want of memory comes before it.
+//! What an event does to one queued update. Whatever may be refused for want of memory comes before it.
 ghost use Rattle.std.specs.Prelude.{◌≡◌, ◌+◌, ◌≤◌, [], ◌∷◌, ◌++◌, length, map, take, IfOk, OnOk};
 ghost use Rattle.base_types.specs.Meanings.{choice_of};
 ghost use Rattle.core_queue.specs.Queues.{StandsAt};

@@ -114,11 +114,11 @@ fn counted(rest: &[QueuedUpdate], committed: u32) -> u32
     ensures committed { CommitsOn committed rest.now result }
 {
     let mut count = committed;
-    for record in rest {
-        if !record.is_over() {
+    for queued in rest {
+        if !queued.is_over() {
             return count;
         }
-        count = record.number();
+        count = queued.number();
     }
     count
 }
@@ -128,9 +128,9 @@ fn first_ready(rest: &[QueuedUpdate], settings: Settings, committed: u32) -> Opt
     requires from { AreFrom (suc committed) rest.now }
     ensures first { IsFirstReady (settings_of settings) committed (suc committed) rest.now result }
 {
-    for record in rest {
-        let number = record.number();
-        if record.is_ready(settings, committed, number) {
+    for queued in rest {
+        let number = queued.number();
+        if queued.is_ready(settings, committed, number) {
             return Some(number);
         }
     }
@@ -143,9 +143,9 @@ fn first_deliverable(rest: &[QueuedUpdate], settings: Settings, committed: u32) 
     ensures first { IsFirstDeliverable (settings_of settings) committed (suc committed) rest.now
         result }
 {
-    for record in rest {
-        let number = record.number();
-        if record.is_deliverable(settings, committed, number) {
+    for queued in rest {
+        let number = queued.number();
+        if queued.is_deliverable(settings, committed, number) {
             return Some(number);
         }
     }
@@ -160,11 +160,11 @@ fn deliverable_at_once(rest: &[QueuedUpdate], settings: Settings, committed: u32
         (λ n. IsFirstDeliverable (settings_of settings) committed (suc committed) rest.now
         (Some n)) }
 {
-    let [record, ..] = rest else {
+    let [queued, ..] = rest else {
         return None;
     };
-    let number = record.number();
-    if record.is_deliverable(settings, committed, number) {
+    let number = queued.number();
+    if queued.is_deliverable(settings, committed, number) {
         Some(number)
     } else {
         None
@@ -185,9 +185,9 @@ fn first_besides(
         (drop first queue.now) result }
 {
     let rest = past(queue, first);
-    for record in rest {
-        let number = record.number();
-        if is_ready_besides(record, settings, committed, number, numbers) {
+    for queued in rest {
+        let number = queued.number();
+        if is_ready_besides(queued, settings, committed, number, numbers) {
             return Some(number);
         }
     }

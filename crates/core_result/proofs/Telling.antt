@@ -1,4 +1,4 @@
--- What is told of a queue, record by record.
+-- What is told of a queue, update by update.
 use Rattle.std.proofs.Common.{◌≡◌, ◌∙◌, ap, sym, refl, ℕ, suc, ◌≤◌, ◌<◌, ◌+◌, Bool, true, false, Option, Some, None, List, [], ◌∷◌, ◌++◌, append_assoc, append-nil, map, length, get_or, drop, add-one}
 use Rattle.std.specs.List.{flat_map}
 use Rattle.std.specs.Option.{option_map, option_and_then}
@@ -22,7 +22,7 @@ use Rattle.core_queue.proofs.Walking.{stands_here}
 use Rattle.core_queue.specs.declared.updates.QueuedUpdate.{QueuedUpdate}
 use Rattle.core_result.specs.Told.{finishes_told, end_told, HasToldOne, outer_stop, stop_told, IsStopAt, IsStop}
 
--- What is left of a queue is the record at the place, and what is left behind it.
+-- What is left of a queue is the queued update at the place, and what is left behind it.
 pub left_of : (rs : List QueuedUpdate) (i : ℕ) (r : QueuedUpdate) → i < length rs → r ≡ get_or rs i r → drop i rs ≡ r ∷ drop (i + 1) rs
 left_of rs i r h e = drop_more rs i r h ∙ ap (λ (x : QueuedUpdate). x ∷ drop (i + 1) rs) (sym e)
 

@@ -49,7 +49,7 @@ end_told ms B n u = if u.withdrawn then [] else map finish_in (finished n u.stat
 abbrev pub HasToldOne : QueuedUpdate → Listed FinishOfProgram → Listed FinishOfProgram → Type 0
 HasToldOne r fs fs' = (ms : List Rule) (B : ℕ) (n : ℕ) → map finish_of fs'.items ≡ map finish_of fs.items ++ end_told ms B n (update_of ms B r)
 
--- These are the finishes that are told of the records.
+-- These are the finishes that are told of the queued updates.
 abbrev pub AreFinishes : List QueuedUpdate → Listed FinishOfProgram → Type 0
 AreFinishes rs fs = (ms : List Rule) (B : ℕ) → map finish_of fs.items ≡ finishes_told ms B 1 (updates_of ms B rs)
 
@@ -57,7 +57,7 @@ AreFinishes rs fs = (ms : List Rule) (B : ℕ) → map finish_of fs.items ≡ fi
 abbrev pub IsStopAt : ℕ → Attempt → Option Lack → Option StopOfProgram → Type 0
 IsStopAt n P l s = option_map stop_of s ≡ option_map stop_in (option_map outer_stop (option_and_then (stopped n P) l))
 
--- This is the stop that is told of the records.
+-- This is the stop that is told of the queued updates.
 abbrev pub IsStop : List QueuedUpdate → Option StopOfProgram → Type 0
 IsStop rs s = (ms : List Rule) (B : ℕ) → option_map stop_of s ≡ stop_told ms B (first_stop (caused_chase ms B) 1 (updates_of ms B rs))
 
@@ -65,12 +65,12 @@ IsStop rs s = (ms : List Rule) (B : ℕ) → option_map stop_of s ≡ stop_told 
 abbrev pub AreAnswered : List Fact → Listed Tuple → Type 0
 AreAnswered D ts = facts_of ts ≡ map outer (answered D)
 
--- The versions are those of the records over D.
+-- The versions are those of the queued updates over D.
 pub record AreVersionsOf (ms : List Rule) (B : ℕ) (D : List Fact) (rs : List QueuedUpdate) (v : Kept) : Type 0 where
   pub sorted : IsRepository D
   pub stand : StandFor v D (numbered (trail (caused_chase ms B)) (updates_of ms B rs))
 
--- That is what is told of the records as the updates of a history over D, up to the lowest that is not committed.
+-- That is what is told of the queued updates as the updates of a history over D, up to the lowest that is not committed.
 abbrev pub Tells : List Rule → ℕ → List Fact → List QueuedUpdate → SessionResult → Type 0
 Tells ms B D rs r =
     (S : Session (caused_chase ms B)) → S.base ≡ D

@@ -15,11 +15,11 @@ pub(crate) fn finishes(alloc: Global, queue: &[QueuedUpdate]) -> Result<FinishLi
     ensures told { IfOk result (AreFinishes queue.now) }
 {
     let mut finishes = FinishList::new(alloc);
-    for record in queue {
-        if !record.is_over() {
+    for queued in queue {
+        if !queued.is_over() {
             return Ok(finishes);
         }
-        tell_one(&mut finishes, record)?;
+        tell_one(&mut finishes, queued)?;
     }
     Ok(finishes)
 }

@@ -22,9 +22,9 @@ pub(crate) fn stop(alloc: Global, queue: &[QueuedUpdate]) -> Result<Option<Stop>
     requires from { AreFrom 1 queue.now }
     ensures told { IfOk result (IsStop queue.now) }
 {
-    for record in queue {
-        if !record.is_over() {
-            return stop_at(alloc, record.number(), &record.program, record.lack());
+    for queued in queue {
+        if !queued.is_over() {
+            return stop_at(alloc, queued.number(), &queued.program, queued.lack());
         }
     }
     Ok(None)

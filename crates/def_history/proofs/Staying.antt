@@ -1,4 +1,4 @@
--- A step stays what it was while no entry in question for it comes.
+-- A step stays what it was while no entry comes that makes it stale.
 use Rattle.std.proofs.Common.{◌≡◌, ℕ, zero, suc, ◌≤◌, sym, refl, ap, subst, ◌∙◌, arith, List, [], ◌∷◌, ◌++◌, map, length, Option, Some, None, Bool, true, false, is_some, nat_lt, ⊎_elim}
 use Rattle.std.specs.Prelude.{if◌then◌else◌, slice_get}
 use Rattle.std.specs.List.{AllByRecursion}
@@ -100,7 +100,7 @@ module _ (M : Machine) (L : Laws M) (swap : AlikeSwaps M) (s : Settings) (S : Se
     at : IsReadyAt M s vs k u
     same : Same us vs
 
-  -- an event at another update that is not in question
+  -- an event at another update that does not make the step stale
   by_event : (H : List (Entry M)) (us : List (Update M)) (e : Event M) (x : Effect M) → IsLegal M s S H us → IsReadyAt M s us k u → effect M s S us e ≡ Some x
       → (suc k ≡ acts_on us e → ⊥) → IsClear M S.base us e x k reads → Goes us x.updates
   by_event H us e x legal r f other clear =

@@ -1,4 +1,4 @@
--- What an event touches tells whether it is in question.
+-- What an event touches tells whether it makes a step stale.
 use Rattle.std.proofs.Common.{◌≡◌, ℕ, zero, suc, ◌≤◌, ◌+◌, refl, arith, List, [], ◌∷◌, ◌++◌, take, Bool, true, false, ◌||◌, ◌&&◌}
 use Rattle.std.specs.Prelude.{if◌then◌else◌, nat_le}
 use Rattle.std.specs.List.{AllByRecursion, list_any}

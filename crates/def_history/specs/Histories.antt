@@ -8,7 +8,7 @@ use Rattle.def_chase.specs.Values.{Fact}
 use Rattle.def_chase.specs.Mappings.{Rule}
 use Rattle.def_chase.specs.Updates.{Operation}
 use Rattle.def_steps.specs.Chase.{caused_chase}
-use Rattle.def_steps.specs.Serial.{Request, answered}
+use Rattle.def_steps.specs.Serial.{Request}
 
 module _ (ms : List Rule) (B : ℕ) where
   -- The machine of the chase with these mappings and this budget, whose attempts look at the violations that they caused.
@@ -30,7 +30,3 @@ module _ (ms : List Rule) (B : ℕ) where
   -- The committed repository, with the attempts of its nulls and the tuples that say which mappings were put in force.
   abbrev pub left : Session M → List (Update M) → List Fact
   left S us = below M S.base us (committed M us)
-
-  -- The committed repository as it is answered.
-  abbrev pub repository : Session M → List (Update M) → List Fact
-  repository S us = answered (left S us)

@@ -1,4 +1,4 @@
--- What an event touches, by update and relation: enough to tell of a step whether the event is in question for it.
+-- What an event touches, by update and relation: enough to tell of a step whether the event makes it stale.
 use Rattle.std.specs.Prelude.{◌≡◌, ℕ, suc, nat_le, Bool, false, ◌&&◌, ◌||◌, List, ◌++◌, map}
 use Rattle.std.specs.List.{list_any, flat_map}
 use Rattle.def_machine.specs.Machine.{Machine}
@@ -32,11 +32,11 @@ touches_by M D us e x = touches_of M (acts_on us e) (writes_in x.entry) ++ touch
 abbrev pub meets : {M : Machine} → ℕ → Read M → Touch → Bool
 meets {M} k r t = nat_le t.update k && M.mentions r.query t.relation
 
--- An event that touches this and restarts these is in question for a step of update k + 1 with these reads.
+-- An event that touches this and restarts these makes a step of update k + 1 with these reads stale.
 abbrev pub is_stale_by_touches : {M : Machine} → ℕ → List (Read M) → List Touch → List ℕ → Bool
 is_stale_by_touches k reads ts restarted = list_any (λ r. list_any (meets k r) ts) reads || has_number restarted (suc k)
 
--- That tells exactly enough: where it says no, the event is not in question.
+-- That tells exactly enough: where it says no, the event does not make the step stale.
 abbrev pub TouchLaw : Machine → Type 0
 TouchLaw M =
     (D : M.Repository) (us : List (Update M)) (e : Event M) (x : Effect M) (k : ℕ) (reads : List (Read M))

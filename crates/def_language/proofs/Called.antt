@@ -24,13 +24,6 @@ at_seam (m ∷ before) n rest new =
     let parts = or_parts (same_name n m) (is_one_of before n) new in
     rw (parts.0, at_seam before n rest parts.1) (omega arith)
 
--- a name that is not there has the place behind the list
-pub not_there : (names : List Name) (n : Name) → is_one_of names n ≡ false → place_of names n ≡ length names
-not_there [] n new = refl
-not_there (m ∷ names) n new =
-    let parts = or_parts (same_name n m) (is_one_of names n) new in
-    rw (parts.0, not_there names n parts.1) (omega arith)
-
 place_behind : (before names : List Name) (v : ℕ) → AreNew before names → v < length names → place_of (before ++ names) (name_of names v) ≡ length before + v
 place_behind before [] v new lt = absurd (omega arith)
 place_behind before (n ∷ names) zero new lt = let e : length before ≡ length before + 0 = omega arith in at_seam before n names new.1 ∙ e

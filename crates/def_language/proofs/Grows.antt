@@ -115,12 +115,6 @@ among (x ∷ us) (suc n) u e =
     let a = among us n u e in
     record { front = x ∷ a.front; back = a.back; is = ap (λ (ys : List SessionUpdate). x ∷ ys) a.is; size = ap suc a.size }
 
--- an update with another answer has its label, curator and operation
-pub record Same (u v : SessionUpdate) : Type 0 where
-  pub label : v.label ≡ u.label
-  pub curator : v.curator ≡ u.curator
-  pub operation : v.operation ≡ u.operation
-
 pub mapped_same : {A : Type 0} (part : SessionUpdate → A) (front back : List SessionUpdate) (u v : SessionUpdate) → part v ≡ part u → map part (front ++ v ∷ back) ≡ map part (front ++ u ∷ back)
 mapped_same part [] back u v e = ap (λ x. x ∷ map part back) e
 mapped_same part (x ∷ front) back u v e = ap (λ xs. part x ∷ xs) (mapped_same part front back u v e)

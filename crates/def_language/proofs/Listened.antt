@@ -221,9 +221,6 @@ onto_byte : (b : ℕ) (bytes : List ℕ) (lines : List (List ℕ)) → onto_firs
 onto_byte b bytes [] = refl
 onto_byte b bytes (line ∷ lines) = refl
 
-onto_none : (lines : List (List ℕ)) (line : List ℕ) → onto [] (line ∷ lines) ≡ line ∷ lines
-onto_none lines line = refl
-
 no_feed : (b : ℕ) → is_within_line b ≡ true → is_line_feed b ≡ false
 no_feed b e = grind (arith, nat_tests)
 

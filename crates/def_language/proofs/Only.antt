@@ -18,12 +18,6 @@ pub choose : {A : Type 0} (b : Bool) (x y : Result A Kind) (z : A) → (if b the
 choose true x y z e = inl (refl, e)
 choose false x y z e = inr (refl, e)
 
-pub firsts_are : {A B : Type 0} (x y : A × B) → SameOk x y → x.0 ≡ y.0
-firsts_are {A} {B} x y e = ap (λ (p : A × B). p.0) (ok_is x y e)
-
-pub seconds_are : {A B : Type 0} (x y : A × B) → SameOk x y → x.1 ≡ y.1
-seconds_are {A} {B} x y e = ap (λ (p : A × B). p.1) (ok_is x y e)
-
 value_is : (w : Word) (d d' : Datum) → IsOuter d → w ≡ value_word d → SameOk d d' → IsOuter d' × (w ≡ value_word d')
 value_is w d d' outer is e = subst (λ (x : Datum). IsOuter x × (w ≡ value_word x)) (ok_is d d' e) (outer, is)
 

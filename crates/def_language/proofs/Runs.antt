@@ -1,10 +1,9 @@
 -- Lines that are printed are read one after the other.
 use Rattle.std.proofs.Common.{◌≡◌, ℕ, suc, ◌+◌, ◌<◌, ◌≤◌, ◌⊎◌, inl, inr, ◌^◌, List, [], ◌∷◌, ◌++◌, length, refl, sym, ap, ◌∙◌, subst, arith}
-use Rattle.std.specs.Prelude.{Result, Ok, map}
+use Rattle.std.specs.Prelude.{Ok, map}
 use Rattle.std.specs.List.{AllByRecursion}
 use Rattle.def_language.specs.LineTokens.{tokens_at}
 use Rattle.def_language.specs.Words.{Word}
-use Rattle.def_language.specs.Faults.{Wrong}
 use Rattle.def_language.specs.Statements.{Statement, Header, Relation, Mapping, Base, Update, Answer, End}
 use Rattle.def_language.specs.Grammar.{statement_words}
 use Rattle.def_language.specs.Layout.{laid_out, IsSpoken}
@@ -78,9 +77,6 @@ last_section section (st ∷ sts) = last_section (section_of st) sts
 pub runs_on : (section : Section) (a b c : SessionData) (xs ys : List Statement) → Runs section a xs b → Runs (last_section section xs) b ys c → Runs section a (xs ++ ys) c
 runs_on section a b c [] ys e r = subst (λ (x : SessionData). Runs section x ys c) (sym e) r
 runs_on section a b c (st ∷ xs) ys run r = (run.0, (run.1.0, run.1.1, runs_on (section_of st) run.1.0 b c xs ys run.1.2 r))
-
-abbrev Read : Type 0
-Read = Result SessionData Wrong
 
 line_read : (n start : ℕ) (section : Section) (a b : SessionData) (st : Statement) (lines : List (List ℕ)) → MayStand section st → rank section < 5 → IsSayable a.format st → ArePrinted (statement_words st) → taken a st ≡ Ok b
     → lines_from n start (record { section = section; session = a }) (printed_line st ∷ lines) ≡ lines_from (n + 1) (start + length (printed_line st) + 1) (record { section = section_of st; session = b }) lines

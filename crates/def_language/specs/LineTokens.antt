@@ -1,18 +1,10 @@
 -- A line and its tokens, from left to right.
-use Rattle.std.specs.Prelude.{ℕ, zero, suc, ◌+◌, ◌-◌, nat_lt, ◌==◌, Bool, not, is_ok, List, [], ◌∷◌, ◌++◌, take, drop, length, Option, Some, None, Result, Ok, if◌then◌else◌}
+use Rattle.std.specs.Prelude.{ℕ, zero, suc, ◌+◌, ◌-◌, ◌==◌, Bool, is_ok, List, [], ◌∷◌, ◌++◌, drop, Result, Ok, if◌then◌else◌}
 use Rattle.def_language.specs.declared.tokens.Token.{Token}
 use Rattle.def_language.specs.declared.tokens.LexRefusal.{LexRefusal}
 use Rattle.def_language.specs.LexAnswers.{◌>>=◌}
-use Rattle.def_language.specs.Bytes.{is_blank, is_line_feed, run}
+use Rattle.def_language.specs.Bytes.{is_blank}
 use Rattle.def_language.specs.Tokens.{token_at}
-
--- the bytes up to the first line feed, or to the end
-abbrev pub line_of : List ℕ → List ℕ
-line_of bytes = take (run (λ b. not (is_line_feed b)) bytes) bytes
-
--- the place behind the line feed that ends the line at a place, if one does
-abbrev pub next_line : ℕ → List ℕ → Option ℕ
-next_line from bytes = if nat_lt (from + length (line_of (drop from bytes))) (length bytes) then Some (from + length (line_of (drop from bytes)) + 1) else None
 
 -- tokens, and then those that are read
 abbrev pub with_front : List Token → Result (List Token) LexRefusal → Result (List Token) LexRefusal
@@ -35,7 +27,3 @@ tokens_from place line = tokens_at place 0 (drop place line)
 -- whether nothing is wrong with a line from a place on
 abbrev pub is_faultless : ℕ → List ℕ → Bool
 is_faultless place line = is_ok (tokens_from place line)
-
--- the tokens of the line at a place of a text, and the place of the next line
-abbrev pub line_at : ℕ → List ℕ → Result (List Token × Option ℕ) LexRefusal
-line_at from bytes = tokens_at from 0 (line_of (drop from bytes)) >>= (λ tokens. Ok (tokens, next_line from bytes))

@@ -50,10 +50,6 @@ abbrev pub written_mapping : List RelationSchema → SessionMapping → WrittenM
 written_mapping relations m =
     record { name = m.name; left = map (written_atom relations m.variables) m.rule.left; right = map (written_atom relations m.variables) m.rule.right }
 
--- a mapping on its line: `mapping NAME: LEFT -> RIGHT`
-abbrev pub mapping_text : List RelationSchema → SessionMapping → List ℕ
-mapping_text relations m = laid_out (statement_words (Mapping (written_mapping relations m)))
-
 -- where there is no mapping of that number
 abbrev pub no_mapping : SessionMapping
 no_mapping = record { name = []; variables = []; rule = record { since = 0; universal = 0; existential = 0; left = []; right = [] } }

@@ -14,9 +14,6 @@ use Rattle.def_machine.proofs.Basics.{if_both, some_or}
 
 -- ---- numbers
 
-pub not_here : (n k : ℕ) (ns : List ℕ) → suc n ≤ k → has_number (n ∷ ns) k ≡ has_number ns k
-not_here n k ns h = ap (λ b. b || has_number ns k) (ne_eqb n k (λ e. absurd (omega arith)))
-
 pub here : (n : ℕ) (ns : List ℕ) → has_number (n ∷ ns) n ≡ true
 here n ns = or_left _ _ (eq-eqb n n refl)
 

@@ -1,5 +1,5 @@
 -- A program that may ask a database questions, as the tree of what it asks and does: its branches are the answers.
-use Rattle.std.specs.Prelude.{ℕ, zero, suc, List, [], ◌∷◌, ◌≡◌}
+use Rattle.std.specs.Prelude.{List, [], ◌∷◌, ◌≡◌}
 use Rattle.std.specs.List.{AllByRecursion}
 
 -- Either the program is at its end, with a result, or it asks one question and goes on by the answer.
@@ -21,16 +21,6 @@ log_of val (Node q k) = (q, val q) ∷ log_of val (k (val q))
 abbrev pub then_tree : {Q R A B : Type 0} → Tree Q R A → (A → Tree Q R B) → Tree Q R B
 then_tree (Leaf a) f = f a
 then_tree (Node q k) f = Node q (λ r. then_tree (k r) f)
-
--- The program with each question p put as `f p`.
-abbrev pub asking : {P Q R A : Type 0} → (P → Q) → Tree P R A → Tree Q R A
-asking f (Leaf a) = Leaf a
-asking f (Node p k) = Node (f p) (λ r. asking f (k r))
-
--- n steps one after the other, each from the result of the one before.
-abbrev pub steps : {Q R A : Type 0} → (A → Tree Q R A) → ℕ → A → Tree Q R A
-steps step zero a = Leaf a
-steps step (suc n) a = then_tree (step a) (steps step n)
 
 -- `val` gives each logged question its logged answer.
 abbrev pub AreAnswers : {Q R : Type 0} → (Q → R) → List (Q × R) → Type 0

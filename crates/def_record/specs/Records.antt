@@ -124,10 +124,6 @@ abbrev pub IsRecord : {M : Machine} → Record M → Type 0
 IsRecord [] = ⊥
 IsRecord {M} (i ∷ is) = (n : Now M) × (opened_by i.entry ≡ Some n) × (i.maker ≡ None) × AllFollow n is
 
--- What a record of a desk leaves.
-pub record IsKept (M : Machine) (r : Record M) (n : Now M) : Type 0 where
-  pub history : IsLegal M n.settings n.session n.history n.updates
-
 -- Of all records of desks.
 abbrev pub RecordLaw : Machine → Type 0
 RecordLaw M = (r : Record M) (n : Now M) → IsRecord r → now_of r ≡ Some n → IsLegal M n.settings n.session n.history n.updates

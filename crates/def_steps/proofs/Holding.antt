@@ -12,16 +12,14 @@ use Rattle.def_chase.specs.Repository.{apply}
 use Rattle.def_chase.specs.Mappings.{Rule, Holds, in_force, HoldFrom, AllHold}
 use Rattle.def_chase.specs.Violations.{Scope, Every}
 use Rattle.def_chase.specs.Updates.{Operation, direction_of, Choice}
-use Rattle.def_chase.specs.Laws.{HaveNoNulls}
 use Rattle.def_chase.proofs.Bools.{differ}
 use Rattle.def_steps.specs.Attempts.{Done, Spent, Refused, Phase, Start, Look, Generate, Asked, Ended, Attempt, outcome_in}
-use Rattle.def_steps.specs.Chase.{ending, chase, every, whole_chase, caused_chase}
+use Rattle.def_steps.specs.Chase.{ending, chase, every, whole_chase}
 use Rattle.def_steps.specs.Looking.{LookedHold, NoneLater}
 use Rattle.def_steps.specs.Timely.{in_time, repairs_plainly, acts_in_time}
 use Rattle.def_steps.specs.Holding.{Leaves}
 use Rattle.def_steps.proofs.Steady.{SoundPhase, SoundEnd}
 use Rattle.def_steps.proofs.Reaching.{Steady, reached_steady}
-use Rattle.def_steps.proofs.Scopes.{agree}
 use Rattle.def_steps.proofs.Passing.{all_weaker}
 use Rattle.def_steps.proofs.Timely.{in_time_later, none_later, view_in_time}
 
@@ -88,10 +86,3 @@ module _ (ms : List Rule) (B : ℕ) where
           }
       by (Ended Spent) f o l v = same (apply D (shown (whole_chase ms B) P)) (l.spent f)
       by (Ended (Refused n)) f o l v = same (apply D (shown (whole_chase ms B) P)) (l.refused n f)
-
-  -- So does one that has looked only at the violations which it caused.
-  pub caused_kept : (plain : repairs_plainly ms ≡ true) (nulls : HaveNoNulls ms) (D : List Fact) (u a : ℕ) (op : Operation) (answers : List Choice) (P : Attempt) (log : List (Read (caused_chase ms B)))
-      → acts_in_time ms u op ≡ true → Kept ms u D → Reached (caused_chase ms B) D answers u a op P log → is_some (option_map ending (outcome_in P.phase)) ≡ true → Kept ms (suc u) (apply D (shown (caused_chase ms B) P))
-  caused_kept plain nulls D u a op answers P log acts k r ended =
-      let also = (agree ms B D answers u a op nulls k.hold).to_every P log r in
-      kept_reached plain D record { number = u; attempt = a; operation = op; answers = answers } P also.reads acts k also.reached ended

@@ -10,6 +10,7 @@ ghost use Rattle.lang_schema.specs.Meanings.{session_mapping_of};
 ghost use Rattle.lang_checks.specs.Answers.{Gives};
 
 use crate::refusals::TakeRefusal;
+use base_limits::{MOST_ADDED_MAPPINGS, MOST_MAPPINGS};
 use base_types::{Mapping, Name, TryCopy};
 use lang_forms::RawMapping;
 use lang_schema::{RawAtoms, Schema, check_added_mapping};
@@ -34,7 +35,7 @@ fn added(mappings: &[Mapping]) -> usize
 pub(crate) fn mappings_full(mappings: &[Mapping], since: u32) -> bool
     ensures full { result ≡ mappings_full (map session_mapping_of mappings.now) since }
 {
-    64 <= mappings.len() || since != 0 && 16 <= added(mappings)
+    MOST_MAPPINGS <= mappings.len() || since != 0 && MOST_ADDED_MAPPINGS <= added(mappings)
 }
 
 /// A mapping over the relations, put in force by the given update or there from the start.

@@ -8,6 +8,7 @@ ghost use Rattle.def_language.specs.Checks.{curators_full, with_answer};
 ghost use Rattle.lang_session.specs.Meanings.{update_of};
 ghost use Rattle.lang_checks.specs.Additions.{unanswered};
 
+use base_limits::MOST_CURATORS;
 use base_types::{Choice, List, Memory, Name, Update};
 use lang_schema::Names;
 use lang_session::{SessionUpdate, SessionUpdates};
@@ -82,7 +83,7 @@ impl Updates {
     pub(crate) fn curators_full(&self, curator: &Name) -> bool
         ensures full { result ≡ curators_full self.now curator.now.items }
     {
-        !self.curator_names.has(curator) && 64 <= self.curator_names.len()
+        !self.curator_names.has(curator) && MOST_CURATORS <= self.curator_names.len()
     }
 
     /// The answers of all updates.

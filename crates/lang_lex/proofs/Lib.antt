@@ -1,5 +1,4 @@
 pub mod Carried
 pub mod Longest
-pub mod Placed
 pub mod Places
 pub mod Stepped

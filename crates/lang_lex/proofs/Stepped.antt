@@ -1,6 +1,6 @@
 -- A line, step by step: what stands first from a place on, and the tokens behind it.
 use Rattle.std.proofs.Common.{◌≡◌, ℕ, ◌+◌, ◌-◌, ◌<◌, ◌≤◌, true, false, List, [], ◌∷◌, refl, sym, ap, ap₂, ◌∙◌, arith, take, drop, length, get_or, subst}
-use Rattle.std.specs.Prelude.{Result, Ok, Err, ◌==◌}
+use Rattle.std.specs.Prelude.{Result, Ok, Err, IfOk, ◌==◌}
 use Rattle.std.proofs.lemmas.List.{drop_all, length-drop, drop-drop}
 use Rattle.def_language.specs.declared.tokens.TokenKind.{TokenKind}
 use Rattle.def_language.specs.declared.tokens.Token.{Token}
@@ -8,10 +8,11 @@ use Rattle.def_language.specs.declared.tokens.LexRefusal.{LexRefusal}
 use Rattle.def_language.specs.LexAnswers.{◌>>=◌, place_in}
 use Rattle.def_language.specs.Bytes.{is_blank}
 use Rattle.def_language.specs.LineTokens.{tokens_at, tokens_from, with_front}
-use Rattle.def_language.specs.Spelling.{IsTokenAt, spells}
+use Rattle.def_language.specs.Spelling.{IsLongest, IsLongestIn, IsTokenAt, spells}
 use Rattle.def_language.specs.Tokens.{token_at}
 use Rattle.def_language.proofs.Digits.{cons_at}
 use Rattle.def_language.proofs.Lined.{skipped, token_of}
+use Rattle.lang_lex.proofs.Longest.{token_longest}
 use Rattle.lang_lex.proofs.Places.{Within, tokens_within}
 use Rattle.def_language.proofs.Spelled.{Spelled, token_spelled}
 
@@ -56,6 +57,13 @@ module _ (place : ℕ) (line : List ℕ) (inside : place < length line) where
         within = omega (arith, length-drop place line);
         spelled = ap₂ (λ j k. spells kind (take j (drop k line))) n m ∙ spelled;
       }
+
+  pub greatest : (kind : TokenKind) (width : ℕ) → token_at place (drop place line) ≡ Ok (kind, width) → IsLongestIn 0 line (token_of kind place width)
+  greatest kind width found =
+      let longest : IsLongest (drop place line) width = subst (λ (read : Result (TokenKind × ℕ) LexRefusal). IfOk read (λ x. IsLongest (drop place line) x.1)) found (token_longest place (drop place line)) in
+      let n : width ≡ place + width - place = omega arith in
+      let m : place ≡ place - 0 = omega arith in
+      subst (λ (k : ℕ). IsLongest (drop k line) (place + width - place)) m (subst (λ (k : ℕ). IsLongest (drop place line) k) n longest)
 
 -- nothing is left at the end
 pub over : (place : ℕ) (line : List ℕ) → length line ≤ place → tokens_from place line ≡ Ok []

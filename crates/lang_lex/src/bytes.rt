@@ -1,7 +1,7 @@
 //! The kinds of bytes, and how many of a kind stand at the front.
 
-ghost use Rattle.std.specs.Prelude.{◌≡◌, ◌≤◌, drop, length, not};
-ghost use Rattle.def_language.specs.Bytes.{begins_name, continues_name, is_blank, is_digit, is_line_feed, run};
+ghost use Rattle.std.specs.Prelude.{◌≡◌, ◌≤◌, drop, length};
+ghost use Rattle.def_language.specs.Bytes.{begins_name, continues_name, is_blank, is_digit, run};
 
 /// Whether the byte may begin a name.
 pub(crate) fn begins_name(byte: u8) -> bool
@@ -48,14 +48,6 @@ pub(crate) fn digit_run(bytes: &[u8]) -> usize
     ensures within { result ≤ length bytes.now }
 {
     bytes.iter().take_while(|byte| is_digit(**byte)).count()
-}
-
-/// How many bytes stand before the first line feed, or before the end.
-pub(crate) fn line_run(bytes: &[u8]) -> usize
-    ensures run { result ≡ run (λ b. not (is_line_feed b)) bytes.now }
-    ensures within { result ≤ length bytes.now }
-{
-    bytes.iter().take_while(|byte| **byte != b'\n').count()
 }
 
 /// The bytes from a place on.

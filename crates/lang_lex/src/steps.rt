@@ -4,7 +4,7 @@ ghost use Rattle.std.specs.Prelude.{◌≡◌, ◌∷◌, [], ◌<◌, ◌≤◌
 ghost use Rattle.def_language.specs.LexAnswers.{place_in};
 ghost use Rattle.def_language.specs.Bytes.{is_blank};
 ghost use Rattle.def_language.specs.LineTokens.{is_faultless, tokens_at, tokens_from, with_front};
-ghost use Rattle.def_language.specs.Spelling.{IsTokenAt};
+ghost use Rattle.def_language.specs.Spelling.{IsLongestIn, IsTokenAt};
 
 use crate::bytes::{behind, is_blank};
 use crate::tokens::token_at;
@@ -35,6 +35,7 @@ fn token_from(line: &[u8], place: usize) -> Result<Option<Token>, LexRefusal>
         with_front (token ∷ []) (tokens_from token.to line.now))) }
     ensures ahead { IfOk result (λ first. IfSome first (λ token. place ≤ token.from)) }
     ensures spelled { IfOk result (λ first. IfSome first (IsTokenAt 0 line.now)) }
+    ensures longest { IfOk result (λ first. IfSome first (IsLongestIn 0 line.now)) }
     ensures fault { IfErr result (λ refusal. tokens_from place line.now ≡ Err refusal) }
 {
     let from = behind_blanks(line, place);
@@ -75,6 +76,7 @@ pub fn next_token(line: &[u8], place: usize) -> Option<Token>
         with_front (token ∷ []) (tokens_from token.to line.now)) }
     ensures ahead { IfSome result (λ token. place ≤ token.from) }
     ensures spelled { IfSome result (IsTokenAt 0 line.now) }
+    ensures longest { IfSome result (IsLongestIn 0 line.now) }
     ensures faultless { IfSome result (λ token. is_faultless token.to line.now ≡ true) }
 {
     match token_from(line, place) {

@@ -108,10 +108,6 @@ lines_text lines = flat_map (λ words. laid_out words ++ 10 ∷ []) lines
 abbrev pub result_text : SessionData → ResultTold → List ℕ
 result_text s r = lines_text (result_lines s r)
 
--- what is told of a stop alone
-abbrev pub question_text : SessionData → StopTold → List ℕ
-question_text s stop = lines_text (stop_lines s stop)
-
 -- what the serial machine tells of a session, with a budget of steps for each update
 abbrev pub serial_told : ℕ → SessionData → ResultTold
 serial_told budget s = result_in (serial_result (rules_of s.mappings) budget s.base (requests_in s))

@@ -15,6 +15,6 @@ mod rows;
 mod saving;
 
 pub use crate::laws::names_keep_the_order;
-pub use crate::results::{question_lines, question_text, result_text};
+pub use crate::results::{question_lines, result_text};
 pub use crate::rows::{worked_results, worked_saves};
 pub use crate::saving::{SaveRefusal, saved};

@@ -3,17 +3,17 @@
 ghost use Rattle.std.specs.Prelude.{◌≡◌, IfOk};
 ghost use Rattle.chase_question.specs.Inquiries.{inquiry_of};
 ghost use Rattle.def_language.specs.Words as word_of;
-ghost use Rattle.chase_update.specs.Results.{result_of, stop_of};
+ghost use Rattle.chase_update.specs.Results.{result_of};
 ghost use Rattle.lang_session.specs.Meanings.{session_of};
-ghost use Rattle.lang_report.specs.Results.{lines_text, question_lines as lines_of_question, question_text, result_text, title_words};
+ghost use Rattle.lang_report.specs.Results.{lines_text, question_lines as lines_of_question, result_text, title_words};
 ghost use Rattle.lang_report.specs.Pages.{HasLine};
 
 use crate::finishes::with_finishes;
-use crate::questions::{with_question, with_stop, with_stop_in};
+use crate::questions::{with_question, with_stop_in};
 use crate::repositories::{with_committed, with_repository};
 use base_types::Memory;
 use chase_question::Question;
-use chase_update::{SessionResult, Stop};
+use chase_update::SessionResult;
 use lang_schema::Page;
 use lang_session::Session;
 use std::alloc::Global;
@@ -46,16 +46,6 @@ pub fn result_text(
     let held = with_repository(stopped, &session.schema, tuples)?;
     let whole = with_committed(held, finishes, session.updates.as_slice())?;
     Ok(whole.into_text())
-}
-
-/// The lines of an update that stopped: which it is and what lacks, its question, and the candidates or the tuples of
-/// which some have to go. It is refused only for want of memory.
-pub fn question_text(alloc: Global, session: &Session, stop: &Stop) -> Result<Vec<u8>, Memory>
-    ensures text { IfOk result (λ text. text.items ≡
-        question_text (session_of session.now) (stop_of stop.now)) }
-{
-    let page = with_stop(Page::new(alloc), session, stop)?;
-    Ok(page.into_text())
 }
 
 /// The lines of a question alone. It is refused only for want of memory.

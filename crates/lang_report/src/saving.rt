@@ -11,6 +11,7 @@ ghost use Rattle.lang_report.specs.declared.saving.SaveRefusal.TheVariants.{Memo
 ghost use Rattle.lang_report.specs.Pages.{mappings_of};
 
 use crate::renaming::saved_base;
+use base_limits::MOST_BYTES;
 use base_types::{List, Mapping, MappingList, Memory, TryCopy};
 use chase_update::{Finish, Outcome, SessionResult};
 use lang_print::print_session;
@@ -21,7 +22,7 @@ use std::alloc::Global;
 const MOST_TUPLES: u64 = 100_000;
 
 /// The most bytes that its printed form may have.
-const MOST_BYTES: u64 = 16_777_216;
+const MOST_PRINTED: u64 = MOST_BYTES as u64;
 
 /// Why a session is not saved.
 #[derive(Debug, Drop)]
@@ -124,7 +125,7 @@ fn begin_anew(alloc: Global, session: &mut Session, told: &SessionResult) -> Res
 fn is_over(tuples: u64, bytes: u64) -> bool
     ensures { result ≡ (nat_lt 100000 tuples || nat_lt 16777216 bytes) }
 {
-    MOST_TUPLES < tuples || MOST_BYTES < bytes
+    MOST_TUPLES < tuples || MOST_PRINTED < bytes
 }
 
 // The refusal of a session that is too large; None where it is not.

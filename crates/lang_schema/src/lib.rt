@@ -21,12 +21,12 @@ mod statements;
 mod variables;
 mod written;
 
-pub use crate::mappings::{check_added_mapping, check_mapping, numbered_atoms};
+pub use crate::mappings::{check_added_mapping, numbered_atoms};
 pub use crate::names::Names;
 pub use crate::page::Page;
 pub use crate::printing::{print_tuple, push_values};
 pub use crate::refusals::SchemaRefusal;
 pub use crate::schema::Schema;
-pub use crate::statements::{print_mapping, with_mapping};
+pub use crate::statements::with_mapping;
 pub use crate::written::{RawAtom, RawAtomList, RawAtoms, RawTerm, RawTermList};
 pub use def_language::Which;

@@ -193,17 +193,3 @@ pub fn check_added_mapping(
     atoms_fit(alloc, schema, right.atoms.as_slice())?;
     mapping_over(alloc, schema, since, left, right)
 }
-
-/// Checks a mapping that is in force from the start, as `check_added_mapping` does.
-pub fn check_mapping(
-    alloc: Global,
-    schema: &Schema,
-    left: &RawAtoms,
-    right: &RawAtoms,
-) -> Result<Mapping, SchemaRefusal>
-    requires one_name { left.now.name.items ≡ right.now.name.items }
-    ensures checked { Gives session_mapping_of result
-        (mapping_of schema.now 0 (mapping_written left.now right.now)) }
-{
-    check_added_mapping(alloc, schema, 0, left, right)
-}

@@ -1,18 +1,17 @@
-//! The words of atoms and mappings, and the printed form of a mapping.
+//! The words of atoms and mappings.
 
 ghost use Rattle.std.specs.Prelude.{◌≡◌, ◌∷◌, ◌++◌, IfOk, flat_map, map};
 ghost use Rattle.base_types.specs.Meanings.{pattern_of, slot_of};
 ghost use Rattle.def_language.specs.Words.{arrow, comma};
 ghost use Rattle.def_language.specs.Statements.{Mapping as MappingStatement};
 ghost use Rattle.def_language.specs.Grammar.{atom_words, one_word, separated, statement_words, term_word};
-ghost use Rattle.def_language.specs.Printing.{mapping_text, name_of, written_atom, written_mapping, written_term};
+ghost use Rattle.def_language.specs.Printing.{name_of, written_atom, written_mapping, written_term};
 ghost use Rattle.lang_schema.specs.Meanings.{session_mapping_of};
 ghost use Rattle.lang_schema.specs.Pages.{with_word, with_words};
 
 use crate::page::Page;
 use crate::schema::Schema;
 use base_types::{Atom, Mapping, Memory, Name, Term};
-use std::alloc::Global;
 
 // The name of a variable; nothing where there is none of that number.
 fn name_of(names: &[Name], variable: u16) -> &[u8]
@@ -157,14 +156,4 @@ pub fn with_mapping(page: Page, schema: &Schema, mapping: &Mapping) -> Result<Pa
         .name(mapping.name.as_slice())?
         .colon()?;
     with_sides(named, schema, names, left, right)
-}
-
-/// The printed form of a mapping: `mapping NAME: LEFT -> RIGHT`, as a session spells it. It is refused
-/// only for want of memory.
-pub fn print_mapping(alloc: Global, schema: &Schema, mapping: &Mapping) -> Result<Vec<u8>, Memory>
-    ensures printed { IfOk result (λ text. text.items ≡
-        mapping_text schema.now (session_mapping_of mapping.now)) }
-{
-    let page = with_mapping(Page::new(alloc), schema, mapping)?;
-    Ok(page.into_text())
 }

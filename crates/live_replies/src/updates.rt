@@ -12,6 +12,7 @@ ghost use Rattle.live_replies.specs.Turns.{admission, command_turn, update_known
 use crate::conversations::Conversation;
 use crate::operations::known_operation;
 use crate::refusals::{Refusal, refused};
+use base_limits::MOST_UPDATES;
 use base_types::{Memory, Name, Operation, TryCopy, Update};
 use lang_forms::RawOperation;
 use std::alloc::Global;
@@ -68,7 +69,7 @@ impl<'s> Conversation<'s> {
         ensures { IfOk result (λ text. IsTold (update_turn (live_of self.old) update.label.items
             (operation_of update.operation)) text.items (live_of self.new)) }
     {
-        if self.core.count() >= 1000 {
+        if self.core.count() >= MOST_UPDATES {
             return refused(alloc, Refusal::Full);
         }
         if !self.core.admits(&self.session.schema, &update) {

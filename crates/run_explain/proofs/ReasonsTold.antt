@@ -5,7 +5,7 @@ use Rattle.std.proofs.lemmas.List.{reverse-append, map-append}
 use Rattle.def_chase.specs.Values.{Fact}
 use Rattle.def_chase.specs.Repository.{Change, Insert, apply, change, has}
 use Rattle.def_provenance.specs.Notes.{Noted, reason_by, told_by}
-use Rattle.def_provenance.specs.Reasons.{Reason, premises, rooted, sought_before}
+use Rattle.def_provenance.specs.Reasons.{Reason, premises, sought_before}
 
 pub applied_on : (D : List Fact) (xs ys : List Change) → apply D (xs ++ ys) ≡ apply (apply D xs) ys
 applied_on D [] ys = refl
@@ -57,7 +57,3 @@ told_on all told more ns ms n S E e f g h =
     ∙ sym (append_assoc told hits (told_by (reverse ms) (sought_before (has n.puts) hits S)))
     ∙ ap (λ rs. rs ++ told_by (reverse ms) (sought_before (has n.puts) hits S)) (sym g)
     ∙ ap (λ D. more ++ told_by (reverse ms) D) (sym h)
-
--- With no note left those that are sought are of the base.
-pub told_end : (all told : List Reason) (ns : List Noted) (S : List Fact) → all ≡ told ++ told_by (reverse ns) S → ns ≡ [] → all ≡ told ++ map rooted S
-told_end all told ns S e f = e ∙ ap (λ xs. told ++ told_by (reverse xs) S) f

@@ -1,5 +1,5 @@
 -- The front of a journal with one commit more, and what a logged record makes of a journal.
-use Rattle.std.proofs.Common.{◌≡◌, ℕ, suc, ◌+◌, ◌<◌, ◌==◌, ◌⊎◌, inl, inr, ap, refl, ◌∙◌, sym, subst, List, [], ◌∷◌, ◌++◌, length, take, Bool, true, false, arith, append_assoc, append-nil, length-append}
+use Rattle.std.proofs.Common.{◌≡◌, ℕ, ◌+◌, ◌<◌, ◌==◌, ◌⊎◌, inl, inr, ap, refl, ◌∙◌, sym, subst, List, [], ◌∷◌, ◌++◌, length, take, Bool, true, false, arith, append_assoc, append-nil}
 use Rattle.std.proofs.Math.Seq.{take-append-add, take-append_seam}
 use Rattle.std.proofs.lemmas.Bool.{both_ways, eqb-true, eq-eqb}
 use Rattle.def_chase.specs.Repository.{Change}
@@ -35,13 +35,6 @@ begins_more bytes s n commits writes rest e one b = record {
   commits = commits_more s.relations 1 n commits writes (omega arith) b.commits one;
   bytes = b.bytes ∙ sym (append_assoc (front s commits) (opened (commit_text s.relations n writes)) rest) ∙ ap (λ xs. xs ++ rest) (sym (front_more s n commits writes e));
 }
-
--- the gate of a journal stands within its bytes
-pub gate_within : (s : SessionData) (commits : List (List Change)) (bytes : List ℕ) → IsJournal s commits bytes → gate_of s commits < length bytes
-gate_within s commits bytes (rest, b, c) =
-    let all : length bytes ≡ length (front s commits) + length rest = ap length b.bytes ∙ length-append (front s commits) rest in
-    let some : length rest ≡ suc (length c.1) = ap length c.2 in
-    omega arith
 
 front_taken : (s : SessionData) (commits : List (List Change)) (bytes rest : List ℕ) → BeginsWith bytes s commits rest → take (gate_of s commits) bytes ≡ front s commits
 front_taken s commits bytes rest b = ap (take (gate_of s commits)) b.bytes ∙ take-append_seam (front s commits) rest

@@ -2,8 +2,8 @@
 use Rattle.std.proofs.Common.{◌≡◌, ℕ, ◌+◌, ◌-◌, ◌<◌, ◌≤◌, ◌^◌, inr, ap, refl, ◌∙◌, sym, subst, List, [], ◌∷◌, ◌++◌, length, arith, length-append}
 use Rattle.def_chase.specs.Values.{Fact}
 use Rattle.def_chase.specs.Repository.{Change, apply}
-use Rattle.def_language.specs.Sessions.{RelationSchema, SessionData}
-use Rattle.run_journal.specs.Format.{framed, commit_text, opened, front}
+use Rattle.def_language.specs.Sessions.{SessionData}
+use Rattle.run_journal.specs.Format.{commit_text, opened, front}
 use Rattle.run_journal.specs.Journals.{BeginsWith, gate_of, after_commits, repository_of}
 use Rattle.run_journal.specs.Damage.{IsBroken, BreaksAt, HasNoCommit}
 use Rattle.run_journal.specs.Taken.{TakesCommit}
@@ -15,9 +15,6 @@ pub record HasRead (bytes : List ℕ) (s : SessionData) (n : ℕ) (rest : List �
   pub begins : BeginsWith bytes s commits rest
   pub count : n ≡ length commits
   pub facts : D ≡ repository_of s commits
-
-pub read_none : (bytes : List ℕ) (s : SessionData) (rest : List ℕ) (facts : List Fact) → BeginsWith bytes s [] rest → facts ≡ s.base → HasRead bytes s 0 rest facts
-read_none bytes s rest facts b e = record { commits = []; begins = b; count = refl; facts = e }
 
 after_more : (D : List Fact) (commits : List (List Change)) (writes : List Change) → after_commits D (commits ++ writes ∷ []) ≡ apply (after_commits D commits) writes
 after_more D [] writes = refl
@@ -40,9 +37,6 @@ read_more bytes s count n rest behind more old new h e next t =
 pub gate_there : (bytes : List ℕ) (s : SessionData) (count : ℕ) (rest : List ℕ) (facts : List Fact) (h : HasRead bytes s count rest facts) → length bytes - length rest ≡ gate_of s h.commits
 gate_there bytes s count rest facts h = omega (arith, ap length h.begins.bytes, length-append (front s h.commits) rest)
 
-pub rest_within : (bytes : List ℕ) (s : SessionData) (count : ℕ) (rest : List ℕ) (facts : List Fact) → HasRead bytes s count rest facts → length rest ≤ length bytes
-rest_within bytes s count rest facts h = omega (arith, ap length h.begins.bytes, length-append (front s h.commits) rest)
-
 pub breaks : (bytes : List ℕ) (s : SessionData) (count place : ℕ) (rest : List ℕ) (facts : List Fact) (h : HasRead bytes s count rest facts) → place ≡ length bytes - length rest → IsBroken s.relations (length h.commits + 1) rest → BreaksAt bytes place
 breaks bytes s count place rest facts h e broken = record {
   session = s;
@@ -64,7 +58,3 @@ pub too_many_breaks : (bytes : List ℕ) (s : SessionData) (count place : ℕ) (
     → BreaksAt bytes place
 too_many_breaks bytes s count place rest behind facts h e is large =
     no_commit_breaks bytes s count (count + 1) place rest behind facts h e is refl (λ writes more one f. let small : count + 1 < 2 ^ 32 = one.number in omega arith)
-
--- and each commit makes what is left shorter
-pub less_left : (relations : List RelationSchema) (n : ℕ) (bytes rest : List ℕ) (old new : List Fact) → TakesCommit relations n bytes rest old new → length rest < length bytes + 1
-less_left relations n bytes rest old new t = omega (arith, ap length t.bytes, length-append (framed (commit_text relations n t.writes)) rest)

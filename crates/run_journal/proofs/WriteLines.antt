@@ -102,14 +102,6 @@ pub no_tuple_behind : (relations : List RelationSchema) (sign : ℕ) (text : Lis
 no_tuple_behind relations sign text none (Insert t) good e = none t good (ap (drop 1) e)
 no_tuple_behind relations sign text none (Delete t) good e = none t good (ap (drop 1) e)
 
-pub no_sign : (relations : List RelationSchema) (sign : ℕ) (text : List ℕ) → sign ≢ 43 → sign ≢ 45 → (w : Change) → sign ∷ text ≡ write_text relations w → ⊥
-no_sign relations sign text a b (Insert t) e = a (ap (λ xs. get_or xs 0 0) e)
-no_sign relations sign text a b (Delete t) e = b (ap (λ xs. get_or xs 0 0) e)
-
-pub no_bytes : (relations : List RelationSchema) (w : Change) → [] ≡ write_text relations w → ⊥
-no_bytes relations (Insert t) e = let f : ⊥ = cc in f
-no_bytes relations (Delete t) e = let f : ⊥ = cc in f
-
 -- ---- what text that is no lines of writes can't be
 
 -- what is left has no line feed

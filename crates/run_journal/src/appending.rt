@@ -16,12 +16,13 @@ use crate::logging::{log_record, write_synced};
 use crate::printing::commit_text;
 use crate::{AppendFault, Commit, CreateFault, Journal};
 use base_devices::{Disk, DiskRefusal};
+use base_limits::MOST_BYTES;
 use lang_print::print_session;
 use lang_session::Session;
 use std::alloc::Global;
 
 /// The most bytes that a payload may have: the printed form of a session, or the text of a commit.
-pub const PAYLOAD_LIMIT: usize = 16_777_216;
+pub const PAYLOAD_LIMIT: usize = MOST_BYTES;
 
 // A number of this type fits 4 bytes.
 fn numbers_fit(number: u32)

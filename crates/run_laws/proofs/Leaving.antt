@@ -22,7 +22,7 @@ facts_fit : (rs : List RelationSchema) → length rs ≤ 128 → (ts : List Fact
 facts_fit rs few [] h = refl
 facts_fit rs few (t ∷ ts) h = both (fits rs 0 0 t) (list_all (fits rs 0 0) ts) (fact_fits rs 0 0 t (no_force rs t.relation (length t.values) few h.0.0) h.0) (facts_fit rs few ts h.1)
 
-module _ (s : SessionData) (v : IsSession s) (B : ℕ) (some : 1 ≤ B) (within : B ≤ 300) where
+module _ (s : SessionData) (v : IsSession s) (B : ℕ) (some : 1 ≤ B) (within : B ≤ 1000001) where
   pub session_left : Left s v B some within 0 s.updates s.base (serial (whole_chase (rules_of s.mappings) B) s.base (turns_of (rules_of s.mappings) B (requests_in s)))
   session_left = serial_left s v B some within s.updates 0 s.base (session_acts s v) record { order = v.base_order; fit = facts_fit s.relations (few_relations s v) s.base v.base }
 

@@ -29,7 +29,7 @@ use Rattle.run_journal.specs.Journals.{after_commits, repository_of}
 use Rattle.run_laws.specs.Logged.{AreLogged, commits_of, left_after, opening_of}
 use Rattle.run_laws.proofs.Writes.{all_logged, all_told}
 
-module _ (s : SessionData) (v : IsSession s) (B : ℕ) (some : 1 ≤ B) (within : B ≤ 300) where
+module _ (s : SessionData) (v : IsSession s) (B : ℕ) (some : 1 ≤ B) (within : B ≤ 1000001) where
   abbrev trails : Result (whole_chase (rules_of s.mappings) B) → List (List Change)
   trails r = (trailed every (rules_of s.mappings) B r).trails
 
@@ -153,7 +153,7 @@ base_told rs few (t ∷ ts) h = by (t.relation == force_relation) (no_force rs t
     by true e rest = differ (sym e)
     by false e rest = ap (λ (us : List Fact). t ∷ us) rest
 
-module _ (s : SessionData) (v : IsSession s) (B : ℕ) (some : 1 ≤ B) (within : B ≤ 300) where
+module _ (s : SessionData) (v : IsSession s) (B : ℕ) (some : 1 ≤ B) (within : B ≤ 1000001) where
   begun : Kept s v B some within 0 s.base
   begun = record { order = v.base_order; fit = facts_fit s.relations (few_relations s v) s.base v.base }
 

@@ -127,7 +127,7 @@ done_is Done e = refl
 done_is Spent e = differ e
 done_is (Refused n) e = differ e
 
-module _ (s : SessionData) (v : IsSession s) (B : ℕ) (some : 1 ≤ B) (within : B ≤ 300) where
+module _ (s : SessionData) (v : IsSession s) (B : ℕ) (some : 1 ≤ B) (within : B ≤ 1000001) where
   -- a mapping that stays in force is in force in the end
   forced : (n : ℕ) (m : SessionMapping) → slice_get s.mappings n ≡ Some m → stays_in_force (serial_told B s).finishes m ≡ true
       → in_force n m.rule (serial (whole_chase (rules_of s.mappings) B) s.base (turns_of (rules_of s.mappings) B (requests_in s))).repository ≡ true

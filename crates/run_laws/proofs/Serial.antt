@@ -37,7 +37,7 @@ done_ends (Generate r) e = absurd (none_some Done e)
 done_ends (Asked q) e = absurd (none_some Done e)
 done_ends (Ended o) e = ap Ended (some_same o Done e)
 
-module _ (s : SessionData) (v : IsSession s) (B : ℕ) (some : 1 ≤ B) (within : B ≤ 300) where
+module _ (s : SessionData) (v : IsSession s) (B : ℕ) (some : 1 ≤ B) (within : B ≤ 1000001) where
   abbrev ms : List Rule
   ms = rules_of s.mappings
 

@@ -26,7 +26,7 @@ pub record IsRunnable (budget : ℕ) (s : SessionData) : Type 0 where
   pub session : IsSession s
   pub met : base_violation s ≡ None
   pub some : 1 ≤ budget
-  pub most : budget ≤ 300
+  pub most : budget ≤ 1000001
 
 -- The session that begins with it.
 abbrev pub saved_by : ℕ → SessionData → SessionData

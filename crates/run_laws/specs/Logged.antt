@@ -31,7 +31,7 @@ journal_of s trails = journal_text (opening_of s) (commits_of trails)
 pub record IsRun (steps : ℕ) (s : SessionData) : Type 0 where
   pub session : IsSession s
   pub some : 1 ≤ steps
-  pub most : steps ≤ 300
+  pub most : steps ≤ 1000001
 
 -- The repository that the serial machine leaves after the first k updates, as it is told.
 abbrev pub left_after : ℕ → ℕ → SessionData → List Fact

@@ -20,17 +20,17 @@ use def_language::sessions_are_read_again;
 /// integer of 64 bits, a text of at most 256 bytes of UTF-8, or a null of the base or of an update. They are in order.
 pub fn runs_leave_facts()
     ensures facts { (budget : ℕ) (s : SessionData) →
-        IsSession s → 1 ≤ budget → budget ≤ 300 → LeavesFacts budget s }
+        IsSession s → 1 ≤ budget → budget ≤ 1000001 → LeavesFacts budget s }
     ensures in_order { (budget : ℕ) (s : SessionData) →
-        IsSession s → 1 ≤ budget → budget ≤ 300 → IsRepository (left_by budget s) }
+        IsSession s → 1 ≤ budget → budget ≤ 1000001 → IsRepository (left_by budget s) }
 {}
 
 /// What is saved of a run is a session, where it is not too large, and its printed form spells it.
 pub fn saved_sessions_are_sessions()
     ensures session { (budget : ℕ) (s : SessionData) →
-        IsSession s → 1 ≤ budget → budget ≤ 300 → SavesSession budget s }
+        IsSession s → 1 ≤ budget → budget ≤ 1000001 → SavesSession budget s }
     ensures spelled { (budget : ℕ) (s : SessionData) →
-        IsSession s → 1 ≤ budget → budget ≤ 300 → SavesSpelled budget s }
+        IsSession s → 1 ≤ budget → budget ≤ 1000001 → SavesSpelled budget s }
 {
     sessions_are_read_again();
 }

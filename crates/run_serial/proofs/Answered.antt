@@ -1,7 +1,7 @@
 -- Steps whose queries are answered by a function: what they come to, and that the queries grow fewer.
 use Rattle.std.proofs.Common.{◌≡◌, ◌∙◌, ap, refl, sym, subst, Bool, ℕ, zero, suc, ◌+◌, ◌-◌, ◌<◌, ◌≤◌, Option, Some, None, List, [], ◌∷◌, ◌++◌, length, take, drop, map, arith}
-use Rattle.std.proofs.Math.Seq.{take-append_seam, take-length}
-use Rattle.std.proofs.lemmas.List.{length-append, length-drop}
+use Rattle.std.proofs.Math.Seq.{take-length}
+use Rattle.std.proofs.lemmas.List.{length-drop}
 use Rattle.def_machine.specs.Trees.{Leaf, Node, result_of, log_of}
 use Rattle.def_chase.specs.Queries.{Query, Reply, Violation, Nothing, value}
 use Rattle.base_types.specs.Meanings.{change_of}
@@ -15,7 +15,7 @@ use Rattle.chase_query.specs.Kinds.{IsOfKind}
 use Rattle.chase_eval.specs.Watched.{Watched, AreSettled}
 use Rattle.def_steps.specs.Attempts.{Attempt}
 use Rattle.def_steps.specs.Steps.{Asking, step, moved}
-use Rattle.chase_update.specs.Courses.{between, Course, Reading, State, coming_to, by_reply, first_asked, course, course_by}
+use Rattle.chase_update.specs.Courses.{Course, coming_to, by_reply, first_asked}
 use Rattle.chase_update.specs.Settled.{FindsNone, IsShorter}
 use Rattle.chase_update.specs.Wishes.{Wish, WishesReply, TakesAnswer}
 use Rattle.run_serial.specs.Turns.{stepped}
@@ -52,11 +52,6 @@ pub comes_to : (val : Query → Reply) (B : ℕ) (P : Attempt) (t : Asking) → 
 comes_to val B P (Leaf m) = refl
 comes_to val B P (Node q k) = comes_to val B P (k (val q))
 
--- A program without a step in hand is between two steps, at the result of its course.
-pub at_result : (val : Query → Reply) (ms : List Rule) (s : State) → s.reading ≡ None → s ≡ between (result_of val (course ms s))
-at_result val ms s e =
-    (λ i. record { attempt = s.attempt; reading = e i }) ∙ ap between (sym (ap (λ (o : Option Reading). result_of val (course_by ms s.attempt o)) e))
-
 -- An answer of the query's kind is one that is taken.
 pub takes : (ms : List Rule) (w : Wish) (q : Query) (a : Reply) → WishesReply q ≡ w → IsOfKind ms q a → TakesAnswer ms w a
 takes ms w q a e h = subst (λ (v : Wish). TakesAnswer ms v a) e h
@@ -77,21 +72,6 @@ pub stepped_is : (ms : List Rule) (B : ℕ) (D : List Fact) (P : Attempt) (c : O
     → result_of (λ q. value ms q below own (Caused h)) t ≡ stepped ms B D P c
 stepped_is ms B D P c t below own h e f g k =
     (λ i. result_of (λ q. value ms q (e i) (f i) (Caused (g i))) (k i)) ∙ comes_to (λ q. value ms q D P.own (Caused (direction_of P.operation))) B P (step ms P c)
-
--- The own writes of an attempt stay in front of those of its step.
-pub writes_stay : (ms : List Rule) (B : ℕ) (D : List Fact) (P : Attempt) (c : Option Choice) (s : State) (own : List Change)
-    → s ≡ between (stepped ms B D P c) → own ≡ s.attempt.own → take (length P.own) own ≡ P.own
-writes_stay ms B D P c s own e f =
-    let m = result_of (λ q. value ms q D P.own (Caused (direction_of P.operation))) (step ms P c) in
-    ap (take (length P.own)) (f ∙ ap (λ (t : State). t.attempt.own) e) ∙ take-append_seam P.own m.writes
-
--- They are no more than those.
-pub writes_grow : (ms : List Rule) (B : ℕ) (D : List Fact) (P : Attempt) (c : Option Choice) (s : State) (own : List Change)
-    → s ≡ between (stepped ms B D P c) → own ≡ s.attempt.own → length P.own ≤ length own
-writes_grow ms B D P c s own e f =
-    let m = result_of (λ q. value ms q D P.own (Caused (direction_of P.operation))) (step ms P c) in
-    let count : length own ≡ length P.own + length m.writes = ap length (f ∙ ap (λ (t : State). t.attempt.own) e) ∙ length-append P.own m.writes in
-    omega (arith, count)
 
 dropped : (n : ℕ) (ws : List Write) → take n (map change_of ws) ++ map change_of (drop n ws) ≡ map change_of ws
 dropped zero ws = refl

@@ -1,7 +1,6 @@
 pub mod Answered
 pub mod Making
 pub mod Running
-pub mod Telling
 pub mod Limits
 pub mod Onward
 pub mod Leaving

@@ -1,5 +1,5 @@
 -- The machine's run, turn by turn, from what an attempt does next.
-use Rattle.std.proofs.Common.{◌≡◌, ◌∙◌, ap, refl, sym, subst, ℕ, zero, suc, ◌-◌, ◌<◌, ◌||◌, nat_lt, Bool, true, false, Option, Some, None, List, is_some, is_none, not, ltb-true, arith}
+use Rattle.std.proofs.Common.{◌≡◌, ◌∙◌, ap, refl, sym, subst, ℕ, zero, suc, ◌-◌, ◌<◌, ◌||◌, nat_lt, Bool, true, false, Option, Some, None, List, is_some, ltb-true, arith}
 use Rattle.std.specs.Prelude.{slice_get, if◌then◌else◌}
 use Rattle.std.specs.Option.{option_map}
 use Rattle.def_machine.specs.Standings.{Lack, Missing, Misfit, unless_fits, lack_for}
@@ -7,14 +7,14 @@ use Rattle.def_machine.specs.Serial.{Rest, Ends, go_on, run}
 use Rattle.def_chase.specs.Values.{Fact}
 use Rattle.def_chase.specs.Mappings.{Rule}
 use Rattle.def_chase.specs.Updates.{Choice}
-use Rattle.chase_question.specs.Inquiries.{Inquiry, inquiry_in, fits_inquiry}
+use Rattle.chase_question.specs.Inquiries.{inquiry_in, fits_inquiry}
 use Rattle.def_steps.specs.Attempts.{Question, Positive, Negative, Phase, Start, Look, Generate, Asked, Ended, Spent, Attempt, question_in, outcome_in}
 use Rattle.def_steps.specs.Questions.{fits}
 use Rattle.def_steps.specs.Chase.{ending, caused, caused_chase}
 use Rattle.def_steps.specs.Serial.{at_rest}
 use Rattle.chase_update.specs.Courses.{between, State}
-use Rattle.chase_update.specs.Wishes.{wish, wish_at, wish_by, WishesChoice, WishesStep}
-use Rattle.run_serial.specs.Turns.{Steps, Rests, at_question, next_by, StepsBy, stepped, rest_from}
+use Rattle.chase_update.specs.Wishes.{wish, wish_at, wish_by}
+use Rattle.run_serial.specs.Turns.{Steps, Rests, at_question, next_by, stepped, rest_from}
 
 same_fits : (q : Question) (c : Choice) → fits_inquiry (inquiry_in q) c ≡ fits q c
 same_fits (Positive r t cs) c = refl
@@ -116,36 +116,6 @@ some_left B n p h = by p (nat_lt n B) refl h
 pub wish_between : (s : State) → s.reading ≡ None → wish s ≡ wish_at s.attempt.phase
 wish_between s e = ap (wish_by s.attempt.phase) e
 
-asked_by : (i : Inquiry) (o c : Option Choice) → at_question i o ≡ Steps c → StepsBy (WishesChoice i) c
-asked_by i None c e = absurd (never c e)
-  where
-    never : (c : Option Choice) → Rests (Some Missing) ≡ Steps c → ⊥
-    never c e = cc
-asked_by i (Some a) c e = by (fits_inquiry i a) refl e
-  where
-    by : (b : Bool) → fits_inquiry i a ≡ b → (if b then Steps (Some a) else Rests (Some Misfit)) ≡ Steps c → StepsBy (WishesChoice i) c
-    by true f e = let same : Some a ≡ c = cc in subst (StepsBy (WishesChoice i)) same f
-    by false f e = absurd (never c e)
-      where
-        never : (c : Option Choice) → Rests (Some Misfit) ≡ Steps c → ⊥
-        never c e = cc
-
-wanted_in : (p : Phase) (taken : ℕ) (answers : List Choice) (c : Option Choice) → next_by (wish_at p) taken answers ≡ Steps c → StepsBy (wish_at p) c
-wanted_in Start taken answers c e = let same : None ≡ c = cc in subst (StepsBy WishesStep) same refl
-wanted_in Look taken answers c e = let same : None ≡ c = cc in subst (StepsBy WishesStep) same refl
-wanted_in (Generate r) taken answers c e = let same : None ≡ c = cc in subst (StepsBy WishesStep) same refl
-wanted_in (Asked q) taken answers c e = asked_by (inquiry_in q) (slice_get answers taken) c e
-wanted_in (Ended o) taken answers c e = absurd (never c e)
-  where
-    never : (c : Option Choice) → Rests None ≡ Steps c → ⊥
-    never c e = cc
-
--- The step that comes next is one that is wanted.
-pub wanted_next : (s : State) (answers : List Choice) (c : Option Choice) → s.reading ≡ None → next_by (wish s) s.attempt.taken answers ≡ Steps c → StepsBy (wish s) c
-wanted_next s answers c r e =
-    subst (λ w. StepsBy w c) (sym (wish_between s r))
-    (wanted_in s.attempt.phase s.attempt.taken answers c (subst (λ w. next_by w s.attempt.taken answers ≡ Steps c) (wish_between s r) e))
-
 -- What takes a step next has not ended.
 pub steps_unended : (p : Phase) (taken : ℕ) (answers : List Choice) (c : Option Choice) → next_by (wish_at p) taken answers ≡ Steps c → is_some (outcome_in p) ≡ false
 steps_unended Start taken answers c e = refl
@@ -153,30 +123,6 @@ steps_unended Look taken answers c e = refl
 steps_unended (Generate r) taken answers c e = refl
 steps_unended (Asked q) taken answers c e = refl
 steps_unended (Ended o) taken answers c e = cc
-
-asks_at : (i : Inquiry) (o : Option Choice) (l : Option Lack) → at_question i o ≡ Rests l → is_some l ≡ true
-asks_at i None l e = let same : Some Missing ≡ l = cc in sym (ap is_some same)
-asks_at i (Some a) l e = by (fits_inquiry i a) e
-  where
-    by : (b : Bool) → (if b then Steps (Some a) else Rests (Some Misfit)) ≡ Rests l → is_some l ≡ true
-    by true e = cc
-    by false e = let same : Some Misfit ≡ l = cc in sym (ap is_some same)
-
--- What rests lacks something exactly at a question.
-pub rests_asked : (p : Phase) (taken : ℕ) (answers : List Choice) (l : Option Lack) → next_by (wish_at p) taken answers ≡ Rests l → is_some (question_in p) ≡ is_some l
-rests_asked Start taken answers l e = cc
-rests_asked Look taken answers l e = cc
-rests_asked (Generate r) taken answers l e = cc
-rests_asked (Asked q) taken answers l e = sym (asks_at (inquiry_in q) (slice_get answers taken) l e)
-rests_asked (Ended o) taken answers l e = let same : None ≡ l = cc in ap is_some same
-
--- What rests and lacks nothing has ended.
-pub rests_ended : (p : Phase) (taken : ℕ) (answers : List Choice) (l : Option Lack) → next_by (wish_at p) taken answers ≡ Rests l → is_some (outcome_in p) ≡ is_none l
-rests_ended Start taken answers l e = cc
-rests_ended Look taken answers l e = cc
-rests_ended (Generate r) taken answers l e = cc
-rests_ended (Asked q) taken answers l e = ap not (sym (asks_at (inquiry_in q) (slice_get answers taken) l e))
-rests_ended (Ended o) taken answers l e = let same : None ≡ l = cc in ap is_none same
 
 -- A state of a turn: between two steps, with steps left unless it has ended, and on the way to that rest.
 abbrev pub IsOnTheWay : (ms : List Rule) (B : ℕ) → List Fact → List Choice → Attempt × Option Lack → State → Type 0

@@ -1,54 +1,15 @@
 -- What a write of one column makes of all columns, and what a write of each column of a tuple makes of them.
-use Rattle.std.proofs.Common.{◌≡◌, ℕ, zero, suc, ◌+◌, ◌<◌, ◌≤◌, length, get_or, arith, ap, refl, sym, ◌∙◌, subst, List, [], ◌∷◌, ◌++◌, map, Bool, true, false, ◌&&◌, ◌||◌, not, Some, None, inl, inr}
-use Rattle.std.proofs.Math.ListN.{set}
-use Rattle.std.specs.Map.{lookup}
-use Rattle.std.specs.Prelude.{slice_get, unwrap_or}
+use Rattle.std.proofs.Common.{◌≡◌, ℕ, zero, suc, ◌+◌, ◌<◌, ◌≤◌, length, get_or, arith, ap, refl, sym, ◌∙◌, subst, List, [], ◌∷◌, ◌++◌, map, Bool, true, false, ◌&&◌, ◌||◌, inl, inr}
+use Rattle.std.specs.Prelude.{slice_get}
 use Rattle.std.proofs.lemmas.Bool.{cases_eq, cases_lt}
 use Rattle.def_chase.specs.Values.{Datum, Fact, same_fact, same_datum}
 use Rattle.def_chase.specs.Repository.{has}
 use Rattle.def_chase.specs.Cursors.{has_at, is_datum}
-use Rattle.def_chase.proofs.Bools.{none_some, some_same}
 use Rattle.base_types.specs.Meanings.{datum_of}
 use Rattle.base_types.specs.declared.values.Value.{Value}
-use Rattle.set_facts.specs.Indexes.{Kept, group_in, group_at, AreSame, AddsAtMost}
-
--- A further column without a group keeps nothing.
-pub appended : (ms : List Kept) (n : Kept) → n.entries ≡ [] → AreSame ms (ms ++ n ∷ [])
-appended [] n e zero d = ap (λ (es : List (Value × List Fact)). unwrap_or (lookup (λ k. same_datum d (datum_of k)) es) []) e
-appended [] n e (suc c) d = refl
-appended (m ∷ ms) n e zero d = refl
-appended (m ∷ ms) n e (suc c) d = appended ms n e c d
+use Rattle.set_facts.specs.Indexes.{Kept, group_at, AreSame, AddsAtMost}
 
 -- ---- one column
-
-pub set_other : (ms : List Kept) (i c : ℕ) (n : Kept) (d : Datum) → (c ≡ i → ⊥) → group_at (set ms i n) c d ≡ group_at ms c d
-set_other [] i c n d h = refl
-set_other (x ∷ ms) zero zero n d h = absurd (h refl)
-set_other (x ∷ ms) zero (suc c) n d h = refl
-set_other (x ∷ ms) (suc i) zero n d h = refl
-set_other (x ∷ ms) (suc i) (suc c) n d h = set_other ms i c n d (λ e. h (ap (λ (k : ℕ). suc k) e))
-
--- A column that is put in place of one that keeps the same.
-pub set_same : (ms : List Kept) (i : ℕ) (m n : Kept) → slice_get ms i ≡ Some m → ((d : Datum) → group_in n d ≡ group_in m d) → AreSame ms (set ms i n)
-set_same [] i m n e k c d = refl
-set_same (x ∷ ms) zero m n e k zero d = k d ∙ ap (λ (y : Kept). group_in y d) (sym (some_same x m e))
-set_same (x ∷ ms) zero m n e k (suc c) d = refl
-set_same (x ∷ ms) (suc i) m n e k zero d = refl
-set_same (x ∷ ms) (suc i) m n e k (suc c) d = set_same ms i m n e k c d
-
--- A column becomes what f makes of it and of being the tuple at the value.
-pub set_changes : (f : Bool → Bool → Bool) (ms : List Kept) (i : ℕ) (m n : Kept) (v : Datum) (t : Fact) → slice_get ms i ≡ Some m
-    → ((d : Datum) (u : Fact) → has (group_in n d) u ≡ f (has (group_in m d) u) (same_datum d v && same_fact u t))
-    → (d : Datum) (u : Fact) → has (group_at (set ms i n) i d) u ≡ f (has (group_at ms i d) u) (same_datum d v && same_fact u t)
-set_changes f [] i m n v t e k d u = absurd (none_some m e)
-set_changes f (x ∷ ms) zero m n v t e k d u = k d u ∙ ap (λ (y : Kept). f (has (group_in y d) u) (same_datum d v && same_fact u t)) (sym (some_same x m e))
-set_changes f (x ∷ ms) (suc i) m n v t e k d u = set_changes f ms i m n v t e k d u
-
--- Past the last column nothing has to go.
-pub past_drops : (ms : List Kept) (i : ℕ) (v : Datum) (t : Fact) → slice_get ms i ≡ None → (d : Datum) (u : Fact) → has (group_at ms i d) u ≡ (has (group_at ms i d) u && not (same_datum d v && same_fact u t))
-past_drops [] i v t e d u = refl
-past_drops (x ∷ ms) zero v t e d u = absurd (none_some x (sym e))
-past_drops (x ∷ ms) (suc i) v t e d u = past_drops ms i v t e d u
 
 -- ---- the columns of one tuple
 

@@ -1,16 +1,15 @@
 -- A cursor that goes on from tuple to tuple goes over all that come after it.
 use Rattle.std.proofs.Common.{◌≡◌, ℕ, suc, ◌<◌, length, ap, refl, sym, ◌∙◌, List, ◌∷◌, Bool, true, false, ◌&&◌, cond, Option, Some, None, [], inl, inr}
 use Rattle.std.specs.Cmp.Lexicographic.{slice_cmp}
-use Rattle.std.specs.Ordering.{is_lt, nat_cmp, ordering_then, MatchOrdering}
+use Rattle.std.specs.Ordering.{is_lt, nat_cmp, ordering_then}
 use Rattle.std.specs.declared.cmp.Ordering.{Ordering}
-use Rattle.std.specs.declared.cmp.Ordering.TheVariants.{Less, Equal, Greater}
+use Rattle.std.specs.declared.cmp.Ordering.TheVariants.{Greater}
 use Rattle.std.specs.Prelude.{find, filter, ◌==◌}
 use Rattle.std.proofs.lemmas.Bool.{and_parts, cases_eq, ne_eqb}
-use Rattle.std.proofs.lemmas.Cmp.{ranked}
 use Rattle.def_chase.specs.Values.{Datum, Fact, datum_cmp, fact_cmp}
 use Rattle.def_chase.specs.Repository.{IsRepository}
-use Rattle.def_chase.specs.Cursors.{is_of, is_past, is_beyond, has_at, is_scanned, first_of, next_of, scan_of}
-use Rattle.def_chase.proofs.Bools.{differ, and-true, and-false}
+use Rattle.def_chase.specs.Cursors.{is_of, is_past, is_beyond, has_at, is_scanned, scan_of}
+use Rattle.def_chase.proofs.Bools.{differ, and-false}
 use Rattle.def_chase.proofs.Cursors.{found_begins, is_of-is}
 use Rattle.def_chase.proofs.Order.{fact_total}
 use Rattle.def_chase.proofs.Searches.{find_filter, find_same, filter_as, none_passes, found_passes}
@@ -141,29 +140,10 @@ scan_begins r c d past D o s e =
     both_of true false x g = differ g
     both_of false b x g = differ g
 
--- Where none is given, the first of the relation is ahead.
-pub ahead_of_none : (r : ℕ) (D : List Fact) → first_of D r ≡ find (is_ahead r None) D
-ahead_of_none r D = find_same (is_of r) (is_ahead r None) (λ u. sym (and-true (is_of r u))) D
-
 module _ (r : ℕ) (t : Fact) where
   -- How t stands to the tuples of the relation is how its relation does.
   stands : (o : Ordering) → nat_cmp t.relation r ≡ o → (u : Fact) → u.relation ≡ r → fact_cmp t u ≡ ordering_then o (slice_cmp datum_cmp t.values u.values)
   stands o e u f = ap (λ p. ordering_then p (slice_cmp datum_cmp t.values u.values)) (ap (nat_cmp t.relation) f ∙ e)
-
-  -- A tuple of a lesser relation comes before the first of the relation.
-  pub ahead_of_lesser : nat_cmp t.relation r ≡ Less → (D : List Fact) → first_of D r ≡ find (is_ahead r (Some t)) D
-  ahead_of_lesser e D = find_same (is_of r) (is_ahead r (Some t)) (λ u. elim (cases_eq u.relation r) [
-    | inl f ↦ sym (ap (λ b. is_of r u && b) (ap is_lt (stands Less e u f)) ∙ and-true (is_of r u))
-    | inr n ↦ ne_eqb u.relation r n ∙ sym (ap (λ b. b && is_lt (fact_cmp t u)) (ne_eqb u.relation r n))
-  ]) D
-
-  pub ahead_of_same : nat_cmp t.relation r ≡ Equal → (D : List Fact) → next_of D t ≡ find (is_ahead r (Some t)) D
-  ahead_of_same e D = ap (λ (n : ℕ). find (is_ahead n (Some t)) D) (by (nat_cmp t.relation r) (ranked t.relation r _ refl) e)
-    where
-      by : (o : Ordering) → MatchOrdering o (t.relation < r) (t.relation ≡ r) (r < t.relation) → o ≡ Equal → t.relation ≡ r
-      by Less m f = cc
-      by Equal m f = m
-      by Greater m f = cc
 
   -- A tuple of a greater relation has none of the relation ahead.
   pub ahead_of_greater : nat_cmp t.relation r ≡ Greater → (D : List Fact) → None ≡ find (is_ahead r (Some t)) D

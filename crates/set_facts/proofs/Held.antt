@@ -9,8 +9,8 @@ use Rattle.std.specs.Set.{remove_key}
 use Rattle.std.specs.declared.cmp.Ordering.{Ordering}
 use Rattle.std.specs.declared.cmp.Ordering.TheVariants.{Less, Equal, Greater}
 use Rattle.def_chase.specs.Values.{Fact, fact_cmp, same_fact}
-use Rattle.def_chase.specs.Repository.{Insert, IsRepository, change, has}
-use Rattle.def_chase.proofs.Sets.{has-insert, same_exact, same_repository}
+use Rattle.def_chase.specs.Repository.{IsRepository, has}
+use Rattle.def_chase.proofs.Sets.{same_exact}
 use Rattle.base_types.specs.Meanings.{fact_of}
 use Rattle.base_types.specs.declared.tuples.Tuple.{Tuple}
 
@@ -75,22 +75,3 @@ delete_mapped t ks s = remove_mapped t ks ∙ remove_is_filter (fact_of t) (map 
 pub empty_in_order : IsRepository []
 unfolding IsStrictlySortedBy
 empty_in_order = tt
-
--- A tuple that is put in and no longer left: what is in or left stays the same.
-pub moved : (D E left : List Fact) (t u s : Fact) → E ≡ change D (Insert t) → t ≡ u → (has E s || has left s) ≡ (has D s || has (u ∷ left) s)
-moved D E left t u s e f =
-    ap (λ (G : List Fact). has G s || has left s) e ∙ ap (λ b. b || has left s) (has-insert D t s)
-    ∙ swap (same_fact s t) (has D s) (has left s) ∙ ap (λ (v : Fact). has D s || (same_fact s v || has left s)) f
-  where
-    swap : (a b c : Bool) → ((a || b) || c) ≡ (b || (a || c))
-    swap true true c = refl
-    swap true false c = refl
-    swap false b c = refl
-
--- Where nothing is left, all are in.
-pub all_moved : (E D left : List Fact) → IsRepository E → IsRepository D → left ≡ [] → ((s : Fact) → (has E s || has left s) ≡ has D s) → E ≡ D
-all_moved E D left s t e h = same_repository E D s t (λ u. off (has E u) ∙ sym (ap (λ (l : List Fact). has E u || has l u) e) ∙ h u)
-  where
-    off : (a : Bool) → a ≡ (a || false)
-    off true = refl
-    off false = refl

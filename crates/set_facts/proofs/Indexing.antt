@@ -16,7 +16,6 @@ use Rattle.base_types.specs.Meanings.{datum_of}
 use Rattle.base_types.specs.declared.values.Value.{Value}
 use Rattle.set_facts.specs.Indexes.{Kept, kept_at, is_in, IsIndex, AddsOne, DropsOne}
 use Rattle.set_facts.proofs.Courses.{find_among}
-use Rattle.set_facts.proofs.Groups.{or-false}
 
 -- ---- one tuple
 
@@ -64,9 +63,6 @@ index_shrinks D ms ns t x h r c d u =
 abbrev pub IsIndexTo : List Fact → List Fact → List (Vec Kept Global) → Type 0
 IsIndexTo D left ms = (r c : ℕ) (d : Datum) (u : Fact) → (has (kept_at ms r c d) u || (has left u && is_in r c d u)) ≡ (has D u && is_in r c d u)
 
-pub index_begins : (D left : List Fact) (ms : List (Vec Kept Global)) → ms ≡ [] → left ≡ D → IsIndexTo D left ms
-index_begins D left ms e f r c d u = λ i. has (kept_at (e i) r c d) u || (has (f i) u && is_in r c d u)
-
 pub index_goes_on : (D left rest : List Fact) (ms ns : List (Vec Kept Global)) (t : Fact) → left ≡ t ∷ rest → AddsOne t ms ns → IsIndexTo D left ms → IsIndexTo D rest ns
 index_goes_on D left rest ms ns t e h x r c d u =
     ap (λ b. b || (has rest u && is_in r c d u)) (h r c d u) ∙ by (same_fact u t) refl ∙ sym (ap (λ (l : List Fact). has (kept_at ms r c d) u || (has l u && is_in r c d u)) e) ∙ x r c d u
@@ -85,9 +81,6 @@ index_goes_on D left rest ms ns t e h x r c d u =
     by : (b : Bool) → same_fact u t ≡ b → ((has (kept_at ms r c d) u || (is_in r c d t && b)) || (has rest u && is_in r c d u)) ≡ (has (kept_at ms r c d) u || ((b || has rest u) && is_in r c d u))
     by true f = ap (λ (v : Fact). (has (kept_at ms r c d) u || (is_in r c d v && true)) || (has rest u && is_in r c d u)) (sym (same_exact u t f)) ∙ here (has (kept_at ms r c d) u) (is_in r c d u) (has rest u)
     by false f = elsewhere (has (kept_at ms r c d) u) (is_in r c d t) (has rest u && is_in r c d u)
-
-pub index_ends : (D left : List Fact) (ms : List (Vec Kept Global)) → left ≡ [] → IsIndexTo D left ms → IsIndex D ms
-index_ends D left ms e x r c d u = sym (or-false (has (kept_at ms r c d) u)) ∙ sym (ap (λ (l : List Fact). has (kept_at ms r c d) u || (has l u && is_in r c d u)) e) ∙ x r c d u
 
 -- ---- single tuples
 

@@ -15,12 +15,6 @@ module _ (taken D rest whole : List Fact) (t : Fact) (next : D ≡ t ∷ rest) (
   pub passed_by : true ≡ has taken t → left_of taken rest ≡ whole
   passed_by e = ap (λ b. cond (not b) (t ∷ left_of taken rest) (left_of taken rest)) e ∙ sym (ap (left_of taken) next) ∙ same
 
-  pub stopped_at : false ≡ has taken t → whole ≡ t ∷ left_of taken rest
-  stopped_at e = sym same ∙ ap (left_of taken) next ∙ sym (ap (λ b. cond (not b) (t ∷ left_of taken rest) (left_of taken rest)) e)
-
-pub ended_at : (taken D whole : List Fact) → D ≡ [] → left_of taken D ≡ whole → whole ≡ []
-ended_at taken D whole e same = sym same ∙ ap (left_of taken) e
-
 -- ---- a few
 
 take_none : {X : Type 0} (n : ℕ) → ◌≡◌ {A = List X} (take n []) []

@@ -89,10 +89,6 @@ below_next c i = by (nat_cmp c i) (ranked c i (nat_cmp c i) refl)
     by Equal m = lt-ltb c (i + 1) (omega arith)
     by Greater m = le-ltb c (i + 1) (omega arith) ∙ sym (le-ltb c i (omega arith))
 
--- No further column lies below the first.
-pub have_none : (s : Fact) (m : Marks) (cells : ℕ → List (Cell × Marks)) → CellsHave s 0 m cells cells
-have_none s m cells c t = ap (λ b. cond b m (shelf_marks cells c t)) (sym (ap (λ b. same_fact t s && (nat_lt 0 c && b)) (le-ltb c 0 (omega arith)) ∙ ap (λ b. same_fact t s && b) (and-false (nat_lt 0 c)) ∙ and-false (same_fact t s)))
-
 -- The first column has no cell.
 pub has_first : (s : Fact) (i : ℕ) (m : Marks) (cells : ℕ → List (Cell × Marks)) → i ≡ 0 → CellHas s i m cells cells
 has_first s i m cells e c t = ap (λ b. cond b m (shelf_marks cells c t)) (sym (ap (λ b. same_fact t s && b) (ap (λ k. nat_lt 0 c && is_eq (nat_cmp c k)) e ∙ none c) ∙ and-false (same_fact t s)))

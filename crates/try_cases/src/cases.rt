@@ -4,7 +4,7 @@ ghost use Rattle.def_language.specs.Validity.{IsSession};
 ghost use Rattle.lang_session.specs.Meanings.{session_of};
 
 use crate::refusals::CaseRefusal;
-use base_limits::Budget;
+use base_limits::{Budget, MOST_BYTES, MOST_RETRIES, MOST_STEPS};
 use core_queue::{Deps, Settings};
 use lang_reader::read_session;
 use lang_session::Session;
@@ -54,7 +54,7 @@ impl Case {
     pub fn session(&self, alloc: Global) -> Result<Session, CaseRefusal>
         ensures valid { IfOk result (λ session. IsSession (session_of session)) }
     {
-        if 16_777_216 < self.session.len() {
+        if MOST_BYTES < self.session.len() {
             return Err(CaseRefusal::Spelling);
         }
         let session = read_session(alloc, self.session.as_slice())?;
@@ -96,7 +96,7 @@ fn read_settings(line: &str) -> Result<(Budget, Settings), CaseRefusal>
 // The budget of so many steps, from 1 to 300.
 fn read_budget(word: &str) -> Result<Budget, CaseRefusal> {
     let steps = word.parse::<u32>()?;
-    if steps < 1 || 300 < steps {
+    if steps < 1 || MOST_STEPS < steps {
         return Err(CaseRefusal::Spelling);
     }
     Ok(Budget::new(steps))
@@ -107,7 +107,7 @@ fn read_retries(word: &str) -> Result<u32, CaseRefusal>
     ensures few { IfOk result (λ retries. retries ≤ 4) }
 {
     let retries = word.parse::<u32>()?;
-    if 4 < retries {
+    if MOST_RETRIES < retries {
         return Err(CaseRefusal::Spelling);
     }
     Ok(retries)

@@ -61,7 +61,7 @@ pub enum Told {
     Stepped {
         entry: u64,
     },
-    /// This entry is in question for the plan.
+    /// This entry makes the plan stale.
     Stale {
         entry: u64,
     },

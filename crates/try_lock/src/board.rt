@@ -4,7 +4,8 @@ ghost use Rattle.def_record.specs.Makers.{Extends};
 ghost use Rattle.work_loop.specs.Offers.{IfTicket, IfQuiet, tickets_in, tickets_spent};
 ghost use Rattle.try_lock.specs.Events.{made_all, given_to, returned_by, count_for, IsHeld, NoneOut};
 
-use std::alloc::{AllocError, Global};
+use def_memory::Memory;
+use std::alloc::Global;
 use work_lock::Grows;
 use work_loop::Offer;
 
@@ -61,7 +62,7 @@ impl Board {
     }
 
     /// The next ticket for this seat; with none left, whether one is out.
-    pub fn offer(&mut self, maker: u64) -> Result<Offer<Ticket>, AllocError>
+    pub fn offer(&mut self, maker: u64) -> Result<Offer<Ticket>, Memory>
         ensures extends { Extends maker (made_all self.old.items.items)
             (made_all self.new.items.items) }
         ensures given { given_to maker (made_all self.new.items.items)
@@ -83,7 +84,7 @@ impl Board {
     }
 
     // One more ticket, with room for its return.
-    fn give(&mut self, maker: u64) -> Result<Ticket, AllocError>
+    fn give(&mut self, maker: u64) -> Result<Ticket, Memory>
         requires left { self.old.given < self.old.tickets }
         ensures extends { Extends maker (made_all self.old.items.items)
             (made_all self.new.items.items) }

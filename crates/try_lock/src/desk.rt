@@ -1,6 +1,6 @@
 // The desk: a board behind a lock, as a bench.
 use crate::board::{Board, Ticket};
-use std::alloc::AllocError;
+use def_memory::Memory;
 use std::sync::Wait;
 use std::time::Clock;
 use work_lock::{Seat, StampLock};
@@ -52,7 +52,7 @@ impl Bench for Desk {
         rt: &R,
         seat: &mut Seat<Board>,
         _most: u64,
-    ) -> Result<Offer<Ticket>, AllocError> {
+    ) -> Result<Offer<Ticket>, Memory> {
         let (turn, mut board) = self.lock.open(rt, seat);
         let offer = board.offer(seat.number());
         self.lock.close_turn(seat, turn, board);
@@ -63,7 +63,7 @@ impl Bench for Desk {
         ticket.number
     }
 
-    fn evaluate(&self, ticket: &Ticket) -> Result<u64, AllocError> {
+    fn evaluate(&self, ticket: &Ticket) -> Result<u64, Memory> {
         Ok(ticket.number.wrapping_mul(ticket.number))
     }
 
@@ -73,7 +73,7 @@ impl Bench for Desk {
         seat: &mut Seat<Board>,
         ticket: Ticket,
         _plan: u64,
-    ) -> Result<Received, (Ticket, AllocError)> {
+    ) -> Result<Received, (Ticket, Memory)> {
         self.give_back(rt, seat, ticket);
         Ok(Received::InTime)
     }

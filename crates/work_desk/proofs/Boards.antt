@@ -192,12 +192,6 @@ module _ {S : Type 0} (holds : S → Ground → List PlainEntry → ℕ → Type
       (p.0, subst (λ (z : Shared). HasStepped {S = S} {E = E} j z.over t (Ok e) (items_of b') (items_of z)) view p.1)
 
 module _ {S E : Type 0} where
-  pub step_none : (b b' old : Shared) (r : Result ℕ E) (j : ℕ) (t : Ticket S) (e : E) → IsShared b → b' ≡ b → b ≡ old → r ≡ Err e → HasStepped j old.over t r (items_of b') (items_of old)
-  step_none b b' old r j t e h same view is =
-      let q : HasStepped {S = S} {E = E} j b.over t (Err e) (items_of b) (items_of b) = record { now = here b h; adds = adds_none b h j [] refl; answer = tt } in
-      let p : HasStepped j b.over t r (items_of b') (items_of b) = subst (λ (y : Result ℕ E × Shared). HasStepped j b.over t y.0 (items_of y.1) (items_of b)) (λ i. (sym is i, sym same i)) q in
-      subst (λ (o : Shared). HasStepped j o.over t r (items_of b') (items_of o)) view p
-
   pub finish_stale : (question : List PlainEntry → Option ℕ) (b old : Shared) (ys : Items) (j : ℕ) (t : Ticket S) (e : ℕ) → IsShared b → b ≡ old → question b.history ≡ Some e → HasGivenBack j old.over t ys (items_of old)
       → HasFinished {S = S} {E = E} question j old.over t (Ok (Stale e)) ys (items_of old)
   finish_stale question b old ys j t e h view is back = record {
@@ -213,7 +207,3 @@ module _ {S E : Type 0} where
     adds = step.adds;
     answer = (ap question (ap (λ (z : Shared). entries_in (items_of z)) (sym view) ∙ told_history b h) ∙ is, step.answer);
   }
-
-  pub finish_none : {F : Type 0} (question : List PlainEntry → Option ℕ) (old : Shared) (ys : Items) (j : ℕ) (t : Ticket S) (f : F) (e : E) → HasStepped {S = S} {E = F} j old.over t (Err f) ys (items_of old)
-      → HasFinished {S = S} {E = E} question j old.over t (Err e) ys (items_of old)
-  finish_none question old ys j t f e step = record { now = step.now; adds = step.adds; answer = tt }

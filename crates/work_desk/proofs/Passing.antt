@@ -2,8 +2,8 @@
 use Rattle.std.proofs.Common.{◌≡◌, ◌∙◌, ap, sym, refl, subst, arith, ℕ, zero, suc, ◌+◌, ◌≤◌, List, [], ◌∷◌, ◌++◌, append_assoc, take, length, length-append, Some}
 use Rattle.std.proofs.lemmas.Option.{none-some, same_Some}
 use Rattle.def_record.specs.declared.made.Made.{Made}
-use Rattle.def_record.specs.Makers.{Unmade, Follows, Extends}
-use Rattle.def_record.specs.Items.{Record, entries_in}
+use Rattle.def_record.specs.Makers.{Unmade, Follows}
+use Rattle.def_record.specs.Items.{entries_in}
 use Rattle.def_record.specs.Marks.{meant}
 use Rattle.def_record.specs.Records.{Now, after_items, now_of, IsOpen, IsRecord}
 use Rattle.def_record.proofs.Staying.{stay_law}
@@ -13,7 +13,6 @@ use Rattle.def_history.specs.PlainEntries.{PlainEntry}
 use Rattle.work_desk.specs.declared.tickets.Ticket.{Ticket}
 use Rattle.work_desk.specs.Shared.{Items, Shared, StandsAt, item_over, record_over, items_of, opening_items}
 use Rattle.work_desk.specs.Seats.{first_over}
-use Rattle.work_desk.specs.Turns.{Adds}
 use Rattle.work_desk.specs.Tickets.{ticket_for, IsOutFor}
 
 -- a prefix says what the core is over
@@ -60,7 +59,3 @@ out_stays holds g xs ys j t m o f s =
       stamped = (let old = o.stamped in omega (arith, old, long));
       snapshot = subst (λ (H : List PlainEntry). holds t.snapshot g H t.update) (sym (ap (take t.stamp) entries ∙ take_within t.stamp (entries_in xs) (entries_in f.0) o.stamped)) o.snapshot;
     }
-
--- what the seat j adds extends the board's items
-pub adds_extend : (j : ℕ) (g : Ground) (xs ys : Items) (n : Now (machine g)) (added : Record (machine g)) → Adds j g xs ys n added → Extends j xs ys
-adds_extend j g xs ys n added a = (a.items, sym a.joined, a.made)

@@ -19,7 +19,7 @@ use Rattle.work_desk.specs.Shared.{Items, Shared, StandsAt, items_of}
 use Rattle.work_desk.specs.Turns.{Adds}
 use Rattle.work_desk.specs.Cores.{IsPlanOf}
 
--- Stale exactly where an entry past the stamp is in question, with the first such; else the step is the last entry.
+-- Stale exactly where an entry past the stamp makes it so, with the first such; else the step is the last entry.
 abbrev pub IsFinish : Option ℕ → Items → Finished → Type 0
 IsFinish question ys (Stepped e) = (question ≡ None) × (e ≡ length (entries_in ys))
 IsFinish question ys (Stale e) = question ≡ Some e
@@ -76,7 +76,7 @@ module _ {S : Type 0} where
   finish_added j t n (Ok (Stale e)) = back_items (ticket_for j t)
   finish_added j t n (Err e) = []
 
-  -- `finish` of the seat j with the ticket, from these items to those, where this tells the first entry in question.
+  -- `finish` of the seat j with the ticket, from these items to those, where this tells the first entry by which the plan is stale.
   pub record HasFinished {E : Type 0} (question : List PlainEntry → Option ℕ) (j : ℕ) (g : Ground) (t : Ticket S) (r : Result Finished E) (ys xs : Items) : Type 0 where
     pub now : Now (machine g)
     pub adds : Adds j g xs ys now (finish_added j t now r)

@@ -5,7 +5,7 @@ use crate::board::Board;
 use crate::cores::Core;
 use crate::desk::Desk;
 use crate::tickets::{Finished, Next, Stretch, Ticket};
-use std::alloc::AllocError;
+use def_memory::Memory;
 use std::sync::Wait;
 use std::time::Clock;
 use work_lock::Seat;
@@ -56,7 +56,7 @@ impl<C: Core> Bench for Desk<C> {
         rt: &R,
         seat: &mut Seat<Board<C>>,
         most: u64,
-    ) -> Result<Offer<Ticket<C::Snapshot>>, AllocError> {
+    ) -> Result<Offer<Ticket<C::Snapshot>>, Memory> {
         if self.alone {
             return self.offer_alone(rt, seat);
         }
@@ -71,11 +71,8 @@ impl<C: Core> Bench for Desk<C> {
         ticket.number
     }
 
-    fn evaluate(&self, ticket: &Ticket<C::Snapshot>) -> Result<C::Plan, AllocError> {
-        match Desk::evaluate(self, ticket) {
-            Ok(plan) => Ok(plan),
-            Err(_) => Err(AllocError),
-        }
+    fn evaluate(&self, ticket: &Ticket<C::Snapshot>) -> Result<C::Plan, Memory> {
+        Desk::evaluate(self, ticket)
     }
 
     fn finish<R: Wait>(
@@ -84,10 +81,10 @@ impl<C: Core> Bench for Desk<C> {
         seat: &mut Seat<Board<C>>,
         ticket: Ticket<C::Snapshot>,
         plan: C::Plan,
-    ) -> Result<Received, (Ticket<C::Snapshot>, AllocError)> {
+    ) -> Result<Received, (Ticket<C::Snapshot>, Memory)> {
         match Desk::finish(self, rt, seat, ticket, plan) {
             Ok(finished) => Ok(received(finished)),
-            Err((ticket, _)) => Err((ticket, AllocError)),
+            Err(refused) => Err(refused),
         }
     }
 
@@ -110,7 +107,7 @@ impl<C: Core> Desk<C> {
         &self,
         rt: &R,
         seat: &mut Seat<Board<C>>,
-    ) -> Result<Offer<Ticket<C::Snapshot>>, AllocError>
+    ) -> Result<Offer<Ticket<C::Snapshot>>, Memory>
         requires own { IsSeatOf C.over C.history self.now seat.old }
         ensures own { IsSeatOf C.over C.history self.now seat.new }
         ensures holds { HoldsMore (tickets_in result) seat.old seat.new }
@@ -124,21 +121,18 @@ impl<C: Core> Desk<C> {
         self.ask(rt, seat)
     }
 
-    // Makes steps in one turn, as `stretch` does.
+    // Makes steps in one turn, as `stretch` does. The seat holds as many tickets as before.
     fn make<R: Wait + Clock>(
         &self,
         rt: &R,
         seat: &mut Seat<Board<C>>,
         most: u64,
-    ) -> Result<Stretch, AllocError>
+    ) -> Result<Stretch, Memory>
         requires own { IsSeatOf C.over C.history self.now seat.old }
         ensures own { IsSeatOf C.over C.history self.now seat.new }
         ensures holds { HoldsMore 0 seat.old seat.new }
     {
-        match self.stretch(rt, seat, most) {
-            Ok(stretch) => Ok(stretch),
-            Err(_) => Err(AllocError),
-        }
+        self.stretch(rt, seat, most)
     }
 
     // The first that there is, as `next` gives it.
@@ -146,7 +140,7 @@ impl<C: Core> Desk<C> {
         &self,
         rt: &R,
         seat: &mut Seat<Board<C>>,
-    ) -> Result<Offer<Ticket<C::Snapshot>>, AllocError>
+    ) -> Result<Offer<Ticket<C::Snapshot>>, Memory>
         requires own { IsSeatOf C.over C.history self.now seat.old }
         ensures own { IsSeatOf C.over C.history self.now seat.new }
         ensures holds { HoldsMore (tickets_in result) seat.old seat.new }
@@ -158,7 +152,7 @@ impl<C: Core> Desk<C> {
             Ok(Next::Delivered { update: _ }) => Ok(Offer::Moved { more: true }),
             Ok(Next::Idle { in_flight: _ }) => Ok(Offer::Idle),
             Ok(Next::Quiet) => Ok(Offer::Quiet),
-            Err(_) => Err(AllocError),
+            Err(memory) => Err(memory),
         }
     }
 }

@@ -235,8 +235,8 @@ impl<C: Core> Board<C> {
         leave(&mut self.busy, update);
     }
 
-    /// Makes the step of the plan, unless an entry since the ticket was given is in question for it. The ticket is returned
-    /// in both cases; for want of memory it comes back, and is out still.
+    /// Makes the step of the plan, unless an entry since the ticket was given makes it stale. The ticket is returned in
+    /// both cases; for want of memory it comes back, and is out still.
     pub(crate) fn finish(
         &mut self,
         alloc: Global,

@@ -37,7 +37,7 @@ pub trait Core {
     /// Lets a plan go.
     fn drop_plan(plan: Self::Plan);
 
-    /// The number of the first entry past so many that is in question for the plan.
+    /// The number of the first entry past so many by which the plan is stale.
     ghost stale_since: { Self.Plan → Ground → List PlainEntry → ℕ → Option ℕ };
 
     /// How many entries the history has. It is legal.
@@ -84,7 +84,7 @@ pub trait Core {
         ensures history { history self.new ≡ history self.old }
         ensures plan { IfOk result (λ p. is_plan p (over self.old) (history self.old) update) };
 
-    /// The number of the first entry past so many that is in question for the plan. Where there is none the plan, made at
+    /// The number of the first entry past so many by which the plan is stale. Where there is none the plan, made at
     /// the state before them, is the update's step still. It takes no memory.
     fn stale_by(&self, plan: &Self::Plan, since: u64) -> Option<u64>
         ensures entry { result ≡ stale_since plan.now (over self.now) (history self.now) since }

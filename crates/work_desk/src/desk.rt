@@ -55,7 +55,7 @@ impl<C: Core> Desk<C> {
                 },
                 dealt,
             )),
-            Err((board, _)) => Err((board.into_core(), Memory)),
+            Err((board, memory)) => Err((board.into_core(), memory)),
         }
     }
 
@@ -106,8 +106,8 @@ impl<C: Core> Desk<C> {
         C::plan(self.alloc, &ticket.snapshot)
     }
 
-    /// Hands the plan in, which spends the ticket. The step is made, unless an entry since the ticket was given is in question
-    /// for the plan; nothing is evaluated. For want of memory the ticket comes back, and is out still.
+    /// Hands the plan in, which spends the ticket. The step is made, unless an entry since the ticket was given makes the
+    /// plan stale; nothing is evaluated. For want of memory the ticket comes back, and is out still.
     pub fn finish<R: Wait>(
         &self,
         rt: &R,

@@ -50,7 +50,7 @@ pub enum Next<T> {
 pub enum Finished {
     /// The step was made, by the entry of this number.
     Stepped { entry: u64 },
-    /// The entry of this number is in question for the plan. No step was made.
+    /// The plan is stale by the entry of this number. No step was made.
     Stale { entry: u64 },
 }
 

@@ -28,12 +28,6 @@ weight_for-zero j None = refl
 weight_for-zero j (Some i) = either_zero (eqb i j)
 
 module _ {E : Type 0} where
-  pub prefix_self : (xs : List (Made E)) → IsPrefix xs xs
-  prefix_self xs = ([], append-nil xs)
-
-  pub prefix_trans : (xs ys zs : List (Made E)) → IsPrefix xs ys → IsPrefix ys zs → IsPrefix xs zs
-  prefix_trans xs ys zs p q = (p.0 ++ q.0, sym (append_assoc xs p.0 q.0) ∙ (ap (λ w. w ++ q.0) p.1 ∙ q.1))
-
   pub unmade-append : (k : ℕ) (xs ys : List (Made E)) → Unmade k xs → Unmade k ys → Unmade k (xs ++ ys)
   unmade-append k [] ys p q = q
   unmade-append k (x ∷ xs) ys p q = (p.0, unmade-append k xs ys p.1 q)
@@ -62,9 +56,6 @@ module _ {E : Type 0} where
       subst (λ (i : ℕ). sum_made_by weight i after ≡ f (sum_made_by weight j xs)) (sym b)
       (ap (sum_made_by weight j) seen ∙ (here ∙ ap f (sum_made_by-follows weight j xs ys follows)))
 
-  pub follows_is_prefix : (j : ℕ) (xs ys : List (Made E)) → Follows j xs ys → IsPrefix xs ys
-  follows_is_prefix j xs ys f = (f.0, f.1)
-
   -- what one seat made no other made
   pub made_alone : (i k : ℕ) (xs : List (Made E)) → k ≢ i → MadeBy i xs → Unmade k xs
   made_alone i k [] apart m = tt
@@ -75,12 +66,6 @@ module _ {E : Type 0} where
 
   pub follows_plain : (n j : ℕ) (xs ys : List (Made E)) → FollowsAmong n j xs ys → Follows j xs ys
   follows_plain n j xs ys f = (f.0, f.1, f.2 j (inl refl))
-
-  pub follows_prefix : (n j : ℕ) (xs ys : List (Made E)) → FollowsAmong n j xs ys → IsPrefix xs ys
-  follows_prefix n j xs ys f = (f.0, f.1)
-
-  pub extends_is_prefix : (j : ℕ) (xs ys : List (Made E)) → Extends j xs ys → IsPrefix xs ys
-  extends_is_prefix j xs ys f = (f.0, f.1)
 
   -- a seat i of the n adds entries of its own, which the seat j has not seen
   pub follows_more : (n j i : ℕ) (xs ys zs : List (Made E)) → j ≢ i → i < n → FollowsAmong n j xs ys → Extends i ys zs → FollowsAmong n j xs zs

@@ -21,11 +21,6 @@ pub place_at-lock : (lock : TableId) (n k : ℕ) → (place_at lock n k).lock �
 place_at-lock lock n zero = refl
 place_at-lock lock n (suc k) = refl
 
--- each place has its own number
-pub place_at-number : (lock : TableId) (n k : ℕ) → (place_at lock n k).number ≡ k
-place_at-number lock n zero = refl
-place_at-number lock n (suc k) = refl
-
 -- a seat after the first keeps its place where there are more
 later : (lock : TableId) (n m k : ℕ) → k ≢ 0 → place_at lock n k ≡ place_at lock m k
 later lock n m zero other = absurd (other refl)

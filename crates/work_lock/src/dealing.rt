@@ -10,7 +10,8 @@ use crate::lock::{HOME, StampLock};
 use crate::plays::{Deal, Gather};
 use crate::seat::Seat;
 use atomic_table::{Refused, Table};
-use std::alloc::{AllocError as Memory, AllocFailed, Global};
+use def_memory::Memory;
+use std::alloc::{AllocFailed, Global};
 use std::snapshot::Snapshot;
 
 /// A lock over the value, with this many seats, from 1 to 16, numbered from 0 in order. Each seat has seen the value's whole history. Where there is no memory the value comes back.

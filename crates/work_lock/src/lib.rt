@@ -18,4 +18,3 @@ pub use crate::lock::StampLock;
 pub use crate::seat::{Seat, Turn};
 pub use crate::view::{Stage, View};
 pub use def_record::Made;
-pub use std::alloc::AllocError as Memory;

@@ -1,6 +1,6 @@
 // What a worker works at.
 
-use std::alloc::AllocError as Memory;
+use def_memory::Memory;
 use std::sync::Wait;
 use std::time::Clock;
 

@@ -5,7 +5,8 @@ ghost use Rattle.work_loop.specs.Crews.{seats_of, Leaves, EachLeaves, all_ok};
 
 use crate::workers::Worker;
 use crate::{Bench, Gate, Places, work};
-use std::alloc::{AllocError, Global};
+use def_memory::Memory;
+use std::alloc::Global;
 use std::sync::Wait;
 use std::thread;
 use std::thread::Threads;
@@ -13,14 +14,14 @@ use std::time::Clock;
 
 /// Lets a worker work from each of the seats until nothing is left to do, each in a thread of its own, and gives the seats
 /// back in their order. As many of them are at work at once as there are processors for them, but two at least. Where no
-/// thread can be made the calling thread works in its place. On Ok each seat is at rest; `AllocError` comes where a worker,
+/// thread can be made the calling thread works in its place. On Ok each seat is at rest; `Memory` comes where a worker,
 /// or the crew itself, had no memory.
 pub fn work_all<
     R: Threads + Wait + Clock + Sync,
     G: Gate + Sync,
     S: Send + Drop,
     B: Bench<Seat = S> + Sync,
->(rt: &R, alloc: Global, bench: &B, gate: &G, seats: Vec<S>) -> (Vec<S>, Result<(), AllocError>)
+>(rt: &R, alloc: Global, bench: &B, gate: &G, seats: Vec<S>) -> (Vec<S>, Result<(), Memory>)
     requires own { All (B.owns bench.now) seats.items }
     ensures own { All (B.owns bench.now) result.0.items }
     ensures lock { map B.lock result.0.items ≡ map B.lock seats.items }
@@ -28,10 +29,10 @@ pub fn work_all<
     ensures rests { OnOk result.1 (All B.rests result.0.items) }
 {
     let Ok(mut workers) = Vec::with_capacity(alloc, seats.len()) else {
-        return (seats, Err(AllocError));
+        return (seats, Err(Memory));
     };
     let Ok(mut back) = Vec::with_capacity(alloc, seats.len()) else {
-        return (seats, Err(AllocError));
+        return (seats, Err(Memory));
     };
     hire(seats, &mut workers);
     let places = Places::new(rt);
@@ -80,7 +81,7 @@ fn attend<R: Threads + Wait + Clock + Sync, G: Gate + Sync, S: Send, B: Bench<Se
 }
 
 // The seats of the workers. It is Ok only where each worker answered Ok.
-fn dismiss<S: Drop>(workers: Vec<Worker<S>>, seats: &mut Vec<S>) -> Result<(), AllocError>
+fn dismiss<S: Drop>(workers: Vec<Worker<S>>, seats: &mut Vec<S>) -> Result<(), Memory>
     requires empty { seats.old.items ≡ [] }
     requires room { vec_len workers ≤ vec_capacity seats.old }
     ensures seats { seats.new.items ≡ seats_of workers.items }
@@ -92,5 +93,5 @@ fn dismiss<S: Drop>(workers: Vec<Worker<S>>, seats: &mut Vec<S>) -> Result<(), A
         all = all && result.is_ok();
         seats.push_reserved(seat);
     }
-    if all { Ok(()) } else { Err(AllocError) }
+    if all { Ok(()) } else { Err(Memory) }
 }

@@ -20,4 +20,3 @@ pub use crate::places::Places;
 pub use crate::watch::Watch;
 pub use crate::worker::work;
 pub use crate::workers::Worker;
-pub use std::alloc::AllocError as Memory;

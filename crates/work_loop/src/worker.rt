@@ -1,7 +1,7 @@
 // The loop of a worker.
 ghost use Rattle.std.specs.Prelude.{◌≡◌, ◌+◌, IfOk, IfErr, OnOk};
 ghost use mathlib.Core.List.{IsPrefix};
-ghost use Rattle.work_loop.specs.Offers.{tickets_spent};
+ghost use Rattle.work_loop.specs.Offers.{IfQuiet, tickets_spent};
 
 use crate::bench::{Bench, Offer, Received};
 use crate::gates::Gate;
@@ -9,21 +9,9 @@ use crate::pace::Pace;
 use crate::places::Places;
 use crate::rest::Rest;
 use crate::watch::Watch;
-use std::alloc::AllocError as Memory;
+use def_memory::Memory;
 use std::sync::Wait;
 use std::time::Clock;
-
-// What came of a look for work.
-enum Came {
-    // Something was done.
-    Work,
-    // A plan came too late.
-    Stale,
-    // There was nothing to do.
-    Nothing,
-    // Nothing is left to do.
-    Quiet,
-}
 
 /// Works at the bench until nothing is left to do, and then answers Ok, with its seat at rest. On `Memory` a ticket that it holds is given back first. Whatever the answer, each ticket that it was given is spent, and the seat is the bench's own, as it was but for what it has seen since.
 pub fn work<B: Bench, G: Gate, R: Wait + Clock>(
@@ -51,42 +39,44 @@ pub fn work<B: Bench, G: Gate, R: Wait + Clock>(
         let came = look(rt, bench, seat, gate, &mut pace);
         places.leave();
         match came? {
-            Came::Work => rest.end(),
-            Came::Stale => rest.behind(rt),
-            Came::Nothing => rest.idle(rt),
-            Came::Quiet => return Ok(()),
+            Offer::Ticket(Received::InTime) => rest.end(),
+            Offer::Ticket(Received::Stale) => rest.behind(rt),
+            Offer::Moved { more: _ } => rest.end(),
+            Offer::Idle => rest.idle(rt),
+            Offer::Quiet => return Ok(()),
         }
     }
     unreachable!()
 }
 
-// Looks for work once, and does it. Each ticket that it was given is spent, whatever the answer.
+// Looks for work once, and does it: what the bench offered, with how the plan was received in place of the ticket. Each
+// ticket that it was given is spent, whatever the answer.
 fn look<B: Bench, G: Gate, R: Wait + Clock>(
     rt: &R,
     bench: &B,
     seat: &mut B::Seat,
     gate: &G,
     pace: &mut Pace,
-) -> Result<Came, Memory>
+) -> Result<Offer<Received>, Memory>
     requires own { B.owns bench.now seat.old }
     ensures own { B.owns bench.now seat.new }
     ensures lock { B.lock seat.new ≡ B.lock seat.old }
     ensures number { B.seat_number seat.new ≡ B.seat_number seat.old }
     ensures seen { IsPrefix (B.seen seat.old) (B.seen seat.new) }
     ensures all_spent { B.spent seat.new + B.given seat.old ≡ B.given seat.new + B.spent seat.old }
-    ensures rests { IfOk result (λ came. came ≡ Came.Quiet → B.rests seat.new) }
+    ensures rests { IfOk result (IfQuiet (B.rests seat.new)) }
 {
     match bench.offer(rt, seat, pace.most())? {
-        Offer::Ticket(ticket) => match serve(rt, bench, seat, gate, pace, ticket)? {
-            Received::InTime => Ok(Came::Work),
-            Received::Stale => Ok(Came::Stale),
-        },
+        Offer::Ticket(ticket) => {
+            let received = serve(rt, bench, seat, gate, pace, ticket)?;
+            Ok(Offer::Ticket(received))
+        }
         Offer::Moved { more } => {
             pace.moved(more);
-            Ok(Came::Work)
+            Ok(Offer::Moved { more })
         }
-        Offer::Idle => Ok(Came::Nothing),
-        Offer::Quiet => Ok(Came::Quiet),
+        Offer::Idle => Ok(Offer::Idle),
+        Offer::Quiet => Ok(Offer::Quiet),
     }
 }
 

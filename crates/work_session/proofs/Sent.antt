@@ -4,9 +4,9 @@ use denote.Ref.{NamedLft}
 use Rattle.std.proofs.Crossing.{crosses}
 use Rattle.set_versions.proofs.Sent.{versions_send}
 use Rattle.base_types.proofs.Sent.{tuple_send, tuple_sync}
-use Rattle.chase_update.proofs.Sent.{program_send}
+use Rattle.chase_update.proofs.Sent.{attempt_send}
 use Rattle.chase_query.specs.contracts.log.Logged as log_entries
-use Rattle.core_queue.specs.contracts.updates.QueuedUpdate as records
+use Rattle.core_queue.specs.contracts.updates.QueuedUpdate as queued
 use Rattle.core_entries.specs.contracts.entries.Entry as entries
 use Rattle.core_engine.specs.contracts.cores.Core as core
 use Rattle.chase_plan.specs.contracts.touched.TouchedMappings as touched_mappings
@@ -18,8 +18,8 @@ use Rattle.work_session.specs.contracts.seated.Seated as seated
 log_entry_send : IsSend log_entries.the_row
 log_entry_send = search (sendable, crosses, tuple_send) depth 60 fits 6000
 
-record_send : IsSend records.the_row
-record_send = search (sendable, crosses, log_entry_send, program_send) depth 60 fits 6000
+queued_send : IsSend queued.the_row
+queued_send = search (sendable, crosses, log_entry_send, attempt_send) depth 60 fits 6000
 
 entry_send : IsSend entries.the_row
 entry_send = search (sendable, crosses, tuple_send) depth 60 fits 6000
@@ -38,7 +38,7 @@ touched_mappings_send : (κ : NamedLft) → IsSend (touched_mappings.the_row κ)
 touched_mappings_send κ = search (sendable, crosses) depth 60 fits 6000
 
 core_send : (κ : NamedLft) → IsSend (core.the_row κ)
-core_send κ = search (sendable, crosses, versions_send, record_send, entry_send, update_send, session_update_sync, tuple_sync, touched_mappings_send) depth 60 fits 6000
+core_send κ = search (sendable, crosses, versions_send, queued_send, entry_send, update_send, session_update_sync, tuple_sync, touched_mappings_send) depth 60 fits 6000
 
 pub seated_send : (κ : NamedLft) → IsSend (seated.the_row κ)
 seated_send κ = search (sendable, crosses, core_send) depth 60 fits 6000

@@ -44,7 +44,7 @@ module _ (a s : State) (same : a ≡ s) where
   pub delivered : {E A F : Type 0} (r : Result ℕ E) (q : Result A F) (b : State) (n k : ℕ) → r ≡ Ok k → OnOk r (HasMade a (Delivers n) b) → IfOk q (λ x. IsDelivery s.over s.history n b.history)
   delivered {E} r q b n k is m = if_made q (subst (λ (x : State). grown x.over x.history (Delivers n) ≡ Some b.history) same (subst (λ (o : Result ℕ E). OnOk o (HasMade a (Delivers n) b)) is m).grows)
 
-  -- Where no later entry is in question, a plan stays the step.
+  -- If no later entry makes it stale, a plan stays the step.
   pub stays_unless : (o : Option ℕ) (p : PlanMeant) (n : ℕ) → 1 ≤ a.over.budget → IsRepository a.over.base → IsLegalOver a.over a.history → o ≡ plan_stale_by p a.over a.history n
       → IfNone o (StaysSince (IsStepOf p) s.over s.history n)
   stays_unless None p n some sorted legal first = λ m w.

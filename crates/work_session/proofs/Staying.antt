@@ -1,4 +1,4 @@
--- A plan at a desk: it is the step of an update that is ready, and stays so where no later entry is in question for it.
+-- A plan at a desk: it is the step of an update that is ready, and stays so where no later entry makes it stale.
 use Rattle.std.proofs.Common.{◌≡◌, ◌∙◌, ap, refl, sym, subst, ℕ, suc, ◌≤◌, true, false, List, [], ◌∷◌, ◌++◌, take, drop, map, length, Some, None}
 use Rattle.std.specs.Prelude.{option_map, slice_get}
 use Rattle.std.proofs.lemmas.List.{take-append-drop, take-map}

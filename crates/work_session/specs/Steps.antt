@@ -12,6 +12,6 @@ pub record IsStepOf (p : PlanMeant) (g : Ground) (H : List PlainEntry) (n : ℕ)
   pub ready : IsReady g H n
   pub step : IsStepAt (record { over = g; history = H }) p
 
--- The number of the first entry, past so many, that is in question for the step.
+-- The number of the first entry, past so many, by which the step is stale.
 abbrev pub plan_stale_by : PlanMeant → Ground → List PlainEntry → ℕ → Option ℕ
 plan_stale_by p g H since = stale_by g.rules p.update p.reads H since

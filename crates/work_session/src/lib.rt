@@ -8,5 +8,5 @@ mod sessions;
 mod workers;
 
 pub use crate::seated::{Answers, Seated};
-pub use crate::sessions::{WorkedSession, worked, worked_over};
+pub use crate::sessions::{WorkedSession, Working, worked, worked_over};
 pub use crate::workers::run;

@@ -8,7 +8,7 @@ use std::alloc::Global;
 use std::marker::Model;
 use work_stale::stale_by;
 
-/// A core, and the mappings of its session, by which it is told whether an entry is in question for a plan. Contracts see
+/// A core, and the mappings of its session, by which it is told whether an entry makes a plan stale. Contracts see
 /// what its history is over, and the entries of that history.
 #[derive(Drop)]
 pub struct Seated<'s> {

@@ -26,6 +26,16 @@ use std::thread::Threads;
 use std::time::Clock;
 use work_loop::Gate;
 
+/// How a session is run: the settings of its core, the budget of an attempt, how many workers take the steps, and when
+/// recorded answers are delivered.
+#[derive(Clone, Copy)]
+pub struct Working {
+    pub settings: Settings,
+    pub budget: Budget,
+    pub seats: u64,
+    pub answers: Answers,
+}
+
 /// A session that was run to its end. Contracts see the session, the budget and the settings, and the entries of its history.
 #[derive(Drop)]
 pub struct WorkedSession<'s> {
@@ -96,14 +106,17 @@ pub fn worked<'s, R: Threads + Wait + Clock + Sync, G: Gate + Sync>(
     ensures whole { IfOk result IsWholeRun }
 {
     let base = base_of(alloc, session)?;
-    let at_once = Answers::AtOnce;
-    let run = worked_over(
-        rt, gate, alloc, session, base, settings, budget, seats, at_once,
-    )?;
+    let working = Working {
+        settings,
+        budget,
+        seats,
+        answers: Answers::AtOnce,
+    };
+    let run = worked_over(rt, gate, alloc, session, base, working)?;
     Ok(run)
 }
 
-/// The same over the base of the session, which is handed over as a set of tuples (`base_of`). It is refused only for want of
+/// The same over the base of the session, which is handed over as a set of tuples (`base_of`), with answers delivered as asked. It is refused only for want of
 /// memory.
 pub fn worked_over<'s, R: Threads + Wait + Clock + Sync, G: Gate + Sync>(
     rt: &R,
@@ -111,21 +124,24 @@ pub fn worked_over<'s, R: Threads + Wait + Clock + Sync, G: Gate + Sync>(
     alloc: Global,
     session: &'s Session,
     base: IndexedFacts,
-    settings: Settings,
-    budget: Budget,
-    seats: u64,
-    answers: Answers,
+    working: Working,
 ) -> Result<WorkedSession<'s>, Memory>
     requires valid { IsSession (session_of session.now) }
     requires met { base_violation (session_of session.now) ≡ None }
     requires base { base ≡ (session_of session.now).base }
-    requires retries { settings.retries ≤ 4 }
-    requires seats { (1 ≤ seats) × (seats ≤ 16) }
+    requires retries { working.settings.retries ≤ 4 }
+    requires seats { (1 ≤ working.seats) × (working.seats ≤ 16) }
     ensures session { IfOk result (λ run. run.session ≡ session_of session.now) }
-    ensures budget { IfOk result (λ run. run.budget ≡ budget) }
-    ensures settings { IfOk result (λ run. run.settings ≡ settings_of settings) }
+    ensures budget { IfOk result (λ run. run.budget ≡ working.budget) }
+    ensures settings { IfOk result (λ run. run.settings ≡ settings_of working.settings) }
     ensures whole { IfOk result IsWholeRun }
 {
+    let Working {
+        settings,
+        budget,
+        seats,
+        answers,
+    } = working;
     let core = Core::open_over(alloc, session, base, settings, budget)?;
     core.is_legal();
     let seated = Seated::new(core, mappings_of(session).list(), answers);

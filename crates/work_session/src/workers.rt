@@ -35,6 +35,6 @@ pub fn run<R: Threads + Wait + Clock + Sync, G: Gate + Sync, C: Core + Send>(
     let core = desk.close(seats);
     match result {
         Ok(()) => Ok(core),
-        Err(_) => Err((core, Memory)),
+        Err(memory) => Err((core, memory)),
     }
 }

@@ -1,4 +1,4 @@
--- A step stays what it was while no entry is in question for it.
+-- A step stays what it was while no entry makes it stale.
 use Rattle.std.proofs.Common.{◌≡◌, ℕ, zero, suc, ◌≤◌, ◌+◌, ◌==◌, ap, sym, refl, subst, ◌∙◌, List, [], ◌∷◌, ◌++◌, append_assoc, take, drop, length, map, Bool, true, false, ◌&&◌, ◌||◌, arith, Some, None}
 use Rattle.std.specs.Prelude.{if◌then◌else◌, slice_get, nat_lt, Option}
 use Rattle.std.specs.List.{AllByRecursion, list_any}
@@ -121,7 +121,7 @@ module _ (ms : List Rule) (B : ℕ) (some : 1 ≤ B) (s : Settings) (S : Session
     all_more P Q f [] h = tt
     all_more P Q f (r ∷ rs) h = (f r h.0, all_more P Q f rs h.1)
 
-    -- an event that is not in question by its entry is not in question
+    -- an event that does not make the step stale by its entry does not make it stale
     clear : (H : List (Entry M)) (us : List (Update M)) (e : Event M) (x : Effect M) (reads : List (Read M)) → IsLegal M s S H us → effect M s S us e ≡ Some x
         → AllByRecursion (λ (r : Read M). Within r.query) reads → is_stale_by p (suc k) (map (plain_entry ms B) H) (plain_entry ms B x.entry) ≡ false → IsClear M S.base us e x k reads
     clear H us e x reads legal f within h =

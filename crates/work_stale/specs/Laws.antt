@@ -40,7 +40,7 @@ pub record WasPlanned (g : Ground) (H : List PlainEntry) (n k : ℕ) (u : Update
   pub asks : queries_of reads ≡ queries_next g (take n H) k u
   pub spared : AllSpare {M = machine g} (suc k) (drop n (entries_over g H))
 
--- A step that was planned so is the step still where no later entry is in question for it.
+-- A step that was planned so is the step still where no later entry makes it stale.
 abbrev pub StepsStayUnlessStale : Type 0
 StepsStayUnlessStale =
     (g : Ground) (H : List PlainEntry) (n k : ℕ) (u : Update (machine g)) (reads : List Read) → 1 ≤ g.budget → IsRepository g.base → IsLegalOver g H

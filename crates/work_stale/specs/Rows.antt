@@ -1,4 +1,4 @@
--- Small histories, worked by hand: which entry is in question for a step of update 3 that has read relation 0.
+-- Small histories, worked by hand: by which entry a step of update 3 is stale that has read relation 0.
 use Rattle.std.specs.Prelude.{◌≡◌, ℕ, List, [], ◌∷◌, ◌++◌, Option, Some, None}
 use Rattle.def_machine.specs.Machine.{Spent}
 use Rattle.def_machine.specs.Standings.{Standing, Ready, Ended}
@@ -52,7 +52,7 @@ pub record Rows : Type 0 where
   pub lower : first_for 3 (three ++ adds 1 1 ∷ adds 2 0 ∷ []) 3 ≡ Some 5
   -- that was before
   pub before : first_for 3 (three ++ adds 2 0 ∷ adds 2 1 ∷ []) 4 ≡ None
-  -- the writes of the update itself and of those above it are not in question
+  -- the writes of the update itself and of those above it do not make it stale
   pub upper : first_for 2 (three ++ adds 2 0 ∷ adds 3 0 ∷ []) 3 ≡ None
   -- a lower update that had added to it is restarted, or ends spent, or is withdrawn
   pub restarted : first_for 3 (three ++ adds 2 0 ∷ restarts 1 2 ∷ []) 4 ≡ Some 5

@@ -1,4 +1,4 @@
--- Which entry of a history is in question for a step that was worked out at an earlier state.
+-- Which entry of a history makes a step stale that was worked out at an earlier state.
 use Rattle.std.specs.Prelude.{ℕ, suc, nat_lt, Bool, false, ◌&&◌, ◌||◌, if◌then◌else◌, List, [], ◌∷◌, ◌++◌, take, drop, map, Option, Some, None}
 use Rattle.std.specs.List.{list_any}
 use Rattle.def_machine.specs.Cascade.{has_number}
@@ -42,16 +42,16 @@ adds_below p n (WasWithdrawn e) = false
 abbrev pub takes_below : (ℕ → Bool) → ℕ → List PlainEntry → PlainEntry → Bool
 takes_below p n before e = list_any (shows_below p n before) (taken_in e)
 
--- It is in question for a step of update n: it restarts update n, or adds or takes away what the step has read.
+-- It makes a step of update n stale: it restarts update n, or adds or takes away what the step has read.
 abbrev pub is_stale_by : (ℕ → Bool) → ℕ → List PlainEntry → PlainEntry → Bool
 is_stale_by p n before e = has_number (restarted_in e) n || adds_below p n e || takes_below p n before e
 
--- The number of the first of the entries that is in question, where the first of them has number k and comes after `before`.
+-- The number of the first of the entries that makes the step stale, where the first of them has number k and comes after `before`.
 abbrev pub first_from : (ℕ → Bool) → ℕ → List PlainEntry → ℕ → List PlainEntry → Option ℕ
 first_from p n before k [] = None
 first_from p n before k (e ∷ es) = if is_stale_by p n before e then Some k else first_from p n (before ++ e ∷ []) (suc k) es
 
--- The number of the first entry of the history, after so many, that is in question for a step of update n with these reads.
+-- The number of the first entry of the history, after so many, by which a step of update n with these reads is stale.
 -- Entries are counted from 1.
 abbrev pub stale_by : List Rule → ℕ → List Read → List PlainEntry → ℕ → Option ℕ
 stale_by ms n reads H since = first_from (is_read ms reads) n (take since H) (suc since) (drop since H)

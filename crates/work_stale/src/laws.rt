@@ -12,7 +12,7 @@ pub fn ready_attempts_do_their_update()
 {}
 
 /// A step that was worked out after the first entries of a history is the update's step still, where none of the later
-/// entries is a step or a withdrawal of the update and none is in question for the step's reads. Of the reads only their
+/// entries is a step or a withdrawal of the update and none makes the step stale by its reads. Of the reads only their
 /// queries matter.
 pub fn steps_stay_unless_stale()
     ensures { StepsStayUnlessStale }

@@ -1,4 +1,4 @@
-//! Which entry of a history is in question for a step that was worked out at an earlier state.
+//! Which entry of a history makes a step stale that was worked out at an earlier state.
 //!
 //! It is told by the entries alone: by the writes that they show, the updates that they restart, and what these had shown
 //! before. The definitions stand in `specs/`. The laws of `laws` and `rows` are functions whose contract is the statement and

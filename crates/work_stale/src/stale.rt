@@ -1,4 +1,4 @@
-//! The first entry that is in question for a step.
+//! The first entry by which a step is stale.
 ghost use Rattle.std.specs.List.{list_any};
 ghost use Rattle.std.specs.Prelude.{◌≡◌, map};
 ghost use Rattle.base_types.specs.Meanings.{rule_of, change_of};
@@ -13,7 +13,7 @@ use base_types::{MappingList, Write};
 use chase_query::Logged;
 use core_entries::Entry;
 
-/// The number of the first entry after so many that is in question for a step of this update with these reads: it wrote, or
+/// The number of the first entry after so many by which a step of this update with these reads is stale: it wrote, or
 /// took away, in a relation that a read mentions and as a write of an update below, or it restarted the update. Entries are
 /// counted from 1. It takes no memory.
 pub fn stale_by(
@@ -38,7 +38,7 @@ pub fn stale_by(
     None
 }
 
-// Whether the entry, which comes after those before it, is in question.
+// Whether the entry, which comes after those before it, makes the step stale.
 fn makes_stale(
     mappings: &MappingList,
     before: &[Entry],

@@ -12,14 +12,14 @@ ghost use Rattle.yt_live.specs.Streams.{MakesLegalHistories, attended, opened_wi
 use crate::ends::LiveEnd;
 use crate::openings::{read_opening, session_in};
 use base_devices::{Lines, NextLine, Sink, Source, write_all};
-use base_limits::Budget;
+use base_limits::{Budget, MOST_BYTES};
 use base_types::Memory;
 use core_queue::Settings;
 use live_replies::Conversation;
 use std::alloc::Global;
 
 /// The most bytes that an input may have.
-pub const INPUT_LIMIT: usize = 16_777_216;
+pub const INPUT_LIMIT: usize = MOST_BYTES;
 
 // Writes a reply.
 fn write<O: Sink>(sink: &mut O, text: &[u8]) -> Result<(), LiveEnd>

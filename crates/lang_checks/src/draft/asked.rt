@@ -13,6 +13,7 @@ use super::Draft;
 use crate::facts::{bounded_fact, choice_of, replaced_within};
 use crate::limits::most_answers;
 use crate::refusals::{TakeRefusal, limit};
+use base_limits::MOST_UPDATES;
 use base_types::{Mapping, Memory, Name, Operation, Update};
 use lang_forms::{RawChoice, RawOperation};
 use lang_schema::{SchemaRefusal, Which};
@@ -96,7 +97,7 @@ impl Draft {
             drop((curator, operation));
             return Err(TakeRefusal::Schema(SchemaRefusal::DuplicateName(label)));
         }
-        if 1000 <= self.updates.len() {
+        if MOST_UPDATES <= self.updates.len() {
             drop((label, curator, operation));
             return Err(limit(Which::Updates));
         }

@@ -9,13 +9,13 @@ use Rattle.audit_replay.specs.Places.{AreBetween}
 use Rattle.audit_replay.proofs.Turns.{DependencesLeft}
 use Rattle.audit_replay.proofs.cascades.dependences_above.Given as goal
 
-abbrev pub invariant-seats : goal.invariant-seats
-invariant-seats l = record {
+abbrev pub invariant-updates : goal.invariant-updates
+invariant-updates l = record {
   told : AreTold l.fn.losses → AreTold l.losses;
   risen : RisesFrom l.fn.levels l.levels;
-  between : AreBetween (drop l.seat-index l.upper);
+  between : AreBetween (drop l.audited-index l.upper);
   left : (B n : ℕ) → AreTold l.fn.losses → AreFrom n l.upper
       → DependencesLeft (map rule_of l.scene.mappings.now.items) (deps_of l.deps) l.scene.committed (readers_in l.firsts.items) B
       (met_cascade (map rule_of l.scene.mappings.now.items) B (deps_of l.deps) l.scene.committed (readers_in l.firsts.items) (top l.fn.levels) (members_of (map rule_of l.scene.mappings.now.items) B l.fn.losses.members.items) n (updates_of (map rule_of l.scene.mappings.now.items) B l.upper))
-      (top l.levels) l.losses (drop l.seat-index l.upper) l.causes.items;
+      (top l.levels) l.losses (drop l.audited-index l.upper) l.causes.items;
 }

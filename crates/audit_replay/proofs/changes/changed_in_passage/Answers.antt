@@ -16,10 +16,10 @@ changed_mapping-requires c = let e = c.loop-mapping.invariant.counted in let f =
 
 pub returns-in-Some : goal.returns-in-Some
 returns-in-Some c =
-    let ms = rules_in c.args.mappings.now in
-    let h = heading_of c.args.direction in
-    let D = c.args.below.now in
-    let own = map change_of c.args.own.now in
+    let ms = rules_in c.args.reader.now.mappings.now in
+    let h = heading_of c.args.reader.now.direction in
+    let D = c.args.reader.now.below.now in
+    let own = map change_of c.args.reader.now.own.now in
     let p = is_met_and_changed ms c.args.relations.now h D own in
     let f = changed_at ms h D own in
     let passage = c.args.passage.now in
@@ -32,10 +32,10 @@ returns-in-Some c =
 
 pub loop-mapping-preserved : goal.loop-mapping-preserved
 loop-mapping-preserved c =
-    let ms = rules_in c.args.mappings.now in
-    let h = heading_of c.args.direction in
-    let D = c.args.below.now in
-    let own = map change_of c.args.own.now in
+    let ms = rules_in c.args.reader.now.mappings.now in
+    let h = heading_of c.args.reader.now.direction in
+    let D = c.args.reader.now.below.now in
+    let own = map change_of c.args.reader.now.own.now in
     let p = is_met_and_changed ms c.args.relations.now h D own in
     let f = changed_at ms h D own in
     let passage = c.args.passage.now in
@@ -51,10 +51,10 @@ loop-mapping-preserved c =
 
 pub returns : goal.returns
 returns c =
-    let ms = rules_in c.args.mappings.now in
-    let h = heading_of c.args.direction in
-    let D = c.args.below.now in
-    let own = map change_of c.args.own.now in
+    let ms = rules_in c.args.reader.now.mappings.now in
+    let h = heading_of c.args.reader.now.direction in
+    let D = c.args.reader.now.below.now in
+    let own = map change_of c.args.reader.now.own.now in
     let p = is_met_and_changed ms c.args.relations.now h D own in
     let f = changed_at ms h D own in
     let passage = c.args.passage.now in

@@ -10,6 +10,6 @@ abbrev pub invariant-loop-mapping : goal.invariant-loop-mapping
 invariant-loop-mapping l = record {
   counted : l.number ≡ l.before + (l.mapping - l.passage.start);
   first :
-      first_change_behind l.before (rules_in l.mappings) l.relations (heading_of l.direction) l.below (map change_of l.own) (passing l.passage.start (l.passage.end - l.passage.start) l.passage.own)
-      ≡ first_change_behind l.number (rules_in l.mappings) l.relations (heading_of l.direction) l.below (map change_of l.own) (passing l.mapping (l.passage.end - l.mapping) l.passage.own);
+      first_change_behind l.before (rules_in l.reader.mappings.now) l.relations (heading_of l.reader.direction) l.reader.below.now (map change_of l.reader.own.now) (passing l.passage.start (l.passage.end - l.passage.start) l.passage.own)
+      ≡ first_change_behind l.number (rules_in l.reader.mappings.now) l.relations (heading_of l.reader.direction) l.reader.below.now (map change_of l.reader.own.now) (passing l.mapping (l.passage.end - l.mapping) l.passage.own);
 }

@@ -17,10 +17,10 @@ changed_by-requires c = record { fits = (let e = c.in_ok-all.ensures.counted in 
 
 pub returns-in-Some : goal.returns-in-Some
 returns-in-Some c =
-    let ms = rules_in c.args.mappings.now in
-    let h = heading_of c.args.direction in
-    let D = c.args.below.now in
-    let own = map change_of c.args.own.now in
+    let ms = rules_in c.args.reader.now.mappings.now in
+    let h = heading_of c.args.reader.now.direction in
+    let D = c.args.reader.now.below.now in
+    let own = map change_of c.args.reader.now.own.now in
     let p = is_met_and_changed ms c.args.relations.now h D own in
     let f = changed_at ms h D own in
     let es = c.args.log.now in
@@ -38,10 +38,10 @@ returns-in-Some c =
 
 pub entries-preserved : goal.entries-preserved
 entries-preserved c =
-    let ms = rules_in c.args.mappings.now in
-    let h = heading_of c.args.direction in
-    let D = c.args.below.now in
-    let own = map change_of c.args.own.now in
+    let ms = rules_in c.args.reader.now.mappings.now in
+    let h = heading_of c.args.reader.now.direction in
+    let D = c.args.reader.now.below.now in
+    let own = map change_of c.args.reader.now.own.now in
     let p = is_met_and_changed ms c.args.relations.now h D own in
     let f = changed_at ms h D own in
     let es = c.args.log.now in
@@ -55,10 +55,10 @@ entries-preserved c =
 
 pub returns : goal.returns
 returns c =
-    let ms = rules_in c.args.mappings.now in
-    let h = heading_of c.args.direction in
-    let D = c.args.below.now in
-    let own = map change_of c.args.own.now in
+    let ms = rules_in c.args.reader.now.mappings.now in
+    let h = heading_of c.args.reader.now.direction in
+    let D = c.args.reader.now.below.now in
+    let own = map change_of c.args.reader.now.own.now in
     let p = is_met_and_changed ms c.args.relations.now h D own in
     let f = changed_at ms h D own in
     let es = c.args.log.now in

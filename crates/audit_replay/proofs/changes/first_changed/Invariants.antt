@@ -8,5 +8,5 @@ use Rattle.audit_replay.proofs.changes.first_changed.Given as goal
 -- The first of all is the first of those that are left.
 abbrev pub invariant-entries : goal.invariant-entries
 invariant-entries l =
-    first_change_behind 0 (rules_in l.mappings) l.relations (heading_of l.direction) l.below (map change_of l.own) (reads_in l.log)
-    ≡ first_change_behind l.number (rules_in l.mappings) l.relations (heading_of l.direction) l.below (map change_of l.own) (reads_in (drop l.entry-index l.log))
+    first_change_behind 0 (rules_in l.reader.mappings.now) l.relations (heading_of l.reader.direction) l.reader.below.now (map change_of l.reader.own.now) (reads_in l.log)
+    ≡ first_change_behind l.number (rules_in l.reader.mappings.now) l.relations (heading_of l.reader.direction) l.reader.below.now (map change_of l.reader.own.now) (reads_in (drop l.entry-index l.log))

@@ -7,11 +7,11 @@ use Rattle.audit_replay.specs.Places.{AreBetween}
 use Rattle.audit_replay.proofs.Turns.{ConflictsLeft}
 use Rattle.audit_replay.proofs.conflicts.conflicts_above.Given as goal
 
-abbrev pub invariant-seats : goal.invariant-seats
-invariant-seats l = record {
+abbrev pub invariant-updates : goal.invariant-updates
+invariant-updates l = record {
   risen : RisesFrom l.fn.levels l.levels;
-  between : AreBetween (drop l.seat-index l.upper);
+  between : AreBetween (drop l.audited-index l.upper);
   left : (B n : ℕ) → AreFrom n l.upper
       → ConflictsLeft (map rule_of l.scene.mappings.now.items) l.scene.committed l.writer l.relations B (met_conflicts (map rule_of l.scene.mappings.now.items) B l.scene.committed l.writer l.relations (top l.fn.levels) n (updates_of (map rule_of l.scene.mappings.now.items) B l.upper))
-      (top l.levels) (drop l.seat-index l.upper) l.causes.items;
+      (top l.levels) (drop l.audited-index l.upper) l.causes.items;
 }

@@ -5,7 +5,7 @@ use Rattle.audit_replay.proofs.places.rise_to.Given as goal
 
 abbrev pub invariant-up : goal.invariant-up
 invariant-up l = record {
-  stand : (D : List Fact) → Stand D l.seats l.fn.levels → Stand D l.seats l.levels;
+  stand : (D : List Fact) → Stand D l.updates l.fn.levels → Stand D l.updates l.levels;
   most : length l.levels ≤ l.place + 1;
 }
 

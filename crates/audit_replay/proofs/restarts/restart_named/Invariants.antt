@@ -9,9 +9,9 @@ use Rattle.audit_replay.proofs.restarts.restart_named.Given as goal
 
 abbrev pub invariant-loop-place : goal.invariant-loop-place
 invariant-loop-place l = record {
-  numbers : AreFrom 1 l.seats;
-  more : AllHaveOneMore (drop l.place l.seats);
+  numbers : AreFrom 1 l.updates;
+  more : AllHaveOneMore (drop l.place l.updates);
   left : (ms : List Rule) (B : ℕ)
-      → take l.place (updates_of ms B l.seats) ++ restarted (caused_chase ms B) (readers_in l.causes.items) (suc l.place) (drop l.place (updates_of ms B l.seats))
-      ≡ take l.from (updates_of ms B l.fn.seats) ++ restarted (caused_chase ms B) (readers_in l.causes.items) (suc l.from) (drop l.from (updates_of ms B l.fn.seats));
+      → take l.place (updates_of ms B l.updates) ++ restarted (caused_chase ms B) (readers_in l.causes.items) (suc l.place) (drop l.place (updates_of ms B l.updates))
+      ≡ take l.from (updates_of ms B l.fn.updates) ++ restarted (caused_chase ms B) (readers_in l.causes.items) (suc l.from) (drop l.from (updates_of ms B l.fn.updates));
 }

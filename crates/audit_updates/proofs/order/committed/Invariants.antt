@@ -5,8 +5,8 @@ use Rattle.def_steps.specs.Chase.{caused_chase}
 use Rattle.audit_updates.specs.Updates.{updates_of, AreFrom}
 use Rattle.audit_updates.proofs.order.committed.Given as goal
 
-abbrev pub invariant-loop-seat : goal.invariant-loop-seat
-invariant-loop-seat l = record {
-  from : AreFrom (suc l.count) (drop l.seat-index l.seats);
-  left : (ms : List Rule) (B : ℕ) → l.count + committed (caused_chase ms B) (updates_of ms B (drop l.seat-index l.seats)) ≡ committed (caused_chase ms B) (updates_of ms B l.seats);
+abbrev pub invariant-loop-audited : goal.invariant-loop-audited
+invariant-loop-audited l = record {
+  from : AreFrom (suc l.count) (drop l.audited-index l.updates);
+  left : (ms : List Rule) (B : ℕ) → l.count + committed (caused_chase ms B) (updates_of ms B (drop l.audited-index l.updates)) ≡ committed (caused_chase ms B) (updates_of ms B l.updates);
 }

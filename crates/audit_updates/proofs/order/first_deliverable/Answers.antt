@@ -9,20 +9,20 @@ pub returns-then-is_deliverable : goal.returns-then-is_deliverable
 returns-then-is_deliverable c =
     let test : Test = λ ms B i u. is_deliverable (caused_chase ms B) (settings_of c.args.settings) c.args.committed i u in
     record {
-      first = c.loop-seat.invariant.left _
-          (found test c.args.seats.now c.loop-seat.seat-index _ c.number-number.result c.seat-item.result c.is_deliverable.result c.loop-seat-test.true c.seat-item.is c.loop-seat.invariant.from c.number-number.ensures.number c.is_deliverable.ensures.deliverable c.if-is_deliverable.true);
+      first = c.loop-audited.invariant.left _
+          (found test c.args.updates.now c.loop-audited.audited-index _ c.number-number.result c.audited-item.result c.is_deliverable.result c.loop-audited-test.true c.audited-item.is c.loop-audited.invariant.from c.number-number.ensures.number c.is_deliverable.ensures.deliverable c.if-is_deliverable.true);
     }
 
-pub loop-seat-preserved : goal.loop-seat-preserved
-loop-seat-preserved c =
+pub loop-audited-preserved : goal.loop-audited-preserved
+loop-audited-preserved c =
     let test : Test = λ ms B i u. is_deliverable (caused_chase ms B) (settings_of c.args.settings) c.args.committed i u in
     record {
-      from = stand_behind c.args.seats.now c.loop-seat.seat-index _ _ c.seat-item.result c.loop-seat-test.true c.seat-item.is (add-one (c.loop-seat.seat-index + 1)) c.loop-seat.invariant.from;
-      left = λ o first. c.loop-seat.invariant.left o
-          (passed test c.args.seats.now c.loop-seat.seat-index _ _ c.number-number.result c.seat-item.result c.is_deliverable.result o c.loop-seat-test.true c.seat-item.is c.loop-seat.invariant.from c.number-number.ensures.number c.is_deliverable.ensures.deliverable c.if-is_deliverable.false (add-one (c.loop-seat.seat-index + 1)) first);
+      from = stand_behind c.args.updates.now c.loop-audited.audited-index _ _ c.audited-item.result c.loop-audited-test.true c.audited-item.is (add-one (c.loop-audited.audited-index + 1)) c.loop-audited.invariant.from;
+      left = λ o first. c.loop-audited.invariant.left o
+          (passed test c.args.updates.now c.loop-audited.audited-index _ _ c.number-number.result c.audited-item.result c.is_deliverable.result o c.loop-audited-test.true c.audited-item.is c.loop-audited.invariant.from c.number-number.ensures.number c.is_deliverable.ensures.deliverable c.if-is_deliverable.false (add-one (c.loop-audited.audited-index + 1)) first);
     }
 
 pub returns : goal.returns
 returns c =
     let test : Test = λ ms B i u. is_deliverable (caused_chase ms B) (settings_of c.args.settings) c.args.committed i u in
-    record { first = c.loop-seat.invariant.left _ (ended test c.args.seats.now c.loop-seat.seat-index _ c.loop-seat-test.false) }
+    record { first = c.loop-audited.invariant.left _ (ended test c.args.updates.now c.loop-audited.audited-index _ c.loop-audited-test.false) }

@@ -4,8 +4,8 @@ use Rattle.audit_updates.specs.Updates.{AreFrom}
 use Rattle.audit_updates.specs.Order.{IsFirstReady}
 use Rattle.audit_updates.proofs.order.first_ready.Given as goal
 
-abbrev pub invariant-loop-seat : goal.invariant-loop-seat
-invariant-loop-seat l = record {
-  from : AreFrom (l.seat-index + 1) (drop l.seat-index l.seats);
-  left : (o : Option ℕ) → IsFirstReady (settings_of l.settings) l.committed (l.seat-index + 1) (drop l.seat-index l.seats) o → IsFirstReady (settings_of l.settings) l.committed 1 l.seats o;
+abbrev pub invariant-loop-audited : goal.invariant-loop-audited
+invariant-loop-audited l = record {
+  from : AreFrom (l.audited-index + 1) (drop l.audited-index l.updates);
+  left : (o : Option ℕ) → IsFirstReady (settings_of l.settings) l.committed (l.audited-index + 1) (drop l.audited-index l.updates) o → IsFirstReady (settings_of l.settings) l.committed 1 l.updates o;
 }

@@ -16,8 +16,8 @@ loop-mapping-init g c = record { sees = c.requires.sees; counted = omega arith; 
 pub overflow_add-number : goal.overflow_add-number
 overflow_add-number g c = let e = c.loop-mapping.invariant.counted in let f = c.requires.fits in let l = c.loop-mapping-test.true in omega (arith, e, f, l)
 
-pub changed_mapping-requires : goal.changed_mapping-requires
-changed_mapping-requires g c = record { sees = c.loop-mapping.invariant.sees }
+pub changed_read-requires : goal.changed_read-requires
+changed_read-requires g c = record { sees = c.loop-mapping.invariant.sees }
 
 pub returns-in-Some-clause-first : goal.returns-in-Some-clause-first
 returns-in-Some-clause-first g c =
@@ -33,7 +33,8 @@ returns-in-Some-clause-first g c =
     let all = changed_from r c.args.trails.now D (c.args.before + 1) (passing passage.start (passage.end - passage.start) passage.own) in
     let here : all ≡ changed_from r c.args.trails.now D (n + 1) (finds_none k passage.own ∷ passing (k + 1) (passage.end - (k + 1)) passage.own) =
     c.loop-mapping.invariant.first ∙ ap (changed_from r c.args.trails.now D (n + 1)) (passage_from k passage.end passage.own c.loop-mapping-test.true) in
-    found_among ms h D own r.sense ts (n + 1) (finds_none k passage.own ∷ []) (passing (k + 1) (passage.end - (k + 1)) passage.own) all (option_map changed_of c.in_ok-found.found) (changed_of c.in-Some.changed) here c.in_ok-found.ensures.first (ap (option_map changed_of) c.in-Some.is)
+    let first = c.in_ok-found.ensures.first ∙ ap (λ q. changed_from r c.args.trails.now D (n + 1) (q ∷ [])) c.finds_none-read.ensures.read in
+    found_among ms h D own r.sense ts (n + 1) (finds_none k passage.own ∷ []) (passing (k + 1) (passage.end - (k + 1)) passage.own) all (option_map changed_of c.in_ok-found.found) (changed_of c.in-Some.changed) here first (ap (option_map changed_of) c.in-Some.is)
 
 pub loop-mapping-preserved : goal.loop-mapping-preserved
 loop-mapping-preserved g c =
@@ -49,10 +50,11 @@ loop-mapping-preserved g c =
     let all = changed_from r c.args.trails.now D (c.args.before + 1) (passing passage.start (passage.end - passage.start) passage.own) in
     let here : all ≡ changed_from r c.args.trails.now D (n + 1) (finds_none k passage.own ∷ passing (k + 1) (passage.end - (k + 1)) passage.own) =
     c.loop-mapping.invariant.first ∙ ap (changed_from r c.args.trails.now D (n + 1)) (passage_from k passage.end passage.own c.loop-mapping-test.true) in
+    let first = c.in_ok-found.ensures.first ∙ ap (λ q. changed_from r c.args.trails.now D (n + 1) (q ∷ [])) c.finds_none-read.ensures.read in
     record {
       sees = c.in_ok-found.ensures.sees;
       counted = (let e = c.loop-mapping.invariant.counted in let l = c.loop-mapping-test.true in omega (arith, e, l));
-      first = none_among ms h D own r.sense ts (n + 1) (n + 1 + 1) (finds_none k passage.own ∷ []) (passing (k + 1) (passage.end - (k + 1)) passage.own) all (option_map changed_of c.in_ok-found.found) here c.in_ok-found.ensures.first (no_value changed_of c.in_ok-found.found c.in_default.not-Some) refl;
+      first = none_among ms h D own r.sense ts (n + 1) (n + 1 + 1) (finds_none k passage.own ∷ []) (passing (k + 1) (passage.end - (k + 1)) passage.own) all (option_map changed_of c.in_ok-found.found) here first (no_value changed_of c.in_ok-found.found c.in_default.not-Some) refl;
     }
 
 pub returns-clause-sees : goal.returns-clause-sees

@@ -9,10 +9,10 @@ use Rattle.core_conflict.proofs.changes.first_in.Goals as goal
 
 pub returns-then-not-may_be_met : goal.returns-then-not-may_be_met
 returns-then-not-may_be_met g c =
-    let ms = rules_in c.args.mappings.now in
-    let h = heading_of c.args.direction in
+    let ms = rules_in c.args.reader.now.mappings.now in
+    let h = heading_of c.args.reader.now.direction in
     let D = g.F.Facts.tuples c.args.below.now in
-    let own = map change_of c.args.own.now in
+    let own = map change_of c.args.reader.now.own.now in
     let ts = trails_of c.args.trails.now in
     let m : c.may_be_met.result ≡ false = grind (arith, common_steps) in
-    record { first = none_changed ms h D own c.args.sense ts (reads_in c.args.log.now) (c.may_be_met.ensures.unmet m) }
+    record { first = none_changed ms h D own c.args.reader.now.sense ts (reads_in c.args.log.now) (c.may_be_met.ensures.unmet m) }

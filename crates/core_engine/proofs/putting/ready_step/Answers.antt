@@ -8,10 +8,10 @@ pub prepare_at-requires-clause-more : goal.prepare_at-requires-clause-more
 prepare_at-requires-clause-more c = same_more c.args.queue.now c.reserve_step.new.queue (c.reserve_step.ensures.same.updates [] 0) c.requires.more
 
 pub prepare_at-requires-clause-least : goal.prepare_at-requires-clause-least
-prepare_at-requires-clause-least c = same_committed c.args.queue.now c.reserve_step.new.queue c.args.least c.reserve_step.ensures.same c.requires.least
+prepare_at-requires-clause-least c = same_committed c.args.queue.now c.reserve_step.new.queue c.args.scene.now.least c.reserve_step.ensures.same c.requires.least
 
 pub prepare_at-requires-clause-most : goal.prepare_at-requires-clause-most
-prepare_at-requires-clause-most c = same_unread c.args.queue.now c.reserve_step.new.queue c.args.most c.reserve_step.ensures.same c.requires.most
+prepare_at-requires-clause-most c = same_unread c.args.queue.now c.reserve_step.new.queue c.args.scene.now.most c.reserve_step.ensures.same c.requires.most
 
 pub prepare_at-requires-clause-few : goal.prepare_at-requires-clause-few
 prepare_at-requires-clause-few c = omega arith

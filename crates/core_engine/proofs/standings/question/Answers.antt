@@ -9,9 +9,9 @@ pub returns-in-Some : goal.returns-in-Some
 returns-in-Some c =
     record {
       question =
-          question_is (settings_of c.args.settings) c.args.queue.now c.args.number c.committed.result c.in-Some.record.now (option_map inquiry_of (option_copied c.question.result)) (sym c.in-Some.ensures.record)
+          question_is (settings_of c.args.settings) c.args.queue.now c.args.number c.committed.result c.in-Some.queued.now (option_map inquiry_of (option_copied c.question.result)) (sym c.in-Some.ensures.queued)
           c.committed.ensures.committed c.question.ensures.question;
     }
 
 pub returns-in-None : goal.returns-in-None
-returns-in-None c = record { question = no_question (settings_of c.args.settings) c.args.queue.now c.args.number (sym c.in-None.ensures.record) }
+returns-in-None c = record { question = no_question (settings_of c.args.settings) c.args.queue.now c.args.number (sym c.in-None.ensures.queued) }

@@ -21,7 +21,7 @@ prepare-requires-clause-more c = above_more c.args.queue.now c.above-upper.resul
 pub returns-clause-prepared : goal.returns-clause-prepared
 returns-clause-prepared c =
     if_ok c.prepare.result _ _
-    (λ prepared is. above_prepared c.args.mappings.now (settings_of c.args.settings) c.committed_from-committed.result c.args.place c.args.versions.now c.prepare.new.versions c.args.queue.now c.above-upper.result.now c.index-queue-place.result c.args.plan.now
+    (λ prepared is. above_prepared c.args.scene.now.mappings.now (settings_of c.args.scene.now.settings) c.committed_from-committed.result c.args.place c.args.versions.now c.prepare.new.versions c.args.queue.now c.above-upper.result.now c.index-queue-place.result c.args.plan.now
     prepared c.requires.numbers c.requires.place c.index-queue-place.is c.above-upper.ensures.rest c.committed_from-committed.ensures.committed is)
     c.prepare.ensures.prepared
 
@@ -46,9 +46,9 @@ returns-then-is_alone-clause-prepared c =
     subst (λ (n : ℕ). ReadsAtMost c.above-upper.result.now n) (c.is_alone.ensures.unread c.if-is_alone.true)
     (subst (λ (rs : List QueuedUpdate). ReadsAtMost rs c.readers_above-readers.result) (sym c.above-upper.ensures.rest) c.readers_above-readers.ensures.read) in
     if_ok c.prepare_alone.result _ _
-    (λ prepared is. above_prepared c.args.mappings.now (settings_of c.args.settings) c.committed_from-committed.result c.args.place c.args.versions.now c.prepare_alone.new.versions c.args.queue.now c.above-upper.result.now c.index-queue-place.result c.args.plan.now
+    (λ prepared is. above_prepared c.args.scene.now.mappings.now (settings_of c.args.scene.now.settings) c.committed_from-committed.result c.args.place c.args.versions.now c.prepare_alone.new.versions c.args.queue.now c.above-upper.result.now c.index-queue-place.result c.args.plan.now
     prepared c.requires.numbers c.requires.place c.index-queue-place.is c.above-upper.ensures.rest c.committed_from-committed.ensures.committed
-    (is c.args.mappings.now (settings_of c.args.settings) c.committed_from-committed.result c.above-upper.result.now
+    (is c.args.scene.now.mappings.now (settings_of c.args.scene.now.settings) c.committed_from-committed.result c.above-upper.result.now
     (above_numbers c.args.queue.now c.above-upper.result.now c.args.place c.index-queue-place.result c.requires.numbers c.requires.place c.index-queue-place.is c.above-upper.ensures.rest) unread))
     c.prepare_alone.ensures.prepared
 

@@ -4,8 +4,8 @@ use Rattle.core_queue.specs.Queues.{AreFrom}
 use Rattle.core_queue.specs.Order.{IsFirstBesides}
 use Rattle.core_queue.proofs.order.first_besides.Given as goal
 
-abbrev pub invariant-loop-record : goal.invariant-loop-record
-invariant-loop-record l = record {
-  from : AreFrom (l.record-index + suc l.first) (drop l.record-index l.rest);
-  left : (o : Option ℕ) → IsFirstBesides l.numbers (settings_of l.settings) l.committed (l.record-index + suc l.first) (drop l.record-index l.rest) o → IsFirstBesides l.numbers (settings_of l.settings) l.committed (suc l.first) l.rest o;
+abbrev pub invariant-loop-queued : goal.invariant-loop-queued
+invariant-loop-queued l = record {
+  from : AreFrom (l.queued-index + suc l.first) (drop l.queued-index l.rest);
+  left : (o : Option ℕ) → IsFirstBesides l.numbers (settings_of l.settings) l.committed (l.queued-index + suc l.first) (drop l.queued-index l.rest) o → IsFirstBesides l.numbers (settings_of l.settings) l.committed (suc l.first) l.rest o;
 }

@@ -5,8 +5,8 @@ use Rattle.core_queue.specs.Order.{IsFirstReady}
 use Rattle.core_queue.proofs.Walking.{ready_test, found, passed, ended, first_number, next_number, stand_behind}
 use Rattle.core_queue.proofs.order.first_ready.Goals as goal
 
-pub loop-record-init : goal.loop-record-init
-loop-record-init c =
+pub loop-queued-init : goal.loop-queued-init
+loop-queued-init c =
     record {
       from = subst (λ (n : ℕ). AreFrom n c.args.rest.now) (first_number c.args.committed) c.requires.from;
       left = λ o first. subst (λ (n : ℕ). IsFirstReady (settings_of c.args.settings) c.args.committed n c.args.rest.now o) (sym (first_number c.args.committed)) first;
@@ -15,18 +15,18 @@ loop-record-init c =
 pub returns-then-is_ready : goal.returns-then-is_ready
 returns-then-is_ready c =
     record {
-      first = c.loop-record.invariant.left _
-          (found (ready_test (settings_of c.args.settings) c.args.committed) c.args.rest.now c.loop-record.record-index _ c.number-number.result c.record-item.result c.is_ready.result c.loop-record-test.true c.record-item.is c.loop-record.invariant.from c.number-number.ensures.number c.is_ready.ensures.ready c.if-is_ready.true);
+      first = c.loop-queued.invariant.left _
+          (found (ready_test (settings_of c.args.settings) c.args.committed) c.args.rest.now c.loop-queued.queued-index _ c.number-number.result c.queued-item.result c.is_ready.result c.loop-queued-test.true c.queued-item.is c.loop-queued.invariant.from c.number-number.ensures.number c.is_ready.ensures.ready c.if-is_ready.true);
     }
 
-pub loop-record-preserved : goal.loop-record-preserved
-loop-record-preserved c =
+pub loop-queued-preserved : goal.loop-queued-preserved
+loop-queued-preserved c =
     record {
-      from = stand_behind c.args.rest.now c.loop-record.record-index _ _ c.record-item.result c.loop-record-test.true c.record-item.is (next_number c.loop-record.record-index c.args.committed) c.loop-record.invariant.from;
-      left = λ o first. c.loop-record.invariant.left o
-          (passed (ready_test (settings_of c.args.settings) c.args.committed) c.args.rest.now c.loop-record.record-index _ _ c.number-number.result c.record-item.result c.is_ready.result o c.loop-record-test.true c.record-item.is c.loop-record.invariant.from c.number-number.ensures.number c.is_ready.ensures.ready c.if-is_ready.false (next_number c.loop-record.record-index c.args.committed) first);
+      from = stand_behind c.args.rest.now c.loop-queued.queued-index _ _ c.queued-item.result c.loop-queued-test.true c.queued-item.is (next_number c.loop-queued.queued-index c.args.committed) c.loop-queued.invariant.from;
+      left = λ o first. c.loop-queued.invariant.left o
+          (passed (ready_test (settings_of c.args.settings) c.args.committed) c.args.rest.now c.loop-queued.queued-index _ _ c.number-number.result c.queued-item.result c.is_ready.result o c.loop-queued-test.true c.queued-item.is c.loop-queued.invariant.from c.number-number.ensures.number c.is_ready.ensures.ready c.if-is_ready.false (next_number c.loop-queued.queued-index c.args.committed) first);
     }
 
 pub returns : goal.returns
 returns c =
-    record { first = c.loop-record.invariant.left _ (ended (ready_test (settings_of c.args.settings) c.args.committed) c.args.rest.now c.loop-record.record-index _ c.loop-record-test.false) }
+    record { first = c.loop-queued.invariant.left _ (ended (ready_test (settings_of c.args.settings) c.args.committed) c.args.rest.now c.loop-queued.queued-index _ c.loop-queued-test.false) }

@@ -6,8 +6,8 @@ use Rattle.core_result.specs.Told.{finishes_told}
 use Rattle.core_result.proofs.finishes.finishes.Given as goal
 
 -- What is told so far and of those that are left is what is told of all.
-abbrev pub invariant-loop-record : goal.invariant-loop-record
-invariant-loop-record l = record {
-  from : AreFrom (l.record-index + 1) (drop l.record-index l.queue);
-  told : (ms : List Rule) (B : ℕ) → map finish_of l.finishes.items ++ finishes_told ms B (l.record-index + 1) (updates_of ms B (drop l.record-index l.queue)) ≡ finishes_told ms B 1 (updates_of ms B l.queue);
+abbrev pub invariant-loop-queued : goal.invariant-loop-queued
+invariant-loop-queued l = record {
+  from : AreFrom (l.queued-index + 1) (drop l.queued-index l.queue);
+  told : (ms : List Rule) (B : ℕ) → map finish_of l.finishes.items ++ finishes_told ms B (l.queued-index + 1) (updates_of ms B (drop l.queued-index l.queue)) ≡ finishes_told ms B 1 (updates_of ms B l.queue);
 }

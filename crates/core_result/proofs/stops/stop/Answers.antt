@@ -6,15 +6,15 @@ use Rattle.core_result.proofs.stops.stop.Goals as goal
 
 pub returns-then-not-is_over : goal.returns-then-not-is_over
 returns-then-not-is_over c = record {
-  told = stop_told_here c.stop_at.result c.args.queue.now c.loop-record.record-index c.number.result c.record-item.result c.is_over.result _ c.loop-record-test.true c.record-item.is c.loop-record.invariant.from
-      c.number.ensures.number c.is_over.ensures.over c.if-not-is_over.true c.lack.ensures.lack c.loop-record.invariant.same c.stop_at.ensures.told;
+  told = stop_told_here c.stop_at.result c.args.queue.now c.loop-queued.queued-index c.number.result c.queued-item.result c.is_over.result _ c.loop-queued-test.true c.queued-item.is c.loop-queued.invariant.from
+      c.number.ensures.number c.is_over.ensures.over c.if-not-is_over.true c.lack.ensures.lack c.loop-queued.invariant.same c.stop_at.ensures.told;
 }
 
-pub loop-record-preserved : goal.loop-record-preserved
-loop-record-preserved c = record {
-  from = stand_behind c.args.queue.now c.loop-record.record-index _ _ c.record-item.result c.loop-record-test.true c.record-item.is (add-one (c.loop-record.record-index + 1)) c.loop-record.invariant.from;
-  same = λ ms B. stop_on ms B c.args.queue.now c.loop-record.record-index c.record-item.result c.is_over.result c.loop-record-test.true c.record-item.is c.is_over.ensures.over c.if-not-is_over.false (c.loop-record.invariant.same ms B);
+pub loop-queued-preserved : goal.loop-queued-preserved
+loop-queued-preserved c = record {
+  from = stand_behind c.args.queue.now c.loop-queued.queued-index _ _ c.queued-item.result c.loop-queued-test.true c.queued-item.is (add-one (c.loop-queued.queued-index + 1)) c.loop-queued.invariant.from;
+  same = λ ms B. stop_on ms B c.args.queue.now c.loop-queued.queued-index c.queued-item.result c.is_over.result c.loop-queued-test.true c.queued-item.is c.is_over.ensures.over c.if-not-is_over.false (c.loop-queued.invariant.same ms B);
 }
 
 pub returns : goal.returns
-returns c = record { told = λ ms B. ap (stop_told ms B) (stop_none ms B c.args.queue.now c.loop-record.record-index c.loop-record-test.false (c.loop-record.invariant.same ms B)) }
+returns c = record { told = λ ms B. ap (stop_told ms B) (stop_none ms B c.args.queue.now c.loop-queued.queued-index c.loop-queued-test.false (c.loop-queued.invariant.same ms B)) }

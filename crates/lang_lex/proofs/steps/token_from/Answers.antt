@@ -1,7 +1,7 @@
 use Rattle.std.proofs.Common.{◌<◌, length, sym, ◌∙◌, arith}
 use Rattle.std.proofs.lemmas.Bool.{ne_eqb, eq-eqb}
 use Rattle.std.proofs.lemmas.Result.{err_from_is_err_and}
-use Rattle.lang_lex.proofs.Stepped.{comment, fault, over, there, token}
+use Rattle.lang_lex.proofs.Stepped.{comment, fault, greatest, over, there, token}
 use Rattle.lang_lex.proofs.steps.token_from.Goals as goal
 
 pub returns-then-from-line-clause-first : goal.returns-then-from-line-clause-first
@@ -27,3 +27,8 @@ pub returns-clause-spelled : goal.returns-clause-spelled
 returns-clause-spelled c =
     let inside : c.behind_blanks-from.result < length c.args.line.now = omega arith in
     there c.behind_blanks-from.result c.args.line.now inside c.in_ok-kind.kind c.in_ok-kind.width (rw c.behind.ensures at (sym c.in_ok-kind.ensures.gives)) c.in_ok-kind.ensures.within.0 (rw c.behind.ensures at c.in_ok-kind.ensures.within.1)
+
+pub returns-clause-longest : goal.returns-clause-longest
+returns-clause-longest c =
+    let inside : c.behind_blanks-from.result < length c.args.line.now = omega arith in
+    greatest c.behind_blanks-from.result c.args.line.now inside c.in_ok-kind.kind c.in_ok-kind.width (rw c.behind.ensures at (sym c.in_ok-kind.ensures.gives))

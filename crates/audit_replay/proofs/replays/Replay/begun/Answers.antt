@@ -12,5 +12,5 @@ pub returns : goal.returns
 returns c = record {
   begun =
       begun_is (session_of c.args.session.now) c.args.budget (settings_of c.args.settings) _ c.is_within.ensures.some c.requires.retries c.requires.valid.update_count c.requires.valid.base_order c.mappings_of-mappings.ensures.rules refl refl
-      (ap (map update_of) c.as_slice-handed.ensures.items) c.new-seats.ensures.items (c.new-levels.ensures.one ∙ ap (λ (D : List Fact). D ∷ []) c.in_ok-base.ensures.same);
+      (ap (map update_of) c.as_slice-handed.ensures.items) c.new-updates.ensures.items (c.new-levels.ensures.one ∙ ap (λ (D : List Fact). D ∷ []) c.in_ok-base.ensures.same);
 }

@@ -9,22 +9,22 @@ pub returns-in_default : goal.returns-in_default
 returns-in_default c = record { made = (nothing_made c.args.self.now c.args.update c.in_default.ensures.place).2; err = tt }
 
 pub committed-before-requires : goal.committed-before-requires
-committed-before-requires c = record { from = its_numbers c.args.self.now c.requires.replay c.as_slice-seats.result.now c.as_slice-seats.ensures.value }
+committed-before-requires c = record { from = its_numbers c.args.self.now c.requires.replay c.as_slice-updates.result.now c.as_slice-updates.ensures.value }
 
-pub bounds-seats-place : goal.bounds-seats-place
-bounds-seats-place c = is_there c.args.self.now c.args.update c.in-Some.place c.as_slice-seats.result.now c.as_slice-seats.ensures.value c.in-Some.ensures.place
+pub bounds-updates-place : goal.bounds-updates-place
+bounds-updates-place c = is_there c.args.self.now c.args.update c.in-Some.place c.as_slice-updates.result.now c.as_slice-updates.ensures.value c.in-Some.ensures.place
 
 pub is_deliverable-requires : goal.is_deliverable-requires
-is_deliverable-requires c = record { between = between_there c.args.self.now c.args.update c.in-Some.place c.index-seats-place.result c.as_slice-seats.result.now c.requires.replay c.as_slice-seats.ensures.value c.in-Some.ensures.place c.index-seats-place.is }
+is_deliverable-requires c = record { between = between_there c.args.self.now c.args.update c.in-Some.place c.index-updates-place.result c.as_slice-updates.result.now c.requires.replay c.as_slice-updates.ensures.value c.in-Some.ensures.place c.index-updates-place.is }
 
 pub returns-then-not-is_deliverable : goal.returns-then-not-is_deliverable
-returns-then-not-is_deliverable c = record { made = not_deliverable c.args.self.now c.args.update c.in-Some.place c.committed-before.result c.index-seats-place.result c.in-Some.ensures.place c.as_slice-seats.result.now c.as_slice-seats.ensures.value c.index-seats-place.is c.committed-before.ensures.committed c.is_deliverable.result c.is_deliverable.ensures.deliverable (search rules); err = tt }
+returns-then-not-is_deliverable c = record { made = not_deliverable c.args.self.now c.args.update c.in-Some.place c.committed-before.result c.index-updates-place.result c.in-Some.ensures.place c.as_slice-updates.result.now c.as_slice-updates.ensures.value c.index-updates-place.is c.committed-before.ensures.committed c.is_deliverable.result c.is_deliverable.ensures.deliverable (search rules); err = tt }
 
 pub deliver_at-requires : goal.deliver_at-requires
 deliver_at-requires c = record {
   replay = c.requires.replay;
-  within = it_is_within c.args.self.now c.args.update c.in-Some.place c.committed-before.result c.index-seats-place.result c.in-Some.ensures.place c.as_slice-seats.result.now c.as_slice-seats.ensures.value c.index-seats-place.is c.committed-before.ensures.committed;
-  deliverable = deliverable_there c.args.self.now c.args.update c.in-Some.place c.committed-before.result c.index-seats-place.result c.in-Some.ensures.place c.as_slice-seats.result.now c.as_slice-seats.ensures.value c.index-seats-place.is c.committed-before.ensures.committed c.is_deliverable.result c.is_deliverable.ensures.deliverable (search rules);
+  within = it_is_within c.args.self.now c.args.update c.in-Some.place c.committed-before.result c.index-updates-place.result c.in-Some.ensures.place c.as_slice-updates.result.now c.as_slice-updates.ensures.value c.index-updates-place.is c.committed-before.ensures.committed;
+  deliverable = deliverable_there c.args.self.now c.args.update c.in-Some.place c.committed-before.result c.index-updates-place.result c.in-Some.ensures.place c.as_slice-updates.result.now c.as_slice-updates.ensures.value c.index-updates-place.is c.committed-before.ensures.committed c.is_deliverable.result c.is_deliverable.ensures.deliverable (search rules);
 }
 
 pub returns : goal.returns

@@ -13,12 +13,12 @@ deliver_to-requires c = record {
 pub returns : goal.returns
 returns c = record {
   made =
-      delivery_done c.args.self.now _ c.args.place c.as_mut_slice.result.now c.deliver_to.new.seats c.in_ok-entry.entry c.requires.within c.as_mut_slice.ensures.value c.requires.deliverable c.in_ok-entry.ensures.delivered c.in_ok-entry.ensures.numbers
-      (front c.deliver_to.new.seats (drop (length c.deliver_to.new.seats) c.args.self.now.seats.items) c.args.self.now.seats.len (omega arith)) refl (record { mappings = refl; budget = refl; settings = refl; handed = refl });
+      delivery_done c.args.self.now _ c.args.place c.as_mut_slice.result.now c.deliver_to.new.updates c.in_ok-entry.entry c.requires.within c.as_mut_slice.ensures.value c.requires.deliverable c.in_ok-entry.ensures.delivered c.in_ok-entry.ensures.numbers
+      (front c.deliver_to.new.updates (drop (length c.deliver_to.new.updates) c.args.self.now.updates.items) c.args.self.now.updates.len (omega arith)) refl (record { mappings = refl; budget = refl; settings = refl; handed = refl });
   err = tt;
 }
 
 pub returns-in_err-entry-clause-err : goal.returns-in_err-entry-clause-err
 returns-in_err-entry-clause-err c =
     held_err c.from_residual.result
-    (left_with c.args.self.now _ c.deliver_to.new.seats (front c.deliver_to.new.seats (drop (length c.deliver_to.new.seats) c.args.self.now.seats.items) c.args.self.now.seats.len (omega arith)) c.in_err-entry.ensures.err refl refl refl refl)
+    (left_with c.args.self.now _ c.deliver_to.new.updates (front c.deliver_to.new.updates (drop (length c.deliver_to.new.updates) c.args.self.now.updates.items) c.args.self.now.updates.len (omega arith)) c.in_err-entry.ensures.err refl refl refl refl)

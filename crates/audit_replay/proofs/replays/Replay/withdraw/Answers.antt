@@ -9,20 +9,20 @@ pub returns-in_default : goal.returns-in_default
 returns-in_default c = record { made = (nothing_made c.args.self.now c.args.update c.in_default.ensures.place).1; err = tt }
 
 pub committed-before-requires : goal.committed-before-requires
-committed-before-requires c = record { from = its_numbers c.args.self.now c.requires.replay c.as_slice-seats.result.now c.as_slice-seats.ensures.value }
+committed-before-requires c = record { from = its_numbers c.args.self.now c.requires.replay c.as_slice-updates.result.now c.as_slice-updates.ensures.value }
 
-pub bounds-seats-place : goal.bounds-seats-place
-bounds-seats-place c = is_there c.args.self.now c.args.update c.in-Some.place c.as_slice-seats.result.now c.as_slice-seats.ensures.value c.in-Some.ensures.place
+pub bounds-updates-place : goal.bounds-updates-place
+bounds-updates-place c = is_there c.args.self.now c.args.update c.in-Some.place c.as_slice-updates.result.now c.as_slice-updates.ensures.value c.in-Some.ensures.place
 
 pub returns-then-not-is_live : goal.returns-then-not-is_live
-returns-then-not-is_live c = record { made = not_live c.args.self.now c.args.update c.in-Some.place c.committed-before.result c.index-seats-place.result c.in-Some.ensures.place c.as_slice-seats.result.now c.as_slice-seats.ensures.value c.index-seats-place.is c.committed-before.ensures.committed c.is_live.result c.is_live.ensures.live (search rules); err = tt }
+returns-then-not-is_live c = record { made = not_live c.args.self.now c.args.update c.in-Some.place c.committed-before.result c.index-updates-place.result c.in-Some.ensures.place c.as_slice-updates.result.now c.as_slice-updates.ensures.value c.index-updates-place.is c.committed-before.ensures.committed c.is_live.result c.is_live.ensures.live (search rules); err = tt }
 
 pub withdraw_at-requires : goal.withdraw_at-requires
 withdraw_at-requires c = record {
   replay = c.requires.replay;
-  within = it_is_within c.args.self.now c.args.update c.in-Some.place c.committed-before.result c.index-seats-place.result c.in-Some.ensures.place c.as_slice-seats.result.now c.as_slice-seats.ensures.value c.index-seats-place.is c.committed-before.ensures.committed;
-  committed = counted c.args.self.now c.args.update c.in-Some.place c.committed-before.result c.index-seats-place.result c.in-Some.ensures.place c.as_slice-seats.result.now c.as_slice-seats.ensures.value c.index-seats-place.is c.committed-before.ensures.committed;
-  live = live_there c.args.self.now c.args.update c.in-Some.place c.committed-before.result c.index-seats-place.result c.in-Some.ensures.place c.as_slice-seats.result.now c.as_slice-seats.ensures.value c.index-seats-place.is c.committed-before.ensures.committed c.is_live.result c.is_live.ensures.live (search rules);
+  within = it_is_within c.args.self.now c.args.update c.in-Some.place c.committed-before.result c.index-updates-place.result c.in-Some.ensures.place c.as_slice-updates.result.now c.as_slice-updates.ensures.value c.index-updates-place.is c.committed-before.ensures.committed;
+  committed = counted c.args.self.now c.args.update c.in-Some.place c.committed-before.result c.index-updates-place.result c.in-Some.ensures.place c.as_slice-updates.result.now c.as_slice-updates.ensures.value c.index-updates-place.is c.committed-before.ensures.committed;
+  live = live_there c.args.self.now c.args.update c.in-Some.place c.committed-before.result c.index-updates-place.result c.in-Some.ensures.place c.as_slice-updates.result.now c.as_slice-updates.ensures.value c.index-updates-place.is c.committed-before.ensures.committed c.is_live.result c.is_live.ensures.live (search rules);
 }
 
 pub returns : goal.returns
