@@ -1,30 +1,17 @@
 -- The numbers of the mappings with an atom of a relation, once all were gone over.
-use Rattle.std.proofs.Common.{◌≡◌, ◌∙◌, ℕ, zero, suc, ◌<◌, ◌≤◌, false, ap, refl, sym, List, [], ◌∷◌, Option, Some, None, length, arith, inl, inr}
+use Rattle.std.proofs.Common.{◌≡◌, ◌∙◌, ℕ, ◌<◌, ◌≤◌, ap, refl, sym, List, [], ◌∷◌, Option, Some, None}
 use Rattle.std.specs.List.{slice_get}
 use Rattle.std.specs.Borrow.{Bor}
 use Rattle.std.specs.Option.{option_copied}
 use Rattle.std.specs.Prelude.{IfSome}
 use Rattle.std.specs.declared.alloc.Global.{Global}
 use Rattle.std.specs.declared.vec.Vec.{Vec}
-use Rattle.std.proofs.lemmas.Bool.{cases_lt}
-use Rattle.def_chase.specs.Mappings.{Pattern, Rule}
+use Rattle.def_chase.specs.Mappings.{Rule}
 use Rattle.def_chase.specs.Repository.{Change, Insert, Delete}
 use Rattle.def_chase.specs.Values.{Fact}
-use Rattle.chase_eval.specs.Touching.{stands, is_among, AreNumbers, IsTouching}
+use Rattle.chase_eval.specs.Touching.{stands, is_among, IsTouching}
 use Rattle.chase_eval.specs.Watched.{touches}
 use Rattle.chase_eval.specs.declared.touching.Touching.{Touching}
-
-past : (ms : List Rule) (n : ℕ) → length ms ≤ n → slice_get ms n ≡ None
-past [] n h = refl
-past (m ∷ ms) zero h = absurd (omega arith)
-past (m ∷ ms) (suc n) h = past ms n (omega arith)
-
-pub all_numbers : (side : Rule → List Pattern) (ms : List Rule) (r k : ℕ) (row : List ℕ) → length ms ≤ k → ((n : ℕ) → n < k → is_among row n ≡ stands side r (slice_get ms n)) → ((n : ℕ) → k ≤ n → is_among row n ≡ false)
-    → AreNumbers side ms r row
-all_numbers side ms r k row b passed others n = elim (cases_lt n k) [
-  | inl h ↦ passed n h
-  | inr h ↦ others n (omega (arith, h)) ∙ sym (ap (stands side r) (past ms n (omega (arith, h, b))))
-]
 
 -- ---- what a write touches
 

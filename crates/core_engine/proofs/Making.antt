@@ -104,14 +104,6 @@ module _ (g : Ground) (v : Kept) (rs : List QueuedUpdate) (H : List PlainEntry) 
   some_there f None b e = absurd (none-some b e)
   some_there f (Some a) b e = (a, refl)
 
-  -- There is a queued update of this number.
-  pub at_least_one : 1 ≤ n
-  at_least_one = by n refl
-    where
-      by : (m : ℕ) → m ≡ n → 1 ≤ m
-      by zero e = absurd (none-some st (ap (λ i. option_map (standing (machine g) g.settings (committed (machine g) (updates_of g.rules g.budget rs)) i) (numbered_at (updates_of g.rules g.budget rs) i)) e ∙ stands_here))
-      by (suc m) e = omega arith
-
   -- At its place, counted from 0, it stands so.
   pub stands_placed : (i : ℕ) → n ≡ suc i → option_map (standing (machine g) g.settings (committed (machine g) (updates_of g.rules g.budget rs)) (suc i)) (slice_get (updates_of g.rules g.budget rs) i) ≡ Some st
   stands_placed i e = ap (λ j. option_map (standing (machine g) g.settings (committed (machine g) (updates_of g.rules g.budget rs)) j) (numbered_at (updates_of g.rules g.budget rs) j)) (sym e) ∙ stands_here

@@ -1,10 +1,9 @@
 -- A line, token by token: its tokens so far and those of the rest.
 use Rattle.std.proofs.Common.{◌≡◌, ℕ, zero, suc, ◌+◌, ◌-◌, ◌<◌, ◌≤◌, List, [], ◌∷◌, ◌++◌, ap, ◌∙◌, arith, drop, length}
-use Rattle.std.specs.Prelude.{Result, ◌==◌}
+use Rattle.std.specs.Prelude.{◌==◌}
 use Rattle.def_language.specs.declared.tokens.TokenKind.{TokenKind}
 use Rattle.def_language.specs.declared.tokens.Token.{Token}
-use Rattle.def_language.specs.declared.tokens.LexRefusal.{LexRefusal}
-use Rattle.def_language.specs.LineTokens.{tokens_at, with_front}
+use Rattle.def_language.specs.LineTokens.{tokens_at}
 
 abbrev pub token_of : TokenKind → ℕ → ℕ → Token
 token_of kind place width = record { kind = kind; from = place; to = place + width }
@@ -17,6 +16,3 @@ skipped (suc n) place [] le = absurd (omega arith)
 skipped (suc n) place (b ∷ rest) le =
     let e : place + 1 + n ≡ place + suc n = omega arith in
     skipped n (place + 1) rest (omega arith) ∙ ap (λ p. tokens_at p zero (drop n rest)) e
-
-module _ (start : ℕ) (tokens : List Token) (place : ℕ) (line : List ℕ) (total : Result (List Token) LexRefusal) (inside : place < length line)
-    (so_far : with_front tokens (tokens_at (start + place) zero (drop place line)) ≡ total) where

@@ -11,6 +11,8 @@ place_in (WideNumber place) = place
 place_in (LongText place) = place
 place_in Memory = 0
 
+-- what is read, and then what is made of it
+infixl 10 ◌>>=◌
 abbrev pub ◌>>=◌ : {A B : Type 0} → Result A LexRefusal → (A → Result B LexRefusal) → Result B LexRefusal
 (Ok x) >>= then = then x
 (Err refusal) >>= then = Err refusal

@@ -1,13 +1,11 @@
 -- What a write of the columns of one relation makes of the index.
-use Rattle.std.proofs.Common.{◌≡◌, ℕ, ◌<◌, ◌∙◌, List, [], ◌∷◌, ◌++◌, ◌&&◌, ◌||◌}
+use Rattle.std.proofs.Common.{◌≡◌, ◌<◌, ◌∙◌, List, [], ◌∷◌, ◌++◌, ◌&&◌, ◌||◌}
 use Rattle.std.specs.declared.vec.Vec.{Vec}
 use Rattle.std.specs.declared.alloc.Global.{Global}
 use Rattle.def_chase.specs.Values.{Fact, same_fact}
 use Rattle.def_chase.specs.Repository.{has}
-use Rattle.set_facts.specs.Indexes.{Kept, columns_of, kept_at, is_in, AddsAtMostOne, AddsOne}
+use Rattle.set_facts.specs.Indexes.{Kept, kept_at, is_in, AddsAtMostOne, AddsOne}
 use Rattle.set_facts.proofs.Changing.{may_add}
-
-module _ (t : Fact) (rs ss : List (Vec Kept Global)) (others : (r : ℕ) → (r ≡ t.relation → ⊥) → columns_of ss r ≡ columns_of rs r) where
 
 -- ---- writes that want memory
 

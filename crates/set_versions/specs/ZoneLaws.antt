@@ -9,8 +9,8 @@ use Rattle.def_chase.specs.Values.{Datum, Fact, datum_cmp, fact_cmp}
 use Rattle.def_chase.specs.Cursors.{is_beyond}
 use Rattle.def_chase.proofs.Order.{datum_total, fact_total}
 use Rattle.base_tree.specs.Rising.{lt_rises}
-use Rattle.set_versions.specs.Cells.{value_in, values_cmp}
-use Rattle.set_versions.specs.Zones.{place_beyond, place_of, place_lead}
+use Rattle.set_versions.specs.Cells.{value_in, values_cmp, cell_cmp}
+use Rattle.set_versions.specs.Zones.{place_beyond, place_of, place_in, place_lead}
 
 -- ---- one comparison, and then another
 
@@ -57,8 +57,6 @@ module _ {X Y : Type 0} {P : Y → Y → Ordering} (o : IsTotalOrder P) (f : X �
       by Equal i Greater j h = cc
       by Greater i b j h = absurd (up i)
 
--- ---- at a tuple
-
 -- ---- beyond a tuple
 
 beyond_rises : (past : Option Fact) (x y : Fact) → fact_cmp x y ≡ Less → is_beyond past x ≡ true → is_beyond past y ≡ true
@@ -93,6 +91,32 @@ of_before r past x y h =
     then_before nat_cmp_total (λ (t : Fact). t.relation) r (place_beyond past) x y (first_up (nat_cmp x.relation y.relation) _ h) (λ _. beyond_before past x y h)
 
 -- ---- at a value in a column
+
+abbrev by_value : ℕ → Datum → Option Fact → ℕ × Fact → Ordering
+by_value r d past x = ordering_then (values_cmp (value_in x) (Some d)) (place_of r past x.1)
+
+abbrev value_cmp : ℕ × Fact → ℕ × Fact → Ordering
+value_cmp x y = ordering_then (values_cmp (value_in x) (value_in y)) (fact_cmp x.1 y.1)
+
+value_past : (r : ℕ) (d : Datum) (past : Option Fact) (x y : ℕ × Fact) → value_cmp x y ≡ Less → by_value r d past x ≡ Greater → by_value r d past y ≡ Greater
+value_past r d past x y h =
+    then_past (options_total datum_total) value_in (Some d) (λ z. place_of r past z.1) x y (first_up (values_cmp (value_in x) (value_in y)) _ h)
+    (λ e. of_past r past x.1 y.1 (then_second (values_cmp (value_in x) (value_in y)) _ h e))
+
+value_before : (r : ℕ) (d : Datum) (past : Option Fact) (x y : ℕ × Fact) → value_cmp x y ≡ Less → by_value r d past y ≡ Less → by_value r d past x ≡ Less
+value_before r d past x y h =
+    then_before (options_total datum_total) value_in (Some d) (λ z. place_of r past z.1) x y (first_up (values_cmp (value_in x) (value_in y)) _ h)
+    (λ e. of_before r past x.1 y.1 (then_second (values_cmp (value_in x) (value_in y)) _ h e))
+
+pub in_past : (r c : ℕ) (d : Datum) (past : Option Fact) (x y : ℕ × Fact) → cell_cmp x y ≡ Less → place_in r c d past x ≡ Greater → place_in r c d past y ≡ Greater
+in_past r c d past x y h =
+    then_past nat_cmp_total (λ (z : ℕ × Fact). z.0) c (by_value r d past) x y (first_up (nat_cmp x.0 y.0) _ h)
+    (λ e. value_past r d past x y (then_second (nat_cmp x.0 y.0) _ h e))
+
+pub in_before : (r c : ℕ) (d : Datum) (past : Option Fact) (x y : ℕ × Fact) → cell_cmp x y ≡ Less → place_in r c d past y ≡ Less → place_in r c d past x ≡ Less
+in_before r c d past x y h =
+    then_before nat_cmp_total (λ (z : ℕ × Fact). z.0) c (by_value r d past) x y (first_up (nat_cmp x.0 y.0) _ h)
+    (λ e. value_before r d past x y (then_second (nat_cmp x.0 y.0) _ h e))
 
 -- ---- at a value in the first column
 

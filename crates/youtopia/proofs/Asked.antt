@@ -29,11 +29,11 @@ OneThing = (words : List Letters) (one other : Request) → Answers words one �
 
 -- what `serial` and `run` write
 abbrev pub Held : Type 0
-Held = (n : ℕ) (status : Status) (source out err : Change) → 1 ≤ n → n ≤ 300 → HasWritten status → Row status (on_session (ran n)) source out err
+Held = (n : ℕ) (status : Status) (source out err : Change) → 1 ≤ n → n ≤ 1000001 → HasWritten status → Row status (on_session (ran n)) source out err
     → WroteWhatHolds n source out
 
 abbrev pub RunHeld : Type 0
-RunHeld = (trace : Bool) (n : ℕ) (c : Settings) (status : Status) (source out err : Change) → 1 ≤ n → n ≤ 300 → HasWritten status
+RunHeld = (trace : Bool) (n : ℕ) (c : Settings) (status : Status) (source out err : Change) → 1 ≤ n → n ≤ 1000001 → HasWritten status
     → Row status (on_session_by (running trace n c)) source out err → WroteRun trace n c source out
 
 -- what is recovered has one status, and so has a run

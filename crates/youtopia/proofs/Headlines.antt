@@ -1,5 +1,5 @@
 -- What runs write.
-use Rattle.std.proofs.Common.{◌≡◌, ◌∙◌, ◌≤◌, ◌⊎◌, ℕ, List, None, inl, inr, ap, sym, subst}
+use Rattle.std.proofs.Common.{◌≡◌, ◌∙◌, ◌≤◌, ◌⊎◌, ℕ, List, None, inl, inr, ap, sym, subst, arith}
 use Rattle.clap.specs.Words.{Text as Letters}
 use Rattle.std.specs.Io.KnownBytes.{Consumes}
 use Rattle.cmd_frame.specs.Devices.{Change, Takes}
@@ -41,8 +41,8 @@ no_memory status wanting (inr stuck) = cc
 
 run_holds : Held → RunHeld → (k : CommandName) (p : Options) (status : Status) (source out err : Change) → 1 ≤ p.steps → p.steps ≤ 300 → IsRun k → HasWritten status
     → Does k p status source out err → Wrote k p source out
-run_holds held runs Run p status source out err some most run written row = runs p.trace p.steps (settings_in p) status source out err some most written row
-run_holds held runs Serial p status source out err some most run written row = held p.steps status source out err some most written row
+run_holds held runs Run p status source out err some most run written row = runs p.trace p.steps (settings_in p) status source out err some (omega (arith, most)) written row
+run_holds held runs Serial p status source out err some most run written row = held p.steps status source out err some (omega (arith, most)) written row
 run_holds held runs _ p status source out err some most run written row = absurd run
 
 done_holds : Held → RunHeld → (words : List Letters) (o : Options) (status : Status) (source out err : Change) → IsRun o.command → HasWritten status
@@ -86,7 +86,7 @@ by_row held runs o status source out err input s some most spelled met fine row 
     elim (complete status (makes Run o) source out err row input (status_of (ran o.steps s)) fine.held fine.short
     (λ y it. runs o.trace o.steps (settings_in o) input y (ran o.steps s) it (of_one (ran o.steps) input s spelled)) fine.reads fine.writes) [
       | inl is ↦ inl (told_of o source out input s status spelled fine (is ∙ met_status o.steps s met)
-          (held o.trace o.steps (settings_in o) status source out err some most (subst HasWritten (sym is) (run_ends o.steps s met)) row))
+          (held o.trace o.steps (settings_in o) status source out err some (omega (arith, most)) (subst HasWritten (sym is) (run_ends o.steps s met)) row))
       | inr wanting ↦ inr wanting
     ]
 

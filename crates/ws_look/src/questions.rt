@@ -1,0 +1,238 @@
+//! `questions`: what waits, and for which answer.
+
+use crate::waiting::waiting_numbers;
+use crate::written::{copied, object_of, objects_reply, refused, text_reply};
+use base_types::Memory;
+use std::alloc::Global;
+use ws_fault::{Refusal, Status as Code};
+use ws_json::Object;
+use ws_question::{
+    AskedNow, Shown, asked_now, question_lines, question_object, reason_words, status_of,
+    status_word,
+};
+use ws_reply::{Context, Reply};
+use ws_run::Reason;
+use ws_space::Space;
+use ws_state::Status;
+
+// How many candidates are shown of each question, and how many of one that is asked for.
+const OF_EACH: usize = 10;
+const OF_ONE: usize = 50;
+
+/// Which questions are told: that of an update, or all; with which of their candidates; and whether only one's own.
+#[derive(Clone, Copy)]
+pub(crate) struct Wanted<'a> {
+    pub number: Option<u32>,
+    pub like: Option<&'a str>,
+    pub mine: bool,
+    pub limit: Option<u32>,
+}
+
+// An update that waits: its question, or why it waits without one.
+#[derive(Drop)]
+struct Told {
+    number: u32,
+    asked: Option<AskedNow>,
+    kind: &'static str,
+    words: String,
+}
+
+// How its candidates are told.
+#[derive(Clone, Copy)]
+struct Telling<'a> {
+    like: Option<&'a str>,
+    limit: usize,
+}
+
+/// The updates that wait, each with its question, or why it waits. The questions count as shown. It is refused if an update that
+/// was asked for does not wait, or for want of memory.
+pub(crate) fn questions(
+    alloc: Global,
+    space: &mut Space,
+    shown: &mut Shown,
+    context: &Context<'_>,
+    wanted: Wanted<'_>,
+) -> Result<Reply, Refusal> {
+    let numbers = wanted_numbers(alloc, space, context, wanted)?;
+    let mut told = Vec::new(alloc);
+    for number in numbers.iter() {
+        let one = told_of(alloc, space, *number)?;
+        if let Some(asked) = &one.asked {
+            shown.put(asked)?;
+        }
+        told.push(one)?;
+    }
+    let telling = Telling {
+        like: wanted.like,
+        limit: limit_of(wanted),
+    };
+    if context.is_json() {
+        let objects = objects(alloc, space, told.as_slice(), telling)?;
+        return Ok(objects_reply(alloc, Code::Done, objects)?);
+    }
+    let lines = lines(alloc, space, told.as_slice(), telling)?;
+    Ok(text_reply(Code::Done, lines))
+}
+
+fn limit_of(wanted: Wanted<'_>) -> usize {
+    match wanted.limit {
+        Some(limit) => limit as usize,
+        None if wanted.number.is_some() => OF_ONE,
+        None => OF_EACH,
+    }
+}
+
+fn wanted_numbers(
+    alloc: Global,
+    space: &Space,
+    context: &Context<'_>,
+    wanted: Wanted<'_>,
+) -> Result<Vec<u32>, Refusal> {
+    let mut numbers = match wanted.number {
+        Some(number) => one_number(alloc, space, number)?,
+        None => waiting_numbers(alloc, space)?,
+    };
+    if wanted.mine {
+        numbers.retain(|number| space.curator_of(*number) == context.curator);
+    }
+    if let Some(number) = numbers.first() {
+        refuse_others(alloc, space, *number)?;
+    }
+    Ok(numbers)
+}
+
+fn one_number(alloc: Global, space: &Space, number: u32) -> Result<Vec<u32>, Refusal> {
+    status_of(alloc, space, number)?;
+    let mut numbers = Vec::new(alloc);
+    numbers.push(number)?;
+    Ok(numbers)
+}
+
+// An update that does not wait is refused.
+fn refuse_others(alloc: Global, space: &Space, number: u32) -> Result<(), Refusal> {
+    let status = match status_of(alloc, space, number)? {
+        Status::Waits => return Ok(()),
+        Status::Stands => "done",
+        other => status_word(other),
+    };
+    let words = format!(in alloc; "update {number} waits for no answer: it is {status}")?;
+    Err(Refusal::Fault(refused(alloc, words, None)))
+}
+
+fn told_of(alloc: Global, space: &mut Space, number: u32) -> Result<Told, Memory> {
+    let reason = space.question(alloc, number)?;
+    let words = reason_words(alloc, space, reason.as_ref())?;
+    let kind = kind_of(reason.as_ref());
+    let asked = match reason {
+        Some(Reason::Asks(question)) => Some(asked_now(alloc, space, number, question)?),
+        _ => None,
+    };
+    Ok(Told {
+        number,
+        asked,
+        kind,
+        words,
+    })
+}
+
+// Why an update waits without a question.
+fn kind_of(reason: Option<&Reason>) -> &'static str {
+    match reason {
+        None => "none",
+        Some(Reason::Asks(_)) => "question",
+        Some(Reason::NotThere(_)) => "lost",
+        Some(Reason::TooLong) => "spent",
+        Some(Reason::Violated(_)) => "violated",
+        Some(Reason::Gone(_)) => "gone",
+    }
+}
+
+fn lines(
+    alloc: Global,
+    space: &Space,
+    told: &[Told],
+    telling: Telling<'_>,
+) -> Result<Vec<String>, Memory> {
+    let mut lines = Vec::new(alloc);
+    for one in told {
+        if !lines.is_empty() {
+            lines.push(String::new(alloc))?;
+        }
+        add_lines(alloc, &mut lines, space, one, telling)?;
+    }
+    if lines.is_empty() {
+        lines.push(copied(alloc, "no questions")?)?;
+    }
+    Ok(lines)
+}
+
+fn add_lines(
+    alloc: Global,
+    lines: &mut Vec<String>,
+    space: &Space,
+    told: &Told,
+    telling: Telling<'_>,
+) -> Result<(), Memory> {
+    let number = told.number;
+    let curator = space.curator_of(number);
+    let line = space.update_text(alloc, number)?;
+    lines.push(format!(in alloc; "{number} {curator}: {line}")?)?;
+    let Some(asked) = &told.asked else {
+        let words = told.words.as_str();
+        lines.push(format!(in alloc; "  {words}")?)?;
+        return Ok(());
+    };
+    let question = question_lines(alloc, space, asked, telling.like, telling.limit)?;
+    for line in question.iter() {
+        lines.push(format!(in alloc; "  {line}")?)?;
+    }
+    if asked.misfit {
+        lines.push(copied(alloc, "  an answer that it had does not fit any more")?)?;
+    }
+    Ok(())
+}
+
+fn objects(
+    alloc: Global,
+    space: &Space,
+    told: &[Told],
+    telling: Telling<'_>,
+) -> Result<Vec<Object>, Memory> {
+    let mut objects = Vec::new(alloc);
+    for one in told {
+        objects.push(object(alloc, space, one, telling)?)?;
+    }
+    if objects.is_empty() {
+        let mut object = object_of(alloc, "question")?;
+        object.text("kind", "nothing")?;
+        object.number("at", i64::from(space.at()))?;
+        objects.push(object)?;
+    }
+    Ok(objects)
+}
+
+fn object(
+    alloc: Global,
+    space: &Space,
+    told: &Told,
+    telling: Telling<'_>,
+) -> Result<Object, Memory> {
+    let mut object = match &told.asked {
+        Some(asked) => question_object(alloc, space, asked, telling.like, telling.limit)?,
+        None => unasked(alloc, told)?,
+    };
+    object.text("reply", "question")?;
+    object.number("number", i64::from(told.number))?;
+    object.text("curator", space.curator_of(told.number))?;
+    object.text("line", space.update_text(alloc, told.number)?.as_str())?;
+    object.number("at", i64::from(space.at()))?;
+    object.text("time", space.time_of(told.number))?;
+    Ok(object)
+}
+
+fn unasked(alloc: Global, told: &Told) -> Result<Object, Memory> {
+    let mut object = Object::new(alloc);
+    object.text("kind", told.kind)?;
+    object.text("words", told.words.as_str())?;
+    Ok(object)
+}
