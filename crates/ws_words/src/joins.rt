@@ -1,8 +1,8 @@
 //! Words as one line, and what is asked of words that may be at fault.
 
-use crate::steps::wrong;
+use crate::steps::fault_of;
 use std::alloc::{AllocError, Global};
-use ws_fault::Refusal;
+use ws_fault::Fault;
 
 /// Words joined by blanks; none if there are none. It is refused only for want of memory.
 pub fn joined(alloc: Global, words: &[String]) -> Result<Option<String>, AllocError> {
@@ -37,13 +37,14 @@ pub fn wants_json(words: &[String]) -> bool {
     false
 }
 
-/// Refuses words that have a verb in the place of the file, with the words from that on as the hint.
-pub fn file_first<T>(alloc: Global, words: &[String], file: &str) -> Result<T, Refusal> {
+/// The fault of words that have a verb in the place of the file; its hint is the words from that on, after FILE. It is refused only
+/// for want of memory.
+pub fn file_first(alloc: Global, words: &[String], file: &str) -> Result<Fault, AllocError> {
     let place = words.iter().position(|w| w.as_str() == file);
     let from = words.get(place.unwrap_or(0)..).unwrap_or(words);
     let mut hint = String::from_str(alloc, "yt FILE ")?;
     if let Some(line) = joined(alloc, from)? {
         hint.push_str(line.as_str())?;
     }
-    wrong(alloc, "the file comes first", hint.as_str())
+    fault_of(alloc, "the file comes first", hint.as_str())
 }

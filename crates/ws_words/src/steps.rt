@@ -1,6 +1,6 @@
 //! The words in front of the command, one after the other.
 
-use std::alloc::Global;
+use std::alloc::{AllocError, Global};
 use ws_fault::{Fault, Nearest, Refusal, Status};
 use ws_print::add_escaped;
 
@@ -160,21 +160,22 @@ fn no_option<T>(alloc: Global, word: &str) -> Result<T, Refusal> {
     }
 }
 
-/// A fault of the words; an empty hint is none.
+/// Refuses the words; an empty hint is none.
 pub(crate) fn wrong<T>(alloc: Global, words: &str, hint: &str) -> Result<T, Refusal> {
+    Err(Refusal::Fault(fault_of(alloc, words, hint)?))
+}
+
+/// A fault of the words; an empty hint is none.
+pub(crate) fn fault_of(alloc: Global, words: &str, hint: &str) -> Result<Fault, AllocError> {
     let mut told = String::new(alloc);
     add_escaped(&mut told, words)?;
-    let mut what_to_do = String::new(alloc);
-    add_escaped(&mut what_to_do, hint)?;
-    Err(Refusal::Fault(Fault {
+    let mut advice = String::new(alloc);
+    add_escaped(&mut advice, hint)?;
+    Ok(Fault {
         status: Status::Unread,
         words: told,
         place: None,
-        hint: if hint.is_empty() {
-            None
-        } else {
-            Some(what_to_do)
-        },
+        hint: if hint.is_empty() { None } else { Some(advice) },
         more: Vec::new(alloc),
-    }))
+    })
 }
