@@ -2,7 +2,7 @@
 
 use crate::failing::{cannot, fault};
 use crate::sessions::{Settings, called};
-use crate::stubs::{Input, load as loaded_over};
+use ws_load::{Input, load as loaded_over};
 use std::alloc::Global;
 use std::fs;
 use ws_cells::form_of;

@@ -5,7 +5,7 @@ use crate::changing::quit;
 use crate::commands::{Turn, read_over};
 use crate::leaving::allowed;
 use crate::sessions::{Session, context_of};
-use crate::stubs::help;
+use ws_look::help;
 use def_memory::Memory;
 use std::alloc::Global;
 use ws_command::{Change, Command, Said};

@@ -1,6 +1,6 @@
 //! A session, and what it is over.
 
-use crate::stubs::Shown;
+use ws_question::Shown;
 use std::alloc::{AllocError, Global};
 use std::time::Duration;
 use ws_log::RestingLog;
