@@ -1,0 +1,65 @@
+//! Updates that are taken, one at a time.
+
+use crate::faults::refused;
+use crate::spending::spent_fault;
+use std::alloc::{AllocError, Global};
+use ws_fault::Refusal;
+use ws_print::{add_line, add_update};
+use ws_run::Reason;
+use ws_space::{Space, unknown_of};
+use ws_state::Told;
+use ws_written::{Line, NumberedUpdate, Update};
+
+/// An update that was taken: its number, its line, and why it waits, if it does.
+#[derive(Drop)]
+pub(crate) struct Taken {
+    pub number: u32,
+    pub line: Line,
+    pub reason: Option<Reason>,
+}
+
+fn next_number(alloc: Global, space: &Space) -> Result<u32, Refusal> {
+    match space.state.last().checked_add(1) {
+        Some(number) => Ok(number),
+        None => Err(Refusal::Fault(refused(alloc, "no number is left for an update", "")?)),
+    }
+}
+
+/// Takes an update with the next number. It is refused if it names an unknown that is not there, or if its steps do not
+/// suffice.
+pub(crate) fn take_update(
+    alloc: Global,
+    space: &mut Space,
+    steps: u32,
+    update: Update,
+) -> Result<Taken, Refusal> {
+    let number = next_number(alloc, space)?;
+    let line = Line::Update(NumberedUpdate {
+        number,
+        steps,
+        update,
+    });
+    let Told { reason, .. } = space.take(alloc, &line)?;
+    match reason {
+        Some(Reason::NotThere(name)) => {
+            Err(Refusal::Fault(space.lost(alloc, unknown_of(name))?))
+        }
+        Some(Reason::TooLong) => Err(spent_fault(alloc, space, steps)?),
+        reason => Ok(Taken {
+            number,
+            line,
+            reason,
+        }),
+    }
+}
+
+/// The line as a reply tells it: of an update without its number and its budget. It is refused only for want of memory.
+pub(crate) fn told_line(alloc: Global, space: &Space, line: &Line) -> Result<String, AllocError> {
+    let mut text = String::new(alloc);
+    let relations = space.relations.as_slice();
+    match line {
+        Line::Update(numbered) => add_update(&mut text, relations, &numbered.update)?,
+        other => add_line(&mut text, relations, other)?,
+    }
+    Ok(text)
+}
