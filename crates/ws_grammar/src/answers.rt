@@ -1,14 +1,49 @@
-//! What an answer chooses.
+//! The command `answer`.
 
-use crate::bytes::{behind_blanks, name_run};
+use crate::bytes::{after_blanks, name_run};
+use crate::changes::{Changed, changed};
 use crate::cursors::Cursor;
-use ws_command::SaidChoice;
+use crate::options::Options;
+use crate::standing::Names;
+use ws_command::{Change, Opt, SaidChoice, Verb};
 use ws_fault::Refusal;
 use ws_written::Relation;
 
+// The choice of an answer, and the options after it.
+type Chosen = (SaidChoice, Options);
+
 impl<'a> Cursor<'a> {
-    /// The choice of an answer to several updates.
-    pub(crate) fn common_choice(&mut self) -> Result<SaidChoice, Refusal> {
+    /// What stands after `answer`.
+    pub(crate) fn answer_change(&mut self, names: &Names<'_>) -> Result<Changed, Refusal> {
+        let numbers = self.distinct_numbers()?;
+        let (choice, options) = self.choice_and_options(names, numbers.len())?;
+        let at = options.number(Opt::At);
+        let change = Change::Answer {
+            numbers,
+            choice,
+            at,
+        };
+        Ok(changed(change, &options))
+    }
+
+    // The choice of an answer to so many updates, and the options.
+    fn choice_and_options(&mut self, names: &Names<'_>, count: usize) -> Result<Chosen, Refusal> {
+        let choice = if 1 < count {
+            self.common_choice()?
+        } else {
+            self.choice(names.relations)?
+        };
+        match self.options(Verb::Answer) {
+            Ok(options) => Ok((choice, options)),
+            Err(refusal) => {
+                drop(choice);
+                Err(refusal)
+            }
+        }
+    }
+
+    // The choice of an answer to several updates.
+    fn common_choice(&mut self) -> Result<SaidChoice, Refusal> {
         if self.takes_new() {
             return Ok(SaidChoice::New);
         }
@@ -28,13 +63,13 @@ impl<'a> Cursor<'a> {
     // Takes this word, if it stands here and is not the name of a relation in front of a bracket.
     fn takes_verb(&mut self, word: &str) -> bool {
         match name_run(self.rest) {
-            Some((_, rest)) if behind_blanks(rest).starts_with(b"(") => false,
+            Some((_, rest)) if after_blanks(rest).starts_with(b"(") => false,
             _ => self.take_word(word),
         }
     }
 
-    /// The choice of an answer to one update.
-    pub(crate) fn choice(&mut self, relations: &[Relation]) -> Result<SaidChoice, Refusal> {
+    // The choice of an answer to one update.
+    fn choice(&mut self, relations: &[Relation]) -> Result<SaidChoice, Refusal> {
         if self.is_number() {
             return Ok(SaidChoice::Numbers(self.candidates()?));
         }

@@ -1,6 +1,7 @@
 //! A variable of its own for each `_` of a mapping.
 
 use std::alloc::{AllocError, Global};
+use std::mem;
 use ws_written::{Atom, Rule, Term};
 
 fn is_variable(term: &Term, name: &str) -> bool {
@@ -42,7 +43,7 @@ fn name_blanks(atoms: &mut [Atom], names: &mut Vec<String>) {
         for term in atom.terms.iter_mut() {
             if is_variable(term, "_") {
                 if let Some(name) = names.pop() {
-                    *term = Term::Variable(name);
+                    drop(mem::replace(term, Term::Variable(name)));
                 }
             }
         }

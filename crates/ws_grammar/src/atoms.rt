@@ -131,12 +131,12 @@ impl<'a> Cursor<'a> {
     }
 }
 
-fn behind_white(bytes: &[u8]) -> &[u8] {
+fn after_white(bytes: &[u8]) -> &[u8] {
     text_of(bytes).trim_start_matches(is_white).as_bytes()
 }
 
-// What stands behind the bracket that closes the one here, with no other between.
-fn behind_brackets(bytes: &[u8]) -> Option<&[u8]> {
+// What stands after the bracket that closes the one here, with no other between.
+fn after_brackets(bytes: &[u8]) -> Option<&[u8]> {
     let inner = bytes.strip_prefix(b"(")?;
     let end = inner.iter().position(|b| *b == b'(' || *b == b')')?;
     inner.get(end..)?.strip_prefix(b")")
@@ -144,11 +144,11 @@ fn behind_brackets(bytes: &[u8]) -> Option<&[u8]> {
 
 // Whether a query begins with a head: `NAME(..):`.
 fn has_head(rest: &[u8]) -> bool {
-    let Some((_, behind)) = name_run(rest) else {
+    let Some((_, after)) = name_run(rest) else {
         return false;
     };
-    match behind_brackets(behind_white(behind)) {
-        Some(behind) => behind_white(behind).starts_with(b":"),
+    match after_brackets(after_white(after)) {
+        Some(after) => after_white(after).starts_with(b":"),
         None => false,
     }
 }

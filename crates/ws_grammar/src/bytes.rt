@@ -50,8 +50,8 @@ pub(crate) fn unblank_run(bytes: &[u8]) -> (&[u8], &[u8]) {
     cut(bytes, end.unwrap_or(bytes.len()))
 }
 
-/// What stands behind the leading blanks.
-pub(crate) fn behind_blanks(bytes: &[u8]) -> &[u8] {
+/// What stands after the leading blanks.
+pub(crate) fn after_blanks(bytes: &[u8]) -> &[u8] {
     let start = bytes.iter().position(|b| !is_blank(*b));
     cut(bytes, start.unwrap_or(bytes.len())).1
 }
@@ -67,8 +67,8 @@ pub(crate) fn name_run(bytes: &[u8]) -> Option<(&str, &[u8])> {
 
 /// The number that the bytes begin with, as it is written, and the rest, if they begin with one.
 pub(crate) fn number_run(bytes: &[u8]) -> Option<(&str, &[u8])> {
-    let behind = bytes.strip_prefix(b"-").unwrap_or(bytes);
-    let (digits, rest) = digit_run(behind);
+    let after = bytes.strip_prefix(b"-").unwrap_or(bytes);
+    let (digits, rest) = digit_run(after);
     if digits.is_empty() {
         return None;
     }
@@ -78,8 +78,8 @@ pub(crate) fn number_run(bytes: &[u8]) -> Option<(&str, &[u8])> {
 
 /// The two numbers of `?U.P` at the beginning of the bytes, as they are written, and the rest.
 pub(crate) fn unknown_run(bytes: &[u8]) -> Option<(&str, &str, &[u8])> {
-    let (update, behind) = digit_run(bytes.strip_prefix(b"?")?);
-    let (place, rest) = digit_run(behind.strip_prefix(b".")?);
+    let (update, after) = digit_run(bytes.strip_prefix(b"?")?);
+    let (place, rest) = digit_run(after.strip_prefix(b".")?);
     if update.is_empty() || place.is_empty() {
         return None;
     }
@@ -88,11 +88,11 @@ pub(crate) fn unknown_run(bytes: &[u8]) -> Option<(&str, &str, &[u8])> {
 
 /// The name of the option `--NAME` at the beginning of the bytes, and the rest.
 pub(crate) fn option_run(bytes: &[u8]) -> Option<(&str, &[u8])> {
-    let behind = bytes.strip_prefix(b"--")?;
-    let end = behind
+    let after = bytes.strip_prefix(b"--")?;
+    let end = after
         .iter()
         .position(|b| !b.is_ascii_alphabetic() && *b != b'-');
-    let (name, rest) = cut(behind, end.unwrap_or(behind.len()));
+    let (name, rest) = cut(after, end.unwrap_or(after.len()));
     if name.is_empty() {
         return None;
     }

@@ -90,7 +90,7 @@ impl<'a> Cursor<'a> {
         }
     }
 
-    // What stands behind `try`.
+    // What stands after `try`.
     fn attempt(&mut self, names: &Names<'_>) -> Result<Command, Refusal> {
         let at = self.at();
         let word = self.name("a command behind try")?;
@@ -142,6 +142,11 @@ pub fn read_command(alloc: Global, names: &Names<'_>, line: &str) -> Result<Opti
         return Ok(None);
     }
     let command = cursor.command(names)?;
-    let comment = cursor.comment()?;
-    Ok(Some(Said { command, comment }))
+    match cursor.comment() {
+        Ok(comment) => Ok(Some(Said { command, comment })),
+        Err(error) => {
+            drop(command);
+            Err(Refusal::from(error))
+        }
+    }
 }

@@ -1,10 +1,10 @@
 //! A place in a line, and the tokens from there on.
 
-use crate::bytes::{behind_blanks, is_blank, name_run, number_run};
+use crate::bytes::{after_blanks, is_blank, name_run, number_run};
 use std::alloc::Global;
 use ws_fault::Refusal;
 
-/// A line, and what is left of it. Behind each token blanks are passed over, and so are a comment and a last `;`.
+/// A line, and what is left of it. After each token blanks are passed over, and so are a comment and a last `;`.
 #[derive(Drop)]
 pub(crate) struct Cursor<'a> {
     pub(crate) alloc: Global,
@@ -16,7 +16,7 @@ pub(crate) struct Cursor<'a> {
 // Whether nothing but `;` and blanks is left.
 fn is_last_semicolon(rest: &[u8]) -> bool {
     match rest {
-        [b';', behind @ ..] => behind.iter().all(|b| is_blank(*b)),
+        [b';', after @ ..] => after.iter().all(|b| is_blank(*b)),
         _ => false,
     }
 }
@@ -35,9 +35,9 @@ impl<'a> Cursor<'a> {
         cursor
     }
 
-    /// Goes on at what is left, behind blanks and a comment.
+    /// Goes on at what is left, after blanks and a comment.
     pub(crate) fn go_on(&mut self, rest: &'a [u8]) {
-        self.rest = behind_blanks(rest);
+        self.rest = after_blanks(rest);
         if let Some(comment) = self.rest.strip_prefix(b"#") {
             self.comment = comment;
             self.rest = b"";
@@ -124,7 +124,7 @@ impl<'a> Cursor<'a> {
         self.fail("the end of the line")
     }
 
-    /// Behind an item between brackets: whether the list ends here.
+    /// After an item between brackets: whether the list ends here.
     pub(crate) fn closes(&mut self) -> Result<bool, Refusal> {
         if self.take_sign(")") {
             return Ok(true);

@@ -55,7 +55,7 @@ fn is_decimal_point(rest: &[u8]) -> bool {
 }
 
 // What may be done about what stands here, if it is one of the usual slips.
-fn hint_at(rest: &[u8], behind_quote: bool) -> Option<&'static str> {
+fn hint_at(rest: &[u8], after_quote: bool) -> Option<&'static str> {
     let letter = first_letter(rest)?;
     if is_quote(letter) {
         Some(QUOTES)
@@ -67,7 +67,7 @@ fn hint_at(rest: &[u8], behind_quote: bool) -> Option<&'static str> {
         Some(ARROW)
     } else if is_comparison(letter) || text_of(word_run(rest).0) == "not" {
         Some(COMMAS)
-    } else if behind_quote && name_run(rest).is_some() {
+    } else if after_quote && name_run(rest).is_some() {
         Some(ESCAPE)
     } else if letter == '\u{feff}' {
         Some(MARK)
@@ -119,7 +119,7 @@ impl<'a> Cursor<'a> {
 
     /// Something else was expected here.
     pub(crate) fn fail<T>(&self, expected: &str) -> Result<T, Refusal> {
-        let hint = hint_at(self.rest, self.is_behind_quote()).unwrap_or("");
+        let hint = hint_at(self.rest, self.is_after_quote()).unwrap_or("");
         self.fail_with(expected, hint)
     }
 
@@ -152,7 +152,7 @@ impl<'a> Cursor<'a> {
         }
     }
 
-    fn is_behind_quote(&self) -> bool {
+    fn is_after_quote(&self) -> bool {
         match self.line.get(self.at().wrapping_sub(1)) {
             Some(byte) => *byte == b'"',
             None => false,

@@ -7,7 +7,7 @@ use ws_fault::Refusal;
 use ws_written::Relation;
 
 impl<'a> Cursor<'a> {
-    /// What stands behind a verb that looks.
+    /// What stands after a verb that looks.
     pub(crate) fn look(&mut self, verb: Verb, names: &Names<'_>) -> Result<Look, Refusal> {
         match verb {
             Verb::Show => self.show(names),
@@ -36,10 +36,10 @@ impl<'a> Cursor<'a> {
     // A relation by its name, or an atom.
     fn shown(&mut self, relations: &[Relation]) -> Result<Shown, Refusal> {
         let at = self.at();
-        let behind = self.rest;
+        let after = self.rest;
         let name = self.name("a relation")?;
         if self.is_sign("(") {
-            self.rest = behind;
+            self.rest = after;
             return Ok(Shown::Rows(self.atom(relations)?));
         }
         Ok(Shown::Table(self.relation_at(relations, at, name)?))

@@ -1,4 +1,4 @@
-//! The options behind a command.
+//! The options after a command.
 
 use crate::bytes::option_run;
 use crate::cursors::Cursor;
@@ -117,7 +117,7 @@ impl<'a> Cursor<'a> {
         Ok(known)
     }
 
-    // What stands behind an option.
+    // What stands after an option.
     fn given(&mut self, opt: Opt) -> Result<Given, Refusal> {
         let name = opt.name();
         match opt.kind() {

@@ -1,47 +1,11 @@
 //! Records of the log, line by line.
 
-use crate::bytes::name_run;
 use crate::cursors::Cursor;
+use crate::stamps::record_stamp;
 use crate::standing::number_of;
 use std::alloc::{AllocError, Global};
 use ws_fault::Refusal;
-use ws_written::{Line, Record, Relation, SaidLine, Stamp};
-
-/// Whether a text is a name: a letter or `_`, and then letters, digits and `_`.
-pub fn is_name(text: &str) -> bool {
-    match name_run(text.as_bytes()) {
-        Some((_, rest)) => rest.is_empty(),
-        None => false,
-    }
-}
-
-/// Whether a text has the form of a time, `YYYY-MM-DDThh:mm:ssZ`.
-pub fn is_time(text: &str) -> bool {
-    let form = "dddd-dd-ddTdd:dd:ddZ";
-    text.len() == form.len() && text.bytes().zip(form.bytes()).all(fits_form)
-}
-
-fn fits_form(pair: (u8, u8)) -> bool {
-    if pair.1 == b'd' {
-        return pair.0.is_ascii_digit();
-    }
-    pair.0 == pair.1
-}
-
-/// The stamp of two texts, if they are a time and a name.
-pub(crate) fn stamp_of(
-    alloc: Global,
-    time: &str,
-    curator: &str,
-) -> Result<Option<Stamp>, AllocError> {
-    if !is_time(time) || !is_name(curator) {
-        return Ok(None);
-    }
-    Ok(Some(Stamp {
-        time: String::from_str(alloc, time)?,
-        curator: String::from_str(alloc, curator)?,
-    }))
-}
+use ws_written::{Line, Record, Relation, SaidLine};
 
 impl<'a> Cursor<'a> {
     fn log_line(&mut self, relations: &[Relation]) -> Result<SaidLine, Refusal> {
@@ -50,9 +14,19 @@ impl<'a> Cursor<'a> {
         } else {
             self.plain_line(relations)?
         };
+        match self.last_comment() {
+            Ok(comment) => Ok(SaidLine { line, comment }),
+            Err(refusal) => {
+                drop(line);
+                Err(refusal)
+            }
+        }
+    }
+
+    // The comment, at the end of the line.
+    fn last_comment(&self) -> Result<String, Refusal> {
         self.end()?;
-        let comment = self.comment()?;
-        Ok(SaidLine { line, comment })
+        Ok(self.comment()?)
     }
 
     // A line that is no update.
@@ -130,7 +104,7 @@ pub fn read_line(
     readable(Cursor::over(alloc, line).log_line(relations))
 }
 
-/// Declares a relation: in place of the one of its name, or behind the others.
+/// Declares a relation: in place of the one of its name, or after the others.
 pub(crate) fn declare(
     relations: &mut Vec<Relation>,
     relation: &Relation,
@@ -168,18 +142,6 @@ pub fn read_record(
     Ok(Some(Record { stamp, lines }))
 }
 
-// `TIME CURATOR`; further words are for later and are passed over.
-fn record_stamp(alloc: Global, line: &str) -> Result<Option<Stamp>, AllocError> {
-    let Some((time, rest)) = line.split_once(' ') else {
-        return Ok(None);
-    };
-    let curator = match rest.split_once(' ') {
-        Some((curator, _)) => curator,
-        None => rest,
-    };
-    stamp_of(alloc, time, curator)
-}
-
 fn record_lines(
     alloc: Global,
     relations: &[Relation],
@@ -191,12 +153,21 @@ fn record_lines(
         let Some(said) = read_line(alloc, known.as_slice(), line)? else {
             return Ok(None);
         };
-        if let Line::Relation(relation) = &said.line {
-            declare(&mut known, relation)?;
-        }
         lines.push(said)?;
+        declare_last(&mut known, lines.as_slice())?;
     }
     Ok(Some(lines))
+}
+
+// Declares the relation of the last line, if it has one.
+fn declare_last(known: &mut Vec<Relation>, lines: &[SaidLine]) -> Result<(), AllocError> {
+    let Some(said) = lines.last() else {
+        return Ok(());
+    };
+    match &said.line {
+        Line::Relation(relation) => declare(known, relation),
+        _ => Ok(()),
+    }
 }
 
 fn copies_of(alloc: Global, relations: &[Relation]) -> Result<Vec<Relation>, AllocError> {

@@ -1,31 +1,31 @@
 //! How many lines of the input belong to a line.
 
-use crate::bytes::{behind_blanks, digit_run, is_blank, name_run, option_run, unblank_run};
+use crate::bytes::{after_blanks, digit_run, is_blank, name_run, option_run, unblank_run};
 
-// What stands behind the text between quotes that begins here; None if it is not closed.
-fn behind_text(bytes: &[u8]) -> Option<&[u8]> {
+// What stands after the text between quotes that begins here; None if it is not closed.
+fn after_text(bytes: &[u8]) -> Option<&[u8]> {
     let mut rest = bytes.strip_prefix(b"\"")?;
     for _ in 0..u64::MAX {
         match rest {
             [] => return None,
-            [b'"', behind @ ..] => return Some(behind),
-            [b'\\', _, behind @ ..] => rest = behind,
-            [_, behind @ ..] => rest = behind,
+            [b'"', after @ ..] => return Some(after),
+            [b'\\', _, after @ ..] => rest = after,
+            [_, after @ ..] => rest = after,
         }
     }
     None
 }
 
-// What stands behind `load` or `try load`.
-fn behind_load(line: &[u8]) -> Option<&[u8]> {
-    let (word, rest) = name_run(behind_blanks(line))?;
+// What stands after `load` or `try load`.
+fn after_load(line: &[u8]) -> Option<&[u8]> {
+    let (word, rest) = name_run(after_blanks(line))?;
     if word == "load" {
         return Some(rest);
     }
     if word != "try" || !is_blank(*rest.first()?) {
         return None;
     }
-    match name_run(behind_blanks(rest))? {
+    match name_run(after_blanks(rest))? {
         ("load", rest) => Some(rest),
         _ => None,
     }
@@ -34,7 +34,7 @@ fn behind_load(line: &[u8]) -> Option<&[u8]> {
 // The number of `--lines N` at the beginning of the bytes.
 fn lines_here(bytes: &[u8]) -> Option<u64> {
     let (name, rest) = option_run(bytes)?;
-    let (digits, _) = digit_run(behind_blanks(rest));
+    let (digits, _) = digit_run(after_blanks(rest));
     if name != "lines" || digits.is_empty() {
         return None;
     }
@@ -42,9 +42,9 @@ fn lines_here(bytes: &[u8]) -> Option<u64> {
     Some(digits.parse::<u64>().unwrap_or(u64::MAX))
 }
 
-// What stands behind the token here.
-fn behind_token(bytes: &[u8]) -> &[u8] {
-    if let Some(rest) = behind_text(bytes) {
+// What stands after the token here.
+fn after_token(bytes: &[u8]) -> &[u8] {
+    if let Some(rest) = after_text(bytes) {
         return rest;
     }
     if let Some((_, rest)) = option_run(bytes) {
@@ -56,21 +56,21 @@ fn behind_token(bytes: &[u8]) -> &[u8] {
 /// How many of the next lines of the input belong to this one, also if it is refused: those of `load .. --lines N` or
 /// `try load .. --lines N`, outside texts and comments; else 0.
 pub fn lines_of(line: &str) -> u64 {
-    let Some(mut rest) = behind_load(line.as_bytes()) else {
+    let Some(mut rest) = after_load(line.as_bytes()) else {
         return 0;
     };
-    if let Some((_, behind)) = name_run(behind_blanks(rest)) {
-        rest = behind;
+    if let Some((_, after)) = name_run(after_blanks(rest)) {
+        rest = after;
     }
     for _ in 0..u64::MAX {
-        rest = behind_blanks(rest);
+        rest = after_blanks(rest);
         if rest.is_empty() || rest.starts_with(b"#") {
             return 0;
         }
         if let Some(lines) = lines_here(rest) {
             return lines;
         }
-        rest = behind_token(rest);
+        rest = after_token(rest);
     }
     0
 }

@@ -12,7 +12,7 @@ const CLOSE: &str = "it ends with a \" on the same line";
 
 const ESCAPES: &str = "a backslash is followed by one of \" \\ n u{..}";
 
-// The hexadecimal digits of `\u{HEX}` behind its brace, one to six, and what stands behind the closing one.
+// The hexadecimal digits of `\u{HEX}` after its brace, one to six, and what stands after the closing one.
 fn hex_run(bytes: &[u8]) -> Option<(&str, &[u8])> {
     let end = bytes.iter().position(|b| !b.is_ascii_hexdigit())?;
     let (digits, rest) = cut(bytes, end);
@@ -59,7 +59,7 @@ impl<'a> Cursor<'a> {
         self.closed_text(open, bytes)
     }
 
-    // Goes on behind some bytes, where a text does not end.
+    // Goes on after some bytes, where a text does not end.
     fn pass(&mut self, count: usize) {
         self.rest = cut(self.rest, count).1;
     }

@@ -2,7 +2,9 @@
 
 use crate::cursors::Cursor;
 use ws_fault::Refusal;
-use ws_written::{Answer, Choice, NumberedUpdate, Question, Relation, STEPS, Update, Value};
+use ws_written::{
+    Answer, Choice, NewFact, NumberedUpdate, Question, Relation, STEPS, Update, Value,
+};
 
 impl<'a> Cursor<'a> {
     /// `N [steps N] UPDATE`.
@@ -46,8 +48,14 @@ impl<'a> Cursor<'a> {
             return Ok(Update::Fill(unknown, self.value()?));
         }
         let old = self.fact(relations)?;
+        let new = self.with_new_fact(relations)?;
+        Ok(Update::Change(old, new))
+    }
+
+    // `with` and a tuple in which new unknowns may stand.
+    fn with_new_fact(&mut self, relations: &[Relation]) -> Result<NewFact, Refusal> {
         self.with()?;
-        Ok(Update::Change(old, self.new_fact(relations)?))
+        self.new_fact(relations)
     }
 
     // `fix m(V, ..)`, or `fix m()` if no variable stands on both sides.
@@ -72,16 +80,26 @@ impl<'a> Cursor<'a> {
         Ok(values)
     }
 
-    /// `CHOICE to NAME FACT, ..`, behind the verb and the number of an answer.
+    /// `CHOICE to NAME FACT, ..`, after the verb and the number of an answer.
     pub(crate) fn answer(&mut self, relations: &[Relation]) -> Result<Answer, Refusal> {
         let choice = self.chosen(relations)?;
+        match self.question(relations) {
+            Ok(question) => Ok(Answer { choice, question }),
+            Err(refusal) => {
+                drop(choice);
+                Err(refusal)
+            }
+        }
+    }
+
+    // `to NAME FACT, ..`.
+    fn question(&mut self, relations: &[Relation]) -> Result<Question, Refusal> {
         if !self.take_word("to") {
             return self.fail("to");
         }
         let mapping = self.owned_name()?;
         let facts = self.facts(relations)?;
-        let question = Question { mapping, facts };
-        Ok(Answer { choice, question })
+        Ok(Question { mapping, facts })
     }
 
     fn chosen(&mut self, relations: &[Relation]) -> Result<Choice, Refusal> {

@@ -22,11 +22,11 @@ fn is_null_word(word: &str) -> bool {
         || word.eq_ignore_ascii_case("unknown")
 }
 
-// What stands behind `?` or `?x` of a new unknown, and its name; None if a digit follows.
+// What stands after `?` or `?x` of a new unknown, and its name; None if a digit follows.
 fn new_run(bytes: &[u8]) -> Option<(&str, &[u8])> {
     let rest = bytes.strip_prefix(b"?")?;
-    if let Some((name, behind)) = name_run(rest) {
-        return Some((name, behind));
+    if let Some((name, after)) = name_run(rest) {
+        return Some((name, after));
     }
     match rest.first() {
         Some(byte) if byte.is_ascii_digit() => None,

@@ -1,22 +1,20 @@
 //! `questions`: what waits, and for which answer.
 
+use crate::question_told::{lines, objects};
 use crate::waiting::waiting_numbers;
-use crate::written::{copied, object_of, objects_reply, refused, text_reply};
 use base_types::Memory;
 use std::alloc::Global;
 use ws_fault::{Refusal, Status as Code};
-use ws_json::Object;
-use ws_question::{
-    AskedNow, Shown, asked_now, question_lines, question_object, reason_words, status_of,
-    status_word,
-};
+use ws_question::{AskedNow, Shown, asked_now, reason_words, status_of, status_word};
 use ws_reply::{Context, Reply};
 use ws_run::Reason;
+use ws_seen::{refused, seen_objects, seen_text};
 use ws_space::Space;
 use ws_state::Status;
 
 // How many candidates are shown of each question, and how many of one that is asked for.
 const OF_EACH: usize = 10;
+
 const OF_ONE: usize = 50;
 
 /// Which questions are told: that of an update, or all; with which of their candidates; and whether only one's own.
@@ -28,20 +26,20 @@ pub(crate) struct Wanted<'a> {
     pub limit: Option<u32>,
 }
 
-// An update that waits: its question, or why it waits without one.
+/// An update that waits: its question, or why it waits without one.
 #[derive(Drop)]
-struct Told {
-    number: u32,
-    asked: Option<AskedNow>,
-    kind: &'static str,
-    words: String,
+pub(crate) struct Told {
+    pub number: u32,
+    pub asked: Option<AskedNow>,
+    pub kind: &'static str,
+    pub words: String,
 }
 
-// How its candidates are told.
+/// How its candidates are told.
 #[derive(Clone, Copy)]
-struct Telling<'a> {
-    like: Option<&'a str>,
-    limit: usize,
+pub(crate) struct Telling<'a> {
+    pub like: Option<&'a str>,
+    pub limit: usize,
 }
 
 /// The updates that wait, each with its question, or why it waits. The questions count as shown. It is refused if an update that
@@ -68,10 +66,10 @@ pub(crate) fn questions(
     };
     if context.is_json() {
         let objects = objects(alloc, space, told.as_slice(), telling)?;
-        return Ok(objects_reply(alloc, Code::Done, objects)?);
+        return Ok(seen_objects(alloc, Code::Done, objects)?);
     }
     let lines = lines(alloc, space, told.as_slice(), telling)?;
-    Ok(text_reply(Code::Done, lines))
+    Ok(seen_text(Code::Done, lines))
 }
 
 fn limit_of(wanted: Wanted<'_>) -> usize {
@@ -145,94 +143,4 @@ fn kind_of(reason: Option<&Reason>) -> &'static str {
         Some(Reason::Violated(_)) => "violated",
         Some(Reason::Gone(_)) => "gone",
     }
-}
-
-fn lines(
-    alloc: Global,
-    space: &Space,
-    told: &[Told],
-    telling: Telling<'_>,
-) -> Result<Vec<String>, Memory> {
-    let mut lines = Vec::new(alloc);
-    for one in told {
-        if !lines.is_empty() {
-            lines.push(String::new(alloc))?;
-        }
-        add_lines(alloc, &mut lines, space, one, telling)?;
-    }
-    if lines.is_empty() {
-        lines.push(copied(alloc, "no questions")?)?;
-    }
-    Ok(lines)
-}
-
-fn add_lines(
-    alloc: Global,
-    lines: &mut Vec<String>,
-    space: &Space,
-    told: &Told,
-    telling: Telling<'_>,
-) -> Result<(), Memory> {
-    let number = told.number;
-    let curator = space.curator_of(number);
-    let line = space.update_text(alloc, number)?;
-    lines.push(format!(in alloc; "{number} {curator}: {line}")?)?;
-    let Some(asked) = &told.asked else {
-        let words = told.words.as_str();
-        lines.push(format!(in alloc; "  {words}")?)?;
-        return Ok(());
-    };
-    let question = question_lines(alloc, space, asked, telling.like, telling.limit)?;
-    for line in question.iter() {
-        lines.push(format!(in alloc; "  {line}")?)?;
-    }
-    if asked.misfit {
-        lines.push(copied(alloc, "  an answer that it had does not fit any more")?)?;
-    }
-    Ok(())
-}
-
-fn objects(
-    alloc: Global,
-    space: &Space,
-    told: &[Told],
-    telling: Telling<'_>,
-) -> Result<Vec<Object>, Memory> {
-    let mut objects = Vec::new(alloc);
-    for one in told {
-        objects.push(object(alloc, space, one, telling)?)?;
-    }
-    if objects.is_empty() {
-        let mut object = object_of(alloc, "question")?;
-        object.text("kind", "nothing")?;
-        object.number("at", i64::from(space.at()))?;
-        objects.push(object)?;
-    }
-    Ok(objects)
-}
-
-fn object(
-    alloc: Global,
-    space: &Space,
-    told: &Told,
-    telling: Telling<'_>,
-) -> Result<Object, Memory> {
-    let mut object = match &told.asked {
-        Some(asked) => question_object(alloc, space, asked, telling.like, telling.limit)?,
-        None => unasked(alloc, told)?,
-    };
-    object.text("reply", "question")?;
-    object.number("number", i64::from(told.number))?;
-    object.text("curator", space.curator_of(told.number))?;
-    object.text("line", space.update_text(alloc, told.number)?.as_str())?;
-    object.number("at", i64::from(space.at()))?;
-    object.text("time", space.time_of(told.number))?;
-    Ok(object)
-}
-
-fn unasked(alloc: Global, told: &Told) -> Result<Object, Memory> {
-    let mut object = Object::new(alloc);
-    object.text("kind", told.kind)?;
-    object.text("words", told.words.as_str())?;
-    Ok(object)
 }

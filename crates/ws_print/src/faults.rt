@@ -52,7 +52,7 @@ fn add_mark(out: &mut String, alloc: Global, line: &str, place: usize) -> Result
     out.push('^')
 }
 
-/// A fault of a line, which in a script has a number: lines without `yt: ` in front and a line feed behind.
+/// A fault of a line, which in a script has a number: lines without `yt: ` in front, and without a last line feed.
 pub fn add_fault(
     out: &mut String,
     alloc: Global,

@@ -6,7 +6,7 @@ use std::alloc::{AllocError, Global};
 use unicode_width::UnicodeWidthStr;
 use ws_written::Value;
 
-/// A cell of a table: a text stands bare where it cannot be taken for anything else.
+/// A cell of a table: a text stands bare if it cannot be taken for anything else.
 pub fn add_cell(out: &mut String, value: &Value) -> Result<(), AllocError> {
     match value {
         Value::Text(text) => {

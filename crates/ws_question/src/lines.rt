@@ -60,9 +60,9 @@ fn add_candidates(
     if limit < found.fit {
         let more = found.fit.saturating_sub(limit);
         let number = asked.number;
-        lines.push(
-            format!(in alloc; "  .. and {more} more: questions {number} --like TEXT, or --limit N")?,
-        )?;
+        lines.push(format!(in alloc;
+            "  .. and {more} more: questions {number} --like TEXT, or --limit N"
+        )?)?;
     }
     if found.fit == 0 {
         add_none_like(alloc, lines, asked, like)?;

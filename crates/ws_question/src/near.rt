@@ -67,7 +67,10 @@ fn count_sharing(
             return Ok(());
         };
         let count = counts.get(tuple).copied().unwrap_or(0);
-        if counts.insert(tuple.share()?, count.saturating_add(1)).is_err() {
+        if counts
+            .insert(tuple.share()?, count.saturating_add(1))
+            .is_err()
+        {
             return Err(Memory);
         }
         past = Some(tuple);

@@ -25,8 +25,14 @@ pub fn question_object(
     add_mapping(alloc, &mut object, space, asked)?;
     add_candidates(alloc, &mut object, space, asked, like, limit)?;
     object.number("count", as_number(asked.count()))?;
-    object.items("since", facts(alloc, space, asked.question.since.as_slice())?)?;
-    object.items("so_far", so_far(alloc, space, asked.question.so_far.as_slice())?)?;
+    object.items(
+        "since",
+        facts(alloc, space, asked.question.since.as_slice())?,
+    )?;
+    object.items(
+        "so_far",
+        so_far(alloc, space, asked.question.so_far.as_slice())?,
+    )?;
     if let Some(wanted) = asked.wanted() {
         object.text("wanted", fact_text(alloc, space, wanted)?.as_str())?;
     }

@@ -1,6 +1,6 @@
 //! The order in which candidates are shown.
 
-use base_types::{Memory, Tuple, TryCopy, Value, Write};
+use base_types::{Memory, TryCopy, Tuple, Value, Write};
 use std::alloc::Global;
 use std::collections::BTreeSet;
 use ws_run::Question;

@@ -8,14 +8,22 @@ use ws_space::{Space, unknown_of};
 /// A tuple by names, as a command takes it. It is refused only for want of memory.
 pub fn fact_text(alloc: Global, space: &Space, tuple: &Tuple) -> Result<String, Memory> {
     let mut text = String::new(alloc);
-    add_fact(&mut text, space.relations.as_slice(), &space.fact(alloc, tuple)?)?;
+    add_fact(
+        &mut text,
+        space.relations.as_slice(),
+        &space.fact(alloc, tuple)?,
+    )?;
     Ok(text)
 }
 
 /// A tuple within, as a command takes it. It is refused only for want of memory.
 pub fn inner_text(alloc: Global, space: &Space, tuple: &Tuple) -> Result<String, Memory> {
     let mut text = String::new(alloc);
-    add_fact(&mut text, space.relations.as_slice(), &space.shown(alloc, tuple)?)?;
+    add_fact(
+        &mut text,
+        space.relations.as_slice(),
+        &space.shown(alloc, tuple)?,
+    )?;
     Ok(text)
 }
 
@@ -34,11 +42,7 @@ pub fn count_text(alloc: Global, count: usize, noun: &str) -> Result<String, Mem
 }
 
 /// The tuples by names, between commas. It is refused only for want of memory.
-pub(crate) fn facts_text(
-    alloc: Global,
-    space: &Space,
-    tuples: &[Tuple],
-) -> Result<String, Memory> {
+pub(crate) fn facts_text(alloc: Global, space: &Space, tuples: &[Tuple]) -> Result<String, Memory> {
     let mut text = String::new(alloc);
     for tuple in tuples {
         if !text.is_empty() {

@@ -1,0 +1,196 @@
+//! `log N`: what one update did.
+
+use base_types::{Memory, Write};
+use std::alloc::Global;
+use ws_fault::{Refusal, Status as Code};
+use ws_json::Object;
+use ws_lines::Given;
+use ws_print::{add_choice, add_count};
+use ws_question::{fact_text, reason_words, status_of, status_word};
+use ws_reply::{Context, Reply};
+use ws_seen::{object_of, seen_object, seen_text, text_items};
+use ws_space::Space;
+use ws_state::{Standing, Status};
+use ws_written::Line;
+
+// An update: its answers, how it stands, in words, and what it wrote.
+#[derive(Drop)]
+struct Told {
+    number: u32,
+    status: Status,
+    words: String,
+    answers: Vec<String>,
+    writes: Vec<Wrote>,
+}
+
+// A tuple that came or went.
+#[derive(Drop)]
+struct Wrote {
+    sign: &'static str,
+    text: String,
+}
+
+/// The update of this number: its line, its answers, how it stands, and what it wrote. It is refused if there is none, or for
+/// want of memory.
+pub(crate) fn log_one(
+    alloc: Global,
+    space: &mut Space,
+    context: &Context<'_>,
+    number: u32,
+) -> Result<Reply, Refusal> {
+    let status = status_of(alloc, space, number)?;
+    let told = told_of(alloc, space, number, status)?;
+    if context.is_json() {
+        return Ok(seen_object(alloc, Code::Done, object(alloc, space, &told)?)?);
+    }
+    let lines = lines(alloc, space, &told)?;
+    Ok(seen_text(Code::Done, lines))
+}
+
+fn told_of(alloc: Global, space: &mut Space, number: u32, status: Status) -> Result<Told, Memory> {
+    let words = match status {
+        Status::Waits => {
+            let reason = space.question(alloc, number)?;
+            let words = reason_words(alloc, space, reason.as_ref())?;
+            format!(in alloc; "waits: {words}")?
+        }
+        other => String::from_str(alloc, status_word(other))?,
+    };
+    let mut told = Told {
+        number,
+        status,
+        words,
+        answers: Vec::new(alloc),
+        writes: Vec::new(alloc),
+    };
+    if let Some(standing) = standing_of(space, number) {
+        told.words = done_words(alloc, standing)?;
+        told.writes = writes_of(alloc, space, standing)?;
+    }
+    told.answers = answers_of(alloc, space, number)?;
+    Ok(told)
+}
+
+fn is_held(space: &Space, held: usize, number: u32) -> bool {
+    match space.state.held().get(held) {
+        Some(held) => held.update.number == number,
+        None => false,
+    }
+}
+
+fn standing_of(space: &Space, number: u32) -> Option<&Standing> {
+    let order = space.state.order().as_slice();
+    order
+        .iter()
+        .find(|standing| is_held(space, standing.held, number))
+}
+
+// `done in K steps, with L unknowns`.
+fn done_words(alloc: Global, standing: &Standing) -> Result<String, Memory> {
+    let mut words = String::from_str(alloc, "done in ")?;
+    add_count(&mut words, standing.steps.len(), "step")?;
+    words.push_str(", with ")?;
+    let mut drawn = 0u32;
+    for op in standing.ops.as_slice() {
+        drawn = drawn.saturating_add(op.drawn);
+    }
+    add_count(&mut words, drawn as usize, "unknown")?;
+    Ok(words)
+}
+
+fn writes_of(alloc: Global, space: &Space, standing: &Standing) -> Result<Vec<Wrote>, Memory> {
+    let mut writes = Vec::new(alloc);
+    for write in standing.writes.as_slice() {
+        let (sign, tuple) = match write {
+            Write::Insert(tuple) => ("+", tuple),
+            Write::Delete(tuple) => ("-", tuple),
+        };
+        let text = fact_text(alloc, space, tuple)?;
+        writes.push(Wrote { sign, text })?;
+    }
+    Ok(writes)
+}
+
+// The choices of the answers that it took; of one that neither stands nor waits those that were given to it.
+fn answers_of(alloc: Global, space: &Space, number: u32) -> Result<Vec<String>, Memory> {
+    if let Some(standing) = standing_of(space, number) {
+        return choices(alloc, space, standing.answers.as_slice());
+    }
+    let waiting = space.state.waiting().as_slice();
+    if let Some(waiting) = waiting
+        .iter()
+        .find(|waiting| is_held(space, waiting.held, number))
+    {
+        return choices(alloc, space, waiting.answers.as_slice());
+    }
+    given(alloc, space, number)
+}
+
+fn choices(alloc: Global, space: &Space, answers: &[Given]) -> Result<Vec<String>, Memory> {
+    let mut choices = Vec::new(alloc);
+    for given in answers {
+        let answer = space.said_answer(alloc, given)?;
+        let mut text = String::new(alloc);
+        add_choice(&mut text, space.relations.as_slice(), &answer.choice)?;
+        choices.push(text)?;
+    }
+    Ok(choices)
+}
+
+// What the log has of answers to it, those that were taken back apart.
+fn given(alloc: Global, space: &Space, number: u32) -> Result<Vec<String>, Memory> {
+    let mut given = Vec::new(alloc);
+    for recorded in space.records.iter() {
+        for said in recorded.record.lines.iter() {
+            match &said.line {
+                Line::Answer(answered, answer) if *answered == number => {
+                    let mut text = String::new(alloc);
+                    add_choice(&mut text, space.relations.as_slice(), &answer.choice)?;
+                    given.push(text)?;
+                }
+                Line::UndoAnswers(numbers) if numbers.contains(&number) => given.clear(),
+                _ => (),
+            }
+        }
+    }
+    Ok(given)
+}
+
+fn lines(alloc: Global, space: &Space, told: &Told) -> Result<Vec<String>, Memory> {
+    let number = told.number;
+    let time = space.time_of(number);
+    let curator = space.curator_of(number);
+    let line = space.update_text(alloc, number)?;
+    let mut lines = Vec::new(alloc);
+    lines.push(format!(in alloc; "{number}  {time}  {curator}  {line}")?)?;
+    for answer in told.answers.iter() {
+        lines.push(format!(in alloc; "  answer {answer}")?)?;
+    }
+    let words = told.words.as_str();
+    lines.push(format!(in alloc; "  {words}")?)?;
+    for wrote in told.writes.iter() {
+        let sign = wrote.sign;
+        let text = wrote.text.as_str();
+        lines.push(format!(in alloc; "  {sign} {text}")?)?;
+    }
+    Ok(lines)
+}
+
+fn object(alloc: Global, space: &Space, told: &Told) -> Result<Object, Memory> {
+    let number = told.number;
+    let mut writes = Vec::new(alloc);
+    for wrote in told.writes.iter() {
+        let sign = wrote.sign;
+        let text = wrote.text.as_str();
+        writes.push(format!(in alloc; "{sign}{text}")?)?;
+    }
+    let mut object = object_of(alloc, "update")?;
+    object.number("number", i64::from(number))?;
+    object.text("curator", space.curator_of(number))?;
+    object.text("time", space.time_of(number))?;
+    object.text("line", space.update_text(alloc, number)?.as_str())?;
+    object.text("state", status_word(told.status))?;
+    object.items("answers", text_items(alloc, told.answers.as_slice())?)?;
+    object.items("writes", text_items(alloc, writes.as_slice())?)?;
+    Ok(object)
+}

@@ -1,0 +1,90 @@
+//! The object of `status`.
+
+use crate::counts::Counts;
+use crate::status::last_part;
+use base_types::Memory;
+use std::alloc::Global;
+use ws_json::{Items, Object};
+use ws_print::add_stamp;
+use ws_reply::Context;
+use ws_seen::{number_items, number_of, object_of};
+use ws_space::Space;
+use ws_written::Relation;
+
+/// What is here. It is refused only for want of memory.
+pub(crate) fn status_object(
+    alloc: Global,
+    space: &Space,
+    context: &Context<'_>,
+    counts: &Counts,
+) -> Result<Object, Memory> {
+    let mut object = object_of(alloc, "status")?;
+    object.text("file", last_part(context.file))?;
+    object.number("at", i64::from(space.at()))?;
+    object.number("last", i64::from(space.state.last()))?;
+    object.text("curator", context.curator)?;
+    let mut created = String::new(alloc);
+    add_stamp(&mut created, &space.created)?;
+    object.text("created", created.as_str())?;
+    object.number("folded", i64::from(space.folded))?;
+    object.number("stand", number_of(space.state.order().len()))?;
+    object.number("unknowns", number_of(counts.unknowns))?;
+    object.items("relations", relation_items(alloc, space, counts)?)?;
+    object.items("in_force", in_force_items(alloc, space)?)?;
+    object.object("proposed", proposed_object(alloc, space, counts)?)?;
+    object.items("waits", waiting_items(alloc, space, counts)?)?;
+    Ok(object)
+}
+
+fn relation_items(alloc: Global, space: &Space, counts: &Counts) -> Result<Items, Memory> {
+    let mut items = Items::new(alloc);
+    for (relation, count) in space.relations.iter().zip(counts.rows.iter()) {
+        items.object(relation_object(alloc, relation, *count)?)?;
+    }
+    Ok(items)
+}
+
+fn relation_object(alloc: Global, relation: &Relation, count: usize) -> Result<Object, Memory> {
+    let mut object = Object::new(alloc);
+    object.text("name", relation.name.as_str())?;
+    let mut columns = Items::new(alloc);
+    let mut key = Vec::new(alloc);
+    for (place, column) in relation.columns.iter().enumerate() {
+        columns.text(column.name.as_str())?;
+        if column.key {
+            key.push(u32::try_from(place).unwrap_or(u32::MAX).saturating_add(1))?;
+        }
+    }
+    object.items("columns", columns)?;
+    object.items("key", number_items(alloc, key.as_slice())?)?;
+    object.number("count", number_of(count))?;
+    Ok(object)
+}
+
+fn in_force_items(alloc: Global, space: &Space) -> Result<Items, Memory> {
+    let mut items = Items::new(alloc);
+    for mapping in space.state.in_force() {
+        items.text(space.mapping_name(*mapping))?;
+    }
+    Ok(items)
+}
+
+fn proposed_object(alloc: Global, space: &Space, counts: &Counts) -> Result<Object, Memory> {
+    let mut object = Object::new(alloc);
+    for (mapping, count) in counts.proposed.iter() {
+        object.number(space.mapping_name(*mapping), number_of(*count))?;
+    }
+    Ok(object)
+}
+
+fn waiting_items(alloc: Global, space: &Space, counts: &Counts) -> Result<Items, Memory> {
+    let mut items = Items::new(alloc);
+    for waiting in counts.waiting.iter() {
+        let mut object = Object::new(alloc);
+        object.number("number", i64::from(*waiting))?;
+        object.text("curator", space.curator_of(*waiting))?;
+        object.text("line", space.update_text(alloc, *waiting)?.as_str())?;
+        items.object(object)?;
+    }
+    Ok(items)
+}
