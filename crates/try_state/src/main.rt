@@ -19,6 +19,7 @@ fn done(alloc: Global, state: State, text: &str) -> anyhow::Result<(State, Strin
     let mut state = state;
     match command_of(alloc, text)? {
         Command::Line(line) => {
+            try_first(alloc, &mut state, text)?;
             let told = taken(alloc, &mut state, line)?;
             Ok((state, told))
         }
@@ -40,6 +41,15 @@ fn done(alloc: Global, state: State, text: &str) -> anyhow::Result<(State, Strin
             }
         }
     }
+}
+
+// Takes the line, and goes back, so that all that comes after it tells whether the state is as it was.
+fn try_first(alloc: Global, state: &mut State, text: &str) -> Result<(), Memory> {
+    let point = state.point(alloc)?;
+    if let Command::Line(line) = command_of(alloc, text)? {
+        state.take(alloc, line)?;
+    }
+    state.back_to(alloc, point)
 }
 
 fn taken(alloc: Global, state: &mut State, line: Line) -> Result<String, Memory> {

@@ -76,7 +76,7 @@ pub fn tell_reason(
             add(text, "lost ")?;
             add_null(alloc, text, *name)
         }
-        Some(Reason::TooLong) => add(text, "spent"),
+        Some(Reason::TooLong(_)) => add(text, "spent"),
         Some(Reason::Violated(mapping)) => {
             add(text, format!(in alloc; "violated {mapping}")?.as_str())
         }

@@ -3,9 +3,8 @@
 use crate::choosing::{answer_to, choose};
 use crate::done::Done;
 use crate::faults::{refuse, refuse_with};
-use crate::records::{has_answers, steps_of};
+use crate::records::{answered_numbers, steps_of};
 use crate::same::check_since;
-use crate::spending::spent_fault;
 use std::alloc::{AllocError, Global};
 use ws_command::SaidChoice;
 use ws_fault::{Refusal, Status as Comes};
@@ -15,7 +14,7 @@ use ws_question::{
     AskedNow, Shown, asked_now, count_text, question_lines, question_next, reason_words, status_of,
 };
 use ws_reply::Context;
-use ws_report::{CANDIDATES, Report};
+use ws_report::{CANDIDATES, Report, spent_fault};
 use ws_run::{Question, Reason};
 use ws_space::Space;
 use ws_state::{Mark, Status, Told};
@@ -76,7 +75,7 @@ fn check_waits(alloc: Global, space: &Space, number: u32) -> Result<(), Refusal>
         Status::GivenUp => "given up",
     };
     let words = format!(in alloc; "update {number} waits for no answer: it is {stands}")?;
-    if stands == "done" && has_answers(space, number) {
+    if stands == "done" && answered_numbers(alloc, space)?.contains(&number) {
         let hint = format!(in alloc; "undo {number} --answers makes it ask again")?;
         return refuse(alloc, words.as_str(), hint.as_str());
     }
@@ -185,7 +184,10 @@ fn take(
     match reason {
         None => answered.done(alloc, space),
         Some(Reason::Asks(question)) => answered.waits(alloc, space, question),
-        Some(Reason::TooLong) => Err(spent_fault(alloc, space, steps_of(space, number))?),
+        Some(Reason::TooLong(made)) => {
+            let steps = steps_of(space, number);
+            Err(spent_fault(alloc, space, steps, &made)?)
+        }
         Some(other) => answered.cannot(alloc, space, &other),
     }
 }

@@ -18,7 +18,7 @@ use ws_written::{Line, Rule};
 const TOLD: usize = 3;
 
 /// Declares a mapping. It comes into force if it has no violation, and is proposed else. It is refused if its name is taken,
-/// if it closes a circle without an unknown, or at a limit.
+/// if it closes a plain cycle, or at a limit.
 pub(crate) fn declare_mapping(
     alloc: Global,
     space: &mut Space,

@@ -8,7 +8,7 @@ mod answering;
 mod bounds;
 mod changes;
 mod choosing;
-mod circles;
+mod cycles;
 mod declaring;
 mod deleting;
 mod done;
@@ -29,7 +29,6 @@ mod same;
 mod several;
 mod single;
 mod speaking;
-mod spending;
 mod undoing;
 
 pub use crate::changes::change;

@@ -4,8 +4,7 @@ use crate::done::Done;
 use crate::faults::{refuse, refuse_with};
 use crate::fitting::fitting_facts;
 use crate::names::{
-    check_fact, check_new_fact, check_unknown, check_value, is_there, same_fact,
-    same_value,
+    check_fact, check_new_fact, check_unknown, check_value, is_there, same_fact, same_value,
 };
 use crate::single::single;
 use def_memory::Memory;

@@ -1,10 +1,10 @@
 //! Updates that are taken, one at a time.
 
 use crate::faults::refused;
-use crate::spending::spent_fault;
 use std::alloc::{AllocError, Global};
 use ws_fault::Refusal;
 use ws_print::{add_line, add_update};
+use ws_report::spent_fault;
 use ws_run::Reason;
 use ws_space::{Space, unknown_of};
 use ws_state::Told;
@@ -44,7 +44,7 @@ pub(crate) fn take_update(
         Some(Reason::NotThere(name)) => {
             Err(Refusal::Fault(space.lost(alloc, unknown_of(name))?))
         }
-        Some(Reason::TooLong) => Err(spent_fault(alloc, space, steps)?),
+        Some(Reason::TooLong(made)) => Err(spent_fault(alloc, space, steps, &made)?),
         reason => Ok(Taken {
             number,
             line,

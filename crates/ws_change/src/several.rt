@@ -3,13 +3,13 @@
 use crate::choosing::answer_to;
 use crate::done::Done;
 use crate::faults::refuse;
-use crate::records::{is_waiting, steps_of};
-use crate::spending::spent_fault;
-use std::alloc::{AllocError, Global};
+use crate::records::{is_waiting, steps_of, waiting_numbers};
+use def_memory::Memory;
+use std::alloc::Global;
 use ws_command::SaidChoice;
 use ws_fault::{Refusal, Status};
 use ws_question::status_of;
-use ws_report::{Counted, Report, Telling, ranges_text};
+use ws_report::{Counted, Report, Telling, ranges_text, spent_fault};
 use ws_run::Reason;
 use ws_space::Space;
 use ws_state::Told;
@@ -62,17 +62,24 @@ fn is_go(choice: &SaidChoice) -> bool {
 
 // Those of the updates that wait.
 fn waiting_of(alloc: Global, space: &Space, numbers: &[u32]) -> Result<Vec<u32>, Refusal> {
-    let mut waiting = Vec::new(alloc);
-    for number in numbers {
-        if is_waiting(space, *number) {
-            waiting.push(*number)?;
-        }
-    }
+    let waiting = among(alloc, space, numbers)?;
     if waiting.is_empty() {
         if let Some(first) = numbers.first() {
             status_of(alloc, space, *first)?;
         }
         return refuse(alloc, "none of these updates waits", "");
+    }
+    Ok(waiting)
+}
+
+// Those of the updates that wait, in the same order.
+fn among(alloc: Global, space: &Space, numbers: &[u32]) -> Result<Vec<u32>, Memory> {
+    let all = waiting_numbers(alloc, space)?;
+    let mut waiting = Vec::new(alloc);
+    for number in numbers {
+        if all.contains(number) {
+            waiting.push(*number)?;
+        }
     }
     Ok(waiting)
 }
@@ -131,8 +138,8 @@ impl Answers {
         line: Line,
     ) -> Result<Option<Reason>, Refusal> {
         let Told { reason, .. } = space.take(alloc, &line)?;
-        if let Some(Reason::TooLong) = &reason {
-            return Err(spent_fault(alloc, space, steps_of(space, number))?);
+        if let Some(Reason::TooLong(made)) = &reason {
+            return Err(spent_fault(alloc, space, steps_of(space, number), made)?);
         }
         self.lines.push(line)?;
         if reason.is_none() {
@@ -149,7 +156,8 @@ impl Answers {
         text: String,
     ) -> Result<Done, Refusal> {
         let Answers { lines, done } = self;
-        let left = left_of(alloc, space, take)?;
+        let mut left = among(alloc, space, take)?;
+        left.sort_unstable();
         let mut report = Report::of(alloc, Status::Done, "done", text);
         report.telling = Telling::Brief;
         add_ranges(alloc, &mut report, "done: ", done.as_slice())?;
@@ -165,18 +173,6 @@ impl Answers {
         });
         Ok(Done { report, lines })
     }
-}
-
-// Those of the updates that wait still, rising.
-fn left_of(alloc: Global, space: &Space, numbers: &[u32]) -> Result<Vec<u32>, AllocError> {
-    let mut left = Vec::new(alloc);
-    for number in numbers {
-        if is_waiting(space, *number) {
-            left.push(*number)?;
-        }
-    }
-    left.sort_unstable();
-    Ok(left)
 }
 
 fn add_ranges(

@@ -2,7 +2,7 @@
 
 use crate::done::Done;
 use crate::faults::refuse;
-use crate::records::{has_answers, is_waiting};
+use crate::records::{answered_numbers, undone_numbers, waiting_numbers};
 use crate::running::told_line;
 use base_types::TupleList;
 use def_memory::Memory;
@@ -37,23 +37,23 @@ fn parted(
         take: Vec::new(alloc),
         rest: Vec::new(alloc),
     };
+    let fit = undone_numbers(alloc, space, is_undone)?;
     for number in &rising {
-        match space.state.status(*number) {
-            Some(status) if (status == Status::Undone) == is_undone => {
-                parted.take.push(*number)?;
-            }
-            _ => parted.rest.push(*number)?,
+        if fit.contains(number) {
+            parted.take.push(*number)?;
+        } else {
+            parted.rest.push(*number)?;
         }
     }
     Ok(parted)
 }
 
-fn note_of(alloc: Global, words: &str, numbers: &[u32]) -> Result<Vec<Note>, AllocError> {
+// A hint about these numbers, if there are any.
+fn note_of(alloc: Global, words: &str, numbers: &[u32]) -> Result<Vec<Note>, Memory> {
     let mut notes = Vec::new(alloc);
     if let [_, ..] = numbers {
-        let mut text = String::from_str(alloc, words)?;
-        ws_print::add_ranges(&mut text, numbers)?;
-        notes.push(Note::of(alloc, text))?;
+        let ranges = ranges_text(alloc, numbers)?;
+        notes.push(Note::of(alloc, format!(in alloc; "{words}{ranges}")?))?;
     }
     Ok(notes)
 }
@@ -89,9 +89,10 @@ pub(crate) fn undo_answers(
     numbers: &[u32],
 ) -> Result<Done, Refusal> {
     let Parted { take, .. } = to_undo(alloc, space, numbers)?;
+    let with_answers = answered_numbers(alloc, space)?;
     let mut answered = Vec::new(alloc);
     for number in take.iter() {
-        if has_answers(space, *number) {
+        if with_answers.contains(number) {
             answered.push(*number)?;
         }
     }
@@ -182,8 +183,9 @@ fn add_own(
     numbers: &[u32],
     report: &mut Report,
 ) -> Result<(), Memory> {
+    let waiting = waiting_numbers(alloc, space)?;
     for number in numbers {
-        if is_waiting(space, *number) {
+        if waiting.contains(number) {
             let again = Again {
                 number: *number,
                 was: Status::Waits,

@@ -23,7 +23,7 @@ pub enum Deed {
 }
 
 /// An update: its number, who said it and when, how many steps each of its ops may make, what it does, and the names of its
-/// new unknowns by number, each empty where a bare `?` stands for it.
+/// new unknowns by number, each empty if a bare `?` stands for it.
 #[derive(Debug, Drop)]
 pub struct Update {
     pub number: u32,

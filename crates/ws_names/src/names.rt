@@ -56,13 +56,11 @@ impl Names {
 
     /// Takes the names back but for the first so many. It takes no memory.
     pub fn keep(&mut self, count: usize) {
-        let mut more = self.drawn.len();
-        while more > count {
+        for _ in count..self.drawn.len() {
             if let Some(pair) = self.drawn.pop() {
                 self.names.remove(&pair.null);
                 self.nulls.remove(&pair.name);
             }
-            more -= 1;
         }
     }
 
@@ -74,7 +72,7 @@ impl Names {
         }
     }
 
-    /// The null of that name; None where none has it. It takes no memory.
+    /// The null of that name; None if none has it. It takes no memory.
     pub fn null_called(&self, name: Null) -> Option<Null> {
         self.nulls.get(&name).copied()
     }

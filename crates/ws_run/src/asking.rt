@@ -1,16 +1,15 @@
 //! Questions by names, and the answers that fit them.
 
-use crate::grounds::Ground;
 use crate::halts::Question as Told;
+use crate::ops::Over;
 use crate::settings::Setting;
-use crate::since::image_for;
-use crate::touched::Touched;
-use base_types::{Choice, Memory, TryCopy, Tuple, TupleList, Write, WriteList};
+use base_types::{Choice, Mapping, Memory, Tuple, TupleList, ValueList, WriteList};
 use chase_question::Question;
 use chase_repair::image;
 use chase_update::Attempt;
-use set_facts::{IndexedFacts, Overlay};
+use set_facts::Overlay;
 use std::alloc::Global;
+use ws_ground::{Touched, image_for};
 use ws_lines::{Asked, Given, Source};
 use ws_names::Names;
 
@@ -114,23 +113,20 @@ fn called(
     Ok(None)
 }
 
-/// The question that the program is at, by names; the trail begins at this place for the update. It is refused only for want of
-/// memory.
+/// The question that the program is at, by names, after so many answers. It is refused only for want of memory.
 pub(crate) fn told(
     alloc: Global,
-    setting: &Setting<'_>,
-    facts: &IndexedFacts,
+    over: Over<'_>,
     names: &Names,
-    made: &[Write],
     program: &Attempt,
     question: &Question,
     taken: u32,
 ) -> Result<Told, Memory> {
-    let asked = asked_by(alloc, setting, names, question)?;
-    let so_far = so_far(alloc, facts, names, made, program)?;
+    let asked = asked_by(alloc, over.run.setting, names, question)?;
+    let so_far = so_far(alloc, over, names, program)?;
     match question {
         Question::Positive { candidates, .. } => {
-            let since = since(alloc, setting, facts, program)?;
+            let since = since(alloc, over, program)?;
             Ok(Told {
                 asked,
                 is_positive: true,
@@ -152,40 +148,42 @@ pub(crate) fn told(
 }
 
 // The image for which the program repairs. Of a repair of its own it is that of the mapping that is repaired.
-fn since(
-    alloc: Global,
-    setting: &Setting<'_>,
-    facts: &IndexedFacts,
-    program: &Attempt,
-) -> Result<TupleList, Memory> {
+fn since(alloc: Global, over: Over<'_>, program: &Attempt) -> Result<TupleList, Memory> {
+    let setting = over.run.setting;
     let Some(bound) = program.bound() else {
         return Ok(TupleList::new(alloc));
     };
-    if let Source::Fix(_) = setting.source(bound.mapping) {
-        if let Some(mapping) = setting.fixed {
-            let mut seen = Overlay::new(alloc, facts);
-            for write in program.own().as_slice() {
-                seen.write(alloc, write)?;
-            }
-            return image_for(alloc, mapping, bound.values.as_slice(), &seen);
-        }
+    if let (Source::Fix(_), Some(mapping)) = (setting.source(bound.mapping), setting.fixed) {
+        return since_fixed(alloc, over, mapping, program, bound.values);
     }
-    match setting.mappings.get(bound.mapping as usize) {
+    match setting.in_force.mappings().get(bound.mapping as usize) {
         Some(mapping) => image(alloc, bound.values, &mapping.left),
         None => Ok(TupleList::new(alloc)),
     }
 }
 
+// The image of the mapping that is repaired for these values.
+fn since_fixed(
+    alloc: Global,
+    over: Over<'_>,
+    mapping: &Mapping,
+    program: &Attempt,
+    values: &ValueList,
+) -> Result<TupleList, Memory> {
+    let mut seen = Overlay::new(alloc, over.facts);
+    seen.write_all(alloc, program.own().as_slice())?;
+    image_for(alloc, mapping, values.as_slice(), &seen)
+}
+
 // What the update has written so far, by names, in the order of the tuples.
 fn so_far(
     alloc: Global,
-    facts: &IndexedFacts,
+    over: Over<'_>,
     names: &Names,
-    made: &[Write],
     program: &Attempt,
 ) -> Result<WriteList, Memory> {
     let mut touched = Touched::new(alloc);
-    touched.made(made)?;
-    touched.to_make(program.own().as_slice(), facts)?;
+    touched.made(over.made)?;
+    touched.to_make(program.own().as_slice(), over.facts)?;
     touched.net(alloc, names)
 }

@@ -1,26 +1,17 @@
-//! The ops of an update, one behind the other.
+//! The ops of an update, one after the other.
 
 use crate::following::{follow, followed};
-use crate::grounds::Ground;
 use crate::halts::Halt;
-use crate::hidden::{found_as, news_of, to_fix, wanted};
-use crate::ops::take_op;
-use crate::resolving::{drawn_as, found_all, found_null, found_spelled, found_tuples};
+use crate::ops::{Run, take_op};
+use crate::resolving::{drawn_as, found, found_all, found_null, found_spelled, found_tuples};
 use crate::settings::Setting;
 use crate::threads::Thread;
 use base_types::{Facts, Memory, Null, Operation, Tuple, TupleList, Value};
 use std::alloc::Global;
+use ws_ground::{Ground, found_as, news_of, to_fix, wanted};
 use ws_lines::{Deed, GivenList, SpelledTuple};
 
-/// A run: what it is of, the answers that it has, and where its trail begins.
-#[derive(Clone, Copy)]
-pub(crate) struct Run<'a> {
-    pub setting: &'a Setting<'a>,
-    pub answers: &'a GivenList,
-    pub first: usize,
-}
-
-/// Takes the ops of an update whole over the ground, one behind the other, with these answers. Where it halts, the ops that were
+/// Takes the ops of an update whole over the ground, one after the other, with these answers. If it halts, the ops that were
 /// done before have to be taken back. An update that puts a mapping in force or takes one away has none.
 pub fn run_deed(
     alloc: Global,
@@ -49,24 +40,6 @@ pub fn run_deed(
         Deed::Force(_) => Ok(()),
         Deed::Drop(_) => Ok(()),
     }
-}
-
-fn take(
-    alloc: Global,
-    run: Run<'_>,
-    ground: &mut Ground,
-    thread: &mut Thread,
-    operation: Operation,
-) -> Result<(), Halt> {
-    take_op(
-        alloc,
-        run.setting,
-        ground,
-        thread,
-        run.answers,
-        run.first,
-        operation,
-    )
 }
 
 fn insert_all(
@@ -113,7 +86,7 @@ fn draw(
 ) -> Result<(), Halt> {
     for number in 0..news {
         let tuple = wanted(alloc, number + 1)?;
-        take(alloc, run, ground, thread, Operation::Insert(tuple))?;
+        take_op(alloc, run, ground, thread, Operation::Insert(tuple))?;
     }
     Ok(())
 }
@@ -129,7 +102,7 @@ fn settle(
 ) -> Result<(), Halt> {
     for number in 0..news {
         let tuple = settling(alloc, thread, first, number + 1)?;
-        take(alloc, run, ground, thread, Operation::Delete(tuple))?;
+        take_op(alloc, run, ground, thread, Operation::Delete(tuple))?;
     }
     Ok(())
 }
@@ -150,7 +123,7 @@ fn add_all(
 ) -> Result<(), Halt> {
     for tuple in tuples.as_slice() {
         let tuple = followed(alloc, thread, tuple)?;
-        take(alloc, run, ground, thread, Operation::Insert(tuple))?;
+        take_op(alloc, run, ground, thread, Operation::Insert(tuple))?;
     }
     Ok(())
 }
@@ -166,7 +139,7 @@ fn remove_all(
     for tuple in tuples.as_slice() {
         let tuple = followed(alloc, thread, tuple)?;
         if ground.facts.contains(&tuple) {
-            take(alloc, run, ground, thread, Operation::Delete(tuple))?;
+            take_op(alloc, run, ground, thread, Operation::Delete(tuple))?;
         }
     }
     Ok(())
@@ -181,8 +154,8 @@ fn fill(
     value: &Value,
 ) -> Result<(), Halt> {
     let null = found_null(ground, name)?;
-    let value = crate::resolving::found(alloc, ground, value)?;
-    take(alloc, run, ground, thread, Operation::Replace(null, value))
+    let value = found(alloc, ground, value)?;
+    take_op(alloc, run, ground, thread, Operation::Replace(null, value))
 }
 
 // What says that a mapping is to be repaired comes, and goes as what it is by then.
@@ -195,7 +168,7 @@ fn fix(
 ) -> Result<(), Halt> {
     let values = found_all(alloc, ground, values)?;
     let tuple = to_fix(alloc, values)?;
-    take(
+    take_op(
         alloc,
         run,
         ground,
@@ -203,5 +176,5 @@ fn fix(
         Operation::Insert(tuple.share()?),
     )?;
     let now = followed(alloc, thread, &tuple)?;
-    take(alloc, run, ground, thread, Operation::Delete(now))
+    take_op(alloc, run, ground, thread, Operation::Delete(now))
 }

@@ -25,50 +25,57 @@ pub(crate) fn name_drawn(
     let Some(bound) = program.bound() else {
         return Ok(());
     };
-    let Some(mapping) = setting.mappings.get(bound.mapping as usize) else {
+    let Some(mapping) = setting.in_force.mappings().get(bound.mapping as usize) else {
         return Ok(());
     };
     let image = image(alloc, bound.values, &mapping.left)?;
     let image = names.tuples(alloc, image.as_slice())?;
-    let source = setting.source(bound.mapping);
-    let mut variable = mapping.universal;
+    let mut drawn = Drawn {
+        source: setting.source(bound.mapping),
+        variable: mapping.universal,
+        image,
+    };
     for place in before..program.nulls() {
         let null = Null {
             update: program.number(),
             attempt: 0,
             place: place + 1,
         };
-        name_one(
-            alloc,
-            setting.number,
-            names,
-            thread,
-            source,
-            variable,
-            &image,
-            null,
-        )?;
-        variable += 1;
+        let cause = drawn.next(alloc)?;
+        name_one(setting.number, names, thread, cause, null)?;
     }
     Ok(())
 }
 
-// Names one null, which is of the mapping's variable of this number.
+// What is drawn by a mapping for an image of its left side, from this variable on.
+#[derive(Drop)]
+struct Drawn {
+    source: Source,
+    variable: u16,
+    image: TupleList,
+}
+
+impl Drawn {
+    // The cause of the next one.
+    fn next(&mut self, alloc: Global) -> Result<Cause, Memory> {
+        let variable = self.variable;
+        self.variable = variable.saturating_add(1);
+        Ok(Cause {
+            source: self.source,
+            variable,
+            image: self.image.copy(alloc)?,
+        })
+    }
+}
+
+// Names one null, which is of this cause.
 fn name_one(
-    alloc: Global,
     number: u32,
     names: &mut Names,
     thread: &mut Thread,
-    source: Source,
-    variable: u16,
-    image: &TupleList,
+    cause: Cause,
     null: Null,
 ) -> Result<(), Memory> {
-    let cause = Cause {
-        source,
-        variable,
-        image: image.copy(alloc)?,
-    };
     let place = give(&mut thread.places, &thread.given, cause)?;
     thread.given.push(place)?;
     let name = Null {

@@ -1,7 +1,7 @@
 //! Why an update does not stand.
 
-use base_types::{Memory, Null, TupleList, WriteList};
-use ws_lines::Asked;
+use base_types::{List, Memory, Null, TupleList, WriteList};
+use ws_lines::{Asked, Source};
 
 /// A question of an update, all by names: which it is; whether it asks which of the candidates the wanted tuple is, or which of the
 /// tuples go; these tuples; the image of the mapping's left side, that it is asked for; what the update did before it; and how many
@@ -16,13 +16,23 @@ pub struct Question {
     pub taken: u32,
 }
 
-/// Why an update does not stand: it asks, an unknown of this name is not there, its steps do not suffice, the mapping that it puts
-/// in force has violations, or the mapping is gone.
+/// How many tuples a run put by what this source generates.
+#[derive(Clone, Copy, Debug)]
+pub struct Made {
+    pub source: Source,
+    pub tuples: u32,
+}
+
+/// What a run made, no source twice.
+pub type MadeList = List<Made>;
+
+/// Why an update does not stand: it asks, an unknown of this name is not there, its steps do not suffice for what it made, the
+/// mapping that it puts in force has violations, or the mapping is gone.
 #[derive(Debug, Drop)]
 pub enum Reason {
     Asks(Question),
     NotThere(Null),
-    TooLong,
+    TooLong(MadeList),
     Violated(u16),
     Gone(u16),
 }

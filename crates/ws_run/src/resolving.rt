@@ -1,11 +1,10 @@
 //! What the values of an update are in the tuples.
 
-use crate::grounds::Ground;
 use crate::halts::{Halt, Reason};
-use crate::hidden::FIX;
 use base_types::{Facts, Memory, Null, TryCopy, Tuple, TupleList, Value, ValueList};
 use set_facts::IndexedFacts;
 use std::alloc::Global;
+use ws_ground::{FIX, Ground};
 use ws_lines::{Spelled, SpelledTuple};
 
 /// What the value is in the tuples; halted at an unknown that is not there.
@@ -17,7 +16,7 @@ pub(crate) fn found(alloc: Global, ground: &Ground, value: &Value) -> Result<Val
     }
 }
 
-/// The null of that name; halted where it is not there.
+/// The null of that name; halted if it is not there.
 pub(crate) fn found_null(ground: &Ground, name: Null) -> Result<Null, Halt> {
     if let Some(null) = ground.names.null_called(name) {
         if stands_in(&ground.facts, null) {
@@ -35,18 +34,12 @@ fn stands_in(facts: &IndexedFacts, null: Null) -> bool {
 
 fn stands_in_relation(facts: &IndexedFacts, relation: u16, value: &Value) -> bool {
     match facts.first(relation) {
-        Some(tuple) => stands_in_columns(facts, relation, tuple.values.len() as u16, value),
+        Some(tuple) => {
+            let columns = u16::try_from(tuple.values.len()).unwrap_or(u16::MAX);
+            (0..columns).any(|column| facts.scan(relation, column, value, None).is_some())
+        }
         None => false,
     }
-}
-
-fn stands_in_columns(facts: &IndexedFacts, relation: u16, columns: u16, value: &Value) -> bool {
-    for column in 0..columns {
-        if facts.scan(relation, column, value, None).is_some() {
-            return true;
-        }
-    }
-    false
 }
 
 /// What the values are.
@@ -76,7 +69,7 @@ pub(crate) fn found_tuples(
     Ok(all)
 }
 
-/// What the tuples of a line are; its new unknowns were drawn by the ops behind the first so many.
+/// What the tuples of a line are; its new unknowns were drawn by the ops after the first so many.
 pub(crate) fn found_spelled(
     alloc: Global,
     ground: &Ground,
@@ -87,19 +80,22 @@ pub(crate) fn found_spelled(
     for tuple in tuples {
         let mut values = ValueList::new(alloc);
         for value in tuple.values.as_slice() {
-            let value = match value {
-                Spelled::Known(value) => found(alloc, ground, value)?,
-                Spelled::New(number) => Value::Null(drawn_as(first, *number)?),
-            };
-            values.push(value)?;
+            values.push(found_value(alloc, ground, first, value)?)?;
         }
         all.push(Tuple::new(alloc, tuple.relation, values)?)?;
     }
     Ok(all)
 }
 
-/// The null that the new unknown of this number is when it is drawn, by the op of this number behind the first so many. It is
-/// refused only where numbers do not suffice.
+fn found_value(alloc: Global, ground: &Ground, first: u32, value: &Spelled) -> Result<Value, Halt> {
+    match value {
+        Spelled::Known(value) => found(alloc, ground, value),
+        Spelled::New(number) => Ok(Value::Null(drawn_as(first, *number)?)),
+    }
+}
+
+/// The null that the new unknown of this number is when it is drawn, by the op of this number after the first so many. It is
+/// refused only if numbers do not suffice.
 pub(crate) fn drawn_as(first: u32, number: u32) -> Result<Null, Memory> {
     match first.checked_add(number) {
         Some(update) => Ok(Null {

@@ -1,13 +1,13 @@
 //! What came, what went and what was filled.
 
 use crate::states::{Mark, State};
+use crate::ways::{by_of, ways_of};
 use crate::worlds::Standing;
 use base_types::{Facts, List, Memory, Null, TryCopy, Tuple, TupleList, Value, ValueList};
-use run_explain::Way;
 use std::alloc::Global;
 use std::collections::{BTreeMap, BTreeSet};
 use ws_lines::Source;
-use ws_run::{Ground, Step, Taking, Touched, WANT, follow};
+use ws_run::{Ground, Touched, WANT, follow};
 
 /// A tuple that came or went, by names, and the mapping by which it did, if it did by one.
 #[derive(Debug, Drop)]
@@ -44,9 +44,9 @@ impl State {
     /// What the lines since the mark did, if none of them was an undo or a redo. It is refused only for want of memory.
     pub fn effect_since(&self, alloc: Global, mark: Mark) -> Result<Effect, Memory> {
         let ground = &self.world.ground;
-        let standings = &self.world.order.as_slice()[mark.order..];
+        let standings = after(self.world.order.as_slice(), mark.order);
         let mut touched = Touched::new(alloc);
-        touched.made(&ground.trail.as_slice()[mark.trail..])?;
+        touched.made(after(ground.trail.as_slice(), mark.trail))?;
         let before = were_there(alloc, &touched)?;
         let targets = followed_all(alloc, standings, &before)?;
         let by = ways_of(alloc, ground, standings)?;
@@ -61,6 +61,11 @@ impl State {
             merged,
         })
     }
+}
+
+// Those after the first so many.
+fn after<T>(items: &[T], count: usize) -> &[T] {
+    items.get(count..).unwrap_or(&[])
 }
 
 // The tuples that were there before, in order.
@@ -130,9 +135,8 @@ fn went_of(
     by: &BTreeMap<Tuple, Source>,
 ) -> Result<MovedList, Memory> {
     let mut went = MovedList::new(alloc);
-    for place in 0..before.len() {
-        if !ground.facts.contains(&targets.as_slice()[place]) {
-            let tuple = &before.as_slice()[place];
+    for (tuple, target) in before.as_slice().iter().zip(targets.as_slice()) {
+        if !ground.facts.contains(target) {
             went.push(Moved {
                 tuple: ground.names.tuple(alloc, tuple)?,
                 by: by_of(by, tuple),
@@ -150,12 +154,12 @@ fn merged_of(
     targets: &TupleList,
 ) -> Result<u32, Memory> {
     let mut seen: BTreeSet<Tuple> = BTreeSet::new(alloc);
-    let mut merged = 0;
+    let mut merged: u32 = 0;
     for target in targets.as_slice() {
         if ground.facts.contains(target) {
             // One that was not touched was there before, and is there as itself.
             if seen.contains(target) || touched.tuples.get(target).is_none() {
-                merged += 1;
+                merged = merged.saturating_add(1);
             }
             if seen.insert(target.share()?).is_err() {
                 return Err(Memory);
@@ -215,11 +219,8 @@ fn holders_of(
     for tuple in before.as_slice() {
         for null in &nulls_of(alloc, tuple)? {
             if null.update <= mark.last {
-                let count = match holders.get(null) {
-                    Some(count) => *count + 1,
-                    None => 1,
-                };
-                if holders.insert(*null, count).is_err() {
+                let count = holders.get(null).copied().unwrap_or(0);
+                if holders.insert(*null, count.saturating_add(1)).is_err() {
                     return Err(Memory);
                 }
             }
@@ -239,160 +240,4 @@ fn nulls_of(alloc: Global, tuple: &Tuple) -> Result<BTreeSet<Null>, Memory> {
         }
     }
     Ok(nulls)
-}
-
-// ---- by which mapping tuples came and went
-
-fn by_of(by: &BTreeMap<Tuple, Source>, tuple: &Tuple) -> Option<u16> {
-    match by.get(tuple) {
-        Some(Source::By(mapping)) => Some(*mapping),
-        Some(Source::Fix(mapping)) => Some(*mapping),
-        Some(Source::Anew) => None,
-        None => None,
-    }
-}
-
-// The tuples that came or went by a mapping, with it.
-fn ways_of(
-    alloc: Global,
-    ground: &Ground,
-    standings: &[Standing],
-) -> Result<BTreeMap<Tuple, Source>, Memory> {
-    let mut by = BTreeMap::new(alloc);
-    for standing in standings {
-        let mut made = BTreeMap::new(alloc);
-        for step in standing.steps.as_slice() {
-            note_takes(step, &mut by)?;
-            note_puts(alloc, step, &mut made)?;
-        }
-        for (tuple, source) in made {
-            if let Some(source) = source {
-                if ground.facts.contains(&tuple) {
-                    put(&mut by, &tuple, source)?;
-                }
-            }
-        }
-    }
-    Ok(by)
-}
-
-fn put<V: Drop>(map: &mut BTreeMap<Tuple, V>, tuple: &Tuple, value: V) -> Result<(), Memory> {
-    match map.insert(tuple.share()?, value) {
-        Ok(_) => Ok(()),
-        Err(_) => Err(Memory),
-    }
-}
-
-fn note_takes(step: &Step, by: &mut BTreeMap<Tuple, Source>) -> Result<(), Memory> {
-    let source = match step.taking {
-        Taking::Needed(source) => source,
-        Taking::Chosen(source) => source,
-        _ => return Ok(()),
-    };
-    for tuple in step.note.deleted.as_slice() {
-        put(by, tuple, source)?;
-    }
-    Ok(())
-}
-
-// A tuple that the step made of another came by what that one came by.
-fn note_puts(
-    alloc: Global,
-    step: &Step,
-    made: &mut BTreeMap<Tuple, Option<Source>>,
-) -> Result<(), Memory> {
-    for tuple in step.note.puts.as_slice() {
-        let source = match &step.note.way {
-            Way::Generates { .. } => step.source,
-            Way::Rewrites(_) => match source_before(alloc, step, tuple, made)? {
-                Some(source) => Some(source),
-                None => None,
-            },
-            Way::Inserts => None,
-        };
-        put(made, tuple, source)?;
-    }
-    Ok(())
-}
-
-// By what the tuple came that the step made this one of.
-fn source_before(
-    alloc: Global,
-    step: &Step,
-    tuple: &Tuple,
-    made: &BTreeMap<Tuple, Option<Source>>,
-) -> Result<Option<Source>, Memory> {
-    for old in step.note.deleted.as_slice() {
-        if rewritten(alloc, step, old)? == *tuple {
-            return Ok(match made.get(old) {
-                Some(source) => *source,
-                None => None,
-            });
-        }
-    }
-    Ok(None)
-}
-
-/// What the step made of the tuple. It is refused only for want of memory.
-pub(crate) fn rewritten(alloc: Global, step: &Step, tuple: &Tuple) -> Result<Tuple, Memory> {
-    let mut values = ValueList::new(alloc);
-    for value in tuple.values.as_slice() {
-        values.push(follow(alloc, std::slice::from_ref(step), value)?)?;
-    }
-    Tuple::new(alloc, tuple.relation, values)
-}
-
-// ---- what is seen
-
-/// What is other than at the last fold: the tuples that came and went since, by names, each with what it is within.
-#[derive(Drop)]
-pub(crate) struct Visible {
-    came: BTreeMap<Tuple, Tuple>,
-    went: BTreeMap<Tuple, Tuple>,
-}
-
-/// What is other by now than at the last fold. It is refused only for want of memory.
-pub(crate) fn visible_of(alloc: Global, ground: &Ground) -> Result<Visible, Memory> {
-    let mut touched = Touched::new(alloc);
-    touched.made(ground.trail.as_slice())?;
-    let mut visible = Visible {
-        came: BTreeMap::new(alloc),
-        went: BTreeMap::new(alloc),
-    };
-    for (tuple, touch) in &touched.tuples {
-        if touch.was != touch.is && tuple.relation < WANT {
-            let named = ground.names.tuple(alloc, tuple)?;
-            if touch.is {
-                put(&mut visible.came, &named, tuple.share()?)?;
-            } else {
-                put(&mut visible.went, &named, tuple.share()?)?;
-            }
-        }
-    }
-    Ok(visible)
-}
-
-/// The tuples that are seen in the second and not in the first, by names, in the order of what they are within. It is refused only for
-/// want of memory.
-pub(crate) fn came_between(
-    alloc: Global,
-    old: &Visible,
-    new: &Visible,
-) -> Result<TupleList, Memory> {
-    let mut order = BTreeMap::new(alloc);
-    for (named, tuple) in &new.came {
-        if old.came.get(named).is_none() {
-            put(&mut order, tuple, named.share()?)?;
-        }
-    }
-    for (named, tuple) in &old.went {
-        if new.went.get(named).is_none() {
-            put(&mut order, tuple, named.share()?)?;
-        }
-    }
-    let mut came = TupleList::new(alloc);
-    for (_, named) in order {
-        came.push(named)?;
-    }
-    Ok(came)
 }

@@ -1,18 +1,23 @@
 //! A fold: the head of what stands.
+ghost use Rattle.std.specs.Prelude.{◌≡◌, IfOk};
+ghost use Rattle.ws_state.specs.Folds.{Keeps};
 
 use crate::heads::{Head, HeadWaiting, HeadWaitingList};
-use crate::states::State;
+use crate::states::{Held, State, small};
 use crate::worlds::Waiting;
 use base_types::{List, MappingList, Memory, Null, TryCopy, TupleList, Value};
 use std::alloc::Global;
 use std::collections::BTreeSet;
-use ws_lines::{Asked, Deed, Given, GivenList, Source};
+use ws_lines::{Asked, Deed, Given, GivenList, Source, Update};
 use ws_names::{Cause, Place, Places};
 
 impl State {
     /// The head of what stands: it becomes the base, and what waits goes on waiting. Mappings that are gone are left out, with the
     /// answers to them and the places drawn by them. It is refused only for want of memory.
-    pub fn head(&self, alloc: Global) -> Result<Head, Memory> {
+    pub fn head(&self, alloc: Global) -> Result<Head, Memory>
+        ensures waits { IfOk result (λ head.
+            Keeps self.now.held.items self.now.world.waiting.items head.waits.items) }
+    {
         let numbers = self.numbers_kept(alloc)?;
         let base = self.visible(alloc)?;
         Ok(Head {
@@ -22,14 +27,14 @@ impl State {
             in_force: self.world.in_force.len(),
             unknowns: self.unknowns(alloc)?,
             base,
-            waits: self.waits_kept(alloc, &numbers)?,
+            waits: waits_kept(alloc, &numbers, &self.held, self.world.waiting.as_slice())?,
         })
     }
 
     // The numbers of the mappings that are kept, in their new order: those in force, and then those that are proposed.
     fn numbers_kept(&self, alloc: Global) -> Result<List<u16>, Memory> {
         let mut numbers = self.world.in_force.copy(alloc)?;
-        for number in 0..(self.mappings.len() as u16) {
+        for number in 0..small(self.mappings.len()) {
             if !self.world.is_in_force(number) && !self.world.is_gone(number) {
                 numbers.push(number)?;
             }
@@ -66,54 +71,63 @@ impl State {
         }
         Ok(names)
     }
-
-    fn waits_kept(&self, alloc: Global, numbers: &List<u16>) -> Result<HeadWaitingList, Memory> {
-        let mut waits = HeadWaitingList::new(alloc);
-        for waiting in self.world.waiting.as_slice() {
-            waits.push(self.wait_kept(alloc, numbers, waiting)?)?;
-        }
-        Ok(waits)
-    }
-
-    fn wait_kept(
-        &self,
-        alloc: Global,
-        numbers: &List<u16>,
-        waiting: &Waiting,
-    ) -> Result<HeadWaiting, Memory> {
-        let held = &self.held[waiting.held];
-        let mut update = held.update.copy(alloc)?;
-        update.deed = renumbered(alloc, numbers, &held.update.deed)?;
-        Ok(HeadWaiting {
-            update,
-            places: places_kept(alloc, numbers, &held.places)?,
-            answers: answers_kept(alloc, numbers, &waiting.answers)?,
-        })
-    }
 }
 
-// The new number of a mapping; None where it is not kept.
-fn new_number(numbers: &List<u16>, mapping: u16) -> Option<u16> {
-    let mut place = 0;
-    for number in numbers.as_slice() {
-        if *number == mapping {
-            return Some(place);
-        }
-        place += 1;
+// All that waits, of those that are held.
+fn waits_kept(
+    alloc: Global,
+    numbers: &List<u16>,
+    held: &[Held],
+    waiting: &[Waiting],
+) -> Result<HeadWaitingList, Memory>
+    ensures kept { IfOk result (λ heads. Keeps held.now waiting.now heads.items) }
+{
+    let mut waits = HeadWaitingList::new(alloc);
+    for one in waiting {
+        let Some(held) = held.get(one.held) else {
+            return Err(Memory);
+        };
+        waits.push(wait_kept(alloc, numbers, held, one)?)?;
     }
-    None
+    Ok(waits)
+}
+
+fn wait_kept(
+    alloc: Global,
+    numbers: &List<u16>,
+    held: &Held,
+    waiting: &Waiting,
+) -> Result<HeadWaiting, Memory>
+    ensures number { IfOk result (λ head. head.update.number ≡ held.now.update.number) }
+{
+    let update = &held.update;
+    Ok(HeadWaiting {
+        update: Update {
+            number: update.number,
+            time: update.time.copy(alloc)?,
+            curator: update.curator.copy(alloc)?,
+            steps: update.steps,
+            deed: renumbered(alloc, numbers, &update.deed)?,
+            news: update.news.copy(alloc)?,
+        },
+        places: places_kept(alloc, numbers, &held.places)?,
+        answers: answers_kept(alloc, numbers, &waiting.answers)?,
+    })
+}
+
+// The new number of a mapping; None if it is not kept.
+fn new_number(numbers: &List<u16>, mapping: u16) -> Option<u16> {
+    let place = numbers
+        .as_slice()
+        .iter()
+        .position(|number| *number == mapping)?;
+    u16::try_from(place).ok()
 }
 
 fn new_source(numbers: &List<u16>, source: Source) -> Option<Source> {
     match source {
-        Source::By(mapping) => match new_number(numbers, mapping) {
-            Some(number) => Some(Source::By(number)),
-            None => None,
-        },
-        Source::Fix(mapping) => match new_number(numbers, mapping) {
-            Some(number) => Some(Source::Fix(number)),
-            None => None,
-        },
+        Source::By(mapping) => Some(Source::By(new_number(numbers, mapping)?)),
+        Source::Fix(mapping) => Some(Source::Fix(new_number(numbers, mapping)?)),
         Source::Anew => Some(Source::Anew),
     }
 }

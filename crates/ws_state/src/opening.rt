@@ -1,7 +1,7 @@
 //! A state that is opened by the head of its file.
 
 use crate::heads::{Head, HeadWaitingList};
-use crate::states::{Held, HeldList, State};
+use crate::states::{Held, State, small};
 use crate::worlds::World;
 use base_types::{Facts, List, Memory, Null, TryCopy, Tuple, TupleList, Value, ValueList};
 use set_facts::{IndexedFacts, PlainFacts};
@@ -72,8 +72,8 @@ impl State {
 // The numbers from 0 on, so many.
 fn first_numbers(alloc: Global, count: usize) -> Result<List<u16>, Memory> {
     let mut numbers = List::new(alloc);
-    for number in 0..count {
-        numbers.push(number as u16)?;
+    for number in 0..small(count) {
+        numbers.push(number)?;
     }
     Ok(numbers)
 }
@@ -81,9 +81,9 @@ fn first_numbers(alloc: Global, count: usize) -> Result<List<u16>, Memory> {
 // The j-th unknown that is listed is the null of update 0 and place j.
 fn names_of(alloc: Global, unknowns: &List<Null>) -> Result<Names, OpenFault> {
     let mut names = Names::new(alloc);
-    let mut place = 0;
+    let mut place: u32 = 0;
     for name in unknowns.as_slice() {
-        place += 1;
+        place = place.checked_add(1).ok_or(OpenFault::Memory)?;
         if names.null_called(*name).is_some() {
             return Err(OpenFault::ListedTwice(*name));
         }

@@ -1,13 +1,12 @@
 //! What is undone and done again: all lines that count are replayed.
 
-use crate::effects::{Visible, came_between, visible_of};
-use crate::states::{Event, Held, Said, State, Told};
-use crate::worlds::{Standing, StandingList, Status, WaitingList, World};
-use base_types::{List, Memory, NumberList, TryCopy, TupleList, WriteList};
+use crate::states::{Event, Said, State, Told};
+use crate::visible::{Visible, came_between, visible_of};
+use crate::worlds::{StandingList, Status, WaitingList};
+use base_types::{List, Memory, NumberList, TryCopy, TupleList, Write, WriteList};
 use std::alloc::Global;
 use std::mem;
 use ws_lines::GivenList;
-use ws_run::{Ground, Reason};
 
 /// What a replay changed: the tuples that came and went, by names and in order, and each other update that stands otherwise than before
 /// or wrote something else.
@@ -58,7 +57,9 @@ impl State {
     fn set_undone(&mut self, numbers: &NumberList, is_undone: bool) {
         for number in numbers.as_slice() {
             if let Some(place) = self.place_of(*number) {
-                self.held[place].is_undone = is_undone;
+                if let Some(held) = self.held.get_mut(place) {
+                    held.is_undone = is_undone;
+                }
             }
         }
     }
@@ -69,18 +70,16 @@ impl State {
                 event.is_forgotten = true;
             }
         }
-        let held = &mut self.held[place];
-        if held.first.is_some() {
-            held.first = Some(GivenList::new(alloc));
+        if let Some(held) = self.held.get_mut(place) {
+            if held.first.is_some() {
+                held.first = Some(GivenList::new(alloc));
+            }
         }
     }
 
     // What is compared with what stands after the replay.
     fn before(&mut self, alloc: Global) -> Result<Before, Memory> {
-        let mut statuses = Vec::new(alloc);
-        for place in 0..self.held.len() {
-            statuses.push(self.status_at(place))?;
-        }
+        let statuses = self.statuses(alloc)?;
         let visible = visible_of(alloc, &self.world.ground)?;
         let order = mem::replace(&mut self.world.order, StandingList::new(alloc));
         Ok(Before {
@@ -110,6 +109,7 @@ impl State {
 
     /// All lines that count, anew from what stood at the last fold.
     pub(crate) fn replay(&mut self, alloc: Global) -> Result<(), Memory> {
+        self.replays = self.replays.wrapping_add(1);
         self.restart(alloc)?;
         let events = mem::replace(&mut self.events, Vec::new(alloc));
         for event in &events {
@@ -120,7 +120,7 @@ impl State {
     }
 
     fn replay_one(&mut self, alloc: Global, event: &Event) -> Result<(), Memory> {
-        if event.is_forgotten || self.held[place_in(&event.said)].is_undone {
+        if event.is_forgotten || self.is_undone_at(place_in(&event.said)) {
             return Ok(());
         }
         match &event.said {
@@ -142,14 +142,17 @@ impl State {
         self.world.gone = List::new(alloc);
         self.world.order = StandingList::new(alloc);
         self.world.waiting = WaitingList::new(alloc);
-        for place in 0..self.held.len() {
-            let held = &self.held[place];
+        self.wait_first(alloc)
+    }
+
+    // What waited at the last fold waits.
+    fn wait_first(&mut self, alloc: Global) -> Result<(), Memory> {
+        for (place, held) in self.held.iter().enumerate() {
             if held.is_undone {
                 continue;
             }
             if let Some(first) = &held.first {
-                let answers = first.copy(alloc)?;
-                self.world.wait(place, answers)?;
+                self.world.wait(place, first.copy(alloc)?)?;
             }
         }
         Ok(())
@@ -162,17 +165,79 @@ impl State {
         before: &Before,
         numbers: &NumberList,
     ) -> Result<AgainList, Memory> {
+        let statuses = self.statuses(alloc)?;
+        let was = by_held(alloc, &before.order, self.held.len())?;
+        let is = by_held(alloc, &self.world.order, self.held.len())?;
         let mut again = AgainList::new(alloc);
-        for place in 0..self.held.len() {
-            let number = self.held[place].update.number;
-            let was = before.statuses[place];
-            let is = self.status_at(place);
-            let is_other = was != is || !same_writes(&before.order, &self.world.order, place);
-            if is_other && !is_among(numbers, number) {
-                again.push(Again { number, was, is })?;
+        for (place, held) in self.held.iter().enumerate() {
+            let one = Again {
+                number: held.update.number,
+                was: status_in(&before.statuses, place),
+                is: status_in(&statuses, place),
+            };
+            let is_other = one.was != one.is || !same_writes(&was, &is, place);
+            if is_other && !is_among(numbers, one.number) {
+                again.push(one)?;
             }
         }
         Ok(again)
+    }
+
+    // How the updates that are held stand, by place.
+    fn statuses(&self, alloc: Global) -> Result<Vec<Status>, Memory> {
+        let mut statuses = Vec::new(alloc);
+        for held in &self.held {
+            statuses.push(if held.is_undone {
+                Status::Undone
+            } else {
+                Status::GivenUp
+            })?;
+        }
+        for standing in self.world.order.as_slice() {
+            if let Some(status) = statuses.get_mut(standing.held) {
+                *status = Status::Stands;
+            }
+        }
+        for waiting in self.world.waiting.as_slice() {
+            if let Some(status) = statuses.get_mut(waiting.held) {
+                *status = Status::Waits;
+            }
+        }
+        Ok(statuses)
+    }
+}
+
+fn status_in(statuses: &[Status], place: usize) -> Status {
+    statuses.get(place).copied().unwrap_or(Status::GivenUp)
+}
+
+// Updates that stand, with the place that each one held has among them, if it stands.
+#[derive(Drop)]
+struct ByHeld<'a> {
+    order: &'a StandingList,
+    places: Vec<Option<usize>>,
+}
+
+// These updates that stand, of so many that are held.
+fn by_held(alloc: Global, order: &StandingList, count: usize) -> Result<ByHeld<'_>, Memory> {
+    let mut places = Vec::new(alloc);
+    for _ in 0..count {
+        places.push(None)?;
+    }
+    for (place, standing) in order.as_slice().iter().enumerate() {
+        if let Some(one) = places.get_mut(standing.held) {
+            *one = Some(place);
+        }
+    }
+    Ok(ByHeld { order, places })
+}
+
+impl<'a> ByHeld<'a> {
+    // What the update at this place wrote, if it stands.
+    fn writes(&self, held: usize) -> Option<&'a WriteList> {
+        let place = self.places.get(held).copied().unwrap_or(None)?;
+        let standing = self.order.get(place)?;
+        Some(&standing.writes)
     }
 }
 
@@ -205,37 +270,26 @@ fn is_among(numbers: &NumberList, number: u32) -> bool {
 }
 
 // Whether the update at this place wrote the same in both.
-fn same_writes(was: &StandingList, is: &StandingList, place: usize) -> bool {
-    match (standing_at(was, place), standing_at(is, place)) {
-        (Some(old), Some(new)) => same_list(&old.writes, &new.writes),
+fn same_writes(was: &ByHeld<'_>, is: &ByHeld<'_>, place: usize) -> bool {
+    match (was.writes(place), is.writes(place)) {
+        (Some(old), Some(new)) => same_list(old, new),
         (None, None) => true,
         _ => false,
     }
-}
-
-fn standing_at(order: &StandingList, place: usize) -> Option<&Standing> {
-    order
-        .as_slice()
-        .iter()
-        .find(|standing| standing.held == place)
 }
 
 fn same_list(old: &WriteList, new: &WriteList) -> bool {
     if old.len() != new.len() {
         return false;
     }
-    for place in 0..old.len() {
-        if !same_write(&old.as_slice()[place], &new.as_slice()[place]) {
-            return false;
-        }
-    }
-    true
+    let mut pairs = old.as_slice().iter().zip(new.as_slice());
+    pairs.all(|(old, new)| same_write(old, new))
 }
 
-fn same_write(old: &base_types::Write, new: &base_types::Write) -> bool {
+fn same_write(old: &Write, new: &Write) -> bool {
     match (old, new) {
-        (base_types::Write::Insert(s), base_types::Write::Insert(t)) => s == t,
-        (base_types::Write::Delete(s), base_types::Write::Delete(t)) => s == t,
+        (Write::Insert(s), Write::Insert(t)) => s == t,
+        (Write::Delete(s), Write::Delete(t)) => s == t,
         _ => false,
     }
 }

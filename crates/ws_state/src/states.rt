@@ -1,7 +1,7 @@
 //! The state, and what is held of each update of the log.
 
 use crate::replays::Replayed;
-use crate::running::{Ran, Tried};
+use crate::turns::{Ran, Tried};
 use crate::worlds::{StandingList, Status, WaitingList, World};
 use base_types::{List, Mapping, MappingList, Memory, NumberList, TryCopy, TupleList};
 use set_facts::IndexedFacts;
@@ -65,6 +65,7 @@ pub struct State {
     pub(crate) events: Vec<Event>,
     pub(crate) first_in_force: List<u16>,
     pub(crate) first_names: usize,
+    pub(crate) replays: u32,
     pub(crate) last: u32,
     pub(crate) world: World,
 }
@@ -81,6 +82,7 @@ impl State {
             events: Vec::new(alloc),
             first_in_force: List::new(alloc),
             first_names: 0,
+            replays: 0,
             last: 0,
             world: World::new(alloc, ground, List::new(alloc)),
         }
@@ -168,7 +170,7 @@ impl State {
     // The relation is declared, anew if there is one of that name.
     fn declare_table(&mut self, table: Table) -> Result<(), Memory> {
         match self.table_number(table.name.as_slice()) {
-            Some(number) => self.tables.put(number as usize, table),
+            Some(number) => put(&mut self.tables, number as usize, table),
             None => self.tables.push(table)?,
         }
         Ok(())
@@ -177,13 +179,13 @@ impl State {
     // The mapping is declared, anew if there is one of that name.
     fn declare_mapping(&mut self, mapping: Mapping) -> Result<(), Memory> {
         match self.mapping_number(mapping.name.as_slice()) {
-            Some(number) => self.mappings.put(number as usize, mapping),
+            Some(number) => put(&mut self.mappings, number as usize, mapping),
             None => self.mappings.push(mapping)?,
         }
         Ok(())
     }
 
-    /// Why the update of this number does not stand, if it waits, over what stands now; None where it does not wait or nothing is in
+    /// Why the update of this number does not stand, if it waits, over what stands now; None if it does not wait or nothing is in
     /// its way. The state stays as it is. It is refused only for want of memory.
     pub fn ask(&mut self, alloc: Global, number: u32) -> Result<Option<Reason>, Memory> {
         let Some(place) = self.place_of(number) else {
@@ -206,7 +208,7 @@ impl State {
         self.places.get(&number).copied()
     }
 
-    /// How the update of this number stands; None where there is none. It takes no memory.
+    /// How the update of this number stands; None if there is none. It takes no memory.
     pub fn status(&self, number: u32) -> Option<Status> {
         match self.place_of(number) {
             Some(place) => Some(self.status_at(place)),
@@ -214,23 +216,39 @@ impl State {
         }
     }
 
+    /// Whether the update at this place is undone.
+    pub(crate) fn is_undone_at(&self, place: usize) -> bool {
+        match self.held.get(place) {
+            Some(held) => held.is_undone,
+            None => false,
+        }
+    }
+
     pub(crate) fn status_at(&self, place: usize) -> Status {
-        if self.held[place].is_undone {
+        if self.is_undone_at(place) {
             return Status::Undone;
         }
         if self.world.waiting_place(place).is_some() {
             return Status::Waits;
         }
-        if self
-            .world
-            .order
-            .as_slice()
-            .iter()
-            .any(|standing| standing.held == place)
-        {
+        // Mostly it is the last one.
+        let mut order = self.world.order.as_slice().iter().rev();
+        if order.any(|standing| standing.held == place) {
             return Status::Stands;
         }
         Status::GivenUp
+    }
+}
+
+/// The count as the number of a relation or a mapping; the greatest if there is none so great.
+pub(crate) fn small(count: usize) -> u16 {
+    u16::try_from(count).unwrap_or(u16::MAX)
+}
+
+/// Puts the item in place of the one that is there.
+pub(crate) fn put<T: Drop>(list: &mut List<T>, place: usize, item: T) {
+    if place < list.len() {
+        list.put(place, item);
     }
 }
 
@@ -266,28 +284,18 @@ impl State {
         self.world.is_gone(mapping)
     }
 
-    /// The number of the relation of this name; None where there is none.
+    /// The number of the relation of this name; None if there is none.
     pub fn table_number(&self, name: &[u8]) -> Option<u16> {
-        let mut number = 0;
-        for table in self.tables.as_slice() {
-            if table.name.as_slice() == name {
-                return Some(number);
-            }
-            number += 1;
-        }
-        None
+        let mut tables = self.tables.as_slice().iter();
+        let place = tables.position(|table| table.name.as_slice() == name)?;
+        u16::try_from(place).ok()
     }
 
-    /// The number of the mapping of this name, gone or not; None where there is none.
+    /// The number of the mapping of this name, gone or not; None if there is none.
     pub fn mapping_number(&self, name: &[u8]) -> Option<u16> {
-        let mut number = 0;
-        for mapping in self.mappings.as_slice() {
-            if mapping.name.as_slice() == name {
-                return Some(number);
-            }
-            number += 1;
-        }
-        None
+        let mut mappings = self.mappings.as_slice().iter();
+        let place = mappings.position(|mapping| mapping.name.as_slice() == name)?;
+        u16::try_from(place).ok()
     }
 
     /// The tuples, whose nulls are those within.
@@ -311,15 +319,10 @@ impl State {
         &self.held
     }
 
-    /// The update of this number; None where it is not held.
+    /// The update of this number; None if it is not held.
     pub fn update(&self, number: u32) -> Option<&Update> {
-        match self.place_of(number) {
-            Some(place) => match self.held.get(place) {
-                Some(held) => Some(&held.update),
-                None => None,
-            },
-            None => None,
-        }
+        let held = self.held.get(self.place_of(number)?)?;
+        Some(&held.update)
     }
 
     /// The updates that stand, in the order in which they came to stand.

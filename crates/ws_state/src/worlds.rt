@@ -1,5 +1,7 @@
 //! What stands: the tuples, the mappings in force, the updates that stand in their order, and those that wait.
+ghost use Rattle.std.specs.Prelude.{◌≡◌, IfOk};
 
+use crate::states::put;
 use base_types::{List, Memory, TryCopy, TupleList, WriteList};
 use std::alloc::Global;
 use std::mem;
@@ -35,6 +37,23 @@ pub type StandingList = List<Standing>;
 pub struct Waiting {
     pub held: usize,
     pub answers: GivenList,
+}
+
+impl TryCopy for Waiting {
+    ghost use Rattle.std.specs.Prelude.{ℕ};
+
+    ghost Meaning = { ℕ };
+
+    ghost meaning = { λ w. w.held };
+
+    fn copy(&self, alloc: Global) -> Result<Waiting, Memory>
+        ensures same { IfOk result (λ copy. copy.held ≡ self.now.held) }
+    {
+        Ok(Waiting {
+            held: self.held,
+            answers: self.answers.copy(alloc)?,
+        })
+    }
 }
 
 /// Updates that wait, by number.
@@ -92,6 +111,14 @@ impl World {
         }
     }
 
+    /// Puts a mapping in force, after the others, unless it is. It is refused only for want of memory.
+    pub fn put_in_force(&mut self, mapping: u16) -> Result<(), Memory> {
+        if !self.is_in_force(mapping) {
+            self.in_force.push(mapping)?;
+        }
+        Ok(())
+    }
+
     /// Takes a mapping away. It is refused only for want of memory.
     pub fn drop_mapping(&mut self, alloc: Global, mapping: u16) -> Result<(), Memory> {
         self.gone.push(mapping)?;
@@ -103,24 +130,17 @@ impl World {
 
     /// The place among those that wait of the update that is held at this place.
     pub fn waiting_place(&self, held: usize) -> Option<usize> {
-        let mut place = 0;
-        for waiting in self.waiting.as_slice() {
-            if waiting.held == held {
-                return Some(place);
-            }
-            place += 1;
-        }
-        None
+        let mut waiting = self.waiting.as_slice().iter();
+        waiting.position(|waiting| waiting.held == held)
     }
 
     /// The answers of the update that is held at this place, if it waits. It is refused only for want of memory.
     pub fn answers_of(&self, alloc: Global, held: usize) -> Result<Option<GivenList>, Memory> {
-        for waiting in self.waiting.as_slice() {
-            if waiting.held == held {
-                return Ok(Some(waiting.answers.copy(alloc)?));
-            }
+        let mut waiting = self.waiting.as_slice().iter();
+        match waiting.find(|waiting| waiting.held == held) {
+            Some(waiting) => Ok(Some(waiting.answers.copy(alloc)?)),
+            None => Ok(None),
         }
-        Ok(None)
     }
 
     /// The update stands, and waits no more. It is refused only for want of memory.
@@ -141,7 +161,7 @@ impl World {
     pub fn wait(&mut self, held: usize, answers: GivenList) -> Result<(), Memory> {
         let waiting = Waiting { held, answers };
         match self.waiting_place(held) {
-            Some(place) => self.waiting.put(place, waiting),
+            Some(place) => put(&mut self.waiting, place, waiting),
             None => self.waiting.push(waiting)?,
         }
         Ok(())

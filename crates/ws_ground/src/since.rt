@@ -5,7 +5,7 @@ use base_types::{Binding, Facts, Mapping, Memory, TryCopy, TupleList, Value};
 use chase_match::first_match;
 use std::alloc::Global;
 
-/// The least image of the mapping's left side where the variables that stand on both sides have these values; none where there is
+/// The least image of the mapping's left side if the variables that stand on both sides have these values; none if there is
 /// no match. It is refused only for want of memory.
 pub fn image_for<F: Facts>(
     alloc: Global,
@@ -15,12 +15,8 @@ pub fn image_for<F: Facts>(
 ) -> Result<TupleList, Memory> {
     let shared = shared_variables(alloc, mapping)?;
     let mut binding = Binding::new(alloc);
-    let mut place = 0;
-    for variable in &shared {
-        if let Some(value) = values.get(place) {
-            binding.set(*variable, value.copy(alloc)?)?;
-        }
-        place += 1;
+    for (variable, value) in shared.iter().zip(values) {
+        binding.set(*variable, value.copy(alloc)?)?;
     }
     match first_match(alloc, &mapping.left, facts, &binding)? {
         Some(matched) => Ok(matched.image),

@@ -17,14 +17,14 @@ pub const UNKNOWN: u16 = 101;
 pub const FIX: u16 = 102;
 
 /// That the new unknown of this number is wanted. It is refused only for want of memory.
-pub(crate) fn wanted(alloc: Global, number: u32) -> Result<Tuple, Memory> {
+pub fn wanted(alloc: Global, number: u32) -> Result<Tuple, Memory> {
     let mut values = ValueList::new(alloc);
     values.push(Value::Int(i64::from(number)))?;
     Tuple::new(alloc, WANT, values)
 }
 
 /// That the new unknown of this number is this value. It is refused only for want of memory.
-pub(crate) fn found_as(alloc: Global, number: u32, value: Value) -> Result<Tuple, Memory> {
+pub fn found_as(alloc: Global, number: u32, value: Value) -> Result<Tuple, Memory> {
     let mut values = ValueList::new(alloc);
     values.push(Value::Int(i64::from(number)))?;
     values.push(value)?;
@@ -32,7 +32,7 @@ pub(crate) fn found_as(alloc: Global, number: u32, value: Value) -> Result<Tuple
 }
 
 /// That a mapping is to be repaired for these values. It is refused only for want of memory.
-pub(crate) fn to_fix(alloc: Global, values: ValueList) -> Result<Tuple, Memory> {
+pub fn to_fix(alloc: Global, values: ValueList) -> Result<Tuple, Memory> {
     let mut values = values;
     if values.is_empty() {
         values.push(Value::Int(0))?;
@@ -133,10 +133,9 @@ fn has_variable(atom: &Atom, variable: u16) -> bool {
 
 /// The hidden mapping by which a mapping is repaired, `_fix_m: _fix_m(x, ..) -> RIGHT`. It is refused only for want of memory.
 pub fn fixing_mapping(alloc: Global, mapping: &Mapping) -> Result<Mapping, Memory> {
-    let shared = shared_variables(alloc, mapping)?;
-    let mut numbers = Vec::new(alloc);
-    numbers.extend_from_slice(&shared)?;
-    for variable in mapping.universal..(mapping.names.len() as u16) {
+    let mut numbers = shared_variables(alloc, mapping)?;
+    let shared = small(numbers.len());
+    for variable in mapping.universal..small(mapping.names.len()) {
         numbers.push(variable)?;
     }
     let mut named = name(alloc, b"_fix_")?.into_vec();
@@ -144,11 +143,16 @@ pub fn fixing_mapping(alloc: Global, mapping: &Mapping) -> Result<Mapping, Memor
     Ok(Mapping {
         name: Name::from_vec(named),
         names: names_among(alloc, mapping, &numbers)?,
-        universal: shared.len() as u16,
+        universal: shared,
         since: 0,
-        left: left_side(alloc, shared.len() as u16)?,
+        left: left_side(alloc, shared)?,
         right: atoms_among(alloc, &mapping.right, &numbers)?,
     })
+}
+
+// The count as the number of a variable. A mapping has fewer variables than there are such numbers.
+fn small(count: usize) -> u16 {
+    u16::try_from(count).unwrap_or(u16::MAX)
 }
 
 // The names of these variables.
@@ -162,7 +166,7 @@ fn names_among(alloc: Global, mapping: &Mapping, numbers: &[u16]) -> Result<Name
     Ok(names)
 }
 
-// The left side with so many variables; the number 0 stands there where there are none.
+// The left side with so many variables; the number 0 stands there if there are none.
 fn left_side(alloc: Global, count: u16) -> Result<AtomList, Memory> {
     let mut terms = TermRow::new(alloc);
     for variable in 0..count {
@@ -203,14 +207,8 @@ fn atom_among(alloc: Global, atom: &Atom, numbers: &[u16]) -> Result<Atom, Memor
     })
 }
 
-// The place of the number, from 0; how many there are where it is not among them.
+// The place of the number, from 0; how many there are if it is not among them.
 fn place_among(numbers: &[u16], variable: u16) -> u16 {
-    let mut place = 0;
-    for number in numbers {
-        if *number == variable {
-            return place;
-        }
-        place += 1;
-    }
-    place
+    let place = numbers.iter().position(|number| *number == variable);
+    small(place.unwrap_or(numbers.len()))
 }

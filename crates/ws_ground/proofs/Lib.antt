@@ -1,0 +1,2 @@
+mod Undoing
+mod Trailing
