@@ -3,7 +3,7 @@
 use base_types::{Memory, Write};
 use std::alloc::Global;
 use ws_fault::{Refusal, Status as Code};
-use ws_json::Object;
+use ws_json::{Items, Object};
 use ws_lines::Given;
 use ws_print::{add_choice, add_count};
 use ws_question::{fact_text, reason_words, status_of, status_word};
@@ -177,20 +177,33 @@ fn lines(alloc: Global, space: &Space, told: &Told) -> Result<Vec<String>, Memor
 }
 
 fn object(alloc: Global, space: &Space, told: &Told) -> Result<Object, Memory> {
-    let number = told.number;
-    let mut writes = Vec::new(alloc);
-    for wrote in told.writes.iter() {
-        let sign = wrote.sign;
-        let text = wrote.text.as_str();
-        writes.push(format!(in alloc; "{sign}{text}")?)?;
-    }
     let mut object = object_of(alloc, "update")?;
-    object.number("number", i64::from(number))?;
-    object.text("curator", space.curator_of(number))?;
-    object.text("time", space.time_of(number))?;
-    object.text("line", space.update_text(alloc, number)?.as_str())?;
+    add_update(alloc, &mut object, space, told)?;
+    Ok(object)
+}
+
+fn add_update(
+    alloc: Global,
+    object: &mut Object,
+    space: &Space,
+    told: &Told,
+) -> Result<(), Memory> {
+    object.number("number", i64::from(told.number))?;
+    object.text("curator", space.curator_of(told.number))?;
+    object.text("time", space.time_of(told.number))?;
+    object.text("line", space.update_text(alloc, told.number)?.as_str())?;
     object.text("state", status_word(told.status))?;
     object.items("answers", text_items(alloc, told.answers.as_slice())?)?;
-    object.items("writes", text_items(alloc, writes.as_slice())?)?;
-    Ok(object)
+    object.items("writes", write_items(alloc, told.writes.as_slice())?)?;
+    Ok(())
+}
+
+fn write_items(alloc: Global, writes: &[Wrote]) -> Result<Items, Memory> {
+    let mut items = Items::new(alloc);
+    for wrote in writes {
+        let sign = wrote.sign;
+        let text = wrote.text.as_str();
+        items.text(format!(in alloc; "{sign}{text}")?.as_str())?;
+    }
+    Ok(items)
 }
