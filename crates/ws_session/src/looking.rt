@@ -4,11 +4,11 @@ use crate::commands::Turn;
 use crate::leaving::Done;
 use crate::sending::sent;
 use crate::sessions::{Session, context_of};
+use ws_command::Look;
 use ws_dump::dump;
+use ws_fault::Refusal;
 use ws_look::look as looked;
 use ws_out::{export, export_word, graph, page};
-use ws_command::Look;
-use ws_fault::Refusal;
 use ws_space::Space;
 
 impl Session {
