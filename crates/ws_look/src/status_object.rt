@@ -7,7 +7,7 @@ use std::alloc::Global;
 use ws_json::{Items, Object};
 use ws_print::add_stamp;
 use ws_reply::Context;
-use ws_seen::{column_items, number_items, number_of, object_of};
+use ws_seen::{column_items, number_of, object_of};
 use ws_space::Space;
 use ws_written::Relation;
 
