@@ -26,6 +26,27 @@ pub(crate) struct Wanted<'a> {
     pub limit: Option<u32>,
 }
 
+impl<'a> Wanted<'a> {
+    /// The same; an empty text is none.
+    pub(crate) fn of(
+        number: Option<u32>,
+        like: Option<&'a str>,
+        mine: bool,
+        limit: Option<u32>,
+    ) -> Wanted<'a> {
+        let like = match like {
+            Some(text) if !text.is_empty() => Some(text),
+            _ => None,
+        };
+        Wanted {
+            number,
+            like,
+            mine,
+            limit,
+        }
+    }
+}
+
 /// An update that waits: its question, or why it waits without one.
 #[derive(Drop)]
 pub(crate) struct Told {

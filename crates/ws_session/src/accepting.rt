@@ -71,12 +71,7 @@ impl Session {
 }
 
 // Appends the text; at `Ok` it is acknowledged, and the reply may be told.
-fn told(
-    alloc: Global,
-    log: OpenLog,
-    text: &[u8],
-    reply: Reply,
-) -> Result<(OpenLog, Reply), Fault> {
+fn told(alloc: Global, log: OpenLog, text: &[u8], reply: Reply) -> Result<(OpenLog, Reply), Fault> {
     let log = log.append(alloc, text)?;
     Ok((log, reply))
 }

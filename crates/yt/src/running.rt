@@ -57,6 +57,7 @@ fn begin(rt: &HostRuntime, words: &[String], work: &Words, time: &Time) -> Resul
         wait: work.wait,
         form: form_of(work.json),
         no_files: work.no_files,
+        stays: work.command.is_none(),
     };
     let mut session = Session::new(alloc, settings)?;
     match &work.command {
