@@ -1,6 +1,7 @@
 //! What is wrong with a command, and where.
 
 use crate::statuses::Status;
+use def_memory::Memory;
 use std::alloc::{AllocError, AllocFailed};
 
 /// What is wrong with a command.
@@ -31,6 +32,12 @@ impl From<AllocError> for Refusal {
 
 impl<T: Drop> From<AllocFailed<T>> for Refusal {
     fn from(_error: AllocFailed<T>) -> Refusal {
+        Refusal::Memory
+    }
+}
+
+impl From<Memory> for Refusal {
+    fn from(_error: Memory) -> Refusal {
         Refusal::Memory
     }
 }

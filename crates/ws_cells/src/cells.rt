@@ -1,0 +1,56 @@
+//! What a cell says.
+
+use std::alloc::{AllocError, Global};
+use ws_written::{Unknown, Value};
+
+// Whether the digits are those of a number as it is printed: `0`, or no zero in front.
+fn is_printed(digits: &str) -> bool {
+    match digits.as_bytes() {
+        [] => false,
+        [b'0', ..] => false,
+        bytes => bytes.iter().all(|b| b.is_ascii_digit()),
+    }
+}
+
+/// The number that is printed as the cell, if there is one.
+pub(crate) fn number_of(cell: &str) -> Option<i64> {
+    if cell == "0" {
+        return Some(0);
+    }
+    if !is_printed(cell.strip_prefix("-").unwrap_or(cell)) {
+        return None;
+    }
+    cell.parse::<i64>().ok()
+}
+
+/// The numbers of a cell `?U.P`, as they are written.
+pub(crate) fn unknown_parts(cell: &str) -> Option<(&str, &str)> {
+    let (update, place) = cell.strip_prefix("?")?.split_once('.')?;
+    if are_digits(update) && are_digits(place) {
+        return Some((update, place));
+    }
+    None
+}
+
+fn are_digits(text: &str) -> bool {
+    !text.is_empty() && text.bytes().all(|b| b.is_ascii_digit())
+}
+
+/// The unknown of a cell `?U.P`, if it is among those that stand, which are in order.
+pub(crate) fn unknown_of(parts: (&str, &str), standing: &[Unknown]) -> Option<Unknown> {
+    let update = parts.0.parse::<u32>().ok()?;
+    let place = parts.1.parse::<u32>().ok()?;
+    let unknown = Unknown { update, place };
+    standing.binary_search(&unknown).ok()?;
+    Some(unknown)
+}
+
+/// The value of a cell: a number if one is printed so, unless the column has texts alone; else a text.
+pub(crate) fn value_of(alloc: Global, cell: &str, as_text: bool) -> Result<Value, AllocError> {
+    if !as_text {
+        if let Some(number) = number_of(cell) {
+            return Ok(Value::Number(number));
+        }
+    }
+    Ok(Value::Text(String::from_str(alloc, cell)?))
+}

@@ -1,0 +1,49 @@
+//! Names of columns, as a file has them and as a relation may have them.
+
+use std::alloc::{AllocError, Global};
+
+// What is cut off around the name of a column.
+fn is_margin(letter: char) -> bool {
+    letter.is_whitespace() || ('\u{1c}' <= letter && letter <= '\u{1f}')
+}
+
+/// The names of the columns of a file: its first cells, without the blanks around them.
+pub(crate) fn header_of(alloc: Global, cells: &[String]) -> Result<Vec<String>, AllocError> {
+    let mut names = Vec::new(alloc);
+    for cell in cells {
+        names.push(String::from_str(alloc, cell.as_str().trim_matches(is_margin))?)?;
+    }
+    Ok(names)
+}
+
+// The name with `_` for each character that may not stand in one.
+fn with_underscores(alloc: Global, name: &str) -> Result<String, AllocError> {
+    let mut out = String::new(alloc);
+    for letter in name.chars() {
+        let stands = letter.is_ascii_alphanumeric() || letter == '_';
+        out.push(if stands { letter } else { '_' })?;
+    }
+    Ok(out)
+}
+
+/// The name of a column that is made of a name in a file: one that begins with no letter gets a `c` in front.
+pub(crate) fn made_name(alloc: Global, name: &str) -> Result<String, AllocError> {
+    if name.is_empty() {
+        return String::from_str(alloc, "c");
+    }
+    let made = with_underscores(alloc, name)?;
+    if made.as_str().starts_with(|c: char| c.is_ascii_alphabetic()) {
+        return Ok(made);
+    }
+    format!(in alloc; "c{made}")
+}
+
+/// The place of a name; None if it is not there.
+pub(crate) fn place_of(names: &[String], name: &str) -> Option<usize> {
+    names.iter().position(|n| n.as_str() == name)
+}
+
+/// Whether a name stands twice.
+pub(crate) fn has_twice(names: &[String]) -> bool {
+    names.iter().enumerate().any(|(place, name)| place_of(names, name.as_str()) != Some(place))
+}

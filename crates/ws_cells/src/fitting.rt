@@ -1,0 +1,113 @@
+//! The first line of a file against the relation that it is for.
+
+use crate::columns::header_of;
+use crate::creating::created;
+use crate::forms::Form;
+use crate::matching::{FittedColumn, column_names, fitted_columns};
+use crate::readers::CsvRow;
+use crate::refusing::{add_names, fault, has, meant_of};
+use std::alloc::{AllocError, Global};
+use ws_command::Load;
+use ws_fault::{Refusal, Status};
+use ws_print::add_escaped;
+use ws_written::Relation;
+
+/// How the cells of a row become a tuple.
+#[derive(Drop)]
+pub struct Fitted {
+    /// The relation that has to be declared first, if it is not there.
+    pub created: Option<Relation>,
+    /// The number of the relation.
+    pub relation: u32,
+    /// How many cells a row has.
+    pub width: usize,
+    /// The columns of the relation, in order.
+    pub columns: Vec<FittedColumn>,
+}
+
+/// How the rows under a first line become tuples of the relation of `load`, which is there or is to be created. What does not
+/// fit is refused; `path` is the file as it was said.
+pub fn fit(
+    alloc: Global,
+    load: &Load,
+    form: &Form,
+    relations: &[Relation],
+    path: &str,
+    first: &CsvRow,
+) -> Result<Fitted, Refusal> {
+    let header = header_of(alloc, first.cells.as_slice())?;
+    has_chosen(alloc, form, path, header.as_slice())?;
+    let name = load.relation.as_str();
+    let there = relations.iter().position(|r| r.name.as_str() == name);
+    if let Some(number) = there {
+        if let Some(relation) = relations.get(number) {
+            let columns = fitted_columns(alloc, form, path, first.line, relation, &header)?;
+            return Ok(Fitted {
+                created: None,
+                relation: u32::try_from(number).unwrap_or(u32::MAX),
+                width: header.len(),
+                columns,
+            });
+        }
+    }
+    fit_created(alloc, load, form, relations, path, first.line, header)
+}
+
+fn fit_created(
+    alloc: Global,
+    load: &Load,
+    form: &Form,
+    relations: &[Relation],
+    path: &str,
+    line: u64,
+    header: Vec<String>,
+) -> Result<Fitted, Refusal> {
+    let relation = created(alloc, load, form, relations, header.as_slice())?;
+    let width = header.len();
+    let header = match form.columns {
+        Some(_) => header,
+        None => column_names(alloc, &relation)?,
+    };
+    let columns = fitted_columns(alloc, form, path, line, &relation, &header)?;
+    Ok(Fitted {
+        created: Some(relation),
+        relation: u32::try_from(relations.len()).unwrap_or(u32::MAX),
+        width,
+        columns,
+    })
+}
+
+// Each column that `--columns` names is in the file.
+fn has_chosen(alloc: Global, form: &Form, path: &str, header: &[String]) -> Result<(), Refusal> {
+    let Some(chosen) = &form.columns else {
+        return Ok(());
+    };
+    for name in chosen.iter() {
+        if !has(header, name.as_str()) {
+            return no_column(alloc, path, name.as_str(), header);
+        }
+    }
+    Ok(())
+}
+
+fn no_column(alloc: Global, path: &str, name: &str, header: &[String]) -> Result<(), Refusal> {
+    let mut words = format!(in alloc; "{path} has no column ")?;
+    add_escaped(&mut words, name)?;
+    let mut hint = meant_of(alloc, name, header)?;
+    if hint.is_none() {
+        let mut known = String::from_str(alloc, "it has ")?;
+        add_names(&mut known, header)?;
+        hint = Some(known);
+    }
+    let hint = escaped(alloc, &hint)?;
+    fault(alloc, Status::Refused, words, hint)
+}
+
+fn escaped(alloc: Global, text: &Option<String>) -> Result<Option<String>, AllocError> {
+    let Some(text) = text else {
+        return Ok(None);
+    };
+    let mut out = String::new(alloc);
+    add_escaped(&mut out, text.as_str())?;
+    Ok(Some(out))
+}

@@ -1,0 +1,115 @@
+//! How a file is to be read: the words of `load`.
+
+use crate::refusing::fault;
+use std::alloc::{AllocError, Global};
+use ws_command::Load;
+use ws_fault::{Refusal, Status};
+
+/// What an empty cell is.
+#[derive(Clone, Copy, PartialEq, Eq)]
+pub enum Empty {
+    /// A fault.
+    Refuse,
+    /// A new unknown, each.
+    New,
+    /// The empty text.
+    Text,
+    /// Its row is passed over.
+    Skip,
+}
+
+/// How a file is to be read.
+#[derive(Drop)]
+pub struct Form {
+    pub separator: char,
+    pub empty: Empty,
+    /// The words that make a cell an empty one.
+    pub nulls: Vec<String>,
+    /// The columns whose cells are all texts.
+    pub texts: Vec<String>,
+    /// The columns of the file that are taken, in the order of the relation's; none means all, by their names.
+    pub columns: Option<Vec<String>>,
+    /// Whether `?U.P` is an unknown.
+    pub unknowns: bool,
+}
+
+const SEPARATOR: &str = "the separator is one character, or tab";
+
+const EMPTY: &str =
+    "--empty is new (a new unknown), text (the empty text), skip (the row) or refuse";
+
+/// The separator that a word stands for: its one character, or that of `tab`.
+pub fn separator_of(word: &str) -> Option<char> {
+    if word == "tab" {
+        return Some('\t');
+    }
+    let mut letters = word.chars();
+    let letter = letters.next()?;
+    if letters.next().is_some() || letter == '"' || letter == '\n' || letter == '\r' {
+        return None;
+    }
+    Some(letter)
+}
+
+fn empty_of(word: &str) -> Option<Empty> {
+    match word {
+        "refuse" => Some(Empty::Refuse),
+        "new" => Some(Empty::New),
+        "text" => Some(Empty::Text),
+        "skip" => Some(Empty::Skip),
+        _ => None,
+    }
+}
+
+// The parts of a word between commas.
+fn parts_of(alloc: Global, word: &str) -> Result<Vec<String>, AllocError> {
+    let mut parts = Vec::new(alloc);
+    for part in word.split(',') {
+        parts.push(String::from_str(alloc, part)?)?;
+    }
+    Ok(parts)
+}
+
+fn some_parts(alloc: Global, word: &Option<String>) -> Result<Vec<String>, AllocError> {
+    match word {
+        Some(word) => parts_of(alloc, word.as_str()),
+        None => Ok(Vec::new(alloc)),
+    }
+}
+
+fn columns_of(alloc: Global, word: &Option<String>) -> Result<Option<Vec<String>>, AllocError> {
+    match word {
+        Some(word) => Ok(Some(parts_of(alloc, word.as_str())?)),
+        None => Ok(None),
+    }
+}
+
+fn word_or<'a>(word: &'a Option<String>, usual: &'a str) -> &'a str {
+    match word {
+        Some(word) => word.as_str(),
+        None => usual,
+    }
+}
+
+/// How a file is to be read. A separator of other than one character, and an empty cell that is to be something else, are
+/// refused.
+pub fn form_of(alloc: Global, load: &Load) -> Result<Form, Refusal> {
+    let Some(separator) = separator_of(word_or(&load.separator, ",")) else {
+        let words = String::from_str(alloc, SEPARATOR)?;
+        return fault(alloc, Status::Unread, words, None);
+    };
+    let Some(empty) = empty_of(word_or(&load.empty, "refuse")) else {
+        let words = String::from_str(alloc, EMPTY)?;
+        return fault(alloc, Status::Unread, words, None);
+    };
+    let mut texts = some_parts(alloc, &load.text)?;
+    texts.retain(|text| !text.is_empty());
+    Ok(Form {
+        separator,
+        empty,
+        nulls: some_parts(alloc, &load.null)?,
+        texts,
+        columns: columns_of(alloc, &load.columns)?,
+        unknowns: load.unknowns,
+    })
+}

@@ -1,0 +1,62 @@
+//! Faults of a load.
+
+use std::alloc::{AllocError, Global};
+use ws_fault::{Fault, Nearest, Refusal, Status};
+
+/// A fault without a place.
+pub(crate) fn fault<T>(
+    alloc: Global,
+    status: Status,
+    words: String,
+    hint: Option<String>,
+) -> Result<T, Refusal> {
+    Err(Refusal::Fault(Fault {
+        status,
+        words,
+        place: None,
+        hint,
+        more: Vec::new(alloc),
+    }))
+}
+
+/// A fault with further ones.
+pub(crate) fn faults<T>(
+    words: String,
+    hint: Option<String>,
+    more: Vec<String>,
+) -> Result<T, Refusal> {
+    Err(Refusal::Fault(Fault {
+        status: Status::Refused,
+        words,
+        place: None,
+        hint,
+        more,
+    }))
+}
+
+/// The question whether one of the names was meant, if one is near.
+pub(crate) fn meant_of(
+    alloc: Global,
+    word: &str,
+    names: &[String],
+) -> Result<Option<String>, AllocError> {
+    let mut nearest = Nearest::to(alloc, word)?;
+    for name in names {
+        nearest.consider(name.as_str())?;
+    }
+    nearest.question()
+}
+
+/// Whether a name stands among others.
+pub(crate) fn has(names: &[String], name: &str) -> bool {
+    names.iter().any(|n| n.as_str() == name)
+}
+
+/// The names between commas.
+pub(crate) fn add_names(out: &mut String, names: &[String]) -> Result<(), AllocError> {
+    for (place, name) in names.iter().enumerate() {
+        out.push_str(if 0 < place { ", " } else { "" })?;
+        out.push_str(name.as_str())?;
+    }
+    Ok(())
+}

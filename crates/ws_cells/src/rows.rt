@@ -1,0 +1,94 @@
+//! The rows of a file as tuples, or all faults of them.
+
+use crate::fitting::Fitted;
+use crate::forms::Form;
+use crate::loading::{Loading, RowFault};
+use crate::readers::{CsvFault, CsvReader};
+use crate::refusing::faults;
+use std::alloc::{AllocError, Global};
+use ws_fault::Refusal;
+use ws_print::add_count;
+use ws_written::{NewFact, Unknown};
+
+/// A row, and its tuple.
+#[derive(Drop)]
+pub struct LoadedRow {
+    pub line: u64,
+    /// The number of the row under the first line, from 1.
+    pub row: u64,
+    pub fact: NewFact,
+}
+
+/// The tuples of a file.
+#[derive(Drop)]
+pub struct Loaded {
+    pub rows: Vec<LoadedRow>,
+    /// How many rows were passed over for an empty cell.
+    pub skipped: u64,
+}
+
+/// The tuples of the rows that are left, or all faults of the file, by line. The unknowns that stand are in order; `path` is
+/// the file as it was said.
+pub fn facts_of(
+    alloc: Global,
+    reader: &mut CsvReader<'_>,
+    form: &Form,
+    fitted: &Fitted,
+    standing: &[Unknown],
+    path: &str,
+) -> Result<Loaded, Refusal> {
+    let mut loading = Loading::of(alloc, form, fitted, standing);
+    for number in 1..u64::MAX {
+        let Some(row) = reader.next_row()? else {
+            break;
+        };
+        loading.add_row(number, &row)?;
+    }
+    let (loaded, found) = loading.parts();
+    let all = all_faults(alloc, reader.faults(), found)?;
+    if all.is_empty() {
+        return Ok(loaded);
+    }
+    refused(alloc, path, all)
+}
+
+fn refused(alloc: Global, path: &str, all: Vec<RowFault>) -> Result<Loaded, Refusal> {
+    let mut words = format!(in alloc; "{path} has ")?;
+    add_count(&mut words, all.len(), "fault")?;
+    words.push_str("; nothing was loaded")?;
+    let mut more = Vec::new(alloc);
+    for fault in all.iter() {
+        let line = fault.line;
+        let told = fault.words.as_str();
+        more.push(format!(in alloc; "line {line}: {told}")?)?;
+    }
+    faults(words, None, more)
+}
+
+fn quote_fault(alloc: Global, fault: &CsvFault) -> Result<RowFault, AllocError> {
+    let (line, words) = match fault {
+        CsvFault::Open(line) => (*line, "a quote is not closed"),
+        CsvFault::After(line) => (*line, "something follows a closing quote"),
+    };
+    Ok(RowFault {
+        line,
+        words: String::from_str(alloc, words)?,
+    })
+}
+
+// All faults by line, those of quotes before others of a line.
+fn all_faults(
+    alloc: Global,
+    quotes: &[CsvFault],
+    rows: Vec<RowFault>,
+) -> Result<Vec<RowFault>, AllocError> {
+    let mut all = Vec::new(alloc);
+    for fault in quotes {
+        all.push(quote_fault(alloc, fault)?)?;
+    }
+    for fault in rows {
+        all.push(fault)?;
+    }
+    all.sort_by_key(|fault| fault.line)?;
+    Ok(all)
+}

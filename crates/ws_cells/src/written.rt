@@ -1,0 +1,43 @@
+//! The bytes of a file as a text, and cells as they are written.
+
+use crate::refusing::fault;
+use std::alloc::{AllocError, Global};
+use ws_fault::{Refusal, Status};
+
+/// The text of a file's bytes; a file that is not UTF-8 is refused, with the place of the first byte that is none.
+pub fn text_of<'a>(alloc: Global, path: &str, bytes: &'a [u8]) -> Result<&'a str, Refusal> {
+    match str::from_utf8(bytes) {
+        Ok(text) => Ok(text),
+        Err(error) => {
+            let at = error.valid_up_to();
+            let ends = bytes.iter().take(at).filter(|b| **b == b'\n').count();
+            let line = ends.saturating_add(1);
+            let words = format!(in alloc; "{path} is not UTF-8, at byte {at}, line {line}")?;
+            let hint = String::from_str(alloc, "convert it: iconv -f latin1 -t utf8")?;
+            fault(alloc, Status::Refused, words, Some(hint))
+        }
+    }
+}
+
+// Whether a cell has to stand between quotes.
+fn is_quoted(text: &str) -> bool {
+    text.is_empty()
+        || text.trim().len() != text.len()
+        || text
+            .bytes()
+            .any(|b| b == b'"' || b == b',' || b == b'\r' || b == b'\n')
+}
+
+/// Adds a text as a cell: between quotes, its quotes doubled, if it would else be read as another one. It is refused only
+/// for want of memory.
+pub fn add_csv_cell(out: &mut String, text: &str) -> Result<(), AllocError> {
+    if !is_quoted(text) {
+        return out.push_str(text);
+    }
+    out.push('"')?;
+    for (place, part) in text.split('"').enumerate() {
+        out.push_str(if 0 < place { "\"\"" } else { "" })?;
+        out.push_str(part)?;
+    }
+    out.push('"')
+}

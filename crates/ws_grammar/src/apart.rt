@@ -1,0 +1,66 @@
+//! A variable of its own for each `_` of a mapping.
+
+use std::alloc::{AllocError, Global};
+use std::mem;
+use ws_written::{Atom, Rule, Term};
+
+fn is_variable(term: &Term, name: &str) -> bool {
+    match term {
+        Term::Variable(variable) => variable.as_str() == name,
+        _ => false,
+    }
+}
+
+fn has_variable(atoms: &[Atom], name: &str) -> bool {
+    atoms.iter().any(|atom| atom.terms.iter().any(|term| is_variable(term, name)))
+}
+
+// `_i`, with one more `_` in front while the mapping has that name.
+fn free_name(alloc: Global, rule: &Rule, number: u32) -> Result<String, AllocError> {
+    let mut name = format!(in alloc; "_{number}")?;
+    for _ in 0..u64::MAX {
+        let left = has_variable(rule.left.as_slice(), name.as_str());
+        if !left && !has_variable(rule.right.as_slice(), name.as_str()) {
+            break;
+        }
+        name = format!(in alloc; "_{name}")?;
+    }
+    Ok(name)
+}
+
+fn count_blanks(atoms: &[Atom]) -> usize {
+    let mut count = 0usize;
+    for atom in atoms {
+        let here = atom.terms.iter().filter(|t| is_variable(t, "_")).count();
+        count = count.saturating_add(here);
+    }
+    count
+}
+
+// The names stand for the `_`s, in order.
+fn name_blanks(atoms: &mut [Atom], names: &mut Vec<String>) {
+    for atom in atoms.iter_mut() {
+        for term in atom.terms.iter_mut() {
+            if is_variable(term, "_") {
+                if let Some(name) = names.pop() {
+                    drop(mem::replace(term, Term::Variable(name)));
+                }
+            }
+        }
+    }
+}
+
+/// Each `_` of the mapping becomes a variable of its own: the i-th is `_i`, with one more `_` in front while that name
+/// is taken. It is refused only for want of memory; the mapping is then as it was.
+pub fn set_apart(alloc: Global, rule: &mut Rule) -> Result<(), AllocError> {
+    let left = count_blanks(rule.left.as_slice());
+    let count = left.saturating_add(count_blanks(rule.right.as_slice()));
+    let mut names = Vec::new(alloc);
+    for number in 1..=u32::try_from(count).unwrap_or(u32::MAX) {
+        names.push(free_name(alloc, rule, number)?)?;
+    }
+    names.reverse();
+    name_blanks(rule.left.as_mut_slice(), &mut names);
+    name_blanks(rule.right.as_mut_slice(), &mut names);
+    Ok(())
+}

@@ -1,0 +1,135 @@
+//! A place in a line, and the tokens from there on.
+
+use crate::bytes::{after_blanks, is_blank, name_run, number_run};
+use std::alloc::Global;
+use ws_fault::Refusal;
+
+/// A line, and what is left of it. After each token blanks are passed over, and so are a comment and a last `;`.
+#[derive(Drop)]
+pub(crate) struct Cursor<'a> {
+    pub(crate) alloc: Global,
+    pub(crate) line: &'a [u8],
+    pub(crate) rest: &'a [u8],
+    pub(crate) comment: &'a [u8],
+}
+
+// Whether nothing but `;` and blanks is left.
+fn is_last_semicolon(rest: &[u8]) -> bool {
+    match rest {
+        [b';', after @ ..] => after.iter().all(|b| is_blank(*b)),
+        _ => false,
+    }
+}
+
+impl<'a> Cursor<'a> {
+    /// The beginning of a line.
+    pub(crate) fn over(alloc: Global, line: &'a str) -> Cursor<'a> {
+        let bytes = line.as_bytes();
+        let mut cursor = Cursor {
+            alloc,
+            line: bytes,
+            rest: bytes,
+            comment: b"",
+        };
+        cursor.go_on(bytes);
+        cursor
+    }
+
+    /// Goes on at what is left, after blanks and a comment.
+    pub(crate) fn go_on(&mut self, rest: &'a [u8]) {
+        self.rest = after_blanks(rest);
+        if let Some(comment) = self.rest.strip_prefix(b"#") {
+            self.comment = comment;
+            self.rest = b"";
+        }
+        if is_last_semicolon(self.rest) {
+            self.rest = b"";
+        }
+    }
+
+    /// The place of what is left, in bytes from the beginning of the line.
+    pub(crate) fn at(&self) -> usize {
+        self.line.len().saturating_sub(self.rest.len())
+    }
+
+    pub(crate) fn is_done(&self) -> bool {
+        self.rest.is_empty()
+    }
+
+    pub(crate) fn is_sign(&self, sign: &str) -> bool {
+        self.rest.starts_with(sign.as_bytes())
+    }
+
+    /// Takes a sign, if it stands here.
+    pub(crate) fn take_sign(&mut self, sign: &str) -> bool {
+        match self.rest.strip_prefix(sign.as_bytes()) {
+            Some(rest) => {
+                self.go_on(rest);
+                true
+            }
+            None => false,
+        }
+    }
+
+    /// Takes a sign.
+    pub(crate) fn sign(&mut self, sign: &str, expected: &str) -> Result<(), Refusal> {
+        if self.take_sign(sign) {
+            return Ok(());
+        }
+        self.fail(expected)
+    }
+
+    pub(crate) fn is_name(&self) -> bool {
+        name_run(self.rest).is_some()
+    }
+
+    /// Whether this name stands here.
+    pub(crate) fn is_word(&self, word: &str) -> bool {
+        match name_run(self.rest) {
+            Some((name, _)) => name == word,
+            None => false,
+        }
+    }
+
+    /// Takes a name, if this one stands here.
+    pub(crate) fn take_word(&mut self, word: &str) -> bool {
+        let Some((name, rest)) = name_run(self.rest) else {
+            return false;
+        };
+        if name != word {
+            return false;
+        }
+        self.go_on(rest);
+        true
+    }
+
+    /// Takes a name.
+    pub(crate) fn name(&mut self, expected: &str) -> Result<&'a str, Refusal> {
+        let Some((name, rest)) = name_run(self.rest) else {
+            return self.fail(expected);
+        };
+        self.go_on(rest);
+        Ok(name)
+    }
+
+    pub(crate) fn is_number(&self) -> bool {
+        number_run(self.rest).is_some()
+    }
+
+    /// The end of the line.
+    pub(crate) fn end(&self) -> Result<(), Refusal> {
+        if self.is_done() {
+            return Ok(());
+        }
+        self.fail("the end of the line")
+    }
+
+    /// After an item between brackets: whether the list ends here.
+    pub(crate) fn closes(&mut self) -> Result<bool, Refusal> {
+        if self.take_sign(")") {
+            return Ok(true);
+        }
+        self.sign(",", "a comma or )")?;
+        Ok(false)
+    }
+}

@@ -1,0 +1,161 @@
+//! What is told if something else was expected.
+
+use crate::bytes::{name_run, text_of, word_run};
+use crate::cursors::Cursor;
+use std::alloc::AllocError;
+use ws_fault::{Fault, Refusal, Status};
+use ws_print::add_escaped;
+
+const QUOTES: &str = "a text stands between two \" signs";
+
+const WHOLE: &str = "numbers are whole; write \"77.50\" as a text";
+
+const COMMENT: &str = "a comment begins with #";
+
+const ARROW: &str = "a mapping is written LEFT -> RIGHT";
+
+const COMMAS: &str = "tuples are joined by commas; there are no comparisons";
+
+const ESCAPE: &str = "a \" inside a text is written \\\"";
+
+const MARK: &str = "the line begins with a byte order mark";
+
+// The first character of a text.
+fn first_letter(rest: &[u8]) -> Option<char> {
+    let start = match rest.split_at_checked(4) {
+        Some((start, _)) => start,
+        None => rest,
+    };
+    start.utf8_chunks().next()?.valid().chars().next()
+}
+
+fn is_quote(letter: char) -> bool {
+    match letter {
+        '\'' | '\u{2018}' | '\u{2019}' | '\u{201c}' | '\u{201d}' | '\u{201e}' => true,
+        _ => false,
+    }
+}
+
+fn is_comparison(letter: char) -> bool {
+    match letter {
+        '<' | '>' | '=' | '!' | '&' | '|' => true,
+        _ => false,
+    }
+}
+
+fn is_arrow(rest: &[u8]) -> bool {
+    rest.starts_with(b":-") || rest.starts_with(b"=>") || rest.starts_with(b"<-")
+}
+
+fn is_decimal_point(rest: &[u8]) -> bool {
+    match rest {
+        [b'.', digit, ..] => digit.is_ascii_digit(),
+        _ => false,
+    }
+}
+
+// What may be done about what stands here, if it is one of the usual slips.
+fn hint_at(rest: &[u8], after_quote: bool) -> Option<&'static str> {
+    let letter = first_letter(rest)?;
+    if is_quote(letter) {
+        Some(QUOTES)
+    } else if is_decimal_point(rest) {
+        Some(WHOLE)
+    } else if rest.starts_with(b"--") {
+        Some(COMMENT)
+    } else if is_arrow(rest) {
+        Some(ARROW)
+    } else if is_comparison(letter) || text_of(word_run(rest).0) == "not" {
+        Some(COMMAS)
+    } else if after_quote && name_run(rest).is_some() {
+        Some(ESCAPE)
+    } else if letter == '\u{feff}' {
+        Some(MARK)
+    } else {
+        None
+    }
+}
+
+impl<'a> Cursor<'a> {
+    /// The place of a byte of the line, in characters.
+    pub(crate) fn column(&self, at: usize) -> usize {
+        self.line
+            .iter()
+            .take(at)
+            .filter(|b| **b & 0xc0 != 0x80)
+            .count()
+    }
+
+    /// Refuses what stood at a place.
+    pub(crate) fn refuse<T>(
+        &self,
+        status: Status,
+        at: usize,
+        words: String,
+        hint: Option<String>,
+    ) -> Result<T, Refusal> {
+        Err(Refusal::Fault(Fault {
+            status,
+            words,
+            place: Some(self.column(at)),
+            hint,
+            more: Vec::new(self.alloc),
+        }))
+    }
+
+    /// Refuses what stood at a place as one that cannot be read, with a hint if it is not empty.
+    pub(crate) fn unread<T>(&self, at: usize, words: &str, hint: &str) -> Result<T, Refusal> {
+        let words = String::from_str(self.alloc, words)?;
+        let hint = self.hint(hint)?;
+        self.refuse(Status::Unread, at, words, hint)
+    }
+
+    fn hint(&self, hint: &str) -> Result<Option<String>, AllocError> {
+        if hint.is_empty() {
+            return Ok(None);
+        }
+        Ok(Some(String::from_str(self.alloc, hint)?))
+    }
+
+    /// Something else was expected here.
+    pub(crate) fn fail<T>(&self, expected: &str) -> Result<T, Refusal> {
+        let hint = hint_at(self.rest, self.is_after_quote()).unwrap_or("");
+        self.fail_with(expected, hint)
+    }
+
+    /// Something else was expected here, and this may be done about it.
+    pub(crate) fn fail_with<T>(&self, expected: &str, hint: &str) -> Result<T, Refusal> {
+        let mut words = format!(in self.alloc; "expected {expected}")?;
+        if self.is_done() {
+            words.push_str(" at the end of the line")?;
+        } else {
+            words.push_str(", found ")?;
+            self.add_found(&mut words)?;
+        }
+        let hint = self.hint(hint)?;
+        self.refuse(Status::Unread, self.at(), words, hint)
+    }
+
+    // The run of letters, digits and `_` here, or the one character.
+    fn add_found(&self, words: &mut String) -> Result<(), AllocError> {
+        let (run, _) = word_run(self.rest);
+        if !run.is_empty() {
+            return words.push_str(text_of(run));
+        }
+        match first_letter(self.rest) {
+            Some(letter) => {
+                let mut found = String::new(self.alloc);
+                found.push(letter)?;
+                add_escaped(words, found.as_str())
+            }
+            None => Ok(()),
+        }
+    }
+
+    fn is_after_quote(&self) -> bool {
+        match self.line.get(self.at().wrapping_sub(1)) {
+            Some(byte) => *byte == b'"',
+            None => false,
+        }
+    }
+}

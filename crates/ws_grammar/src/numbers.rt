@@ -1,0 +1,91 @@
+//! Numbers, and lists of numbers with ranges.
+
+use crate::bytes::number_run;
+use crate::cursors::Cursor;
+use std::collections::BTreeSet;
+use ws_fault::{Refusal, Status};
+
+/// The most numbers that a list may stand for.
+const MOST: usize = 1_000_001;
+
+impl<'a> Cursor<'a> {
+    /// A number from the lowest to the highest.
+    pub(crate) fn number(&mut self, expected: &str, low: i64, high: i64) -> Result<i64, Refusal> {
+        let Some((text, rest)) = number_run(self.rest) else {
+            return self.fail(expected);
+        };
+        if let Ok(number) = text.parse::<i64>() {
+            if low <= number && number <= high {
+                self.go_on(rest);
+                return Ok(number);
+            }
+        }
+        let words = format!(in self.alloc; "{text} is out of range: {low} to {high}")?;
+        self.refuse(Status::Unread, self.at(), words, None)
+    }
+
+    /// A number without a sign, from the lowest to the highest.
+    pub(crate) fn count(&mut self, expected: &str, low: u32, high: u32) -> Result<u32, Refusal> {
+        let number = self.number(expected, i64::from(low), i64::from(high))?;
+        Ok(u32::try_from(number).unwrap_or(high))
+    }
+
+    /// The number of an update.
+    pub(crate) fn update_number(&mut self) -> Result<u32, Refusal> {
+        self.count("the number of an update", 1, u32::MAX)
+    }
+
+    /// Numbers of updates: `N, N..M, ..`.
+    pub(crate) fn numbers(&mut self) -> Result<Vec<u32>, Refusal> {
+        let mut numbers = Vec::new(self.alloc);
+        for _ in 0..u64::MAX {
+            self.add_range(&mut numbers)?;
+            if !self.take_sign(",") {
+                break;
+            }
+        }
+        Ok(numbers)
+    }
+
+    fn add_range(&mut self, numbers: &mut Vec<u32>) -> Result<(), Refusal> {
+        let at = self.at();
+        let first = self.update_number()?;
+        let mut last = first;
+        if self.take_sign("..") {
+            last = self.count("a number", 1, u32::MAX)?;
+        }
+        let length = last.saturating_sub(first) as usize;
+        if last < first || MOST < numbers.len().saturating_add(length).saturating_add(1) {
+            let words = format!(in self.alloc; "the range {first}..{last} is empty or too long")?;
+            return self.refuse(Status::Unread, at, words, None);
+        }
+        for number in first..=last {
+            numbers.push(number)?;
+        }
+        Ok(())
+    }
+
+    /// Numbers of updates, each once, in the order in which they stand first.
+    pub(crate) fn distinct_numbers(&mut self) -> Result<Vec<u32>, Refusal> {
+        let mut seen = BTreeSet::new(self.alloc);
+        let mut distinct = Vec::new(self.alloc);
+        for number in self.numbers()? {
+            if seen.insert(number)? {
+                distinct.push(number)?;
+            }
+        }
+        Ok(distinct)
+    }
+
+    /// Candidates by their numbers.
+    pub(crate) fn candidates(&mut self) -> Result<Vec<u32>, Refusal> {
+        let mut numbers = Vec::new(self.alloc);
+        for _ in 0..u64::MAX {
+            numbers.push(self.count("a candidate's number", 1, u32::MAX)?)?;
+            if !self.take_sign(",") {
+                break;
+            }
+        }
+        Ok(numbers)
+    }
+}

@@ -1,0 +1,149 @@
+//! Values.
+
+use crate::bytes::{name_run, unknown_run};
+use crate::cursors::Cursor;
+use std::alloc::AllocError;
+use ws_fault::{Fault, Refusal, Status};
+use ws_written::{NewValue, Unknown, Value};
+
+const NEW: &str =
+    "a new unknown may stand in `insert`, and in the second tuple of `replace`, alone";
+
+const ANY: &str = "_ stands for any value in delete, replace, why and show";
+
+const WRITE_NEW: &str = "a new unknown is written ?";
+
+// Whether a bare word is one that elsewhere stands for what is not known.
+fn is_null_word(word: &str) -> bool {
+    word.eq_ignore_ascii_case("null")
+        || word.eq_ignore_ascii_case("none")
+        || word.eq_ignore_ascii_case("na")
+        || word.eq_ignore_ascii_case("nil")
+        || word.eq_ignore_ascii_case("unknown")
+}
+
+// What stands after `?` or `?x` of a new unknown, and its name; None if a digit follows.
+fn new_run(bytes: &[u8]) -> Option<(&str, &[u8])> {
+    let rest = bytes.strip_prefix(b"?")?;
+    if let Some((name, after)) = name_run(rest) {
+        return Some((name, after));
+    }
+    match rest.first() {
+        Some(byte) if byte.is_ascii_digit() => None,
+        _ => Some(("", rest)),
+    }
+}
+
+// The digits without the zeros in front.
+fn bare_digits(digits: &str) -> &str {
+    let bare = digits.trim_start_matches('0');
+    if bare.is_empty() { "0" } else { bare }
+}
+
+// The name of an unknown, if its numbers have 32 bits.
+fn unknown_of(update: &str, place: &str) -> Option<Unknown> {
+    let update = update.parse::<u32>().ok()?;
+    let place = place.parse::<u32>().ok()?;
+    Some(Unknown { update, place })
+}
+
+impl<'a> Cursor<'a> {
+    /// A number, a text, or an unknown by its name.
+    pub(crate) fn value(&mut self) -> Result<Value, Refusal> {
+        if let Some((update, place, rest)) = unknown_run(self.rest) {
+            let unknown = self.unknown(update, place)?;
+            self.go_on(rest);
+            return Ok(Value::Unknown(unknown));
+        }
+        if self.is_number() {
+            return self.number_value();
+        }
+        if self.is_sign("\"") {
+            return Ok(Value::Text(self.text()?));
+        }
+        self.no_value()
+    }
+
+    fn number_value(&mut self) -> Result<Value, Refusal> {
+        let number = self.number("a number", i64::MIN, i64::MAX)?;
+        if self.is_sign(".") {
+            return self.fail("a comma or )");
+        }
+        Ok(Value::Number(number))
+    }
+
+    // The unknown of this name. None has one whose numbers have more than 32 bits.
+    fn unknown(&self, update: &str, place: &str) -> Result<Unknown, Refusal> {
+        if let Some(unknown) = unknown_of(update, place) {
+            return Ok(unknown);
+        }
+        let update = bare_digits(update);
+        let place = bare_digits(place);
+        let hint = "`show` has them; a new one is written ? in an insert";
+        Err(Refusal::Fault(Fault {
+            status: Status::Refused,
+            words: format!(in self.alloc; "there is no unknown ?{update}.{place}")?,
+            place: None,
+            hint: Some(String::from_str(self.alloc, hint)?),
+            more: Vec::new(self.alloc),
+        }))
+    }
+
+    // No value stands here.
+    fn no_value<T>(&self) -> Result<T, Refusal> {
+        if self.is_sign("?") {
+            return match new_run(self.rest) {
+                Some(_) => self.fail_with("a value", NEW),
+                None => self.fail("an unknown such as ?12.1"),
+            };
+        }
+        match name_run(self.rest) {
+            Some((word, _)) => self.fail_with("a value", self.bare_hint(word)?.as_str()),
+            None => self.fail("a value"),
+        }
+    }
+
+    // What may be done about a bare word in the place of a value.
+    fn bare_hint(&self, word: &str) -> Result<String, AllocError> {
+        if word == "_" {
+            return String::from_str(self.alloc, ANY);
+        }
+        if is_null_word(word) {
+            return String::from_str(self.alloc, WRITE_NEW);
+        }
+        format!(in self.alloc; "did you mean \"{word}\"? A text stands between two \" signs")
+    }
+
+    /// A value, or a new unknown.
+    pub(crate) fn new_value(&mut self) -> Result<NewValue, Refusal> {
+        if unknown_run(self.rest).is_some() {
+            return Ok(NewValue::Known(self.value()?));
+        }
+        let Some((name, rest)) = new_run(self.rest) else {
+            return Ok(NewValue::Known(self.value()?));
+        };
+        self.go_on(rest);
+        if name.is_empty() {
+            return Ok(NewValue::Fresh);
+        }
+        Ok(NewValue::Named(String::from_str(self.alloc, name)?))
+    }
+
+    /// Takes `_`, if it stands here.
+    pub(crate) fn take_any(&mut self) -> bool {
+        self.take_word("_")
+    }
+
+    /// Values between brackets.
+    pub(crate) fn values(&mut self) -> Result<Vec<Value>, Refusal> {
+        let mut values = Vec::new(self.alloc);
+        self.sign("(", "(")?;
+        for _ in 0..u64::MAX {
+            values.push(self.value()?)?;
+            if self.closes()? {
+                break;
+            }
+        }
+        Ok(values)
+    }
+}

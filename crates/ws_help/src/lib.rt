@@ -1,0 +1,10 @@
+//! The help: what each command is for, in one table, and the pages made of it.
+#![tactic(auto)]
+
+mod details;
+mod pages;
+mod texts;
+
+pub use crate::details::details_of;
+pub use crate::pages::{USAGE, VERSION, help_text};
+pub use crate::texts::{example_of, form_of, short_of};

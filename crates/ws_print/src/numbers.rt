@@ -1,0 +1,43 @@
+//! Ranges of numbers, and counts with their nouns.
+
+use std::alloc::AllocError;
+use std::fmt::Write;
+
+fn add_range(out: &mut String, first: u32, last: u32) -> Result<(), AllocError> {
+    if first == last {
+        return write!(out, "{first}");
+    }
+    write!(out, "{first}..{last}")
+}
+
+/// The numbers; those that follow each other as `A..B`.
+pub fn add_ranges(out: &mut String, numbers: &[u32]) -> Result<(), AllocError> {
+    let Some((first, others)) = numbers.split_first() else {
+        return Ok(());
+    };
+    let mut from = *first;
+    let mut to = *first;
+    for number in others {
+        if to.checked_add(1) != Some(*number) {
+            add_range(out, from, to)?;
+            out.push_str(", ")?;
+            from = *number;
+        }
+        to = *number;
+    }
+    add_range(out, from, to)
+}
+
+/// `1 tuple`, `2 tuples`, `2 queries`, `2 clashes`: a count and its noun.
+pub fn add_count(out: &mut String, count: usize, noun: &str) -> Result<(), AllocError> {
+    if count == 1 {
+        return write!(out, "1 {noun}");
+    }
+    if let Some(stem) = noun.strip_suffix("y") {
+        return write!(out, "{count} {stem}ies");
+    }
+    if noun.ends_with("sh") {
+        return write!(out, "{count} {noun}es");
+    }
+    write!(out, "{count} {noun}s")
+}

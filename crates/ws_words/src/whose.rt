@@ -1,0 +1,27 @@
+//! Who speaks.
+
+use std::alloc::{AllocError, Global};
+
+// The text with `_` for each character that may not stand in a name.
+fn with_underscores(alloc: Global, text: &str) -> Result<String, AllocError> {
+    let mut out = String::new(alloc);
+    for letter in text.chars() {
+        let stands = letter.is_ascii_alphanumeric() || letter == '_';
+        out.push(if stands { letter } else { '_' })?;
+    }
+    Ok(out)
+}
+
+/// The name of the curator that a text of the environment or of `--as` stands for: each character that may not stand in a name
+/// becomes `_`, one that begins with a digit gets a `_` in front, and an empty one is `someone`. It is refused only for want
+/// of memory.
+pub fn curator_of(alloc: Global, text: &str) -> Result<String, AllocError> {
+    if text.is_empty() {
+        return String::from_str(alloc, "someone");
+    }
+    let name = with_underscores(alloc, text)?;
+    if name.as_str().starts_with(|c: char| c.is_ascii_digit()) {
+        return format!(in alloc; "_{name}");
+    }
+    Ok(name)
+}
