@@ -115,10 +115,13 @@ class Explaining:
                 if number is not None:
                     objs[-1].update(number=number, state=item.state)
             if len(e["lines"]) > 6:
-                lines.append("%d  .. and %d more lines, up to %d" % (e["at"], len(e["lines"]) - 3, e["lines"][-1][0] or 0))
+                last = e["lines"][-1][0]
+                lines.append("%d  .. and %d more lines%s" % (e["at"], len(e["lines"]) - 3, ", up to %d" % last if last else ""))
                 for number, c, _ in e["lines"][3:]:
                     objs.append({"reply": "log", "at": e["at"], "time": e["time"], "curator": e["curator"],
-                                 "line": self.line(c), "number": number, "state": s.items[number].state})
+                                 "line": self.line(c)})
+                    if number is not None:
+                        objs[-1].update(number=number, state=s.items[number].state)
         if "since" in opts:
             objs = [self.record_object(e) for e in records]
             if not objs:
