@@ -20,7 +20,7 @@ pub struct Ground {
 }
 
 /// A place to which a ground can be taken back.
-#[derive(Clone, Copy, Debug)]
+#[derive(Clone, Copy)]
 pub struct Mark {
     pub last: u32,
     pub names: usize,

@@ -8,7 +8,7 @@ use std::collections::BTreeMap;
 use ws_names::Names;
 
 /// Whether a tuple was there before, and is there now.
-#[derive(Clone, Copy, Debug)]
+#[derive(Clone, Copy)]
 pub struct Touch {
     pub was: bool,
     pub is: bool,

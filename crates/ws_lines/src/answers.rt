@@ -16,14 +16,14 @@ pub enum Source {
 }
 
 /// Which question it is: its mapping, and the wanted tuple, or the tuples of which some have to go, by names.
-#[derive(Debug, Drop)]
+#[derive(Drop)]
 pub struct Asked {
     pub source: Source,
     pub tuples: TupleList,
 }
 
 /// An answer: the choice, whose tuples are by names, and the question that it was given to.
-#[derive(Debug, Drop)]
+#[derive(Drop)]
 pub struct Given {
     pub choice: Choice,
     pub asked: Asked,

@@ -11,7 +11,7 @@ use std::alloc::Global;
 /// the first one; repair a mapping for these values of the variables that stand on both of its sides, in the order of their first
 /// places; put a mapping in force; or take a mapping away. Mappings have numbers, from 0 on, in the order in which they were
 /// declared.
-#[derive(Debug, Drop)]
+#[derive(Drop)]
 pub enum Deed {
     Insert(SpelledTupleList),
     Delete(TupleList),
@@ -24,7 +24,7 @@ pub enum Deed {
 
 /// An update: its number, who said it and when, how many steps each of its ops may make, what it does, and the names of its
 /// new unknowns by number, each empty if a bare `?` stands for it.
-#[derive(Debug, Drop)]
+#[derive(Drop)]
 pub struct Update {
     pub number: u32,
     pub time: Name,

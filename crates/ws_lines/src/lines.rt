@@ -8,7 +8,7 @@ use base_types::{List, Mapping, Memory, Name, NameList, NumberList, TryCopy};
 use std::alloc::Global;
 
 /// A relation: its name, its columns, and of each column whether it belongs to the key.
-#[derive(Debug, Drop)]
+#[derive(Drop)]
 pub struct Table {
     pub name: Name,
     pub columns: NameList,
@@ -20,7 +20,7 @@ pub type TableList = List<Table>;
 
 /// A line of a log. An update is said; the update of a number is given an answer, or told to try again; updates are undone, done
 /// again, or lose the answers that they had up to here; a relation or a mapping is declared.
-#[derive(Debug, Drop)]
+#[derive(Drop)]
 pub enum Line {
     Update(Update),
     Answer(u32, Given),

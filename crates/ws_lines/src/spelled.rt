@@ -7,7 +7,7 @@ use base_types::{List, Memory, TryCopy, Value};
 use std::alloc::Global;
 
 /// A value of a line: one that is known there, or an unknown that is new with the line, by its number, from 1 on.
-#[derive(Debug, Drop)]
+#[derive(Drop)]
 pub enum Spelled {
     Known(Value),
     New(u32),
@@ -17,7 +17,7 @@ pub enum Spelled {
 pub type SpelledList = List<Spelled>;
 
 /// A tuple of a line, which may have new unknowns.
-#[derive(Debug, Drop)]
+#[derive(Drop)]
 pub struct SpelledTuple {
     pub relation: u16,
     pub values: SpelledList,

@@ -8,7 +8,7 @@ use std::alloc::Global;
 use ws_lines::Source;
 
 /// What draws an unknown: a mapping, for its variable of this number, when its left side has this image, by names.
-#[derive(Debug, Drop)]
+#[derive(Drop)]
 pub struct Cause {
     pub source: Source,
     pub variable: u16,

@@ -14,7 +14,7 @@ pub struct Names {
 }
 
 /// A null and its name.
-#[derive(Clone, Copy, Debug)]
+#[derive(Clone, Copy)]
 pub struct Pair {
     pub null: Null,
     pub name: Null,

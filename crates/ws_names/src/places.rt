@@ -9,7 +9,7 @@ use base_types::{List, Memory, NumberList, TryCopy};
 use std::alloc::Global;
 
 /// A cause with the place that it has.
-#[derive(Debug, Drop)]
+#[derive(Drop)]
 pub struct Place {
     pub cause: Cause,
     pub number: u32,

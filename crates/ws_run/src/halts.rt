@@ -6,7 +6,7 @@ use ws_lines::{Asked, Source};
 /// A question of an update, all by names: which it is; whether it asks which of the candidates the wanted tuple is, or which of the
 /// tuples go; these tuples; the image of the mapping's left side, that it is asked for; what the update did before it; and how many
 /// answers it took before it.
-#[derive(Debug, Drop)]
+#[derive(Drop)]
 pub struct Question {
     pub asked: Asked,
     pub is_positive: bool,
@@ -17,7 +17,7 @@ pub struct Question {
 }
 
 /// How many tuples a run put by what this source generates.
-#[derive(Clone, Copy, Debug)]
+#[derive(Clone, Copy)]
 pub struct Made {
     pub source: Source,
     pub tuples: u32,
@@ -28,7 +28,7 @@ pub type MadeList = List<Made>;
 
 /// Why an update does not stand: it asks, an unknown of this name is not there, its steps do not suffice for what it made, the
 /// mapping that it puts in force has violations, or the mapping is gone.
-#[derive(Debug, Drop)]
+#[derive(Drop)]
 pub enum Reason {
     Asks(Question),
     NotThere(Null),
@@ -38,7 +38,7 @@ pub enum Reason {
 }
 
 /// What ends a run before its end: want of memory, or a reason.
-#[derive(Debug, Drop)]
+#[derive(Drop)]
 pub enum Halt {
     Memory,
     Left(Reason),

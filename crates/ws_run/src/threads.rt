@@ -8,7 +8,7 @@ use ws_names::Places;
 
 /// Why a step takes tuples away: they were named; the mapping lacks what it wants for them; they were chosen among those of a
 /// violation of the mapping; or they became others.
-#[derive(Clone, Copy, Debug)]
+#[derive(Clone, Copy)]
 pub enum Taking {
     Named,
     Needed(Source),

@@ -10,7 +10,7 @@ use ws_lines::Source;
 use ws_run::{Ground, Touched, WANT, follow};
 
 /// A tuple that came or went, by names, and the mapping by which it did, if it did by one.
-#[derive(Debug, Drop)]
+#[derive(Drop)]
 pub struct Moved {
     pub tuple: Tuple,
     pub by: Option<u16>,
@@ -20,7 +20,7 @@ pub struct Moved {
 pub type MovedList = List<Moved>;
 
 /// An unknown that was filled, by its name, with what it is now, by names, in how many tuples.
-#[derive(Debug, Drop)]
+#[derive(Drop)]
 pub struct Filled {
     pub name: Null,
     pub value: Value,

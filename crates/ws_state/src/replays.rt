@@ -18,7 +18,7 @@ pub struct Replayed {
 }
 
 /// An update that a replay changed: its number, and how it stood and stands.
-#[derive(Clone, Copy, Debug)]
+#[derive(Clone, Copy)]
 pub struct Again {
     pub number: u32,
     pub was: Status,

@@ -13,7 +13,7 @@ use ws_run::{Ground, Reason};
 
 /// What is held of an update: whether it is undone, its table of places, and the answers that it had at the last fold, if it waited
 /// then.
-#[derive(Debug, Drop)]
+#[derive(Drop)]
 pub struct Held {
     pub update: Update,
     pub is_undone: bool,
@@ -25,7 +25,7 @@ pub struct Held {
 pub type HeldList = Vec<Held>;
 
 /// What a line of the log did that runs again at a replay, by the places of the updates that are held.
-#[derive(Debug, Drop)]
+#[derive(Drop)]
 pub(crate) enum Said {
     Update(usize),
     Answer(usize, Given),
@@ -33,14 +33,14 @@ pub(crate) enum Said {
 }
 
 /// Such a line, and whether its answer was taken back.
-#[derive(Debug, Drop)]
+#[derive(Drop)]
 pub(crate) struct Event {
     pub said: Said,
     pub is_forgotten: bool,
 }
 
 /// A place in the log: how much was written and how many updates stood by then.
-#[derive(Clone, Copy, Debug)]
+#[derive(Clone, Copy)]
 pub struct Mark {
     pub(crate) last: u32,
     pub(crate) trail: usize,

@@ -33,7 +33,7 @@ pub struct Standing {
 pub type StandingList = List<Standing>;
 
 /// An update that waits, by its place among those that are held, with the answers that it has.
-#[derive(Debug, Drop)]
+#[derive(Drop)]
 pub struct Waiting {
     pub held: usize,
     pub answers: GivenList,
