@@ -139,7 +139,7 @@ fn kind_of(reason: Option<&Reason>) -> &'static str {
         None => "none",
         Some(Reason::Asks(_)) => "question",
         Some(Reason::NotThere(_)) => "lost",
-        Some(Reason::TooLong) => "spent",
+        Some(Reason::TooLong(_)) => "spent",
         Some(Reason::Violated(_)) => "violated",
         Some(Reason::Gone(_)) => "gone",
     }

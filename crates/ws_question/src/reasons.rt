@@ -19,7 +19,7 @@ pub fn reason_words(
     match reason {
         Reason::Asks(_) => Ok(String::from_str(alloc, "it asks")?),
         Reason::NotThere(name) => lost_words(alloc, *name),
-        Reason::TooLong => Ok(String::from_str(alloc, "its steps do not suffice")?),
+        Reason::TooLong(_) => Ok(String::from_str(alloc, "its steps do not suffice")?),
         Reason::Violated(mapping) => {
             let name = space.mapping_name(*mapping);
             let count = space.count_violations(alloc, *mapping)?;
