@@ -1,2 +1,2 @@
-mod Undoing
-mod Trailing
+pub mod Undoing
+pub mod Trailing

@@ -1,4 +1,4 @@
--- A write that changed something, and the one that takes it back.
+-- A write, and the one that takes it back.
 use Rattle.std.proofs.Common.{◌≡◌, ◌∙◌, ap, refl, sym, List, Bool, true, false, not, ◌||◌, ◌&&◌}
 use Rattle.def_chase.specs.Values.{Fact, same_fact}
 use Rattle.def_chase.specs.Repository.{Insert, Delete, IsRepository, has, change}
@@ -18,6 +18,24 @@ deleted_in_order D t s = filter_in_order (λ u. not (same_fact t u)) D s
 -- where the tuple u is the tuple t or another one
 there : (D : List Fact) (t u : Fact) (b : Bool) → has D t ≡ b → same_fact u t ≡ true → has D u ≡ b
 there D t u b h e = ap (has D) (same_exact u t e) ∙ h
+
+kept : (D : List Fact) (t u : Fact) → has D t ≡ true → (b : Bool) → same_fact u t ≡ b → (b || has D u) ≡ has D u
+kept D t u h true e = sym (there D t u true h e)
+kept D t u h false e = refl
+
+-- An insertion of what is there changes nothing.
+pub inserted_again : (D : List Fact) (t : Fact) → IsRepository D → has D t ≡ true → change D (Insert t) ≡ D
+inserted_again D t s h =
+    same_repository (change D (Insert t)) D (insert_in_order D t s) s (λ u. has-insert D t u ∙ kept D t u h (same_fact u t) refl)
+
+missed : (D : List Fact) (t u : Fact) → has D t ≡ false → (b : Bool) → same_fact u t ≡ b → (has D u && not b) ≡ has D u
+missed D t u h true e = and_false (has D u) ∙ sym (there D t u false h e)
+missed D t u h false e = and_true (has D u)
+
+-- A deletion of what is not there changes nothing.
+pub deleted_again : (D : List Fact) (t : Fact) → IsRepository D → has D t ≡ false → change D (Delete t) ≡ D
+deleted_again D t s h =
+    same_repository (change D (Delete t)) D (deleted_in_order D t s) s (λ u. has-delete D t u ∙ missed D t u h (same_fact u t) refl)
 
 gone : (D : List Fact) (t u : Fact) → has D t ≡ false → (b : Bool) → same_fact u t ≡ b → ((b || has D u) && not b) ≡ has D u
 gone D t u h true e = sym (there D t u false h e)

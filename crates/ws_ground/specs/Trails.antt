@@ -1,5 +1,5 @@
 -- Writes that changed something, and what was there before them.
-use Rattle.std.specs.Prelude.{◌≡◌, List, [], ◌∷◌, ◌++◌, map}
+use Rattle.std.specs.Prelude.{◌≡◌, ℕ, ◌<◌, List, [], ◌∷◌, ◌++◌, map, length}
 use Rattle.base_types.specs.Meanings.{change_of}
 use Rattle.base_types.specs.declared.updates.Write.{Write}
 use Rattle.def_chase.specs.Values.{Fact}
@@ -20,3 +20,8 @@ pub record HasMade (ws : List Write) (D : List Fact) (vs : List Write) (E : List
   pub more : List Write
   pub longer : vs ≡ ws ++ more
   pub undone : before (map change_of more) E ≡ D
+
+-- The write is the last of more than k, and is taken from the trail.
+pub record IsPopped (k : ℕ) (ws : List Write) (vs : List Write) (w : Write) : Type 0 where
+  pub many : k < length ws
+  pub last : ws ≡ vs ++ w ∷ []

@@ -1,8 +1,8 @@
 //! What a run is over: the tuples, the names of their nulls, and what was written.
-ghost use Rattle.std.specs.Prelude.{◌≡◌, map, drop, take, OnOk};
+ghost use Rattle.std.specs.Prelude.{◌≡◌, ◌≤◌, map, length, drop, take, OnOk, IfSome, IfNone};
 ghost use Rattle.base_types.specs.Meanings.{change_of};
 ghost use Rattle.def_chase.specs.Repository.{change};
-ghost use Rattle.ws_ground.specs.Trails.{HasMade, before, undoing};
+ghost use Rattle.ws_ground.specs.Trails.{HasMade, IsPopped, before, undoing};
 
 use base_types::{Facts, Memory, Tuple, Write, WriteList};
 use set_facts::IndexedFacts;
@@ -70,17 +70,31 @@ impl Ground {
 }
 
 // Takes back the writes after the first so many, the last of them first. It is refused only for want of memory.
+#[tactic(auto, using(crate::proofs::Trailing::back_on, crate::proofs::Trailing::kept_on, crate::proofs::Trailing::back_all, crate::proofs::Trailing::kept_all))]
 fn take_back(facts: &mut IndexedFacts, trail: &mut WriteList, count: usize) -> Result<(), Memory>
     ensures facts { OnOk result
         (facts.new ≡ before (map change_of (drop count trail.old.items)) facts.old) }
     ensures trail { OnOk result (trail.new.items ≡ take count trail.old.items) }
 {
-    'writes: while trail.len() > count {
-        if let Some(write) = trail.pop() {
-            undo(facts, write)?;
-        }
+    'writes: while let Some(write) = pop_after(trail, count) {
+        undo(facts, write)?;
     }
     Ok(())
+}
+
+// The last write, if there are more than so many.
+fn pop_after(trail: &mut WriteList, count: usize) -> Option<Write>
+    ensures some { IfSome result (IsPopped count trail.old.items trail.new.items) }
+    ensures none { IfNone result (length trail.old.items ≤ count) }
+    ensures same { IfNone result (trail.new.items ≡ trail.old.items) }
+{
+    if trail.len() <= count {
+        return None;
+    }
+    match trail.pop() {
+        Some(write) => Some(write),
+        None => None,
+    }
 }
 
 // Takes back the write, which changed something. It is refused only for want of memory.
@@ -99,6 +113,7 @@ fn undo(facts: &mut IndexedFacts, write: Write) -> Result<(), Memory>
 }
 
 // Makes the writes in turn, and adds to the trail those that change something. It is refused only for want of memory.
+#[tactic(auto, using(crate::proofs::Trailing::none_made, crate::proofs::Trailing::more_made))]
 fn make_all(
     facts: &mut IndexedFacts,
     trail: &mut WriteList,
@@ -121,6 +136,7 @@ fn make_one(facts: &mut IndexedFacts, trail: &mut WriteList, write: Write) -> Re
     }
 }
 
+#[tactic(auto, using(crate::proofs::Trailing::came, crate::proofs::Trailing::came_not))]
 fn insert(facts: &mut IndexedFacts, trail: &mut WriteList, tuple: Tuple) -> Result<(), Memory>
     ensures made { OnOk result (HasMade trail.old.items facts.old trail.new.items facts.new) }
 {
@@ -134,6 +150,7 @@ fn insert(facts: &mut IndexedFacts, trail: &mut WriteList, tuple: Tuple) -> Resu
     Ok(())
 }
 
+#[tactic(auto, using(crate::proofs::Trailing::went, crate::proofs::Trailing::went_not))]
 fn remove(facts: &mut IndexedFacts, trail: &mut WriteList, tuple: Tuple) -> Result<(), Memory>
     ensures made { OnOk result (HasMade trail.old.items facts.old trail.new.items facts.new) }
 {
