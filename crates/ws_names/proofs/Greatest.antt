@@ -11,8 +11,7 @@ greater_of_three : (a b c : ℕ) → greater (greater a b) c ≡ greater a (grea
 greater_of_three a b c = grind (arith, ltb-true)
 
 pub none_greater : (n : ℕ) → greater 0 n ≡ n
-none_greater zero = refl
-none_greater (suc n) = refl
+none_greater n = grind (arith, ltb-true)
 
 -- One place more is looked at.
 pub one_more : (places : List Place) (i most : ℕ) (p : Place) → i < length places → p ≡ get_or places i p
@@ -27,4 +26,4 @@ pub none_left : (places : List Place) (i most : ℕ) → length places ≤ i →
 none_left places i most h = ap (λ (ps : List Place). greater most (greatest (map place_of ps))) (drop_all i places h) ∙ greater_none most
   where
     greater_none : (n : ℕ) → greater n 0 ≡ n
-    greater_none n = refl
+    greater_none n = grind (arith, ltb-true)

@@ -1,1 +1,2 @@
-mod Greatest
+pub mod Greatest
+pub mod Images

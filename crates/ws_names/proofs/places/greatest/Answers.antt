@@ -9,7 +9,7 @@ loop-place-init c = none_greater (greatest_of (map place_of c.args.places.now))
 
 pub loop-place-preserved : goal.loop-place-preserved
 loop-place-preserved c =
-    ap (λ (n : ℕ). greater n (greatest_of (map place_of (drop (c.loop-place.place-index + 1) c.args.places.now)))) c.greater-most.ensures
+    ap (λ (n : ℕ). greater n (greatest_of (map place_of (drop (c.loop-place.place-index + 1) c.args.places.now)))) c.greater-most.ensures.greater
     ∙ one_more c.args.places.now c.loop-place.place-index c.loop-place.most c.place-item.result c.loop-place-test.true c.place-item.is
     ∙ c.loop-place.invariant
 

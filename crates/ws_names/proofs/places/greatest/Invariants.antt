@@ -5,4 +5,4 @@ use Rattle.ws_names.proofs.places.greatest.Given as goal
 
 -- The greatest place is that so far or that of those which are left.
 abbrev pub invariant-loop-place : goal.invariant-loop-place
-invariant-loop-place l = greater l.most (greatest_of (map place_of (drop l.place-index l.places.now))) ≡ greatest_of (map place_of l.places.now)
+invariant-loop-place l = greater l.most (greatest_of (map place_of (drop l.place-index l.places))) ≡ greatest_of (map place_of l.places)
