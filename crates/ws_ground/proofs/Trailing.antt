@@ -42,6 +42,11 @@ back_on ws old new w k D E F so_far p undone =
 pub kept_on : (ws old new : List Write) (w : Write) (k : ℕ) → take k old ≡ take k ws → IsPopped k old new w → take k new ≡ take k ws
 kept_on ws old new w k so_far p = sym (kept_back old new w k p.many p.last) ∙ so_far
 
+pub fewer_left : (old new : List Write) (w : Write) (k : ℕ) → IsPopped k old new w → length new < length old
+fewer_left old new w k p =
+    let long : length old ≡ length new + 1 = ap (λ (l : List Write). length l) p.last ∙ length-append new (w ∷ []) in
+    omega (arith, long)
+
 -- All are taken back.
 pub back_all : (ws vs : List Write) (k : ℕ) (D E : List Fact) → before (map change_of (drop k vs)) E ≡ before (map change_of (drop k ws)) D → length vs ≤ k
     → E ≡ before (map change_of (drop k ws)) D

@@ -16,7 +16,7 @@ use ws_names::Names;
 
 /// Makes the steps of the program, which has made none, up to its end, and gives the choices that it took. It is halted if it asks
 /// and no answer fits, or if it does not end done.
-#[tactic(auto, using(crate::proofs::Stepping::rests_after, crate::proofs::Stepping::sees_on))]
+#[tactic(auto, using(crate::proofs::Onward::rests_after, crate::proofs::Onward::sees_on))]
 pub(crate) fn go(
     alloc: Global,
     over: Over<'_>,
