@@ -70,13 +70,7 @@ impl Ground {
 }
 
 // Takes back the writes after the first so many, the last of them first. It is refused only for want of memory.
-#[tactic(auto, using(
-    crate::proofs::Trailing::back_on,
-    crate::proofs::Trailing::kept_on,
-    crate::proofs::Trailing::fewer_left,
-    crate::proofs::Trailing::back_all,
-    crate::proofs::Trailing::kept_all
-))]
+#[tactic(auto, using(crate::proofs::Trailing::back_on, crate::proofs::Trailing::kept_on, crate::proofs::Trailing::fewer_left, crate::proofs::Trailing::back_all, crate::proofs::Trailing::kept_all))]
 fn take_back(facts: &mut IndexedFacts, trail: &mut WriteList, count: usize) -> Result<(), Memory>
     ensures facts { OnOk result
         (facts.new ≡ before (map change_of (drop count trail.old.items)) facts.old) }
