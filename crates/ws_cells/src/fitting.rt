@@ -1,14 +1,14 @@
 //! The first line of a file against the relation that it is for.
 
-use crate::columns::{header_of, made_name};
+use crate::columns::header_of;
+use crate::creating::created;
 use crate::forms::Form;
 use crate::matching::{FittedColumn, column_names, fitted_columns};
 use crate::readers::CsvRow;
 use crate::refusing::{add_names, fault, has, meant_of};
 use std::alloc::{AllocError, Global};
-use ws_command::{Change, Command, Load, Said};
-use ws_fault::{Nearest, Refusal, Status};
-use ws_grammar::{Names, read_command};
+use ws_command::Load;
+use ws_fault::{Refusal, Status};
 use ws_print::add_escaped;
 use ws_written::Relation;
 
@@ -110,113 +110,4 @@ fn escaped(alloc: Global, text: &Option<String>) -> Result<Option<String>, Alloc
     let mut out = String::new(alloc);
     add_escaped(&mut out, text.as_str())?;
     Ok(Some(out))
-}
-
-// The command that declares the relation by the columns that are taken.
-fn declaration(
-    alloc: Global,
-    load: &Load,
-    form: &Form,
-    header: &[String],
-) -> Result<String, AllocError> {
-    let name = load.relation.as_str();
-    let mut line = format!(in alloc; "relation {name}(")?;
-    let taken = match &form.columns {
-        Some(chosen) => chosen.as_slice(),
-        None => header,
-    };
-    for (place, column) in taken.iter().enumerate() {
-        line.push_str(if 0 < place { ", " } else { "" })?;
-        line.push_str(made_name(alloc, column.as_str())?.as_str())?;
-    }
-    line.push(')')?;
-    Ok(line)
-}
-
-fn nearest_relation(
-    alloc: Global,
-    relations: &[Relation],
-    name: &str,
-) -> Result<Option<String>, AllocError> {
-    let mut nearest = Nearest::to(alloc, name)?;
-    for relation in relations {
-        nearest.consider(relation.name.as_str())?;
-    }
-    nearest.question()
-}
-
-// There is no relation of this name, and it is not to be created.
-fn no_relation<T>(
-    alloc: Global,
-    relations: &[Relation],
-    name: &str,
-    line: Option<String>,
-) -> Result<T, Refusal> {
-    let words = format!(in alloc; "there is no relation {name}")?;
-    let mut hint = nearest_relation(alloc, relations, name)?;
-    if hint.is_none() {
-        if let Some(line) = line {
-            hint = Some(format!(in alloc; "make it: {line}, or load it with --create")?);
-        }
-    }
-    fault(alloc, Status::Refused, words, hint)
-}
-
-// The relation that is created for the file.
-fn created(
-    alloc: Global,
-    load: &Load,
-    form: &Form,
-    relations: &[Relation],
-    header: &[String],
-) -> Result<Relation, Refusal> {
-    let name = load.relation.as_str();
-    let line = declaration(alloc, load, form, header)?;
-    if !load.create {
-        return no_relation(alloc, relations, name, Some(line));
-    }
-    let relation = declared(alloc, line.as_str())?;
-    let same = relations
-        .iter()
-        .any(|r| r.name.as_str().eq_ignore_ascii_case(name));
-    if same {
-        return no_relation(alloc, relations, name, None);
-    }
-    Ok(relation)
-}
-
-// The relation that a line declares; a fault of the line has no place, since nobody said the line.
-fn declared(alloc: Global, line: &str) -> Result<Relation, Refusal> {
-    let names = Names {
-        relations: &[],
-        mappings: &[],
-    };
-    match read_command(alloc, &names, line) {
-        Ok(Some(said)) => relation_of(alloc, said),
-        Ok(None) => unfit(alloc),
-        Err(Refusal::Memory) => Err(Refusal::Memory),
-        Err(Refusal::Fault(mut fault)) => {
-            fault.place = None;
-            Err(Refusal::Fault(fault))
-        }
-    }
-}
-
-fn relation_of(alloc: Global, said: Said) -> Result<Relation, Refusal> {
-    let Said {
-        command,
-        comment: _,
-    } = said;
-    match command {
-        Command::Change {
-            change: Change::Relation(relation),
-            still: _,
-        } => Ok(relation),
-        _ => unfit(alloc),
-    }
-}
-
-fn unfit<T>(alloc: Global) -> Result<T, Refusal> {
-    let words = String::from_str(alloc, "the columns do not make a relation")?;
-    fault(alloc, Status::Refused, words, None)
 }

@@ -8,12 +8,16 @@
 
 mod cells;
 mod columns;
+mod comparing;
+mod creating;
 mod fitting;
 mod forms;
+mod loading;
 mod matching;
 mod readers;
 mod refusing;
 mod rows;
+mod values;
 mod written;
 
 pub use crate::fitting::{Fitted, fit};

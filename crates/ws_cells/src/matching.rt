@@ -1,11 +1,12 @@
 //! The columns of a relation, each with its cell in the rows of a file.
 
-use crate::columns::{has_twice, place_of};
+use crate::columns::place_of;
+use crate::comparing::has_same;
 use crate::forms::Form;
-use crate::refusing::{add_names, fault, faults, has, meant_of};
+use crate::refusing::{fault, has, meant_of};
 use std::alloc::{AllocError, Global};
 use ws_fault::{Refusal, Status};
-use ws_print::{add_count, add_escaped, add_form, add_quoted};
+use ws_print::{add_count, add_escaped, add_form};
 use ws_written::Relation;
 
 /// A column of the relation.
@@ -108,77 +109,4 @@ fn has_count(alloc: Global, relation: &Relation, count: usize) -> Result<(), Ref
     let mut hint = String::from_str(alloc, "it is ")?;
     add_form(&mut hint, relation)?;
     fault(alloc, Status::Refused, words, Some(hint))
-}
-
-// The first line names the columns of the relation, each once.
-fn has_same(
-    alloc: Global,
-    path: &str,
-    line: u64,
-    relation: &Relation,
-    header: &[String],
-    names: &[String],
-) -> Result<(), Refusal> {
-    let mut more = Vec::new(alloc);
-    add_strangers(alloc, &mut more, line, header, names)?;
-    add_missing(alloc, &mut more, line, header, names)?;
-    if has_twice(header) {
-        more.push(format!(in alloc; "line {line}: a column stands twice")?)?;
-    }
-    if more.is_empty() {
-        return Ok(());
-    }
-    let mut words = format!(in alloc; "{path} does not fit ")?;
-    add_form(&mut words, relation)?;
-    let hint = String::from_str(alloc, "its first line names the columns")?;
-    faults(words, Some(hint), more)
-}
-
-// A fault for each column of the file that the relation does not have.
-fn add_strangers(
-    alloc: Global,
-    more: &mut Vec<String>,
-    line: u64,
-    header: &[String],
-    names: &[String],
-) -> Result<(), AllocError> {
-    for column in header {
-        if has(names, column.as_str()) {
-            continue;
-        }
-        let mut words = format!(in alloc; "line {line}: there is no column ")?;
-        add_quoted(&mut words, column.as_str())?;
-        if let Some(question) = meant_of(alloc, column.as_str(), names)? {
-            words.push_str("; ")?;
-            words.push_str(question.as_str())?;
-        }
-        more.push(words)?;
-    }
-    Ok(())
-}
-
-// A fault that tells the columns of the relation that the file does not have.
-fn add_missing(
-    alloc: Global,
-    more: &mut Vec<String>,
-    line: u64,
-    header: &[String],
-    names: &[String],
-) -> Result<(), AllocError> {
-    let mut missing = Vec::new(alloc);
-    for name in names {
-        if !has(header, name.as_str()) {
-            missing.push(String::from_str(alloc, name.as_str())?)?;
-        }
-    }
-    if missing.is_empty() {
-        return Ok(());
-    }
-    let one = missing.len() == 1;
-    let noun = if one { "column" } else { "columns" };
-    let mut words = format!(in alloc; "line {line}: {noun} ")?;
-    add_names(&mut words, missing.as_slice())?;
-    words.push_str(if one { " is missing" } else { " are missing" })?;
-    more.push(words)?;
-    Ok(())
 }

@@ -7,8 +7,8 @@ use std::alloc::{AllocError, Global};
 pub enum CsvFault {
     /// The quote that opened in this line is not closed.
     Open(u64),
-    /// Behind the quote that closed in this line stands something else than the end of the cell.
-    Behind(u64),
+    /// After the quote that closed in this line stands something else than the end of the cell.
+    After(u64),
 }
 
 /// A row: its line, and its cells.
@@ -100,20 +100,20 @@ impl<'a> CsvReader<'a> {
         }
     }
 
-    // Where the cell that is not quoted ends.
-    fn end_of_cell(&self) -> usize {
+    // The length of a cell that is not quoted.
+    fn length_of_cell(&self) -> usize {
         let separator = self.separator;
         let end = self.rest.find(|c: char| c == separator || c == '\n');
         end.unwrap_or(self.rest.len())
     }
 
     fn plain_cell(&mut self) -> Result<String, AllocError> {
-        let (cell, rest) = cut(self.rest, self.end_of_cell());
+        let (cell, rest) = cut(self.rest, self.length_of_cell());
         self.rest = rest;
         String::from_str(self.alloc, cell.trim_end_matches('\r'))
     }
 
-    // The cell behind an opening quote.
+    // The cell after an opening quote.
     fn quoted_cell(&mut self) -> Result<String, AllocError> {
         let open = self.line;
         let mut cell = String::new(self.alloc);
@@ -128,14 +128,14 @@ impl<'a> CsvReader<'a> {
             self.add_part(&mut cell, part)?;
             self.rest = rest;
             match rest.strip_prefix("\"") {
-                Some(behind) => {
+                Some(after) => {
                     cell.push('"')?;
-                    self.rest = behind;
+                    self.rest = after;
                 }
                 None => break,
             }
         }
-        self.pass_behind()?;
+        self.pass_stray()?;
         Ok(cell)
     }
 
@@ -146,8 +146,8 @@ impl<'a> CsvReader<'a> {
         cell.push_str(part)
     }
 
-    // Passes over what stands behind a closing quote and does not belong there.
-    fn pass_behind(&mut self) -> Result<(), AllocError> {
+    // Passes over what stands after a closing quote and does not belong there.
+    fn pass_stray(&mut self) -> Result<(), AllocError> {
         let ends = match self.rest.chars().next() {
             None => true,
             Some(letter) => letter == self.separator || letter == '\r' || letter == '\n',
@@ -155,8 +155,8 @@ impl<'a> CsvReader<'a> {
         if ends {
             return Ok(());
         }
-        self.faults.push(CsvFault::Behind(self.line))?;
-        self.rest = cut(self.rest, self.end_of_cell()).1;
+        self.faults.push(CsvFault::After(self.line))?;
+        self.rest = cut(self.rest, self.length_of_cell()).1;
         Ok(())
     }
 }

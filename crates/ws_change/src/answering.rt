@@ -3,43 +3,38 @@
 use crate::choosing::{answer_to, choose};
 use crate::done::Done;
 use crate::faults::{refuse, refuse_with};
-use crate::records::{has_answers, steps_of};
+use crate::giving::{Given, asking, give};
+use crate::records::answered_numbers;
 use crate::same::check_since;
-use crate::spending::spent_fault;
 use std::alloc::{AllocError, Global};
 use ws_command::SaidChoice;
 use ws_fault::{Refusal, Status as Comes};
-use ws_lines::Deed;
 use ws_print::add_choice;
-use ws_question::{
-    AskedNow, Shown, asked_now, count_text, question_lines, question_next, reason_words, status_of,
-};
+use ws_question::{AskedNow, Shown, asked_now, question_lines, reason_words, status_of};
 use ws_reply::Context;
-use ws_report::{CANDIDATES, Report};
-use ws_run::{Question, Reason};
+use ws_report::CANDIDATES;
+use ws_run::Reason;
 use ws_space::Space;
-use ws_state::{Mark, Status, Told};
+use ws_state::Status;
 use ws_written::{Choice, Line};
 
-/// An answer as it was said: to which update, what it chooses, and the record of `--at`.
+/// An answer as it was said: to which updates, what it chooses, and the record of `--at`.
 #[derive(Drop)]
 pub(crate) struct SaidAnswer {
-    pub number: u32,
+    pub numbers: Vec<u32>,
     pub choice: SaidChoice,
     pub at: Option<u32>,
 }
 
-/// An answer that was taken: its update, its line, what is told of it, and where the log was before it.
+/// What comes of an answer that was said: the answer that is given, or the question, which is asked again.
 #[derive(Drop)]
-struct Answered {
-    number: u32,
-    line: Line,
-    text: String,
-    mark: Mark,
+enum Met {
+    Gives(Given),
+    Asks(AskedNow),
 }
 
-/// Answers an update. It is refused if it does not wait, if it asks nothing or another question, or if the choice does not
-/// fit; and if it cannot go on after that.
+/// Answers the first of the updates. It is refused if it does not wait, if it asks nothing or another question, or if the
+/// choice does not fit; and if it cannot go on after that.
 pub(crate) fn answer(
     alloc: Global,
     space: &mut Space,
@@ -48,23 +43,18 @@ pub(crate) fn answer(
     context: &Context<'_>,
     said: &SaidAnswer,
 ) -> Result<Done, Refusal> {
-    let number = said.number;
+    let number = said.numbers.first().copied().unwrap_or(0);
     check_waits(alloc, space, number)?;
-    let done = match space.question(alloc, number)? {
-        Some(Reason::Asks(question)) => {
-            let asked = asked_now(alloc, space, number, question)?;
-            match said.at {
-                Some(at) => check_since(alloc, space, past, &asked, at)?,
-                None => check_shown(alloc, space, shown, context, &asked, &said.choice)?,
+    match meet(alloc, space, shown, past, context, said)? {
+        Met::Asks(asked) => asks_again(alloc, asked),
+        Met::Gives(given) => {
+            let done = give(alloc, space, number, given);
+            if done.is_ok() && !context.trying {
+                shown.forget(number);
             }
-            answer_asked(alloc, space, asked, &said.choice)?
+            done
         }
-        reason => try_again(alloc, space, number, &said.choice, reason.as_ref())?,
-    };
-    if !context.trying && !done.lines.is_empty() {
-        shown.forget(number);
     }
-    Ok(done)
 }
 
 // The update waits.
@@ -76,11 +66,62 @@ fn check_waits(alloc: Global, space: &Space, number: u32) -> Result<(), Refusal>
         Status::GivenUp => "given up",
     };
     let words = format!(in alloc; "update {number} waits for no answer: it is {stands}")?;
-    if stands == "done" && has_answers(space, number) {
+    if stands == "done" && answered_numbers(alloc, space)?.contains(&number) {
         let hint = format!(in alloc; "undo {number} --answers makes it ask again")?;
         return refuse(alloc, words.as_str(), hint.as_str());
     }
     refuse(alloc, words.as_str(), "")
+}
+
+// What comes of the answer, over what the update asks now.
+fn meet(
+    alloc: Global,
+    space: &mut Space,
+    shown: &mut Shown,
+    past: Option<&mut Space>,
+    context: &Context<'_>,
+    said: &SaidAnswer,
+) -> Result<Met, Refusal> {
+    let number = said.numbers.first().copied().unwrap_or(0);
+    match space.question(alloc, number)? {
+        Some(Reason::Asks(question)) => {
+            let asked = asked_now(alloc, space, number, question)?;
+            meet_asked(alloc, space, shown, past, context, said, asked)
+        }
+        Some(reason) => meet_silent(alloc, space, number, &said.choice, Some(&reason)),
+        None => meet_silent(alloc, space, number, &said.choice, None),
+    }
+}
+
+// The update asks.
+fn meet_asked(
+    alloc: Global,
+    space: &Space,
+    shown: &mut Shown,
+    past: Option<&mut Space>,
+    context: &Context<'_>,
+    said: &SaidAnswer,
+    asked: AskedNow,
+) -> Result<Met, Refusal> {
+    let checked = match said.at {
+        Some(at) => check_since(alloc, space, past, &asked, at),
+        None => check_shown(alloc, space, shown, context, &asked, &said.choice),
+    };
+    let given = match checked {
+        Ok(()) => given_of(alloc, space, &asked, &said.choice),
+        Err(refusal) => Err(refusal),
+    };
+    match given {
+        Ok(Some(given)) => {
+            drop(asked);
+            Ok(Met::Gives(given))
+        }
+        Ok(None) => Ok(Met::Asks(asked)),
+        Err(refusal) => {
+            drop(asked);
+            Err(refusal)
+        }
+    }
 }
 
 // Numbers are those of the candidates that were last shown.
@@ -108,21 +149,23 @@ fn check_shown(
     refuse_with(alloc, words.as_str(), hint.as_str(), lines)
 }
 
-// The update asks: it takes the choice, or tells the question again.
-fn answer_asked(
+// The answer that the choice is; None to ask again.
+fn given_of(
     alloc: Global,
-    space: &mut Space,
-    asked: AskedNow,
-    choice: &SaidChoice,
-) -> Result<Done, Refusal> {
-    let number = asked.number;
-    let Some(choice) = choose(alloc, space, &asked, choice)? else {
-        return asks_again(alloc, asked);
+    space: &Space,
+    asked: &AskedNow,
+    said: &SaidChoice,
+) -> Result<Option<Given>, Refusal> {
+    let Some(choice) = choose(alloc, space, asked, said)? else {
+        return Ok(None);
     };
+    let number = asked.number;
     let text = choice_text(alloc, space, number, &choice)?;
     let answer = answer_to(alloc, space, &asked.question.asked, choice)?;
-    let line = Line::Answer(number, answer);
-    take(alloc, space, number, line, text)
+    Ok(Some(Given {
+        line: Line::Answer(number, answer),
+        text,
+    }))
 }
 
 fn choice_text(
@@ -142,109 +185,32 @@ fn go_text(alloc: Global, number: u32) -> Result<String, AllocError> {
 
 // The update was to go on, and asks still.
 fn asks_again(alloc: Global, asked: AskedNow) -> Result<Done, Refusal> {
-    let number = asked.number;
-    let mut done = Done::nothing(alloc, "asks", go_text(alloc, number)?);
-    done.report.number = Some(number);
-    done.report.next = question_next(alloc, &asked)?;
-    done.report.question = Some(asked);
-    Ok(done)
+    let report = match go_text(alloc, asked.number) {
+        Ok(text) => asking(alloc, Comes::Nothing, "asks", text, asked)?,
+        Err(_) => {
+            drop(asked);
+            return Err(Refusal::Memory);
+        }
+    };
+    Ok(Done::unrecorded(alloc, report))
 }
 
 // The update asks nothing: it tries again, if that is what was said.
-fn try_again(
+fn meet_silent(
     alloc: Global,
-    space: &mut Space,
+    space: &Space,
     number: u32,
     choice: &SaidChoice,
     reason: Option<&Reason>,
-) -> Result<Done, Refusal> {
+) -> Result<Met, Refusal> {
+    let text = go_text(alloc, number)?;
     if let SaidChoice::Go = choice {
-        let text = go_text(alloc, number)?;
-        return take(alloc, space, number, Line::Go(number), text);
+        return Ok(Met::Gives(Given {
+            line: Line::Go(number),
+            text,
+        }));
     }
     let reason = reason_words(alloc, space, reason)?;
     let words = format!(in alloc; "update {number} asks nothing now: {reason}")?;
-    refuse(alloc, words.as_str(), go_text(alloc, number)?.as_str())
-}
-
-fn take(
-    alloc: Global,
-    space: &mut Space,
-    number: u32,
-    line: Line,
-    text: String,
-) -> Result<Done, Refusal> {
-    let mark = space.state.mark();
-    let Told { reason, .. } = space.take(alloc, &line)?;
-    let answered = Answered {
-        number,
-        line,
-        text,
-        mark,
-    };
-    match reason {
-        None => answered.done(alloc, space),
-        Some(Reason::Asks(question)) => answered.waits(alloc, space, question),
-        Some(Reason::TooLong) => Err(spent_fault(alloc, space, steps_of(space, number))?),
-        Some(other) => answered.cannot(alloc, space, &other),
-    }
-}
-
-impl Answered {
-    fn done(self, alloc: Global, space: &Space) -> Result<Done, Refusal> {
-        let mut report = Report::of(alloc, Comes::Done, "done", self.text);
-        report.number = Some(self.number);
-        report.effect = space.state.effect_since(alloc, self.mark)?;
-        add_left(alloc, space, self.number, &mut report)?;
-        Ok(Done::recorded(alloc, report, self.line)?)
-    }
-
-    // It asks another question.
-    fn waits(self, alloc: Global, space: &Space, question: Question) -> Result<Done, Refusal> {
-        let asked = asked_now(alloc, space, self.number, question)?;
-        let mut report = Report::of(alloc, Comes::Waits, "waits", self.text);
-        report.number = Some(self.number);
-        report.next = question_next(alloc, &asked)?;
-        report.question = Some(asked);
-        Ok(Done::recorded(alloc, report, self.line)?)
-    }
-
-    // Something else is in its way.
-    fn cannot(self, alloc: Global, space: &Space, reason: &Reason) -> Result<Done, Refusal> {
-        let number = self.number;
-        let reason = reason_words(alloc, space, Some(reason))?;
-        let words = format!(in alloc; "update {number} cannot go on: {reason}")?;
-        let hint = format!(in alloc; "undo {number}")?;
-        refuse(alloc, words.as_str(), hint.as_str())
-    }
-}
-
-// After a repair, how many violations are left of its mapping.
-fn add_left(alloc: Global, space: &Space, number: u32, report: &mut Report) -> Result<(), Refusal> {
-    let Some(mapping) = fixed_by(space, number) else {
-        return Ok(());
-    };
-    let name = space.mapping_name(mapping);
-    let left = space.count_violations(alloc, mapping)?;
-    if left == 0 {
-        report
-            .also
-            .push(format!(in alloc; "{name} has no violation now")?)?;
-        report.next.push(format!(in alloc; "adopt {name}")?)?;
-        return Ok(());
-    }
-    let left = count_text(alloc, left, "violation")?;
-    report
-        .also
-        .push(format!(in alloc; "{left} of {name} left")?)?;
-    report.next.push(String::from_str(alloc, "questions")?)?;
-    Ok(())
-}
-
-// The mapping that the update repairs, if it is a repair.
-fn fixed_by(space: &Space, number: u32) -> Option<u16> {
-    match &space.state.update(number)?.deed {
-        Deed::Fix(mapping, _) => Some(*mapping),
-        _ => None,
-    }
+    refuse(alloc, words.as_str(), text.as_str())
 }

@@ -7,6 +7,7 @@ use std::alloc::Global;
 use std::collections::BTreeSet;
 use ws_command::SaidChoice;
 use ws_fault::{Nearest, Refusal, meant};
+use ws_lines::Asked;
 use ws_question::{AskedNow, count_text, fact_text};
 use ws_space::Space;
 use ws_written::{Answer, Choice, Fact, Question};
@@ -187,7 +188,7 @@ fn facts_of(alloc: Global, space: &Space, tuples: &TupleList) -> Result<Vec<Fact
 pub(crate) fn answer_to(
     alloc: Global,
     space: &Space,
-    asked: &ws_lines::Asked,
+    asked: &Asked,
     choice: Choice,
 ) -> Result<Answer, Memory> {
     Ok(Answer {

@@ -20,28 +20,41 @@ use ws_written::{Fact, Update};
 pub(crate) fn delete(
     alloc: Global,
     space: &mut Space,
-    patterns: Vec<Pattern>,
+    patterns: &[Pattern],
     bounds: &Bounds,
 ) -> Result<Done, Refusal> {
-    let facts = facts_of(alloc, space, patterns.as_slice())?;
-    for fact in facts.iter() {
-        check_fact(alloc, space, fact)?;
-    }
-    let absent = absent_of(alloc, space, facts.as_slice())?;
+    let facts = facts_of(alloc, space, patterns)?;
     if facts.is_empty() {
-        let line = patterns_line(alloc, space, patterns.as_slice())?;
+        let line = patterns_line(alloc, space, patterns)?;
         return Ok(Done::nothing(alloc, "not there", line));
     }
+    let absent = absent_of(alloc, space, facts.as_slice())?;
     if absent.len() == facts.len() {
         return not_there(alloc, space, facts.as_slice());
     }
-    let mut done = single(alloc, space, Update::Delete(facts), bounds)?;
-    if !absent.is_empty() {
-        let texts = facts_text(alloc, space, absent.as_slice())?;
-        let words = format!(in alloc; "{texts} was not there")?;
-        done.report.notes.push(Note::of(alloc, words))?;
+    let notes = absent_notes(alloc, space, absent.as_slice())?;
+    let done = single(alloc, space, Update::Delete(facts), bounds)?;
+    with_notes(done, notes)
+}
+
+// The change, with these hints behind its own.
+fn with_notes(done: Done, notes: Vec<Note>) -> Result<Done, Refusal> {
+    let mut done = done;
+    let mut notes = notes;
+    match done.report.notes.append(&mut notes) {
+        Ok(()) => Ok(done),
+        Err(_) => Err(Refusal::Memory),
     }
-    Ok(done)
+}
+
+// The hint that tuples were not there, if there are any.
+fn absent_notes(alloc: Global, space: &Space, absent: &[Fact]) -> Result<Vec<Note>, Memory> {
+    let mut notes = Vec::new(alloc);
+    if let [_, ..] = absent {
+        let texts = facts_text(alloc, space, absent)?;
+        notes.push(Note::of(alloc, format!(in alloc; "{texts} was not there")?))?;
+    }
+    Ok(notes)
 }
 
 fn has_any(patterns: &[Pattern]) -> bool {
@@ -63,8 +76,11 @@ fn facts_of(alloc: Global, space: &Space, patterns: &[Pattern]) -> Result<Vec<Fa
     Ok(facts)
 }
 
-// Those of the tuples that are not there.
-fn absent_of(alloc: Global, space: &Space, facts: &[Fact]) -> Result<Vec<Fact>, Memory> {
+// Those of the tuples that are not there. It is refused if one names an unknown that is not there.
+fn absent_of(alloc: Global, space: &Space, facts: &[Fact]) -> Result<Vec<Fact>, Refusal> {
+    for fact in facts {
+        check_fact(alloc, space, fact)?;
+    }
     let mut absent = Vec::new(alloc);
     for fact in facts {
         if !is_there(alloc, space, fact)? {
@@ -89,13 +105,23 @@ fn patterns_line(alloc: Global, space: &Space, patterns: &[Pattern]) -> Result<S
 fn not_there(alloc: Global, space: &Space, facts: &[Fact]) -> Result<Done, Refusal> {
     let texts = facts_text(alloc, space, facts)?;
     let line = format!(in alloc; "delete {texts}")?;
+    let also = near_lines(alloc, space, facts.first())?;
     let mut done = Done::nothing(alloc, "not there", line);
-    if let Some(first) = facts.first() {
-        for text in near_texts(alloc, space, first)?.iter() {
-            done.report
-                .also
-                .push(format!(in alloc; "there is {text}")?)?;
+    done.report.also = also;
+    Ok(done)
+}
+
+/// What is told of the tuples that are like one that is not there. It is refused only for want of memory.
+pub(crate) fn near_lines(
+    alloc: Global,
+    space: &Space,
+    fact: Option<&Fact>,
+) -> Result<Vec<String>, Memory> {
+    let mut lines = Vec::new(alloc);
+    if let Some(fact) = fact {
+        for text in near_texts(alloc, space, fact)?.iter() {
+            lines.push(format!(in alloc; "there is {text}")?)?;
         }
     }
-    Ok(done)
+    Ok(lines)
 }

@@ -1,12 +1,12 @@
 //! `drop`.
 
-use crate::done::Done;
+use crate::done::{Done, recorded};
 use crate::running::{Taken, take_update, told_line};
 use std::alloc::Global;
 use ws_fault::{Refusal, Status};
 use ws_report::{Note, Report};
 use ws_space::Space;
-use ws_written::{STEPS, Update};
+use ws_written::{Line, STEPS, Update};
 
 /// Takes a mapping away.
 pub(crate) fn drop_mapping(
@@ -16,14 +16,27 @@ pub(crate) fn drop_mapping(
 ) -> Result<Done, Refusal> {
     let in_force = is_in_force(space, name.as_str());
     let Taken { number, line, .. } = take_update(alloc, space, STEPS, Update::Drop(name))?;
-    let text = told_line(alloc, space, &line)?;
-    let mut report = Report::of(alloc, Status::Done, "done", text);
-    report.number = Some(number);
+    let report = dropped(alloc, space, number, &line, in_force);
+    recorded(alloc, report, line)
+}
+
+fn dropped(
+    alloc: Global,
+    space: &Space,
+    number: u32,
+    line: &Line,
+    in_force: bool,
+) -> Result<Report, Refusal> {
+    let text = told_line(alloc, space, line)?;
+    let mut notes = Vec::new(alloc);
     if in_force {
         let words = String::from_str(alloc, "its tuples stay")?;
-        report.notes.push(Note::of(alloc, words))?;
+        notes.push(Note::of(alloc, words))?;
     }
-    Ok(Done::recorded(alloc, report, line)?)
+    let mut report = Report::of(alloc, Status::Done, "done", text);
+    report.number = Some(number);
+    report.notes = notes;
+    Ok(report)
 }
 
 /// Whether the mapping of this name is in force.

@@ -23,26 +23,41 @@ pub(crate) fn insert(
     facts: Vec<NewFact>,
     bounds: &Bounds,
 ) -> Result<Done, Refusal> {
-    for fact in facts.iter() {
+    match line_if_there(alloc, space, facts.as_slice()) {
+        Ok(Some(line)) => Ok(Done::nothing(alloc, "there already", line)),
+        Ok(None) => single(alloc, space, Update::Insert(facts), bounds),
+        Err(refusal) => Err(refusal),
+    }
+}
+
+// The line as it is told, if all tuples are there.
+fn line_if_there(
+    alloc: Global,
+    space: &Space,
+    facts: &[NewFact],
+) -> Result<Option<String>, Refusal> {
+    for fact in facts {
         check_new_fact(alloc, space, fact)?;
     }
     if TUPLES <= space.state.facts().len() {
         return refuse(alloc, "there are 1000000 tuples, which is the limit", "");
     }
-    if are_there(alloc, space, facts.as_slice())? {
-        let mut line = String::from_str(alloc, "insert ")?;
-        add_new_facts(&mut line, space.relations.as_slice(), facts.as_slice())?;
-        return Ok(Done::nothing(alloc, "there already", line));
+    if !are_there(alloc, space, facts)? {
+        return Ok(None);
     }
-    single(alloc, space, Update::Insert(facts), bounds)
+    let mut line = String::from_str(alloc, "insert ")?;
+    add_new_facts(&mut line, space.relations.as_slice(), facts)?;
+    Ok(Some(line))
 }
 
 // Whether all are there, none of them with a new unknown.
 fn are_there(alloc: Global, space: &Space, facts: &[NewFact]) -> Result<bool, Memory> {
     for fact in facts {
-        match known_fact(alloc, fact)? {
-            Some(known) if is_there(alloc, space, &known)? => {}
-            _ => return Ok(false),
+        let Some(known) = known_fact(alloc, fact)? else {
+            return Ok(false);
+        };
+        if !is_there(alloc, space, &known)? {
+            return Ok(false);
         }
     }
     Ok(true)

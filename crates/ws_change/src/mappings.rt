@@ -1,6 +1,6 @@
 //! Which mappings can be declared.
 
-use crate::circles::circle_words;
+use crate::cycles::cycle_words;
 use crate::dropping::is_in_force;
 use crate::faults::refuse;
 use crate::speaking::speaker_of;
@@ -76,10 +76,10 @@ pub(crate) fn check_mapping(alloc: Global, space: &Space, rule: &Rule) -> Result
     if MAPPINGS <= count_others(space, rule.name.as_str()) {
         return refuse(alloc, "there are 40 mappings, which is the limit", "");
     }
-    if let Some(circle) = circle_words(alloc, space, rule)? {
+    if let Some(cycle) = cycle_words(alloc, space, rule)? {
         let name = rule.name.as_str();
         let words = format!(in alloc;
-            "mapping {name} closes a circle without an unknown: {circle}"
+            "mapping {name} closes a circle without an unknown: {cycle}"
         )?;
         let hint = "a circle has to go through a variable that stands on a right side alone";
         return refuse(alloc, words.as_str(), hint);

@@ -1,28 +1,76 @@
-//! What is known of an update by its number.
+//! What is known of updates by their numbers.
 
+use def_memory::Memory;
+use std::alloc::Global;
+use std::collections::BTreeSet;
 use ws_space::Space;
-use ws_state::Status;
 
-/// Whether the update waits.
-pub(crate) fn is_waiting(space: &Space, number: u32) -> bool {
-    space.state.status(number) == Some(Status::Waits)
-}
-
-// Whether the update that is held at this place has the number.
-fn is_numbered(space: &Space, held: usize, number: u32) -> bool {
+// The number of the update that is held at this place.
+fn number_at(space: &Space, held: usize) -> Option<u32> {
     match space.state.held().get(held) {
-        Some(held) => held.update.number == number,
-        None => false,
+        Some(held) => Some(held.update.number),
+        None => None,
     }
 }
 
-/// Whether the update stands or waits with answers.
-pub(crate) fn has_answers(space: &Space, number: u32) -> bool {
-    let stands = space.state.order().as_slice().iter().any(|one| !one.answers.is_empty()
-        && is_numbered(space, one.held, number));
-    stands
-        || space.state.waiting().as_slice().iter().any(|one| !one.answers.is_empty()
-            && is_numbered(space, one.held, number))
+fn put(numbers: &mut BTreeSet<u32>, number: Option<u32>) -> Result<(), Memory> {
+    match number {
+        Some(number) => match numbers.insert(number) {
+            Ok(_) => Ok(()),
+            Err(_) => Err(Memory),
+        },
+        None => Ok(()),
+    }
+}
+
+/// Whether the update waits.
+pub(crate) fn is_waiting(space: &Space, number: u32) -> bool {
+    space
+        .state
+        .waiting()
+        .as_slice()
+        .iter()
+        .any(|waiting| number_at(space, waiting.held) == Some(number))
+}
+
+/// The numbers of the updates that wait. It is refused only for want of memory.
+pub(crate) fn waiting_numbers(alloc: Global, space: &Space) -> Result<BTreeSet<u32>, Memory> {
+    let mut numbers = BTreeSet::new(alloc);
+    for waiting in space.state.waiting().as_slice() {
+        put(&mut numbers, number_at(space, waiting.held))?;
+    }
+    Ok(numbers)
+}
+
+/// The numbers of the updates that are undone, or of those that are not. It is refused only for want of memory.
+pub(crate) fn undone_numbers(
+    alloc: Global,
+    space: &Space,
+    is_undone: bool,
+) -> Result<BTreeSet<u32>, Memory> {
+    let mut numbers = BTreeSet::new(alloc);
+    for held in space.state.held().iter() {
+        if held.is_undone == is_undone {
+            put(&mut numbers, Some(held.update.number))?;
+        }
+    }
+    Ok(numbers)
+}
+
+/// The numbers of the updates that stand or wait with answers. It is refused only for want of memory.
+pub(crate) fn answered_numbers(alloc: Global, space: &Space) -> Result<BTreeSet<u32>, Memory> {
+    let mut numbers = BTreeSet::new(alloc);
+    for standing in space.state.order().as_slice() {
+        if !standing.answers.is_empty() {
+            put(&mut numbers, number_at(space, standing.held))?;
+        }
+    }
+    for waiting in space.state.waiting().as_slice() {
+        if !waiting.answers.is_empty() {
+            put(&mut numbers, number_at(space, waiting.held))?;
+        }
+    }
+    Ok(numbers)
 }
 
 /// The budget of the update; 0 if there is none.

@@ -1,6 +1,6 @@
 //! `relation`.
 
-use crate::done::Done;
+use crate::done::{Done, recorded};
 use crate::faults::refuse;
 use crate::running::told_line;
 use crate::speaking::is_spoken_of;
@@ -22,22 +22,45 @@ pub(crate) fn declare_relation(
     space: &mut Space,
     relation: Relation,
 ) -> Result<Done, Refusal> {
-    if let Some(place) = place_of(space, relation.name.as_str()) {
-        if is_declared(space, place, &relation) {
-            let line = told_line(alloc, space, &Line::Relation(relation))?;
-            return Ok(Done::nothing(alloc, "there already", line));
-        }
-        check_unspoken(alloc, space, place, &relation)?;
-    } else {
-        check_new(alloc, space, relation.name.as_str())?;
-    }
+    let is_new = check_relation(alloc, space, &relation)?;
     let next = next_of(alloc, &relation)?;
     let line = Line::Relation(relation);
-    space.take(alloc, &line)?;
-    let text = told_line(alloc, space, &line)?;
+    if !is_new {
+        return there_already(alloc, space, &line);
+    }
+    let report = declared(alloc, space, &line, next);
+    recorded(alloc, report, line)
+}
+
+// Whether the relation is not declared so yet. It is refused if it cannot be declared.
+fn check_relation(alloc: Global, space: &Space, relation: &Relation) -> Result<bool, Refusal> {
+    let Some(place) = place_of(space, relation.name.as_str()) else {
+        check_new(alloc, space, relation.name.as_str())?;
+        return Ok(true);
+    };
+    if is_declared(space, place, relation) {
+        return Ok(false);
+    }
+    check_unspoken(alloc, space, place, relation)?;
+    Ok(true)
+}
+
+fn there_already(alloc: Global, space: &Space, line: &Line) -> Result<Done, Refusal> {
+    let text = told_line(alloc, space, line)?;
+    Ok(Done::nothing(alloc, "there already", text))
+}
+
+fn declared(
+    alloc: Global,
+    space: &mut Space,
+    line: &Line,
+    next: Vec<String>,
+) -> Result<Report, Refusal> {
+    space.take(alloc, line)?;
+    let text = told_line(alloc, space, line)?;
     let mut report = Report::of(alloc, Status::Done, "done", text);
     report.next = next;
-    Ok(Done::recorded(alloc, report, line)?)
+    Ok(report)
 }
 
 fn place_of(space: &Space, name: &str) -> Option<usize> {

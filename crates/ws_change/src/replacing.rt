@@ -1,11 +1,11 @@
 //! `replace`, of an unknown and of a tuple.
 
+use crate::deleting::near_lines;
 use crate::done::Done;
 use crate::faults::{refuse, refuse_with};
 use crate::fitting::fitting_facts;
 use crate::names::{
-    check_fact, check_new_fact, check_unknown, check_value, is_there, same_fact,
-    same_value,
+    check_fact, check_new_fact, check_unknown, check_value, is_there, same_fact, same_value,
 };
 use crate::single::single;
 use def_memory::Memory;
@@ -14,7 +14,7 @@ use ws_command::{Bounds, Pattern, Replacement};
 use ws_fault::Refusal;
 use ws_hint::known_fact;
 use ws_print::{add_pattern, add_update};
-use ws_question::{count_text, near_texts};
+use ws_question::count_text;
 use ws_report::{joined, said_text};
 use ws_space::{Space, copy_value};
 use ws_written::{Fact, NewFact, NewValue, Unknown, Update, Value};
@@ -36,14 +36,49 @@ pub(crate) fn fill(
     value: Value,
     bounds: &Bounds,
 ) -> Result<Done, Refusal> {
-    check_unknown(alloc, space, unknown)?;
-    check_value(alloc, space, &value)?;
-    let same = same_value(&Value::Unknown(unknown), &value);
-    let update = Update::Fill(unknown, value);
-    if same {
-        return nothing_to_do(alloc, space, &update);
+    match check_both(alloc, space, unknown, &value) {
+        Ok(()) => changed(alloc, space, Update::Fill(unknown, value), bounds),
+        Err(refusal) => Err(refusal),
     }
-    single(alloc, space, update, bounds)
+}
+
+fn check_both(
+    alloc: Global,
+    space: &Space,
+    unknown: Unknown,
+    value: &Value,
+) -> Result<(), Refusal> {
+    check_unknown(alloc, space, unknown)?;
+    check_value(alloc, space, value)
+}
+
+// Takes the update, unless it puts the same for the same.
+fn changed(
+    alloc: Global,
+    space: &mut Space,
+    update: Update,
+    bounds: &Bounds,
+) -> Result<Done, Refusal> {
+    match is_idle(alloc, &update) {
+        Ok(true) => nothing_to_do(alloc, space, &update),
+        Ok(false) => single(alloc, space, update, bounds),
+        Err(_) => {
+            drop(update);
+            Err(Refusal::Memory)
+        }
+    }
+}
+
+// Whether the update puts the same for the same.
+fn is_idle(alloc: Global, update: &Update) -> Result<bool, Memory> {
+    match update {
+        Update::Fill(unknown, value) => Ok(same_value(&Value::Unknown(*unknown), value)),
+        Update::Change(old, new) => match known_fact(alloc, new)? {
+            Some(known) => Ok(same_fact(old, &known)),
+            None => Ok(false),
+        },
+        _ => Ok(false),
+    }
 }
 
 /// Puts a tuple for another. It is refused if not one tuple fits the first pattern, if that is not there, or if an unknown is
@@ -62,12 +97,7 @@ pub(crate) fn replace(
     if !is_there(alloc, space, &old)? {
         return refuse_absent(alloc, space, &old);
     }
-    let same = is_same(alloc, &old, &new)?;
-    let update = Update::Change(old, new);
-    if same {
-        return nothing_to_do(alloc, space, &update);
-    }
-    single(alloc, space, update, bounds)
+    changed(alloc, space, Update::Change(old, new), bounds)
 }
 
 // The one tuple for which the pattern stands.
@@ -120,21 +150,11 @@ fn copy_new_value(alloc: Global, value: &NewValue) -> Result<NewValue, Memory> {
     })
 }
 
-fn is_same(alloc: Global, old: &Fact, new: &NewFact) -> Result<bool, Memory> {
-    match known_fact(alloc, new)? {
-        Some(known) => Ok(same_fact(old, &known)),
-        None => Ok(false),
-    }
-}
-
 // The tuple is not there: those that are like it are told.
 fn refuse_absent(alloc: Global, space: &Space, fact: &Fact) -> Result<Done, Refusal> {
     let text = said_text(alloc, space, fact)?;
     let words = format!(in alloc; "{text} is not there")?;
-    let mut near = Vec::new(alloc);
-    for text in near_texts(alloc, space, fact)?.iter() {
-        near.push(format!(in alloc; "there is {text}")?)?;
-    }
+    let near = near_lines(alloc, space, Some(fact))?;
     let hint = joined(alloc, near.as_slice(), "; ")?;
     refuse(alloc, words.as_str(), hint.as_str())
 }

@@ -1,10 +1,10 @@
 //! Updates that are taken, one at a time.
 
-use crate::faults::refused;
-use crate::spending::spent_fault;
+use crate::faults::refuse;
 use std::alloc::{AllocError, Global};
 use ws_fault::Refusal;
 use ws_print::{add_line, add_update};
+use ws_report::spent_fault;
 use ws_run::Reason;
 use ws_space::{Space, unknown_of};
 use ws_state::Told;
@@ -21,7 +21,7 @@ pub(crate) struct Taken {
 fn next_number(alloc: Global, space: &Space) -> Result<u32, Refusal> {
     match space.state.last().checked_add(1) {
         Some(number) => Ok(number),
-        None => Err(Refusal::Fault(refused(alloc, "no number is left for an update", "")?)),
+        None => refuse(alloc, "no number is left for an update", ""),
     }
 }
 
@@ -33,23 +33,59 @@ pub(crate) fn take_update(
     steps: u32,
     update: Update,
 ) -> Result<Taken, Refusal> {
-    let number = next_number(alloc, space)?;
-    let line = Line::Update(NumberedUpdate {
-        number,
-        steps,
-        update,
-    });
-    let Told { reason, .. } = space.take(alloc, &line)?;
-    match reason {
-        Some(Reason::NotThere(name)) => {
-            Err(Refusal::Fault(space.lost(alloc, unknown_of(name))?))
+    match next_number(alloc, space) {
+        Ok(number) => take_numbered(
+            alloc,
+            space,
+            NumberedUpdate {
+                number,
+                steps,
+                update,
+            },
+        ),
+        Err(refusal) => {
+            drop(update);
+            Err(refusal)
         }
-        Some(Reason::TooLong) => Err(spent_fault(alloc, space, steps)?),
-        reason => Ok(Taken {
+    }
+}
+
+fn take_numbered(
+    alloc: Global,
+    space: &mut Space,
+    numbered: NumberedUpdate,
+) -> Result<Taken, Refusal> {
+    let number = numbered.number;
+    let steps = numbered.steps;
+    let line = Line::Update(numbered);
+    match take_line(alloc, space, steps, &line) {
+        Ok(reason) => Ok(Taken {
             number,
             line,
             reason,
         }),
+        Err(refusal) => {
+            drop(line);
+            Err(refusal)
+        }
+    }
+}
+
+// Takes the line of an update of this budget, and tells why it waits, if it does. It is refused if it names an unknown that
+// is not there, or if its steps do not suffice.
+fn take_line(
+    alloc: Global,
+    space: &mut Space,
+    steps: u32,
+    line: &Line,
+) -> Result<Option<Reason>, Refusal> {
+    let Told { reason, .. } = space.take(alloc, line)?;
+    match reason {
+        Some(Reason::NotThere(name)) => {
+            Err(Refusal::Fault(space.lost(alloc, unknown_of(name))?))
+        }
+        Some(Reason::TooLong(made)) => Err(spent_fault(alloc, space, steps, &made)?),
+        reason => Ok(reason),
     }
 }
 

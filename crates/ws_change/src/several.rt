@@ -3,16 +3,17 @@
 use crate::choosing::answer_to;
 use crate::done::Done;
 use crate::faults::refuse;
-use crate::records::{is_waiting, steps_of};
-use crate::spending::spent_fault;
+use crate::records::{is_waiting, steps_of, waiting_numbers};
+use def_memory::Memory;
 use std::alloc::{AllocError, Global};
 use ws_command::SaidChoice;
 use ws_fault::{Refusal, Status};
+use ws_lines::Asked;
 use ws_question::status_of;
-use ws_report::{Counted, Report, Telling, ranges_text};
+use ws_report::{Counted, Report, Telling, ranges_text, spent_fault};
 use ws_run::Reason;
 use ws_space::Space;
-use ws_state::Told;
+use ws_state::{Mark, Told};
 use ws_written::{Choice, Line};
 
 /// What was answered so far: the lines, and the updates that are done.
@@ -31,26 +32,20 @@ pub(crate) fn answer_several(
     choice: &SaidChoice,
 ) -> Result<Done, Refusal> {
     let take = waiting_of(alloc, space, numbers)?;
-    let goes = is_go(choice);
-    let mark = space.state.mark();
     let mut answers = Answers {
         lines: Vec::new(alloc),
         done: Vec::new(alloc),
     };
-    for number in take.iter() {
-        if goes {
-            answers.go(alloc, space, *number)?;
-        } else {
-            answers.expand(alloc, space, *number)?;
+    match answers.all(alloc, space, take.as_slice(), is_go(choice)) {
+        Ok(report) => {
+            let Answers { lines, .. } = answers;
+            Ok(Done { report, lines })
+        }
+        Err(refusal) => {
+            drop(answers);
+            Err(refusal)
         }
     }
-    let text = said_text(alloc, take.as_slice(), goes)?;
-    if answers.lines.is_empty() {
-        return nothing_changed(alloc, text);
-    }
-    let mut done = answers.told(alloc, space, take.as_slice(), text)?;
-    done.report.effect = space.state.effect_since(alloc, mark)?;
-    Ok(done)
 }
 
 fn is_go(choice: &SaidChoice) -> bool {
@@ -62,17 +57,24 @@ fn is_go(choice: &SaidChoice) -> bool {
 
 // Those of the updates that wait.
 fn waiting_of(alloc: Global, space: &Space, numbers: &[u32]) -> Result<Vec<u32>, Refusal> {
-    let mut waiting = Vec::new(alloc);
-    for number in numbers {
-        if is_waiting(space, *number) {
-            waiting.push(*number)?;
-        }
-    }
+    let waiting = among(alloc, space, numbers)?;
     if waiting.is_empty() {
         if let Some(first) = numbers.first() {
             status_of(alloc, space, *first)?;
         }
         return refuse(alloc, "none of these updates waits", "");
+    }
+    Ok(waiting)
+}
+
+// Those of the updates that wait, in the same order.
+fn among(alloc: Global, space: &Space, numbers: &[u32]) -> Result<Vec<u32>, Memory> {
+    let all = waiting_numbers(alloc, space)?;
+    let mut waiting = Vec::new(alloc);
+    for number in numbers {
+        if all.contains(number) {
+            waiting.push(*number)?;
+        }
     }
     Ok(waiting)
 }
@@ -83,16 +85,17 @@ fn said_text(alloc: Global, numbers: &[u32], goes: bool) -> Result<String, Refus
     Ok(format!(in alloc; "answer {ranges} {word}")?)
 }
 
-fn nothing_changed(alloc: Global, text: String) -> Result<Done, Refusal> {
-    let mut done = Done::nothing(alloc, "nothing changed", text);
-    done.report.telling = Telling::Brief;
-    let words = String::from_str(alloc, "none of them takes this answer")?;
-    done.report.also.push(words)?;
-    Ok(done)
+fn nothing_changed(alloc: Global, text: String) -> Result<Report, Memory> {
+    let mut also = Vec::new(alloc);
+    also.push(String::from_str(alloc, "none of them takes this answer")?)?;
+    let mut report = Report::of(alloc, Status::Nothing, "nothing changed", text);
+    report.telling = Telling::Brief;
+    report.also = also;
+    Ok(report)
 }
 
 // The question of which tuple it is, if that is why an update waits.
-fn positive(reason: Option<Reason>) -> Option<ws_lines::Asked> {
+fn positive(reason: Option<Reason>) -> Option<Asked> {
     match reason {
         Some(Reason::Asks(question)) if question.is_positive => Some(question.asked),
         _ => None,
@@ -100,6 +103,29 @@ fn positive(reason: Option<Reason>) -> Option<ws_lines::Asked> {
 }
 
 impl Answers {
+    // Answers each of the updates, and tells of it.
+    fn all(
+        &mut self,
+        alloc: Global,
+        space: &mut Space,
+        take: &[u32],
+        goes: bool,
+    ) -> Result<Report, Refusal> {
+        let mark = space.state.mark();
+        for number in take {
+            if goes {
+                self.go(alloc, space, *number)?;
+            } else {
+                self.expand(alloc, space, *number)?;
+            }
+        }
+        let text = said_text(alloc, take, goes)?;
+        if self.lines.is_empty() {
+            return Ok(nothing_changed(alloc, text)?);
+        }
+        Ok(self.told(alloc, space, take, text, mark)?)
+    }
+
     // Tries an update again that has nothing in its way.
     fn go(&mut self, alloc: Global, space: &mut Space, number: u32) -> Result<(), Refusal> {
         if !is_waiting(space, number) || space.question(alloc, number)?.is_some() {
@@ -111,18 +137,30 @@ impl Answers {
 
     // Answers an update's questions of which tuple it is, one after the other.
     fn expand(&mut self, alloc: Global, space: &mut Space, number: u32) -> Result<(), Refusal> {
-        let mut reason = space.question(alloc, number)?;
+        let mut next = positive(space.question(alloc, number)?);
         for _ in 0..u64::MAX {
-            let Some(asked) = positive(reason) else {
+            let Some(asked) = next else {
                 break;
             };
-            let answer = answer_to(alloc, space, &asked, Choice::Expand)?;
-            reason = self.take(alloc, space, number, Line::Answer(number, answer))?;
+            next = self.expand_one(alloc, space, number, &asked)?;
         }
         Ok(())
     }
 
-    // Takes the line of an update, and tells why it waits, if it does.
+    // Answers one question, and gives the next one of which tuple it is.
+    fn expand_one(
+        &mut self,
+        alloc: Global,
+        space: &mut Space,
+        number: u32,
+        asked: &Asked,
+    ) -> Result<Option<Asked>, Refusal> {
+        let answer = answer_to(alloc, space, asked, Choice::Expand)?;
+        let reason = self.take(alloc, space, number, Line::Answer(number, answer))?;
+        Ok(positive(reason))
+    }
+
+    // Takes the line of an update, keeps it, and tells why the update waits, if it does.
     fn take(
         &mut self,
         alloc: Global,
@@ -130,64 +168,89 @@ impl Answers {
         number: u32,
         line: Line,
     ) -> Result<Option<Reason>, Refusal> {
-        let Told { reason, .. } = space.take(alloc, &line)?;
-        if let Some(Reason::TooLong) = &reason {
-            return Err(spent_fault(alloc, space, steps_of(space, number))?);
+        match take_line(alloc, space, number, &line) {
+            Ok(reason) => {
+                self.keep(number, line, reason.is_none())?;
+                Ok(reason)
+            }
+            Err(refusal) => {
+                drop(line);
+                Err(refusal)
+            }
         }
+    }
+
+    // Keeps the line, and the number of an update that is done.
+    fn keep(&mut self, number: u32, line: Line, is_done: bool) -> Result<(), AllocError> {
         self.lines.push(line)?;
-        if reason.is_none() {
+        if is_done {
             self.done.push(number)?;
         }
-        Ok(reason)
+        Ok(())
     }
 
     fn told(
-        self,
+        &self,
         alloc: Global,
         space: &Space,
         take: &[u32],
         text: String,
-    ) -> Result<Done, Refusal> {
-        let Answers { lines, done } = self;
-        let left = left_of(alloc, space, take)?;
-        let mut report = Report::of(alloc, Status::Done, "done", text);
+        mark: Mark,
+    ) -> Result<Report, Memory> {
+        let mut waiting = among(alloc, space, take)?;
+        waiting.sort_unstable();
+        let mut numbers = Vec::new(alloc);
+        numbers.extend_from_slice(self.done.as_slice())?;
+        let also = also_of(alloc, self.done.as_slice(), waiting.as_slice())?;
+        let next = next_of(alloc, waiting.as_slice())?;
+        let waits = !waiting.is_empty();
+        let effect = space.state.effect_since(alloc, mark)?;
+        let status = if waits { Status::Waits } else { Status::Done };
+        let did = if waits { "waits" } else { "done" };
+        let mut report = Report::with_effect(alloc, status, did, text, effect);
         report.telling = Telling::Brief;
-        add_ranges(alloc, &mut report, "done: ", done.as_slice())?;
-        add_ranges(alloc, &mut report, "wait: ", left.as_slice())?;
-        if !left.is_empty() {
-            report.status = Status::Waits;
-            report.did = "waits";
-            report.next.push(String::from_str(alloc, "questions")?)?;
-        }
-        report.counted = Some(Counted {
-            numbers: done,
-            waiting: left,
-        });
-        Ok(Done { report, lines })
+        report.also = also;
+        report.next = next;
+        report.counted = Some(Counted { numbers, waiting });
+        Ok(report)
     }
 }
 
-// Those of the updates that wait still, rising.
-fn left_of(alloc: Global, space: &Space, numbers: &[u32]) -> Result<Vec<u32>, AllocError> {
-    let mut left = Vec::new(alloc);
-    for number in numbers {
-        if is_waiting(space, *number) {
-            left.push(*number)?;
-        }
-    }
-    left.sort_unstable();
-    Ok(left)
-}
-
-fn add_ranges(
+// Takes the line of an update, and tells why it waits, if it does. It is refused if its steps do not suffice.
+fn take_line(
     alloc: Global,
-    report: &mut Report,
-    words: &str,
-    numbers: &[u32],
-) -> Result<(), Refusal> {
-    if let [_, ..] = numbers {
-        let ranges = ranges_text(alloc, numbers)?;
-        report.also.push(format!(in alloc; "{words}{ranges}")?)?;
+    space: &mut Space,
+    number: u32,
+    line: &Line,
+) -> Result<Option<Reason>, Refusal> {
+    let Told { reason, .. } = space.take(alloc, line)?;
+    match reason {
+        Some(Reason::TooLong(made)) => {
+            let steps = steps_of(space, number);
+            Err(spent_fault(alloc, space, steps, &made)?)
+        }
+        reason => Ok(reason),
     }
-    Ok(())
+}
+
+// Which updates are done, and which wait.
+fn also_of(alloc: Global, done: &[u32], waiting: &[u32]) -> Result<Vec<String>, Memory> {
+    let mut also = Vec::new(alloc);
+    if let [_, ..] = done {
+        let ranges = ranges_text(alloc, done)?;
+        also.push(format!(in alloc; "done: {ranges}")?)?;
+    }
+    if let [_, ..] = waiting {
+        let ranges = ranges_text(alloc, waiting)?;
+        also.push(format!(in alloc; "wait: {ranges}")?)?;
+    }
+    Ok(also)
+}
+
+fn next_of(alloc: Global, waiting: &[u32]) -> Result<Vec<String>, AllocError> {
+    let mut next = Vec::new(alloc);
+    if let [_, ..] = waiting {
+        next.push(String::from_str(alloc, "questions")?)?;
+    }
+    Ok(next)
 }

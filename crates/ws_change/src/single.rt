@@ -1,19 +1,27 @@
 //! Changes that are one update.
 
 use crate::bounds::{check_bounds, refuse_asking};
-use crate::done::Done;
+use crate::done::{Done, recorded};
 use crate::running::{Taken, take_update, told_line};
 use def_memory::Memory;
 use std::alloc::Global;
 use ws_command::Bounds;
 use ws_fault::{Refusal, Status};
 use ws_hint::Hints;
-use ws_question::{asked_now, count_text, question_next};
+use ws_question::{AskedNow, asked_now, count_text, question_next};
 use ws_report::{Note, Report};
 use ws_run::{Question, Reason};
 use ws_space::Space;
-use ws_state::Effect;
+use ws_state::{Effect, Mark};
 use ws_written::{Line, NewFact, Update};
+
+/// What is told of an update beside its effect or its question.
+#[derive(Drop)]
+struct Words {
+    text: String,
+    notes: Vec<Note>,
+    next: Vec<String>,
+}
 
 /// Takes an update within its bounds, and tells of it.
 pub(crate) fn single(
@@ -28,55 +36,101 @@ pub(crate) fn single(
         line,
         reason,
     } = take_update(alloc, space, bounds.steps, update)?;
-    if let Some(Reason::Asks(question)) = reason {
-        return waits(alloc, space, number, line, question, bounds.only);
-    }
-    let effect = space.state.effect_since(alloc, mark)?;
-    check_bounds(alloc, space, &line, bounds, &effect)?;
-    stands(alloc, space, number, line, effect)
+    let report = match reason {
+        Some(Reason::Asks(question)) => {
+            waits(alloc, space, number, &line, question, bounds.only)
+        }
+        _ => stands(alloc, space, number, &line, bounds, mark),
+    };
+    recorded(alloc, report, line)
 }
 
 fn stands(
     alloc: Global,
     space: &Space,
     number: u32,
-    line: Line,
-    effect: Effect,
-) -> Result<Done, Refusal> {
-    let text = told_line(alloc, space, &line)?;
-    let mut report = Report::of(alloc, Status::Done, "done", text);
-    report.number = Some(number);
-    report.notes = hints_of(alloc, space, &line, number)?;
-    let along = along(&line, &effect);
+    line: &Line,
+    bounds: &Bounds,
+    mark: Mark,
+) -> Result<Report, Refusal> {
+    let effect = space.state.effect_since(alloc, mark)?;
+    match standing_words(alloc, space, number, line, bounds, &effect) {
+        Ok(Words { text, notes, next }) => {
+            let mut report = Report::with_effect(alloc, Status::Done, "done", text, effect);
+            report.number = Some(number);
+            report.notes = notes;
+            report.next = next;
+            Ok(report)
+        }
+        Err(refusal) => {
+            drop(effect);
+            Err(refusal)
+        }
+    }
+}
+
+// The words on an update that stands, if it is within its bounds.
+fn standing_words(
+    alloc: Global,
+    space: &Space,
+    number: u32,
+    line: &Line,
+    bounds: &Bounds,
+    effect: &Effect,
+) -> Result<Words, Refusal> {
+    check_bounds(alloc, space, line, bounds, effect)?;
+    let text = told_line(alloc, space, line)?;
+    let mut notes = hints_of(alloc, space, line, number)?;
+    let mut next = Vec::new(alloc);
+    let along = along(line, effect);
     if 0 < along {
         let count = count_text(alloc, along, "tuple")?;
         let words = format!(in alloc; "{count} went that you did not name")?;
-        report.notes.push(Note::of(alloc, words))?;
-        report.next.push(format!(in alloc; "undo {number}")?)?;
+        notes.push(Note::of(alloc, words))?;
+        next.push(format!(in alloc; "undo {number}")?)?;
     }
-    report.effect = effect;
-    Ok(Done::recorded(alloc, report, line)?)
+    Ok(Words { text, notes, next })
 }
 
 fn waits(
     alloc: Global,
     space: &Space,
     number: u32,
-    line: Line,
+    line: &Line,
     question: Question,
     only: bool,
-) -> Result<Done, Refusal> {
+) -> Result<Report, Refusal> {
     let asked = asked_now(alloc, space, number, question)?;
-    if only {
-        return refuse_asking(alloc, space, &asked);
+    match waiting_words(alloc, space, line, &asked, only) {
+        Ok(Words { text, notes, next }) => {
+            let mut report = Report::asking(alloc, Status::Waits, "waits", text, asked);
+            report.notes = notes;
+            report.next = next;
+            Ok(report)
+        }
+        Err(refusal) => {
+            drop(asked);
+            Err(refusal)
+        }
     }
-    let text = told_line(alloc, space, &line)?;
-    let mut report = Report::of(alloc, Status::Waits, "waits", text);
-    report.number = Some(number);
-    report.notes = hints_of(alloc, space, &line, number)?;
-    report.next = question_next(alloc, &asked)?;
-    report.question = Some(asked);
-    Ok(Done::recorded(alloc, report, line)?)
+}
+
+// The words on an update that asks, if it may.
+fn waiting_words(
+    alloc: Global,
+    space: &Space,
+    line: &Line,
+    asked: &AskedNow,
+    only: bool,
+) -> Result<Words, Refusal> {
+    if only {
+        return refuse_asking(alloc, space, asked);
+    }
+    Ok(Words {
+        text: told_line(alloc, space, line)?,
+        notes: hints_of(alloc, space, line, asked.number)?,
+        next: question_next(alloc, asked)?,
+    })
 }
 
 // How many more tuples went than a deletion names.
@@ -90,32 +144,33 @@ fn along(line: &Line, effect: &Effect) -> usize {
     }
 }
 
+// The tuples that a line inserts.
+fn inserted(line: &Line) -> &[NewFact] {
+    match line {
+        Line::Update(numbered) => match &numbered.update {
+            Update::Insert(facts) => facts.as_slice(),
+            Update::Change(_, new) => std::slice::from_ref(new),
+            _ => &[],
+        },
+        _ => &[],
+    }
+}
+
 // The hints about what the update inserts.
 fn hints_of(alloc: Global, space: &Space, line: &Line, number: u32) -> Result<Vec<Note>, Memory> {
     let mut notes = Vec::new(alloc);
-    let Line::Update(numbered) = line else {
-        return Ok(notes);
-    };
-    match &numbered.update {
-        Update::Insert(facts) => {
-            add_hints(alloc, space, facts.as_slice(), number, &mut notes)?;
-        }
-        Update::Change(_, new) => {
-            Hints::new(alloc).add(space, new, number, &mut notes)?;
-        }
-        _ => {}
-    }
+    let mut hints = Hints::new(alloc);
+    add_hints(space, inserted(line), number, &mut hints, &mut notes)?;
     Ok(notes)
 }
 
 fn add_hints(
-    alloc: Global,
     space: &Space,
     facts: &[NewFact],
     number: u32,
+    hints: &mut Hints,
     notes: &mut Vec<Note>,
 ) -> Result<(), Memory> {
-    let mut hints = Hints::new(alloc);
     for fact in facts {
         hints.add(space, fact, number, notes)?;
     }

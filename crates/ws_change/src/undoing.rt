@@ -2,17 +2,15 @@
 
 use crate::done::Done;
 use crate::faults::refuse;
-use crate::records::{has_answers, is_waiting};
-use crate::running::told_line;
-use base_types::TupleList;
+use crate::records::{answered_numbers, undone_numbers};
+use crate::replaying::{ReplayWords, replay};
 use def_memory::Memory;
 use std::alloc::{AllocError, Global};
 use std::collections::BTreeSet;
-use ws_fault::{Refusal, Status as Comes};
-use ws_question::{reason_words, status_of, status_word};
-use ws_report::{AgainTold, Note, Report, ranges_text};
+use ws_fault::Refusal;
+use ws_question::status_of;
+use ws_report::{Note, ranges_text};
 use ws_space::Space;
-use ws_state::{Again, Moved, MovedList, Status, Told};
 use ws_written::Line;
 
 /// The numbers that a command changes, rising, and the others that it names.
@@ -37,23 +35,23 @@ fn parted(
         take: Vec::new(alloc),
         rest: Vec::new(alloc),
     };
+    let fit = undone_numbers(alloc, space, is_undone)?;
     for number in &rising {
-        match space.state.status(*number) {
-            Some(status) if (status == Status::Undone) == is_undone => {
-                parted.take.push(*number)?;
-            }
-            _ => parted.rest.push(*number)?,
+        if fit.contains(number) {
+            parted.take.push(*number)?;
+        } else {
+            parted.rest.push(*number)?;
         }
     }
     Ok(parted)
 }
 
-fn note_of(alloc: Global, words: &str, numbers: &[u32]) -> Result<Vec<Note>, AllocError> {
+// A hint about these numbers, if there are any.
+fn note_of(alloc: Global, words: &str, numbers: &[u32]) -> Result<Vec<Note>, Memory> {
     let mut notes = Vec::new(alloc);
     if let [_, ..] = numbers {
-        let mut text = String::from_str(alloc, words)?;
-        ws_print::add_ranges(&mut text, numbers)?;
-        notes.push(Note::of(alloc, text))?;
+        let ranges = ranges_text(alloc, numbers)?;
+        notes.push(Note::of(alloc, format!(in alloc; "{words}{ranges}")?))?;
     }
     Ok(notes)
 }
@@ -79,7 +77,12 @@ pub(crate) fn undo(alloc: Global, space: &mut Space, numbers: &[u32]) -> Result<
     let mut next = Vec::new(alloc);
     next.push(format!(in alloc; "redo {ranges}")?)?;
     let line = Line::Undo(copy_of(alloc, take.as_slice())?);
-    replay(alloc, space, line, take.as_slice(), notes, next)
+    let asked = ReplayWords {
+        numbers: take,
+        notes,
+        next,
+    };
+    replay(alloc, space, line, asked)
 }
 
 /// Takes the answers of updates back. It is refused if none of the updates stands or waits.
@@ -89,26 +92,31 @@ pub(crate) fn undo_answers(
     numbers: &[u32],
 ) -> Result<Done, Refusal> {
     let Parted { take, .. } = to_undo(alloc, space, numbers)?;
-    let mut answered = Vec::new(alloc);
-    for number in take.iter() {
-        if has_answers(space, *number) {
-            answered.push(*number)?;
-        }
-    }
+    let answered = answered_of(alloc, space, take.as_slice())?;
     if answered.is_empty() {
-        let said = Line::UndoAnswers(copy_of(alloc, numbers)?);
-        let text = told_line(alloc, space, &said)?;
+        let ranges = ranges_text(alloc, numbers)?;
+        let text = format!(in alloc; "undo {ranges} --answers")?;
         return Ok(Done::nothing(alloc, "no answers", text));
     }
     let line = Line::UndoAnswers(copy_of(alloc, answered.as_slice())?);
-    replay(
-        alloc,
-        space,
-        line,
-        answered.as_slice(),
-        Vec::new(alloc),
-        Vec::new(alloc),
-    )
+    let asked = ReplayWords {
+        numbers: answered,
+        notes: Vec::new(alloc),
+        next: Vec::new(alloc),
+    };
+    replay(alloc, space, line, asked)
+}
+
+// Those of the updates that stand or wait with answers.
+fn answered_of(alloc: Global, space: &Space, numbers: &[u32]) -> Result<Vec<u32>, Memory> {
+    let all = answered_numbers(alloc, space)?;
+    let mut answered = Vec::new(alloc);
+    for number in numbers {
+        if all.contains(number) {
+            answered.push(*number)?;
+        }
+    }
+    Ok(answered)
 }
 
 /// Does undone updates again. It is refused if none of them is undone.
@@ -122,120 +130,16 @@ pub(crate) fn redo(alloc: Global, space: &mut Space, numbers: &[u32]) -> Result<
     }
     let notes = note_of(alloc, "not undone: ", rest.as_slice())?;
     let line = Line::Redo(copy_of(alloc, take.as_slice())?);
-    replay(alloc, space, line, take.as_slice(), notes, Vec::new(alloc))
+    let asked = ReplayWords {
+        numbers: take,
+        notes,
+        next: Vec::new(alloc),
+    };
+    replay(alloc, space, line, asked)
 }
 
 fn copy_of(alloc: Global, numbers: &[u32]) -> Result<Vec<u32>, AllocError> {
     let mut copy = Vec::new(alloc);
     copy.extend_from_slice(numbers)?;
     Ok(copy)
-}
-
-// Does a line that replays the log, and tells what is different. `next` is what may be said next if nothing waits.
-fn replay(
-    alloc: Global,
-    space: &mut Space,
-    line: Line,
-    numbers: &[u32],
-    notes: Vec<Note>,
-    next: Vec<String>,
-) -> Result<Done, Refusal> {
-    let mut before = Vec::new(alloc);
-    before.extend_from_slice(space.state.in_force())?;
-    let Told { replayed, .. } = space.take(alloc, &line)?;
-    let mut report = Report::of(alloc, Comes::Done, "done", told_line(alloc, space, &line)?);
-    report.notes = notes;
-    report.next = next;
-    report.also = forces_told(alloc, space, before.as_slice())?;
-    if let Some(replayed) = replayed {
-        report.effect.came = moved_of(alloc, &replayed.came)?;
-        report.effect.went = moved_of(alloc, &replayed.went)?;
-        for again in replayed.again.as_slice() {
-            report.again.push(again_told(alloc, space, *again)?)?;
-        }
-    }
-    add_own(alloc, space, numbers, &mut report)?;
-    if report.again.iter().any(|one| one.now == "waits") {
-        report.status = Comes::Waits;
-        report.next = Vec::new(alloc);
-        report.next.push(String::from_str(alloc, "questions")?)?;
-    }
-    Ok(Done::recorded(alloc, report, line)?)
-}
-
-// Tuples that came or went by no mapping.
-fn moved_of(alloc: Global, tuples: &TupleList) -> Result<MovedList, Memory> {
-    let mut moved = MovedList::new(alloc);
-    for tuple in tuples.as_slice() {
-        moved.push(Moved {
-            tuple: tuple.share()?,
-            by: None,
-        })?;
-    }
-    Ok(moved)
-}
-
-// The updates that were named and wait now.
-fn add_own(
-    alloc: Global,
-    space: &mut Space,
-    numbers: &[u32],
-    report: &mut Report,
-) -> Result<(), Memory> {
-    for number in numbers {
-        if is_waiting(space, *number) {
-            let again = Again {
-                number: *number,
-                was: Status::Waits,
-                is: Status::Waits,
-            };
-            report.again.push(again_told(alloc, space, again)?)?;
-        }
-    }
-    Ok(())
-}
-
-// The mappings that are no longer in force, and those that are again.
-fn forces_told(alloc: Global, space: &Space, before: &[u16]) -> Result<Vec<String>, Memory> {
-    let after = space.state.in_force();
-    let mut told = Vec::new(alloc);
-    for mapping in before {
-        if !after.iter().any(|other| other == mapping) {
-            let name = space.mapping_name(*mapping);
-            told.push(format!(in alloc; "mapping {name} is no longer in force")?)?;
-        }
-    }
-    for mapping in after {
-        if !before.iter().any(|other| other == mapping) {
-            let name = space.mapping_name(*mapping);
-            told.push(format!(in alloc; "mapping {name} is in force again")?)?;
-        }
-    }
-    Ok(told)
-}
-
-// The words on an update that is otherwise now.
-fn again_told(alloc: Global, space: &mut Space, again: Again) -> Result<AgainTold, Memory> {
-    let number = again.number;
-    let how = again_words(alloc, space, again)?;
-    let line = space.update_text(alloc, number)?;
-    Ok(AgainTold {
-        number,
-        now: status_word(again.is),
-        words: format!(in alloc; "{number} {how}: {line}")?,
-    })
-}
-
-fn again_words(alloc: Global, space: &mut Space, again: Again) -> Result<String, Memory> {
-    let words = match (again.is, again.was) {
-        (Status::Stands, Status::Stands) => "did something else now",
-        (Status::Stands, _) => "is done now",
-        (Status::GivenUp, _) => "is given up",
-        _ => {
-            let reason = space.question(alloc, again.number)?;
-            let reason = reason_words(alloc, space, reason.as_ref())?;
-            return Ok(format!(in alloc; "waits now ({reason})")?);
-        }
-    };
-    Ok(String::from_str(alloc, words)?)
 }

@@ -57,22 +57,27 @@ fn session_text(
     tuples: &BTreeSet<Tuple>,
     cut: usize,
 ) -> Result<String, Memory> {
+    let base = renamed(renaming, tuples)?;
     let mut updates = Updates {
         mappings: first_mappings(alloc, space, &renaming.hidden, cut)?,
         updates: SessionUpdates::new(alloc),
     };
-    for standing in space.state.order().as_slice().iter().skip(cut) {
-        updates.add(alloc, space, renaming, standing)?;
-    }
-    let session = Session {
-        format: 2,
-        schema,
-        mappings: updates.mappings,
-        base: renamed(renaming, tuples)?,
-        updates: updates.updates,
-    };
-    let bytes = print_session(alloc, &session)?;
+    updates.add_all(alloc, space, renaming, cut)?;
+    let bytes = printed(
+        alloc,
+        Session {
+            format: 2,
+            schema,
+            mappings: updates.mappings,
+            base,
+            updates: updates.updates,
+        },
+    )?;
     Ok(String::from_utf8_lossy(alloc, bytes.as_slice())?)
+}
+
+fn printed(alloc: Global, session: Session) -> Result<Vec<u8>, Memory> {
+    print_session(alloc, &session)
 }
 
 fn renamed(renaming: &Renaming, tuples: &BTreeSet<Tuple>) -> Result<TupleList, Memory> {

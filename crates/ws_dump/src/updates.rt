@@ -18,8 +18,22 @@ pub(crate) struct Updates {
 }
 
 impl Updates {
-    /// Adds an update for each op of one that stands. It is refused only for want of memory.
-    pub fn add(
+    /// Adds the updates that stand from this place on. It is refused only for want of memory.
+    pub fn add_all(
+        &mut self,
+        alloc: Global,
+        space: &Space,
+        renaming: &Renaming,
+        cut: usize,
+    ) -> Result<(), Memory> {
+        for standing in space.state.order().as_slice().iter().skip(cut) {
+            self.add(alloc, space, renaming, standing)?;
+        }
+        Ok(())
+    }
+
+    // Adds an update for each op of one that stands.
+    fn add(
         &mut self,
         alloc: Global,
         space: &Space,

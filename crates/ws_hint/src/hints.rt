@@ -1,21 +1,22 @@
 //! Hints about tuples that are inserted by one command.
 
-use crate::columns::{Column, columns_of};
-use crate::kinds::add_kinds;
+use crate::kinds::{Kinds, add_kinds, has_digits, kinds_of};
 use crate::twins::{add_key, add_twins, twins_of};
+use crate::vague::{VagueColumn, vague_of};
 use crate::waits::add_waits;
-use base_types::Memory;
+use base_types::{Memory, Tuple};
 use std::alloc::Global;
 use std::collections::BTreeMap;
 use ws_report::Note;
 use ws_space::{Space, copy_value};
 use ws_written::{Fact, NewFact, NewValue};
 
-/// What hints look at, each relation once.
+/// What hints look at: of each relation its tuples with unknowns, and the kinds of its values, each once.
 #[derive(Drop)]
 pub struct Hints {
     alloc: Global,
-    seen: BTreeMap<u32, Vec<Column>>,
+    vague: BTreeMap<u16, Vec<VagueColumn>>,
+    kinds: BTreeMap<u16, Vec<Kinds>>,
 }
 
 impl Hints {
@@ -23,7 +24,8 @@ impl Hints {
     pub fn new(alloc: Global) -> Hints {
         Hints {
             alloc,
-            seen: BTreeMap::new(alloc),
+            vague: BTreeMap::new(alloc),
+            kinds: BTreeMap::new(alloc),
         }
     }
 
@@ -35,44 +37,63 @@ impl Hints {
         number: u32,
         notes: &mut Vec<Note>,
     ) -> Result<(), Memory> {
-        match known_fact(self.alloc, fact)? {
-            Some(known) => self.add_known(space, &known, number, notes),
-            None => Ok(()),
+        let alloc = self.alloc;
+        let Some(known) = known_fact(alloc, fact)? else {
+            return Ok(());
+        };
+        add_waits(alloc, space, &known, number, notes)?;
+        let Some(tuple) = space.within(alloc, &known)? else {
+            return Ok(());
+        };
+        self.add_same(space, &tuple, notes)?;
+        if has_digits(&tuple) {
+            self.add_digits(space, &tuple, notes)?;
         }
+        Ok(())
     }
 
-    fn add_known(
+    // Adds the hints about tuples that may be the same, or have the same key.
+    fn add_same(
         &mut self,
         space: &Space,
-        fact: &Fact,
-        number: u32,
+        tuple: &Tuple,
         notes: &mut Vec<Note>,
     ) -> Result<(), Memory> {
         let alloc = self.alloc;
-        add_waits(alloc, space, fact, number, notes)?;
-        let Some(tuple) = space.within(alloc, fact)? else {
-            return Ok(());
-        };
-        self.look(space, fact.relation)?;
-        let columns = match self.seen.get(&fact.relation) {
+        let relation = tuple.relation;
+        if !self.vague.contains_key(&relation) {
+            let columns = vague_of(alloc, space, relation)?;
+            if self.vague.insert(relation, columns).is_err() {
+                return Err(Memory);
+            }
+        }
+        let columns = match self.vague.get(&relation) {
             Some(columns) => columns.as_slice(),
             None => &[],
         };
-        let twins = twins_of(alloc, columns, &tuple)?;
-        add_twins(alloc, space, &twins, &tuple, notes)?;
-        add_key(alloc, space, &twins, &tuple, notes)?;
-        add_kinds(alloc, space, columns, &tuple, notes)
+        let twins = twins_of(alloc, columns, tuple)?;
+        add_twins(alloc, space, &twins, tuple, notes)?;
+        add_key(alloc, space, &twins, tuple, notes)
     }
 
-    // Looks at a relation, if that was not done yet.
-    fn look(&mut self, space: &Space, relation: u32) -> Result<(), Memory> {
-        if self.seen.contains_key(&relation) {
-            return Ok(());
+    // Adds the hints about texts of digits.
+    fn add_digits(
+        &mut self,
+        space: &Space,
+        tuple: &Tuple,
+        notes: &mut Vec<Note>,
+    ) -> Result<(), Memory> {
+        let alloc = self.alloc;
+        let relation = tuple.relation;
+        if !self.kinds.contains_key(&relation) {
+            let kinds = kinds_of(alloc, space, relation)?;
+            if self.kinds.insert(relation, kinds).is_err() {
+                return Err(Memory);
+            }
         }
-        let columns = columns_of(self.alloc, space, relation)?;
-        match self.seen.insert(relation, columns) {
-            Ok(_) => Ok(()),
-            Err(_) => Err(Memory),
+        match self.kinds.get(&relation) {
+            Some(kinds) => add_kinds(alloc, space, kinds.as_slice(), tuple, notes),
+            None => Ok(()),
         }
     }
 }

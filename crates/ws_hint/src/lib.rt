@@ -4,10 +4,10 @@
 //! Each call is refused only for want of memory.
 #![tactic(auto)]
 
-mod columns;
 mod hints;
 mod kinds;
 mod twins;
+mod vague;
 mod waits;
 
 pub use crate::hints::{Hints, known_fact};

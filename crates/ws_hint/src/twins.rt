@@ -1,6 +1,6 @@
 //! Tuples that may be the same as one that is inserted, and tuples of the same key.
 
-use crate::columns::{Column, is_unknown};
+use crate::vague::{VagueColumn, is_unknown};
 use base_types::{Facts, Memory, Null, Tuple, Value};
 use chase_unifier::is_more_specific;
 use std::alloc::Global;
@@ -16,7 +16,7 @@ const TWINS: usize = 3;
 /// The tuples with unknowns that share a value with this one, and that it is more specific than.
 pub(crate) fn twins_of(
     alloc: Global,
-    columns: &[Column],
+    columns: &[VagueColumn],
     tuple: &Tuple,
 ) -> Result<BTreeSet<Tuple>, Memory> {
     let mut twins = BTreeSet::new(alloc);
@@ -24,7 +24,7 @@ pub(crate) fn twins_of(
         if is_unknown(value) {
             continue;
         }
-        for vague in column.vague_with(value) {
+        for vague in column.with(value) {
             if vague != tuple && is_more_specific(vague, tuple) {
                 if twins.insert(vague.share()?).is_err() {
                     return Err(Memory);

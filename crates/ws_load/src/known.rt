@@ -2,8 +2,9 @@
 
 use base_types::{Memory, Tuple};
 use std::alloc::Global;
-use ws_space::{Space, copy_value};
-use ws_written::{Fact, NewFact, NewValue, Unknown, Value};
+use ws_hint::known_fact;
+use ws_space::Space;
+use ws_written::{Fact, NewFact, Unknown, Value};
 
 /// How a row stands to what is there.
 #[derive(Drop)]
@@ -28,21 +29,6 @@ pub(crate) fn row_of(alloc: Global, space: &Space, fact: &NewFact) -> Result<Row
         Some(tuple) => Ok(Row::Within(tuple)),
         None => Ok(Row::New),
     }
-}
-
-// The tuple, if it has no new unknown.
-fn known_fact(alloc: Global, fact: &NewFact) -> Result<Option<Fact>, Memory> {
-    let mut values = Vec::new(alloc);
-    for value in fact.values.iter() {
-        match value {
-            NewValue::Known(known) => values.push(copy_value(alloc, known)?)?,
-            _ => return Ok(None),
-        }
-    }
-    Ok(Some(Fact {
-        relation: fact.relation,
-        values,
-    }))
 }
 
 // The first unknown of the tuple that is not there.

@@ -9,9 +9,9 @@ use std::alloc::Global;
 use ws_cells::{CsvReader, Fitted, Form, Loaded, facts_of, fit, form_of, text_of};
 use ws_command::Load;
 use ws_fault::Refusal;
-use ws_reply::{Context, Outcome};
+use ws_reply::{Context, Outcome, Reply};
 use ws_space::Space;
-use ws_written::{Line, Unknown};
+use ws_written::Unknown;
 
 /// The most tuples of a workspace.
 const TUPLES: usize = 1_000_000;
@@ -75,24 +75,42 @@ fn load_rows(
     loaded: Loaded,
 ) -> Result<Outcome, Refusal> {
     let mut inserted = Inserted::new(alloc);
-    if let Some(relation) = fitted.created {
-        let line = Line::Relation(relation);
-        space.take(alloc, &line)?;
-        inserted.lines.push(line)?;
+    match told(alloc, space, context, load, fitted, loaded, &mut inserted) {
+        Ok(reply) => Ok(Outcome {
+            reply,
+            lines: inserted.lines,
+        }),
+        Err(refusal) => {
+            drop(inserted);
+            Err(refusal)
+        }
     }
-    let skipped = loaded.skipped;
+}
+
+// The reply, after the rows were inserted.
+fn told(
+    alloc: Global,
+    space: &mut Space,
+    context: &Context<'_>,
+    load: &Load,
+    fitted: Fitted,
+    loaded: Loaded,
+    inserted: &mut Inserted,
+) -> Result<Reply, Refusal> {
+    let skipped = usize::try_from(loaded.skipped).unwrap_or(usize::MAX);
     let rows = loaded.rows.len();
+    if let Some(relation) = fitted.created {
+        inserted.declare(alloc, space, relation)?;
+    }
     has_room(alloc, space, rows)?;
     let first = space.state.order().len();
     let mark = space.state.mark();
-    for row in loaded.rows {
-        inserted.add(alloc, space, row, load.steps)?;
-    }
+    inserted.add_all(alloc, space, loaded.rows, load.steps)?;
     let loading = Loading {
         relation: fitted.relation,
-        rows: rows.saturating_add(usize::try_from(skipped).unwrap_or(usize::MAX)),
+        rows: rows.saturating_add(skipped),
         skipped,
-        inserted,
+        inserted: &*inserted,
     };
     let line = line_of(alloc, load)?;
     let report = if loading.inserted.lines.is_empty() {
@@ -101,9 +119,8 @@ fn load_rows(
         let effect = space.state.effect_since(alloc, mark)?;
         loading.report(alloc, space, line, first, effect)?
     };
-    let lines = loading.inserted.lines;
-    let reply = report.into_reply(alloc, space, context, !lines.is_empty())?;
-    Ok(Outcome { reply, lines })
+    let is_recorded = !loading.inserted.lines.is_empty();
+    Ok(report.into_reply(alloc, space, context, is_recorded)?)
 }
 
 // The rows may be more than there is room for.

@@ -10,7 +10,7 @@ use ws_report::spent_fault;
 use ws_run::Reason;
 use ws_space::Space;
 use ws_state::Told;
-use ws_written::{Line, NumberedUpdate, Unknown, Update};
+use ws_written::{Line, NewFact, NumberedUpdate, Relation, Unknown, Update};
 
 /// What became of the rows: the numbers of the updates that are done and of those that wait, how many rows were there already,
 /// and the lines of the record.
@@ -33,51 +33,95 @@ impl Inserted {
         }
     }
 
-    /// Inserts the row, unless it is there, with a budget of steps. It is refused if an unknown that it names was filled by a
-    /// row before it, or if its steps do not suffice.
-    pub fn add(
+    /// Declares a relation. It is refused only for want of memory.
+    pub fn declare(
         &mut self,
         alloc: Global,
         space: &mut Space,
-        row: LoadedRow,
-        steps: u32,
+        relation: Relation,
     ) -> Result<(), Refusal> {
-        match row_of(alloc, space, &row.fact)? {
-            Row::Lost(unknown) => return Err(lost(alloc, &row, unknown)?),
-            Row::Within(tuple) => {
-                if space.has(&tuple) {
-                    self.there = self.there.saturating_add(1);
-                    return Ok(());
-                }
+        let line = Line::Relation(relation);
+        match space.take(alloc, &line) {
+            Ok(_) => Ok(self.lines.push(line)?),
+            Err(_) => {
+                drop(line);
+                Err(Refusal::Memory)
             }
-            Row::New => {}
         }
-        self.insert(alloc, space, row, steps)
     }
 
-    fn insert(
+    /// Inserts each row that is not there, with a budget of steps. It is refused if an unknown that a row names was filled by
+    /// a row before it, or if the steps of one do not suffice.
+    pub fn add_all(
+        &mut self,
+        alloc: Global,
+        space: &mut Space,
+        rows: Vec<LoadedRow>,
+        steps: u32,
+    ) -> Result<(), Refusal> {
+        for row in rows {
+            self.add(alloc, space, row, steps)?;
+        }
+        Ok(())
+    }
+
+    fn add(
         &mut self,
         alloc: Global,
         space: &mut Space,
         row: LoadedRow,
         steps: u32,
     ) -> Result<(), Refusal> {
-        let number = next_number(alloc, space)?;
-        let mut facts = Vec::new(alloc);
-        facts.push(row.fact)?;
-        let line = Line::Update(NumberedUpdate {
-            number,
-            steps,
-            update: Update::Insert(facts),
-        });
-        let Told { reason, .. } = space.take(alloc, &line)?;
-        match reason {
-            Some(Reason::TooLong(made)) => return Err(spent_fault(alloc, space, steps, &made)?),
-            Some(_) => self.waiting.push(number)?,
-            None => self.done.push(number)?,
+        if is_there(alloc, space, &row)? {
+            self.there = self.there.saturating_add(1);
+            return Ok(());
         }
-        self.lines.push(line)?;
-        Ok(())
+        let number = next_number(alloc, space)?;
+        let line = insertion(alloc, number, steps, row.fact)?;
+        match self.take(alloc, space, number, steps, &line) {
+            Ok(()) => Ok(self.lines.push(line)?),
+            Err(refusal) => {
+                drop(line);
+                Err(refusal)
+            }
+        }
+    }
+
+    // Takes the line of an update, and counts it among those that are done or among those that wait.
+    fn take(
+        &mut self,
+        alloc: Global,
+        space: &mut Space,
+        number: u32,
+        steps: u32,
+        line: &Line,
+    ) -> Result<(), Refusal> {
+        let Told { reason, .. } = space.take(alloc, line)?;
+        match reason {
+            Some(Reason::TooLong(made)) => Err(spent_fault(alloc, space, steps, &made)?),
+            Some(_) => Ok(self.waiting.push(number)?),
+            None => Ok(self.done.push(number)?),
+        }
+    }
+}
+
+// The line that inserts a tuple.
+fn insertion(alloc: Global, number: u32, steps: u32, fact: NewFact) -> Result<Line, AllocError> {
+    let mut facts = Vec::new(alloc);
+    facts.push(fact)?;
+    Ok(Line::Update(NumberedUpdate {
+        number,
+        steps,
+        update: Update::Insert(facts),
+    }))
+}
+
+// Whether the row is there already.
+fn is_there(alloc: Global, space: &Space, row: &LoadedRow) -> Result<bool, Refusal> {
+    match row_of(alloc, space, &row.fact)? {
+        Row::Lost(unknown) => Err(lost(alloc, row, unknown)?),
+        Row::Within(tuple) => Ok(space.has(&tuple)),
+        Row::New => Ok(false),
     }
 }
 

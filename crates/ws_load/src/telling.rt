@@ -10,9 +10,9 @@ use ws_command::{Load, Source};
 use ws_fault::Status;
 use ws_hint::Hints;
 use ws_print::{add_count, add_ranges};
-use ws_report::{Counted, Note, Report, Telling};
+use ws_report::{Counted, Note, Report, Telling, no_effect};
 use ws_space::Space;
-use ws_state::Effect;
+use ws_state::{Effect, MovedList};
 use ws_written::{Line, NewFact, NumberedUpdate, Update};
 
 // How many hints about rows are told.
@@ -20,12 +20,12 @@ const HINTS: usize = 3;
 
 /// What was loaded: into which relation, how many rows the file had, how many of them were passed over, and what became of the
 /// others.
-#[derive(Drop)]
-pub(crate) struct Loading {
+#[derive(Clone, Copy)]
+pub(crate) struct Loading<'a> {
     pub relation: u32,
     pub rows: usize,
-    pub skipped: u64,
-    pub inserted: Inserted,
+    pub skipped: usize,
+    pub inserted: &'a Inserted,
 }
 
 /// `load NAME FILE`, or with the lines that were asked for. It is refused only for want of memory.
@@ -40,7 +40,7 @@ pub(crate) fn line_of(alloc: Global, load: &Load) -> Result<String, AllocError> 
     }
 }
 
-impl Loading {
+impl<'a> Loading<'a> {
     /// What is told if nothing is to be recorded. It is refused only for want of memory.
     pub fn nothing(&self, alloc: Global, line: String) -> Result<Report, AllocError> {
         let did = if 0 < self.inserted.there {
@@ -48,10 +48,22 @@ impl Loading {
         } else {
             "nothing to do"
         };
-        let mut report = Report::of(alloc, Status::Nothing, did, line);
-        report.telling = Telling::Untold;
-        report.also.push(self.counts(alloc)?)?;
-        Ok(report)
+        let mut also = Vec::new(alloc);
+        also.push(self.counts(alloc)?)?;
+        Ok(Report {
+            status: Status::Nothing,
+            did,
+            line,
+            number: None,
+            effect: no_effect(alloc),
+            telling: Telling::Untold,
+            also,
+            question: None,
+            again: Vec::new(alloc),
+            notes: Vec::new(alloc),
+            next: Vec::new(alloc),
+            counted: None,
+        })
     }
 
     /// What is told of the updates, which begin at this place of the order, and of what they did. It is refused only for want
@@ -64,24 +76,57 @@ impl Loading {
         first: usize,
         effect: Effect,
     ) -> Result<Report, Memory> {
-        let waits = !self.inserted.waiting.is_empty();
-        let mut report = if waits {
-            Report::of(alloc, Status::Waits, "waits", line)
-        } else {
-            Report::of(alloc, Status::Done, "done", line)
-        };
-        report.telling = Telling::Untold;
-        report.also.push(self.counts(alloc)?)?;
-        if let Some(added) = added_text(alloc, space, first, &effect.came)? {
-            report.also.push(added)?;
+        let (status, did) = self.outcome();
+        let also = self.also(alloc, space, first, &effect.came)?;
+        let notes = self.notes(alloc, space)?;
+        let next = self.next(alloc)?;
+        let counted = self.counted(alloc)?;
+        Ok(Report {
+            status,
+            did,
+            line,
+            number: None,
+            effect,
+            telling: Telling::Untold,
+            also,
+            question: None,
+            again: Vec::new(alloc),
+            notes,
+            next,
+            counted,
+        })
+    }
+
+    fn outcome(&self) -> (Status, &'static str) {
+        if self.inserted.waiting.is_empty() {
+            return (Status::Done, "done");
         }
-        report.notes = self.notes(alloc, space)?;
-        if waits {
-            report.next.push(String::from_str(alloc, "questions")?)?;
+        (Status::Waits, "waits")
+    }
+
+    // What the rows came to, and what the mappings added.
+    fn also(
+        &self,
+        alloc: Global,
+        space: &Space,
+        first: usize,
+        came: &MovedList,
+    ) -> Result<Vec<String>, Memory> {
+        let mut also = Vec::new(alloc);
+        also.push(self.counts(alloc)?)?;
+        if let Some(added) = added_text(alloc, space, first, came)? {
+            also.push(added)?;
         }
-        report.effect = effect;
-        report.counted = self.counted(alloc)?;
-        Ok(report)
+        Ok(also)
+    }
+
+    // What may be said next.
+    fn next(&self, alloc: Global) -> Result<Vec<String>, AllocError> {
+        let mut next = Vec::new(alloc);
+        if !self.inserted.waiting.is_empty() {
+            next.push(String::from_str(alloc, "questions")?)?;
+        }
+        Ok(next)
     }
 
     // `N rows: K inserted, ..`.
@@ -128,7 +173,7 @@ impl Loading {
     }
 
     // The tuple that a line inserted, if it is an update that is done.
-    fn done_fact<'a>(&self, line: &'a Line) -> Option<&'a NewFact> {
+    fn done_fact<'b>(&self, line: &'b Line) -> Option<&'b NewFact> {
         match line {
             Line::Update(numbered) if self.is_done(numbered.number) => fact_of(numbered),
             _ => None,

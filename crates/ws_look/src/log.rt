@@ -123,8 +123,11 @@ fn rest_line(alloc: Global, recorded: &Recorded, entries: &[Entry<'_>]) -> Resul
     let at = recorded.at;
     let more = entries.len().saturating_sub(FIRST);
     let last = match entries.last() {
-        Some(entry) => entry.number.unwrap_or(0),
-        None => 0,
+        Some(entry) => entry.number,
+        None => None,
     };
-    Ok(format!(in alloc; "{at}  .. and {more} more lines, up to {last}")?)
+    match last {
+        Some(last) => Ok(format!(in alloc; "{at}  .. and {more} more lines, up to {last}")?),
+        None => Ok(format!(in alloc; "{at}  .. and {more} more lines")?),
+    }
 }

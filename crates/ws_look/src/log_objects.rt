@@ -30,11 +30,16 @@ pub(crate) fn entry_objects(
 
 fn entry_object(alloc: Global, entry: &Entry<'_>, has_comment: bool) -> Result<Object, Memory> {
     let mut object = object_of(alloc, "log")?;
+    add_stamped(&mut object, entry, has_comment)?;
+    Ok(object)
+}
+
+fn add_stamped(object: &mut Object, entry: &Entry<'_>, has_comment: bool) -> Result<(), Memory> {
     object.number("at", i64::from(entry.at))?;
     object.text("time", entry.stamp.time.as_str())?;
     object.text("curator", entry.stamp.curator.as_str())?;
-    add_entry(&mut object, entry, has_comment)?;
-    Ok(object)
+    add_entry(object, entry, has_comment)?;
+    Ok(())
 }
 
 // The line of an entry, and if it has them its number, state and comment.
@@ -61,31 +66,59 @@ pub(crate) fn record_objects(
         objects.push(record_object(alloc, space, recorded)?)?;
     }
     if objects.is_empty() {
-        let mut object = object_of(alloc, "record")?;
-        object.number("at", i64::from(space.at()))?;
-        object.number("count", 0)?;
-        object.items("lines", Items::new(alloc))?;
-        object.items("tables", Items::new(alloc))?;
-        objects.push(object)?;
+        objects.push(no_record(alloc, space)?)?;
     }
     Ok(objects)
 }
 
-fn record_object(alloc: Global, space: &Space, recorded: &Recorded) -> Result<Object, Memory> {
-    let entries = entries_of(alloc, space, recorded)?;
+fn no_record(alloc: Global, space: &Space) -> Result<Object, Memory> {
     let mut object = object_of(alloc, "record")?;
+    add_no_record(alloc, &mut object, space)?;
+    Ok(object)
+}
+
+fn add_no_record(alloc: Global, object: &mut Object, space: &Space) -> Result<(), Memory> {
+    object.number("at", i64::from(space.at()))?;
+    object.number("count", 0)?;
+    object.items("lines", Items::new(alloc))?;
+    object.items("tables", Items::new(alloc))?;
+    Ok(())
+}
+
+fn record_object(alloc: Global, space: &Space, recorded: &Recorded) -> Result<Object, Memory> {
+    let mut object = object_of(alloc, "record")?;
+    add_record(alloc, &mut object, space, recorded)?;
+    Ok(object)
+}
+
+fn add_record(
+    alloc: Global,
+    object: &mut Object,
+    space: &Space,
+    recorded: &Recorded,
+) -> Result<(), Memory> {
+    let entries = entries_of(alloc, space, recorded)?;
     object.number("at", i64::from(recorded.at))?;
     object.text("time", recorded.record.stamp.time.as_str())?;
     object.text("curator", recorded.record.stamp.curator.as_str())?;
     object.number("count", number_of(entries.len()))?;
-    let mut lines = Items::new(alloc);
-    for entry in entries.iter().take(FIRST) {
-        let mut line = Object::new(alloc);
-        add_entry(&mut line, entry, true)?;
-        lines.object(line)?;
-    }
-    object.items("lines", lines)?;
+    object.items("lines", line_items(alloc, entries.as_slice())?)?;
     object.items("tables", table_items(alloc, space, recorded)?)?;
+    Ok(())
+}
+
+// The first lines.
+fn line_items(alloc: Global, entries: &[Entry<'_>]) -> Result<Items, Memory> {
+    let mut items = Items::new(alloc);
+    for entry in entries.iter().take(FIRST) {
+        items.object(line_object(alloc, entry)?)?;
+    }
+    Ok(items)
+}
+
+fn line_object(alloc: Global, entry: &Entry<'_>) -> Result<Object, Memory> {
+    let mut object = Object::new(alloc);
+    add_entry(&mut object, entry, true)?;
     Ok(object)
 }
 

@@ -3,7 +3,7 @@
 use base_types::{Memory, Write};
 use std::alloc::Global;
 use ws_fault::{Refusal, Status as Code};
-use ws_json::Object;
+use ws_json::{Items, Object};
 use ws_lines::Given;
 use ws_print::{add_choice, add_count};
 use ws_question::{fact_text, reason_words, status_of, status_word};
@@ -11,7 +11,7 @@ use ws_reply::{Context, Reply};
 use ws_seen::{object_of, seen_object, seen_text, text_items};
 use ws_space::Space;
 use ws_state::{Standing, Status};
-use ws_written::Line;
+use ws_written::{Choice, Line};
 
 // An update: its answers, how it stands, in words, and what it wrote.
 #[derive(Drop)]
@@ -48,27 +48,33 @@ pub(crate) fn log_one(
 }
 
 fn told_of(alloc: Global, space: &mut Space, number: u32, status: Status) -> Result<Told, Memory> {
-    let words = match status {
-        Status::Waits => {
-            let reason = space.question(alloc, number)?;
-            let words = reason_words(alloc, space, reason.as_ref())?;
-            format!(in alloc; "waits: {words}")?
-        }
-        other => String::from_str(alloc, status_word(other))?,
-    };
-    let mut told = Told {
+    let words = words_of(alloc, space, number, status)?;
+    let answers = answers_of(alloc, space, number)?;
+    Ok(Told {
         number,
         status,
         words,
-        answers: Vec::new(alloc),
-        writes: Vec::new(alloc),
-    };
-    if let Some(standing) = standing_of(space, number) {
-        told.words = done_words(alloc, standing)?;
-        told.writes = writes_of(alloc, space, standing)?;
+        answers,
+        writes: writes_of(alloc, space, number)?,
+    })
+}
+
+// How it stands, in words.
+fn words_of(
+    alloc: Global,
+    space: &mut Space,
+    number: u32,
+    status: Status,
+) -> Result<String, Memory> {
+    if status == Status::Waits {
+        let reason = space.question(alloc, number)?;
+        let words = reason_words(alloc, space, reason.as_ref())?;
+        return Ok(format!(in alloc; "waits: {words}")?);
     }
-    told.answers = answers_of(alloc, space, number)?;
-    Ok(told)
+    match standing_of(space, number) {
+        Some(standing) => done_words(alloc, standing),
+        None => Ok(String::from_str(alloc, status_word(status))?),
+    }
 }
 
 fn is_held(space: &Space, held: usize, number: u32) -> bool {
@@ -98,17 +104,23 @@ fn done_words(alloc: Global, standing: &Standing) -> Result<String, Memory> {
     Ok(words)
 }
 
-fn writes_of(alloc: Global, space: &Space, standing: &Standing) -> Result<Vec<Wrote>, Memory> {
+fn writes_of(alloc: Global, space: &Space, number: u32) -> Result<Vec<Wrote>, Memory> {
     let mut writes = Vec::new(alloc);
-    for write in standing.writes.as_slice() {
-        let (sign, tuple) = match write {
-            Write::Insert(tuple) => ("+", tuple),
-            Write::Delete(tuple) => ("-", tuple),
-        };
-        let text = fact_text(alloc, space, tuple)?;
-        writes.push(Wrote { sign, text })?;
+    if let Some(standing) = standing_of(space, number) {
+        for write in standing.writes.as_slice() {
+            writes.push(wrote(alloc, space, write)?)?;
+        }
     }
     Ok(writes)
+}
+
+fn wrote(alloc: Global, space: &Space, write: &Write) -> Result<Wrote, Memory> {
+    let (sign, tuple) = match write {
+        Write::Insert(tuple) => ("+", tuple),
+        Write::Delete(tuple) => ("-", tuple),
+    };
+    let text = fact_text(alloc, space, tuple)?;
+    Ok(Wrote { sign, text })
 }
 
 // The choices of the answers that it took; of one that neither stands nor waits those that were given to it.
@@ -129,12 +141,14 @@ fn answers_of(alloc: Global, space: &Space, number: u32) -> Result<Vec<String>, 
 fn choices(alloc: Global, space: &Space, answers: &[Given]) -> Result<Vec<String>, Memory> {
     let mut choices = Vec::new(alloc);
     for given in answers {
-        let answer = space.said_answer(alloc, given)?;
-        let mut text = String::new(alloc);
-        add_choice(&mut text, space.relations.as_slice(), &answer.choice)?;
-        choices.push(text)?;
+        choices.push(said_choice(alloc, space, given)?)?;
     }
     Ok(choices)
+}
+
+fn said_choice(alloc: Global, space: &Space, given: &Given) -> Result<String, Memory> {
+    let answer = space.said_answer(alloc, given)?;
+    choice_text(alloc, space, &answer.choice)
 }
 
 // What the log has of answers to it, those that were taken back apart.
@@ -144,9 +158,7 @@ fn given(alloc: Global, space: &Space, number: u32) -> Result<Vec<String>, Memor
         for said in recorded.record.lines.iter() {
             match &said.line {
                 Line::Answer(answered, answer) if *answered == number => {
-                    let mut text = String::new(alloc);
-                    add_choice(&mut text, space.relations.as_slice(), &answer.choice)?;
-                    given.push(text)?;
+                    given.push(choice_text(alloc, space, &answer.choice)?)?;
                 }
                 Line::UndoAnswers(numbers) if numbers.contains(&number) => given.clear(),
                 _ => (),
@@ -154,6 +166,12 @@ fn given(alloc: Global, space: &Space, number: u32) -> Result<Vec<String>, Memor
         }
     }
     Ok(given)
+}
+
+fn choice_text(alloc: Global, space: &Space, choice: &Choice) -> Result<String, Memory> {
+    let mut text = String::new(alloc);
+    add_choice(&mut text, space.relations.as_slice(), choice)?;
+    Ok(text)
 }
 
 fn lines(alloc: Global, space: &Space, told: &Told) -> Result<Vec<String>, Memory> {
@@ -177,20 +195,33 @@ fn lines(alloc: Global, space: &Space, told: &Told) -> Result<Vec<String>, Memor
 }
 
 fn object(alloc: Global, space: &Space, told: &Told) -> Result<Object, Memory> {
-    let number = told.number;
-    let mut writes = Vec::new(alloc);
-    for wrote in told.writes.iter() {
-        let sign = wrote.sign;
-        let text = wrote.text.as_str();
-        writes.push(format!(in alloc; "{sign}{text}")?)?;
-    }
     let mut object = object_of(alloc, "update")?;
-    object.number("number", i64::from(number))?;
-    object.text("curator", space.curator_of(number))?;
-    object.text("time", space.time_of(number))?;
-    object.text("line", space.update_text(alloc, number)?.as_str())?;
+    add_update(alloc, &mut object, space, told)?;
+    Ok(object)
+}
+
+fn add_update(
+    alloc: Global,
+    object: &mut Object,
+    space: &Space,
+    told: &Told,
+) -> Result<(), Memory> {
+    object.number("number", i64::from(told.number))?;
+    object.text("curator", space.curator_of(told.number))?;
+    object.text("time", space.time_of(told.number))?;
+    object.text("line", space.update_text(alloc, told.number)?.as_str())?;
     object.text("state", status_word(told.status))?;
     object.items("answers", text_items(alloc, told.answers.as_slice())?)?;
-    object.items("writes", text_items(alloc, writes.as_slice())?)?;
-    Ok(object)
+    object.items("writes", write_items(alloc, told.writes.as_slice())?)?;
+    Ok(())
+}
+
+fn write_items(alloc: Global, writes: &[Wrote]) -> Result<Items, Memory> {
+    let mut items = Items::new(alloc);
+    for wrote in writes {
+        let sign = wrote.sign;
+        let text = wrote.text.as_str();
+        items.text(format!(in alloc; "{sign}{text}")?.as_str())?;
+    }
+    Ok(items)
 }

@@ -40,12 +40,7 @@ pub fn look(
             mine,
             limit,
         } => {
-            let wanted = Wanted {
-                number: *number,
-                like: text_of(like).filter(|like| !like.is_empty()),
-                mine: *mine,
-                limit: *limit,
-            };
+            let wanted = Wanted::of(*number, text_of(like), *mine, *limit);
             questions(alloc, space, shown, context, wanted)
         }
         Look::Violations { mapping, limit } => {

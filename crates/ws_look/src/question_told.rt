@@ -66,12 +66,16 @@ pub(crate) fn objects(
         objects.push(object(alloc, space, one, telling)?)?;
     }
     if objects.is_empty() {
-        let mut object = object_of(alloc, "question")?;
-        object.text("kind", "nothing")?;
-        object.number("at", i64::from(space.at()))?;
-        objects.push(object)?;
+        objects.push(nothing(alloc, space)?)?;
     }
     Ok(objects)
+}
+
+fn nothing(alloc: Global, space: &Space) -> Result<Object, Memory> {
+    let mut object = object_of(alloc, "question")?;
+    object.text("kind", "nothing")?;
+    object.number("at", i64::from(space.at()))?;
+    Ok(object)
 }
 
 fn object(
@@ -84,13 +88,23 @@ fn object(
         Some(asked) => question_object(alloc, space, asked, telling.like, telling.limit)?,
         None => unasked(alloc, told)?,
     };
+    add_update(alloc, &mut object, space, told)?;
+    Ok(object)
+}
+
+fn add_update(
+    alloc: Global,
+    object: &mut Object,
+    space: &Space,
+    told: &Told,
+) -> Result<(), Memory> {
     object.text("reply", "question")?;
     object.number("number", i64::from(told.number))?;
     object.text("curator", space.curator_of(told.number))?;
     object.text("line", space.update_text(alloc, told.number)?.as_str())?;
     object.number("at", i64::from(space.at()))?;
     object.text("time", space.time_of(told.number))?;
-    Ok(object)
+    Ok(())
 }
 
 fn unasked(alloc: Global, told: &Told) -> Result<Object, Memory> {

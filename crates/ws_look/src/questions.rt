@@ -26,6 +26,27 @@ pub(crate) struct Wanted<'a> {
     pub limit: Option<u32>,
 }
 
+impl<'a> Wanted<'a> {
+    /// The same; an empty text is none.
+    pub(crate) fn of(
+        number: Option<u32>,
+        like: Option<&'a str>,
+        mine: bool,
+        limit: Option<u32>,
+    ) -> Wanted<'a> {
+        let like = match like {
+            Some(text) if !text.is_empty() => Some(text),
+            _ => None,
+        };
+        Wanted {
+            number,
+            like,
+            mine,
+            limit,
+        }
+    }
+}
+
 /// An update that waits: its question, or why it waits without one.
 #[derive(Drop)]
 pub(crate) struct Told {
@@ -52,24 +73,52 @@ pub(crate) fn questions(
     wanted: Wanted<'_>,
 ) -> Result<Reply, Refusal> {
     let numbers = wanted_numbers(alloc, space, context, wanted)?;
-    let mut told = Vec::new(alloc);
-    for number in numbers.iter() {
-        let one = told_of(alloc, space, *number)?;
-        if let Some(asked) = &one.asked {
-            shown.put(asked)?;
-        }
-        told.push(one)?;
-    }
+    let told = told_all(alloc, space, shown, numbers.as_slice())?;
     let telling = Telling {
         like: wanted.like,
         limit: limit_of(wanted),
     };
+    Ok(reply(alloc, space, context, told.as_slice(), telling)?)
+}
+
+fn reply(
+    alloc: Global,
+    space: &Space,
+    context: &Context<'_>,
+    told: &[Told],
+    telling: Telling<'_>,
+) -> Result<Reply, Memory> {
     if context.is_json() {
-        let objects = objects(alloc, space, told.as_slice(), telling)?;
-        return Ok(seen_objects(alloc, Code::Done, objects)?);
+        return seen_objects(alloc, Code::Done, objects(alloc, space, told, telling)?);
     }
-    let lines = lines(alloc, space, told.as_slice(), telling)?;
-    Ok(seen_text(Code::Done, lines))
+    Ok(seen_text(Code::Done, lines(alloc, space, told, telling)?))
+}
+
+// The updates with their questions, which then count as shown.
+fn told_all(
+    alloc: Global,
+    space: &mut Space,
+    shown: &mut Shown,
+    numbers: &[u32],
+) -> Result<Vec<Told>, Memory> {
+    let mut told = Vec::new(alloc);
+    for number in numbers {
+        told.push(shown_one(alloc, space, shown, *number)?)?;
+    }
+    Ok(told)
+}
+
+fn shown_one(
+    alloc: Global,
+    space: &mut Space,
+    shown: &mut Shown,
+    number: u32,
+) -> Result<Told, Memory> {
+    let told = told_of(alloc, space, number)?;
+    if let Some(asked) = &told.asked {
+        shown.put(asked)?;
+    }
+    Ok(told)
 }
 
 fn limit_of(wanted: Wanted<'_>) -> usize {
@@ -118,19 +167,20 @@ fn refuse_others(alloc: Global, space: &Space, number: u32) -> Result<(), Refusa
 }
 
 fn told_of(alloc: Global, space: &mut Space, number: u32) -> Result<Told, Memory> {
-    let reason = space.question(alloc, number)?;
-    let words = reason_words(alloc, space, reason.as_ref())?;
-    let kind = kind_of(reason.as_ref());
-    let asked = match reason {
-        Some(Reason::Asks(question)) => Some(asked_now(alloc, space, number, question)?),
-        _ => None,
-    };
-    Ok(Told {
-        number,
-        asked,
-        kind,
-        words,
-    })
+    match space.question(alloc, number)? {
+        Some(Reason::Asks(question)) => Ok(Told {
+            number,
+            asked: Some(asked_now(alloc, space, number, question)?),
+            kind: "question",
+            words: String::new(alloc),
+        }),
+        reason => Ok(Told {
+            number,
+            asked: None,
+            kind: kind_of(reason.as_ref()),
+            words: reason_words(alloc, space, reason.as_ref())?,
+        }),
+    }
 }
 
 // Why an update waits without a question.

@@ -6,7 +6,7 @@ use std::alloc::Global;
 use ws_command::Paging;
 use ws_json::{Items, Object};
 use ws_print::{Table, add_count, add_ranges};
-use ws_seen::{number_items, number_of, object_of, row_items};
+use ws_seen::{column_items, number_items, number_of, object_of, row_items};
 use ws_space::Space;
 
 /// The tables, parted by empty lines. It is refused only for want of memory.
@@ -95,30 +95,39 @@ pub(crate) fn objects(
 ) -> Result<Vec<Object>, Memory> {
     let mut objects = Vec::new(alloc);
     for told in tables {
-        let mut object = object(alloc, told)?;
-        if let Some(from) = paging.from {
-            object.number("from", i64::from(from))?;
-        }
-        objects.push(object)?;
+        objects.push(object(alloc, told, paging.from)?)?;
     }
     if objects.is_empty() {
-        let mut object = object_of(alloc, "table")?;
-        object.items("rows", Items::new(alloc))?;
-        objects.push(object)?;
+        objects.push(no_table(alloc)?)?;
     }
     Ok(objects)
 }
 
-fn object(alloc: Global, told: &Told<'_>) -> Result<Object, Memory> {
+fn no_table(alloc: Global) -> Result<Object, Memory> {
     let mut object = object_of(alloc, "table")?;
+    object.items("rows", Items::new(alloc))?;
+    Ok(object)
+}
+
+fn object(alloc: Global, told: &Told<'_>, from: Option<u32>) -> Result<Object, Memory> {
+    let mut object = object_of(alloc, "table")?;
+    add_told(alloc, &mut object, told, from)?;
+    Ok(object)
+}
+
+fn add_told(
+    alloc: Global,
+    object: &mut Object,
+    told: &Told<'_>,
+    from: Option<u32>,
+) -> Result<(), Memory> {
     object.text("relation", told.relation.name.as_str())?;
-    let mut columns = Items::new(alloc);
-    for column in &told.relation.columns {
-        columns.text(column.name.as_str())?;
-    }
-    object.items("columns", columns)?;
+    object.items("columns", column_items(alloc, told.relation)?)?;
     object.number("count", number_of(told.count))?;
     object.items("waiting", number_items(alloc, told.waiting.as_slice())?)?;
     object.items("rows", row_items(alloc, told.rows.as_slice())?)?;
-    Ok(object)
+    if let Some(from) = from {
+        object.number("from", i64::from(from))?;
+    }
+    Ok(())
 }

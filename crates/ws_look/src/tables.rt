@@ -32,46 +32,86 @@ pub(crate) fn show(
 ) -> Result<Reply, Memory> {
     let mut tables = Vec::new(alloc);
     if shown.is_empty() {
-        for (number, relation) in space.relations.iter().enumerate() {
-            let number = u32::try_from(number).unwrap_or(u32::MAX);
-            let rows = uncertain(space.rows(alloc, number)?, paging);
-            let rows = alike(alloc, space, rows, paging)?;
-            let hides_empty = paging.unknowns || paging.like.is_some();
-            if !rows.is_empty() || !hides_empty {
-                tables.push(told(alloc, space, number, relation, rows, true, paging)?)?;
-            }
+        add_all(alloc, space, &mut tables, paging)?;
+    } else {
+        add_shown(alloc, space, &mut tables, shown, paging)?;
+    }
+    reply(alloc, space, context, tables.as_slice(), paging)
+}
+
+fn reply(
+    alloc: Global,
+    space: &Space,
+    context: &Context<'_>,
+    tables: &[Told<'_>],
+    paging: &Paging,
+) -> Result<Reply, Memory> {
+    if context.is_json() {
+        return seen_objects(alloc, Status::Done, objects(alloc, tables, paging)?);
+    }
+    Ok(seen_text(Status::Done, lines(alloc, space, tables, paging)?))
+}
+
+// All tables; if only some rows are meant, those that have such.
+fn add_all<'a>(
+    alloc: Global,
+    space: &'a Space,
+    tables: &mut Vec<Told<'a>>,
+    paging: &Paging,
+) -> Result<(), Memory> {
+    let hides_empty = paging.unknowns || paging.like.is_some();
+    for (number, relation) in space.relations.iter().enumerate() {
+        let number = u32::try_from(number).unwrap_or(u32::MAX);
+        let rows = uncertain(space.rows(alloc, number)?, paging);
+        let rows = alike(alloc, space, rows, paging)?;
+        if !rows.is_empty() || !hides_empty {
+            tables.push(told(alloc, space, number, relation, rows, true, paging)?)?;
         }
     }
-    for what in shown {
-        add_shown(alloc, space, &mut tables, what, paging)?;
-    }
-    if context.is_json() {
-        let objects = objects(alloc, tables.as_slice(), paging)?;
-        return seen_objects(alloc, Status::Done, objects);
-    }
-    let lines = lines(alloc, space, tables.as_slice(), paging)?;
-    Ok(seen_text(Status::Done, lines))
+    Ok(())
 }
 
 fn add_shown<'a>(
     alloc: Global,
     space: &'a Space,
     tables: &mut Vec<Told<'a>>,
-    shown: &Shown,
+    shown: &[Shown],
     paging: &Paging,
 ) -> Result<(), Memory> {
-    let (number, tuples, is_whole) = match shown {
-        Shown::Table(number) => (*number, space.rows(alloc, *number)?, true),
-        Shown::Rows(atom) => (atom.relation, matched(alloc, space, atom)?, false),
-    };
+    for what in shown {
+        match what {
+            Shown::Table(number) => {
+                let rows = space.rows(alloc, *number)?;
+                add_named(alloc, space, tables, *number, rows, true, paging)?;
+            }
+            Shown::Rows(atom) => {
+                let rows = matched(alloc, space, atom)?;
+                add_named(alloc, space, tables, atom.relation, rows, false, paging)?;
+            }
+        }
+    }
+    Ok(())
+}
+
+// The rows of a relation that was named, unless such with unknowns are meant and it has none.
+fn add_named<'a>(
+    alloc: Global,
+    space: &'a Space,
+    tables: &mut Vec<Told<'a>>,
+    number: u32,
+    rows: Vec<Tuple>,
+    is_whole: bool,
+    paging: &Paging,
+) -> Result<(), Memory> {
     let Some(relation) = space.relations.get(number as usize) else {
         return Ok(());
     };
-    let rows = uncertain(tuples, paging);
-    if !rows.is_empty() || !paging.unknowns {
-        let rows = alike(alloc, space, rows, paging)?;
-        tables.push(told(alloc, space, number, relation, rows, is_whole, paging)?)?;
+    let rows = uncertain(rows, paging);
+    if rows.is_empty() && paging.unknowns {
+        return Ok(());
     }
+    let rows = alike(alloc, space, rows, paging)?;
+    tables.push(told(alloc, space, number, relation, rows, is_whole, paging)?)?;
     Ok(())
 }
 
@@ -89,6 +129,23 @@ fn told<'a>(
     is_whole: bool,
     paging: &Paging,
 ) -> Result<Told<'a>, Memory> {
+    let waiting = waiting_for(alloc, space, number)?;
+    Ok(Told {
+        relation,
+        rows: page(alloc, space, tuples.as_slice(), paging)?,
+        count: tuples.len(),
+        waiting,
+        is_whole,
+    })
+}
+
+// The tuples that are told, as they are said.
+fn page(
+    alloc: Global,
+    space: &Space,
+    tuples: &[Tuple],
+    paging: &Paging,
+) -> Result<Vec<Fact>, Memory> {
     let limit = match paging.limit {
         Some(limit) => limit as usize,
         None => usize::MAX,
@@ -97,11 +154,5 @@ fn told<'a>(
     for tuple in tuples.iter().skip(first_of(paging)).take(limit) {
         rows.push(space.shown(alloc, tuple)?)?;
     }
-    Ok(Told {
-        relation,
-        rows,
-        count: tuples.len(),
-        waiting: waiting_for(alloc, space, number)?,
-        is_whole,
-    })
+    Ok(rows)
 }

@@ -11,6 +11,7 @@ use ws_question::inner_text;
 use ws_reply::{Context, Reply};
 use ws_seen::{seen_objects, seen_text};
 use ws_space::{Space, Violation};
+use ws_written::NewFact;
 
 // How many are told of each.
 const OF_EACH: usize = 3;
@@ -40,21 +41,48 @@ pub(crate) fn violations(
     limit: Option<u32>,
 ) -> Result<Reply, Memory> {
     let limit = limit_of(mapping, limit);
-    let mut told = Vec::new(alloc);
-    for number in wanted(alloc, space, mapping)?.iter() {
-        told.push(told_of(alloc, space, *number, limit)?)?;
-    }
+    let told = told_all(alloc, space, mapping, limit)?;
     let clashes = match mapping {
         Some(_) => Vec::new(alloc),
         None => clashes_of(alloc, space)?,
     };
-    let status = status_of(told.as_slice(), clashes.as_slice());
+    reply(
+        alloc,
+        space,
+        context,
+        told.as_slice(),
+        clashes.as_slice(),
+        limit,
+    )
+}
+
+fn reply(
+    alloc: Global,
+    space: &Space,
+    context: &Context<'_>,
+    told: &[Told],
+    clashes: &[Clashes],
+    limit: usize,
+) -> Result<Reply, Memory> {
+    let status = status_of(told, clashes);
     if context.is_json() {
-        let objects = objects(alloc, space, told.as_slice(), clashes.as_slice())?;
-        return seen_objects(alloc, status, objects);
+        return seen_objects(alloc, status, objects(alloc, space, told, clashes)?);
     }
-    let lines = lines(alloc, space, told.as_slice(), clashes.as_slice(), limit)?;
-    Ok(seen_text(status, lines))
+    Ok(seen_text(status, lines(alloc, space, told, clashes, limit)?))
+}
+
+fn told_all(
+    alloc: Global,
+    space: &Space,
+    mapping: Option<&str>,
+    limit: usize,
+) -> Result<Vec<Told>, Memory> {
+    let numbers = wanted(alloc, space, mapping)?;
+    let mut told = Vec::new(alloc);
+    for number in numbers.iter() {
+        told.push(told_of(alloc, space, *number, limit)?)?;
+    }
+    Ok(told)
 }
 
 fn limit_of(mapping: Option<&str>, limit: Option<u32>) -> usize {
@@ -82,22 +110,35 @@ fn wanted(alloc: Global, space: &Space, mapping: Option<&str>) -> Result<Vec<u16
 }
 
 fn told_of(alloc: Global, space: &Space, mapping: u16, limit: usize) -> Result<Told, Memory> {
-    let in_force = space.state.in_force().contains(&mapping);
-    let found = if in_force {
-        Vec::new(alloc)
-    } else {
-        space.violations(alloc, mapping)?
-    };
+    if space.state.in_force().contains(&mapping) {
+        return Ok(Told {
+            mapping,
+            in_force: true,
+            count: 0,
+            first: Vec::new(alloc),
+        });
+    }
+    let found = space.violations(alloc, mapping)?;
+    Ok(Told {
+        mapping,
+        in_force: false,
+        count: found.len(),
+        first: first_lacks(alloc, space, mapping, found.as_slice(), limit)?,
+    })
+}
+
+fn first_lacks(
+    alloc: Global,
+    space: &Space,
+    mapping: u16,
+    found: &[Violation],
+    limit: usize,
+) -> Result<Vec<Lack>, Memory> {
     let mut first = Vec::new(alloc);
     for violation in found.iter().take(limit) {
         first.push(lack_of(alloc, space, mapping, violation)?)?;
     }
-    Ok(Told {
-        mapping,
-        in_force,
-        count: found.len(),
-        first,
-    })
+    Ok(first)
 }
 
 fn lack_of(
@@ -106,17 +147,39 @@ fn lack_of(
     mapping: u16,
     violation: &Violation,
 ) -> Result<Lack, Memory> {
-    let mut since = Vec::new(alloc);
+    let since = since_texts(alloc, space, violation)?;
+    Ok(Lack {
+        since,
+        lacks: lack_texts(alloc, space, mapping, violation)?,
+    })
+}
+
+fn since_texts(alloc: Global, space: &Space, violation: &Violation) -> Result<Vec<String>, Memory> {
+    let mut texts = Vec::new(alloc);
     for tuple in violation.image.as_slice() {
-        since.push(inner_text(alloc, space, tuple)?)?;
+        texts.push(inner_text(alloc, space, tuple)?)?;
     }
-    let mut lacks = Vec::new(alloc);
-    for fact in space.lacking(alloc, mapping, violation)?.iter() {
-        let mut text = String::new(alloc);
-        add_new_fact(&mut text, space.relations.as_slice(), fact)?;
-        lacks.push(text)?;
+    Ok(texts)
+}
+
+fn lack_texts(
+    alloc: Global,
+    space: &Space,
+    mapping: u16,
+    violation: &Violation,
+) -> Result<Vec<String>, Memory> {
+    let facts = space.lacking(alloc, mapping, violation)?;
+    let mut texts = Vec::new(alloc);
+    for fact in facts.iter() {
+        texts.push(new_fact_text(alloc, space, fact)?)?;
     }
-    Ok(Lack { since, lacks })
+    Ok(texts)
+}
+
+fn new_fact_text(alloc: Global, space: &Space, fact: &NewFact) -> Result<String, Memory> {
+    let mut text = String::new(alloc);
+    add_new_fact(&mut text, space.relations.as_slice(), fact)?;
+    Ok(text)
 }
 
 fn status_of(told: &[Told], clashes: &[Clashes]) -> Status {

@@ -1,6 +1,6 @@
 //! The log of a page: each line of each record, and how its update stands.
 
-use crate::pages::Page;
+use crate::pages::Document;
 use base_types::Memory;
 use std::alloc::{AllocError, Global};
 use std::collections::BTreeMap;
@@ -19,14 +19,14 @@ const HEADER: &str =
 type States = BTreeMap<u32, &'static str>;
 
 /// Adds the log, which ends the page. It is refused only for want of memory.
-pub(crate) fn add_log(page: &mut Page, space: &Space) -> Result<(), Memory> {
-    page.say(HEADER)?;
-    let states = states_of(page.alloc, space)?;
+pub(crate) fn add_log(document: &mut Document, space: &Space) -> Result<(), Memory> {
+    document.say(HEADER)?;
+    let states = states_of(document.alloc, space)?;
     let relations = space.relations.as_slice();
     for recorded in space.records.iter() {
-        add_record(page, relations, &states, recorded)?;
+        add_record(document, relations, &states, recorded)?;
     }
-    page.say("</table></div></body></html>")?;
+    document.say("</table></div></body></html>")?;
     Ok(())
 }
 
@@ -58,22 +58,22 @@ fn put_state(
 }
 
 fn add_record(
-    page: &mut Page,
+    document: &mut Document,
     relations: &[Relation],
     states: &States,
     recorded: &Recorded,
 ) -> Result<(), AllocError> {
-    let alloc = page.alloc;
+    let alloc = document.alloc;
     let at = recorded.at;
-    let time = page.shown(recorded.record.stamp.time.as_str())?;
-    let curator = page.shown(recorded.record.stamp.curator.as_str())?;
+    let time = document.shown(recorded.record.stamp.time.as_str())?;
+    let curator = document.shown(recorded.record.stamp.curator.as_str())?;
     let begin = format!(in alloc;
         "<tr><td class=\"n\">{at}</td><td>{time}</td><td>{curator}</td>"
     )?;
     for said in recorded.record.lines.iter() {
         let mut line = String::from_str(alloc, begin.as_str())?;
         add_cells(alloc, &mut line, relations, states, &said.line)?;
-        page.add(line)?;
+        document.add(line)?;
     }
     Ok(())
 }

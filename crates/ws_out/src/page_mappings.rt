@@ -1,7 +1,7 @@
 //! The mappings of a page: their picture, and themselves.
 
 use crate::graphs::{is_open, links_of, mappings_of};
-use crate::pages::Page;
+use crate::pages::Document;
 use base_types::Memory;
 use std::alloc::{AllocError, Global};
 use ws_draw::svg_of;
@@ -9,18 +9,18 @@ use ws_print::add_rule;
 use ws_space::Space;
 
 /// Adds the mappings. It is refused only for want of memory.
-pub(crate) fn add_mappings(page: &mut Page, space: &Space) -> Result<(), Memory> {
-    page.say("<h2 id=\"mappings\">Mappings</h2>")?;
-    let mappings = mappings_of(page.alloc, space)?;
+pub(crate) fn add_mappings(document: &mut Document, space: &Space) -> Result<(), Memory> {
+    document.say("<h2 id=\"mappings\">Mappings</h2>")?;
+    let mappings = mappings_of(document.alloc, space)?;
     if mappings.is_empty() {
-        page.say("<p>None.</p>")?;
+        document.say("<p>None.</p>")?;
         return Ok(());
     }
-    page.add(picture(page.alloc, space)?)?;
+    document.add(picture(document.alloc, space)?)?;
     for mapping in mappings {
-        add_mapping(page, space, mapping)?;
+        add_mapping(document, space, mapping)?;
     }
-    page.say("</ul>")?;
+    document.say("</ul>")?;
     Ok(())
 }
 
@@ -30,11 +30,11 @@ fn picture(alloc: Global, space: &Space) -> Result<String, AllocError> {
     format!(in alloc; "<div class=\"wide\">{svg}</div><ul>")
 }
 
-fn add_mapping(page: &mut Page, space: &Space, mapping: u16) -> Result<(), Memory> {
-    let alloc = page.alloc;
-    let code = page.code(rule_text(alloc, space, mapping)?.as_str())?;
+fn add_mapping(document: &mut Document, space: &Space, mapping: u16) -> Result<(), Memory> {
+    let alloc = document.alloc;
+    let code = document.code(rule_text(alloc, space, mapping)?.as_str())?;
     let state = state_text(alloc, space, mapping)?;
-    page.add(format!(in alloc; "<li>{code} {state}</li>")?)?;
+    document.add(format!(in alloc; "<li>{code} {state}</li>")?)?;
     Ok(())
 }
 

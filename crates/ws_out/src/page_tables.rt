@@ -1,6 +1,6 @@
 //! The tables of a page.
 
-use crate::pages::Page;
+use crate::pages::Document;
 use crate::texts::{facts_of, relation_at};
 use base_types::Memory;
 use std::alloc::AllocError;
@@ -10,17 +10,21 @@ use ws_space::Space;
 use ws_written::{Column, Fact, Relation, Value};
 
 /// Adds each table. It is refused only for want of memory.
-pub(crate) fn add_tables(page: &mut Page, space: &Space) -> Result<(), Memory> {
-    page.say("<h2 id=\"tables\">Tables</h2>")?;
+pub(crate) fn add_tables(document: &mut Document, space: &Space) -> Result<(), Memory> {
+    document.say("<h2 id=\"tables\">Tables</h2>")?;
     for (place, relation) in space.relations.iter().enumerate() {
-        let facts = facts_of(page.alloc, space, relation_at(place))?;
-        add_table(page, relation, facts.as_slice())?;
+        let facts = facts_of(document.alloc, space, relation_at(place))?;
+        add_table(document, relation, facts.as_slice())?;
     }
     Ok(())
 }
 
-fn add_table(page: &mut Page, relation: &Relation, facts: &[Fact]) -> Result<(), AllocError> {
-    let alloc = page.alloc;
+fn add_table(
+    document: &mut Document,
+    relation: &Relation,
+    facts: &[Fact],
+) -> Result<(), AllocError> {
+    let alloc = document.alloc;
     let mut line = String::from_str(alloc, "<div class=\"wide\"><table><caption>")?;
     add_html(&mut line, relation.name.as_str())?;
     line.push_str(", ")?;
@@ -30,11 +34,11 @@ fn add_table(page: &mut Page, relation: &Relation, facts: &[Fact]) -> Result<(),
         add_column(&mut line, column)?;
     }
     line.push_str("</tr>")?;
-    page.add(line)?;
+    document.add(line)?;
     for fact in facts {
-        add_row(page, fact)?;
+        add_row(document, fact)?;
     }
-    page.say("</table></div>")
+    document.say("</table></div>")
 }
 
 fn add_column(line: &mut String, column: &Column) -> Result<(), AllocError> {
@@ -43,13 +47,13 @@ fn add_column(line: &mut String, column: &Column) -> Result<(), AllocError> {
     line.push_str(if column.key { "*</th>" } else { "</th>" })
 }
 
-fn add_row(page: &mut Page, fact: &Fact) -> Result<(), AllocError> {
-    let mut line = String::from_str(page.alloc, "<tr>")?;
+fn add_row(document: &mut Document, fact: &Fact) -> Result<(), AllocError> {
+    let mut line = String::from_str(document.alloc, "<tr>")?;
     for value in fact.values.iter() {
         add_cell(&mut line, value)?;
     }
     line.push_str("</tr>")?;
-    page.add(line)
+    document.add(line)
 }
 
 fn add_cell(line: &mut String, value: &Value) -> Result<(), AllocError> {

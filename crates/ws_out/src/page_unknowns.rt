@@ -1,13 +1,14 @@
 //! The unknowns of a page, each with the tuples in which it stands.
 
-use crate::pages::Page;
-use crate::texts::{fact_text, relation_at};
-use base_types::{Memory, Tuple, Value as Inner};
+use crate::pages::Document;
+use crate::texts::relation_at;
+use base_types::{Memory, Tuple, Value};
 use std::alloc::{AllocError, Global};
 use std::collections::BTreeMap;
 use ws_print::add_unknown;
-use ws_space::Space;
-use ws_written::{Fact, Unknown, Value};
+use ws_question::inner_text;
+use ws_space::{Space, unknown_of};
+use ws_written::Unknown;
 
 // How many of the tuples of an unknown are told.
 const MOST: usize = 20;
@@ -24,9 +25,7 @@ pub(crate) fn unknowns_of(alloc: Global, space: &Space) -> Result<Unknowns, Memo
     for place in 0..space.relations.len() {
         for tuple in space.rows(alloc, relation_at(place))? {
             if has_null(&tuple) {
-                let fact = space.shown(alloc, &tuple)?;
-                let text = fact_text(alloc, space, &fact)?;
-                add_fact(alloc, &mut unknowns, &fact, text.as_str())?;
+                add_tuple(alloc, &mut unknowns, space, &tuple)?;
             }
         }
     }
@@ -38,31 +37,36 @@ fn has_null(tuple: &Tuple) -> bool {
         .values
         .as_slice()
         .iter()
-        .any(|value| matches!(value, Inner::Null(_)))
+        .any(|value| matches!(value, Value::Null(_)))
 }
 
 // Adds a tuple to each of its unknowns, once.
-fn add_fact(
+fn add_tuple(
     alloc: Global,
     unknowns: &mut Unknowns,
-    fact: &Fact,
-    text: &str,
-) -> Result<(), AllocError> {
-    for (place, value) in fact.values.iter().enumerate() {
-        if let Value::Unknown(unknown) = value {
-            if !stands_before(fact, place, *unknown) {
-                add_text(alloc, unknowns, *unknown, text)?;
+    space: &Space,
+    tuple: &Tuple,
+) -> Result<(), Memory> {
+    let text = inner_text(alloc, space, tuple)?;
+    for (place, value) in tuple.values.as_slice().iter().enumerate() {
+        if let Value::Null(null) = value {
+            if !stands_before(tuple, place, value) {
+                let unknown = unknown_of(space.state.names().name_of(*null));
+                add_text(alloc, unknowns, unknown, text.as_str())?;
             }
         }
     }
     Ok(())
 }
 
-// Whether the unknown stands in front of this place too.
-fn stands_before(fact: &Fact, place: usize, unknown: Unknown) -> bool {
-    fact.values.iter().take(place).any(
-        |value| matches!(value, Value::Unknown(other) if *other == unknown),
-    )
+// Whether the value stands in front of this place too.
+fn stands_before(tuple: &Tuple, place: usize, value: &Value) -> bool {
+    tuple
+        .values
+        .as_slice()
+        .iter()
+        .take(place)
+        .any(|other| other == value)
 }
 
 fn add_text(
@@ -84,28 +88,28 @@ fn add_text(
 }
 
 /// Adds the unknowns. It is refused only for want of memory.
-pub(crate) fn add_unknowns(page: &mut Page, unknowns: &Unknowns) -> Result<(), AllocError> {
-    page.say("<h2 id=\"unknowns\">Unknowns</h2>")?;
+pub(crate) fn add_unknowns(document: &mut Document, unknowns: &Unknowns) -> Result<(), AllocError> {
+    document.say("<h2 id=\"unknowns\">Unknowns</h2>")?;
     if unknowns.is_empty() {
-        return page.say("<p>None.</p>");
+        return document.say("<p>None.</p>");
     }
-    page.say(HEADER)?;
+    document.say(HEADER)?;
     for (unknown, texts) in unknowns {
-        add_row(page, *unknown, texts.as_slice())?;
+        add_row(document, *unknown, texts.as_slice())?;
     }
-    page.say("</table>")
+    document.say("</table>")
 }
 
-fn add_row(page: &mut Page, unknown: Unknown, texts: &[String]) -> Result<(), AllocError> {
-    let alloc = page.alloc;
+fn add_row(document: &mut Document, unknown: Unknown, texts: &[String]) -> Result<(), AllocError> {
+    let alloc = document.alloc;
     let mut name = String::new(alloc);
     add_unknown(&mut name, unknown)?;
     let mut line = format!(in alloc; "<tr><td class=\"u\">{name}</td><td>")?;
     for (place, text) in texts.iter().enumerate() {
         line.push_str(if 0 < place { "<br>" } else { "" })?;
-        line.push_str(page.code(text.as_str())?.as_str())?;
+        line.push_str(document.code(text.as_str())?.as_str())?;
     }
     let command = format!(in alloc; "<code>replace {name} with VALUE</code>")?;
     line.push_str(format!(in alloc; "</td><td>{command}</td></tr>")?.as_str())?;
-    page.add(line)
+    document.add(line)
 }

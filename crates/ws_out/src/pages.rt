@@ -22,12 +22,12 @@ const NAVIGATION: &str =
 
 /// The lines of a page that is being written.
 #[derive(Drop)]
-pub(crate) struct Page {
+pub(crate) struct Document {
     pub alloc: Global,
     pub lines: Vec<String>,
 }
 
-impl Page {
+impl Document {
     /// Adds a line. It is refused only for want of memory.
     pub fn say(&mut self, line: &str) -> Result<(), AllocError> {
         self.lines.push(String::from_str(self.alloc, line)?)?;
@@ -70,48 +70,48 @@ pub fn page(
     space: &mut Space,
     context: &Context<'_>,
 ) -> Result<Vec<String>, Refusal> {
-    let mut page = Page {
+    let mut document = Document {
         alloc,
         lines: Vec::new(alloc),
     };
     let unknowns = unknowns_of(alloc, space)?;
-    let name = page.shown(name_of(context.file))?;
-    add_head(&mut page, name.as_str())?;
-    add_counts(&mut page, space, name.as_str(), unknowns.len())?;
-    page.say(NAVIGATION)?;
-    add_questions(&mut page, space)?;
-    add_tables(&mut page, space)?;
-    add_unknowns(&mut page, &unknowns)?;
-    add_mappings(&mut page, space)?;
-    add_log(&mut page, space)?;
-    let Page { alloc: _, lines } = page;
+    let name = document.shown(name_of(context.file))?;
+    add_head(&mut document, name.as_str())?;
+    add_counts(&mut document, space, name.as_str(), unknowns.len())?;
+    document.say(NAVIGATION)?;
+    add_questions(&mut document, space)?;
+    add_tables(&mut document, space)?;
+    add_unknowns(&mut document, &unknowns)?;
+    add_mappings(&mut document, space)?;
+    add_log(&mut document, space)?;
+    let Document { alloc: _, lines } = document;
     Ok(lines)
 }
 
 // The head, with the style sheet in it.
-fn add_head(page: &mut Page, name: &str) -> Result<(), AllocError> {
-    page.say("<!doctype html>")?;
-    page.say(META)?;
-    let alloc = page.alloc;
+fn add_head(document: &mut Document, name: &str) -> Result<(), AllocError> {
+    document.say("<!doctype html>")?;
+    document.say(META)?;
+    let alloc = document.alloc;
     let mut line = format!(in alloc; "<title>{name}</title><style>")?;
     for (place, style) in STYLE.iter().enumerate() {
         if 0 < place {
-            page.add(line)?;
+            document.add(line)?;
             line = String::new(alloc);
         }
         line.push_str(style)?;
     }
     line.push_str("</style></head><body>")?;
-    page.add(line)
+    document.add(line)
 }
 
 fn add_counts(
-    page: &mut Page,
+    document: &mut Document,
     space: &Space,
     name: &str,
     unknowns: usize,
 ) -> Result<(), AllocError> {
-    let alloc = page.alloc;
+    let alloc = document.alloc;
     let at = space.at();
     let last = space.state.last();
     let tuples = space.state.facts().len();
@@ -121,5 +121,5 @@ fn add_counts(
         "Tuples: {tuples}. Unknowns: {unknowns}. Waiting: {waiting}.</p>"
     )?;
     line.push_str(counts.as_str())?;
-    page.add(line)
+    document.add(line)
 }

@@ -1,9 +1,8 @@
-//! Tuples and updates in the words of commands.
+//! The rows of a relation as they are said, and texts as JSON has them.
 
-use base_types::{Memory, Tuple};
+use base_types::Memory;
 use serde_json::Value;
 use std::alloc::{AllocError, Global};
-use ws_print::add_fact;
 use ws_space::Space;
 use ws_written::Fact;
 
@@ -14,19 +13,6 @@ pub(crate) fn facts_of(alloc: Global, space: &Space, relation: u32) -> Result<Ve
         facts.push(space.shown(alloc, &tuple)?)?;
     }
     Ok(facts)
-}
-
-/// A tuple as a command takes it. It is refused only for want of memory.
-pub(crate) fn fact_text(alloc: Global, space: &Space, fact: &Fact) -> Result<String, AllocError> {
-    let mut text = String::new(alloc);
-    add_fact(&mut text, space.relations.as_slice(), fact)?;
-    Ok(text)
-}
-
-/// A tuple by names as a command takes it. It is refused only for want of memory.
-pub(crate) fn named_text(alloc: Global, space: &Space, tuple: &Tuple) -> Result<String, Memory> {
-    let fact = space.fact(alloc, tuple)?;
-    Ok(fact_text(alloc, space, &fact)?)
 }
 
 /// The number of a relation by its place.

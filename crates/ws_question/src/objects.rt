@@ -19,11 +19,23 @@ pub fn question_object(
     limit: usize,
 ) -> Result<Object, Memory> {
     let mut object = Object::new(alloc);
+    add_question(alloc, &mut object, space, asked, like, limit)?;
+    Ok(object)
+}
+
+fn add_question(
+    alloc: Global,
+    object: &mut Object,
+    space: &Space,
+    asked: &AskedNow,
+    like: Option<&str>,
+    limit: usize,
+) -> Result<(), Memory> {
     object.number("number", i64::from(asked.number))?;
     let is_positive = asked.question.is_positive;
     object.text("kind", if is_positive { "positive" } else { "negative" })?;
-    add_mapping(alloc, &mut object, space, asked)?;
-    add_candidates(alloc, &mut object, space, asked, like, limit)?;
+    add_mapping(alloc, object, space, asked)?;
+    add_candidates(alloc, object, space, asked, like, limit)?;
     object.number("count", as_number(asked.count()))?;
     object.items(
         "since",
@@ -36,7 +48,7 @@ pub fn question_object(
     if let Some(wanted) = asked.wanted() {
         object.text("wanted", fact_text(alloc, space, wanted)?.as_str())?;
     }
-    Ok(object)
+    Ok(())
 }
 
 fn as_number(count: usize) -> i64 {
@@ -68,17 +80,21 @@ fn add_candidates(
 ) -> Result<(), Memory> {
     let found = candidates_of(alloc, space, asked, like, limit)?;
     let mut items = Items::new(alloc);
-    for Candidate { number, text } in found.shown.iter() {
-        let mut item = Object::new(alloc);
-        item.number("number", as_number(*number))?;
-        item.text("tuple", text.as_str())?;
-        items.object(item)?;
+    for candidate in found.shown.iter() {
+        items.object(candidate_object(alloc, candidate)?)?;
     }
     object.items("candidates", items)?;
     if like.is_some() {
         object.number("fit", as_number(found.fit))?;
     }
     Ok(())
+}
+
+fn candidate_object(alloc: Global, candidate: &Candidate) -> Result<Object, Memory> {
+    let mut object = Object::new(alloc);
+    object.number("number", as_number(candidate.number))?;
+    object.text("tuple", candidate.text.as_str())?;
+    Ok(object)
 }
 
 fn facts(alloc: Global, space: &Space, tuples: &[Tuple]) -> Result<Items, Memory> {

@@ -20,17 +20,31 @@ impl Report {
         at: u32,
     ) -> Result<Object, Memory> {
         let mut object = Object::new(alloc);
+        match self.add_all(alloc, space, trying, at, &mut object) {
+            Ok(()) => Ok(object),
+            Err(memory) => Err(memory),
+        }
+    }
+
+    fn add_all(
+        &self,
+        alloc: Global,
+        space: &Space,
+        trying: bool,
+        at: u32,
+        object: &mut Object,
+    ) -> Result<(), Memory> {
         object.text("reply", if trying { "try" } else { "change" })?;
         object.text("did", self.did)?;
         object.text("line", self.line.as_str())?;
         object.number("at", i64::from(at))?;
-        self.add_effect(alloc, space, &mut object)?;
-        self.add_said(alloc, space, &mut object)?;
-        self.add_lists(alloc, &mut object)?;
+        self.add_effect(alloc, space, object)?;
+        self.add_said(alloc, space, object)?;
+        self.add_lists(alloc, object)?;
         if !trying && !self.next.is_empty() {
             object.items("next", texts(alloc, self.next.as_slice())?)?;
         }
-        Ok(object)
+        Ok(())
     }
 
     fn add_effect(&self, alloc: Global, space: &Space, object: &mut Object) -> Result<(), Memory> {

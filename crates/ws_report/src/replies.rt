@@ -14,8 +14,8 @@ pub const CANDIDATES: usize = 10;
 
 impl Report {
     /// The reply, after the change was done over the workspace; `is_recorded` says whether a record of it follows.
-    pub fn into_reply(
-        self,
+    pub fn reply(
+        &self,
         alloc: Global,
         space: &Space,
         context: &Context<'_>,
@@ -26,15 +26,26 @@ impl Report {
         } else {
             Kind::Change
         };
-        let status = self.status;
         if context.is_json() {
             let at = at_after(space, context, is_recorded);
+            let object = self.object(alloc, space, context.trying, at)?;
             let mut objects = Vec::new(alloc);
-            objects.push(self.object(alloc, space, context.trying, at)?)?;
-            return Ok(Reply::of_objects(alloc, status, kind, objects)?);
+            objects.push(object)?;
+            return Ok(Reply::of_objects(alloc, self.status, kind, objects)?);
         }
         let lines = self.lines(alloc, space, context.trying)?;
-        Ok(Reply::of_text(status, kind, lines))
+        Ok(Reply::of_text(self.status, kind, lines))
+    }
+
+    /// The same, where the report is of no use any more.
+    pub fn into_reply(
+        self,
+        alloc: Global,
+        space: &Space,
+        context: &Context<'_>,
+        is_recorded: bool,
+    ) -> Result<Reply, Memory> {
+        self.reply(alloc, space, context, is_recorded)
     }
 
     // `[try ][N ]DID: LINE`.

@@ -54,15 +54,50 @@ pub struct Report {
 impl Report {
     /// That the line did this, and nothing else. It takes no memory.
     pub fn of(alloc: Global, status: Status, did: &'static str, line: String) -> Report {
+        Report::with_effect(alloc, status, did, line, no_effect(alloc))
+    }
+
+    /// That the line did this, with this effect. It takes no memory.
+    pub fn with_effect(
+        alloc: Global,
+        status: Status,
+        did: &'static str,
+        line: String,
+        effect: Effect,
+    ) -> Report {
         Report {
             status,
             did,
             line,
             number: None,
-            effect: no_effect(alloc),
+            effect,
             telling: Telling::Whole,
             also: Vec::new(alloc),
             question: None,
+            again: Vec::new(alloc),
+            notes: Vec::new(alloc),
+            next: Vec::new(alloc),
+            counted: None,
+        }
+    }
+
+    /// That the update which the line did or answered asks. It takes no memory.
+    pub fn asking(
+        alloc: Global,
+        status: Status,
+        did: &'static str,
+        line: String,
+        asked: AskedNow,
+    ) -> Report {
+        Report {
+            status,
+            did,
+            line,
+            number: Some(asked.number),
+            effect: no_effect(alloc),
+            telling: Telling::Whole,
+            also: Vec::new(alloc),
+            question: Some(asked),
             again: Vec::new(alloc),
             notes: Vec::new(alloc),
             next: Vec::new(alloc),

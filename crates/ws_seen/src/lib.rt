@@ -4,6 +4,6 @@
 mod parts;
 
 pub use crate::parts::{
-    lines_text, number_items, number_of, object_of, refused, row_items, seen_object, seen_objects,
-    seen_text, text_items,
+    column_items, lines_text, number_items, number_of, object_of, refused, row_items, seen_object,
+    seen_objects, seen_text, text_items,
 };

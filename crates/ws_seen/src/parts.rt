@@ -6,7 +6,7 @@ use ws_fault::{Fault, Status};
 use ws_json::{Items, Object};
 use ws_print::add_unknown;
 use ws_reply::{Kind, Reply};
-use ws_written::{Fact, Value};
+use ws_written::{Fact, Relation, Unknown, Value};
 
 /// A count as a number of an object.
 pub fn number_of(count: usize) -> i64 {
@@ -50,33 +50,48 @@ pub fn text_items(alloc: Global, texts: &[String]) -> Result<Items, Memory> {
     Ok(items)
 }
 
+/// The names of the relation's columns as items. It is refused only for want of memory.
+pub fn column_items(alloc: Global, relation: &Relation) -> Result<Items, Memory> {
+    let mut items = Items::new(alloc);
+    for column in &relation.columns {
+        items.text(column.name.as_str())?;
+    }
+    Ok(items)
+}
+
 /// Rows as items, each a list of its values: a number, a text, or an object that names the unknown. It is refused only for want
 /// of memory.
 pub fn row_items(alloc: Global, rows: &[Fact]) -> Result<Items, Memory> {
     let mut items = Items::new(alloc);
     for row in rows {
-        let mut cells = Items::new(alloc);
-        for value in &row.values {
-            add_value(alloc, &mut cells, value)?;
-        }
-        items.items(cells)?;
+        items.items(cells(alloc, row)?)?;
     }
     Ok(items)
+}
+
+fn cells(alloc: Global, row: &Fact) -> Result<Items, Memory> {
+    let mut cells = Items::new(alloc);
+    for value in &row.values {
+        add_value(alloc, &mut cells, value)?;
+    }
+    Ok(cells)
 }
 
 fn add_value(alloc: Global, items: &mut Items, value: &Value) -> Result<(), Memory> {
     match value {
         Value::Number(number) => items.number(*number)?,
         Value::Text(text) => items.text(text.as_str())?,
-        Value::Unknown(unknown) => {
-            let mut name = String::new(alloc);
-            add_unknown(&mut name, *unknown)?;
-            let mut object = Object::new(alloc);
-            object.text("unknown", name.as_str())?;
-            items.object(object)?;
-        }
+        Value::Unknown(unknown) => items.object(unknown_object(alloc, *unknown)?)?,
     }
     Ok(())
+}
+
+fn unknown_object(alloc: Global, unknown: Unknown) -> Result<Object, Memory> {
+    let mut name = String::new(alloc);
+    add_unknown(&mut name, unknown)?;
+    let mut object = Object::new(alloc);
+    object.text("unknown", name.as_str())?;
+    Ok(object)
 }
 
 /// The reply to a command that looks, in lines of text.

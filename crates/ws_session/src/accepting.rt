@@ -1,4 +1,7 @@
 //! What is accepted: its record is appended before its reply is given.
+ghost use Rattle.std.specs.Prelude.{◌++◌, ◌∷◌, [], ℕ, List, IfOk};
+ghost use Rattle.ws_file.specs.Files.{state_of};
+ghost use Rattle.ws_seal.specs.Logs.{IsHeld};
 
 use crate::sessions::Session;
 use def_memory::Memory;
@@ -70,13 +73,18 @@ impl Session {
     }
 }
 
-// Appends the text; at `Ok` it is acknowledged, and the reply may be told.
+// Appends the text, and gives the reply back: so no reply is given before the text is acknowledged.
 fn told(
     alloc: Global,
     log: OpenLog,
     text: &[u8],
     reply: Reply,
-) -> Result<(OpenLog, Reply), Fault> {
+) -> Result<(OpenLog, Reply), Fault>
+    ensures acknowledged { (before m : List ℕ) (texts : List (List ℕ))
+        → IsHeld before m texts (state_of log.disk) log.gate log.mark
+        → IfOk result (λ told. IsHeld before m (texts ++ text.now ∷ []) (state_of told.0.disk)
+        told.0.gate told.0.mark) }
+{
     let log = log.append(alloc, text)?;
     Ok((log, reply))
 }

@@ -5,10 +5,11 @@ use crate::folding::fold_over;
 use crate::leaving::Done;
 use crate::loading::loaded;
 use crate::sessions::{Session, context_of};
-use crate::stubs::{change as changed, help};
 use std::alloc::Global;
+use ws_change::change as changed;
 use ws_command::{Change, Command, Said};
 use ws_fault::{Refusal, Status};
+use ws_look::help;
 use ws_reply::{Kind, Outcome, Reply};
 use ws_space::{Opening, Space};
 
@@ -55,11 +56,23 @@ impl Session {
     ) -> Result<Outcome, Refusal> {
         let alloc = rt.alloc();
         space.say_as(alloc, turn.time, self.settings.curator.as_str())?;
+        self.point = if self.settings.stays {
+            Some(space.point(alloc)?)
+        } else {
+            None
+        };
         let mut past = self.past(alloc, space, &change)?;
         let context = context_of(&self.settings, self.name.as_str(), turn.time, trying);
         match change {
             Change::Load(load) => loaded(rt, &self.settings, space, &context, &load, turn.fed),
-            _ => changed(alloc, space, &mut self.shown, past.as_mut(), &context, change),
+            _ => changed(
+                alloc,
+                space,
+                &mut self.shown,
+                past.as_mut(),
+                &context,
+                change,
+            ),
         }
     }
 

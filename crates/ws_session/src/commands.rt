@@ -115,8 +115,9 @@ impl Session {
             Done::Changed(outcome, comment) => {
                 let comment = comment.as_str();
                 let alloc = rt.alloc();
-                let (log, reply) =
-                    self.accept(alloc, log, &mut space, outcome, turn.time, comment)?;
+                let (log, reply) = self.accept(
+                    alloc, log, &mut space, outcome, turn.time, comment,
+                )?;
                 (log, Some(reply))
             }
             Done::Folded(head, reply) => {
@@ -129,11 +130,7 @@ impl Session {
 }
 
 /// The command of a line over the names of a workspace; None if it is blank.
-pub(crate) fn read_over(
-    alloc: Global,
-    space: &Space,
-    line: &str,
-) -> Result<Option<Said>, Refusal> {
+pub(crate) fn read_over(alloc: Global, space: &Space, line: &str) -> Result<Option<Said>, Refusal> {
     let mappings = space.mapping_names(alloc)?;
     let names = Names {
         relations: space.relations.as_slice(),

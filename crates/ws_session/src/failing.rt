@@ -10,12 +10,7 @@ use ws_print::add_fault;
 use ws_reply::{Form, Kind, Reply};
 
 /// A fault of these words, without a place.
-pub(crate) fn fault(
-    alloc: Global,
-    status: Status,
-    words: String,
-    hint: Option<String>,
-) -> Refusal {
+pub(crate) fn fault(alloc: Global, status: Status, words: String, hint: Option<String>) -> Refusal {
     Refusal::Fault(Fault {
         status,
         words,

@@ -15,15 +15,34 @@ use ws_space::Space;
 pub(crate) fn fold_over(alloc: Global, space: &Space, form: Form) -> Result<Done, Refusal> {
     let count = space.state.order().len();
     if count == 0 && space.records.is_empty() {
-        let reply = reply(alloc, form, space.at(), Status::Nothing, "nothing to fold", None)?;
+        let reply = reply(
+            alloc,
+            form,
+            space.at(),
+            Status::Nothing,
+            "nothing to fold",
+            None,
+        )?;
         return Ok(Done::Told(reply));
     }
     let waits = space.state.waiting().len();
-    let is = if count == 1 { "update is" } else { "updates are" };
+    let is = if count == 1 {
+        "update is"
+    } else {
+        "updates are"
+    };
     let wait = if waits == 1 { "waits" } else { "wait" };
     let also = format!(in alloc;
-        "{count} {is} now the base; {waits} {wait}; what they did can no longer be undone")?;
-    let reply = reply(alloc, form, space.at(), Status::Done, "done", Some(also.as_str()))?;
+        "{count} {is} now the base; {waits} {wait}; what they did can no longer be undone"
+    )?;
+    let reply = reply(
+        alloc,
+        form,
+        space.at(),
+        Status::Done,
+        "done",
+        Some(also.as_str()),
+    )?;
     Ok(Done::Folded(head_text(alloc, space)?, reply))
 }
 

@@ -18,7 +18,6 @@ mod making;
 mod opening;
 mod sending;
 mod sessions;
-mod stubs;
 
 pub use crate::commands::Turn;
 pub use crate::failing::{fault_reply, not_utf8};

@@ -2,12 +2,12 @@
 
 use crate::failing::{cannot, fault};
 use crate::sessions::{Settings, called};
-use crate::stubs::{Input, load as loaded_over};
 use std::alloc::Global;
 use std::fs;
 use ws_cells::form_of;
 use ws_command::{Load, Source};
 use ws_fault::{Refusal, Status};
+use ws_load::{Input, load as loaded_over};
 use ws_print::add_count;
 use ws_reply::{Context, Outcome};
 use ws_space::Space;

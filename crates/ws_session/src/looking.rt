@@ -4,9 +4,11 @@ use crate::commands::Turn;
 use crate::leaving::Done;
 use crate::sending::sent;
 use crate::sessions::{Session, context_of};
-use crate::stubs::{dump, export, graph, look as looked, page};
 use ws_command::Look;
+use ws_dump::dump;
 use ws_fault::Refusal;
+use ws_look::look as looked;
+use ws_out::{export, export_word, graph, page};
 use ws_space::Space;
 
 impl Session {
@@ -26,18 +28,11 @@ impl Session {
             Look::Page(to) => sent(rt, settings, to, "page", page(alloc, space, &context)?)?,
             Look::Dump(to) => sent(rt, settings, to, "session", dump(alloc, space)?)?,
             Look::Export(asked) => {
-                let kind = export_kind(asked);
+                let kind = export_word(asked);
                 sent(rt, settings, &asked.to, kind, export(alloc, space, asked)?)?
             }
             _ => looked(alloc, space, &mut self.shown, &context, look)?,
         };
         Ok(Done::Told(reply))
     }
-}
-
-fn export_kind(export: &ws_command::Export) -> &'static str {
-    if export.sql {
-        return "sql";
-    }
-    if export.json { "rows" } else { "csv" }
 }

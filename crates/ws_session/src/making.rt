@@ -5,12 +5,12 @@ use crate::changing::quit;
 use crate::commands::{Turn, read_over};
 use crate::leaving::allowed;
 use crate::sessions::{Session, context_of};
-use crate::stubs::help;
 use def_memory::Memory;
 use std::alloc::Global;
 use ws_command::{Change, Command, Said};
 use ws_fault::Refusal;
 use ws_log::create;
+use ws_look::help;
 use ws_print::add_head;
 use ws_reply::{Outcome, Reply};
 use ws_space::Space;
@@ -72,7 +72,12 @@ impl Session {
         let record = record_of(alloc, turn.time, curator, lines, comment)?;
         let mut texts = Vec::new(alloc);
         texts.push(text_of(alloc, &space, &record)?)?;
-        match create(rt, self.settings.path.as_str(), head.as_slice(), texts.as_slice()) {
+        match create(
+            rt,
+            self.settings.path.as_str(),
+            head.as_slice(),
+            texts.as_slice(),
+        ) {
             Ok(log) => {
                 space.recorded(alloc, record)?;
                 self.texts = Vec::new(alloc);

@@ -131,10 +131,23 @@ impl Session {
             Ok(resting) => self.resting = Some(resting),
             Err(_) => self.forget(alloc),
         }
-        if let Some(space) = &self.space {
-            if !space.is_recorded() {
-                self.space = None;
-            }
+        self.take_back(alloc);
+    }
+
+    // What was done in memory and is not recorded is taken back, or the workspace is let go.
+    fn take_back(&mut self, alloc: Global) {
+        let point = self.point.take();
+        let Some(space) = self.space.take() else {
+            return;
+        };
+        let mut space = space;
+        let is_right = match point {
+            _ if space.is_recorded() => true,
+            Some(point) => space.back_to(alloc, point).is_ok(),
+            None => false,
+        };
+        if is_right {
+            self.space = Some(space);
         }
     }
 }

@@ -1,14 +1,14 @@
 //! A session, and what it is over.
 
-use crate::stubs::Shown;
 use std::alloc::{AllocError, Global};
 use std::time::Duration;
 use ws_log::RestingLog;
+use ws_question::Shown;
 use ws_reply::{Context, Form};
-use ws_space::Space;
+use ws_space::{Point, Space};
 
 /// What a session is over: the file, who speaks, for how many seconds another process may have the file, how replies are told,
-/// and whether no other file is read or written.
+/// whether no other file is read or written, and whether further commands may come.
 #[derive(Drop)]
 pub struct Settings {
     pub path: String,
@@ -16,6 +16,7 @@ pub struct Settings {
     pub wait: u32,
     pub form: Form,
     pub no_files: bool,
+    pub stays: bool,
 }
 
 /// A session: what was read of the file, and the workspace of it, as far as it is at hand.
@@ -29,6 +30,8 @@ pub struct Session {
     pub(crate) resting: Option<RestingLog>,
     // The workspace of the texts.
     pub(crate) space: Option<Space>,
+    // What the workspace goes back to if what is done in memory is not recorded.
+    pub(crate) point: Option<Point>,
     pub(crate) shown: Shown,
 }
 
@@ -42,6 +45,7 @@ impl Session {
             texts: Vec::new(alloc),
             resting: None,
             space: None,
+            point: None,
             shown: Shown::new(alloc),
         })
     }
@@ -56,6 +60,7 @@ impl Session {
         self.texts = Vec::new(alloc);
         self.resting = None;
         self.space = None;
+        self.point = None;
     }
 }
 

@@ -1,17 +1,18 @@
 //! Which relations' tuples lines changed.
 
-use base_types::{Memory, Tuple, TupleList};
+use base_types::{Memory, Tuple, TupleList, Write};
 use std::alloc::Global;
-use std::collections::{BTreeMap, BTreeSet};
-use ws_run::{Step, Touch, WANT};
+use std::collections::BTreeSet;
+use ws_run::{Step, Touched, WANT};
 use ws_state::{Replayed, Standing};
 
-/// What lines did: how many they are, which tuples they touched, and which relations' tuples an undo or a redo changed.
+/// What lines did: how many they are, what they wrote, each write having changed something, and which relations' tuples an undo or
+/// a redo changed.
 #[derive(Drop)]
 pub(crate) struct Changed {
     pub lines: usize,
-    touched: BTreeMap<Tuple, Touch>,
-    tables: BTreeSet<u32>,
+    writes: Vec<Write>,
+    tables: BTreeSet<u16>,
 }
 
 impl Changed {
@@ -19,7 +20,7 @@ impl Changed {
     pub fn new(alloc: Global) -> Changed {
         Changed {
             lines: 0,
-            touched: BTreeMap::new(alloc),
+            writes: Vec::new(alloc),
             tables: BTreeSet::new(alloc),
         }
     }
@@ -36,26 +37,16 @@ impl Changed {
 
     fn add_step(&mut self, step: &Step) -> Result<(), Memory> {
         for tuple in step.note.deleted.as_slice() {
-            self.touch(tuple, true, false)?;
+            if is_seen(tuple) {
+                self.writes.push(Write::Delete(tuple.share()?))?;
+            }
         }
         for tuple in step.note.puts.as_slice() {
-            self.touch(tuple, false, true)?;
+            if is_seen(tuple) {
+                self.writes.push(Write::Insert(tuple.share()?))?;
+            }
         }
         Ok(())
-    }
-
-    fn touch(&mut self, tuple: &Tuple, was: bool, is: bool) -> Result<(), Memory> {
-        if WANT <= tuple.relation {
-            return Ok(());
-        }
-        let was = match self.touched.get(tuple) {
-            Some(touch) => touch.was,
-            None => was,
-        };
-        match self.touched.insert(tuple.share()?, Touch { was, is }) {
-            Ok(_) => Ok(()),
-            Err(_) => Err(Memory),
-        }
     }
 
     /// Adds what an undo or a redo did. It is refused only for want of memory.
@@ -68,29 +59,77 @@ impl Changed {
     pub fn tables(&self, alloc: Global) -> Result<Vec<u32>, Memory> {
         let mut tables = BTreeSet::new(alloc);
         for table in &self.tables {
-            add_table(&mut tables, *table)?;
+            add(&mut tables, *table)?;
         }
-        for (tuple, touch) in &self.touched {
-            if touch.was != touch.is {
-                add_table(&mut tables, u32::from(tuple.relation))?;
-            }
-        }
+        self.add_written(alloc, &mut tables)?;
         let mut numbers = Vec::new(alloc);
         for table in &tables {
-            numbers.push(*table)?;
+            numbers.push(u32::from(*table))?;
         }
         Ok(numbers)
     }
+
+    // Adds the relations that the writes changed. If tuples of one only came, or only went, it did change.
+    fn add_written(&self, alloc: Global, tables: &mut BTreeSet<u16>) -> Result<(), Memory> {
+        let mut came = BTreeSet::new(alloc);
+        let mut went = BTreeSet::new(alloc);
+        for write in &self.writes {
+            match write {
+                Write::Insert(tuple) => add(&mut came, tuple.relation)?,
+                Write::Delete(tuple) => add(&mut went, tuple.relation)?,
+            }
+        }
+        for relation in &came {
+            if !went.contains(relation) || self.is_other(alloc, *relation)? {
+                add(tables, *relation)?;
+            }
+        }
+        for relation in &went {
+            if !came.contains(relation) {
+                add(tables, *relation)?;
+            }
+        }
+        Ok(())
+    }
+
+    // Whether the relation's tuples are others after the writes.
+    fn is_other(&self, alloc: Global, relation: u16) -> Result<bool, Memory> {
+        let mut writes = Vec::new(alloc);
+        for write in &self.writes {
+            match write {
+                Write::Insert(tuple) if tuple.relation == relation => {
+                    writes.push(Write::Insert(tuple.share()?))?;
+                }
+                Write::Delete(tuple) if tuple.relation == relation => {
+                    writes.push(Write::Delete(tuple.share()?))?;
+                }
+                _ => {}
+            }
+        }
+        let mut touched = Touched::new(alloc);
+        touched.made(writes.as_slice())?;
+        Ok(
+            touched
+                .tuples
+                .iter()
+                .any(|(_, touch)| touch.was != touch.is),
+        )
+    }
 }
 
-fn add_tables(tables: &mut BTreeSet<u32>, tuples: &TupleList) -> Result<(), Memory> {
+// Whether the tuple is of a relation that is seen.
+fn is_seen(tuple: &Tuple) -> bool {
+    tuple.relation < WANT
+}
+
+fn add_tables(tables: &mut BTreeSet<u16>, tuples: &TupleList) -> Result<(), Memory> {
     for tuple in tuples.as_slice() {
-        add_table(tables, u32::from(tuple.relation))?;
+        add(tables, tuple.relation)?;
     }
     Ok(())
 }
 
-fn add_table(tables: &mut BTreeSet<u32>, table: u32) -> Result<(), Memory> {
+fn add(tables: &mut BTreeSet<u16>, table: u16) -> Result<(), Memory> {
     match tables.insert(table) {
         Ok(_) => Ok(()),
         Err(_) => Err(Memory),

@@ -18,7 +18,10 @@ impl Space {
     }
 
     fn declare_relation(&mut self, relation: Relation) -> Result<(), Memory> {
-        let place = self.relations.iter().position(|r| r.name.as_str() == relation.name.as_str());
+        let place = self
+            .relations
+            .iter()
+            .position(|r| r.name.as_str() == relation.name.as_str());
         if let Some(place) = place {
             if let Some(old) = self.relations.get_mut(place) {
                 *old = relation;

@@ -63,7 +63,10 @@ impl Space {
     fn stands_in(&self, relation: usize, column: usize, value: &Value) -> bool {
         let relation = u16::try_from(relation).unwrap_or(u16::MAX);
         let column = u16::try_from(column).unwrap_or(u16::MAX);
-        self.state.facts().scan(relation, column, value, None).is_some()
+        self.state
+            .facts()
+            .scan(relation, column, value, None)
+            .is_some()
     }
 
     /// Whether a tuple within is there.
@@ -97,7 +100,10 @@ impl Space {
     ) -> Result<Vec<Tuple>, Memory> {
         let mut tuples = Vec::new(alloc);
         let mut walk = Walk::new(self.state.facts(), relation, first_column(columns));
-        while let Some(tuple) = walk.next() {
+        for _ in 0..u64::MAX {
+            let Some(tuple) = walk.next() else {
+                break;
+            };
             if fits(columns, tuple) {
                 tuples.push(tuple.share()?)?;
             }
@@ -114,7 +120,10 @@ impl Space {
     pub fn count_rows(&self, relation: u32) -> usize {
         let mut count = 0usize;
         let mut walk = Walk::new(self.state.facts(), small(relation), None);
-        while walk.next().is_some() {
+        for _ in 0..u64::MAX {
+            if walk.next().is_none() {
+                break;
+            }
             count = count.saturating_add(1);
         }
         count

@@ -17,7 +17,10 @@ impl Space {
     pub fn mapping_names(&self, alloc: Global) -> Result<Vec<String>, Memory> {
         let mut names = Vec::new(alloc);
         for (number, rule) in self.rules.iter().enumerate() {
-            if !self.state.is_gone(u16::try_from(number).unwrap_or(u16::MAX)) {
+            if !self
+                .state
+                .is_gone(u16::try_from(number).unwrap_or(u16::MAX))
+            {
                 names.push(String::from_str(alloc, rule.name.as_str())?)?;
             }
         }

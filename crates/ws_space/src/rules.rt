@@ -1,9 +1,7 @@
 //! From mappings that are said to mappings by numbers.
 
 use crate::texts::{bytes_of, small};
-use base_types::{
-    Atom, AtomList, Mapping, Memory, Name, NameList, Term, TermRow, TryCopy, Value,
-};
+use base_types::{Atom, AtomList, Mapping, Memory, Name, NameList, Term, TermRow, Value};
 use std::alloc::Global;
 use ws_written::{Atom as SaidAtom, Rule, Term as SaidTerm};
 
@@ -69,9 +67,4 @@ pub(crate) fn number_among(names: &NameList, wanted: &Name) -> Option<u16> {
         }
     }
     None
-}
-
-/// Copies of mappings by numbers. It is refused only for want of memory.
-pub(crate) fn copy_mapping(alloc: Global, mapping: &Mapping) -> Result<Mapping, Memory> {
-    mapping.copy(alloc)
 }

@@ -8,9 +8,7 @@ use crate::sources::{name_of, number_of};
 use crate::texts::{bytes_of, small, text_of};
 use base_types::{Memory, Name, NameList};
 use std::alloc::Global;
-use ws_lines::{
-    Deed, Spelled, SpelledList, SpelledTuple, SpelledTupleList, Update as Numbered,
-};
+use ws_lines::{Deed, Spelled, SpelledList, SpelledTuple, SpelledTupleList, Update as Numbered};
 use ws_written::{NewFact, NewValue, NumberedUpdate, Rule, Stamp, Update};
 
 /// The update in the state's form; None if it names a mapping that is not there. It is refused only for want of memory.

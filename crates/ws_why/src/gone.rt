@@ -5,6 +5,7 @@ use base_types::{Memory, Tuple};
 use run_explain::Way;
 use std::alloc::Global;
 use ws_fault::{Refusal, Status};
+use ws_json::Object;
 use ws_print::add_fact;
 use ws_question::{inner_text, near_texts};
 use ws_reply::{Context, Reply};
@@ -131,16 +132,25 @@ fn reply(
     said: &str,
     told: Told,
 ) -> Result<Reply, Memory> {
-    if !context.is_json() {
-        let mut lines = Vec::new(alloc);
-        lines.push(told.words)?;
-        return Ok(seen_text(Status::Nothing, lines));
+    if context.is_json() {
+        return seen_object(alloc, Status::Nothing, object(alloc, space, said, &told)?);
     }
+    let mut lines = Vec::new(alloc);
+    lines.push(told.words)?;
+    Ok(seen_text(Status::Nothing, lines))
+}
+
+fn object(alloc: Global, space: &Space, said: &str, told: &Told) -> Result<Object, Memory> {
     let mut object = object_of(alloc, "gone")?;
+    add_told(&mut object, space, said, told)?;
+    Ok(object)
+}
+
+fn add_told(object: &mut Object, space: &Space, said: &str, told: &Told) -> Result<(), Memory> {
     object.text("tuple", said)?;
     object.text("how", told.how)?;
     object.number("number", i64::from(told.number))?;
     object.text("curator", space.curator_of(told.number))?;
     object.text("words", told.words.as_str())?;
-    seen_object(alloc, Status::Nothing, object)
+    Ok(())
 }

@@ -4,6 +4,7 @@ use base_types::{Mapping, Memory, Tuple, Value};
 use std::alloc::Global;
 use std::collections::BTreeSet;
 use ws_fault::{Refusal, Status as Code};
+use ws_json::Object;
 use ws_lines::Source;
 use ws_names::Cause;
 use ws_print::add_unknown;
@@ -32,7 +33,7 @@ pub fn why_unknown(
     for tuple in standing_in(alloc, space, &value)?.iter() {
         texts.push(inner_text(alloc, space, tuple)?)?;
     }
-    Ok(reply(alloc, context, name.as_str(), words, texts)?)
+    Ok(reply(alloc, context, name.as_str(), words, texts.as_slice())?)
 }
 
 // The tuples that the value stands in, in order.
@@ -130,19 +131,35 @@ fn reply(
     context: &Context<'_>,
     name: &str,
     words: String,
-    texts: Vec<String>,
+    texts: &[String],
 ) -> Result<Reply, Memory> {
     if context.is_json() {
-        let mut object = object_of(alloc, "unknown")?;
-        object.text("unknown", name)?;
-        object.text("words", words.as_str())?;
-        object.items("tuples", text_items(alloc, texts.as_slice())?)?;
+        let object = object(alloc, name, words.as_str(), texts)?;
         return seen_object(alloc, Code::Done, object);
     }
     let mut lines = Vec::new(alloc);
     lines.push(words)?;
-    for text in texts.iter() {
+    for text in texts {
         lines.push(format!(in alloc; "  stands in {text}")?)?;
     }
     Ok(seen_text(Code::Done, lines))
+}
+
+fn object(alloc: Global, name: &str, words: &str, texts: &[String]) -> Result<Object, Memory> {
+    let mut object = object_of(alloc, "unknown")?;
+    add_members(alloc, &mut object, name, words, texts)?;
+    Ok(object)
+}
+
+fn add_members(
+    alloc: Global,
+    object: &mut Object,
+    name: &str,
+    words: &str,
+    texts: &[String],
+) -> Result<(), Memory> {
+    object.text("unknown", name)?;
+    object.text("words", words)?;
+    object.items("tuples", text_items(alloc, texts)?)?;
+    Ok(())
 }

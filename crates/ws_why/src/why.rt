@@ -93,12 +93,17 @@ fn dot_reply(
     reasons: &[Reason],
 ) -> Result<Reply, Memory> {
     let lines = dot_lines(alloc, space, reasons)?;
-    if !context.is_json() {
-        return Ok(seen_text(Status::Done, lines));
+    if context.is_json() {
+        return seen_object(alloc, Status::Done, dot_object(alloc, lines.as_slice())?);
     }
+    Ok(seen_text(Status::Done, lines))
+}
+
+fn dot_object(alloc: Global, lines: &[String]) -> Result<Object, Memory> {
+    let text = lines_text(alloc, lines)?;
     let mut object = object_of(alloc, "dot")?;
-    object.text("text", lines_text(alloc, lines.as_slice())?.as_str())?;
-    seen_object(alloc, Status::Done, object)
+    object.text("text", text.as_str())?;
+    Ok(object)
 }
 
 fn why_reply(
@@ -108,13 +113,7 @@ fn why_reply(
     reasons: &[Reason],
 ) -> Result<Reply, Memory> {
     if context.is_json() {
-        let mut items = Items::new(alloc);
-        for reason in reasons {
-            items.object(object(alloc, space, reason)?)?;
-        }
-        let mut object = object_of(alloc, "why")?;
-        object.items("reasons", items)?;
-        return seen_object(alloc, Status::Done, object);
+        return seen_object(alloc, Status::Done, why_object(alloc, space, reasons)?);
     }
     let mut lines = Vec::new(alloc);
     for reason in reasons {
@@ -123,9 +122,33 @@ fn why_reply(
     Ok(seen_text(Status::Done, lines))
 }
 
+fn why_object(alloc: Global, space: &Space, reasons: &[Reason]) -> Result<Object, Memory> {
+    let mut object = object_of(alloc, "why")?;
+    object.items("reasons", reason_items(alloc, space, reasons)?)?;
+    Ok(object)
+}
+
+fn reason_items(alloc: Global, space: &Space, reasons: &[Reason]) -> Result<Items, Memory> {
+    let mut items = Items::new(alloc);
+    for reason in reasons {
+        items.object(reason_object(alloc, space, reason)?)?;
+    }
+    Ok(items)
+}
+
 // The reason in a line, two blanks deeper for what a tuple rests on.
 fn line(alloc: Global, space: &Space, reason: &Reason) -> Result<String, Memory> {
     let mut line = String::new(alloc);
+    add_line(alloc, &mut line, space, reason)?;
+    Ok(line)
+}
+
+fn add_line(
+    alloc: Global,
+    line: &mut String,
+    space: &Space,
+    reason: &Reason,
+) -> Result<(), Memory> {
     for _ in 0..reason.depth {
         line.push_str("  ")?;
     }
@@ -149,11 +172,21 @@ fn line(alloc: Global, space: &Space, reason: &Reason) -> Result<String, Memory>
             line.push_str(", as above")?;
         }
     }
-    Ok(line)
+    Ok(())
 }
 
-fn object(alloc: Global, space: &Space, reason: &Reason) -> Result<Object, Memory> {
+fn reason_object(alloc: Global, space: &Space, reason: &Reason) -> Result<Object, Memory> {
     let mut object = Object::new(alloc);
+    add_reason(alloc, &mut object, space, reason)?;
+    Ok(object)
+}
+
+fn add_reason(
+    alloc: Global,
+    object: &mut Object,
+    space: &Space,
+    reason: &Reason,
+) -> Result<(), Memory> {
     object.text("tuple", fact_text(alloc, space, &reason.tuple)?.as_str())?;
     object.number("depth", number_of(reason.depth))?;
     if let Some(number) = reason.number {
@@ -171,7 +204,7 @@ fn object(alloc: Global, space: &Space, reason: &Reason) -> Result<Object, Memor
             object.text("from", fact_text(alloc, space, from)?.as_str())?;
         }
     }
-    Ok(object)
+    Ok(())
 }
 
 fn fact_items(alloc: Global, space: &Space, tuples: &[Tuple]) -> Result<Items, Memory> {

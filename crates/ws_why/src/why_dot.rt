@@ -89,6 +89,16 @@ impl Graph {
 // The tuple, and in a second line what it is and who put it.
 fn label_of(alloc: Global, space: &Space, reason: &Reason) -> Result<String, Memory> {
     let mut label = String::new(alloc);
+    add_label(alloc, &mut label, space, reason)?;
+    Ok(label)
+}
+
+fn add_label(
+    alloc: Global,
+    label: &mut String,
+    space: &Space,
+    reason: &Reason,
+) -> Result<(), Memory> {
     for letter in fact_text(alloc, space, &reason.tuple)?.as_str().chars() {
         if letter == '"' || letter == '\\' {
             label.push('\\')?;
@@ -106,5 +116,5 @@ fn label_of(alloc: Global, space: &Space, reason: &Reason) -> Result<String, Mem
         let curator = space.curator_of(number);
         label.push_str(format!(in alloc; " {number} {curator}")?.as_str())?;
     }
-    Ok(label)
+    Ok(())
 }

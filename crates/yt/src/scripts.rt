@@ -150,7 +150,11 @@ impl Script {
 
     // The number of the line that a fault tells.
     fn line_number(&self) -> Option<u64> {
-        if self.is_terminal { None } else { Some(self.number) }
+        if self.is_terminal {
+            None
+        } else {
+            Some(self.number)
+        }
     }
 
     // Tells a reply, and goes on or not.

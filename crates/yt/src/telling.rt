@@ -20,7 +20,11 @@ pub fn tell(rt: &HostRuntime, form: Form, reply: &Reply) -> Result<Status, Memor
     } else {
         rt.stdout().write_all(text.as_bytes()).is_ok()
     };
-    Ok(if is_told { reply.status } else { Status::NoOutput })
+    Ok(if is_told {
+        reply.status
+    } else {
+        Status::NoOutput
+    })
 }
 
 /// Tells lines on the output. It is refused only for want of memory.
@@ -51,7 +55,12 @@ pub fn tell_fault(
         hint: if hint.is_empty() { None } else { Some(hint) },
         more: Vec::new(alloc),
     };
-    tell(rt, form, &fault_reply(alloc, form, &fault, "", None)?)
+    tell_wrong(rt, form, &fault)
+}
+
+/// Tells a fault of the words. It is refused only for want of memory.
+pub fn tell_wrong(rt: &HostRuntime, form: Form, fault: &Fault) -> Result<Status, Memory> {
+    tell(rt, form, &fault_reply(rt.alloc(), form, fault, "", None)?)
 }
 
 /// Tells that memory was wanting.

@@ -1,4 +1,4 @@
-//! Circles of relations that lead to each other without an unknown.
+//! Plain cycles: relations that lead back to themselves without an unknown.
 
 use crate::mappings::{is_gone, stands_among};
 use def_memory::Memory;
@@ -189,9 +189,9 @@ fn steps_text(
     Ok(text)
 }
 
-/// The circle that the mapping closes with those that are not gone, if it closes one: `A -> B by M, ..`. It is refused only
-/// for want of memory.
-pub(crate) fn circle_words(
+/// The plain cycle that the mapping closes with those that are not gone, if it closes one: `A -> B by M, ..`. It is refused
+/// only for want of memory.
+pub(crate) fn cycle_words(
     alloc: Global,
     space: &Space,
     rule: &Rule,

@@ -1,0 +1,81 @@
+//! The columns of a file against those of the relation.
+
+use crate::columns::has_twice;
+use crate::refusing::{add_names, faults, has, meant_of};
+use std::alloc::{AllocError, Global};
+use ws_fault::Refusal;
+use ws_print::{add_form, add_quoted};
+use ws_written::Relation;
+
+/// The first line names the columns of the relation, each once.
+pub(crate) fn has_same(
+    alloc: Global,
+    path: &str,
+    line: u64,
+    relation: &Relation,
+    header: &[String],
+    names: &[String],
+) -> Result<(), Refusal> {
+    let mut more = Vec::new(alloc);
+    add_strangers(alloc, &mut more, line, header, names)?;
+    add_missing(alloc, &mut more, line, header, names)?;
+    if has_twice(header) {
+        more.push(format!(in alloc; "line {line}: a column stands twice")?)?;
+    }
+    if more.is_empty() {
+        return Ok(());
+    }
+    let mut words = format!(in alloc; "{path} does not fit ")?;
+    add_form(&mut words, relation)?;
+    let hint = String::from_str(alloc, "its first line names the columns")?;
+    faults(words, Some(hint), more)
+}
+
+// A fault for each column of the file that the relation does not have.
+fn add_strangers(
+    alloc: Global,
+    more: &mut Vec<String>,
+    line: u64,
+    header: &[String],
+    names: &[String],
+) -> Result<(), AllocError> {
+    for column in header {
+        if has(names, column.as_str()) {
+            continue;
+        }
+        let mut words = format!(in alloc; "line {line}: there is no column ")?;
+        add_quoted(&mut words, column.as_str())?;
+        if let Some(question) = meant_of(alloc, column.as_str(), names)? {
+            words.push_str("; ")?;
+            words.push_str(question.as_str())?;
+        }
+        more.push(words)?;
+    }
+    Ok(())
+}
+
+// A fault that tells the columns of the relation that the file does not have.
+fn add_missing(
+    alloc: Global,
+    more: &mut Vec<String>,
+    line: u64,
+    header: &[String],
+    names: &[String],
+) -> Result<(), AllocError> {
+    let mut missing = Vec::new(alloc);
+    for name in names {
+        if !has(header, name.as_str()) {
+            missing.push(String::from_str(alloc, name.as_str())?)?;
+        }
+    }
+    if missing.is_empty() {
+        return Ok(());
+    }
+    let one = missing.len() == 1;
+    let noun = if one { "column" } else { "columns" };
+    let mut words = format!(in alloc; "line {line}: {noun} ")?;
+    add_names(&mut words, missing.as_slice())?;
+    words.push_str(if one { " is missing" } else { " are missing" })?;
+    more.push(words)?;
+    Ok(())
+}

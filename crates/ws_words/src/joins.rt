@@ -1,0 +1,50 @@
+//! Words as one line, and what is asked of words that may be at fault.
+
+use crate::steps::fault_of;
+use std::alloc::{AllocError, Global};
+use ws_fault::Fault;
+
+/// Words joined by blanks; none if there are none. It is refused only for want of memory.
+pub fn joined(alloc: Global, words: &[String]) -> Result<Option<String>, AllocError> {
+    if words.is_empty() {
+        return Ok(None);
+    }
+    let mut line = String::new(alloc);
+    for (place, word) in words.iter().enumerate() {
+        line.push_str(if 0 < place { " " } else { "" })?;
+        line.push_str(word.as_str())?;
+    }
+    Ok(Some(line))
+}
+
+/// Whether `--json` stands among the words in front of the command, which may be at fault.
+pub fn wants_json(words: &[String]) -> bool {
+    let mut files = 0u32;
+    let mut is_value = false;
+    for word in words {
+        let word = word.as_str();
+        if 2 <= files {
+            return false;
+        }
+        if word == "--json" && !is_value {
+            return true;
+        }
+        if !is_value && !word.starts_with("-") {
+            files = files.saturating_add(1);
+        }
+        is_value = !is_value && (word == "--as" || word == "--wait");
+    }
+    false
+}
+
+/// The fault of words that have a verb in the place of the file; its hint is the words from that on, after FILE. It is refused only
+/// for want of memory.
+pub fn file_first(alloc: Global, words: &[String], file: &str) -> Result<Fault, AllocError> {
+    let place = words.iter().position(|w| w.as_str() == file);
+    let from = words.get(place.unwrap_or(0)..).unwrap_or(words);
+    let mut hint = String::from_str(alloc, "yt FILE ")?;
+    if let Some(line) = joined(alloc, from)? {
+        hint.push_str(line.as_str())?;
+    }
+    fault_of(alloc, "the file comes first", hint.as_str())
+}
