@@ -3,7 +3,7 @@
 use base_types::{Choice, Memory, Null, Tuple, TupleList, Value, Write};
 use std::alloc::Global;
 use ws_lines::{Given, GivenList, Source};
-use ws_run::Reason;
+use ws_run::{Question, Reason};
 use ws_state::{Effect, MovedList, Replayed, State};
 
 fn add(text: &mut String, more: &str) -> Result<(), Memory> {
@@ -81,39 +81,43 @@ pub fn tell_reason(
             add(text, format!(in alloc; "violated {mapping}")?.as_str())
         }
         Some(Reason::Gone(mapping)) => add(text, format!(in alloc; "gone {mapping}")?.as_str()),
-        Some(Reason::Asks(question)) => {
-            add(
-                text,
-                if question.is_positive {
-                    "asks + "
-                } else {
-                    "asks - "
-                },
-            )?;
-            add_source(alloc, text, question.asked.source)?;
-            add(text, " ")?;
-            add_tuples(alloc, text, &question.asked.tuples)?;
-            add(text, " of ")?;
-            add_tuples(alloc, text, &question.candidates)?;
-            add(text, " since ")?;
-            add_tuples(alloc, text, &question.since)?;
-            add(text, " so ")?;
-            for write in question.so_far.as_slice() {
-                match write {
-                    Write::Insert(tuple) => {
-                        add(text, "+")?;
-                        add_tuple(alloc, text, tuple)?;
-                    }
-                    Write::Delete(tuple) => {
-                        add(text, "-")?;
-                        add_tuple(alloc, text, tuple)?;
-                    }
-                }
-            }
-            add(
-                text,
-                format!(in alloc; " taken {}", question.taken)?.as_str(),
-            )
+        Some(Reason::Asks(question)) => add_question(alloc, text, question),
+    }
+}
+
+fn add_question(alloc: Global, text: &mut String, question: &Question) -> Result<(), Memory> {
+    add(
+        text,
+        if question.is_positive {
+            "asks + "
+        } else {
+            "asks - "
+        },
+    )?;
+    add_source(alloc, text, question.asked.source)?;
+    add(text, " ")?;
+    add_tuples(alloc, text, &question.asked.tuples)?;
+    add(text, " of ")?;
+    add_tuples(alloc, text, &question.candidates)?;
+    add(text, " since ")?;
+    add_tuples(alloc, text, &question.since)?;
+    add(text, " so ")?;
+    for write in question.so_far.as_slice() {
+        add_write(alloc, text, write)?;
+    }
+    let taken = format!(in alloc; " taken {}", question.taken)?;
+    add(text, taken.as_str())
+}
+
+fn add_write(alloc: Global, text: &mut String, write: &Write) -> Result<(), Memory> {
+    match write {
+        Write::Insert(tuple) => {
+            add(text, "+")?;
+            add_tuple(alloc, text, tuple)
+        }
+        Write::Delete(tuple) => {
+            add(text, "-")?;
+            add_tuple(alloc, text, tuple)
         }
     }
 }
