@@ -32,10 +32,12 @@ check 'the completion of bash for yt offers what fits' \
 
 check 'what is installed runs, and is taken away whole' \
   "$(live=$(realpath -m "${LIVE:-crates/yt_live/out/yt_live}")
-     make -s install DESTDIR="$stored/root" PREFIX=/usr PROGRAM="$program" LIVE="$live" 2>&1
+     yt=$(realpath -m "${YT:-crates/yt/out/yt}")
+     make -s install DESTDIR="$stored/root" PREFIX=/usr PROGRAM="$program" LIVE="$live" YT="$yt" 2>&1
      "$stored/root/usr/bin/youtopia" --version | grep -v '^youtopia '
      "$stored/root/usr/bin/yt_live" < tests/live/session-alone/lines | grep -vx 'ready 0'
-     find "$stored/root" -type f | wc -l | grep -vx 10
+     "$stored/root/usr/bin/yt" --version | grep -vx 'yt 1'
+     find "$stored/root" -type f | wc -l | grep -vx 15
      make -s uninstall DESTDIR="$stored/root" PREFIX=/usr 2>&1
      find "$stored/root" -type f)"
 check 'make run shows the line of a fault' \
