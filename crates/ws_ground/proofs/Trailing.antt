@@ -88,27 +88,27 @@ not_false b false e f = let never : true ≡ false = sym e ∙ f in cc
 -- The tuple came.
 pub came : (ws us vs : List Write) (D E : List Fact) (t s : Tuple) (b : Bool) → IsRepository D → b ≡ not (has D (fact_of t)) → b ≡ true
     → E ≡ change D (Insert (fact_of t)) → us ≡ ws → vs ≡ us ++ InsertWrite s ∷ [] → s ≡ t → HasMade ws D vs E
-came ws us vs D E t s b r tells yes made same longer shared =
+came ws us vs D E t s b r tells is made same longer shared =
     one_made ws vs D E (InsertWrite s) (longer ∙ ap (λ (l : List Write). l ++ InsertWrite s ∷ []) same)
     (ap (λ (F : List Fact). change F (Delete (fact_of s))) made
     ∙ ap (λ (u : Tuple). change (change D (Insert (fact_of t))) (Delete (fact_of u))) shared
-    ∙ insertion_undone D (fact_of t) r (not_true b (has D (fact_of t)) tells yes))
+    ∙ insertion_undone D (fact_of t) r (not_true b (has D (fact_of t)) tells is))
 
 -- It was there.
 pub came_not : (ws us : List Write) (D E : List Fact) (t : Tuple) (b : Bool) → IsRepository D → b ≡ not (has D (fact_of t)) → b ≡ false
     → E ≡ change D (Insert (fact_of t)) → us ≡ ws → HasMade ws D us E
-came_not ws us D E t b r tells no made same =
-    record { more = []; longer = same ∙ sym (append-nil ws); undone = made ∙ inserted_again D (fact_of t) r (not_false b (has D (fact_of t)) tells no) }
+came_not ws us D E t b r tells isnt made same =
+    record { more = []; longer = same ∙ sym (append-nil ws); undone = made ∙ inserted_again D (fact_of t) r (not_false b (has D (fact_of t)) tells isnt) }
 
 -- The tuple went.
 pub went : (ws us vs : List Write) (D E : List Fact) (t : Tuple) (b : Bool) → IsRepository D → b ≡ has D (fact_of t) → b ≡ true
     → E ≡ change D (Delete (fact_of t)) → us ≡ ws → vs ≡ us ++ DeleteWrite t ∷ [] → HasMade ws D vs E
-went ws us vs D E t b r tells yes made same longer =
+went ws us vs D E t b r tells is made same longer =
     one_made ws vs D E (DeleteWrite t) (longer ∙ ap (λ (l : List Write). l ++ DeleteWrite t ∷ []) same)
-    (ap (λ (F : List Fact). change F (Insert (fact_of t))) made ∙ deletion_undone D (fact_of t) r (sym tells ∙ yes))
+    (ap (λ (F : List Fact). change F (Insert (fact_of t))) made ∙ deletion_undone D (fact_of t) r (sym tells ∙ is))
 
 -- It was not there.
 pub went_not : (ws us : List Write) (D E : List Fact) (t : Tuple) (b : Bool) → IsRepository D → b ≡ has D (fact_of t) → b ≡ false
     → E ≡ change D (Delete (fact_of t)) → us ≡ ws → HasMade ws D us E
-went_not ws us D E t b r tells no made same =
-    record { more = []; longer = same ∙ sym (append-nil ws); undone = made ∙ deleted_again D (fact_of t) r (sym tells ∙ no) }
+went_not ws us D E t b r tells isnt made same =
+    record { more = []; longer = same ∙ sym (append-nil ws); undone = made ∙ deleted_again D (fact_of t) r (sym tells ∙ isnt) }
