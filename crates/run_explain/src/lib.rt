@@ -22,6 +22,7 @@ mod writes;
 
 pub use crate::checking::check_explanation;
 pub use crate::explaining::{Explained, explain, explain_over};
+pub use crate::made::noted;
 pub use crate::notes::{Note, NoteList, Rewriting, Way};
 pub use crate::reasons::{Explanation, How, Reason};
 pub use crate::runs::{NotedRun, noted_serial};

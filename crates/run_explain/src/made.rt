@@ -51,8 +51,9 @@ pub(crate) fn step(
     add(notes, note)
 }
 
-// Makes the step, and gives its note.
-fn noted(
+/// Makes such a step, and gives its note, whether it puts a tuple or not. It is refused only for want of memory; the program
+/// may then be within the step.
+pub fn noted(
     alloc: Global,
     program: &mut Attempt,
     view: &mut WatchedView<'_, IndexedFacts>,

@@ -1,0 +1,108 @@
+//! A file that is made by its first command.
+
+use crate::accepting::{record_of, text_of};
+use crate::changing::quit;
+use crate::commands::{Turn, read_over};
+use crate::leaving::allowed;
+use crate::sessions::{Session, context_of};
+use def_memory::Memory;
+use std::alloc::Global;
+use ws_command::{Change, Command, Said};
+use ws_fault::Refusal;
+use ws_log::create;
+use ws_look::help;
+use ws_print::add_head;
+use ws_reply::{Outcome, Reply};
+use ws_space::Space;
+use ws_written::Stamp;
+
+impl Session {
+    /// The answer to a line if there is no file: one that makes it, help, or that there is none.
+    pub(crate) fn answer_without(
+        &mut self,
+        rt: &HostRuntime,
+        turn: &Turn<'_>,
+    ) -> Result<Option<Reply>, Refusal> {
+        let alloc = rt.alloc();
+        let space = Space::fresh(alloc, self.stamp(alloc, turn.time)?)?;
+        let Some(said) = read_over(alloc, &space, turn.line)? else {
+            return Ok(None);
+        };
+        let Said { command, comment } = said;
+        allowed(alloc, &self.settings, 0, &command)?;
+        match command {
+            Command::Change { change, .. } => {
+                if !makes_file(&change) {
+                    return Err(self.no_file(alloc));
+                }
+                Ok(Some(self.make(rt, turn, space, change, comment.as_str())?))
+            }
+            Command::Help(verb) => {
+                let name = self.name.as_str();
+                let context = context_of(&self.settings, name, turn.time, false);
+                Ok(Some(help(alloc, &context, verb)?))
+            }
+            Command::Quit => Ok(Some(quit(alloc))),
+            _ => Err(self.no_file(alloc)),
+        }
+    }
+
+    fn stamp(&self, alloc: Global, time: &str) -> Result<Stamp, Memory> {
+        Ok(Stamp {
+            time: String::from_str(alloc, time)?,
+            curator: String::from_str(alloc, self.settings.curator.as_str())?,
+        })
+    }
+
+    // Makes the file with the head and the record of the change, or not at all.
+    fn make(
+        &mut self,
+        rt: &HostRuntime,
+        turn: &Turn<'_>,
+        space: Space,
+        change: Change,
+        comment: &str,
+    ) -> Result<Reply, Refusal> {
+        let alloc = rt.alloc();
+        let mut space = space;
+        let head = head_text(alloc, &space)?;
+        let outcome = self.change(rt, turn, &mut space, change, false)?;
+        let Outcome { reply, lines } = outcome;
+        let curator = self.settings.curator.as_str();
+        let record = record_of(alloc, turn.time, curator, lines, comment)?;
+        let mut texts = Vec::new(alloc);
+        texts.push(text_of(alloc, &space, &record)?)?;
+        match create(
+            rt,
+            self.settings.path.as_str(),
+            head.as_slice(),
+            texts.as_slice(),
+        ) {
+            Ok(log) => {
+                space.recorded(alloc, record)?;
+                self.texts = Vec::new(alloc);
+                self.texts.push(head)?;
+                self.texts.append(&mut texts)?;
+                self.space = Some(space);
+                self.rest(alloc, Some(log));
+                Ok(reply)
+            }
+            Err(fault) => Err(self.log_fault(alloc, fault)),
+        }
+    }
+}
+
+fn makes_file(change: &Change) -> bool {
+    match change {
+        Change::Relation(_) => true,
+        Change::Load(load) => load.create,
+        _ => false,
+    }
+}
+
+/// The text of the head of a workspace. It is refused only for want of memory.
+pub(crate) fn head_text(alloc: Global, space: &Space) -> Result<Vec<u8>, Memory> {
+    let mut text = String::new(alloc);
+    add_head(&mut text, &space.head(alloc)?)?;
+    Ok(text.into_bytes())
+}

@@ -1,0 +1,123 @@
+//! A state that is opened by the head of its file.
+
+use crate::heads::{Head, HeadWaitingList};
+use crate::states::{Held, State, small};
+use crate::worlds::World;
+use base_types::{Facts, List, Memory, Null, TryCopy, Tuple, TupleList, Value, ValueList};
+use set_facts::{IndexedFacts, PlainFacts};
+use std::alloc::Global;
+use std::collections::BTreeMap;
+use ws_names::Names;
+use ws_run::Ground;
+
+/// Why a head cannot be opened: want of memory; a tuple has an unknown that the head does not list; or an unknown is listed twice.
+#[derive(Clone, Copy, Debug, PartialEq, Eq)]
+pub enum OpenFault {
+    Memory,
+    NotListed(Null),
+    ListedTwice(Null),
+}
+
+impl From<Memory> for OpenFault {
+    fn from(_memory: Memory) -> OpenFault {
+        OpenFault::Memory
+    }
+}
+
+impl<T: Drop> From<(T, Memory)> for OpenFault {
+    fn from(_refused: (T, Memory)) -> OpenFault {
+        OpenFault::Memory
+    }
+}
+
+impl State {
+    /// The state that a head stands for.
+    pub fn of(alloc: Global, head: Head) -> Result<State, OpenFault> {
+        let names = names_of(alloc, &head.unknowns)?;
+        let tuples = inner_all(alloc, &names, &head.base)?;
+        let facts = IndexedFacts::of(alloc, PlainFacts::of_list(alloc, &tuples)?)?;
+        drop(tuples);
+        let mut state = State::new(alloc);
+        state.first_names = names.len();
+        state.first_in_force = first_numbers(alloc, head.in_force)?;
+        let in_force = state.first_in_force.copy(alloc)?;
+        state.world = World::new(alloc, Ground::new(alloc, facts, names), in_force);
+        state.tables = head.tables;
+        state.mappings = head.mappings;
+        state.last = head.last;
+        state.hold(alloc, head.waits)?;
+        Ok(state)
+    }
+
+    // The updates that wait are held, and wait.
+    fn hold(&mut self, alloc: Global, waits: HeadWaitingList) -> Result<(), Memory> {
+        for waiting in waits.into_vec() {
+            let place = self.held.len();
+            if self.places.insert(waiting.update.number, place).is_err() {
+                return Err(Memory);
+            }
+            let answers = waiting.answers.copy(alloc)?;
+            self.held.push(Held {
+                update: waiting.update,
+                is_undone: false,
+                places: waiting.places,
+                first: Some(waiting.answers),
+            })?;
+            self.world.wait(place, answers)?;
+        }
+        Ok(())
+    }
+}
+
+// The numbers from 0 on, so many.
+fn first_numbers(alloc: Global, count: usize) -> Result<List<u16>, Memory> {
+    let mut numbers = List::new(alloc);
+    for number in 0..small(count) {
+        numbers.push(number)?;
+    }
+    Ok(numbers)
+}
+
+// The j-th unknown that is listed is the null of update 0 and place j.
+fn names_of(alloc: Global, unknowns: &List<Null>) -> Result<Names, OpenFault> {
+    let mut names = Names::new(alloc);
+    let mut place: u32 = 0;
+    for name in unknowns.as_slice() {
+        place = place.checked_add(1).ok_or(OpenFault::Memory)?;
+        if names.null_called(*name).is_some() {
+            return Err(OpenFault::ListedTwice(*name));
+        }
+        let null = Null {
+            update: 0,
+            attempt: 0,
+            place,
+        };
+        names.give(null, *name)?;
+    }
+    Ok(names)
+}
+
+fn inner_all(alloc: Global, names: &Names, tuples: &TupleList) -> Result<TupleList, OpenFault> {
+    let mut all = TupleList::new(alloc);
+    all.reserve(tuples.len())?;
+    for tuple in tuples.as_slice() {
+        all.push(inner(alloc, names, tuple)?)?;
+    }
+    Ok(all)
+}
+
+// The tuple with the nulls that its names stand for.
+fn inner(alloc: Global, names: &Names, tuple: &Tuple) -> Result<Tuple, OpenFault> {
+    let mut values = ValueList::new(alloc);
+    for value in tuple.values.as_slice() {
+        let value = match value {
+            Value::Null(name) => match names.null_called(*name) {
+                Some(null) => Value::Null(null),
+                None => return Err(OpenFault::NotListed(*name)),
+            },
+            _ => value.copy(alloc)?,
+        };
+        values.push(value)?;
+    }
+    Ok(Tuple::new(alloc, tuple.relation, values)?)
+}

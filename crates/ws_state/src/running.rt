@@ -1,0 +1,147 @@
+//! Runs of updates over what stands.
+
+use crate::states::{HeldList, State};
+use crate::turns::{Ran, Tried, Turn, first_of, run_turn};
+use crate::worlds::{Waiting, WaitingList, World};
+use base_types::{Memory, TryCopy};
+use std::alloc::Global;
+use std::mem;
+use ws_lines::{Deed, Given, GivenList};
+use ws_names::Places;
+use ws_run::Reason;
+
+impl State {
+    /// Runs the update at this place with these answers, and lets it stand or wait. It tells why it waits, if it does.
+    pub(crate) fn run_again(
+        &mut self,
+        alloc: Global,
+        place: usize,
+        answers: GivenList,
+    ) -> Result<Option<Reason>, Memory> {
+        let mark = self.world.ground.mark();
+        let Tried { ran, places, .. } = self.run(alloc, place, &answers)?;
+        self.keep_places(place, places);
+        let reason = match ran {
+            Ran::Done(standing) => {
+                self.enforce(alloc, place)?;
+                self.world.stand(alloc, standing)?;
+                None
+            }
+            Ran::Left(reason) => {
+                self.world.ground.back_to(mark)?;
+                self.world.wait(place, answers)?;
+                Some(reason)
+            }
+        };
+        self.sweep(alloc);
+        Ok(reason)
+    }
+
+    /// Runs it for a look: what stands stays as it is, and so does its table.
+    pub(crate) fn look(
+        &mut self,
+        alloc: Global,
+        place: usize,
+        answers: &GivenList,
+    ) -> Result<Tried, Memory> {
+        let mark = self.world.ground.mark();
+        let tried = self.run(alloc, place, answers)?;
+        self.world.ground.back_to(mark)?;
+        Ok(tried)
+    }
+
+    /// An update that waits takes the answer if it asks its question, in place of those that did not fit, and runs again.
+    pub(crate) fn take_answer(
+        &mut self,
+        alloc: Global,
+        place: usize,
+        given: &Given,
+    ) -> Result<Option<Reason>, Memory> {
+        let Some(answers) = self.world.answers_of(alloc, place)? else {
+            return Ok(None);
+        };
+        let tried = self.look(alloc, place, &answers)?;
+        match tried.ran {
+            Ran::Left(reason) => {
+                if !asks_it(&reason, given) {
+                    return Ok(Some(reason));
+                }
+                let mut answers = first_of(answers, tried.taken);
+                answers.push(given.copy(alloc)?)?;
+                self.run_again(alloc, place, answers)
+            }
+            Ran::Done(_) => Ok(None),
+        }
+    }
+
+    /// An update that waits runs again, with the answers that fit.
+    pub(crate) fn retry(&mut self, alloc: Global, place: usize) -> Result<Option<Reason>, Memory> {
+        let Some(answers) = self.world.answers_of(alloc, place)? else {
+            return Ok(None);
+        };
+        let tried = self.look(alloc, place, &answers)?;
+        let answers = first_of(answers, tried.taken);
+        self.run_again(alloc, place, answers)
+    }
+
+    // A mapping that the update puts in force or takes away.
+    fn enforce(&mut self, alloc: Global, place: usize) -> Result<(), Memory> {
+        let Some(held) = self.held.get(place) else {
+            return Ok(());
+        };
+        match &held.update.deed {
+            Deed::Force(mapping) => self.world.put_in_force(*mapping),
+            Deed::Drop(mapping) => self.world.drop_mapping(alloc, *mapping),
+            _ => Ok(()),
+        }
+    }
+
+    // The table of the update at this place.
+    fn keep_places(&mut self, place: usize, places: Places) {
+        if let Some(held) = self.held.get_mut(place) {
+            drop(mem::replace(&mut held.places, places));
+        }
+    }
+
+    // What waits for a mapping that is gone, or to put one in force that is in force, is given up.
+    fn sweep(&mut self, alloc: Global) {
+        let waiting = mem::replace(&mut self.world.waiting, WaitingList::new(alloc));
+        let mut kept = waiting.into_vec();
+        let world = &self.world;
+        let held = &self.held;
+        kept.retain(|waiting| !is_given_up(world, held, waiting));
+        self.world.waiting = WaitingList::from_vec(kept);
+    }
+
+    // Runs the update at this place over what stands.
+    fn run(&mut self, alloc: Global, place: usize, answers: &GivenList) -> Result<Tried, Memory> {
+        let Some(held) = self.held.get(place) else {
+            return Err(Memory);
+        };
+        let places = held.places.copy(alloc)?;
+        let turn = Turn {
+            place,
+            update: &held.update,
+            answers,
+        };
+        run_turn(alloc, &self.mappings, &mut self.world, turn, places)
+    }
+}
+
+fn is_given_up(world: &World, held: &HeldList, waiting: &Waiting) -> bool {
+    match held.get(waiting.held) {
+        Some(held) => world.gives_up(&held.update.deed),
+        None => false,
+    }
+}
+
+// Whether it is the question that the answer was given to.
+fn asks_it(reason: &Reason, given: &Given) -> bool {
+    match reason {
+        Reason::Asks(question) => {
+            question.asked.source == given.asked.source
+                && question.asked.tuples == given.asked.tuples
+        }
+        _ => false,
+    }
+}
