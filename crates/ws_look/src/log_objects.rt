@@ -23,9 +23,15 @@ pub(crate) fn entry_objects(
         }
     }
     if objects.is_empty() {
-        objects.push(object_of(alloc, "log")?)?;
+        objects.push(no_entry(alloc)?)?;
     }
     Ok(objects)
+}
+
+fn no_entry(alloc: Global) -> Result<Object, Memory> {
+    let mut object = object_of(alloc, "log")?;
+    object.none("line")?;
+    Ok(object)
 }
 
 fn entry_object(alloc: Global, entry: &Entry<'_>, has_comment: bool) -> Result<Object, Memory> {
