@@ -32,7 +32,7 @@ impl<'a> Model for InForce<'a> {
 impl<'a> InForce<'a> {
     /// These mappings in force. It is refused only for want of memory.
     pub fn of(alloc: Global, mappings: Mappings<'a>) -> Result<InForce<'a>, Memory>
-        ensures rules { IfOk result (λ in_force. in_force ≡ mappings) }
+        ensures rules { IfOk result (λ in_force. in_force ≡ mappings.entry) }
     {
         let touching = Touching::of(alloc, mappings.list())?;
         Ok(InForce { mappings, touching })
