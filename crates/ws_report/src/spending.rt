@@ -39,10 +39,10 @@ pub fn spent_fault(
     }))
 }
 
-// What each mapping made, by their names.
+// What each mapping made, by their names; those that made nothing are left out.
 fn counts_of(alloc: Global, space: &Space, made: &MadeList) -> Result<Vec<Count>, Memory> {
     let mut counts = Vec::new(alloc);
-    for one in made.as_slice() {
+    for one in made.as_slice().iter().filter(|one| one.tuples > 0) {
         counts.push(Count {
             name: space.source_name(alloc, one.source)?,
             tuples: one.tuples,
