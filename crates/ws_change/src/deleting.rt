@@ -9,10 +9,10 @@ use def_memory::Memory;
 use std::alloc::Global;
 use std::collections::BTreeSet;
 use ws_command::{Bounds, Pattern};
-use ws_fault::Refusal;
+use ws_fault::{Refusal, Status};
 use ws_print::add_pattern;
 use ws_question::near_texts;
-use ws_report::{Note, facts_text};
+use ws_report::{Note, Report, facts_text};
 use ws_space::{Space, copy_fact};
 use ws_written::{Fact, Update};
 
@@ -106,9 +106,9 @@ fn not_there(alloc: Global, space: &Space, facts: &[Fact]) -> Result<Done, Refus
     let texts = facts_text(alloc, space, facts)?;
     let line = format!(in alloc; "delete {texts}")?;
     let also = near_lines(alloc, space, facts.first())?;
-    let mut done = Done::nothing(alloc, "not there", line);
-    done.report.also = also;
-    Ok(done)
+    let mut report = Report::of(alloc, Status::Nothing, "not there", line);
+    report.also = also;
+    Ok(Done::unrecorded(alloc, report))
 }
 
 /// What is told of the tuples that are like one that is not there. It is refused only for want of memory.

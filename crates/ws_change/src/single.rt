@@ -36,13 +36,19 @@ pub(crate) fn single(
         line,
         reason,
     } = take_update(alloc, space, bounds.steps, update)?;
-    let report = match reason {
-        Some(Reason::Asks(question)) => {
-            waits(alloc, space, number, &line, question, bounds.only)
-        }
-        _ => stands(alloc, space, number, &line, bounds, mark),
+    let report = match question_of(reason) {
+        Some(question) => waits(alloc, space, number, &line, question, bounds.only),
+        None => stands(alloc, space, number, &line, bounds, mark),
     };
     recorded(alloc, report, line)
+}
+
+// The question, if that is why the update waits.
+fn question_of(reason: Option<Reason>) -> Option<Question> {
+    match reason {
+        Some(Reason::Asks(question)) => Some(question),
+        _ => None,
+    }
 }
 
 fn stands(

@@ -21,7 +21,7 @@ struct Parted {
 }
 
 // Parts the numbers, each once, by whether their updates are there and undone or not, as is wanted.
-fn parted(
+fn part(
     alloc: Global,
     space: &Space,
     numbers: &[u32],
@@ -58,7 +58,7 @@ fn note_of(alloc: Global, words: &str, numbers: &[u32]) -> Result<Vec<Note>, Mem
 
 // The numbers that `undo` changes. It is refused if there are none.
 fn to_undo(alloc: Global, space: &Space, numbers: &[u32]) -> Result<Parted, Refusal> {
-    let parted = parted(alloc, space, numbers, false)?;
+    let parted = part(alloc, space, numbers, false)?;
     if parted.take.is_empty() {
         let first = numbers.first().copied().unwrap_or(0);
         status_of(alloc, space, first)?;
@@ -121,7 +121,7 @@ fn answered_of(alloc: Global, space: &Space, numbers: &[u32]) -> Result<Vec<u32>
 
 /// Does undone updates again. It is refused if none of them is undone.
 pub(crate) fn redo(alloc: Global, space: &mut Space, numbers: &[u32]) -> Result<Done, Refusal> {
-    let Parted { take, rest } = parted(alloc, space, numbers, true)?;
+    let Parted { take, rest } = part(alloc, space, numbers, true)?;
     if take.is_empty() {
         let first = numbers.first().copied().unwrap_or(0);
         status_of(alloc, space, first)?;
