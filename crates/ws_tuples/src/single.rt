@@ -1,11 +1,10 @@
 //! Changes that are one update.
 
 use crate::bounds::{check_bounds, refuse_asking};
-use crate::done::{Done, recorded};
-use crate::running::{Taken, take_update, told_line};
 use def_memory::Memory;
 use std::alloc::Global;
 use ws_command::Bounds;
+use ws_done::{Done, Taken, recorded, take_update, told_line};
 use ws_fault::{Refusal, Status};
 use ws_hint::Hints;
 use ws_question::{AskedNow, asked_now, count_text, question_next};

@@ -1,6 +1,5 @@
 //! `delete`.
 
-use crate::done::Done;
 use crate::fitting::fitting_facts;
 use crate::names::{check_fact, is_there};
 use crate::single::single;
@@ -9,6 +8,7 @@ use def_memory::Memory;
 use std::alloc::Global;
 use std::collections::BTreeSet;
 use ws_command::{Bounds, Pattern};
+use ws_done::Done;
 use ws_fault::{Refusal, Status};
 use ws_print::add_pattern;
 use ws_question::near_texts;
@@ -17,7 +17,7 @@ use ws_space::{Space, copy_fact};
 use ws_written::{Fact, Update};
 
 /// Deletes the tuples for which patterns stand. It is refused if one names an unknown that is not there.
-pub(crate) fn delete(
+pub fn delete(
     alloc: Global,
     space: &mut Space,
     patterns: &[Pattern],
