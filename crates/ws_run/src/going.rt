@@ -52,7 +52,8 @@ fn go_with(
         program.old.attempt }
     requires sorted { IsRepository view.old.below }
 {
-    'steps: for _ in 0..=over.run.setting.steps {
+    let looks = over.run.setting.steps.saturating_add(1);
+    'steps: for _ in 0..looks {
         if let Want::Ended(outcome) = program.wants() {
             return ended(alloc, names, outcome);
         }

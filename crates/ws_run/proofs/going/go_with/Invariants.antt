@@ -6,5 +6,5 @@ use Rattle.ws_run.proofs.going.go_with.Given as goal
 abbrev pub invariant-steps : goal.invariant-steps
 invariant-steps l = record {
   between : l.program.reading ≡ None;
-  seen : l.view ≡ view_of l.over.run.setting.in_force l.fn.view.below l.program.attempt;
+  seen : l.view ≡ view_of l.over.run.setting.now.in_force.now l.fn.view.below l.program.attempt;
 }
