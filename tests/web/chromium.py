@@ -133,7 +133,7 @@ class Page:
 
     def find(self, css, words=None, seconds=PATIENCE):
         """The middle of the first visible element of this selector that has these words in it, and can be used; waits for it."""
-        expression = """(() => { const e = [...document.querySelectorAll(%s)].find(e => e.checkVisibility() && !e.disabled && !e.closest('fieldset:disabled') &&
+        expression = """(() => { const e = [...document.querySelectorAll(%s)].find(e => e.checkVisibility() && !e.disabled && !e.closest('fieldset:disabled, [inert]') &&
             (e.innerText + ' ' + (e.getAttribute('aria-label') ?? '')).includes(%s));
             if (!e) return null;
             e.scrollIntoView({block: 'nearest'}); const r = e.getBoundingClientRect();
