@@ -33,18 +33,20 @@ impl<T: Drop> From<(T, Memory)> for OpenFault {
 impl State {
     /// The state that a head stands for.
     pub fn of(alloc: Global, head: Head) -> Result<State, OpenFault> {
-        let names = names_of(alloc, &head.unknowns)?;
-        let tuples = inner_all(alloc, &names, &head.base)?;
-        let facts = IndexedFacts::of(alloc, PlainFacts::of_list(alloc, &tuples)?)?;
-        drop(tuples);
-        let mut state = State::new(alloc);
-        state.first_names = names.len();
-        state.first_in_force = first_numbers(alloc, head.in_force)?;
-        let in_force = state.first_in_force.copy(alloc)?;
-        state.world = World::new(alloc, Ground::new(alloc, facts, names), in_force);
-        state.tables = head.tables;
-        state.mappings = head.mappings;
-        state.last = head.last;
+        let world = world_of(alloc, &head)?;
+        let first_in_force = world.in_force.copy(alloc)?;
+        let mut state = State {
+            tables: head.tables,
+            mappings: head.mappings,
+            held: Vec::new(alloc),
+            places: BTreeMap::new(alloc),
+            events: Vec::new(alloc),
+            first_in_force,
+            first_names: world.ground.names.len(),
+            replays: 0,
+            last: head.last,
+            world,
+        };
         state.hold(alloc, head.waits)?;
         Ok(state)
     }
@@ -67,6 +69,21 @@ impl State {
         }
         Ok(())
     }
+}
+
+// What stands by the head, but for the updates that wait.
+fn world_of(alloc: Global, head: &Head) -> Result<World, OpenFault> {
+    let names = names_of(alloc, &head.unknowns)?;
+    let facts = facts_of(alloc, &names, &head.base)?;
+    let in_force = first_numbers(alloc, head.in_force)?;
+    Ok(World::new(alloc, Ground::new(alloc, facts, names), in_force))
+}
+
+// The tuples with the nulls that their names stand for, as a set.
+fn facts_of(alloc: Global, names: &Names, base: &TupleList) -> Result<IndexedFacts, OpenFault> {
+    let tuples = inner_all(alloc, names, base)?;
+    let facts = PlainFacts::of_list(alloc, &tuples)?;
+    Ok(IndexedFacts::of(alloc, facts)?)
 }
 
 // The numbers from 0 on, so many.

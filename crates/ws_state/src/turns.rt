@@ -30,6 +30,19 @@ pub(crate) enum Ran {
     Left(Reason),
 }
 
+impl Ran {
+    /// Why it is not done, if it is not.
+    pub fn reason(self) -> Option<Reason> {
+        match self {
+            Ran::Done(standing) => {
+                drop(standing);
+                None
+            }
+            Ran::Left(reason) => Some(reason),
+        }
+    }
+}
+
 /// A run, how many answers it took, and the table of the update after it.
 #[derive(Drop)]
 pub(crate) struct Tried {
@@ -176,8 +189,21 @@ fn run_over(
     let mut thread = Thread::new(alloc, places);
     match run_deed(alloc, setting, ground, &mut thread, turn.answers, deed) {
         Ok(()) => done_with(alloc, turn, thread, image),
-        Err(Halt::Left(reason)) => left_with(alloc, thread, reason),
-        Err(Halt::Memory) => Err(Memory),
+        Err(halt) => {
+            drop(image);
+            halted(alloc, thread, halt)
+        }
+    }
+}
+
+// The run was halted, with what it kept.
+fn halted(alloc: Global, thread: Thread, halt: Halt) -> Result<Tried, Memory> {
+    match halt {
+        Halt::Left(reason) => left_with(alloc, thread, reason),
+        Halt::Memory => {
+            drop(thread);
+            Err(Memory)
+        }
     }
 }
 
@@ -190,31 +216,60 @@ fn done_with(
 ) -> Result<Tried, Memory> {
     let taken = thread.taken as usize;
     let answers = first_of(turn.answers.copy(alloc)?, taken);
+    let Thread {
+        places,
+        steps,
+        ops,
+        writes,
+        ..
+    } = thread;
     Ok(Tried {
         ran: Ran::Done(Standing {
             held: turn.place,
             answers,
-            ops: thread.ops,
-            steps: thread.steps,
+            ops,
+            steps,
             image,
-            writes: thread.writes,
+            writes,
         }),
         taken,
-        places: thread.places,
+        places,
     })
 }
 
 // The run is not done, for this reason.
 fn left_with(alloc: Global, thread: Thread, reason: Reason) -> Result<Tried, Memory> {
-    let reason = match reason {
-        Reason::TooLong(_) => Reason::TooLong(made_of(alloc, &thread.steps)?),
-        other => other,
-    };
-    Ok(Tried {
-        ran: Ran::Left(reason),
-        taken: thread.taken as usize,
-        places: thread.places,
-    })
+    let Thread {
+        places,
+        taken,
+        steps,
+        ..
+    } = thread;
+    match with_made(alloc, &steps, reason) {
+        Ok(reason) => Ok(Tried {
+            ran: Ran::Left(reason),
+            taken: taken as usize,
+            places,
+        }),
+        Err(memory) => {
+            drop(places);
+            Err(memory)
+        }
+    }
+}
+
+// The reason, with what the steps made if they were too many.
+fn with_made(alloc: Global, steps: &StepList, reason: Reason) -> Result<Reason, Memory> {
+    match reason {
+        Reason::TooLong(made) => {
+            drop(made);
+            Ok(Reason::TooLong(made_of(alloc, steps)?))
+        }
+        Reason::Asks(question) => Ok(Reason::Asks(question)),
+        Reason::NotThere(name) => Ok(Reason::NotThere(name)),
+        Reason::Violated(mapping) => Ok(Reason::Violated(mapping)),
+        Reason::Gone(mapping) => Ok(Reason::Gone(mapping)),
+    }
 }
 
 // The image of the mapping that the update repairs, for which it does, if it is a repair and its unknowns are there.
