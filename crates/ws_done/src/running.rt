@@ -12,7 +12,7 @@ use ws_written::{Line, NumberedUpdate, Update};
 
 /// An update that was taken: its number, its line, and why it waits, if it does.
 #[derive(Drop)]
-pub(crate) struct Taken {
+pub struct Taken {
     pub number: u32,
     pub line: Line,
     pub reason: Option<Reason>,
@@ -27,7 +27,7 @@ fn next_number(alloc: Global, space: &Space) -> Result<u32, Refusal> {
 
 /// Takes an update with the next number. It is refused if it names an unknown that is not there, or if its steps do not
 /// suffice.
-pub(crate) fn take_update(
+pub fn take_update(
     alloc: Global,
     space: &mut Space,
     steps: u32,
@@ -90,7 +90,7 @@ fn take_line(
 }
 
 /// The line as a reply tells it: of an update without its number and its budget. It is refused only for want of memory.
-pub(crate) fn told_line(alloc: Global, space: &Space, line: &Line) -> Result<String, AllocError> {
+pub fn told_line(alloc: Global, space: &Space, line: &Line) -> Result<String, AllocError> {
     let mut text = String::new(alloc);
     let relations = space.relations.as_slice();
     match line {

@@ -1,11 +1,10 @@
 //! Changes that are one update.
 
 use crate::bounds::{check_bounds, refuse_asking};
-use crate::done::{Done, recorded};
-use crate::running::{Taken, take_update, told_line};
 use def_memory::Memory;
 use std::alloc::Global;
 use ws_command::Bounds;
+use ws_done::{Done, Taken, recorded, take_update, told_line};
 use ws_fault::{Refusal, Status};
 use ws_hint::Hints;
 use ws_question::{AskedNow, asked_now, count_text, question_next};
@@ -36,13 +35,19 @@ pub(crate) fn single(
         line,
         reason,
     } = take_update(alloc, space, bounds.steps, update)?;
-    let report = match reason {
-        Some(Reason::Asks(question)) => {
-            waits(alloc, space, number, &line, question, bounds.only)
-        }
-        _ => stands(alloc, space, number, &line, bounds, mark),
+    let report = match question_of(reason) {
+        Some(question) => waits(alloc, space, number, &line, question, bounds.only),
+        None => stands(alloc, space, number, &line, bounds, mark),
     };
     recorded(alloc, report, line)
+}
+
+// The question, if that is why the update waits.
+fn question_of(reason: Option<Reason>) -> Option<Question> {
+    match reason {
+        Some(Reason::Asks(question)) => Some(question),
+        _ => None,
+    }
 }
 
 fn stands(

@@ -25,17 +25,17 @@ pub(crate) fn refused(alloc: Global, words: &str, hint: &str) -> Result<Fault, A
 }
 
 /// That the steps did not suffice; an empty hint is none. It is refused only for want of memory.
-pub(crate) fn spent(alloc: Global, words: &str, hint: &str) -> Result<Fault, AllocError> {
+pub fn spent(alloc: Global, words: &str, hint: &str) -> Result<Fault, AllocError> {
     fault(alloc, Status::Spent, words, hint)
 }
 
 /// Refuses a change that does not fit what is there; an empty hint is none.
-pub(crate) fn refuse<T: Drop>(alloc: Global, words: &str, hint: &str) -> Result<T, Refusal> {
+pub fn refuse<T: Drop>(alloc: Global, words: &str, hint: &str) -> Result<T, Refusal> {
     Err(Refusal::Fault(refused(alloc, words, hint)?))
 }
 
 /// The same, with further faults.
-pub(crate) fn refuse_with<T: Drop>(
+pub fn refuse_with<T: Drop>(
     alloc: Global,
     words: &str,
     hint: &str,

@@ -1,11 +1,9 @@
 //! `relation`.
 
-use crate::done::{Done, recorded};
-use crate::faults::refuse;
-use crate::running::told_line;
 use crate::speaking::is_spoken_of;
 use def_memory::Memory;
 use std::alloc::{AllocError, Global};
+use ws_done::{Done, recorded, refuse, told_line};
 use ws_fault::{Refusal, Status};
 use ws_print::add_form;
 use ws_report::Report;
@@ -17,7 +15,7 @@ const RELATIONS: usize = 100;
 
 /// Declares a relation, anew if its columns stay or nothing speaks of it. It is refused if something does, if another name
 /// differs by capitals alone, or if there are too many.
-pub(crate) fn declare_relation(
+pub fn declare_relation(
     alloc: Global,
     space: &mut Space,
     relation: Relation,

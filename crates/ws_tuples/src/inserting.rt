@@ -1,12 +1,11 @@
 //! `insert`.
 
-use crate::done::Done;
-use crate::faults::refuse;
 use crate::names::{check_new_fact, is_there};
 use crate::single::single;
 use def_memory::Memory;
 use std::alloc::Global;
 use ws_command::Bounds;
+use ws_done::{Done, refuse};
 use ws_fault::Refusal;
 use ws_hint::known_fact;
 use ws_print::add_new_facts;
@@ -17,7 +16,7 @@ use ws_written::{NewFact, Update};
 const TUPLES: usize = 1_000_000;
 
 /// Inserts tuples. It is refused if one names an unknown that is not there, or if the workspace is full.
-pub(crate) fn insert(
+pub fn insert(
     alloc: Global,
     space: &mut Space,
     facts: Vec<NewFact>,

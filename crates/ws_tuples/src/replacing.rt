@@ -1,8 +1,6 @@
 //! `replace`, of an unknown and of a tuple.
 
 use crate::deleting::near_lines;
-use crate::done::Done;
-use crate::faults::{refuse, refuse_with};
 use crate::fitting::fitting_facts;
 use crate::names::{
     check_fact, check_new_fact, check_unknown, check_value, is_there, same_fact, same_value,
@@ -11,6 +9,7 @@ use crate::single::single;
 use def_memory::Memory;
 use std::alloc::Global;
 use ws_command::{Bounds, Pattern, Replacement};
+use ws_done::{Done, refuse, refuse_with};
 use ws_fault::Refusal;
 use ws_hint::known_fact;
 use ws_print::{add_pattern, add_update};
@@ -29,7 +28,7 @@ fn nothing_to_do(alloc: Global, space: &Space, update: &Update) -> Result<Done, 
 }
 
 /// Puts a value for an unknown. It is refused if one of them is an unknown that is not there.
-pub(crate) fn fill(
+pub fn fill(
     alloc: Global,
     space: &mut Space,
     unknown: Unknown,
@@ -83,7 +82,7 @@ fn is_idle(alloc: Global, update: &Update) -> Result<bool, Memory> {
 
 /// Puts a tuple for another. It is refused if not one tuple fits the first pattern, if that is not there, or if an unknown is
 /// not there.
-pub(crate) fn replace(
+pub fn replace(
     alloc: Global,
     space: &mut Space,
     old: &Pattern,

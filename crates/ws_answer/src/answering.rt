@@ -1,13 +1,12 @@
 //! `answer` to one update.
 
 use crate::choosing::{answer_to, choose};
-use crate::done::Done;
-use crate::faults::{refuse, refuse_with};
 use crate::giving::{Given, asking, give};
 use crate::records::answered_numbers;
 use crate::same::check_since;
 use std::alloc::{AllocError, Global};
 use ws_command::SaidChoice;
+use ws_done::{Done, refuse, refuse_with};
 use ws_fault::{Refusal, Status as Comes};
 use ws_print::add_choice;
 use ws_question::{AskedNow, Shown, asked_now, question_lines, reason_words, status_of};
@@ -20,7 +19,7 @@ use ws_written::{Choice, Line};
 
 /// An answer as it was said: to which updates, what it chooses, and the record of `--at`.
 #[derive(Drop)]
-pub(crate) struct SaidAnswer {
+pub struct SaidAnswer {
     pub numbers: Vec<u32>,
     pub choice: SaidChoice,
     pub at: Option<u32>,
@@ -35,7 +34,7 @@ enum Met {
 
 /// Answers the first of the updates. It is refused if it does not wait, if it asks nothing or another question, or if the
 /// choice does not fit; and if it cannot go on after that.
-pub(crate) fn answer(
+pub fn answer(
     alloc: Global,
     space: &mut Space,
     shown: &mut Shown,

@@ -1,15 +1,13 @@
 //! `adopt`.
 
-use crate::done::{Done, add_line};
 use crate::dropping::is_in_force;
-use crate::faults::spent;
 use crate::forcing::force;
 use crate::repairs::{is_violated, open_repairs, waiting_repairs};
-use crate::running::{Taken, take_update};
 use base_types::Tuple;
 use def_memory::Memory;
 use std::alloc::{AllocError, Global};
 use std::collections::BTreeSet;
+use ws_done::{Done, Taken, add_line, spent, take_update};
 use ws_fault::{Refusal, Status};
 use ws_question::count_text;
 use ws_report::{Counted, Report, ranges_text};
@@ -41,12 +39,7 @@ struct Repaired {
 
 /// Repairs what violates a mapping, each repair with a budget, and puts it in force if nothing is left. It is refused if the
 /// steps do not suffice or the repairs violate it anew again and again.
-pub(crate) fn adopt(
-    alloc: Global,
-    space: &mut Space,
-    name: &str,
-    steps: u32,
-) -> Result<Done, Refusal> {
+pub fn adopt(alloc: Global, space: &mut Space, name: &str, steps: u32) -> Result<Done, Refusal> {
     if is_in_force(space, name) {
         return Ok(Done::nothing(alloc, "in force already", line_of(alloc, name)?));
     }

@@ -1,12 +1,11 @@
 //! `undo` and `redo`.
 
-use crate::done::Done;
-use crate::faults::refuse;
 use crate::records::{answered_numbers, undone_numbers};
 use crate::replaying::{ReplayWords, replay};
 use def_memory::Memory;
 use std::alloc::{AllocError, Global};
 use std::collections::BTreeSet;
+use ws_done::{Done, refuse};
 use ws_fault::Refusal;
 use ws_question::status_of;
 use ws_report::{Note, ranges_text};
@@ -21,12 +20,7 @@ struct Parted {
 }
 
 // Parts the numbers, each once, by whether their updates are there and undone or not, as is wanted.
-fn parted(
-    alloc: Global,
-    space: &Space,
-    numbers: &[u32],
-    is_undone: bool,
-) -> Result<Parted, Refusal> {
+fn part(alloc: Global, space: &Space, numbers: &[u32], is_undone: bool) -> Result<Parted, Refusal> {
     let mut rising = BTreeSet::new(alloc);
     for number in numbers {
         rising.insert(*number)?;
@@ -58,7 +52,7 @@ fn note_of(alloc: Global, words: &str, numbers: &[u32]) -> Result<Vec<Note>, Mem
 
 // The numbers that `undo` changes. It is refused if there are none.
 fn to_undo(alloc: Global, space: &Space, numbers: &[u32]) -> Result<Parted, Refusal> {
-    let parted = parted(alloc, space, numbers, false)?;
+    let parted = part(alloc, space, numbers, false)?;
     if parted.take.is_empty() {
         let first = numbers.first().copied().unwrap_or(0);
         status_of(alloc, space, first)?;
@@ -70,7 +64,7 @@ fn to_undo(alloc: Global, space: &Space, numbers: &[u32]) -> Result<Parted, Refu
 }
 
 /// Undoes updates. It is refused if none of them can be.
-pub(crate) fn undo(alloc: Global, space: &mut Space, numbers: &[u32]) -> Result<Done, Refusal> {
+pub fn undo(alloc: Global, space: &mut Space, numbers: &[u32]) -> Result<Done, Refusal> {
     let Parted { take, rest } = to_undo(alloc, space, numbers)?;
     let notes = note_of(alloc, "not there, or undone already: ", rest.as_slice())?;
     let ranges = ranges_text(alloc, take.as_slice())?;
@@ -86,11 +80,7 @@ pub(crate) fn undo(alloc: Global, space: &mut Space, numbers: &[u32]) -> Result<
 }
 
 /// Takes the answers of updates back. It is refused if none of the updates stands or waits.
-pub(crate) fn undo_answers(
-    alloc: Global,
-    space: &mut Space,
-    numbers: &[u32],
-) -> Result<Done, Refusal> {
+pub fn undo_answers(alloc: Global, space: &mut Space, numbers: &[u32]) -> Result<Done, Refusal> {
     let Parted { take, .. } = to_undo(alloc, space, numbers)?;
     let answered = answered_of(alloc, space, take.as_slice())?;
     if answered.is_empty() {
@@ -120,8 +110,8 @@ fn answered_of(alloc: Global, space: &Space, numbers: &[u32]) -> Result<Vec<u32>
 }
 
 /// Does undone updates again. It is refused if none of them is undone.
-pub(crate) fn redo(alloc: Global, space: &mut Space, numbers: &[u32]) -> Result<Done, Refusal> {
-    let Parted { take, rest } = parted(alloc, space, numbers, true)?;
+pub fn redo(alloc: Global, space: &mut Space, numbers: &[u32]) -> Result<Done, Refusal> {
+    let Parted { take, rest } = part(alloc, space, numbers, true)?;
     if take.is_empty() {
         let first = numbers.first().copied().unwrap_or(0);
         status_of(alloc, space, first)?;

@@ -1,11 +1,11 @@
 //! What `--only` and the want of `--cascade` refuse.
 
-use crate::faults::{refuse, refuse_with};
 use base_types::Tuple;
 use def_memory::Memory;
 use std::alloc::Global;
 use std::collections::BTreeSet;
 use ws_command::Bounds;
+use ws_done::{refuse, refuse_with};
 use ws_fault::Refusal;
 use ws_hint::known_fact;
 use ws_question::{AskedNow, count_text, fact_text, question_line};

@@ -1,7 +1,7 @@
 //! `--at`: that a question is still the one that it was after a record.
 
-use crate::faults::{refuse, refuse_with};
 use std::alloc::Global;
+use ws_done::{refuse, refuse_with};
 use ws_fault::Refusal;
 use ws_question::{AskedNow, question_lines};
 use ws_report::CANDIDATES;

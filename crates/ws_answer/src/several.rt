@@ -1,12 +1,11 @@
 //! `answer` to several updates.
 
 use crate::choosing::answer_to;
-use crate::done::Done;
-use crate::faults::refuse;
 use crate::records::{is_waiting, steps_of, waiting_numbers};
 use def_memory::Memory;
 use std::alloc::{AllocError, Global};
 use ws_command::SaidChoice;
+use ws_done::{Done, refuse};
 use ws_fault::{Refusal, Status};
 use ws_lines::Asked;
 use ws_question::status_of;
@@ -25,7 +24,7 @@ struct Answers {
 
 /// Answers updates, one after the other: `new` to each question of which tuple it is, until the update is done or asks what
 /// goes; or `go` to each that has nothing in its way. It is refused if none of them waits.
-pub(crate) fn answer_several(
+pub fn answer_several(
     alloc: Global,
     space: &mut Space,
     numbers: &[u32],

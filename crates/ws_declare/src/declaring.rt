@@ -1,12 +1,11 @@
 //! `mapping`.
 
-use crate::done::{Done, lines_of};
 use crate::forcing::force;
 use crate::lints::lints_of;
 use crate::mappings::{apart, check_mapping, is_declared};
-use crate::running::{Taken, told_line};
 use def_memory::Memory;
 use std::alloc::Global;
+use ws_done::{Done, Taken, lines_of, told_line};
 use ws_fault::{Refusal, Status};
 use ws_print::{add_fact, add_new_facts};
 use ws_question::count_text;
@@ -26,11 +25,7 @@ struct Declared {
 
 /// Declares a mapping. It comes into force if it has no violation, and is proposed else. It is refused if its name is taken,
 /// if it closes a plain cycle, or at a limit.
-pub(crate) fn declare_mapping(
-    alloc: Global,
-    space: &mut Space,
-    rule: Rule,
-) -> Result<Done, Refusal> {
+pub fn declare_mapping(alloc: Global, space: &mut Space, rule: Rule) -> Result<Done, Refusal> {
     match apart(alloc, &rule) {
         Ok(meant) => declare(alloc, space, Line::Mapping(rule), &meant),
         Err(_) => {

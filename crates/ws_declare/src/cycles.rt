@@ -1,6 +1,6 @@
 //! Plain cycles: relations that lead back to themselves without an unknown.
 
-use crate::mappings::{is_gone, stands_among};
+use crate::mappings::{is_gone, relation_name, stands_among};
 use def_memory::Memory;
 use std::alloc::Global;
 use std::collections::BTreeMap;
@@ -138,13 +138,6 @@ fn walk_from(alloc: Global, leads: &Leads, start: u32) -> Result<Walk, Memory> {
         }
     }
     Ok(walk)
-}
-
-fn relation_name(space: &Space, relation: u32) -> &str {
-    match space.relations.get(relation as usize) {
-        Some(declared) => declared.name.as_str(),
-        None => "",
-    }
 }
 
 // `A -> B by M`.

@@ -1,6 +1,6 @@
 //! Hints about a mapping that is declared.
 
-use crate::mappings::{stands_among, stands_in};
+use crate::mappings::{relation_name, stands_among, stands_in};
 use base_types::{Facts, List, Value};
 use def_memory::Memory;
 use std::alloc::Global;
@@ -58,13 +58,6 @@ fn is_text_of(
     let value = Value::Word(List::from_vec(bytes));
     let facts = space.state.facts();
     Ok(facts.scan(relation, column, &value, None).is_some())
-}
-
-fn relation_name(space: &Space, relation: u32) -> &str {
-    match space.relations.get(relation as usize) {
-        Some(declared) => declared.name.as_str(),
-        None => "",
-    }
 }
 
 // The variables of the atom that stand once in the mapping and are texts of their columns.

@@ -1,11 +1,11 @@
 //! From what was said to the choice that fits a question.
 
-use crate::faults::refuse;
 use base_types::{Tuple, TupleList};
 use def_memory::Memory;
 use std::alloc::Global;
 use std::collections::BTreeSet;
 use ws_command::SaidChoice;
+use ws_done::refuse;
 use ws_fault::{Nearest, Refusal, meant};
 use ws_lines::Asked;
 use ws_question::{AskedNow, count_text, fact_text};

@@ -1,10 +1,9 @@
 //! Answers that are given.
 
-use crate::done::{Done, recorded};
-use crate::faults::refuse;
 use crate::records::steps_of;
 use def_memory::Memory;
 use std::alloc::Global;
+use ws_done::{Done, recorded, refuse};
 use ws_fault::{Refusal, Status};
 use ws_lines::Deed;
 use ws_question::{AskedNow, asked_now, count_text, question_next, reason_words};

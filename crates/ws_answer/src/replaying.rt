@@ -1,11 +1,10 @@
 //! Lines that replay the log.
 
-use crate::done::{Done, recorded};
 use crate::records::waiting_numbers;
-use crate::running::told_line;
 use base_types::TupleList;
 use def_memory::Memory;
 use std::alloc::{AllocError, Global};
+use ws_done::{Done, recorded, told_line};
 use ws_fault::{Refusal, Status as Comes};
 use ws_question::{reason_words, status_word};
 use ws_report::{AgainTold, Note, Report};

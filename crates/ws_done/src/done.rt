@@ -7,7 +7,7 @@ use ws_written::Line;
 
 /// What is told of a change, and its lines.
 #[derive(Drop)]
-pub(crate) struct Done {
+pub struct Done {
     pub report: Report,
     pub lines: Vec<Line>,
 }
@@ -39,7 +39,7 @@ impl Done {
 }
 
 /// The change that has this line, if its report could be made.
-pub(crate) fn recorded(
+pub fn recorded(
     alloc: Global,
     report: Result<Report, Refusal>,
     line: Line,
@@ -54,11 +54,7 @@ pub(crate) fn recorded(
 }
 
 /// The line, and then the other one, if there is one.
-pub(crate) fn lines_of(
-    alloc: Global,
-    line: Line,
-    other: Option<Line>,
-) -> Result<Vec<Line>, AllocError> {
+pub fn lines_of(alloc: Global, line: Line, other: Option<Line>) -> Result<Vec<Line>, AllocError> {
     let mut lines = Vec::new(alloc);
     if lines.push(line).is_err() {
         drop(other);
@@ -68,7 +64,7 @@ pub(crate) fn lines_of(
 }
 
 /// The lines, and then the other one, if there is one.
-pub(crate) fn add_line(lines: Vec<Line>, other: Option<Line>) -> Result<Vec<Line>, AllocError> {
+pub fn add_line(lines: Vec<Line>, other: Option<Line>) -> Result<Vec<Line>, AllocError> {
     let mut lines = lines;
     match other {
         Some(line) => {

@@ -1,6 +1,5 @@
 //! `delete`.
 
-use crate::done::Done;
 use crate::fitting::fitting_facts;
 use crate::names::{check_fact, is_there};
 use crate::single::single;
@@ -9,15 +8,16 @@ use def_memory::Memory;
 use std::alloc::Global;
 use std::collections::BTreeSet;
 use ws_command::{Bounds, Pattern};
-use ws_fault::Refusal;
+use ws_done::Done;
+use ws_fault::{Refusal, Status};
 use ws_print::add_pattern;
 use ws_question::near_texts;
-use ws_report::{Note, facts_text};
+use ws_report::{Note, Report, facts_text};
 use ws_space::{Space, copy_fact};
 use ws_written::{Fact, Update};
 
 /// Deletes the tuples for which patterns stand. It is refused if one names an unknown that is not there.
-pub(crate) fn delete(
+pub fn delete(
     alloc: Global,
     space: &mut Space,
     patterns: &[Pattern],
@@ -106,9 +106,9 @@ fn not_there(alloc: Global, space: &Space, facts: &[Fact]) -> Result<Done, Refus
     let texts = facts_text(alloc, space, facts)?;
     let line = format!(in alloc; "delete {texts}")?;
     let also = near_lines(alloc, space, facts.first())?;
-    let mut done = Done::nothing(alloc, "not there", line);
-    done.report.also = also;
-    Ok(done)
+    let mut report = Report::of(alloc, Status::Nothing, "not there", line);
+    report.also = also;
+    Ok(Done::unrecorded(alloc, report))
 }
 
 /// What is told of the tuples that are like one that is not there. It is refused only for want of memory.

@@ -1,19 +1,14 @@
 //! `drop`.
 
-use crate::done::{Done, recorded};
-use crate::running::{Taken, take_update, told_line};
 use std::alloc::Global;
+use ws_done::{Done, Taken, recorded, take_update, told_line};
 use ws_fault::{Refusal, Status};
 use ws_report::{Note, Report};
 use ws_space::Space;
 use ws_written::{Line, STEPS, Update};
 
 /// Takes a mapping away.
-pub(crate) fn drop_mapping(
-    alloc: Global,
-    space: &mut Space,
-    name: String,
-) -> Result<Done, Refusal> {
+pub fn drop_mapping(alloc: Global, space: &mut Space, name: String) -> Result<Done, Refusal> {
     let in_force = is_in_force(space, name.as_str());
     let Taken { number, line, .. } = take_update(alloc, space, STEPS, Update::Drop(name))?;
     let report = dropped(alloc, space, number, &line, in_force);

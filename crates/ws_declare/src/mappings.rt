@@ -2,10 +2,10 @@
 
 use crate::cycles::cycle_words;
 use crate::dropping::is_in_force;
-use crate::faults::refuse;
 use crate::speaking::speaker_of;
 use def_memory::Memory;
 use std::alloc::Global;
+use ws_done::refuse;
 use ws_fault::Refusal;
 use ws_grammar::set_apart;
 use ws_space::{Space, copy_rule};
@@ -49,6 +49,14 @@ fn same_atoms(one: &[Atom], other: &[Atom]) -> bool {
             .iter()
             .zip(other)
             .all(|(one, other)| same_atom(one, other))
+}
+
+/// The name of the relation of this number; empty if there is none.
+pub(crate) fn relation_name(space: &Space, relation: u32) -> &str {
+    match space.relations.get(relation as usize) {
+        Some(declared) => declared.name.as_str(),
+        None => "",
+    }
 }
 
 /// Whether the mapping of this number is gone.
