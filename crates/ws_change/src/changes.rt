@@ -1,25 +1,17 @@
 //! Each change by its kind.
 
-use crate::adopting::adopt;
-use crate::answering::{SaidAnswer, answer};
-use crate::declaring::declare_mapping;
-use crate::deleting::delete;
-use crate::done::Done;
-use crate::dropping::drop_mapping;
-use crate::faults::refuse;
-use crate::inserting::insert;
-use crate::relations::declare_relation;
-use crate::replacing::{fill, replace};
-use crate::several::answer_several;
-use crate::undoing::{redo, undo, undo_answers};
 use def_memory::Memory;
 use std::alloc::Global;
+use ws_answer::{SaidAnswer, answer, answer_several, redo, undo, undo_answers};
 use ws_command::Change;
+use ws_declare::{adopt, declare_mapping, declare_relation, drop_mapping};
+use ws_done::{Done, refuse};
 use ws_fault::Refusal;
 use ws_question::Shown;
 use ws_reply::{Context, Outcome};
 use ws_report::Report;
 use ws_space::Space;
+use ws_tuples::{delete, fill, insert, replace};
 
 /// Does the change over the workspace, and tells of it. `past` is the workspace as it was after the record of `--at`, if that
 /// is not the last one and was not folded.
