@@ -33,5 +33,5 @@ pub all_kept : (held : List Held) (ws : List Waiting) (i : ℕ) (heads : List He
     → map (λ (k : HeadWaiting). Some k.update.number) heads ≡ map (number_at held) ws
 all_kept held ws i heads none so_far =
     sym (append-nil (numbers heads))
-    ∙ ap (λ (l : List Waiting). numbers heads ++ map (number_at held) l) (sym (drop_all ws i none))
+    ∙ ap (λ (l : List Waiting). numbers heads ++ map (number_at held) l) (sym (drop_all i ws none))
     ∙ so_far

@@ -74,7 +74,6 @@ impl State {
 }
 
 // All that waits, of those that are held.
-#[tactic(auto, using(crate::proofs::Keeping::one_kept, crate::proofs::Keeping::all_kept))]
 fn waits_kept(
     alloc: Global,
     numbers: &List<u16>,

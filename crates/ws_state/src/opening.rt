@@ -1,6 +1,6 @@
 //! A state that is opened by the head of its file.
 
-use crate::heads::{Head, HeadWaitingList};
+use crate::heads::{Head, HeadWaiting, HeadWaitingList};
 use crate::states::{Held, State, small};
 use crate::worlds::World;
 use base_types::{Facts, List, Memory, Null, TryCopy, Tuple, TupleList, Value, ValueList};
@@ -54,19 +54,28 @@ impl State {
     // The updates that wait are held, and wait.
     fn hold(&mut self, alloc: Global, waits: HeadWaitingList) -> Result<(), Memory> {
         for waiting in waits.into_vec() {
-            let place = self.held.len();
-            if self.places.insert(waiting.update.number, place).is_err() {
-                return Err(Memory);
-            }
-            let answers = waiting.answers.copy(alloc)?;
-            self.held.push(Held {
-                update: waiting.update,
-                is_undone: false,
-                places: waiting.places,
-                first: Some(waiting.answers),
-            })?;
-            self.world.wait(place, answers)?;
+            self.hold_one(alloc, waiting)?;
         }
+        Ok(())
+    }
+
+    fn hold_one(&mut self, alloc: Global, waiting: HeadWaiting) -> Result<(), Memory> {
+        let place = self.held.len();
+        if self.places.insert(waiting.update.number, place).is_err() {
+            return Err(Memory);
+        }
+        self.world.wait(place, waiting.answers.copy(alloc)?)?;
+        let HeadWaiting {
+            update,
+            places,
+            answers,
+        } = waiting;
+        self.held.push(Held {
+            update,
+            is_undone: false,
+            places,
+            first: Some(answers),
+        })?;
         Ok(())
     }
 }

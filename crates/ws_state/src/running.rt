@@ -1,7 +1,8 @@
 //! Runs of updates over what stands.
 
+use crate::outcomes::{Ran, Tried, first_of};
 use crate::states::{HeldList, State};
-use crate::turns::{Ran, Tried, Turn, first_of, run_turn};
+use crate::turns::{Turn, run_turn};
 use crate::worlds::{Standing, Waiting, WaitingList, World};
 use base_types::{Memory, TryCopy};
 use std::alloc::Global;

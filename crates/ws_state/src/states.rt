@@ -1,7 +1,7 @@
 //! The state, and what is held of each update of the log.
 
+use crate::outcomes::Tried;
 use crate::replays::Replayed;
-use crate::turns::Tried;
 use crate::worlds::{StandingList, Status, WaitingList, World};
 use base_types::{List, Mapping, MappingList, Memory, NumberList, TryCopy, TupleList};
 use set_facts::IndexedFacts;
@@ -224,6 +224,7 @@ impl State {
         }
     }
 
+    /// How the update at this place stands.
     pub(crate) fn status_at(&self, place: usize) -> Status {
         if self.is_undone_at(place) {
             return Status::Undone;
