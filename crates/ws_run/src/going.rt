@@ -10,7 +10,7 @@ use crate::stepping::make;
 use crate::threads::Thread;
 use base_types::{ChoiceList, Facts, Memory, Null};
 use chase_update::{Attempt, Outcome, Want};
-use run_serial::turns::{Next, what_next};
+use run_step::{Next, what_next};
 use std::alloc::Global;
 use ws_names::Names;
 
