@@ -13,7 +13,7 @@ use crate::threads::Thread;
 use base_types::{ChoiceList, Facts, Memory, Null};
 use chase_eval::WatchedView;
 use chase_update::{Attempt, Outcome, Want};
-use run_serial::turns::{Next, what_next};
+use run_step::{Next, what_next};
 use set_facts::IndexedFacts;
 use std::alloc::Global;
 use ws_names::Names;
