@@ -2,11 +2,11 @@
 use Rattle.std.specs.Prelude.{Result, Ok, Err, OnOk, IfOk}
 use Rattle.std.proofs.Common.{◌≡◌, ℕ, ◌⊎◌, inl, inr, ap, refl, ◌∙◌, sym, subst, List, [], ◌∷◌, ◌++◌, arith}
 use Rattle.base_devices.specs.States.{State, GoesOn, LeavesOnly, IsSettled}
-use Rattle.ws_roll.specs.Rolls.{IsRoll, IsAt, Hold}
-use Rattle.ws_roll.specs.Histories.{IsAppending, IsBeforeOrAfter}
-use Rattle.ws_roll.specs.Answers as rolls
-use Rattle.ws_roll.specs.declared.rolls.AppendFault.{AppendFault}
-use Rattle.ws_roll.specs.declared.rolls.AppendFault.TheVariants as refused
+use Rattle.base_roll.specs.Rolls.{IsRoll, IsAt, Hold}
+use Rattle.base_roll.specs.Histories.{IsAppending, IsBeforeOrAfter}
+use Rattle.base_roll.specs.Answers as rolls
+use Rattle.base_roll.specs.declared.rolls.AppendFault.{AppendFault}
+use Rattle.base_roll.specs.declared.rolls.AppendFault.TheVariants as refused
 use Rattle.ws_seal.specs.Seals.{mark, sealed, payloads, last_mark}
 use Rattle.ws_seal.specs.Logs.{HasTexts, IsHeld}
 use Rattle.ws_seal.specs.Appends.{AppendTold, append_fault}

@@ -2,8 +2,8 @@
 use Rattle.std.specs.Prelude.{Result, Ok, Err, IfOk}
 use Rattle.std.proofs.Common.{◌≡◌, ℕ, ◌∙◌, sym, subst, refl, List, [], ◌∷◌, ◌++◌, length, arith}
 use Rattle.base_devices.specs.States.{State}
-use Rattle.ws_roll.specs.Format.{front}
-use Rattle.ws_roll.specs.Rolls.{IsClosed}
+use Rattle.base_roll.specs.Format.{front}
+use Rattle.base_roll.specs.Rolls.{IsClosed}
 use Rattle.ws_seal.specs.declared.types.Texts.{Texts}
 use Rattle.ws_seal.specs.declared.types.ReadFault.{ReadFault}
 use Rattle.ws_seal.specs.Seals.{mark, payloads}

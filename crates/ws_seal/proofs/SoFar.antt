@@ -4,10 +4,10 @@ use Rattle.std.proofs.Common.{◌≡◌, ℕ, zero, suc, ◌+◌, ◌-◌, ◌<�
 use Rattle.std.proofs.Math.Seq.{take-append_seam, take-length}
 use Rattle.std.proofs.lemmas.List.{take-append-drop, length-take-le}
 use Rattle.base_devices.specs.States.{State, HasFailed}
-use Rattle.ws_roll.specs.Format.{framed, opened, front}
-use Rattle.ws_roll.specs.Rolls.{BeginsWith, IsBroken, IsClosed, gate_of}
-use Rattle.ws_roll.proofs.Frames.{length_framed}
-use Rattle.ws_roll.proofs.Fronts.{begins_more}
+use Rattle.base_roll.specs.Format.{framed, opened, front}
+use Rattle.base_roll.specs.Rolls.{BeginsWith, IsBroken, IsClosed, gate_of}
+use Rattle.base_roll.proofs.Frames.{length_framed}
+use Rattle.base_roll.proofs.Fronts.{begins_more}
 use Rattle.ws_seal.specs.declared.types.Texts.{Texts}
 use Rattle.ws_seal.specs.declared.types.Damage.TheVariants.{At, NotAsWritten}
 use Rattle.ws_seal.specs.declared.types.ReadFault.{ReadFault}
