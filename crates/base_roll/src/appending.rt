@@ -1,5 +1,5 @@
 // A roll is made, and a record is appended.
-ghost use Rattle.std.specs.Prelude.{◌≡◌, ◌+◌, ◌≤◌, ◌^◌, ◌++◌, ◌∷◌, [], ℕ, List, length, IfOk, IfSome, IfNone, IsErrOf, OnOk};
+ghost use Rattle.std.specs.Prelude.{◌≡◌, ◌+◌, ◌<◌, ◌≤◌, ◌^◌, ◌++◌, ◌∷◌, [], ℕ, List, length, IfOk, IfSome, IfNone, IsErrOf, OnOk};
 ghost use Rattle.base_devices.specs.States.{HasFailed, IsLeft, IsSettled};
 ghost use Rattle.base_roll.specs.Format.{roll_text};
 ghost use Rattle.base_roll.specs.Rolls.{IsAt, IsInHand, IsRoll};

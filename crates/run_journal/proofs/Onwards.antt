@@ -1,7 +1,7 @@
 -- What the calls of the roll make of a journal.
 use Rattle.std.specs.Prelude.{Result, Ok, Err, OnOk, IfOk}
 use Rattle.std.proofs.Common.{◌≡◌, ℕ, ◌+◌, ◌<◌, ◌≤◌, ◌^◌, inl, inr, ap, refl, ◌∙◌, sym, subst, List, [], ◌∷◌, ◌++◌, length, arith, append-nil, length-append}
-use Rattle.base_devices.specs.States.{State, HasFailed, IsLeft, IsSettled}
+use Rattle.base_devices.specs.States.{State, IsSettled}
 use Rattle.base_roll.specs.Answers as rolls
 use Rattle.base_roll.specs.Format.{framed, roll_text}
 use Rattle.base_roll.specs.Histories.{IsBeforeOrAfter, IsAppending}
@@ -85,6 +85,7 @@ told hold roll n size count bound old new before now e f fits less small (Ok nex
 told hold roll n size count bound old new before now e f fits less small (Err (rolling.TooLarge same bytes)) (is, told_, inl large, kept) = let over : 4294967295 < count = large in absurd (omega arith)
 told hold roll n size count bound old new before now e f fits less small (Err (rolling.TooLarge same bytes)) (is, told_, inr large, kept) =
     let there : roll.gate ≡ hold.gate = ap (λ (h : RollHold). h.gate) e in
+    let over : 2 ^ 64 ≤ roll.gate + count + 6 = large in
     absurd (omega arith)
 told hold roll n size count bound old new before now e f fits less small (Err rolling.DiskFault) t = (fits, t.1, t.2)
 told hold roll n size count bound old new before now e f fits less small (Err rolling.DiskMemory) t = (fits, t.1)

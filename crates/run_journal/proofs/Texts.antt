@@ -1,5 +1,5 @@
 -- The texts of a journal's commits with one commit more, and what begins with them.
-use Rattle.std.proofs.Common.{◌≡◌, ℕ, ◌+◌, ap, refl, ◌∙◌, sym, subst, List, [], ◌∷◌, ◌++◌, length, arith, append_assoc}
+use Rattle.std.proofs.Common.{◌≡◌, ℕ, ◌+◌, ap, ◌∙◌, sym, subst, List, [], ◌∷◌, ◌++◌, length, arith, append_assoc}
 use Rattle.base_roll.specs.Format.{framed, opened, records, AreShort}
 use Rattle.base_roll.specs.Rolls.{IsRoll}
 use Rattle.base_roll.proofs.Fronts as rolls

@@ -1,5 +1,5 @@
 use Rattle.std.specs.Prelude.{Result, IfOk, OnOk}
-use Rattle.std.proofs.Common.{◌≡◌, ◌∙◌, ◌<◌, ◌^◌, subst, ◌++◌, ◌∷◌, [], ap, sym, length, ℕ, arith}
+use Rattle.std.proofs.Common.{◌≡◌, ◌∙◌, subst, ◌++◌, ◌∷◌, [], ap, sym, length, ℕ, arith}
 use Rattle.base_devices.specs.States.{State}
 use Rattle.base_roll.specs.Format.{framed}
 use Rattle.base_roll.specs.Rolls.{IsAt as IsRollAt, IsInHand as IsRollInHand}
