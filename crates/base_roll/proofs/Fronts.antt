@@ -1,11 +1,11 @@
 -- The front of a roll with one record more, and what a logged record makes of a roll.
-use Rattle.std.proofs.Common.{◌≡◌, ℕ, suc, ◌+◌, ◌<◌, ◌^◌, ◌==◌, ◌⊎◌, inl, inr, ap, refl, ◌∙◌, sym, subst, List, [], ◌∷◌, ◌++◌, length, take, Bool, true, false, arith, append_assoc, append-nil, length-append}
+use Rattle.std.proofs.Common.{◌≡◌, ℕ, suc, ◌+◌, ◌<◌, ◌^◌, inl, inr, ap, refl, ◌∙◌, sym, subst, List, [], ◌∷◌, ◌++◌, length, take, arith, append_assoc, append-nil, length-append}
 use Rattle.std.proofs.Math.Seq.{take-append-add, take-append_seam}
-use Rattle.std.proofs.lemmas.Bool.{both_ways, eqb-true, eq-eqb}
 use Rattle.base_roll.specs.Format.{framed, opened, records, front, AreShort}
 use Rattle.base_roll.specs.Rolls.{BeginsWith, IsRoll, gate_of}
 use Rattle.base_roll.specs.Histories.{IsBeforeOrAfter}
 use Rattle.base_roll.specs.Logging.{KeepsGate, HasRecord, IsBeingLogged}
+use Rattle.base_roll.proofs.Gates.{decided, no_closed}
 
 records_more : (payloads : List (List ℕ)) (payload : List ℕ) → records (payloads ++ payload ∷ []) ≡ records payloads ++ opened payload
 records_more [] payload = append-nil (opened payload)
@@ -17,16 +17,6 @@ front_more before payloads payload = ap (λ xs. before ++ xs) (records_more payl
 pub short_more : (payloads : List (List ℕ)) (payload : List ℕ) → AreShort payloads → length payload < 2 ^ 32 → AreShort (payloads ++ payload ∷ [])
 short_more [] payload all one = (one, tt)
 short_more (p ∷ payloads) payload all one = (all.0, short_more payloads payload all.1 one)
-
-decided : (x : ℕ) → (x ≡ 1) ⊎ (x ≡ 1 → ⊥)
-decided x = by (x == 1) refl
-  where
-    by : (b : Bool) → (x == 1) ≡ b → (x ≡ 1) ⊎ (x ≡ 1 → ⊥)
-    by true e = inl (eqb-true x 1 e)
-    by false e = inr (λ f. both_ways (x == 1) e (eq-eqb x 1 f))
-
-zero_one : ◌≡◌ {A = ℕ} 0 1 → ⊥
-zero_one e = omega arith
 
 module _ (before : List ℕ) where
   pub begins_more : (bytes : List ℕ) (payloads : List (List ℕ)) (payload rest : List ℕ) → length payload < 2 ^ 32 → BeginsWith before payloads bytes (opened payload ++ rest) → BeginsWith before (payloads ++ payload ∷ []) bytes rest
@@ -64,7 +54,7 @@ module _ (before : List ℕ) where
         0 ∷ more,
         begins_more new payloads payload (0 ∷ more) one
             (record { short = b.short; bytes = is ∙ ap (λ xs. xs ++ (1 ∷ ((framed payload ++ 0 ∷ []) ++ more))) start ∙ ap (λ xs. front before payloads ++ (1 ∷ xs)) split }),
-        (0, more, refl, zero_one),
+        (0, more, refl, no_closed),
       )
 
   -- with the record after any gate it is the roll before or after

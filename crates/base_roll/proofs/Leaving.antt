@@ -1,13 +1,7 @@
 -- What a crash leaves over several calls of a disk.
-use Rattle.std.proofs.Common.{◌≡◌, ℕ, ◌-◌, ◌≤◌, ◌⊎◌, inl, inr, sym, ◌∙◌, List, arith}
+use Rattle.std.proofs.Common.{◌≡◌, ℕ, ◌≤◌, ◌⊎◌, inl, inr, sym, ◌∙◌, List, arith}
 use Rattle.base_devices.specs.Faults.{next_count}
 use Rattle.base_devices.specs.States.{State, GoesOn, LeavesOnly, HasFailed}
-
--- from the one state to the other a crash leaves bytes of which P holds
-pub record Onward (P : List ℕ → Type 0) (old new : State) : Type 0 where
-  pub goes : GoesOn old new
-  pub leaves : LeavesOnly old new P
-  pub faults : old.faults ≤ new.faults
 
 either : (k n : ℕ) → (k ≤ n) ⊎ (n ≤ k)
 either k n = grind arith
@@ -28,18 +22,9 @@ leaves_on P a b c f g h k bytes l m i = elim (either k b.now) [
   | inr late ↦ h k bytes late m i
 ]
 
-pub onward : (P : List ℕ → Type 0) (a b c : State) → Onward P a b → Onward P b c → Onward P a c
-onward P a b c f g =
-    let early : a.faults ≤ b.faults = f.faults in
-    let late : b.faults ≤ c.faults = g.faults in
-    record { goes = goes_on a b c f.goes g.goes; leaves = leaves_on P a b c f.leaves g.goes g.leaves; faults = omega arith }
-
 pub weaker : (P Q : List ℕ → Type 0) (a b : State) → ((bytes : List ℕ) → P bytes → Q bytes) → LeavesOnly a b P → LeavesOnly a b Q
 weaker P Q a b f h k bytes l m i = f bytes (h k bytes l m i)
 
 -- a disk that failed later has failed
 pub failed_later : (a b c : State) → a.faults ≤ b.faults → b.reliable ≡ a.reliable → HasFailed b c → HasFailed a c
 failed_later a b c l same (rose, fails) = let r : next_count b.faults ≤ c.faults = rose in ((omega arith), sym same ∙ fails)
-
-pub failed_before : (a b c : State) → HasFailed a b → b.faults ≤ c.faults → HasFailed a c
-failed_before a b c (rose, fails) l = let r : next_count a.faults ≤ b.faults = rose in ((omega arith), fails)

@@ -1,5 +1,6 @@
 pub mod Frames
 pub mod Fronts
+pub mod Gates
 pub mod Leaving
 pub mod OneReading
 pub mod Onwards

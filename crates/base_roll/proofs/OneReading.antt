@@ -1,11 +1,9 @@
 -- Bytes are a roll in one way at most.
-use Rattle.std.proofs.Common.{◌≡◌, ℕ, ◌<◌, ◌^◌, ap, refl, ◌∙◌, sym, List, [], ◌∷◌, ◌++◌, drop, get_or, length, append_assoc}
+use Rattle.std.proofs.Common.{◌≡◌, ℕ, ap, refl, ◌∙◌, sym, List, [], ◌∷◌, ◌++◌, drop, append_assoc}
 use Rattle.base_roll.specs.Format.{framed, opened, records, AreShort}
 use Rattle.base_roll.specs.Rolls.{IsClosed, IsRoll}
 use Rattle.base_roll.proofs.Frames.{frames_apart}
-
-shut : (rest x : List ℕ) → IsClosed rest → rest ≡ 1 ∷ x → ⊥
-shut rest x c e = c.3 (ap (λ xs. get_or xs 0 0) (sym c.2 ∙ e))
+use Rattle.base_roll.proofs.Gates.{shut}
 
 same_records : (payloads others : List (List ℕ)) (x y : List ℕ) → AreShort payloads → AreShort others → IsClosed x → IsClosed y → records payloads ++ x ≡ records others ++ y → payloads ≡ others
 same_records [] [] x y a b c d e = refl

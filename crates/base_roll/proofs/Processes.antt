@@ -2,7 +2,7 @@
 use Rattle.std.proofs.Common.{◌≡◌, ℕ, refl, ap, sym, subst, List, [], ◌∷◌, ◌++◌, ◌∙◌, drop, append_assoc, append-nil}
 use Rattle.base_devices.specs.States.{State}
 use Rattle.base_roll.specs.Histories.{IsKept}
-use Rattle.base_roll.specs.Lives.{Life, HasAfter, IsLife, AreLives, KeepsAll, AreKept}
+use Rattle.base_roll.specs.Lives.{Life, HasAfter, AreLives, AreKept}
 use Rattle.base_roll.proofs.Turns.{all_kept}
 
 same_rest : {R : Type 0} (ahead xs ys : List R) → ahead ++ xs ≡ ahead ++ ys → xs ≡ ys

@@ -54,9 +54,6 @@ keeps_gate gate record_ old new l t =
     (λ j m n. before_range (range_of (gate + 1) record_) j (omega arith)) in
     (s.0, s.1)
 
-pub keeps_itself : (gate : ℕ) (old : List ℕ) → KeepsGate gate old old
-keeps_itself gate old = (drop (gate + 1) old, sym (take-append-drop (gate + 1) old))
-
 -- a write of one byte in the place of the gate keeps what stands before and after it
 pub tears_gate : (gate byte : ℕ) (fs record_ rest new : List ℕ) → length fs ≡ gate → IsTorn (range_of gate (1 ∷ [])) (fs ++ (byte ∷ (record_ ++ rest))) new
     → (torn : ℕ) × (more : List ℕ) × (new ≡ fs ++ (torn ∷ (record_ ++ more)))

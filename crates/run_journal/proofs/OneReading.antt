@@ -8,11 +8,13 @@ use Rattle.def_language.specs.Sessions.{RelationSchema, SessionData}
 use Rattle.def_language.specs.Validity.{IsSession}
 use Rattle.run_journal.specs.Damage.{HasNoCommit, IsBroken, IsDamagedAt}
 use Rattle.base_roll.specs.Format.{framed, opened, records}
-use Rattle.base_roll.specs.Rolls.{IsClosed, IsRoll}
+use Rattle.base_roll.specs.Rolls.{IsClosed}
 use Rattle.base_roll.proofs.Frames.{frames_apart}
+use Rattle.base_roll.proofs.Gates.{shut}
 use Rattle.base_roll.proofs.OneReading as rolls
 use Rattle.run_journal.specs.Format.{commit_line, commit_text, texts, front, write_lines, IsOpening, IsCommit, AreCommits}
 use Rattle.run_journal.specs.Journals.{BeginsWith, IsJournal}
+use Rattle.run_journal.proofs.Texts.{as_roll}
 use Rattle.run_journal.proofs.WriteLines.{AreReadAgain, same_writes}
 
 pub one_opening : ((bytes : List ℕ) (s t : SessionData) → Spells bytes s → Spells bytes t → s ≡ t) → ((s : SessionData) → IsSession s → Spells (printed s) s)
@@ -39,29 +41,16 @@ same_commits relations again n (ws ∷ commits) (vs ∷ others) a b e =
 after_opening : (s : SessionData) (commits : List (List Change)) (rest : List ℕ) → front s commits ++ rest ≡ framed (printed s) ++ (records (texts s.relations 1 commits) ++ rest)
 after_opening s commits rest = append_assoc (framed (printed s)) (records (texts s.relations 1 commits)) rest
 
--- the bytes begin with the session and the commits, and a closed gate comes next
-abbrev Begun : SessionData → List (List Change) → List ℕ → Type 0
-Begun s commits bytes = (rest : List ℕ) × BeginsWith bytes s commits rest × IsClosed rest
-
-begun : (s : SessionData) (commits : List (List Change)) (bytes : List ℕ) → IsJournal s commits bytes → Begun s commits bytes
-begun s commits bytes j = by j.roll
-  where
-    by : IsRoll (framed (printed s)) (texts s.relations 1 commits) bytes → Begun s commits bytes
-    by (rest, b, c) = (rest, record { opening = j.opening; commits = j.commits; bytes = b.bytes }, c)
-
 pub one_session : ((bytes : List ℕ) (s t : SessionData) → Spells bytes s → Spells bytes t → s ≡ t) → ((s : SessionData) → IsSession s → Spells (printed s) s)
     → (s t : SessionData) (commits others : List (List Change)) (bytes : List ℕ) → IsJournal s commits bytes → IsJournal t others bytes → s ≡ t
-one_session one again s t commits others bytes j k = by (begun s commits bytes j) (begun t others bytes k)
-  where
-    by : Begun s commits bytes → Begun t others bytes → s ≡ t
-    by (x, a, c) (y, b, d) =
-        (one_opening one again s t (records (texts s.relations 1 commits) ++ x) (records (texts t.relations 1 others) ++ y) a.opening b.opening
-        (sym (after_opening s commits x) ∙ sym a.bytes ∙ b.bytes ∙ after_opening t others y)).0
+one_session one again s t commits others bytes (x, a, c) (y, b, d) =
+    (one_opening one again s t (records (texts s.relations 1 commits) ++ x) (records (texts t.relations 1 others) ++ y) a.opening b.opening
+    (sym (after_opening s commits x) ∙ sym a.bytes ∙ b.bytes ∙ after_opening t others y)).0
 
 pub one_list : (s : SessionData) → AreReadAgain s.relations → (commits others : List (List Change)) (bytes : List ℕ) → IsJournal s commits bytes → IsJournal s others bytes → commits ≡ others
 one_list s again commits others bytes j k =
-    same_commits s.relations again 1 commits others j.commits k.commits
-    (rolls.one_list (framed (printed s)) (texts s.relations 1 commits) (texts s.relations 1 others) bytes j.roll k.roll)
+    same_commits s.relations again 1 commits others j.1.commits k.1.commits
+    (rolls.one_list (framed (printed s)) (texts s.relations 1 commits) (texts s.relations 1 others) bytes (as_roll s commits bytes j) (as_roll s others bytes k))
 
 -- ---- damaged bytes
 
@@ -75,7 +64,7 @@ some_left byte more x e f = let never : byte ∷ more ≡ [] = sym e ∙ f in cc
 no_list : (relations : List RelationSchema) → AreReadAgain relations → (n m : ℕ) (commits others : List (List Change)) (x y : List ℕ) → m ≡ n + length commits → AreCommits relations n commits → AreCommits relations n others
     → IsBroken relations m x → IsClosed y → records (texts relations n commits) ++ x ≡ records (texts relations n others) ++ y → ⊥
 no_list relations again n m [] [] x y k a b (inl none) d e = none_left x y d e none
-no_list relations again n m [] [] x y k a b (inr (behind, is, none)) d e = rolls.shut y behind d (sym e ∙ is)
+no_list relations again n m [] [] x y k a b (inr (behind, is, none)) d e = shut y behind d (sym e ∙ is)
 no_list relations again n m [] (vs ∷ others) x y k a b (inl none) d e =
     some_left 1 (framed (commit_text relations n vs) ++ (records (texts relations (n + 1) others) ++ y)) x (e ∙ append_assoc (opened (commit_text relations n vs)) (records (texts relations (n + 1) others)) y) none
 no_list relations again n m [] (vs ∷ others) x y k a b (inr (behind, is, none)) d e =
@@ -83,16 +72,16 @@ no_list relations again n m [] (vs ∷ others) x y k a b (inr (behind, is, none)
     subst (λ i. HasNoCommit relations i behind) same none vs (records (texts relations (n + 1) others) ++ y) b.0
     (ap (drop 1) (sym is ∙ e ∙ append_assoc (opened (commit_text relations n vs)) (records (texts relations (n + 1) others)) y))
 no_list relations again n m (ws ∷ commits) [] x y k a b c d e =
-    rolls.shut y (framed (commit_text relations n ws) ++ (records (texts relations (n + 1) commits) ++ x)) d (sym e ∙ append_assoc (opened (commit_text relations n ws)) (records (texts relations (n + 1) commits)) x)
+    shut y (framed (commit_text relations n ws) ++ (records (texts relations (n + 1) commits) ++ x)) d (sym e ∙ append_assoc (opened (commit_text relations n ws)) (records (texts relations (n + 1) commits)) x)
 no_list relations again n m (ws ∷ commits) (vs ∷ others) x y k a b c d e =
     let parts = frames_apart (commit_text relations n ws) (commit_text relations n vs) (records (texts relations (n + 1) commits) ++ x) (records (texts relations (n + 1) others) ++ y) a.0.short b.0.short
     (ap (drop 1) (sym (append_assoc (opened (commit_text relations n ws)) (records (texts relations (n + 1) commits)) x) ∙ e ∙ append_assoc (opened (commit_text relations n vs)) (records (texts relations (n + 1) others)) y)) in
     no_list relations again (n + 1) m commits others x y (omega arith) a.1 b.1 c d parts.1
 
-no_journal_begun : ((bytes : List ℕ) (s t : SessionData) → Spells bytes s → Spells bytes t → s ≡ t) → ((s : SessionData) → IsSession s → Spells (printed s) s)
-    → (s : SessionData) → AreReadAgain s.relations → (commits : List (List Change)) (bytes : List ℕ) (place : ℕ) → IsDamagedAt bytes place → Begun s commits bytes → ⊥
-no_journal_begun one again s lines commits bytes place (inl (first, none)) (y, b, d) = none s (records (texts s.relations 1 commits) ++ y) b.opening (b.bytes ∙ after_opening s commits y)
-no_journal_begun one again s lines commits bytes place (inr broken) (y, b, d) =
+pub no_journal : ((bytes : List ℕ) (s t : SessionData) → Spells bytes s → Spells bytes t → s ≡ t) → ((s : SessionData) → IsSession s → Spells (printed s) s)
+    → (s : SessionData) → AreReadAgain s.relations → (commits : List (List Change)) (bytes : List ℕ) (place : ℕ) → IsDamagedAt bytes place → IsJournal s commits bytes → ⊥
+no_journal one again s lines commits bytes place (inl (first, none)) (y, b, d) = none s (records (texts s.relations 1 commits) ++ y) b.opening (b.bytes ∙ after_opening s commits y)
+no_journal one again s lines commits bytes place (inr broken) (y, b, d) =
     let a : BeginsWith bytes broken.session broken.commits broken.rest = broken.begins in
     let parts = one_opening one again broken.session s (records (texts broken.session.relations 1 broken.commits) ++ broken.rest) (records (texts s.relations 1 commits) ++ y) a.opening b.opening
     (sym (after_opening broken.session broken.commits broken.rest) ∙ sym a.bytes ∙ b.bytes ∙ after_opening s commits y) in
@@ -101,7 +90,3 @@ no_journal_begun one again s lines commits bytes place (inr broken) (y, b, d) =
     let same : records (texts s.relations 1 broken.commits) ++ broken.rest ≡ records (texts s.relations 1 commits) ++ y =
     subst (λ (t : SessionData). records (texts t.relations 1 broken.commits) ++ broken.rest ≡ records (texts s.relations 1 commits) ++ y) parts.0 parts.1 in
     no_list s.relations lines 1 (length broken.commits + 1) broken.commits commits broken.rest y (omega arith) here b.commits gap d same
-
-pub no_journal : ((bytes : List ℕ) (s t : SessionData) → Spells bytes s → Spells bytes t → s ≡ t) → ((s : SessionData) → IsSession s → Spells (printed s) s)
-    → (s : SessionData) → AreReadAgain s.relations → (commits : List (List Change)) (bytes : List ℕ) (place : ℕ) → IsDamagedAt bytes place → IsJournal s commits bytes → ⊥
-no_journal one again s lines commits bytes place damage j = no_journal_begun one again s lines commits bytes place damage (begun s commits bytes j)

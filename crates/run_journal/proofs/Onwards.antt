@@ -10,6 +10,7 @@ use Rattle.base_roll.specs.declared.rolls.AppendFault.{AppendFault as RollFault}
 use Rattle.base_roll.specs.declared.rolls.AppendFault.TheVariants as rolling
 use Rattle.base_roll.proofs.Frames.{length_framed}
 use Rattle.base_roll.proofs.Fronts.{gate_within}
+use Rattle.base_roll.proofs.Gates.{no_closed}
 use Rattle.base_roll.proofs.Leaving.{weaker}
 use Rattle.def_chase.specs.Repository.{Change}
 use Rattle.def_language.specs.Printing.{printed}
@@ -17,7 +18,7 @@ use Rattle.def_language.specs.Sessions.{SessionData}
 use Rattle.run_journal.specs.Answers.{AppendTold, answer_of}
 use Rattle.run_journal.specs.Format.{commit_text, journal_text, texts, IsOpening, IsCommit}
 use Rattle.run_journal.specs.Journals.{IsJournal, Hold, IsAt, IsInHand}
-use Rattle.run_journal.proofs.Texts.{journal_more, texts_more}
+use Rattle.run_journal.proofs.Texts.{as_roll, as_journal, journal_more, texts_more}
 
 -- ---- a journal is held as a roll
 
@@ -25,14 +26,14 @@ abbrev pub roll_of : Hold → RollHold
 roll_of hold = record { gate = hold.gate }
 
 pub rolled : (disk : State) (s : SessionData) (commits : List (List Change)) (hold : Hold) → IsAt disk s commits hold → IsRollAt (framed (printed s)) (texts s.relations 1 commits) disk (roll_of hold)
-rolled disk s commits hold at = record { roll = at.journal.roll; settled = at.settled; gate = at.gate }
+rolled disk s commits hold at = record { roll = as_roll s commits disk.bytes at.journal; settled = at.settled; gate = at.gate }
 
 pub in_hand : (disk : State) (s : SessionData) (hold : Hold) → IsInHand disk s hold → IsRollInHand disk (roll_of hold)
 in_hand disk s hold (commits, at) = (framed (printed s), texts s.relations 1 commits, rolled disk s commits hold at)
 
 pub within : (disk : State) (s : SessionData) (hold : Hold) → IsInHand disk s hold → hold.gate < length disk.bytes
 within disk s hold (commits, at) =
-    let less = gate_within (framed (printed s)) (texts s.relations 1 commits) disk.bytes at.journal.roll in
+    let less = gate_within (framed (printed s)) (texts s.relations 1 commits) disk.bytes (as_roll s commits disk.bytes at.journal) in
     omega (arith, at.gate, less)
 
 -- ---- a commit is appended
@@ -42,7 +43,7 @@ module _ (s : SessionData) (n : ℕ) (writes : List Change) (one : IsCommit s.re
   count = next ∙ ap (λ k. k + 1) at.count
 
   more : (bytes : List ℕ) → IsRoll (framed (printed s)) (texts s.relations 1 commits ++ text ∷ []) bytes → IsJournal s (commits ++ writes ∷ []) bytes
-  more bytes roll = journal_more s n commits writes count bytes at.journal.opening at.journal.commits one (subst (λ t. IsRoll (framed (printed s)) (texts s.relations 1 commits ++ t ∷ []) bytes) is roll)
+  more bytes roll = journal_more s n commits writes count bytes at.journal.1.opening at.journal.1.commits one (subst (λ t. IsRoll (framed (printed s)) (texts s.relations 1 commits ++ t ∷ []) bytes) is roll)
 
   same_texts : texts s.relations 1 commits ++ text ∷ [] ≡ texts s.relations 1 (commits ++ writes ∷ [])
   same_texts = ap (λ t. texts s.relations 1 commits ++ t ∷ []) is ∙ sym (texts_more s n commits writes count)
@@ -54,7 +55,7 @@ module _ (s : SessionData) (n : ℕ) (writes : List Change) (one : IsCommit s.re
   }
     where
       either : (bytes : List ℕ) → IsBeforeOrAfter (IsRoll (framed (printed s))) (texts s.relations 1 commits) text bytes → IsBeforeOrAfter (IsJournal s) commits writes bytes
-      either bytes (inl roll) = inl (record { opening = at.journal.opening; commits = at.journal.commits; roll = roll })
+      either bytes (inl roll) = inl (as_journal s commits bytes at.journal.1.opening at.journal.1.commits roll)
       either bytes (inr roll) = inr (more bytes roll)
 
   pub appended : (logged : Result RollHold RollFault) → IfOk logged (λ roll. IsRollAt (framed (printed s)) (texts s.relations 1 commits ++ text ∷ []) new roll)
@@ -93,16 +94,13 @@ told hold roll n size count bound old new before now e f fits less small (Err (r
 
 -- ---- a journal is made
 
-no_closed : ◌≡◌ {A = ℕ} 0 1 → ⊥
-no_closed e = omega arith
-
 pub created_text : (s : SessionData) (text : List ℕ) → text ≡ framed (printed s) ++ (0 ∷ []) → text ≡ journal_text s []
 created_text s text e = e ∙ ap (λ xs. xs ++ (0 ∷ [])) (sym (append-nil (framed (printed s))))
 
 pub created : (new : State) (s : SessionData) (gate : ℕ) (text : List ℕ) → IsOpening s → text ≡ framed (printed s) ++ (0 ∷ []) → IsSettled new → new.bytes ≡ text
     → gate ≡ length (printed s) + 4 → IsAt new s [] record { gate = gate; commits = 0 }
 created new s gate text opening e settled made place = record {
-  journal = record { opening = opening; commits = tt; roll = (0 ∷ [], record { short = tt; bytes = made ∙ created_text s text e }, (0, [], refl, no_closed)) };
+  journal = (0 ∷ [], record { opening = opening; commits = tt; bytes = made ∙ created_text s text e }, (0, [], refl, no_closed));
   settled = settled;
   gate = omega (arith, place, length_framed (printed s), length-append (framed (printed s)) []);
   count = refl;

@@ -21,9 +21,16 @@ commits_after : (relations : List RelationSchema) (n m : ℕ) (commits : List (L
 commits_after relations n m [] writes e all one = let same : m ≡ n = omega arith in (subst (λ k. IsCommit relations k writes) same one, tt)
 commits_after relations n m (c ∷ commits) writes e all one = (all.0, commits_after relations (n + 1) m commits writes (omega arith) all.1 one)
 
-pub are_short : (relations : List RelationSchema) (n : ℕ) (commits : List (List Change)) → AreCommits relations n commits → AreShort (texts relations n commits)
+are_short : (relations : List RelationSchema) (n : ℕ) (commits : List (List Change)) → AreCommits relations n commits → AreShort (texts relations n commits)
 are_short relations n [] all = tt
 are_short relations n (c ∷ commits) all = (all.0.short, are_short relations (n + 1) commits all.1)
+
+-- a journal is a roll of the texts after the session's frame, and the other way round
+pub as_roll : (s : SessionData) (commits : List (List Change)) (bytes : List ℕ) → IsJournal s commits bytes → IsRoll (framed (printed s)) (texts s.relations 1 commits) bytes
+as_roll s commits bytes (rest, b, c) = (rest, record { short = are_short s.relations 1 commits b.commits; bytes = b.bytes }, c)
+
+pub as_journal : (s : SessionData) (commits : List (List Change)) (bytes : List ℕ) → IsOpening s → AreCommits s.relations 1 commits → IsRoll (framed (printed s)) (texts s.relations 1 commits) bytes → IsJournal s commits bytes
+as_journal s commits bytes opening all (rest, b, c) = (rest, record { opening = opening; commits = all; bytes = b.bytes }, c)
 
 module _ (s : SessionData) (n : ℕ) (commits : List (List Change)) (writes : List Change) (next : n ≡ length commits + 1) where
   pub texts_more : texts s.relations 1 (commits ++ writes ∷ []) ≡ texts s.relations 1 commits ++ commit_text s.relations n writes ∷ []
@@ -42,8 +49,5 @@ module _ (s : SessionData) (n : ℕ) (commits : List (List Change)) (writes : Li
   -- with one text more the roll is the journal with the commit
   pub journal_more : (bytes : List ℕ) → IsOpening s → AreCommits s.relations 1 commits → IsCommit s.relations n writes
       → IsRoll (framed (printed s)) (texts s.relations 1 commits ++ commit_text s.relations n writes ∷ []) bytes → IsJournal s (commits ++ writes ∷ []) bytes
-  journal_more bytes opening all one roll = record {
-    opening = opening;
-    commits = commits_after s.relations 1 n commits writes (omega arith) all one;
-    roll = subst (λ ts. IsRoll (framed (printed s)) ts bytes) (sym texts_more) roll;
-  }
+  journal_more bytes opening all one roll =
+      as_journal s (commits ++ writes ∷ []) bytes opening (commits_after s.relations 1 n commits writes (omega arith) all one) (subst (λ ts. IsRoll (framed (printed s)) ts bytes) (sym texts_more) roll)

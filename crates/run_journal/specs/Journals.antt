@@ -4,10 +4,8 @@ use Rattle.base_devices.specs.States.{State, IsSettled}
 use Rattle.def_chase.specs.Values.{Fact}
 use Rattle.def_chase.specs.Repository.{Change, apply}
 use Rattle.def_language.specs.Sessions.{SessionData}
-use Rattle.base_roll.specs.Format.{framed}
-use Rattle.base_roll.specs.Rolls.{IsRoll}
-use Rattle.def_language.specs.Printing.{printed}
-use Rattle.run_journal.specs.Format.{front, texts, IsOpening, AreCommits}
+use Rattle.base_roll.specs.Rolls.{IsClosed}
+use Rattle.run_journal.specs.Format.{front, IsOpening, AreCommits}
 
 -- the bytes begin with the session and these commits, and then comes the rest
 pub record BeginsWith (all : List ℕ) (s : SessionData) (those : List (List Change)) (rest : List ℕ) : Type 0 where
@@ -15,11 +13,9 @@ pub record BeginsWith (all : List ℕ) (s : SessionData) (those : List (List Cha
   pub commits : AreCommits s.relations 1 those
   pub bytes : all ≡ front s those ++ rest
 
--- The bytes are a journal of the session with these commits: they have a roll of the commits' texts after the session's frame.
-pub record IsJournal (s : SessionData) (those : List (List Change)) (bytes : List ℕ) : Type 0 where
-  pub opening : IsOpening s
-  pub commits : AreCommits s.relations 1 those
-  pub roll : IsRoll (framed (printed s)) (texts s.relations 1 those) bytes
+-- The bytes are a journal of the session with these commits: a closed gate stands after them.
+abbrev pub IsJournal : SessionData → List (List Change) → List ℕ → Type 0
+IsJournal s commits bytes = (rest : List ℕ) × BeginsWith bytes s commits rest × IsClosed rest
 
 -- the place of its gate
 abbrev pub gate_of : SessionData → List (List Change) → ℕ

@@ -1,4 +1,4 @@
-use Rattle.std.proofs.Common.{◌≡◌, ◌+◌, ◌∙◌, ◌<◌, ◌^◌, subst, List, ℕ, ◌++◌, ◌∷◌, [], ap, sym, length, arith}
+use Rattle.std.proofs.Common.{◌≡◌, ◌+◌, ◌∙◌, ◌<◌, ◌^◌, subst, ◌++◌, ◌∷◌, [], ap, sym, length, arith}
 use Rattle.base_devices.specs.States.{State}
 use Rattle.base_roll.specs.Format.{framed}
 use Rattle.base_roll.specs.Rolls.{Hold, IsAt}
