@@ -75,7 +75,7 @@ fn written(disk: FileDisk, text: &LogText, count: u64) -> Result<OpenLog, Fault>
     ensures { IfOk result IsFresh }
 {
     let mut disk = disk;
-    match ws_roll::create(&mut disk, &text.bytes) {
+    match base_roll::create(&mut disk, &text.bytes) {
         Ok(()) => {
             let log = from_gate(disk, text.gate, text.mark)?;
             Ok(OpenLog::of(log, count))
