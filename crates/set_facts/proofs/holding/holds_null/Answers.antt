@@ -3,7 +3,7 @@ use Rattle.std.proofs.lemmas.Iterator.Search.{any_from_yields_List}
 use Rattle.def_chase.specs.Queries.{is_named}
 use Rattle.base_types.specs.Meanings.{datum_of}
 use Rattle.base_types.proofs.Iterated.{mapped_from_slice}
-use Rattle.chase_eval.proofs.occurrences.holds_null.Goals as goal
+use Rattle.set_facts.proofs.holding.holds_null.Goals as goal
 
 pub returns : goal.returns
 returns c = record {
