@@ -1,7 +1,7 @@
 //! The steps of an op, one after the other, up to its end or its halt.
 ghost use Rattle.std.specs.Prelude.{◌≡◌, ◌<◌, [], true, None, OnOk};
 ghost use Rattle.def_chase.specs.Repository.{IsRepository};
-ghost use Rattle.run_serial.specs.Turns.{view_of};
+ghost use Rattle.run_step.specs.Turns.{view_of};
 
 use crate::asking::{fitting, told};
 use crate::drawing::name_drawn;
