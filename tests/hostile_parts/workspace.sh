@@ -1,5 +1,5 @@
-# Workspaces of yt: it is killed at every call of the system and at random moments, each of its calls fails, its files are damaged, many
-# processes change one file at once, and garbled scripts and files are told as the reference tells them.
+# Workspaces of yt: it is killed at every call of the system and at random moments, each of its calls fails, its streams are closed, its files
+# are damaged, many processes change one file at once, and garbled scripts and files are told as the reference tells them.
 workspace=$(realpath -m "${WORKSPACE:-crates/yt/out/yt}")
 calls=$stored/calls.so
 cc -O2 -Wall -shared -fPIC -o "$calls" "$here/workspace_calls.c" -ldl || exit 2
@@ -12,6 +12,7 @@ on_workspaces() {
 if [ -n "$cheap" ]; then
   on_workspaces kills "$calls" 1
   on_workspaces calls "$calls" 1 cheap
+  on_workspaces closed 1
   on_workspaces flips 50 cheap
   on_workspaces together 1
   on_workspaces fuzz scripts 1 30
@@ -19,6 +20,7 @@ if [ -n "$cheap" ]; then
 else
   on_workspaces kills "$calls" 5
   on_workspaces calls "$calls" 3
+  on_workspaces closed 5
   on_workspaces flips 1000
   on_workspaces together 5
   on_workspaces fuzz scripts 1 3000

@@ -1,10 +1,11 @@
-/* Preloaded into yt: at its N-th call of the system it is killed, or that call fails. What was done is told in a file, so that whoever
-   counts N up knows when yt ends before its N-th call.
+/* Preloaded into yt: at its N-th call of the system it is killed, or that call fails; or its N-th request of memory is refused. What was
+   done is told in a file, so that whoever counts N up knows when yt ends before its N-th call.
 
    CALLS_AT=N        the call, from 1 on; 0 or none: all calls go through
    CALLS_DO=kill     SIGKILL in place of the call; `killed`: right after it
    CALLS_DO=E        the call fails with the error of this number, and does nothing
    CALLS_DO=short    the call, a read or a write, moves one byte
+   CALLS_DO=memory   requests of memory are counted instead, and the N-th is refused
    CALLS_LASTING=1   the later calls of the same name fail too
    CALLS_TOLD=FILE   gets the name of the call */
 #define _GNU_SOURCE
@@ -20,7 +21,7 @@
 #include <unistd.h>
 
 static long left;               /* calls until the one that is meant; 0: it was, or none is */
-static bool lasting;
+static bool lasting, of_memory;
 static const char *what, *met;  /* what to do; the name of the call that was met */
 
 __attribute__((constructor)) static void begin(void) {
@@ -28,6 +29,7 @@ __attribute__((constructor)) static void begin(void) {
   left = at ? atol(at) : 0;
   what = getenv("CALLS_DO");
   lasting = getenv("CALLS_LASTING") != NULL;
+  of_memory = what && !strcmp(what, "memory");
 }
 
 /* Whether this is the call that is meant; it is told. Nothing of this is counted. */
@@ -50,7 +52,7 @@ static void die(void) { syscall(SYS_kill, getpid(), SIGKILL); }
   TYPE NAME PARAMETERS {                                                       \
     static TYPE(*real) PARAMETERS;                                             \
     if (!real) real = (TYPE(*) PARAMETERS)dlsym(RTLD_NEXT, #NAME);             \
-    if (!is_meant(#NAME)) return real ARGUMENTS;                               \
+    if (of_memory || !is_meant(#NAME)) return real ARGUMENTS;                  \
     if (!strcmp(what, "kill")) die();                                          \
     if (!strcmp(what, "killed")) { real ARGUMENTS; die(); }                    \
     if (!strcmp(what, "short")) return (MOVED) ? real ONE : real ARGUMENTS;    \
@@ -75,3 +77,8 @@ PLAIN(unlink, (const char *path), (path))
 PLAIN(chmod, (const char *path, mode_t mode), (path, mode))
 PLAIN(fchmod, (int file, mode_t mode), (file, mode))
 PLAIN(statx, (int folder, const char *restrict path, int flags, unsigned int mask, struct statx *restrict into), (folder, path, flags, mask, into))
+
+extern void *__libc_malloc(size_t), *__libc_realloc(void *, size_t);
+
+void *malloc(size_t size) { return of_memory && is_meant("malloc") ? NULL : __libc_malloc(size); }
+void *realloc(void *place, size_t size) { return of_memory && is_meant("realloc") ? NULL : __libc_realloc(place, size); }

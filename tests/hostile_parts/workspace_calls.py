@@ -14,7 +14,9 @@ import sys
 
 from workspace_runs import Bench, Tally, command_list, yt
 
-WAYS = [(str(errno.EIO), False), (str(errno.ENOSPC), False), (str(errno.EINTR), False), ("short", False), (str(errno.EIO), True), ("short", True)]
+WAYS = [(str(errno.EIO), False), (str(errno.ENOSPC), False), (str(errno.EINTR), False), ("short", False), (str(errno.EIO), True), ("short", True),
+        ("memory", False)]
+STRIDE = 20        # of this many requests of memory before it, the next stride has one more
 
 
 class Failing:
@@ -37,7 +39,7 @@ class Failing:
     def all_calls(self, do, lasting, counts):
         number = 0
         while True:
-            number += 1
+            number += 1 + (number // STRIDE if do == "memory" else 0)
             self.place()
             if os.path.exists(self.told):
                 os.unlink(self.told)
@@ -55,7 +57,7 @@ class Failing:
         there = self.bench.stands_for(self.file)
         # A new file may be there without a record yet: that of a change that was refused, which takes no part in what it stands for.
         counts[status, "as before" if there == self.was else "with the record"] += 1
-        if status == 5:
+        if status == (7 if " memory " in what else 5):
             good = err.startswith(b"yt: ") and there == self.was
         elif status == 6:
             good = (err.startswith(b"yt: ") or what.startswith("write ")) and there in (self.was, self.becomes)
@@ -66,7 +68,7 @@ class Failing:
 
 def main():
     program, calls, count = sys.argv[1], sys.argv[2], int(sys.argv[3])
-    ways = WAYS[:1] if len(sys.argv) > 4 else WAYS
+    ways = [WAYS[0], WAYS[-1]] if len(sys.argv) > 4 else WAYS
     tally, counts = Tally(), collections.Counter()
     with Bench(program) as bench:
         for seed in range(count):

@@ -79,7 +79,7 @@ fn done_alone(alloc: Global, space: &mut Space, change: Change) -> Result<Done, 
     }
 }
 
-// What the change comes to, with its reply.
+// What the change comes to: its question is shown, and its reply is made.
 fn outcome(
     alloc: Global,
     space: &Space,
@@ -87,13 +87,26 @@ fn outcome(
     context: &Context<'_>,
     done: Done,
 ) -> Result<Outcome, Refusal> {
+    match show(shown, context, &done.report) {
+        Ok(()) => replied(alloc, space, context, done),
+        Err(_) => {
+            drop(done);
+            Err(Refusal::Memory)
+        }
+    }
+}
+
+// The change with its reply.
+fn replied(
+    alloc: Global,
+    space: &Space,
+    context: &Context<'_>,
+    done: Done,
+) -> Result<Outcome, Refusal> {
     let Done { report, lines } = done;
-    let is_recorded = !lines.is_empty();
-    let is_shown = show(shown, context, &report);
-    let reply = report.into_reply(alloc, space, context, is_recorded);
-    match (is_shown, reply) {
-        (Ok(()), Ok(reply)) => Ok(Outcome { reply, lines }),
-        _ => {
+    match report.into_reply(alloc, space, context, !lines.is_empty()) {
+        Ok(reply) => Ok(Outcome { reply, lines }),
+        Err(_) => {
             drop(lines);
             Err(Refusal::Memory)
         }

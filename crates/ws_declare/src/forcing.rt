@@ -1,7 +1,7 @@
 //! Putting a mapping in force.
 
-use crate::running::{Taken, take_update};
 use std::alloc::Global;
+use ws_done::{Taken, take_update};
 use ws_fault::Refusal;
 use ws_space::Space;
 use ws_written::{STEPS, Update};
