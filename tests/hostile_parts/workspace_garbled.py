@@ -83,7 +83,7 @@ def load_lines(rng, path, data):
     """One to three lines that load the file, or its lines out of the script."""
     out = b""
     # Where the header makes no relation, the reference tells a column of a line that nobody said.
-    options = [option for option in OPTIONS if option != "--create" or not re.match(b"(\xef\xbb\xbf)?(_x|a[,;\t]b)", data)]
+    options = [option for option in OPTIONS if option != "--create" or not re.match(b"(\xef\xbb\xbf)?(_x|a[,;\t]b|x[,;\t]x)", data)]
     for _ in range(rng.choice([1, 1, 2, 3])):
         words = " ".join(rng.sample(options, rng.choice([0, 1, 1, 2, 3])))
         name = rng.choice(["A", "A", "B", "B", "C", "Nothing"])
