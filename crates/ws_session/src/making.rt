@@ -9,7 +9,7 @@ use def_memory::Memory;
 use std::alloc::Global;
 use ws_command::{Change, Command, Said};
 use ws_fault::Refusal;
-use ws_log::create;
+use ws_log::{Fault, OpenLog, create};
 use ws_look::help;
 use ws_print::add_head;
 use ws_reply::{Outcome, Reply};
@@ -65,30 +65,36 @@ impl Session {
     ) -> Result<Reply, Refusal> {
         let alloc = rt.alloc();
         let mut space = space;
-        let head = head_text(alloc, &space)?;
+        let mut texts = Vec::new(alloc);
+        texts.push(head_text(alloc, &space)?)?;
         let outcome = self.change(rt, turn, &mut space, change, false)?;
         let Outcome { reply, lines } = outcome;
         let curator = self.settings.curator.as_str();
         let record = record_of(alloc, turn.time, curator, lines, comment)?;
-        let mut texts = Vec::new(alloc);
         texts.push(text_of(alloc, &space, &record)?)?;
-        match create(
-            rt,
-            self.settings.path.as_str(),
-            head.as_slice(),
-            texts.as_slice(),
-        ) {
+        space.recorded(alloc, record)?;
+        self.made(rt, space, texts)?;
+        Ok(reply)
+    }
+
+    // Makes the file with these texts, the head first, and keeps what it has. Nothing is refused after that.
+    fn made(&mut self, rt: &HostRuntime, space: Space, texts: Vec<Vec<u8>>) -> Result<(), Refusal> {
+        match created(rt, self.settings.path.as_str(), texts.as_slice()) {
             Ok(log) => {
-                space.recorded(alloc, record)?;
-                self.texts = Vec::new(alloc);
-                self.texts.push(head)?;
-                self.texts.append(&mut texts)?;
+                self.texts = texts;
                 self.space = Some(space);
-                self.rest(alloc, Some(log));
-                Ok(reply)
+                self.rest(rt.alloc(), Some(log));
+                Ok(())
             }
-            Err(fault) => Err(self.log_fault(alloc, fault)),
+            Err(fault) => Err(self.log_fault(rt.alloc(), fault)),
         }
+    }
+}
+
+fn created(rt: &HostRuntime, path: &str, texts: &[Vec<u8>]) -> Result<OpenLog, Fault> {
+    match texts.split_first() {
+        Some((head, records)) => create(rt, path, head.as_slice(), records),
+        None => Err(Fault::Memory),
     }
 }
 
