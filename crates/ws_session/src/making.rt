@@ -25,25 +25,39 @@ impl Session {
     ) -> Result<Option<Reply>, Refusal> {
         let alloc = rt.alloc();
         let space = Space::fresh(alloc, self.stamp(alloc, turn.time)?)?;
-        let Some(said) = read_over(alloc, &space, turn.line)? else {
-            return Ok(None);
-        };
+        match read_over(alloc, &space, turn.line)? {
+            Some(said) => Ok(Some(self.first(rt, turn, space, said)?)),
+            None => {
+                drop(space);
+                Ok(None)
+            }
+        }
+    }
+
+    // The answer to a command if there is no file.
+    fn first(
+        &mut self,
+        rt: &HostRuntime,
+        turn: &Turn<'_>,
+        space: Space,
+        said: Said,
+    ) -> Result<Reply, Refusal> {
+        let alloc = rt.alloc();
+        allowed(alloc, &self.settings, 0, &said.command)?;
+        if let Command::Help(verb) = &said.command {
+            let context = context_of(&self.settings, self.name.as_str(), turn.time, false);
+            return Ok(help(alloc, &context, *verb)?);
+        }
+        if let Command::Quit = &said.command {
+            return Ok(quit(alloc));
+        }
         let Said { command, comment } = said;
-        allowed(alloc, &self.settings, 0, &command)?;
-        match command {
-            Command::Change { change, .. } => {
-                if !makes_file(&change) {
-                    return Err(self.no_file(alloc));
-                }
-                Ok(Some(self.make(rt, turn, space, change, comment.as_str())?))
+        match making(command) {
+            Some(change) => self.make(rt, turn, space, change, comment.as_str()),
+            None => {
+                drop(space);
+                Err(self.no_file(alloc))
             }
-            Command::Help(verb) => {
-                let name = self.name.as_str();
-                let context = context_of(&self.settings, name, turn.time, false);
-                Ok(Some(help(alloc, &context, verb)?))
-            }
-            Command::Quit => Ok(Some(quit(alloc))),
-            _ => Err(self.no_file(alloc)),
         }
     }
 
@@ -95,6 +109,29 @@ fn created(rt: &HostRuntime, path: &str, texts: &[Vec<u8>]) -> Result<OpenLog, F
     match texts.split_first() {
         Some((head, records)) => create(rt, path, head.as_slice(), records),
         None => Err(Fault::Memory),
+    }
+}
+
+// The change of the command, if it makes the file.
+fn making(command: Command) -> Option<Change> {
+    match command {
+        Command::Change { change, still: _ } => {
+            if makes_file(&change) {
+                return Some(change);
+            }
+            drop(change);
+            None
+        }
+        Command::Try { change, still: _ } => {
+            drop(change);
+            None
+        }
+        Command::Look(look) => {
+            drop(look);
+            None
+        }
+        Command::Help(_) => None,
+        Command::Quit => None,
     }
 }
 
