@@ -67,13 +67,17 @@ impl Hints {
                 return Err(Memory);
             }
         }
-        let columns = match self.vague.get(&relation) {
-            Some(columns) => columns.as_slice(),
-            None => &[],
-        };
-        let twins = twins_of(alloc, columns, tuple)?;
+        let twins = twins_of(alloc, self.looked_at(relation), tuple)?;
         add_twins(alloc, space, &twins, tuple, notes)?;
         add_key(alloc, space, &twins, tuple, notes)
+    }
+
+    // The columns of a relation with its tuples that have unknowns; none if they were not looked at.
+    fn looked_at(&self, relation: u16) -> &[VagueColumn] {
+        match self.vague.get(&relation) {
+            Some(columns) => columns.as_slice(),
+            None => &[],
+        }
     }
 
     // Adds the hints about texts of digits.

@@ -38,45 +38,87 @@ fn clashing(
     number: usize,
     relation: &Relation,
 ) -> Result<Vec<Vec<String>>, Memory> {
-    let rows = space.rows(alloc, u32::try_from(number).unwrap_or(u32::MAX))?;
     let mut clashing = Vec::new(alloc);
-    for group in grouped(alloc, relation, rows)?.iter() {
+    for group in grouped(alloc, space, number, relation)?.iter() {
         if 1 < group.len() {
-            let mut texts = Vec::new(alloc);
-            for tuple in group.iter() {
-                texts.push(inner_text(alloc, space, tuple)?)?;
-            }
-            clashing.push(texts)?;
+            clashing.push(texts_of(alloc, space, group.as_slice())?)?;
         }
     }
     Ok(clashing)
 }
 
-// The tuples by their keys without unknowns, in the order of the first of each.
+fn texts_of(alloc: Global, space: &Space, group: &[Tuple]) -> Result<Vec<String>, Memory> {
+    let mut texts = Vec::new(alloc);
+    for tuple in group {
+        texts.push(inner_text(alloc, space, tuple)?)?;
+    }
+    Ok(texts)
+}
+
+// The tuples by their keys, in the order of the first of each, and the place of each key among them.
+#[derive(Drop)]
+struct Groups {
+    places: BTreeMap<Tuple, usize>,
+    groups: Vec<Vec<Tuple>>,
+}
+
+// The tuples of a relation by their keys without unknowns.
 fn grouped(
     alloc: Global,
+    space: &Space,
+    number: usize,
     relation: &Relation,
-    rows: Vec<Tuple>,
 ) -> Result<Vec<Vec<Tuple>>, Memory> {
-    let mut places: BTreeMap<Tuple, usize> = BTreeMap::new(alloc);
-    let mut groups: Vec<Vec<Tuple>> = Vec::new(alloc);
-    for tuple in rows {
-        let key = key_of(alloc, relation, &tuple)?;
-        if has_unknown(&key) {
-            continue;
+    let mut groups = Groups {
+        places: BTreeMap::new(alloc),
+        groups: Vec::new(alloc),
+    };
+    groups.add_rows(alloc, space, number, relation)?;
+    Ok(groups.groups)
+}
+
+impl Groups {
+    fn add_rows(
+        &mut self,
+        alloc: Global,
+        space: &Space,
+        number: usize,
+        relation: &Relation,
+    ) -> Result<(), Memory> {
+        for tuple in space.rows(alloc, u32::try_from(number).unwrap_or(u32::MAX))? {
+            self.add(alloc, relation, tuple)?;
         }
-        let place = places.get(&key).copied().unwrap_or(groups.len());
-        if groups.len() <= place {
-            groups.push(Vec::new(alloc))?;
-            if places.insert(key, place).is_err() {
-                return Err(Memory);
-            }
-        }
-        if let Some(group) = groups.get_mut(place) {
+        Ok(())
+    }
+
+    // A tuple with an unknown in its key is left out.
+    fn add(&mut self, alloc: Global, relation: &Relation, tuple: Tuple) -> Result<(), Memory> {
+        let place = self.place_of(alloc, relation, &tuple)?;
+        if let Some(group) = self.groups.get_mut(place.unwrap_or(usize::MAX)) {
             group.push(tuple)?;
         }
+        Ok(())
     }
-    Ok(groups)
+
+    // The place of the group of a tuple's key; a new one begins a group.
+    fn place_of(
+        &mut self,
+        alloc: Global,
+        relation: &Relation,
+        tuple: &Tuple,
+    ) -> Result<Option<usize>, Memory> {
+        let key = key_of(alloc, relation, tuple)?;
+        if has_unknown(&key) {
+            return Ok(None);
+        }
+        if let Some(place) = self.places.get(&key) {
+            return Ok(Some(*place));
+        }
+        let place = self.groups.len();
+        self.groups.push(Vec::new(alloc))?;
+        self.places.insert(key, place)?;
+        Ok(Some(place))
+    }
 }
 
 fn key_of(alloc: Global, relation: &Relation, tuple: &Tuple) -> Result<Tuple, Memory> {

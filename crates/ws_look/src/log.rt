@@ -1,6 +1,6 @@
 //! `log`: what was done, when and by whom.
 
-use crate::entries::{Entry, entries_of, entry_line};
+use crate::entries::{entries_of, entry_line, last_number};
 use crate::log_objects::{entry_objects, record_objects};
 use base_types::Memory;
 use std::alloc::Global;
@@ -106,27 +106,23 @@ fn add_records(
     records: &[Recorded],
 ) -> Result<(), Memory> {
     for recorded in records {
-        let entries = entries_of(alloc, space, recorded)?;
-        let told = if entries.len() <= MOST { MOST } else { FIRST };
-        for entry in entries.iter().take(told) {
+        let count = recorded.record.lines.len();
+        let told = if count <= MOST { MOST } else { FIRST };
+        for entry in entries_of(alloc, space, recorded, told)?.iter() {
             lines.push(entry_line(alloc, entry)?)?;
         }
-        if MOST < entries.len() {
-            lines.push(rest_line(alloc, recorded, entries.as_slice())?)?;
+        if MOST < count {
+            lines.push(rest_line(alloc, recorded)?)?;
         }
     }
     Ok(())
 }
 
 // How many lines more a record has.
-fn rest_line(alloc: Global, recorded: &Recorded, entries: &[Entry<'_>]) -> Result<String, Memory> {
+fn rest_line(alloc: Global, recorded: &Recorded) -> Result<String, Memory> {
     let at = recorded.at;
-    let more = entries.len().saturating_sub(FIRST);
-    let last = match entries.last() {
-        Some(entry) => entry.number,
-        None => None,
-    };
-    match last {
+    let more = recorded.record.lines.len().saturating_sub(FIRST);
+    match last_number(recorded) {
         Some(last) => Ok(format!(in alloc; "{at}  .. and {more} more lines, up to {last}")?),
         None => Ok(format!(in alloc; "{at}  .. and {more} more lines")?),
     }

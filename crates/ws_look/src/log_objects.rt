@@ -16,7 +16,7 @@ pub(crate) fn entry_objects(
 ) -> Result<Vec<Object>, Memory> {
     let mut objects = Vec::new(alloc);
     for recorded in records {
-        let entries = entries_of(alloc, space, recorded)?;
+        let entries = entries_of(alloc, space, recorded, recorded.record.lines.len())?;
         let told = if entries.len() <= MOST { MOST } else { FIRST };
         for (place, entry) in entries.iter().enumerate() {
             objects.push(entry_object(alloc, entry, place < told)?)?;
@@ -103,11 +103,11 @@ fn add_record(
     space: &Space,
     recorded: &Recorded,
 ) -> Result<(), Memory> {
-    let entries = entries_of(alloc, space, recorded)?;
+    let entries = entries_of(alloc, space, recorded, FIRST)?;
     object.number("at", i64::from(recorded.at))?;
     object.text("time", recorded.record.stamp.time.as_str())?;
     object.text("curator", recorded.record.stamp.curator.as_str())?;
-    object.number("count", number_of(entries.len()))?;
+    object.number("count", number_of(recorded.record.lines.len()))?;
     object.items("lines", line_items(alloc, entries.as_slice())?)?;
     object.items("tables", table_items(alloc, space, recorded)?)?;
     Ok(())
@@ -116,7 +116,7 @@ fn add_record(
 // The first lines.
 fn line_items(alloc: Global, entries: &[Entry<'_>]) -> Result<Items, Memory> {
     let mut items = Items::new(alloc);
-    for entry in entries.iter().take(FIRST) {
+    for entry in entries.iter() {
         items.object(line_object(alloc, entry)?)?;
     }
     Ok(items)

@@ -40,11 +40,19 @@ pub(crate) fn log_one(
 ) -> Result<Reply, Refusal> {
     let status = status_of(alloc, space, number)?;
     let told = told_of(alloc, space, number, status)?;
+    Ok(reply(alloc, space, context, &told)?)
+}
+
+fn reply(
+    alloc: Global,
+    space: &Space,
+    context: &Context<'_>,
+    told: &Told,
+) -> Result<Reply, Memory> {
     if context.is_json() {
-        return Ok(seen_object(alloc, Code::Done, object(alloc, space, &told)?)?);
+        return seen_object(alloc, Code::Done, object(alloc, space, told)?);
     }
-    let lines = lines(alloc, space, &told)?;
-    Ok(seen_text(Code::Done, lines))
+    Ok(seen_text(Code::Done, lines(alloc, space, told)?))
 }
 
 fn told_of(alloc: Global, space: &mut Space, number: u32, status: Status) -> Result<Told, Memory> {
@@ -67,14 +75,18 @@ fn words_of(
     status: Status,
 ) -> Result<String, Memory> {
     if status == Status::Waits {
-        let reason = space.question(alloc, number)?;
-        let words = reason_words(alloc, space, reason.as_ref())?;
+        let words = waiting_words(alloc, space, number)?;
         return Ok(format!(in alloc; "waits: {words}")?);
     }
     match standing_of(space, number) {
         Some(standing) => done_words(alloc, standing),
         None => Ok(String::from_str(alloc, status_word(status))?),
     }
+}
+
+fn waiting_words(alloc: Global, space: &mut Space, number: u32) -> Result<String, Memory> {
+    let reason = space.question(alloc, number)?;
+    reason_words(alloc, space, reason.as_ref())
 }
 
 fn is_held(space: &Space, held: usize, number: u32) -> bool {
@@ -108,13 +120,13 @@ fn writes_of(alloc: Global, space: &Space, number: u32) -> Result<Vec<Wrote>, Me
     let mut writes = Vec::new(alloc);
     if let Some(standing) = standing_of(space, number) {
         for write in standing.writes.as_slice() {
-            writes.push(wrote(alloc, space, write)?)?;
+            writes.push(wrote_of(alloc, space, write)?)?;
         }
     }
     Ok(writes)
 }
 
-fn wrote(alloc: Global, space: &Space, write: &Write) -> Result<Wrote, Memory> {
+fn wrote_of(alloc: Global, space: &Space, write: &Write) -> Result<Wrote, Memory> {
     let (sign, tuple) = match write {
         Write::Insert(tuple) => ("+", tuple),
         Write::Delete(tuple) => ("-", tuple),
@@ -175,12 +187,8 @@ fn choice_text(alloc: Global, space: &Space, choice: &Choice) -> Result<String, 
 }
 
 fn lines(alloc: Global, space: &Space, told: &Told) -> Result<Vec<String>, Memory> {
-    let number = told.number;
-    let time = space.time_of(number);
-    let curator = space.curator_of(number);
-    let line = space.update_text(alloc, number)?;
     let mut lines = Vec::new(alloc);
-    lines.push(format!(in alloc; "{number}  {time}  {curator}  {line}")?)?;
+    lines.push(first_line(alloc, space, told.number)?)?;
     for answer in told.answers.iter() {
         lines.push(format!(in alloc; "  answer {answer}")?)?;
     }
@@ -192,6 +200,13 @@ fn lines(alloc: Global, space: &Space, told: &Told) -> Result<Vec<String>, Memor
         lines.push(format!(in alloc; "  {sign} {text}")?)?;
     }
     Ok(lines)
+}
+
+fn first_line(alloc: Global, space: &Space, number: u32) -> Result<String, Memory> {
+    let time = space.time_of(number);
+    let curator = space.curator_of(number);
+    let line = space.update_text(alloc, number)?;
+    Ok(format!(in alloc; "{number}  {time}  {curator}  {line}")?)
 }
 
 fn object(alloc: Global, space: &Space, told: &Told) -> Result<Object, Memory> {

@@ -4,7 +4,7 @@ use crate::questions::{Telling, Told};
 use base_types::Memory;
 use std::alloc::Global;
 use ws_json::Object;
-use ws_question::{question_lines, question_object};
+use ws_question::{AskedNow, question_lines, question_object};
 use ws_seen::object_of;
 use ws_space::Space;
 
@@ -35,17 +35,31 @@ fn add_lines(
     told: &Told,
     telling: Telling<'_>,
 ) -> Result<(), Memory> {
-    let number = told.number;
+    lines.push(first_line(alloc, space, told.number)?)?;
+    match &told.asked {
+        Some(asked) => add_asked(alloc, lines, space, asked, telling),
+        None => {
+            let words = told.words.as_str();
+            lines.push(format!(in alloc; "  {words}")?)?;
+            Ok(())
+        }
+    }
+}
+
+fn first_line(alloc: Global, space: &Space, number: u32) -> Result<String, Memory> {
     let curator = space.curator_of(number);
     let line = space.update_text(alloc, number)?;
-    lines.push(format!(in alloc; "{number} {curator}: {line}")?)?;
-    let Some(asked) = &told.asked else {
-        let words = told.words.as_str();
-        lines.push(format!(in alloc; "  {words}")?)?;
-        return Ok(());
-    };
-    let question = question_lines(alloc, space, asked, telling.like, telling.limit)?;
-    for line in question.iter() {
+    Ok(format!(in alloc; "{number} {curator}: {line}")?)
+}
+
+fn add_asked(
+    alloc: Global,
+    lines: &mut Vec<String>,
+    space: &Space,
+    asked: &AskedNow,
+    telling: Telling<'_>,
+) -> Result<(), Memory> {
+    for line in question_lines(alloc, space, asked, telling.like, telling.limit)?.iter() {
         lines.push(format!(in alloc; "  {line}")?)?;
     }
     if asked.misfit {

@@ -7,7 +7,7 @@ use std::alloc::Global;
 use ws_fault::{Refusal, Status as Code};
 use ws_question::{AskedNow, Shown, asked_now, reason_words, status_of, status_word};
 use ws_reply::{Context, Reply};
-use ws_run::Reason;
+use ws_run::{Question, Reason};
 use ws_seen::{refused, seen_objects, seen_text};
 use ws_space::Space;
 use ws_state::Status;
@@ -168,19 +168,34 @@ fn refuse_others(alloc: Global, space: &Space, number: u32) -> Result<(), Refusa
 
 fn told_of(alloc: Global, space: &mut Space, number: u32) -> Result<Told, Memory> {
     match space.question(alloc, number)? {
-        Some(Reason::Asks(question)) => Ok(Told {
-            number,
-            asked: Some(asked_now(alloc, space, number, question)?),
-            kind: "question",
-            words: String::new(alloc),
-        }),
-        reason => Ok(Told {
-            number,
-            asked: None,
-            kind: kind_of(reason.as_ref()),
-            words: reason_words(alloc, space, reason.as_ref())?,
-        }),
+        Some(Reason::Asks(question)) => asking(alloc, space, number, question),
+        reason => unasking(alloc, space, number, reason.as_ref()),
     }
+}
+
+fn asking(alloc: Global, space: &Space, number: u32, question: Question) -> Result<Told, Memory> {
+    let asked = asked_now(alloc, space, number, question)?;
+    Ok(Told {
+        number,
+        asked: Some(asked),
+        kind: "question",
+        words: String::new(alloc),
+    })
+}
+
+fn unasking(
+    alloc: Global,
+    space: &Space,
+    number: u32,
+    reason: Option<&Reason>,
+) -> Result<Told, Memory> {
+    let words = reason_words(alloc, space, reason)?;
+    Ok(Told {
+        number,
+        asked: None,
+        kind: kind_of(reason),
+        words,
+    })
 }
 
 // Why an update waits without a question.

@@ -5,7 +5,7 @@ use std::alloc::Global;
 use ws_command::Paging;
 use ws_print::add_cell;
 use ws_space::Space;
-use ws_written::{Atom, Fact, Term, Value as Said};
+use ws_written::{Atom, Term, Value as Said};
 
 /// The tuples, within and in order, that match the atom. It is refused only for want of memory.
 pub(crate) fn matched(alloc: Global, space: &Space, atom: &Atom) -> Result<Vec<Tuple>, Memory> {
@@ -92,8 +92,7 @@ fn having(
     let like = like.to_lowercase(alloc)?;
     let mut found = Vec::new(alloc);
     for tuple in tuples {
-        let fact = space.shown(alloc, &tuple)?;
-        if has_text(alloc, &fact, like.as_str())? {
+        if has_text(alloc, space, &tuple, like.as_str())? {
             found.push(tuple)?;
         }
     }
@@ -101,14 +100,18 @@ fn having(
 }
 
 // Whether a cell has the text in it, as it is shown, capitals apart.
-fn has_text(alloc: Global, fact: &Fact, like: &str) -> Result<bool, Memory> {
+fn has_text(alloc: Global, space: &Space, tuple: &Tuple, like: &str) -> Result<bool, Memory> {
+    let fact = space.shown(alloc, tuple)?;
     for value in &fact.values {
-        let mut cell = String::new(alloc);
-        add_cell(&mut cell, value)?;
-        let cell = cell.as_str().to_lowercase(alloc)?;
-        if cell.as_str().contains(like) {
+        if cell_text(alloc, value)?.as_str().contains(like) {
             return Ok(true);
         }
     }
     Ok(false)
+}
+
+fn cell_text(alloc: Global, value: &Said) -> Result<String, Memory> {
+    let mut cell = String::new(alloc);
+    add_cell(&mut cell, value)?;
+    Ok(cell.as_str().to_lowercase(alloc)?)
 }

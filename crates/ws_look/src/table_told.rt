@@ -2,12 +2,13 @@
 
 use crate::tables::{Told, first_of};
 use base_types::Memory;
-use std::alloc::Global;
+use std::alloc::{AllocError, Global};
 use ws_command::Paging;
 use ws_json::{Items, Object};
 use ws_print::{Table, add_count, add_ranges};
 use ws_seen::{column_items, number_items, number_of, object_of, row_items};
 use ws_space::Space;
+use ws_written::Column;
 
 /// The tables, parted by empty lines. It is refused only for want of memory.
 pub(crate) fn lines(
@@ -24,14 +25,17 @@ pub(crate) fn lines(
         add_lines(alloc, &mut lines, told, paging)?;
     }
     if lines.is_empty() {
-        let none = if space.relations.is_empty() {
-            "no relations"
-        } else {
-            "no rows"
-        };
-        lines.push(String::from_str(alloc, none)?)?;
+        lines.push(String::from_str(alloc, nothing(space))?)?;
     }
     Ok(lines)
+}
+
+fn nothing(space: &Space) -> &'static str {
+    if space.relations.is_empty() {
+        "no relations"
+    } else {
+        "no rows"
+    }
 }
 
 fn add_lines(
@@ -48,11 +52,15 @@ fn add_lines(
         lines.push(format!(in alloc; ".. and {more} more")?)?;
     }
     if told.is_whole && !told.waiting.is_empty() {
-        let mut line = String::from_str(alloc, "waiting: ")?;
-        add_ranges(&mut line, told.waiting.as_slice())?;
-        lines.push(line)?;
+        lines.push(waiting_line(alloc, told.waiting.as_slice())?)?;
     }
     Ok(())
+}
+
+fn waiting_line(alloc: Global, waiting: &[u32]) -> Result<String, AllocError> {
+    let mut line = String::from_str(alloc, "waiting: ")?;
+    add_ranges(&mut line, waiting)?;
+    Ok(line)
 }
 
 fn title(alloc: Global, told: &Told<'_>, paging: &Paging) -> Result<String, Memory> {
@@ -74,17 +82,22 @@ fn title(alloc: Global, told: &Told<'_>, paging: &Paging) -> Result<String, Memo
 fn add_table(alloc: Global, lines: &mut Vec<String>, told: &Told<'_>) -> Result<(), Memory> {
     let mut table = Table::new(alloc);
     for column in &told.relation.columns {
-        let mut name = String::from_str(alloc, column.name.as_str())?;
-        if column.key {
-            name.push('*')?;
-        }
-        table.add_column(name.as_str())?;
+        table.add_column(column_name(alloc, column)?.as_str())?;
     }
     for row in &told.rows {
         table.add_row(row.values.as_slice())?;
     }
     table.add_to(lines)?;
     Ok(())
+}
+
+// The name of the column, with a star if it is of the key.
+fn column_name(alloc: Global, column: &Column) -> Result<String, AllocError> {
+    let mut name = String::from_str(alloc, column.name.as_str())?;
+    if column.key {
+        name.push('*')?;
+    }
+    Ok(name)
 }
 
 /// The tables, each an object. It is refused only for want of memory.

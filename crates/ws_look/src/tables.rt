@@ -65,7 +65,7 @@ fn add_all<'a>(
         let rows = uncertain(space.rows(alloc, number)?, paging);
         let rows = alike(alloc, space, rows, paging)?;
         if !rows.is_empty() || !hides_empty {
-            tables.push(told(alloc, space, number, relation, rows, true, paging)?)?;
+            tables.push(told_of(alloc, space, number, relation, rows, true, paging)?)?;
         }
     }
     Ok(())
@@ -111,7 +111,7 @@ fn add_named<'a>(
         return Ok(());
     }
     let rows = alike(alloc, space, rows, paging)?;
-    tables.push(told(alloc, space, number, relation, rows, is_whole, paging)?)?;
+    tables.push(told_of(alloc, space, number, relation, rows, is_whole, paging)?)?;
     Ok(())
 }
 
@@ -120,7 +120,7 @@ pub(crate) fn first_of(paging: &Paging) -> usize {
     (paging.from.unwrap_or(1) as usize).saturating_sub(1)
 }
 
-fn told<'a>(
+fn told_of<'a>(
     alloc: Global,
     space: &Space,
     number: u32,

@@ -1,9 +1,9 @@
 //! The lines of `violations`.
 
 use crate::clashes::Clashes;
-use crate::violating::Told;
+use crate::violating::{Lack, Told};
 use base_types::Memory;
-use std::alloc::Global;
+use std::alloc::{AllocError, Global};
 use ws_print::{add_count, add_form};
 use ws_space::Space;
 
@@ -46,6 +46,18 @@ fn add_mapping(
     told: &Told,
 ) -> Result<(), Memory> {
     let name = space.mapping_name(told.mapping);
+    lines.push(mapping_line(alloc, name, told)?)?;
+    for lack in told.first.iter() {
+        lines.push(lack_line(alloc, lack)?)?;
+    }
+    if told.first.len() < told.count {
+        let more = told.count.saturating_sub(told.first.len());
+        lines.push(format!(in alloc; "  .. and {more} more: violations {name}")?)?;
+    }
+    Ok(())
+}
+
+fn mapping_line(alloc: Global, name: &str, told: &Told) -> Result<String, AllocError> {
     let how = if told.in_force {
         "in force"
     } else {
@@ -57,17 +69,13 @@ fn add_mapping(
     } else {
         add_count(&mut line, told.count, "violation")?;
     }
-    lines.push(line)?;
-    for lack in told.first.iter() {
-        let since = joined(alloc, lack.since.as_slice())?;
-        let lacks = joined(alloc, lack.lacks.as_slice())?;
-        lines.push(format!(in alloc; "  {since} lacks {lacks}")?)?;
-    }
-    if told.first.len() < told.count {
-        let more = told.count.saturating_sub(told.first.len());
-        lines.push(format!(in alloc; "  .. and {more} more: violations {name}")?)?;
-    }
-    Ok(())
+    Ok(line)
+}
+
+fn lack_line(alloc: Global, lack: &Lack) -> Result<String, Memory> {
+    let since = joined(alloc, lack.since.as_slice())?;
+    let lacks = joined(alloc, lack.lacks.as_slice())?;
+    Ok(format!(in alloc; "  {since} lacks {lacks}")?)
 }
 
 fn add_clashes(
@@ -77,10 +85,7 @@ fn add_clashes(
     clashes: &Clashes,
     limit: usize,
 ) -> Result<(), Memory> {
-    let form = form_of(alloc, space, clashes)?;
-    let mut line = format!(in alloc; "key of {form}: ")?;
-    add_count(&mut line, clashes.groups.len(), "clash")?;
-    lines.push(line)?;
+    lines.push(key_line(alloc, space, clashes)?)?;
     for group in clashes.groups.iter().take(limit) {
         let group = joined(alloc, group.as_slice())?;
         lines.push(format!(in alloc; "  {group}")?)?;
@@ -90,6 +95,14 @@ fn add_clashes(
         lines.push(format!(in alloc; "  .. and {more} more")?)?;
     }
     Ok(())
+}
+
+// `key of FORM: N clashes`.
+fn key_line(alloc: Global, space: &Space, clashes: &Clashes) -> Result<String, Memory> {
+    let form = form_of(alloc, space, clashes)?;
+    let mut line = format!(in alloc; "key of {form}: ")?;
+    add_count(&mut line, clashes.groups.len(), "clash")?;
+    Ok(line)
 }
 
 /// The relation with its columns. It is refused only for want of memory.

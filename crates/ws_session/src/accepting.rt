@@ -62,13 +62,22 @@ impl Session {
         }
         let record = record_of(alloc, time, self.settings.curator.as_str(), lines, comment)?;
         let text = text_of(alloc, space, &record)?;
+        // What takes memory comes before the append, since nothing may be refused after it. At a fault the workspace is let go.
+        self.texts.push(Vec::new(alloc))?;
+        space.recorded(alloc, record)?;
         match told(alloc, log, text.as_slice(), reply) {
-            Ok((log, reply)) => {
-                self.texts.push(text)?;
-                space.recorded(alloc, record)?;
-                Ok((log, reply))
+            Ok(told) => {
+                self.keep_last(text);
+                Ok(told)
             }
             Err(fault) => Err(self.log_fault(alloc, fault)),
+        }
+    }
+
+    // The text of the last record.
+    fn keep_last(&mut self, text: Vec<u8>) {
+        if let Some(last) = self.texts.last_mut() {
+            *last = text;
         }
     }
 }

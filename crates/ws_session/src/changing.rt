@@ -5,13 +5,15 @@ use crate::folding::fold_over;
 use crate::leaving::Done;
 use crate::loading::loaded;
 use crate::sessions::{Session, context_of};
+use def_memory::Memory;
 use std::alloc::Global;
+use std::mem;
 use ws_change::change as changed;
 use ws_command::{Change, Command, Said};
 use ws_fault::{Refusal, Status};
 use ws_look::help;
 use ws_reply::{Kind, Outcome, Reply};
-use ws_space::{Opening, Space};
+use ws_space::{Opening, Point, Space};
 
 impl Session {
     /// What a command comes to over the workspace in memory.
@@ -56,24 +58,28 @@ impl Session {
     ) -> Result<Outcome, Refusal> {
         let alloc = rt.alloc();
         space.say_as(alloc, turn.time, self.settings.curator.as_str())?;
-        self.point = if self.settings.stays {
-            Some(space.point(alloc)?)
-        } else {
-            None
-        };
-        let mut past = self.past(alloc, space, &change)?;
-        let context = context_of(&self.settings, self.name.as_str(), turn.time, trying);
-        match change {
-            Change::Load(load) => loaded(rt, &self.settings, space, &context, &load, turn.fed),
-            _ => changed(
-                alloc,
-                space,
-                &mut self.shown,
-                past.as_mut(),
-                &context,
-                change,
-            ),
+        let point = point_of(alloc, space, self.settings.stays)?;
+        drop(mem::replace(&mut self.point, point));
+        if let Change::Load(load) = &change {
+            let context = context_of(&self.settings, self.name.as_str(), turn.time, trying);
+            return loaded(rt, &self.settings, space, &context, load, turn.fed);
         }
+        self.changed(alloc, turn.time, space, change, trying)
+    }
+
+    // What a change that is no `load` comes to.
+    fn changed(
+        &mut self,
+        alloc: Global,
+        time: &str,
+        space: &mut Space,
+        change: Change,
+        trying: bool,
+    ) -> Result<Outcome, Refusal> {
+        let mut past = self.past(alloc, space, &change)?;
+        let context = context_of(&self.settings, self.name.as_str(), time, trying);
+        let shown = &mut self.shown;
+        changed(alloc, space, shown, past.as_mut(), &context, change)
     }
 
     // The workspace after the record of `--at`, if that is not the last one.
@@ -97,6 +103,14 @@ impl Session {
             Err(Opening::Memory) => Err(Refusal::Memory),
         }
     }
+}
+
+// What the workspace goes back to if what is done in memory is not recorded, if further commands may come.
+fn point_of(alloc: Global, space: &Space, stays: bool) -> Result<Option<Point>, Memory> {
+    if stays {
+        return Ok(Some(space.point(alloc)?));
+    }
+    Ok(None)
 }
 
 /// The reply to `quit`.

@@ -2,7 +2,7 @@
 
 use crate::sessions::Session;
 use std::alloc::{AllocError, Global};
-use std::io;
+use std::io::{self, ErrorKind};
 use ws_fault::{Fault, Refusal, Status};
 use ws_json::{Items, Object};
 use ws_log::{Damage, Fault as LogFault, reason};
@@ -20,7 +20,7 @@ pub(crate) fn fault(alloc: Global, status: Status, words: String, hint: Option<S
     })
 }
 
-/// `cannot read P: REASON`, or another verb.
+/// `cannot read P: REASON`, or another verb; want of memory if that is why.
 pub(crate) fn cannot(
     alloc: Global,
     status: Status,
@@ -28,6 +28,9 @@ pub(crate) fn cannot(
     path: &str,
     error: &io::Error,
 ) -> Refusal {
+    if error.kind() == ErrorKind::OutOfMemory {
+        return Refusal::Memory;
+    }
     match cannot_words(alloc, verb, path, error) {
         Ok(words) => fault(alloc, status, words, None),
         Err(refusal) => refusal,

@@ -7,7 +7,7 @@ use def_memory::Memory;
 use std::alloc::Global;
 use ws_fault::{Refusal, Status};
 use ws_json::{Items, Object};
-use ws_log::{OpenLog, fold};
+use ws_log::{Fault, OpenLog, fold};
 use ws_reply::{Form, Kind, Reply};
 use ws_space::Space;
 
@@ -100,14 +100,29 @@ impl Session {
         reply: Reply,
     ) -> Result<(OpenLog, Option<Reply>), Refusal> {
         let alloc = rt.alloc();
-        match fold(rt, self.settings.path.as_str(), log, head.as_slice()) {
+        // Nothing may be refused after the fold.
+        let mut texts = Vec::new(alloc);
+        texts.push(head)?;
+        match folded_to(rt, self.settings.path.as_str(), log, texts.as_slice()) {
             Ok(log) => {
-                self.texts = Vec::new(alloc);
-                self.texts.push(head)?;
+                self.texts = texts;
                 self.space = None;
                 Ok((log, Some(reply)))
             }
             Err(fault) => Err(self.log_fault(alloc, fault)),
         }
+    }
+}
+
+// The log of the head alone, which is the only one of the texts.
+fn folded_to(
+    rt: &HostRuntime,
+    path: &str,
+    log: OpenLog,
+    texts: &[Vec<u8>],
+) -> Result<OpenLog, Fault> {
+    match texts.first() {
+        Some(head) => fold(rt, path, log, head.as_slice()),
+        None => Err(Fault::Memory),
     }
 }

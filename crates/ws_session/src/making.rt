@@ -9,7 +9,7 @@ use def_memory::Memory;
 use std::alloc::Global;
 use ws_command::{Change, Command, Said};
 use ws_fault::Refusal;
-use ws_log::create;
+use ws_log::{Fault, OpenLog, create};
 use ws_look::help;
 use ws_print::add_head;
 use ws_reply::{Outcome, Reply};
@@ -25,25 +25,39 @@ impl Session {
     ) -> Result<Option<Reply>, Refusal> {
         let alloc = rt.alloc();
         let space = Space::fresh(alloc, self.stamp(alloc, turn.time)?)?;
-        let Some(said) = read_over(alloc, &space, turn.line)? else {
-            return Ok(None);
-        };
+        match read_over(alloc, &space, turn.line)? {
+            Some(said) => Ok(Some(self.first(rt, turn, space, said)?)),
+            None => {
+                drop(space);
+                Ok(None)
+            }
+        }
+    }
+
+    // The answer to a command if there is no file.
+    fn first(
+        &mut self,
+        rt: &HostRuntime,
+        turn: &Turn<'_>,
+        space: Space,
+        said: Said,
+    ) -> Result<Reply, Refusal> {
+        let alloc = rt.alloc();
+        allowed(alloc, &self.settings, 0, &said.command)?;
+        if let Command::Help(verb) = &said.command {
+            let context = context_of(&self.settings, self.name.as_str(), turn.time, false);
+            return Ok(help(alloc, &context, *verb)?);
+        }
+        if let Command::Quit = &said.command {
+            return Ok(quit(alloc));
+        }
         let Said { command, comment } = said;
-        allowed(alloc, &self.settings, 0, &command)?;
-        match command {
-            Command::Change { change, .. } => {
-                if !makes_file(&change) {
-                    return Err(self.no_file(alloc));
-                }
-                Ok(Some(self.make(rt, turn, space, change, comment.as_str())?))
+        match making(command) {
+            Some(change) => self.make(rt, turn, space, change, comment.as_str()),
+            None => {
+                drop(space);
+                Err(self.no_file(alloc))
             }
-            Command::Help(verb) => {
-                let name = self.name.as_str();
-                let context = context_of(&self.settings, name, turn.time, false);
-                Ok(Some(help(alloc, &context, verb)?))
-            }
-            Command::Quit => Ok(Some(quit(alloc))),
-            _ => Err(self.no_file(alloc)),
         }
     }
 
@@ -65,30 +79,59 @@ impl Session {
     ) -> Result<Reply, Refusal> {
         let alloc = rt.alloc();
         let mut space = space;
-        let head = head_text(alloc, &space)?;
+        let mut texts = Vec::new(alloc);
+        texts.push(head_text(alloc, &space)?)?;
         let outcome = self.change(rt, turn, &mut space, change, false)?;
         let Outcome { reply, lines } = outcome;
         let curator = self.settings.curator.as_str();
         let record = record_of(alloc, turn.time, curator, lines, comment)?;
-        let mut texts = Vec::new(alloc);
         texts.push(text_of(alloc, &space, &record)?)?;
-        match create(
-            rt,
-            self.settings.path.as_str(),
-            head.as_slice(),
-            texts.as_slice(),
-        ) {
+        space.recorded(alloc, record)?;
+        self.made(rt, space, texts)?;
+        Ok(reply)
+    }
+
+    // Makes the file with these texts, the head first, and keeps what it has. Nothing is refused after that.
+    fn made(&mut self, rt: &HostRuntime, space: Space, texts: Vec<Vec<u8>>) -> Result<(), Refusal> {
+        match created(rt, self.settings.path.as_str(), texts.as_slice()) {
             Ok(log) => {
-                space.recorded(alloc, record)?;
-                self.texts = Vec::new(alloc);
-                self.texts.push(head)?;
-                self.texts.append(&mut texts)?;
+                self.texts = texts;
                 self.space = Some(space);
-                self.rest(alloc, Some(log));
-                Ok(reply)
+                self.rest(rt.alloc(), Some(log));
+                Ok(())
             }
-            Err(fault) => Err(self.log_fault(alloc, fault)),
+            Err(fault) => Err(self.log_fault(rt.alloc(), fault)),
         }
+    }
+}
+
+fn created(rt: &HostRuntime, path: &str, texts: &[Vec<u8>]) -> Result<OpenLog, Fault> {
+    match texts.split_first() {
+        Some((head, records)) => create(rt, path, head.as_slice(), records),
+        None => Err(Fault::Memory),
+    }
+}
+
+// The change of the command, if it makes the file.
+fn making(command: Command) -> Option<Change> {
+    match command {
+        Command::Change { change, still: _ } => {
+            if makes_file(&change) {
+                return Some(change);
+            }
+            drop(change);
+            None
+        }
+        Command::Try { change, still: _ } => {
+            drop(change);
+            None
+        }
+        Command::Look(look) => {
+            drop(look);
+            None
+        }
+        Command::Help(_) => None,
+        Command::Quit => None,
     }
 }
 

@@ -98,7 +98,7 @@ fn one(
         fed: fed.as_ref(),
     };
     match session.command(rt, &turn)? {
-        Some(reply) => tell(rt, form, &reply),
+        Some(reply) => Ok(tell(rt, form, &reply)),
         None => Ok(Status::Done),
     }
 }

@@ -162,7 +162,7 @@ impl Script {
         if reply.kind == Kind::Quit {
             return Ok(Next::End);
         }
-        let status = tell(rt, self.form, reply)?;
+        let status = tell(rt, self.form, reply);
         if status.stops() && !self.is_terminal {
             if !self.goes_on {
                 return Ok(Next::Stop(status));

@@ -8,23 +8,48 @@ use ws_reply::{Form, Kind, Reply};
 use ws_session::fault_reply;
 
 /// Tells a reply: a fault in text on the error stream, all else on the output. The status is that of the reply, unless it could not be
-/// told. It is refused only for want of memory.
-pub fn tell(rt: &HostRuntime, form: Form, reply: &Reply) -> Result<Status, Memory> {
-    let mut text = String::new(rt.alloc());
-    for line in &reply.lines {
-        text.push_str(line.as_str())?;
-        text.push('\n')?;
-    }
-    let is_told = if reply.kind == Kind::Fault && form == Form::Text {
-        rt.stderr().write_all(text.as_bytes()).is_ok()
-    } else {
-        rt.stdout().write_all(text.as_bytes()).is_ok()
+/// told.
+pub fn tell(rt: &HostRuntime, form: Form, reply: &Reply) -> Status {
+    let is_fault = reply.kind == Kind::Fault && form == Form::Text;
+    let lines = reply.lines.as_slice();
+    let is_told = match joined(rt.alloc(), lines) {
+        Ok(text) => is_written(rt, is_fault, text.as_str()),
+        Err(_) => are_written(rt, is_fault, lines),
     };
-    Ok(if is_told {
+    if is_told {
         reply.status
     } else {
         Status::NoOutput
-    })
+    }
+}
+
+// The lines in one text, each with a line feed.
+fn joined(alloc: Global, lines: &[String]) -> Result<String, AllocError> {
+    let mut text = String::new(alloc);
+    for line in lines {
+        text.push_str(line.as_str())?;
+        text.push('\n')?;
+    }
+    Ok(text)
+}
+
+fn is_written(rt: &HostRuntime, is_fault: bool, text: &str) -> bool {
+    if is_fault {
+        rt.stderr().write_all(text.as_bytes()).is_ok()
+    } else {
+        rt.stdout().write_all(text.as_bytes()).is_ok()
+    }
+}
+
+// Writes the lines one by one, which takes no memory.
+fn are_written(rt: &HostRuntime, is_fault: bool, lines: &[String]) -> bool {
+    for line in lines {
+        let is_whole = is_written(rt, is_fault, line.as_str()) && is_written(rt, is_fault, "\n");
+        if !is_whole {
+            return false;
+        }
+    }
+    true
 }
 
 /// Tells lines on the output. It is refused only for want of memory.
@@ -60,7 +85,8 @@ pub fn tell_fault(
 
 /// Tells a fault of the words. It is refused only for want of memory.
 pub fn tell_wrong(rt: &HostRuntime, form: Form, fault: &Fault) -> Result<Status, Memory> {
-    tell(rt, form, &fault_reply(rt.alloc(), form, fault, "", None)?)
+    let reply = fault_reply(rt.alloc(), form, fault, "", None)?;
+    Ok(tell(rt, form, &reply))
 }
 
 /// Tells that memory was wanting.
