@@ -1,5 +1,6 @@
 //! The lines of records as the log tells them.
 
+use crate::statuses::Statuses;
 use base_types::Memory;
 use std::alloc::{AllocError, Global};
 use std::fmt::Write;
@@ -21,16 +22,18 @@ pub(crate) struct Entry<'a> {
     pub comment: &'a str,
 }
 
-/// The first lines of a record, so many at most. It is refused only for want of memory.
+/// The first lines of a record, so many at most; how an update stands is looked up one by one if it was not found for all before.
+/// It is refused only for want of memory.
 pub(crate) fn entries_of<'a>(
     alloc: Global,
     space: &Space,
+    statuses: Option<&Statuses>,
     recorded: &'a Recorded,
     most: usize,
 ) -> Result<Vec<Entry<'a>>, Memory> {
     let mut entries = Vec::new(alloc);
     for said in recorded.record.lines.iter().take(most) {
-        entries.push(entry_of(alloc, space, recorded, said)?)?;
+        entries.push(entry_of(alloc, space, statuses, recorded, said)?)?;
     }
     Ok(entries)
 }
@@ -38,6 +41,7 @@ pub(crate) fn entries_of<'a>(
 fn entry_of<'a>(
     alloc: Global,
     space: &Space,
+    statuses: Option<&Statuses>,
     recorded: &'a Recorded,
     said: &'a SaidLine,
 ) -> Result<Entry<'a>, Memory> {
@@ -46,7 +50,7 @@ fn entry_of<'a>(
         at: recorded.at,
         stamp: &recorded.record.stamp,
         number,
-        state: state_of(space, number),
+        state: state_of(space, statuses, number),
         text: line_text(alloc, space.relations.as_slice(), &said.line)?,
         comment: said.comment.as_str(),
     })
@@ -68,8 +72,13 @@ pub(crate) fn last_number(recorded: &Recorded) -> Option<u32> {
     }
 }
 
-fn state_of(space: &Space, number: Option<u32>) -> &'static str {
-    match space.state.status(number.unwrap_or(0)) {
+fn state_of(space: &Space, statuses: Option<&Statuses>, number: Option<u32>) -> &'static str {
+    let number = number.unwrap_or(0);
+    let status = match statuses {
+        Some(statuses) => statuses.status(number),
+        None => space.state.status(number),
+    };
+    match status {
         Some(status) => status_word(status),
         None => "",
     }

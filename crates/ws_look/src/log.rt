@@ -108,7 +108,7 @@ fn add_records(
     for recorded in records {
         let count = recorded.record.lines.len();
         let told = if count <= MOST { MOST } else { FIRST };
-        for entry in entries_of(alloc, space, recorded, told)?.iter() {
+        for entry in entries_of(alloc, space, None, recorded, told)?.iter() {
             lines.push(entry_line(alloc, entry)?)?;
         }
         if MOST < count {

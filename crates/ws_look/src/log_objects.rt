@@ -2,6 +2,7 @@
 
 use crate::entries::{Entry, entries_of};
 use crate::log::{FIRST, MOST};
+use crate::statuses::Statuses;
 use base_types::Memory;
 use std::alloc::Global;
 use ws_json::{Items, Object};
@@ -14,9 +15,10 @@ pub(crate) fn entry_objects(
     space: &Space,
     records: &[Recorded],
 ) -> Result<Vec<Object>, Memory> {
+    let statuses = Statuses::of(alloc, &space.state)?;
     let mut objects = Vec::new(alloc);
     for recorded in records {
-        let entries = entries_of(alloc, space, recorded, recorded.record.lines.len())?;
+        let entries = entries_of(alloc, space, Some(&statuses), recorded, usize::MAX)?;
         let told = if entries.len() <= MOST { MOST } else { FIRST };
         for (place, entry) in entries.iter().enumerate() {
             objects.push(entry_object(alloc, entry, place < told)?)?;
@@ -103,7 +105,7 @@ fn add_record(
     space: &Space,
     recorded: &Recorded,
 ) -> Result<(), Memory> {
-    let entries = entries_of(alloc, space, recorded, FIRST)?;
+    let entries = entries_of(alloc, space, None, recorded, FIRST)?;
     object.number("at", i64::from(recorded.at))?;
     object.text("time", recorded.record.stamp.time.as_str())?;
     object.text("curator", recorded.record.stamp.curator.as_str())?;
