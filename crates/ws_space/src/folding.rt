@@ -1,7 +1,7 @@
 //! The head of what stands.
 
 use crate::copies::copy_rule;
-use crate::naming::{said_facts, unknown_of};
+use crate::naming::{add_said_facts, said_fact, said_facts, unknown_of};
 use crate::sources::called;
 use crate::spaces::Space;
 use crate::spelling::said_update;
@@ -21,20 +21,52 @@ impl Space {
     /// The head of what stands: it becomes the base, and what waits goes on waiting. It is refused only for want of memory.
     pub fn head(&self, alloc: Global) -> Result<Head, Memory> {
         let numbered = self.state.head(alloc)?;
-        let rules = self.rules_kept(alloc, &numbered)?;
-        let waiting = waits_said(alloc, &numbered, rules.as_slice())?;
-        let (in_force, proposed) = cut(alloc, rules, numbered.in_force)?;
-        Ok(Head {
-            created: copy_stamp(alloc, &self.created)?,
+        let head = self.head_of(alloc, &numbered);
+        drop(numbered);
+        head
+    }
+
+    fn head_of(&self, alloc: Global, numbered: &Numbered) -> Result<Head, Memory> {
+        let mut head = Head {
+            created: Stamp {
+                time: String::new(alloc),
+                curator: String::new(alloc),
+            },
             last: numbered.last,
             at: self.at(),
-            relations: copy_relations(alloc, self.relations.as_slice())?,
-            in_force,
-            proposed,
-            unknowns: unknowns_of(alloc, numbered.unknowns.as_slice())?,
-            base: said_facts(alloc, numbered.base.as_slice())?,
-            waiting,
-        })
+            relations: Vec::new(alloc),
+            in_force: Vec::new(alloc),
+            proposed: Vec::new(alloc),
+            unknowns: Vec::new(alloc),
+            base: Vec::new(alloc),
+            waiting: Vec::new(alloc),
+        };
+        match self.fill(alloc, numbered, &mut head) {
+            Ok(()) => Ok(head),
+            Err(memory) => {
+                drop(head);
+                Err(memory)
+            }
+        }
+    }
+
+    // Adds to the head, of which only the numbers stand yet, all else.
+    fn fill(&self, alloc: Global, numbered: &Numbered, head: &mut Head) -> Result<(), Memory> {
+        head.created.time.push_str(self.created.time.as_str())?;
+        head.created
+            .curator
+            .push_str(self.created.curator.as_str())?;
+        add_relations(&mut head.relations, self.relations.as_slice())?;
+        add_unknowns(&mut head.unknowns, numbered.unknowns.as_slice())?;
+        add_said_facts(alloc, &mut head.base, numbered.base.as_slice())?;
+        let rules = self.rules_kept(alloc, numbered)?;
+        match add_waits(alloc, &mut head.waiting, numbered, rules.as_slice()) {
+            Ok(()) => add_rules(head, rules, numbered.in_force),
+            Err(memory) => {
+                drop(rules);
+                Err(memory)
+            }
+        }
     }
 
     // The mappings of the head, by the names that they have there.
@@ -52,50 +84,44 @@ impl Space {
     }
 }
 
-// The first so many, and the others.
-fn cut(alloc: Global, rules: Vec<Rule>, count: usize) -> Result<(Vec<Rule>, Vec<Rule>), Memory> {
-    let mut first = Vec::new(alloc);
-    let mut others = Vec::new(alloc);
+// Adds the first so many as mappings in force, and the others as proposed ones.
+fn add_rules(head: &mut Head, rules: Vec<Rule>, count: usize) -> Result<(), Memory> {
     for (place, rule) in rules.into_iter().enumerate() {
         if place < count {
-            first.push(rule)?;
+            head.in_force.push(rule)?;
         } else {
-            others.push(rule)?;
+            head.proposed.push(rule)?;
         }
     }
-    Ok((first, others))
+    Ok(())
 }
 
-pub(crate) fn copy_stamp(alloc: Global, stamp: &Stamp) -> Result<Stamp, Memory> {
-    Ok(Stamp {
-        time: String::from_str(alloc, stamp.time.as_str())?,
-        curator: String::from_str(alloc, stamp.curator.as_str())?,
-    })
-}
-
-fn copy_relations(alloc: Global, relations: &[Relation]) -> Result<Vec<Relation>, Memory> {
-    let mut copies = Vec::new(alloc);
+fn add_relations(copies: &mut Vec<Relation>, relations: &[Relation]) -> Result<(), Memory> {
     for relation in relations {
         copies.push(relation.clone()?)?;
     }
-    Ok(copies)
+    Ok(())
 }
 
-fn unknowns_of(alloc: Global, names: &[Null]) -> Result<Vec<Unknown>, Memory> {
-    let mut unknowns = Vec::new(alloc);
+fn add_unknowns(unknowns: &mut Vec<Unknown>, names: &[Null]) -> Result<(), Memory> {
     for name in names {
         unknowns.push(unknown_of(*name))?;
     }
-    Ok(unknowns)
+    Ok(())
 }
 
-fn waits_said(alloc: Global, head: &Numbered, rules: &[Rule]) -> Result<Vec<Waiting>, Memory> {
-    let mut waits = Vec::new(alloc);
+// Adds the updates that wait, by number.
+fn add_waits(
+    alloc: Global,
+    waits: &mut Vec<Waiting>,
+    head: &Numbered,
+    rules: &[Rule],
+) -> Result<(), Memory> {
     for waiting in head.waits.as_slice() {
         waits.push(wait_said(alloc, head, rules, waiting)?)?;
     }
     waits.sort_by_key(|waiting| waiting.update.number)?;
-    Ok(waits)
+    Ok(())
 }
 
 fn wait_said(
@@ -199,7 +225,7 @@ pub(crate) fn answer_said(alloc: Global, rules: &[Rule], given: &Given) -> Resul
 fn choice_said(alloc: Global, choice: &Choice) -> Result<SaidChoice, Memory> {
     Ok(match choice {
         Choice::Expand => SaidChoice::Expand,
-        Choice::Unify(tuple) => SaidChoice::Unify(crate::naming::said_fact(alloc, tuple)?),
+        Choice::Unify(tuple) => SaidChoice::Unify(said_fact(alloc, tuple)?),
         Choice::Delete(tuples) => SaidChoice::Delete(said_facts(alloc, tuples.as_slice())?),
     })
 }

@@ -53,11 +53,21 @@ pub(crate) fn said_values(alloc: Global, values: &[Value]) -> Result<Vec<Said>, 
 /// Tuples by names, as they are said. It is refused only for want of memory.
 pub(crate) fn said_facts(alloc: Global, tuples: &[Tuple]) -> Result<Vec<Fact>, Memory> {
     let mut facts = Vec::new(alloc);
+    add_said_facts(alloc, &mut facts, tuples)?;
+    Ok(facts)
+}
+
+/// Adds tuples by names, as they are said. It is refused only for want of memory.
+pub(crate) fn add_said_facts(
+    alloc: Global,
+    facts: &mut Vec<Fact>,
+    tuples: &[Tuple],
+) -> Result<(), Memory> {
     facts.reserve(tuples.len())?;
     for tuple in tuples {
         facts.push(said_fact(alloc, tuple)?)?;
     }
-    Ok(facts)
+    Ok(())
 }
 
 /// A value that is said, by names. It is refused only for want of memory.

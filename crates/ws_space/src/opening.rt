@@ -1,13 +1,14 @@
 //! A workspace that is opened from the texts of its file.
 
+use crate::changed::Changed;
 use crate::heads::state_of;
 use crate::lines::apart;
 use crate::spaces::Space;
-use crate::texts::number;
 use base_types::Memory;
 use std::alloc::{AllocError, AllocFailed, Global};
 use ws_grammar::{read_head, read_record};
-use ws_written::{Head, Record, Rule};
+use ws_state::State;
+use ws_written::{Head, Record, Rule, Stamp};
 
 /// Why texts cannot be opened: want of memory, or the text at this place among them is no head or record.
 #[derive(Clone, Copy, Debug, PartialEq, Eq)]
@@ -41,12 +42,22 @@ impl Space {
             return Err(Opening::Unread(0));
         };
         let mut space = Space::of_head(alloc, head.as_slice())?;
+        match space.replay_all(alloc, records) {
+            Ok(()) => Ok(space),
+            Err(fault) => {
+                drop(space);
+                Err(fault)
+            }
+        }
+    }
+
+    fn replay_all(&mut self, alloc: Global, records: &[Vec<u8>]) -> Result<(), Opening> {
         for (place, text) in records.iter().enumerate() {
-            if !space.replayed(alloc, text.as_slice())? {
+            if !self.replayed(alloc, text.as_slice())? {
                 return Err(Opening::Unread(place.saturating_add(1)));
             }
         }
-        Ok(space)
+        Ok(())
     }
 
     /// Takes one more record; the place of a text that is none is 0.
@@ -65,17 +76,30 @@ impl Space {
     }
 
     fn over(alloc: Global, head: Head) -> Result<Space, Opening> {
-        let rules = rules_of(alloc, &head)?;
-        let Some(state) = state_of(alloc, rules.as_slice(), &head)? else {
-            return Err(Opening::Unread(0));
-        };
-        let mut space = Space::fresh(alloc, head.created)?;
-        space.relations = head.relations;
-        space.rules = rules;
-        space.state = state;
-        space.first = head.at;
-        space.folded = head.last;
-        Ok(space)
+        match begun(alloc, &head) {
+            Ok((rules, state)) => Ok(Space::begun_by(alloc, head, rules, state)),
+            Err(fault) => {
+                drop(head);
+                Err(fault)
+            }
+        }
+    }
+
+    fn begun_by(alloc: Global, head: Head, rules: Vec<Rule>, state: State) -> Space {
+        Space {
+            relations: head.relations,
+            rules,
+            state,
+            records: Vec::new(alloc),
+            created: head.created,
+            first: head.at,
+            folded: head.last,
+            stamp: Stamp {
+                time: String::new(alloc),
+                curator: String::new(alloc),
+            },
+            changed: Changed::new(alloc),
+        }
     }
 
     // Whether the text is a record; what it says is done then.
@@ -99,6 +123,22 @@ impl Space {
             }
         }
         Ok(true)
+    }
+}
+
+// The mappings of the head by number, and its state.
+fn begun(alloc: Global, head: &Head) -> Result<(Vec<Rule>, State), Opening> {
+    let rules = rules_of(alloc, head)?;
+    match state_of(alloc, rules.as_slice(), head) {
+        Ok(Some(state)) => Ok((rules, state)),
+        Ok(None) => {
+            drop(rules);
+            Err(Opening::Unread(0))
+        }
+        Err(_) => {
+            drop(rules);
+            Err(Opening::Memory)
+        }
     }
 }
 

@@ -23,22 +23,30 @@ impl Space {
 
     // The same; None if the line names a mapping that is not there.
     pub(crate) fn try_take(&mut self, alloc: Global, line: &Line) -> Result<Option<Told>, Memory> {
+        self.declare(alloc, line)?;
         let Some(meant) = line_of(alloc, self.rules.as_slice(), &self.stamp, line)? else {
             return Ok(None);
         };
-        self.declare(alloc, line)?;
         let stood = self.state.order().len();
         let told = self.state.take(alloc, meant)?;
-        self.changed.lines = self.changed.lines.saturating_add(1);
-        match &told.replayed {
-            Some(replayed) => self.changed.add_replayed(replayed)?,
-            None => {
-                let order = self.state.order().as_slice();
-                if let Some(new) = order.get(stood..) {
-                    self.changed.add_stood(new)?;
-                }
+        match self.note(&told, stood) {
+            Ok(()) => Ok(Some(told)),
+            Err(memory) => {
+                drop(told);
+                Err(memory)
             }
         }
-        Ok(Some(told))
+    }
+
+    // Notes what the line did that was taken after so many updates stood.
+    fn note(&mut self, told: &Told, stood: usize) -> Result<(), Memory> {
+        self.changed.lines = self.changed.lines.saturating_add(1);
+        if let Some(replayed) = &told.replayed {
+            return self.changed.add_replayed(replayed);
+        }
+        match self.state.order().as_slice().get(stood..) {
+            Some(new) => self.changed.add_stood(new),
+            None => Ok(()),
+        }
     }
 }
