@@ -5,7 +5,7 @@ use Rattle.def_chase.specs.Mappings.{Rule}
 use Rattle.def_chase.specs.Updates.{Choice, direction_of}
 use Rattle.chase_eval.specs.Watched.{Watched}
 use Rattle.chase_update.specs.Courses.{State}
-use Rattle.run_serial.specs.Turns.{HasStepped, seen_with, view_of}
+use Rattle.run_step.specs.Turns.{HasStepped, seen_with, view_of}
 
 -- It is between two steps.
 pub rests_after : (ms : List Rule) (B : ℕ) (D : List Fact) (c : Option Choice) (s t : State) → HasStepped ms B D c s t → t.reading ≡ None

@@ -2,7 +2,7 @@
 
 use crate::threads::{Step, Thread};
 use base_types::{Memory, TryCopy, Tuple, Value, ValueList};
-use run_explain::{Rewriting, Way};
+use run_note::{Rewriting, Way};
 use std::alloc::Global;
 
 /// What these steps made of the value. It is refused only for want of memory.

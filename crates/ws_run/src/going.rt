@@ -1,7 +1,7 @@
 //! The steps of an op, one after the other, up to its end or its halt.
 ghost use Rattle.std.specs.Prelude.{◌≡◌, ◌<◌, [], true, None, OnOk};
 ghost use Rattle.def_chase.specs.Repository.{IsRepository};
-ghost use Rattle.run_serial.specs.Turns.{view_of};
+ghost use Rattle.run_step.specs.Turns.{view_of};
 
 use crate::asking::{fitting, told};
 use crate::drawing::name_drawn;
@@ -13,7 +13,7 @@ use crate::threads::Thread;
 use base_types::{ChoiceList, Facts, Memory, Null};
 use chase_eval::WatchedView;
 use chase_update::{Attempt, Outcome, Want};
-use run_serial::turns::{Next, what_next};
+use run_step::{Next, what_next};
 use set_facts::IndexedFacts;
 use std::alloc::Global;
 use ws_names::Names;

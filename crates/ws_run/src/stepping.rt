@@ -5,7 +5,7 @@ ghost use Rattle.def_chase.specs.Repository.{IsRepository};
 ghost use Rattle.def_chase.specs.Updates.{direction_of};
 ghost use Rattle.base_types.specs.Meanings.{choice_of};
 ghost use Rattle.chase_update.specs.Wishes.{wish};
-ghost use Rattle.run_serial.specs.Turns.{StepsBy, HasStepped, seen_with};
+ghost use Rattle.run_step.specs.Turns.{StepsBy, HasStepped, seen_with};
 
 use crate::settings::Setting;
 use crate::threads::{Step, Taking};
@@ -14,7 +14,7 @@ use chase_eval::WatchedView;
 use chase_query::{Query, Reply};
 use chase_question::Question;
 use chase_update::{Attempt, Want};
-use run_explain::{Note, Way, noted};
+use run_note::{Note, Way, noted};
 use set_facts::IndexedFacts;
 use std::alloc::Global;
 use ws_lines::Source;

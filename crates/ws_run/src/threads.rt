@@ -1,7 +1,7 @@
 //! What a run of an update keeps as it goes.
 
 use base_types::{ChoiceList, List, NumberList, Operation, WriteList};
-use run_explain::Note;
+use run_note::Note;
 use std::alloc::Global;
 use ws_lines::Source;
 use ws_names::Places;

@@ -2,7 +2,7 @@
 
 use crate::worlds::Standing;
 use base_types::{Facts, Memory, Tuple, ValueList};
-use run_explain::Way;
+use run_note::Way;
 use std::alloc::Global;
 use std::collections::BTreeMap;
 use ws_lines::Source;

@@ -2,7 +2,7 @@
 
 use crate::steps::{Made, rewritten};
 use base_types::{Memory, Tuple};
-use run_explain::Way;
+use run_note::Way;
 use std::alloc::Global;
 use ws_fault::{Refusal, Status};
 use ws_json::Object;

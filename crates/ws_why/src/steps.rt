@@ -2,7 +2,7 @@
 
 use base_types::{Memory, TryCopy, Tuple, TupleList, Value, ValueList};
 use chase_unifier::apply;
-use run_explain::{Rewriting, Way};
+use run_note::{Rewriting, Way};
 use std::alloc::Global;
 use std::collections::BTreeMap;
 use ws_lines::Source;

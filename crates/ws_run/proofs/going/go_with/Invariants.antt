@@ -1,5 +1,5 @@
 use Rattle.std.proofs.Common.{◌≡◌, None}
-use Rattle.run_serial.specs.Turns.{view_of}
+use Rattle.run_step.specs.Turns.{view_of}
 use Rattle.ws_run.proofs.going.go_with.Given as goal
 
 -- Between two steps; the view is of the mappings in force, in the op's direction, and sees the own writes.
