@@ -45,7 +45,8 @@ impl Model for IndexedFacts {
 
     ghost view = { λ f. f.all };
 
-    ghost invariant = { λ f. IsRepository f.all × IsIndex f.all f.relations.items × IsNullIndex f.all f.by_null };
+    ghost invariant = { λ f.
+        IsRepository f.all × IsIndex f.all f.relations.items × IsNullIndex f.all f.by_null };
 }
 
 impl IndexedFacts {
