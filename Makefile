@@ -46,7 +46,7 @@ help:
 	@echo 'make checks            what needs no prover: pages, figures, stored rows and tables of the built program'
 	@echo 'make differential SEED=1 COUNT=1000'
 	@echo '                       compare the built program with the reference in Python on random sessions'
-	@echo 'make hostile           attack the built programs: refused memory, failing devices, cut and long inputs, workers'
+	@echo 'make hostile           attack the built programs: refused memory, failing devices, cut and long inputs, workers, workspaces'
 	@echo 'make share             make the man pages and the completions from share/words.tsv'
 	@echo 'make test              the gate: prove every crate, try every must-fail edit, run every test, program and check'
 
@@ -109,7 +109,7 @@ checks: $(PROGRAM)
 differential: $(PROGRAM)
 	tests/differential $(SEED) $(COUNT)
 
-hostile: $(PROGRAM) $(LIVE)
+hostile: $(PROGRAM) $(LIVE) $(YT)
 	tests/hostile
 
 test:

@@ -132,8 +132,8 @@ class Page:
     # ---- what a person does ----
 
     def find(self, css, words=None, seconds=PATIENCE):
-        """The middle of the first visible element of this selector that has these words in it; waits for it."""
-        expression = """(() => { const e = [...document.querySelectorAll(%s)].find(e => e.checkVisibility() && !e.disabled &&
+        """The middle of the first visible element of this selector that has these words in it, and can be used; waits for it."""
+        expression = """(() => { const e = [...document.querySelectorAll(%s)].find(e => e.checkVisibility() && !e.disabled && !e.closest('fieldset:disabled, [inert]') &&
             (e.innerText + ' ' + (e.getAttribute('aria-label') ?? '')).includes(%s));
             if (!e) return null;
             e.scrollIntoView({block: 'nearest'}); const r = e.getBoundingClientRect();

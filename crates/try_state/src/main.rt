@@ -11,34 +11,40 @@ use crate::reading::{Command, command_of};
 use crate::telling::{tell_effect, tell_reason, tell_replayed, tell_state};
 use base_types::Memory;
 use std::alloc::Global;
+use std::mem;
 use ws_lines::Line;
 use ws_state::State;
 
 // Does what the line asks for, and tells of it.
-fn done(alloc: Global, state: State, text: &str) -> anyhow::Result<(State, String)> {
-    let mut state = state;
+fn done(alloc: Global, state: &mut State, text: &str) -> anyhow::Result<String> {
     match command_of(alloc, text)? {
         Command::Line(line) => {
-            try_first(alloc, &mut state, text)?;
-            let told = taken(alloc, &mut state, line)?;
-            Ok((state, told))
+            try_first(alloc, state, text)?;
+            Ok(taken(alloc, state, line)?)
         }
-        Command::Ask(number) => {
-            let mut told = String::new(alloc);
-            tell_reason(alloc, &mut told, &state.ask(alloc, number)?)?;
-            Ok((state, told))
+        Command::Ask(number) => Ok(asked(alloc, state, number)?),
+        Command::Show => Ok(tell_state(alloc, state)?),
+        Command::Fold => folded(alloc, state),
+    }
+}
+
+fn asked(alloc: Global, state: &mut State, number: u32) -> Result<String, Memory> {
+    let mut told = String::new(alloc);
+    tell_reason(alloc, &mut told, &state.ask(alloc, number)?)?;
+    Ok(told)
+}
+
+// Folds the state, and opens it again.
+fn folded(alloc: Global, state: &mut State) -> anyhow::Result<String> {
+    let head = state.head(alloc)?;
+    match State::of(alloc, head) {
+        Ok(opened) => {
+            drop(mem::replace(state, opened));
+            Ok(format!(in alloc; "folded")?)
         }
-        Command::Show => {
-            let told = tell_state(alloc, &state)?;
-            Ok((state, told))
-        }
-        Command::Fold => {
-            let head = state.head(alloc)?;
-            drop(state);
-            match State::of(alloc, head) {
-                Ok(state) => Ok((state, format!(in alloc; "folded")?)),
-                Err(fault) => Ok((State::new(alloc), format!(in alloc; "{fault:?}")?)),
-            }
+        Err(fault) => {
+            drop(mem::replace(state, State::new(alloc)));
+            Ok(format!(in alloc; "{fault:?}")?)
         }
     }
 }
@@ -57,12 +63,9 @@ fn taken(alloc: Global, state: &mut State, line: Line) -> Result<String, Memory>
     let told = state.take(alloc, line)?;
     let mut text = String::new(alloc);
     tell_reason(alloc, &mut text, &told.reason)?;
-    match told.replayed {
-        Some(replayed) => tell_replayed(alloc, &mut text, &replayed)?,
-        None => {
-            let effect = state.effect_since(alloc, mark)?;
-            tell_effect(alloc, &mut text, &effect)?;
-        }
+    match &told.replayed {
+        Some(replayed) => tell_replayed(alloc, &mut text, replayed)?,
+        None => tell_effect(alloc, &mut text, &state.effect_since(alloc, mark)?)?,
     }
     Ok(text)
 }
@@ -73,13 +76,11 @@ fn main(rt: HostRuntime) -> anyhow::Result<()> {
     for line in rt.lines(alloc) {
         let line = line?;
         if line.as_str() == "end" {
-            drop(state);
-            state = State::new(alloc);
+            drop(mem::replace(&mut state, State::new(alloc)));
             println!(rt; "end")?;
             continue;
         }
-        let (next, told) = done(alloc, state, line.as_str())?;
-        state = next;
+        let told = done(alloc, &mut state, line.as_str())?;
         println!(rt; "{told}")?;
     }
     Ok(())

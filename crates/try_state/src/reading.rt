@@ -29,11 +29,8 @@ struct Tokens<'a> {
 impl<'a> Tokens<'a> {
     fn word(&mut self) -> &'a str {
         let place = self.place;
-        self.place += 1;
-        match self.words.get(place) {
-            Some(word) => *word,
-            None => "",
-        }
+        self.place = place.saturating_add(1);
+        self.words.get(place).copied().unwrap_or("")
     }
 
     fn number(&mut self) -> u32 {

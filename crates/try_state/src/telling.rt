@@ -4,7 +4,7 @@ use base_types::{Choice, Memory, Null, Tuple, TupleList, Value, Write};
 use std::alloc::Global;
 use ws_lines::{Given, GivenList, Source};
 use ws_run::{Question, Reason};
-use ws_state::{Effect, MovedList, Replayed, State};
+use ws_state::{Effect, Held, MovedList, Replayed, State};
 
 fn add(text: &mut String, more: &str) -> Result<(), Memory> {
     match text.push_str(more) {
@@ -203,29 +203,37 @@ pub fn tell_state(alloc: Global, state: &State) -> Result<String, Memory> {
     }
     add(&mut text, " order")?;
     for standing in state.order().as_slice() {
-        let number = state.held()[standing.held].update.number;
-        add(&mut text, format!(in alloc; " {number}")?.as_str())?;
-    }
-    for waiting in state.waiting().as_slice() {
-        let held = &state.held()[waiting.held];
-        add(
-            &mut text,
-            format!(in alloc; " waits {} ", held.update.number)?.as_str(),
-        )?;
-        add_all_given(alloc, &mut text, &waiting.answers)?;
-        for place in held.places.as_slice() {
-            add(&mut text, format!(in alloc; " {} ", place.number)?.as_str())?;
-            add_source(alloc, &mut text, place.cause.source)?;
-            add(
-                &mut text,
-                format!(in alloc; " {} ", place.cause.variable)?.as_str(),
-            )?;
-            add_tuples(alloc, &mut text, &place.cause.image)?;
+        if let Some(held) = state.held().get(standing.held) {
+            let number = held.update.number;
+            add(&mut text, format!(in alloc; " {number}")?.as_str())?;
         }
     }
-    add(
-        &mut text,
-        format!(in alloc; " last {}", state.last())?.as_str(),
-    )?;
+    for waiting in state.waiting().as_slice() {
+        if let Some(held) = state.held().get(waiting.held) {
+            add_waiting(alloc, &mut text, held, &waiting.answers)?;
+        }
+    }
+    let last = format!(in alloc; " last {}", state.last())?;
+    add(&mut text, last.as_str())?;
     Ok(text)
+}
+
+fn add_waiting(
+    alloc: Global,
+    text: &mut String,
+    held: &Held,
+    answers: &GivenList,
+) -> Result<(), Memory> {
+    let number = format!(in alloc; " waits {} ", held.update.number)?;
+    add(text, number.as_str())?;
+    add_all_given(alloc, text, answers)?;
+    for place in held.places.as_slice() {
+        let number = format!(in alloc; " {} ", place.number)?;
+        add(text, number.as_str())?;
+        add_source(alloc, text, place.cause.source)?;
+        let variable = format!(in alloc; " {} ", place.cause.variable)?;
+        add(text, variable.as_str())?;
+        add_tuples(alloc, text, &place.cause.image)?;
+    }
+    Ok(())
 }

@@ -1,25 +1,17 @@
 //! Each change by its kind.
 
-use crate::adopting::adopt;
-use crate::answering::{SaidAnswer, answer};
-use crate::declaring::declare_mapping;
-use crate::deleting::delete;
-use crate::done::Done;
-use crate::dropping::drop_mapping;
-use crate::faults::refuse;
-use crate::inserting::insert;
-use crate::relations::declare_relation;
-use crate::replacing::{fill, replace};
-use crate::several::answer_several;
-use crate::undoing::{redo, undo, undo_answers};
 use def_memory::Memory;
 use std::alloc::Global;
+use ws_answer::{SaidAnswer, answer, answer_several, redo, undo, undo_answers};
 use ws_command::Change;
+use ws_declare::{adopt, declare_mapping, declare_relation, drop_mapping};
+use ws_done::{Done, refuse};
 use ws_fault::Refusal;
 use ws_question::Shown;
 use ws_reply::{Context, Outcome};
 use ws_report::Report;
 use ws_space::Space;
+use ws_tuples::{delete, fill, insert, replace};
 
 /// Does the change over the workspace, and tells of it. `past` is the workspace as it was after the record of `--at`, if that
 /// is not the last one and was not folded.
@@ -87,7 +79,7 @@ fn done_alone(alloc: Global, space: &mut Space, change: Change) -> Result<Done, 
     }
 }
 
-// What the change comes to, with its reply.
+// What the change comes to: its question is shown, and its reply is made.
 fn outcome(
     alloc: Global,
     space: &Space,
@@ -95,13 +87,26 @@ fn outcome(
     context: &Context<'_>,
     done: Done,
 ) -> Result<Outcome, Refusal> {
+    match show(shown, context, &done.report) {
+        Ok(()) => replied(alloc, space, context, done),
+        Err(_) => {
+            drop(done);
+            Err(Refusal::Memory)
+        }
+    }
+}
+
+// The change with its reply.
+fn replied(
+    alloc: Global,
+    space: &Space,
+    context: &Context<'_>,
+    done: Done,
+) -> Result<Outcome, Refusal> {
     let Done { report, lines } = done;
-    let is_recorded = !lines.is_empty();
-    let is_shown = show(shown, context, &report);
-    let reply = report.into_reply(alloc, space, context, is_recorded);
-    match (is_shown, reply) {
-        (Ok(()), Ok(reply)) => Ok(Outcome { reply, lines }),
-        _ => {
+    match report.into_reply(alloc, space, context, !lines.is_empty()) {
+        Ok(reply) => Ok(Outcome { reply, lines }),
+        Err(_) => {
             drop(lines);
             Err(Refusal::Memory)
         }

@@ -3,7 +3,7 @@
 use crate::base::{places_of, tuples_before};
 use crate::comments::add_comments;
 use crate::cutting::cut_of;
-use crate::hidden::add_relations;
+use crate::hidden::relations_of;
 use crate::mappings::first_mappings;
 use crate::renaming::Renaming;
 use crate::updates::Updates;
@@ -19,19 +19,41 @@ use ws_space::Space;
 pub fn dump(alloc: Global, space: &Space) -> Result<Vec<String>, Memory> {
     let cut = cut_of(alloc, space)?;
     let tuples = tuples_before(alloc, space, cut)?;
-    let mut schema = Schema::new(alloc);
+    dump_from(alloc, space, &tuples, cut)
+}
+
+// The lines of the dump over these tuples as its base.
+fn dump_from(
+    alloc: Global,
+    space: &Space,
+    tuples: &BTreeSet<Tuple>,
+    cut: usize,
+) -> Result<Vec<String>, Memory> {
+    let places = places_of(alloc, tuples)?;
+    let (schema, hidden) = relations_of(alloc, space, cut)?;
     let renaming = Renaming {
         alloc,
         first: first_of(space, cut),
-        places: places_of(alloc, &tuples)?,
-        hidden: add_relations(alloc, &mut schema, space, cut)?,
+        places,
+        hidden,
     };
-    let text = session_text(alloc, space, &renaming, schema, &tuples, cut)?;
+    let text = session_text(alloc, space, &renaming, schema, tuples, cut)?;
+    lines_of(alloc, space, &renaming, text.as_str(), cut)
+}
+
+// The lines of the printed form, the comments after the first one.
+fn lines_of(
+    alloc: Global,
+    space: &Space,
+    renaming: &Renaming,
+    text: &str,
+    cut: usize,
+) -> Result<Vec<String>, Memory> {
     let mut lines = Vec::new(alloc);
-    for (place, line) in text.as_str().trim_end_matches('\n').split('\n').enumerate() {
+    for (place, line) in text.trim_end_matches('\n').split('\n').enumerate() {
         lines.push(String::from_str(alloc, line)?)?;
         if place == 0 {
-            add_comments(alloc, &mut lines, space, &renaming, cut)?;
+            add_comments(alloc, &mut lines, space, renaming, cut)?;
         }
     }
     Ok(lines)
@@ -57,23 +79,42 @@ fn session_text(
     tuples: &BTreeSet<Tuple>,
     cut: usize,
 ) -> Result<String, Memory> {
+    let session = session_of(alloc, space, renaming, schema, tuples, cut)?;
+    let bytes = printed(alloc, session)?;
+    Ok(String::from_utf8_lossy(alloc, bytes.as_slice())?)
+}
+
+fn session_of(
+    alloc: Global,
+    space: &Space,
+    renaming: &Renaming,
+    schema: Schema,
+    tuples: &BTreeSet<Tuple>,
+    cut: usize,
+) -> Result<Session, Memory> {
     let base = renamed(renaming, tuples)?;
+    let updates = updates_of(alloc, space, renaming, cut)?;
+    Ok(Session {
+        format: 2,
+        schema,
+        mappings: updates.mappings,
+        base,
+        updates: updates.updates,
+    })
+}
+
+fn updates_of(
+    alloc: Global,
+    space: &Space,
+    renaming: &Renaming,
+    cut: usize,
+) -> Result<Updates, Memory> {
     let mut updates = Updates {
         mappings: first_mappings(alloc, space, &renaming.hidden, cut)?,
         updates: SessionUpdates::new(alloc),
     };
     updates.add_all(alloc, space, renaming, cut)?;
-    let bytes = printed(
-        alloc,
-        Session {
-            format: 2,
-            schema,
-            mappings: updates.mappings,
-            base,
-            updates: updates.updates,
-        },
-    )?;
-    Ok(String::from_utf8_lossy(alloc, bytes.as_slice())?)
+    Ok(updates)
 }
 
 fn printed(alloc: Global, session: Session) -> Result<Vec<u8>, Memory> {

@@ -69,42 +69,90 @@ fn is_drawing(tuple: &Tuple) -> bool {
     tuple.relation == WANT || tuple.relation == UNKNOWN
 }
 
-/// Adds the relations to a schema, those of the workspace first, and then the hidden ones that the updates use which stand from
-/// this place on. It is refused only for want of memory.
-pub(crate) fn add_relations(
+/// The relations of a dump, those of the workspace first, and then the hidden ones that the updates use which stand from this
+/// place on. It is refused only for want of memory.
+pub(crate) fn relations_of(
+    alloc: Global,
+    space: &Space,
+    cut: usize,
+) -> Result<(Schema, Hidden), Memory> {
+    let mut schema = Schema::new(alloc);
+    let hidden = add_relations(alloc, &mut schema, space, cut)?;
+    Ok((schema, hidden))
+}
+
+fn add_relations(
     alloc: Global,
     schema: &mut Schema,
     space: &Space,
     cut: usize,
 ) -> Result<Hidden, Memory> {
+    add_tables(alloc, schema, space)?;
+    let want = add_want(alloc, schema, space, cut)?;
+    Ok(Hidden {
+        want,
+        fixes: add_fixes(alloc, schema, space, cut)?,
+    })
+}
+
+fn add_tables(alloc: Global, schema: &mut Schema, space: &Space) -> Result<(), Memory> {
     for table in space.state.tables().as_slice() {
         let columns = u16::try_from(table.columns.len()).unwrap_or(u16::MAX);
         declare(schema, table.name.copy(alloc)?, columns)?;
     }
-    let inside = space.state.order().as_slice().iter().skip(cut);
-    let mut hidden = Hidden {
-        want: None,
-        fixes: Vec::new(alloc),
-    };
+    Ok(())
+}
+
+// Adds `_want` and `_unknown`, if an update draws new unknowns; the number of the first.
+fn add_want(
+    alloc: Global,
+    schema: &mut Schema,
+    space: &Space,
+    cut: usize,
+) -> Result<Option<u16>, Memory> {
+    if !is_drawn(space, cut) {
+        return Ok(None);
+    }
+    let want = schema.len();
+    declare(schema, name_of(alloc, "_want")?, 1)?;
+    declare(schema, name_of(alloc, "_unknown")?, 2)?;
+    Ok(Some(want))
+}
+
+fn is_drawn(space: &Space, cut: usize) -> bool {
+    for standing in space.state.order().as_slice().iter().skip(cut) {
+        if draws(standing) {
+            return true;
+        }
+    }
+    false
+}
+
+// Adds `_fix_m` for each mapping that is repaired.
+fn add_fixes(
+    alloc: Global,
+    schema: &mut Schema,
+    space: &Space,
+    cut: usize,
+) -> Result<Vec<Fix>, Memory> {
+    let mut fixes = Vec::new(alloc);
+    for mapping in repaired_from(alloc, space, cut)? {
+        let relation = schema.len();
+        declare_fix(alloc, schema, space, mapping)?;
+        fixes.push(Fix { mapping, relation })?;
+    }
+    Ok(fixes)
+}
+
+// The mappings that are repaired from this place on.
+fn repaired_from(alloc: Global, space: &Space, cut: usize) -> Result<BTreeSet<u16>, Memory> {
     let mut repaired = BTreeSet::new(alloc);
-    let mut is_drawn = false;
-    for standing in inside {
-        is_drawn = is_drawn || draws(standing);
+    for standing in space.state.order().as_slice().iter().skip(cut) {
         if let Some(mapping) = repaired_by(space, standing.held) {
             repaired.insert(mapping)?;
         }
     }
-    if is_drawn {
-        hidden.want = Some(schema.len());
-        declare(schema, name_of(alloc, "_want")?, 1)?;
-        declare(schema, name_of(alloc, "_unknown")?, 2)?;
-    }
-    for mapping in repaired {
-        let relation = schema.len();
-        declare_fix(alloc, schema, space, mapping)?;
-        hidden.fixes.push(Fix { mapping, relation })?;
-    }
-    Ok(hidden)
+    Ok(repaired)
 }
 
 // `_fix_m`, with a column for each variable on both sides of the mapping, and one if there is none.
@@ -118,10 +166,17 @@ fn declare_fix(
         return Ok(());
     };
     let columns = shared_variables(alloc, declared)?.len().max(1);
-    let mut name = String::from_str(alloc, "_fix_")?;
-    name.push_str(space.mapping_name(mapping))?;
     let columns = u16::try_from(columns).unwrap_or(u16::MAX);
-    declare(schema, name_of(alloc, name.as_str())?, columns)
+    declare(
+        schema,
+        fix_name(alloc, space.mapping_name(mapping))?,
+        columns,
+    )
+}
+
+fn fix_name(alloc: Global, mapping: &str) -> Result<Name, Memory> {
+    let name = format!(in alloc; "_fix_{mapping}")?;
+    name_of(alloc, name.as_str())
 }
 
 fn name_of(alloc: Global, text: &str) -> Result<Name, Memory> {

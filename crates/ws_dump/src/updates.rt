@@ -45,12 +45,15 @@ impl Updates {
         };
         let repaired = repaired_by(space, standing.held);
         for (place, op) in standing.ops.as_slice().iter().enumerate() {
-            let update = Update {
-                label: label_of(alloc, held.update.number, place)?,
-                curator: held.update.curator.copy(alloc)?,
-                operation: self.operation(alloc, space, renaming, repaired, op)?,
-            };
+            let label = label_of(alloc, held.update.number, place)?;
+            let curator = held.update.curator.copy(alloc)?;
             let answers = renaming.choices(op.choices.as_slice(), repaired)?;
+            let operation = self.operation(alloc, space, renaming, repaired, op)?;
+            let update = Update {
+                label,
+                curator,
+                operation,
+            };
             self.updates.push(SessionUpdate { update, answers })?;
         }
         Ok(())

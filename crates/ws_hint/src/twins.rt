@@ -1,7 +1,8 @@
 //! Tuples that may be the same as one that is inserted, and tuples of the same key.
 
 use crate::vague::{VagueColumn, is_unknown};
-use base_types::{Facts, Memory, Null, Tuple, Value};
+use base_types::{Column, Memory, Null, Tuple, Value};
+use chase_match::Walk;
 use chase_unifier::is_more_specific;
 use std::alloc::Global;
 use std::collections::BTreeSet;
@@ -110,15 +111,14 @@ fn same_key<'a>(
 ) -> Option<&'a Tuple> {
     let first = *key.first()?;
     let value = tuple.values.get(first)?;
-    let column = u16::try_from(first).ok()?;
-    let facts = space.state.facts();
-    let mut past: Option<&'a Tuple> = None;
+    let number = u16::try_from(first).ok()?;
+    let column = Some(Column { number, value });
+    let mut walk = Walk::new(space.state.facts(), tuple.relation, column);
     for _ in 0..u64::MAX {
-        let found = facts.scan(tuple.relation, column, value, past)?;
+        let found = walk.next()?;
         if found != tuple && !twins.contains(found) && has_same_key(found, tuple, key) {
             return Some(found);
         }
-        past = Some(found);
     }
     None
 }

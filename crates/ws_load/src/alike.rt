@@ -25,14 +25,23 @@ pub(crate) fn add_alike(
     for (place, column) in declared.columns.iter().enumerate() {
         let groups = groups_of(alloc, rows.as_slice(), place)?;
         if !groups.is_empty() {
-            let table = declared.name.as_str();
             let name = column.name.as_str();
-            let mut words = format!(in alloc; "{table}.{name} has spellings that are alike: ")?;
-            add_groups(&mut words, groups.as_slice())?;
+            let words = words_of(alloc, declared.name.as_str(), name, groups.as_slice())?;
             notes.push(Note::of(alloc, words))?;
         }
     }
     Ok(())
+}
+
+fn words_of(
+    alloc: Global,
+    table: &str,
+    column: &str,
+    groups: &[Vec<String>],
+) -> Result<String, AllocError> {
+    let mut words = format!(in alloc; "{table}.{column} has spellings that are alike: ")?;
+    add_groups(&mut words, groups)?;
+    Ok(words)
 }
 
 fn add_groups(words: &mut String, groups: &[Vec<String>]) -> Result<(), AllocError> {
@@ -54,35 +63,52 @@ fn add_group(words: &mut String, group: &[String]) -> Result<(), AllocError> {
     Ok(())
 }
 
+// The spellings by their forms, in the order of the first of each, and the place of each form among them.
+#[derive(Drop)]
+struct Groups {
+    groups: Vec<Vec<String>>,
+    places: BTreeMap<String, usize>,
+}
+
 // The spellings of a column that are alike, each group in order, the groups in the order of their first ones.
 fn groups_of(alloc: Global, rows: &[Tuple], column: usize) -> Result<Vec<Vec<String>>, Memory> {
-    let mut groups: Vec<Vec<String>> = Vec::new(alloc);
-    let mut places: BTreeMap<String, usize> = BTreeMap::new(alloc);
-    for text in texts_of(alloc, rows, column)? {
-        let form = form_of(alloc, text.as_str())?;
-        match places.get(&form).copied() {
-            Some(place) => add_to(&mut groups, place, text)?,
-            None => {
-                places.insert(form, groups.len())?;
-                groups.push(alone(alloc, text)?)?;
-            }
-        }
-    }
+    let mut all = Groups {
+        groups: Vec::new(alloc),
+        places: BTreeMap::new(alloc),
+    };
+    all.add_all(alloc, rows, column)?;
+    let mut groups = all.groups;
     groups.retain(|group| 1 < group.len());
     Ok(groups)
 }
 
-fn add_to(groups: &mut Vec<Vec<String>>, place: usize, text: String) -> Result<(), AllocError> {
-    if let Some(group) = groups.get_mut(place) {
-        group.push(text)?;
+impl Groups {
+    fn add_all(&mut self, alloc: Global, rows: &[Tuple], column: usize) -> Result<(), Memory> {
+        for text in texts_of(alloc, rows, column)? {
+            self.add(alloc, text)?;
+        }
+        Ok(())
     }
-    Ok(())
-}
 
-fn alone(alloc: Global, text: String) -> Result<Vec<String>, AllocError> {
-    let mut group = Vec::new(alloc);
-    group.push(text)?;
-    Ok(group)
+    fn add(&mut self, alloc: Global, text: String) -> Result<(), AllocError> {
+        let place = self.place_of(alloc, text.as_str())?;
+        if let Some(group) = self.groups.get_mut(place) {
+            group.push(text)?;
+        }
+        Ok(())
+    }
+
+    // The place of the group of a spelling; a new form begins a group.
+    fn place_of(&mut self, alloc: Global, text: &str) -> Result<usize, AllocError> {
+        let form = form_of(alloc, text)?;
+        if let Some(place) = self.places.get(&form) {
+            return Ok(*place);
+        }
+        let place = self.groups.len();
+        self.places.insert(form, place)?;
+        self.groups.push(Vec::new(alloc))?;
+        Ok(place)
+    }
 }
 
 // The texts of a column, each once, in order.

@@ -6,12 +6,14 @@ use crate::standing::standing_unknowns;
 use crate::telling::{Loading, line_of};
 use base_types::Memory;
 use std::alloc::Global;
-use ws_cells::{CsvReader, Fitted, Form, Loaded, facts_of, fit, form_of, text_of};
+use ws_cells::{CsvReader, Fitted, Form, Loaded, LoadedRow, facts_of, fit, form_of, text_of};
 use ws_command::Load;
 use ws_fault::Refusal;
 use ws_reply::{Context, Outcome, Reply};
+use ws_report::Report;
 use ws_space::Space;
-use ws_written::Unknown;
+use ws_state::Mark;
+use ws_written::{Relation, Unknown};
 
 /// The most tuples of a workspace.
 const TUPLES: usize = 1_000_000;
@@ -32,29 +34,63 @@ pub fn load(
     load: &Load,
     input: Input<'_>,
 ) -> Result<Outcome, Refusal> {
-    let form = form_of(alloc, load)?;
-    let text = text_of(alloc, input.path, input.bytes)?;
-    let mut reader = CsvReader::over(alloc, text, form.separator);
-    let Some(first) = reader.next_row()? else {
-        return no_header(alloc, input.path);
-    };
-    let relations = space.relations.as_slice();
-    let fitted = fit(alloc, load, &form, relations, input.path, &first)?;
-    let standing = unknowns_for(alloc, space, &form)?;
-    let rows = facts_of(
-        alloc,
-        &mut reader,
-        &form,
-        &fitted,
-        standing.as_slice(),
-        input.path,
-    )?;
-    load_rows(alloc, space, context, load, fitted, rows)
+    let (fitted, loaded) = read(alloc, space, load, input)?;
+    load_rows(alloc, space, context, load, fitted, loaded)
 }
 
-fn no_header(alloc: Global, path: &str) -> Result<Outcome, Refusal> {
-    let words = format!(in alloc; "{path} has no header")?;
-    Err(refused(alloc, words))
+// How the file fits, and its rows.
+fn read(
+    alloc: Global,
+    space: &Space,
+    load: &Load,
+    input: Input<'_>,
+) -> Result<(Fitted, Loaded), Refusal> {
+    let form = form_of(alloc, load)?;
+    read_as(alloc, space, load, &form, input)
+}
+
+fn read_as(
+    alloc: Global,
+    space: &Space,
+    load: &Load,
+    form: &Form,
+    input: Input<'_>,
+) -> Result<(Fitted, Loaded), Refusal> {
+    let text = text_of(alloc, input.path, input.bytes)?;
+    let mut reader = CsvReader::over(alloc, text, form.separator);
+    let fitted = fitted_by(alloc, space, load, form, input.path, &mut reader)?;
+    let loaded = rows_of(alloc, space, &mut reader, form, &fitted, input.path)?;
+    Ok((fitted, loaded))
+}
+
+// How the file fits, by its header.
+fn fitted_by(
+    alloc: Global,
+    space: &Space,
+    load: &Load,
+    form: &Form,
+    path: &str,
+    reader: &mut CsvReader<'_>,
+) -> Result<Fitted, Refusal> {
+    match reader.next_row()? {
+        Some(first) => fit(alloc, load, form, space.relations.as_slice(), path, &first),
+        None => {
+            let words = format!(in alloc; "{path} has no header")?;
+            Err(refused(alloc, words))
+        }
+    }
+}
+
+fn rows_of(
+    alloc: Global,
+    space: &Space,
+    reader: &mut CsvReader<'_>,
+    form: &Form,
+    fitted: &Fitted,
+    path: &str,
+) -> Result<Loaded, Refusal> {
+    let standing = unknowns_for(alloc, space, form)?;
+    facts_of(alloc, reader, form, fitted, standing.as_slice(), path)
 }
 
 // The unknowns that stand, if cells may name them.
@@ -98,29 +134,67 @@ fn told(
     inserted: &mut Inserted,
 ) -> Result<Reply, Refusal> {
     let skipped = usize::try_from(loaded.skipped).unwrap_or(usize::MAX);
-    let rows = loaded.rows.len();
-    if let Some(relation) = fitted.created {
-        inserted.declare(alloc, space, relation)?;
-    }
-    has_room(alloc, space, rows)?;
-    let first = space.state.order().len();
-    let mark = space.state.mark();
-    inserted.add_all(alloc, space, loaded.rows, load.steps)?;
+    let rows = loaded.rows.len().saturating_add(skipped);
+    let relation = fitted.relation;
+    let begin = insert(
+        alloc,
+        space,
+        fitted.created,
+        loaded.rows,
+        load.steps,
+        inserted,
+    )?;
     let loading = Loading {
-        relation: fitted.relation,
-        rows: rows.saturating_add(skipped),
+        relation,
+        rows,
         skipped,
         inserted: &*inserted,
     };
-    let line = line_of(alloc, load)?;
-    let report = if loading.inserted.lines.is_empty() {
-        loading.nothing(alloc, line)?
-    } else {
-        let effect = space.state.effect_since(alloc, mark)?;
-        loading.report(alloc, space, line, first, effect)?
-    };
+    let report = report_of(alloc, space, load, loading, begin)?;
     let is_recorded = !loading.inserted.lines.is_empty();
     Ok(report.into_reply(alloc, space, context, is_recorded)?)
+}
+
+// Where the updates begin: how many stood before them, and the place in the log.
+#[derive(Clone, Copy)]
+struct Begin {
+    first: usize,
+    mark: Mark,
+}
+
+fn insert(
+    alloc: Global,
+    space: &mut Space,
+    created: Option<Relation>,
+    rows: Vec<LoadedRow>,
+    steps: u32,
+    inserted: &mut Inserted,
+) -> Result<Begin, Refusal> {
+    if let Some(relation) = created {
+        inserted.declare(alloc, space, relation)?;
+    }
+    has_room(alloc, space, rows.len())?;
+    let begin = Begin {
+        first: space.state.order().len(),
+        mark: space.state.mark(),
+    };
+    inserted.add_all(alloc, space, rows, steps)?;
+    Ok(begin)
+}
+
+fn report_of(
+    alloc: Global,
+    space: &Space,
+    load: &Load,
+    loading: Loading<'_>,
+    begin: Begin,
+) -> Result<Report, Memory> {
+    let line = line_of(alloc, load)?;
+    if loading.inserted.lines.is_empty() {
+        return Ok(loading.nothing(alloc, line)?);
+    }
+    let effect = space.state.effect_since(alloc, begin.mark)?;
+    loading.report(alloc, space, line, begin.first, effect)
 }
 
 // The rows may be more than there is room for.

@@ -96,9 +96,20 @@ impl Inserted {
         steps: u32,
         line: &Line,
     ) -> Result<(), Refusal> {
-        let Told { reason, .. } = space.take(alloc, line)?;
-        match reason {
-            Some(Reason::TooLong(made)) => Err(spent_fault(alloc, space, steps, &made)?),
+        let told = space.take(alloc, line)?;
+        self.count(alloc, space, number, steps, &told)
+    }
+
+    fn count(
+        &mut self,
+        alloc: Global,
+        space: &Space,
+        number: u32,
+        steps: u32,
+        told: &Told,
+    ) -> Result<(), Refusal> {
+        match &told.reason {
+            Some(Reason::TooLong(made)) => Err(spent_fault(alloc, space, steps, made)?),
             Some(_) => Ok(self.waiting.push(number)?),
             None => Ok(self.done.push(number)?),
         }

@@ -28,6 +28,14 @@ pub(crate) struct Loading<'a> {
     pub inserted: &'a Inserted,
 }
 
+// What is told after the effect: hints, what may be said next, and which updates it was.
+#[derive(Drop)]
+struct Rest {
+    notes: Vec<Note>,
+    next: Vec<String>,
+    counted: Option<Counted>,
+}
+
 /// `load NAME FILE`, or with the lines that were asked for. It is refused only for want of memory.
 pub(crate) fn line_of(alloc: Global, load: &Load) -> Result<String, AllocError> {
     let name = load.relation.as_str();
@@ -78,9 +86,7 @@ impl<'a> Loading<'a> {
     ) -> Result<Report, Memory> {
         let (status, did) = self.outcome();
         let also = self.also(alloc, space, first, &effect.came)?;
-        let notes = self.notes(alloc, space)?;
-        let next = self.next(alloc)?;
-        let counted = self.counted(alloc)?;
+        let rest = self.rest(alloc, space)?;
         Ok(Report {
             status,
             did,
@@ -91,9 +97,19 @@ impl<'a> Loading<'a> {
             also,
             question: None,
             again: Vec::new(alloc),
+            notes: rest.notes,
+            next: rest.next,
+            counted: rest.counted,
+        })
+    }
+
+    fn rest(&self, alloc: Global, space: &Space) -> Result<Rest, Memory> {
+        let notes = self.notes(alloc, space)?;
+        let next = self.next(alloc)?;
+        Ok(Rest {
             notes,
             next,
-            counted,
+            counted: self.counted(alloc)?,
         })
     }
 
@@ -132,13 +148,23 @@ impl<'a> Loading<'a> {
     // `N rows: K inserted, ..`.
     fn counts(&self, alloc: Global) -> Result<String, AllocError> {
         let mut text = String::new(alloc);
-        add_count(&mut text, self.rows, "row")?;
+        self.add_done(&mut text)?;
+        self.add_others(&mut text)?;
+        Ok(text)
+    }
+
+    fn add_done(&self, text: &mut String) -> Result<(), AllocError> {
+        add_count(text, self.rows, "row")?;
         let done = self.inserted.done.len();
         write!(text, ": {done} inserted")?;
         if 0 < done {
             text.push_str(", by ")?;
-            add_ranges(&mut text, self.inserted.done.as_slice())?;
+            add_ranges(text, self.inserted.done.as_slice())?;
         }
+        Ok(())
+    }
+
+    fn add_others(&self, text: &mut String) -> Result<(), AllocError> {
         let there = self.inserted.there;
         if 0 < there {
             write!(text, ", {there} there already")?;
@@ -150,9 +176,9 @@ impl<'a> Loading<'a> {
         let waits = self.inserted.waiting.len();
         if 0 < waits {
             write!(text, ", {waits} wait: ")?;
-            add_ranges(&mut text, self.inserted.waiting.as_slice())?;
+            add_ranges(text, self.inserted.waiting.as_slice())?;
         }
-        Ok(text)
+        Ok(())
     }
 
     fn counted(&self, alloc: Global) -> Result<Option<Counted>, AllocError> {
@@ -186,6 +212,17 @@ impl<'a> Loading<'a> {
 
     // The first hints about rows that are inserted, and how many more there are.
     fn hints(&self, alloc: Global, space: &Space) -> Result<Vec<Note>, Memory> {
+        let mut all = self.row_hints(alloc, space)?;
+        let more = all.len().saturating_sub(HINTS);
+        all.truncate(HINTS);
+        if 0 < more {
+            let words = format!(in alloc; "and {more} more such hints")?;
+            all.push(Note::of(alloc, words))?;
+        }
+        Ok(all)
+    }
+
+    fn row_hints(&self, alloc: Global, space: &Space) -> Result<Vec<Note>, Memory> {
         let mut all = Vec::new(alloc);
         let mut hints = Hints::new(alloc);
         let last = space.state.last();
@@ -193,12 +230,6 @@ impl<'a> Loading<'a> {
             if let Some(fact) = self.done_fact(line) {
                 hints.add(space, fact, last, &mut all)?;
             }
-        }
-        let more = all.len().saturating_sub(HINTS);
-        all.truncate(HINTS);
-        if 0 < more {
-            let words = format!(in alloc; "and {more} more such hints")?;
-            all.push(Note::of(alloc, words))?;
         }
         Ok(all)
     }

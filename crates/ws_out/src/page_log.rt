@@ -63,19 +63,22 @@ fn add_record(
     states: &States,
     recorded: &Recorded,
 ) -> Result<(), AllocError> {
-    let alloc = document.alloc;
-    let at = recorded.at;
-    let time = document.shown(recorded.record.stamp.time.as_str())?;
-    let curator = document.shown(recorded.record.stamp.curator.as_str())?;
-    let begin = format!(in alloc;
-        "<tr><td class=\"n\">{at}</td><td>{time}</td><td>{curator}</td>"
-    )?;
+    let begin = beginning(document, recorded)?;
     for said in recorded.record.lines.iter() {
-        let mut line = String::from_str(alloc, begin.as_str())?;
-        add_cells(alloc, &mut line, relations, states, &said.line)?;
+        let mut line = String::from_str(document.alloc, begin.as_str())?;
+        add_cells(document.alloc, &mut line, relations, states, &said.line)?;
         document.add(line)?;
     }
     Ok(())
+}
+
+// The cells that the lines of a record have in common.
+fn beginning(document: &Document, recorded: &Recorded) -> Result<String, AllocError> {
+    let at = recorded.at;
+    let time = document.shown(recorded.record.stamp.time.as_str())?;
+    let curator = document.shown(recorded.record.stamp.curator.as_str())?;
+    let alloc = document.alloc;
+    format!(in alloc; "<tr><td class=\"n\">{at}</td><td>{time}</td><td>{curator}</td>")
 }
 
 // The number of the update that a line is, the line, and how the update stands.

@@ -86,13 +86,23 @@ fn add_question(
 
 // What is asked, and since when.
 fn add_asked(document: &mut Document, space: &Space, question: &Question) -> Result<(), Memory> {
-    let alloc = document.alloc;
-    let rule = document.code(rule_text(alloc, space, question)?.as_str())?;
-    if !question.is_positive {
-        let words = "no longer holds for these. Which of them go?";
-        document.add(format!(in alloc; "<p>{rule} {words}</p>")?)?;
-        return Ok(());
+    let rule = document.code(rule_text(document.alloc, space, question)?.as_str())?;
+    if question.is_positive {
+        return add_wanted(document, space, question, rule.as_str());
     }
+    let alloc = document.alloc;
+    let words = "no longer holds for these. Which of them go?";
+    document.add(format!(in alloc; "<p>{rule} {words}</p>")?)?;
+    Ok(())
+}
+
+fn add_wanted(
+    document: &mut Document,
+    space: &Space,
+    question: &Question,
+    rule: &str,
+) -> Result<(), Memory> {
+    let alloc = document.alloc;
     let wanted = codes(document, space, &question.asked.tuples)?;
     document.add(format!(in alloc; "<p>{rule} wants {wanted}. Is it one of these?</p>")?)?;
     let since = codes(document, space, &question.since)?;

@@ -3,7 +3,7 @@
 use crate::pages::Document;
 use crate::texts::{facts_of, relation_at};
 use base_types::Memory;
-use std::alloc::AllocError;
+use std::alloc::{AllocError, Global};
 use ws_draw::add_html;
 use ws_print::{add_count, add_value};
 use ws_space::Space;
@@ -24,21 +24,25 @@ fn add_table(
     relation: &Relation,
     facts: &[Fact],
 ) -> Result<(), AllocError> {
-    let alloc = document.alloc;
+    document.add(head_line(document.alloc, relation, facts.len())?)?;
+    for fact in facts {
+        add_row(document, fact)?;
+    }
+    document.say("</table></div>")
+}
+
+// The beginning of a table, its columns in it.
+fn head_line(alloc: Global, relation: &Relation, rows: usize) -> Result<String, AllocError> {
     let mut line = String::from_str(alloc, "<div class=\"wide\"><table><caption>")?;
     add_html(&mut line, relation.name.as_str())?;
     line.push_str(", ")?;
-    add_count(&mut line, facts.len(), "row")?;
+    add_count(&mut line, rows, "row")?;
     line.push_str("</caption><tr>")?;
     for column in relation.columns.iter() {
         add_column(&mut line, column)?;
     }
     line.push_str("</tr>")?;
-    document.add(line)?;
-    for fact in facts {
-        add_row(document, fact)?;
-    }
-    document.say("</table></div>")
+    Ok(line)
 }
 
 fn add_column(line: &mut String, column: &Column) -> Result<(), AllocError> {

@@ -5,6 +5,7 @@ use crate::texts::relation_at;
 use base_types::{Memory, Tuple, Value};
 use std::alloc::{AllocError, Global};
 use std::collections::BTreeMap;
+use std::fmt::Write;
 use ws_print::add_unknown;
 use ws_question::inner_text;
 use ws_space::{Space, unknown_of};
@@ -101,15 +102,22 @@ pub(crate) fn add_unknowns(document: &mut Document, unknowns: &Unknowns) -> Resu
 }
 
 fn add_row(document: &mut Document, unknown: Unknown, texts: &[String]) -> Result<(), AllocError> {
-    let alloc = document.alloc;
-    let mut name = String::new(alloc);
+    let mut name = String::new(document.alloc);
     add_unknown(&mut name, unknown)?;
+    let line = row_of(document, name.as_str(), texts)?;
+    document.add(line)
+}
+
+fn row_of(document: &Document, name: &str, texts: &[String]) -> Result<String, AllocError> {
+    let alloc = document.alloc;
     let mut line = format!(in alloc; "<tr><td class=\"u\">{name}</td><td>")?;
     for (place, text) in texts.iter().enumerate() {
         line.push_str(if 0 < place { "<br>" } else { "" })?;
         line.push_str(document.code(text.as_str())?.as_str())?;
     }
-    let command = format!(in alloc; "<code>replace {name} with VALUE</code>")?;
-    line.push_str(format!(in alloc; "</td><td>{command}</td></tr>")?.as_str())?;
-    document.add(line)
+    write!(
+        line,
+        "</td><td><code>replace {name} with VALUE</code></td></tr>"
+    )?;
+    Ok(line)
 }

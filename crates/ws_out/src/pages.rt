@@ -4,8 +4,9 @@ use crate::page_log::add_log;
 use crate::page_mappings::add_mappings;
 use crate::page_questions::add_questions;
 use crate::page_tables::add_tables;
-use crate::page_unknowns::{add_unknowns, unknowns_of};
+use crate::page_unknowns::{Unknowns, add_unknowns, unknowns_of};
 use crate::style::STYLE;
+use base_types::Memory;
 use std::alloc::{AllocError, Global};
 use ws_draw::add_html;
 use ws_fault::Refusal;
@@ -74,18 +75,44 @@ pub fn page(
         alloc,
         lines: Vec::new(alloc),
     };
-    let unknowns = unknowns_of(alloc, space)?;
+    add_all(&mut document, space, context)?;
+    Ok(document.lines)
+}
+
+fn add_all(
+    document: &mut Document,
+    space: &mut Space,
+    context: &Context<'_>,
+) -> Result<(), Memory> {
+    let unknowns = unknowns_of(document.alloc, space)?;
+    add_parts(document, space, context, &unknowns)
+}
+
+fn add_parts(
+    document: &mut Document,
+    space: &mut Space,
+    context: &Context<'_>,
+    unknowns: &Unknowns,
+) -> Result<(), Memory> {
+    add_top(document, space, context, unknowns.len())?;
+    add_questions(document, space)?;
+    add_tables(document, space)?;
+    add_unknowns(document, unknowns)?;
+    add_mappings(document, space)?;
+    add_log(document, space)
+}
+
+// What comes before the parts.
+fn add_top(
+    document: &mut Document,
+    space: &Space,
+    context: &Context<'_>,
+    unknowns: usize,
+) -> Result<(), AllocError> {
     let name = document.shown(name_of(context.file))?;
-    add_head(&mut document, name.as_str())?;
-    add_counts(&mut document, space, name.as_str(), unknowns.len())?;
-    document.say(NAVIGATION)?;
-    add_questions(&mut document, space)?;
-    add_tables(&mut document, space)?;
-    add_unknowns(&mut document, &unknowns)?;
-    add_mappings(&mut document, space)?;
-    add_log(&mut document, space)?;
-    let Document { alloc: _, lines } = document;
-    Ok(lines)
+    add_head(document, name.as_str())?;
+    add_counts(document, space, name.as_str(), unknowns)?;
+    document.say(NAVIGATION)
 }
 
 // The head, with the style sheet in it.

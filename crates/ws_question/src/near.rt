@@ -1,7 +1,8 @@
 //! Tuples that are like one that is not there.
 
 use crate::texts::inner_text;
-use base_types::{Facts, Memory, Tuple, Value};
+use base_types::{Column, Memory, Tuple, Value};
+use chase_match::Walk;
 use std::alloc::Global;
 use std::collections::BTreeMap;
 use ws_fault::Nearest;
@@ -57,25 +58,30 @@ fn count_sharing(
     column: usize,
     value: &Value,
 ) -> Result<(), Memory> {
-    let (Ok(relation), Ok(column)) = (u16::try_from(relation), u16::try_from(column)) else {
+    let (Ok(relation), Ok(number)) = (u16::try_from(relation), u16::try_from(column)) else {
         return Ok(());
     };
-    let facts = space.state.facts();
-    let mut past: Option<&Tuple> = None;
+    let column = Some(Column { number, value });
+    let mut walk = Walk::new(space.state.facts(), relation, column);
     for _ in 0..LOOKED_AT {
-        let Some(tuple) = facts.scan(relation, column, value, past) else {
-            return Ok(());
-        };
-        let count = counts.get(tuple).copied().unwrap_or(0);
-        if counts
-            .insert(tuple.share()?, count.saturating_add(1))
-            .is_err()
-        {
-            return Err(Memory);
+        match walk.next() {
+            Some(tuple) => count_one(counts, tuple)?,
+            None => return Ok(()),
         }
-        past = Some(tuple);
     }
     Ok(())
+}
+
+// Counts the tuple once more.
+fn count_one(counts: &mut BTreeMap<Tuple, usize>, tuple: &Tuple) -> Result<(), Memory> {
+    let count = match counts.get(tuple) {
+        Some(count) => *count,
+        None => 0,
+    };
+    match counts.insert(tuple.share()?, count.saturating_add(1)) {
+        Ok(_) => Ok(()),
+        Err(_) => Err(Memory),
+    }
 }
 
 // The first tuples whose first value is spelled like its own.

@@ -6,7 +6,7 @@ use std::alloc::Global;
 use ws_run::Reason;
 use ws_space::Space;
 
-/// Why an update waits; None where nothing is in its way. It is refused only for want of memory.
+/// Why an update waits; None if nothing is in its way. It is refused only for want of memory.
 pub fn reason_words(
     alloc: Global,
     space: &Space,

@@ -37,7 +37,7 @@ impl Report {
         Ok(Reply::of_text(self.status, kind, lines))
     }
 
-    /// The same, where the report is of no use any more.
+    /// The same, if the report is of no use any more.
     pub fn into_reply(
         self,
         alloc: Global,

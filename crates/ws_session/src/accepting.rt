@@ -74,12 +74,7 @@ impl Session {
 }
 
 // Appends the text, and gives the reply back: so no reply is given before the text is acknowledged.
-fn told(
-    alloc: Global,
-    log: OpenLog,
-    text: &[u8],
-    reply: Reply,
-) -> Result<(OpenLog, Reply), Fault>
+fn told(alloc: Global, log: OpenLog, text: &[u8], reply: Reply) -> Result<(OpenLog, Reply), Fault>
     ensures acknowledged { (before m : List ℕ) (texts : List (List ℕ))
         → IsHeld before m texts (state_of log.disk) log.gate log.mark
         → IfOk result (λ told. IsHeld before m (texts ++ text.now ∷ []) (state_of told.0.disk)

@@ -1,10 +1,11 @@
 //! A text that is told, or written to a file.
 
-use crate::failing::cannot;
+use crate::failing::{cannot, fault};
 use crate::sessions::{Settings, called};
 use def_memory::Memory;
 use std::alloc::{AllocError, Global};
 use std::fs;
+use std::os::unix::fs::MetadataExt;
 use ws_fault::{Refusal, Status};
 use ws_json::Object;
 use ws_print::add_escaped;
@@ -20,6 +21,11 @@ pub(crate) fn sent(
 ) -> Result<Reply, Refusal> {
     let alloc = rt.alloc();
     match to {
+        Some(path) if is_workspace(rt, settings, path.as_str()) => {
+            let name = called(settings, path.as_str());
+            let words = format!(in alloc; "cannot write {name}: it is the workspace")?;
+            Err(fault(alloc, Status::NoOutput, words, None))
+        }
         Some(path) => {
             let text = joined(alloc, lines.as_slice())?;
             match fs::write(rt, path.as_str(), text.as_str()) {
@@ -31,6 +37,17 @@ pub(crate) fn sent(
             }
         }
         None => Ok(told(alloc, settings.form, kind, lines)?),
+    }
+}
+
+// Whether the path leads to the file of the workspace, in whatever words.
+fn is_workspace(rt: &HostRuntime, settings: &Settings, path: &str) -> bool {
+    match (
+        fs::metadata(rt, settings.path.as_str()),
+        fs::metadata(rt, path),
+    ) {
+        (Ok(ours), Ok(other)) => ours.dev() == other.dev() && ours.ino() == other.ino(),
+        _ => false,
     }
 }
 

@@ -188,7 +188,8 @@ fn filled_of(
     before: &TupleList,
 ) -> Result<FilledList, Memory> {
     let mut filled: BTreeMap<Null, Filled> = BTreeMap::new(alloc);
-    for (null, tuples) in &holders_of(alloc, mark, before)? {
+    let holders = holders_of(alloc, mark, before)?;
+    for (null, tuples) in &holders {
         let now = followed_value(alloc, standings, &Value::Null(*null))?;
         if now != Value::Null(*null) {
             let name = ground.names.name_of(*null);
@@ -217,7 +218,8 @@ fn holders_of(
 ) -> Result<BTreeMap<Null, u32>, Memory> {
     let mut holders: BTreeMap<Null, u32> = BTreeMap::new(alloc);
     for tuple in before.as_slice() {
-        for null in &nulls_of(alloc, tuple)? {
+        let nulls = nulls_of(alloc, tuple)?;
+        for null in &nulls {
             if null.update <= mark.last {
                 let count = holders.get(null).copied().unwrap_or(0);
                 if holders.insert(*null, count.saturating_add(1)).is_err() {

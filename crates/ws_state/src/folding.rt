@@ -100,18 +100,30 @@ fn wait_kept(
 ) -> Result<HeadWaiting, Memory>
     ensures number { IfOk result (λ head. head.update.number ≡ held.now.update.number) }
 {
-    let update = &held.update;
+    let places = places_kept(alloc, numbers, &held.places)?;
+    let answers = answers_kept(alloc, numbers, &waiting.answers)?;
+    let update = update_kept(alloc, numbers, &held.update)?;
     Ok(HeadWaiting {
-        update: Update {
-            number: update.number,
-            time: update.time.copy(alloc)?,
-            curator: update.curator.copy(alloc)?,
-            steps: update.steps,
-            deed: renumbered(alloc, numbers, &update.deed)?,
-            news: update.news.copy(alloc)?,
-        },
-        places: places_kept(alloc, numbers, &held.places)?,
-        answers: answers_kept(alloc, numbers, &waiting.answers)?,
+        update,
+        places,
+        answers,
+    })
+}
+
+fn update_kept(alloc: Global, numbers: &List<u16>, update: &Update) -> Result<Update, Memory>
+    ensures number { IfOk result (λ kept. kept.number ≡ update.now.number) }
+{
+    let time = update.time.copy(alloc)?;
+    let curator = update.curator.copy(alloc)?;
+    let news = update.news.copy(alloc)?;
+    let deed = renumbered(alloc, numbers, &update.deed)?;
+    Ok(Update {
+        number: update.number,
+        time,
+        curator,
+        steps: update.steps,
+        deed,
+        news,
     })
 }
 

@@ -10,6 +10,7 @@ mod folding;
 mod heads;
 mod made;
 mod opening;
+mod outcomes;
 mod points;
 mod replays;
 mod running;

@@ -1,6 +1,6 @@
 //! A state that is opened by the head of its file.
 
-use crate::heads::{Head, HeadWaitingList};
+use crate::heads::{Head, HeadWaiting, HeadWaitingList};
 use crate::states::{Held, State, small};
 use crate::worlds::World;
 use base_types::{Facts, List, Memory, Null, TryCopy, Tuple, TupleList, Value, ValueList};
@@ -33,18 +33,20 @@ impl<T: Drop> From<(T, Memory)> for OpenFault {
 impl State {
     /// The state that a head stands for.
     pub fn of(alloc: Global, head: Head) -> Result<State, OpenFault> {
-        let names = names_of(alloc, &head.unknowns)?;
-        let tuples = inner_all(alloc, &names, &head.base)?;
-        let facts = IndexedFacts::of(alloc, PlainFacts::of_list(alloc, &tuples)?)?;
-        drop(tuples);
-        let mut state = State::new(alloc);
-        state.first_names = names.len();
-        state.first_in_force = first_numbers(alloc, head.in_force)?;
-        let in_force = state.first_in_force.copy(alloc)?;
-        state.world = World::new(alloc, Ground::new(alloc, facts, names), in_force);
-        state.tables = head.tables;
-        state.mappings = head.mappings;
-        state.last = head.last;
+        let world = world_of(alloc, &head)?;
+        let first_in_force = world.in_force.copy(alloc)?;
+        let mut state = State {
+            tables: head.tables,
+            mappings: head.mappings,
+            held: Vec::new(alloc),
+            places: BTreeMap::new(alloc),
+            events: Vec::new(alloc),
+            first_in_force,
+            first_names: world.ground.names.len(),
+            replays: 0,
+            last: head.last,
+            world,
+        };
         state.hold(alloc, head.waits)?;
         Ok(state)
     }
@@ -52,21 +54,45 @@ impl State {
     // The updates that wait are held, and wait.
     fn hold(&mut self, alloc: Global, waits: HeadWaitingList) -> Result<(), Memory> {
         for waiting in waits.into_vec() {
-            let place = self.held.len();
-            if self.places.insert(waiting.update.number, place).is_err() {
-                return Err(Memory);
-            }
-            let answers = waiting.answers.copy(alloc)?;
-            self.held.push(Held {
-                update: waiting.update,
-                is_undone: false,
-                places: waiting.places,
-                first: Some(waiting.answers),
-            })?;
-            self.world.wait(place, answers)?;
+            self.hold_one(alloc, waiting)?;
         }
         Ok(())
     }
+
+    fn hold_one(&mut self, alloc: Global, waiting: HeadWaiting) -> Result<(), Memory> {
+        let place = self.held.len();
+        if self.places.insert(waiting.update.number, place).is_err() {
+            return Err(Memory);
+        }
+        self.world.wait(place, waiting.answers.copy(alloc)?)?;
+        let HeadWaiting {
+            update,
+            places,
+            answers,
+        } = waiting;
+        self.held.push(Held {
+            update,
+            is_undone: false,
+            places,
+            first: Some(answers),
+        })?;
+        Ok(())
+    }
+}
+
+// What stands by the head, but for the updates that wait.
+fn world_of(alloc: Global, head: &Head) -> Result<World, OpenFault> {
+    let names = names_of(alloc, &head.unknowns)?;
+    let facts = facts_of(alloc, &names, &head.base)?;
+    let in_force = first_numbers(alloc, head.in_force)?;
+    Ok(World::new(alloc, Ground::new(alloc, facts, names), in_force))
+}
+
+// The tuples with the nulls that their names stand for, as a set.
+fn facts_of(alloc: Global, names: &Names, base: &TupleList) -> Result<IndexedFacts, OpenFault> {
+    let tuples = inner_all(alloc, names, base)?;
+    let facts = PlainFacts::of_list(alloc, &tuples)?;
+    Ok(IndexedFacts::of(alloc, facts)?)
 }
 
 // The numbers from 0 on, so many.

@@ -86,16 +86,25 @@ impl State {
     /// Takes back all that was done since the point. What was only run is taken back as it was run; if lines were replayed, they are
     /// replayed again. It is refused only for want of memory; the state is then of no use.
     pub fn back_to(&mut self, alloc: Global, point: Point) -> Result<(), Memory> {
-        let is_replayed = self.replays != point.replays;
-        self.tables = point.tables;
-        self.mappings = point.mappings;
-        self.last = point.last;
-        self.held_back_to(alloc, point.held);
-        self.events_back_to(&point.forgotten);
-        if is_replayed {
-            return self.replay(alloc);
+        let Point {
+            tables,
+            mappings,
+            last,
+            replays,
+            held,
+            forgotten,
+            world,
+        } = point;
+        self.tables = tables;
+        self.mappings = mappings;
+        self.last = last;
+        self.held_back_to(alloc, held);
+        self.events_back_to(&forgotten);
+        if self.replays == replays {
+            return self.world_back_to(world);
         }
-        self.world_back_to(point.world)
+        drop(world);
+        self.replay(alloc)
     }
 
     fn held_back_to(&mut self, alloc: Global, before: Vec<HeldBefore>) {
@@ -120,10 +129,17 @@ impl State {
 
     fn world_back_to(&mut self, before: WorldBefore) -> Result<(), Memory> {
         self.world.ground.back_to(before.ground)?;
-        self.world.in_force = before.in_force;
-        self.world.gone = before.gone;
-        self.world.waiting = before.waiting;
-        for _ in before.order..self.world.order.len() {
+        let WorldBefore {
+            in_force,
+            gone,
+            order,
+            waiting,
+            ..
+        } = before;
+        self.world.in_force = in_force;
+        self.world.gone = gone;
+        self.world.waiting = waiting;
+        for _ in order..self.world.order.len() {
             drop(self.world.order.pop());
         }
         Ok(())

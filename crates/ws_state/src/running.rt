@@ -1,14 +1,15 @@
 //! Runs of updates over what stands.
 
+use crate::outcomes::{Ran, Tried, first_of};
 use crate::states::{HeldList, State};
-use crate::turns::{Ran, Tried, Turn, first_of, run_turn};
-use crate::worlds::{Waiting, WaitingList, World};
+use crate::turns::{Turn, run_turn};
+use crate::worlds::{Standing, Waiting, WaitingList, World};
 use base_types::{Memory, TryCopy};
 use std::alloc::Global;
 use std::mem;
 use ws_lines::{Deed, Given, GivenList};
 use ws_names::Places;
-use ws_run::Reason;
+use ws_run::{Mark, Reason};
 
 impl State {
     /// Runs the update at this place with these answers, and lets it stand or wait. It tells why it waits, if it does.
@@ -21,20 +22,42 @@ impl State {
         let mark = self.world.ground.mark();
         let Tried { ran, places, .. } = self.run(alloc, place, &answers)?;
         self.keep_places(place, places);
-        let reason = match ran {
+        match ran {
             Ran::Done(standing) => {
-                self.enforce(alloc, place)?;
-                self.world.stand(alloc, standing)?;
-                None
+                drop(answers);
+                self.let_stand(alloc, standing)?;
+                Ok(None)
             }
-            Ran::Left(reason) => {
-                self.world.ground.back_to(mark)?;
-                self.world.wait(place, answers)?;
-                Some(reason)
-            }
-        };
+            Ran::Left(reason) => match self.let_wait(alloc, mark, place, answers) {
+                Ok(()) => Ok(Some(reason)),
+                Err(memory) => {
+                    drop(reason);
+                    Err(memory)
+                }
+            },
+        }
+    }
+
+    // It stands, with the mapping that it puts in force or takes away.
+    fn let_stand(&mut self, alloc: Global, standing: Standing) -> Result<(), Memory> {
+        self.enforce(alloc, standing.held)?;
+        self.world.stand(alloc, standing)?;
         self.sweep(alloc);
-        Ok(reason)
+        Ok(())
+    }
+
+    // It waits, and what it did is taken back.
+    fn let_wait(
+        &mut self,
+        alloc: Global,
+        mark: Mark,
+        place: usize,
+        answers: GivenList,
+    ) -> Result<(), Memory> {
+        self.world.ground.back_to(mark)?;
+        self.world.wait(place, answers)?;
+        self.sweep(alloc);
+        Ok(())
     }
 
     /// Runs it for a look: what stands stays as it is, and so does its table.
@@ -60,18 +83,26 @@ impl State {
         let Some(answers) = self.world.answers_of(alloc, place)? else {
             return Ok(None);
         };
-        let tried = self.look(alloc, place, &answers)?;
-        match tried.ran {
-            Ran::Left(reason) => {
-                if !asks_it(&reason, given) {
-                    return Ok(Some(reason));
-                }
-                let mut answers = first_of(answers, tried.taken);
-                answers.push(given.copy(alloc)?)?;
-                self.run_again(alloc, place, answers)
-            }
-            Ran::Done(_) => Ok(None),
+        let Tried { ran, taken, .. } = self.look(alloc, place, &answers)?;
+        let reason = ran.reason();
+        if !asks_it(&reason, given) {
+            return Ok(reason);
         }
+        drop(reason);
+        self.run_with(alloc, place, first_of(answers, taken), given)
+    }
+
+    // Runs it again with these answers and one more.
+    fn run_with(
+        &mut self,
+        alloc: Global,
+        place: usize,
+        answers: GivenList,
+        given: &Given,
+    ) -> Result<Option<Reason>, Memory> {
+        let mut answers = answers;
+        answers.push(given.copy(alloc)?)?;
+        self.run_again(alloc, place, answers)
     }
 
     /// An update that waits runs again, with the answers that fit.
@@ -79,9 +110,8 @@ impl State {
         let Some(answers) = self.world.answers_of(alloc, place)? else {
             return Ok(None);
         };
-        let tried = self.look(alloc, place, &answers)?;
-        let answers = first_of(answers, tried.taken);
-        self.run_again(alloc, place, answers)
+        let taken = self.look(alloc, place, &answers)?.taken;
+        self.run_again(alloc, place, first_of(answers, taken))
     }
 
     // A mapping that the update puts in force or takes away.
@@ -136,9 +166,9 @@ fn is_given_up(world: &World, held: &HeldList, waiting: &Waiting) -> bool {
 }
 
 // Whether it is the question that the answer was given to.
-fn asks_it(reason: &Reason, given: &Given) -> bool {
+fn asks_it(reason: &Option<Reason>, given: &Given) -> bool {
     match reason {
-        Reason::Asks(question) => {
+        Some(Reason::Asks(question)) => {
             question.asked.source == given.asked.source
                 && question.asked.tuples == given.asked.tuples
         }

@@ -1,7 +1,7 @@
 //! The state, and what is held of each update of the log.
 
+use crate::outcomes::Tried;
 use crate::replays::Replayed;
-use crate::turns::{Ran, Tried};
 use crate::worlds::{StandingList, Status, WaitingList, World};
 use base_types::{List, Mapping, MappingList, Memory, NumberList, TryCopy, TupleList};
 use set_facts::IndexedFacts;
@@ -124,10 +124,7 @@ impl State {
         if self.places.insert(number, place).is_err() {
             return Err(Memory);
         }
-        self.events.push(Event {
-            said: Said::Update(place),
-            is_forgotten: false,
-        })?;
+        self.note(Said::Update(place))?;
         let reason = self.run_again(alloc, place, GivenList::new(alloc))?;
         Ok(self.told(place, reason))
     }
@@ -138,11 +135,13 @@ impl State {
             return Ok(nothing_told());
         };
         let reason = self.take_answer(alloc, place, &given)?;
-        self.events.push(Event {
-            said: Said::Answer(place, given),
-            is_forgotten: false,
-        })?;
-        Ok(self.told(place, reason))
+        match self.note(Said::Answer(place, given)) {
+            Ok(()) => Ok(self.told(place, reason)),
+            Err(memory) => {
+                drop(reason);
+                Err(memory)
+            }
+        }
     }
 
     // An update that waits is told to try again.
@@ -150,12 +149,18 @@ impl State {
         let Some(place) = self.place_of(number) else {
             return Ok(nothing_told());
         };
+        self.note(Said::Go(place))?;
         let reason = self.retry(alloc, place)?;
+        Ok(self.told(place, reason))
+    }
+
+    // What was said runs again at a replay.
+    fn note(&mut self, said: Said) -> Result<(), Memory> {
         self.events.push(Event {
-            said: Said::Go(place),
+            said,
             is_forgotten: false,
         })?;
-        Ok(self.told(place, reason))
+        Ok(())
     }
 
     // What is told of the update that is held at this place.
@@ -191,16 +196,11 @@ impl State {
         let Some(place) = self.place_of(number) else {
             return Ok(None);
         };
-        match self.world.answers_of(alloc, place)? {
-            Some(answers) => match self.look(alloc, place, &answers)? {
-                Tried {
-                    ran: Ran::Left(reason),
-                    ..
-                } => Ok(Some(reason)),
-                _ => Ok(None),
-            },
-            None => Ok(None),
-        }
+        let Some(answers) = self.world.answers_of(alloc, place)? else {
+            return Ok(None);
+        };
+        let Tried { ran, .. } = self.look(alloc, place, &answers)?;
+        Ok(ran.reason())
     }
 
     /// The place of the update of this number among those that are held.
@@ -224,6 +224,7 @@ impl State {
         }
     }
 
+    /// How the update at this place stands.
     pub(crate) fn status_at(&self, place: usize) -> Status {
         if self.is_undone_at(place) {
             return Status::Undone;

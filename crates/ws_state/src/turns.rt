@@ -1,19 +1,17 @@
 //! One update run over what stands.
 
 use crate::active::{active_for, fixed_mapping, within};
-use crate::made::made_of;
-use crate::worlds::{Standing, World};
+use crate::outcomes::{Tried, done_by, done_with, done_without_ops, halted, left};
+use crate::worlds::World;
 use base_limits::Budget;
 use base_types::{
-    ChoiceList, MappingList, Memory, Operation, TryCopy, TupleList, Value, ValueList, WriteList,
+    ChoiceList, MappingList, Memory, Operation, TryCopy, TupleList, Value, ValueList,
 };
 use chase_violation::holds;
 use std::alloc::Global;
 use ws_lines::{Deed, GivenList, Update};
 use ws_names::{Names, Places};
-use ws_run::{
-    Ground, Halt, InForce, Op, OpList, Reason, Setting, StepList, Thread, image_for, run_deed,
-};
+use ws_run::{Ground, InForce, Op, OpList, Reason, Setting, Thread, image_for, run_deed};
 
 /// An update that runs, by its place among those that are held, with its answers.
 #[derive(Clone, Copy)]
@@ -21,21 +19,6 @@ pub(crate) struct Turn<'a> {
     pub place: usize,
     pub update: &'a Update,
     pub answers: &'a GivenList,
-}
-
-/// What a run comes to: done, with what it did; or not, and then why.
-#[derive(Drop)]
-pub(crate) enum Ran {
-    Done(Standing),
-    Left(Reason),
-}
-
-/// A run, how many answers it took, and the table of the update after it.
-#[derive(Drop)]
-pub(crate) struct Tried {
-    pub ran: Ran,
-    pub taken: usize,
-    pub places: Places,
 }
 
 /// Runs the update over what stands. If it is not done, what its ops did has to be taken back. It is refused only for want of memory.
@@ -135,34 +118,6 @@ fn budget_for(steps: u32) -> Budget {
     Budget::new(MOST_STEPS)
 }
 
-fn left(reason: Reason, places: Places) -> Tried {
-    Tried {
-        ran: Ran::Left(reason),
-        taken: 0,
-        places,
-    }
-}
-
-fn done_without_ops(alloc: Global, place: usize, places: Places) -> Tried {
-    done_by(alloc, place, OpList::new(alloc), places)
-}
-
-// A run of these ops, which took no answer and wrote nothing.
-fn done_by(alloc: Global, place: usize, ops: OpList, places: Places) -> Tried {
-    Tried {
-        ran: Ran::Done(Standing {
-            held: place,
-            answers: GivenList::new(alloc),
-            ops,
-            steps: StepList::new(alloc),
-            image: TupleList::new(alloc),
-            writes: WriteList::new(alloc),
-        }),
-        taken: 0,
-        places,
-    }
-}
-
 // Runs the ops of the update over the ground.
 fn run_over(
     alloc: Global,
@@ -176,45 +131,11 @@ fn run_over(
     let mut thread = Thread::new(alloc, places);
     match run_deed(alloc, setting, ground, &mut thread, turn.answers, deed) {
         Ok(()) => done_with(alloc, turn, thread, image),
-        Err(Halt::Left(reason)) => left_with(alloc, thread, reason),
-        Err(Halt::Memory) => Err(Memory),
+        Err(halt) => {
+            drop(image);
+            halted(alloc, thread, halt)
+        }
     }
-}
-
-// The run is done, with what it kept.
-fn done_with(
-    alloc: Global,
-    turn: Turn<'_>,
-    thread: Thread,
-    image: TupleList,
-) -> Result<Tried, Memory> {
-    let taken = thread.taken as usize;
-    let answers = first_of(turn.answers.copy(alloc)?, taken);
-    Ok(Tried {
-        ran: Ran::Done(Standing {
-            held: turn.place,
-            answers,
-            ops: thread.ops,
-            steps: thread.steps,
-            image,
-            writes: thread.writes,
-        }),
-        taken,
-        places: thread.places,
-    })
-}
-
-// The run is not done, for this reason.
-fn left_with(alloc: Global, thread: Thread, reason: Reason) -> Result<Tried, Memory> {
-    let reason = match reason {
-        Reason::TooLong(_) => Reason::TooLong(made_of(alloc, &thread.steps)?),
-        other => other,
-    };
-    Ok(Tried {
-        ran: Ran::Left(reason),
-        taken: thread.taken as usize,
-        places: thread.places,
-    })
 }
 
 // The image of the mapping that the update repairs, for which it does, if it is a repair and its unknowns are there.
@@ -251,11 +172,4 @@ fn inner_values(
         inner.push(value)?;
     }
     Ok(Some(inner))
-}
-
-/// The first so many of the answers.
-pub(crate) fn first_of(answers: GivenList, count: usize) -> GivenList {
-    let mut answers = answers.into_vec();
-    answers.truncate(count);
-    GivenList::from_vec(answers)
 }

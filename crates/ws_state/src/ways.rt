@@ -26,20 +26,31 @@ pub(crate) fn ways_of(
 ) -> Result<BTreeMap<Tuple, Source>, Memory> {
     let mut by = BTreeMap::new(alloc);
     for standing in standings {
-        let mut made = BTreeMap::new(alloc);
-        for step in standing.steps.as_slice() {
-            note_takes(step, &mut by)?;
-            note_puts(alloc, step, &mut made)?;
-        }
-        for (tuple, source) in made {
-            if let Some(source) = source {
-                if ground.facts.contains(&tuple) {
-                    put(&mut by, &tuple, source)?;
-                }
+        note_ways(alloc, ground, standing, &mut by)?;
+    }
+    Ok(by)
+}
+
+// Notes the tuples that came or went by a mapping in one run.
+fn note_ways(
+    alloc: Global,
+    ground: &Ground,
+    standing: &Standing,
+    by: &mut BTreeMap<Tuple, Source>,
+) -> Result<(), Memory> {
+    let mut made = BTreeMap::new(alloc);
+    for step in standing.steps.as_slice() {
+        note_takes(step, by)?;
+        note_puts(alloc, step, &mut made)?;
+    }
+    for (tuple, source) in &made {
+        if let Some(source) = source {
+            if ground.facts.contains(tuple) {
+                put(by, tuple, *source)?;
             }
         }
     }
-    Ok(by)
+    Ok(())
 }
 
 /// Puts the value under the tuple. It is refused only for want of memory.

@@ -81,10 +81,12 @@ impl World {
         }
     }
 
+    /// Whether the mapping is in force.
     pub fn is_in_force(&self, mapping: u16) -> bool {
         is_among(&self.in_force, mapping)
     }
 
+    /// Whether the mapping is gone.
     pub fn is_gone(&self, mapping: u16) -> bool {
         is_among(&self.gone, mapping)
     }

@@ -1,9 +1,9 @@
 //! What the words ask for is done.
 
 use crate::feeding::{Input, fed_by};
-use crate::scripts::script;
+use crate::scripts::run_script;
 use crate::telling::{form_of, tell, tell_fault, tell_text, tell_wrong, text};
-use crate::words::{Time, curator, time, words_of};
+use crate::words::{Time, curator, said_time, words_of};
 use def_memory::Memory;
 use std::fs;
 use ws_command::Verb;
@@ -15,7 +15,7 @@ use ws_words::{Asked, Words, file_first, read_words, wants_json};
 /// Does what the words ask for. It is refused only for want of memory.
 pub fn run(rt: &HostRuntime) -> Result<Status, Memory> {
     let words = words_of(rt)?;
-    let time = time(rt)?;
+    let time = said_time(rt)?;
     if let Time::Wrong = time {
         let what = "YT_TIME is no time of the form 2026-11-30T09:00:00Z";
         return wrong(
@@ -62,7 +62,7 @@ fn begin(rt: &HostRuntime, words: &[String], work: &Words, time: &Time) -> Resul
     let mut session = Session::new(alloc, settings)?;
     match &work.command {
         Some(command) => one(rt, words, work, time, &mut session, command.as_str()),
-        None => script(rt, work, time, &mut session),
+        None => run_script(rt, work, time, &mut session),
     }
 }
 

@@ -12,7 +12,7 @@ use ws_reply::{Form, Kind, Reply};
 use ws_session::{Fed, Session, Turn, fault_reply, not_utf8};
 use ws_words::Words;
 
-// A script under way: how replies are told, whether it is a terminal's, the number of the line, how many lines behind it belong to
+// A script under way: how replies are told, whether it is a terminal's, the number of the line, how many lines after it belong to
 // it, the first status that would have stopped it, and whether a change waited.
 #[derive(Drop)]
 struct Script {
@@ -25,7 +25,7 @@ struct Script {
     waited: bool,
 }
 
-// What comes behind a line.
+// What comes after a line.
 #[derive(Clone, Copy)]
 enum Next {
     Line,
@@ -34,7 +34,7 @@ enum Next {
 }
 
 /// Does the lines of standard input, with a prompt if it is a terminal. It is refused only for want of memory.
-pub fn script(
+pub fn run_script(
     rt: &HostRuntime,
     work: &Words,
     time: &Time,
@@ -96,7 +96,7 @@ impl Script {
         raw
     }
 
-    // The lines behind that belong to the line.
+    // The lines after the line that belong to it.
     fn fed(
         &mut self,
         alloc: Global,

@@ -8,7 +8,7 @@ use std::time::{SystemTime, UNIX_EPOCH};
 use ws_grammar::is_time;
 use ws_words::{Words, curator_of, time_of};
 
-/// The words behind the program's name; one empty word if one of them is not UTF-8. It is refused only for want of memory.
+/// The words after the program's name; one empty word if one of them is not UTF-8. It is refused only for want of memory.
 pub fn words_of(rt: &HostRuntime) -> Result<Vec<String>, Memory> {
     let mut words = Vec::new(rt.alloc());
     match env::args(rt) {
@@ -60,7 +60,7 @@ pub enum Time {
 }
 
 /// What `YT_TIME` says. It is refused only for want of memory.
-pub fn time(rt: &HostRuntime) -> Result<Time, Memory> {
+pub fn said_time(rt: &HostRuntime) -> Result<Time, Memory> {
     let set = variable(rt, "YT_TIME")?;
     if set.is_empty() {
         return Ok(Time::Clock);

@@ -27,6 +27,7 @@ export async function openDetails(what) {
 export function closeDetails() {
   const from = shown?.from;
   shown = null;
+  panel.inert = false;
   panel.hidden = true;
   mark();
   if (from) focusOn(from);
@@ -46,6 +47,13 @@ export async function updateDetails() {
 async function draw(opened) {
   const what = shown;
   const body = make('div');
+  try {
+    await drawIn(body, what, opened);
+  } finally {
+    if (shown === what) panel.inert = false;
+  }
+}
+async function drawIn(body, what, opened) {
   try {
     fill(body, await contents(what, body));
   } catch (error) {
@@ -83,9 +91,11 @@ async function aboutRow(text, body) {
   return [head, actions(button('Change', change, 'change'), button('Delete …', remove, 'delete', 'danger')),
     make('h3', null, 'Why it is there'), make('ul.why', null, why.reasons.map(showReason))];
 }
-// After a change the panel shows the row that came.
+// After a change the panel shows the row that came. Until it does, its buttons are about the one that went.
 function followChange(reply) {
-  if (reply.status === 0 && reply.came.length) shown = {row: reply.came.at(-1).tuple, from: shown?.from};
+  if (reply.status !== 0 || !reply.came.length) return;
+  shown = {row: reply.came.at(-1).tuple, from: shown?.from};
+  panel.inert = true;
 }
 
 function showReason(reason, i, all) {

@@ -22,6 +22,17 @@ export function make(tag, properties, ...kids) {
   return element;
 }
 
+// Nodes that stay where they are are not touched: a press that is under way on one of them would be lost.
+function replaceChildren(place, kids) {
+  const stay = new Set(kids);
+  for (const old of [...place.childNodes]) if (!stay.has(old)) old.remove();
+  let next = place.firstChild;
+  for (const kid of kids) {
+    if (kid === next) next = next.nextSibling;
+    else place.insertBefore(kid instanceof Node ? kid : document.createTextNode(kid), next);
+  }
+}
+
 /**
  * Puts these into a place instead of what it has. The focus, and the selection in a field, stay with the element that has
  * the same key.
@@ -29,7 +40,7 @@ export function make(tag, properties, ...kids) {
 export function fill(place, ...kids) {
   const held = place.contains(document.activeElement) ? document.activeElement : null, key = held?.dataset.key;
   const selection = held && /^(text|search)$/.test(held.type) ? [held.selectionStart, held.selectionEnd] : null;
-  place.replaceChildren(...children(kids));
+  replaceChildren(place, children(kids));
   const next = key && focusOn(key, place);
   if (next && selection) next.setSelectionRange(...selection);
 }

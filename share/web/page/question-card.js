@@ -22,6 +22,7 @@ const identity = q => JSON.stringify([q.kind, q.mapping, q.wanted, q.count, q.ca
 export class QuestionCard {
   #question;               // as it is shown, its candidates filtered
   #identity;               // of the question that the choice is made on
+  #drawn = '';             // what the card showed when it was drawn last
   #picked = new Set();     // numbers of candidates
   #none = false;           // whether none of them is chosen
   #at = 0;                 // the record after which what is chosen was seen
@@ -69,6 +70,15 @@ export class QuestionCard {
       this.#identity = identity(now);
       this.#question = this.#like || this.#limit > CANDIDATES ? await this.#ask(this.#like, this.#limit) : now;
     }
+    this.#drawIfNew();
+  }
+
+  // A card that would look the same stays, so that no press on it is lost.
+  #drawIfNew() {
+    const when = this.#question.time && ago(this.#question.time).textContent;
+    const looks = JSON.stringify([{...this.#question, at: 0}, this.#stale, when]);
+    if (looks === this.#drawn) return;
+    this.#drawn = looks;
     this.#draw();
   }
 
@@ -225,6 +235,7 @@ export class QuestionCard {
       attempt(this.redraw);
     };
     const look = () => attempt(() => openDetails({update: this.number, from: 'fine ' + this.number}));
+    this.#drawn = '';
     this.node.className = 'card gone';
     fill(this.node, make('h3', {role: 'status'}, `${this.number} waits no longer; your answer was not sent`),
       by ? make('p', null, make('b', null, by.curator), ' was faster: ', said) : null,

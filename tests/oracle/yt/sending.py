@@ -1,5 +1,6 @@
 """What leaves the workspace: dump, export, graph, page."""
 import json
+import os
 
 from . import text as T
 from .dumps import dump_text
@@ -14,6 +15,8 @@ class Sending:
     def sent(self, text, opts, kind):
         """A text to --to FILE, or to the output."""
         if "to" in opts:
+            if os.path.exists(opts["to"]) and os.path.samefile(opts["to"], self.ws.path):
+                raise FileFault(WRITE, "cannot write %s: it is the workspace" % self.ws.say(opts["to"]))
             try:
                 with open(opts["to"], "wb") as f:
                     f.write(("\n".join(text) + "\n").encode())

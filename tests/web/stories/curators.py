@@ -102,8 +102,20 @@ def of_many_candidates_one_is_found(stage):
 
 
 # Keeps what is new from a page for a while, as a slow line does.
+DEAF = """Promise.all([import('./link.js'), import('./workspace.js')]).then(async ([{link}, {workspace}]) => {
+    const ask = link.ask;
+    link.ask = function (line, rows) {
+        const deaf = !window.hears && line.startsWith('log --since');
+        return deaf ? Promise.resolve([{count: 0}]) : ask.call(this, line, rows);
+    };
+    window.hears = false;
+    await link.ask('status');
+})"""
+
+
 def deaf(page):
-    page.js("import('./link.js').then(m => { window.ask = m.link.ask; m.link.ask = function (line, rows) { return line.startsWith('log --since') && !window.hears ? window.ask.call(this, line.replace(/since [0-9]+/, 'since ' + window.last), rows).then(r => [{count: 0}]) : window.ask.call(this, line, rows); }; return import('./workspace.js'); }).then(m => { window.last = m.workspace.at; window.hears = false; })")
+    """From now on the page hears of no record: also not by a look at the log that was under way."""
+    page.js(DEAF)
 
 
 def hears(page):

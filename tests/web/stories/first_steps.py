@@ -127,6 +127,7 @@ def a_curator_who_has_never_seen_a_shell(stage):
         ann.click("#question-%d label" % number, choice)
         ann.click("#question-%d button" % number, "Answer")
         ann.sees(".message", "Done: answer %d" % number)
+        ann.until("the card is gone", "!document.querySelector('#question-%d')" % number)
     ann.sees("#main", "No questions")
 
     ann.click("a", "Tables")
