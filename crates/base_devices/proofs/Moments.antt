@@ -39,10 +39,6 @@ seen t = state_with false 0 t
 pub read_now : (t : Trace) → IsLeft (seen t) (bytes_of t)
 read_now t = subst (λ h. IsImage h (bytes_of t)) (sym (held_now t)) (read_left t.made_of t.calls)
 
--- a disk without a call has nothing pending
-pub settled_fresh : (made : List ℕ) → IsSettled (seen record { made_of = made; calls = [] })
-settled_fresh made = λ bytes i. i
-
 either : (n k : ℕ) → n ≤ k → k ≤ n + 1 → (k ≤ n) ⊎ (k ≡ n + 1)
 either n k l h = grind arith
 
