@@ -42,21 +42,44 @@ impl Session {
         space: Space,
         said: Said,
     ) -> Result<Reply, Refusal> {
-        let alloc = rt.alloc();
-        allowed(alloc, &self.settings, 0, &said.command)?;
-        if let Command::Help(verb) = &said.command {
-            let context = context_of(&self.settings, self.name.as_str(), turn.time, false);
-            return Ok(help(alloc, &context, *verb)?);
+        allowed(rt.alloc(), &self.settings, 0, &said.command)?;
+        match self.told_without(rt.alloc(), turn.time, &said.command)? {
+            Some(reply) => Ok(reply),
+            None => self.first_change(rt, turn, space, said),
         }
-        if let Command::Quit = &said.command {
-            return Ok(quit(alloc));
+    }
+
+    // The reply to a command that wants no file.
+    fn told_without(
+        &self,
+        alloc: Global,
+        time: &str,
+        command: &Command,
+    ) -> Result<Option<Reply>, Memory> {
+        match command {
+            Command::Help(verb) => {
+                let context = context_of(&self.settings, self.name.as_str(), time, false);
+                Ok(Some(help(alloc, &context, *verb)?))
+            }
+            Command::Quit => Ok(Some(quit(alloc))),
+            _ => Ok(None),
         }
+    }
+
+    // The answer to a change if there is no file.
+    fn first_change(
+        &mut self,
+        rt: &HostRuntime,
+        turn: &Turn<'_>,
+        space: Space,
+        said: Said,
+    ) -> Result<Reply, Refusal> {
         let Said { command, comment } = said;
         match making(command) {
             Some(change) => self.make(rt, turn, space, change, comment.as_str()),
             None => {
                 drop(space);
-                Err(self.no_file(alloc))
+                Err(self.no_file(rt.alloc()))
             }
         }
     }

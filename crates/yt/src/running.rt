@@ -9,7 +9,8 @@ use std::fs;
 use ws_command::Verb;
 use ws_fault::{Refusal, Status};
 use ws_help::{VERSION, help_text};
-use ws_session::{Session, Settings, Turn};
+use ws_reply::Form;
+use ws_session::{Fed, Session, Settings, Turn};
 use ws_words::{Asked, Words, file_first, read_words, wants_json};
 
 /// Does what the words ask for. It is refused only for want of memory.
@@ -86,16 +87,27 @@ fn one(
         );
     }
     let mut input = Input::new(rt)?;
-    let fed = match fed_by(rt, &mut input, line)? {
-        Ok(fed) => fed,
-        Err(what) => return tell_fault(rt, form, Status::NoInput, what, String::new(alloc)),
-    };
+    match fed_by(rt, &mut input, line)? {
+        Ok(fed) => done(rt, form, time, session, line, fed.as_ref()),
+        Err(what) => tell_fault(rt, form, Status::NoInput, what, String::new(alloc)),
+    }
+}
+
+// Does the command, to which this of standard input belongs.
+fn done(
+    rt: &HostRuntime,
+    form: Form,
+    time: &Time,
+    session: &mut Session,
+    line: &str,
+    fed: Option<&Fed>,
+) -> Result<Status, Memory> {
     let now = time.now(rt)?;
     let turn = Turn {
         line,
         time: now.as_str(),
         number: None,
-        fed: fed.as_ref(),
+        fed,
     };
     match session.command(rt, &turn)? {
         Some(reply) => Ok(tell(rt, form, &reply)),
