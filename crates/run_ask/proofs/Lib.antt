@@ -4,6 +4,7 @@ pub mod Settled
 pub mod Gathered
 pub mod Numbered
 pub mod Encoded
+pub mod ByPivot
 pub mod Worlds
 pub mod Fresh
 pub mod Learned
