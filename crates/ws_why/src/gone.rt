@@ -4,12 +4,14 @@ use crate::steps::{Made, rewritten};
 use base_types::{Memory, Tuple};
 use run_explain::Way;
 use std::alloc::Global;
+use std::fmt::Write;
 use ws_fault::{Refusal, Status};
 use ws_json::Object;
+use ws_lines::Source;
 use ws_print::add_fact;
 use ws_question::{inner_text, near_texts};
 use ws_reply::{Context, Reply};
-use ws_run::Taking;
+use ws_run::{Step, Taking};
 use ws_seen::{object_of, refused, seen_object, seen_text};
 use ws_space::Space;
 use ws_written::Fact;
@@ -22,6 +24,13 @@ struct Told {
     words: String,
 }
 
+// A step, and a tuple within that it took away.
+#[derive(Clone, Copy)]
+struct Taken<'a> {
+    made: Made<'a>,
+    tuple: &'a Tuple,
+}
+
 /// What took the tuple away last. It is refused if none did, or for want of memory.
 pub(crate) fn gone(
     alloc: Global,
@@ -29,15 +38,43 @@ pub(crate) fn gone(
     context: &Context<'_>,
     fact: &Fact,
 ) -> Result<Reply, Refusal> {
+    let said = said_text(alloc, space, fact)?;
+    match taken_last(alloc, space, fact)? {
+        Some(taken) => Ok(gone_by(alloc, space, context, said.as_str(), taken)?),
+        None => Err(not_there(alloc, space, said.as_str(), fact)?),
+    }
+}
+
+fn said_text(alloc: Global, space: &Space, fact: &Fact) -> Result<String, Memory> {
     let mut said = String::new(alloc);
     add_fact(&mut said, space.relations.as_slice(), fact)?;
+    Ok(said)
+}
+
+fn taken_last<'a>(
+    alloc: Global,
+    space: &'a Space,
+    fact: &Fact,
+) -> Result<Option<Taken<'a>>, Memory> {
     let tuple = space.tuple(alloc, fact)?;
-    let Some(told) = last_taken(alloc, space, said.as_str(), &tuple)? else {
-        let words = format!(in alloc; "{said} is not there")?;
-        let hint = near_hint(alloc, space, fact)?;
-        return Err(Refusal::Fault(refused(alloc, words, hint)));
-    };
-    Ok(reply(alloc, space, context, said.as_str(), told)?)
+    last_taken(alloc, space, &tuple)
+}
+
+fn gone_by(
+    alloc: Global,
+    space: &Space,
+    context: &Context<'_>,
+    said: &str,
+    taken: Taken<'_>,
+) -> Result<Reply, Memory> {
+    let told = told_of(alloc, space, said, taken)?;
+    reply(alloc, space, context, said, told)
+}
+
+fn not_there(alloc: Global, space: &Space, said: &str, fact: &Fact) -> Result<Refusal, Memory> {
+    let hint = near_hint(alloc, space, fact)?;
+    let words = format!(in alloc; "{said} is not there")?;
+    Ok(Refusal::Fault(refused(alloc, words, hint)))
 }
 
 fn near_hint(alloc: Global, space: &Space, fact: &Fact) -> Result<Option<String>, Memory> {
@@ -58,70 +95,122 @@ fn near_hint(alloc: Global, space: &Space, fact: &Fact) -> Result<Option<String>
 }
 
 // The last step that took the tuple away, by names.
-fn last_taken(
+fn last_taken<'a>(
     alloc: Global,
-    space: &Space,
-    said: &str,
+    space: &'a Space,
     tuple: &Tuple,
-) -> Result<Option<Told>, Memory> {
+) -> Result<Option<Taken<'a>>, Memory> {
     for standing in space.state.order().as_slice().iter().rev() {
         for step in standing.steps.as_slice().iter().rev() {
-            for taken in step.note.deleted.as_slice() {
-                if taken.relation == tuple.relation
-                    && space.state.names().tuple(alloc, taken)? == *tuple
-                {
-                    return Ok(Some(told_of(alloc, space, said, Made { standing, step }, taken)?));
-                }
+            if let Some(taken) = taken_by(alloc, space, step, tuple)? {
+                let made = Made { standing, step };
+                return Ok(Some(Taken { made, tuple: taken }));
             }
         }
     }
     Ok(None)
 }
 
-fn told_of(
+// The first of the tuples that the step took away that is this one by names.
+fn taken_by<'a>(
     alloc: Global,
     space: &Space,
-    said: &str,
-    made: Made<'_>,
-    taken: &Tuple,
-) -> Result<Told, Memory> {
-    let number = match space.state.held().get(made.standing.held) {
+    step: &'a Step,
+    tuple: &Tuple,
+) -> Result<Option<&'a Tuple>, Memory> {
+    for taken in step.note.deleted.as_slice() {
+        if taken.relation == tuple.relation && is_tuple(alloc, space, taken, tuple)? {
+            return Ok(Some(taken));
+        }
+    }
+    Ok(None)
+}
+
+fn is_tuple(alloc: Global, space: &Space, within: &Tuple, tuple: &Tuple) -> Result<bool, Memory> {
+    let named = space.state.names().tuple(alloc, within)?;
+    Ok(named == *tuple)
+}
+
+fn told_of(alloc: Global, space: &Space, said: &str, taken: Taken<'_>) -> Result<Told, Memory> {
+    let number = match space.state.held().get(taken.made.standing.held) {
         Some(held) => held.update.number,
         None => 0,
     };
-    let (how, what) = taking_words(alloc, space, made, taken)?;
+    Ok(Told {
+        number,
+        how: taking_word(taken.made.step.taking),
+        words: words_of(alloc, space, said, taken, number)?,
+    })
+}
+
+// `F what it did in N by C: LINE`.
+fn words_of(
+    alloc: Global,
+    space: &Space,
+    said: &str,
+    taken: Taken<'_>,
+    number: u32,
+) -> Result<String, Memory> {
+    let mut words = taking_words(alloc, space, said, taken)?;
+    add_update(alloc, &mut words, space, number)?;
+    Ok(words)
+}
+
+fn add_update(alloc: Global, words: &mut String, space: &Space, number: u32) -> Result<(), Memory> {
     let curator = space.curator_of(number);
-    let line = space.update_text(alloc, number)?;
-    let words = format!(in alloc; "{said} {what} in {number} by {curator}: {line}")?;
-    Ok(Told { number, how, words })
+    write!(words, " in {number} by {curator}: ")?;
+    words.push_str(space.update_text(alloc, number)?.as_str())?;
+    Ok(())
+}
+
+fn taking_word(taking: Taking) -> &'static str {
+    match taking {
+        Taking::Named => "deleted",
+        Taking::Needed(_) => "needed",
+        Taking::Chosen(_) => "chosen",
+        Taking::Became => "became",
+    }
 }
 
 fn taking_words(
     alloc: Global,
     space: &Space,
-    made: Made<'_>,
-    taken: &Tuple,
-) -> Result<(&'static str, String), Memory> {
-    match made.step.taking {
-        Taking::Named => Ok(("deleted", format!(in alloc; "was deleted")?)),
+    said: &str,
+    taken: Taken<'_>,
+) -> Result<String, Memory> {
+    match taken.made.step.taking {
+        Taking::Named => Ok(format!(in alloc; "{said} was deleted")?),
         Taking::Needed(source) => {
-            let mapping = space.source_mapping(source).unwrap_or(u16::MAX);
-            let name = space.mapping_name(mapping);
-            Ok(("needed", format!(in alloc; "went by {name}")?))
+            let name = source_name(space, source);
+            Ok(format!(in alloc; "{said} went by {name}")?)
         }
         Taking::Chosen(source) => {
-            let mapping = space.source_mapping(source).unwrap_or(u16::MAX);
-            let name = space.mapping_name(mapping);
-            Ok(("chosen", format!(in alloc; "was chosen to go by {name}")?))
+            let name = source_name(space, source);
+            Ok(format!(in alloc; "{said} was chosen to go by {name}")?)
         }
-        Taking::Became => {
-            let other = match &made.step.note.way {
-                Way::Rewrites(rewriting) => rewritten(alloc, rewriting, taken)?,
-                _ => taken.share()?,
-            };
-            let other = inner_text(alloc, space, &other)?;
-            Ok(("became", format!(in alloc; "became {other}")?))
-        }
+        Taking::Became => became_words(alloc, space, said, taken),
+    }
+}
+
+fn source_name(space: &Space, source: Source) -> &str {
+    space.mapping_name(space.source_mapping(source).unwrap_or(u16::MAX))
+}
+
+fn became_words(
+    alloc: Global,
+    space: &Space,
+    said: &str,
+    taken: Taken<'_>,
+) -> Result<String, Memory> {
+    let other = became(alloc, taken)?;
+    let other = inner_text(alloc, space, &other)?;
+    Ok(format!(in alloc; "{said} became {other}")?)
+}
+
+fn became(alloc: Global, taken: Taken<'_>) -> Result<Tuple, Memory> {
+    match &taken.made.step.note.way {
+        Way::Rewrites(rewriting) => rewritten(alloc, rewriting, taken.tuple),
+        _ => taken.tuple.share(),
     }
 }
 

@@ -20,7 +20,7 @@ pub(crate) struct Made<'a> {
 /// All steps of what stands, in order, and for each tuple the places of those that put it.
 #[derive(Drop)]
 pub(crate) struct Steps<'a> {
-    pub all: Vec<Made<'a>>,
+    all: Vec<Made<'a>>,
     puts: BTreeMap<Tuple, Vec<usize>>,
 }
 
@@ -63,22 +63,43 @@ impl<'a> Steps<'a> {
         places.iter().rev().find(|place| **place < before).copied()
     }
 
+    /// How the step at this place came to the tuple; with none it is of the base. It is refused only for want of memory.
+    pub(crate) fn origin_of(
+        &self,
+        alloc: Global,
+        tuple: &Tuple,
+        place: Option<usize>,
+    ) -> Result<Origin, Memory> {
+        match self.all.get(place.unwrap_or(usize::MAX)) {
+            Some(made) => origin_by(alloc, *made, tuple),
+            None => Ok(Origin::Base),
+        }
+    }
+
+    /// The number of the update that made the step at this place.
+    pub(crate) fn number(&self, space: &Space, place: Option<usize>) -> Option<u32> {
+        let made = self.all.get(place?)?;
+        let held = space.state.held().get(made.standing.held)?;
+        Some(held.update.number)
+    }
+
     /// How many steps there are.
     pub(crate) fn count(&self) -> usize {
         self.all.len()
     }
 }
 
-/// How a step came to a tuple that it put, within.
+/// How a tuple came to be there, within: it is of the base, or a step came to it so.
 #[derive(Drop)]
 pub(crate) enum Origin {
+    Base,
     Inserted,
     Generated(Source, TupleList),
     Rewritten(Tuple),
 }
 
-/// How the step came to the tuple. It is refused only for want of memory.
-pub(crate) fn origin_by(alloc: Global, made: Made<'_>, tuple: &Tuple) -> Result<Origin, Memory> {
+// How the step came to the tuple.
+fn origin_by(alloc: Global, made: Made<'_>, tuple: &Tuple) -> Result<Origin, Memory> {
     match &made.step.note.way {
         Way::Inserts => Ok(Origin::Inserted),
         Way::Generates { image, .. } => {

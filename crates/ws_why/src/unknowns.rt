@@ -23,17 +23,38 @@ pub fn why_unknown(
     context: &Context<'_>,
     unknown: Unknown,
 ) -> Result<Reply, Refusal> {
-    let Some(value) = space.within_unknown(unknown) else {
-        return Err(Refusal::Fault(space.lost(alloc, unknown)?));
-    };
+    match space.within_unknown(unknown) {
+        Some(value) => Ok(known(alloc, space, context, unknown, &value)?),
+        None => Err(Refusal::Fault(space.lost(alloc, unknown)?)),
+    }
+}
+
+fn known(
+    alloc: Global,
+    space: &Space,
+    context: &Context<'_>,
+    unknown: Unknown,
+    value: &Value,
+) -> Result<Reply, Memory> {
+    let texts = texts_with(alloc, space, value)?;
+    let name = name_of(alloc, unknown)?;
+    let words = words_of(alloc, space, name.as_str(), unknown)?;
+    reply(alloc, context, name.as_str(), words, texts.as_slice())
+}
+
+fn name_of(alloc: Global, unknown: Unknown) -> Result<String, Memory> {
     let mut name = String::new(alloc);
     add_unknown(&mut name, unknown)?;
-    let words = words_of(alloc, space, name.as_str(), unknown)?;
+    Ok(name)
+}
+
+// The tuples that the value stands in, as commands take them.
+fn texts_with(alloc: Global, space: &Space, value: &Value) -> Result<Vec<String>, Memory> {
     let mut texts = Vec::new(alloc);
-    for tuple in standing_in(alloc, space, &value)?.iter() {
+    for tuple in standing_in(alloc, space, value)?.iter() {
         texts.push(inner_text(alloc, space, tuple)?)?;
     }
-    Ok(reply(alloc, context, name.as_str(), words, texts.as_slice())?)
+    Ok(texts)
 }
 
 // The tuples that the value stands in, in order.
@@ -88,16 +109,37 @@ fn caused(
     let Some(mapping) = space.source_mapping(cause.source) else {
         return Ok(format!(in alloc; "{name} is new in {number} by {curator}")?);
     };
-    let variable = variable_of(alloc, space, cause, mapping)?;
-    let by = space.mapping_name(mapping);
-    let mut words = format!(in alloc; "{name} is {variable} of {by} in {number} by {curator}")?;
+    let mut words = drawn_words(alloc, space, name, cause, mapping)?;
+    words.push_str(format!(in alloc; " in {number} by {curator}")?.as_str())?;
     if let Source::By(_) = cause.source {
-        for (place, tuple) in cause.image.as_slice().iter().enumerate() {
-            words.push_str(if place == 0 { ", since " } else { ", " })?;
-            words.push_str(fact_text(alloc, space, tuple)?.as_str())?;
-        }
+        add_image(alloc, &mut words, space, cause)?;
     }
     Ok(words)
+}
+
+fn drawn_words(
+    alloc: Global,
+    space: &Space,
+    name: &str,
+    cause: &Cause,
+    mapping: u16,
+) -> Result<String, Memory> {
+    let variable = variable_of(alloc, space, cause, mapping)?;
+    let by = space.mapping_name(mapping);
+    Ok(format!(in alloc; "{name} is {variable} of {by}")?)
+}
+
+fn add_image(
+    alloc: Global,
+    words: &mut String,
+    space: &Space,
+    cause: &Cause,
+) -> Result<(), Memory> {
+    for (place, tuple) in cause.image.as_slice().iter().enumerate() {
+        words.push_str(if place == 0 { ", since " } else { ", " })?;
+        words.push_str(fact_text(alloc, space, tuple)?.as_str())?;
+    }
+    Ok(())
 }
 
 // The name of the variable that the unknown was drawn for.

@@ -5,11 +5,12 @@ use crate::reasons::{How, Reason, reasons_for};
 use crate::why_dot::dot_lines;
 use base_types::{Memory, Tuple};
 use std::alloc::Global;
+use std::fmt::Write;
 use ws_command::Pattern;
-use ws_fault::{Refusal, Status};
+use ws_fault::{Fault, Refusal, Status};
 use ws_json::{Items, Object};
-use ws_print::add_pattern;
-use ws_question::{count_text, fact_text, inner_text};
+use ws_print::{add_count, add_pattern};
+use ws_question::{fact_text, inner_text};
 use ws_reply::{Context, Reply};
 use ws_seen::{lines_text, number_of, object_of, refused, seen_object, seen_text};
 use ws_space::{Space, copy_value};
@@ -46,17 +47,48 @@ fn one_fact(alloc: Global, space: &Space, pattern: &Pattern) -> Result<Fact, Ref
     }
     refuse_lost(alloc, space, pattern)?;
     let found = space.matching(alloc, pattern)?;
-    if let [tuple] = found.as_slice() {
-        return Ok(space.shown(alloc, tuple)?);
+    match found.as_slice() {
+        [tuple] => Ok(space.shown(alloc, tuple)?),
+        several => Err(Refusal::Fault(several_fault(alloc, space, pattern, several)?)),
     }
-    let mut said = String::new(alloc);
-    add_pattern(&mut said, space.relations.as_slice(), pattern)?;
-    let count = count_text(alloc, found.len(), "tuple")?;
-    let mut fault = refused(alloc, format!(in alloc; "{said} fits {count}")?, None);
+}
+
+// That not one tuple fits but several or none.
+fn several_fault(
+    alloc: Global,
+    space: &Space,
+    pattern: &Pattern,
+    found: &[Tuple],
+) -> Result<Fault, Memory> {
+    let words = several_words(alloc, space, pattern, found.len())?;
+    let mut fault = refused(alloc, words, None);
+    add_some(alloc, &mut fault, space, found)?;
+    Ok(fault)
+}
+
+fn several_words(
+    alloc: Global,
+    space: &Space,
+    pattern: &Pattern,
+    count: usize,
+) -> Result<String, Memory> {
+    let mut words = String::new(alloc);
+    add_pattern(&mut words, space.relations.as_slice(), pattern)?;
+    words.push_str(" fits ")?;
+    add_count(&mut words, count, "tuple")?;
+    Ok(words)
+}
+
+fn add_some(
+    alloc: Global,
+    fault: &mut Fault,
+    space: &Space,
+    found: &[Tuple],
+) -> Result<(), Memory> {
     for tuple in found.iter().take(TOLD) {
         fault.more.push(inner_text(alloc, space, tuple)?)?;
     }
-    Err(Refusal::Fault(fault))
+    Ok(())
 }
 
 // The tuple that a pattern is; None if a `_` stands in it.
@@ -153,23 +185,26 @@ fn add_line(
         line.push_str("  ")?;
     }
     line.push_str(fact_text(alloc, space, &reason.tuple)?.as_str())?;
-    match &reason.how {
+    add_how(alloc, line, space, &reason.how)?;
+    if let Some(number) = reason.number {
+        let curator = space.curator_of(number);
+        write!(line, " in {number} by {curator}")?;
+        line.push_str(if reason.again { ", as above" } else { "" })?;
+    }
+    Ok(())
+}
+
+fn add_how(alloc: Global, line: &mut String, space: &Space, how: &How) -> Result<(), Memory> {
+    match how {
         How::Base => line.push_str(" is in the base")?,
         How::Inserted => line.push_str(" was inserted")?,
         How::Generated(mapping, _) => {
-            line.push_str(" was made by ")?;
-            line.push_str(space.mapping_name(*mapping))?;
+            let name = space.mapping_name(*mapping);
+            write!(line, " was made by {name}")?;
         }
         How::Rewritten(from) => {
             line.push_str(" was ")?;
             line.push_str(fact_text(alloc, space, from)?.as_str())?;
-        }
-    }
-    if let Some(number) = reason.number {
-        let curator = space.curator_of(number);
-        line.push_str(format!(in alloc; " in {number} by {curator}")?.as_str())?;
-        if reason.again {
-            line.push_str(", as above")?;
         }
     }
     Ok(())
@@ -194,17 +229,23 @@ fn add_reason(
         object.text("curator", space.curator_of(number))?;
     }
     object.text("how", reason.how.word())?;
-    match &reason.how {
-        How::Base | How::Inserted => (),
+    add_way(alloc, object, space, &reason.how)
+}
+
+// The mapping with the image, or the tuple that it was.
+fn add_way(alloc: Global, object: &mut Object, space: &Space, how: &How) -> Result<(), Memory> {
+    match how {
+        How::Base | How::Inserted => Ok(()),
         How::Generated(mapping, image) => {
             object.text("mapping", space.mapping_name(*mapping))?;
             object.items("image", fact_items(alloc, space, image.as_slice())?)?;
+            Ok(())
         }
         How::Rewritten(from) => {
             object.text("from", fact_text(alloc, space, from)?.as_str())?;
+            Ok(())
         }
     }
-    Ok(())
 }
 
 fn fact_items(alloc: Global, space: &Space, tuples: &[Tuple]) -> Result<Items, Memory> {
