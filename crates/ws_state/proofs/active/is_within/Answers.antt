@@ -9,7 +9,7 @@ use Rattle.ws_state.proofs.active.is_within.Goals as goal
 
 pub returns : goal.returns
 returns c =
-    let few : length (map rule_of c.args.list.now.items) ≤ 65536 = omega (arith, c.if-len.false, c.len.ensures.length, length-map c.args.list.now.items rule_of) in
+    let few : length (map rule_of c.args.list.now.items) ≤ 65536 = omega (arith, c.if-len-gt65536.false, c.len.ensures.length, length-map c.args.list.now.items rule_of) in
     record {
       within = λ e. record {
         count = few;
