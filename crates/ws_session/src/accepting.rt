@@ -1,0 +1,164 @@
+//! What is accepted: its record is appended before its reply is given.
+ghost use Rattle.std.specs.Prelude.{◌++◌, ◌∷◌, [], ℕ, List, IfOk};
+ghost use Rattle.ws_file.specs.Files.{state_of};
+ghost use Rattle.ws_seal.specs.Logs.{IsHeld};
+
+use crate::sessions::{Session, Texts};
+use def_memory::Memory;
+use std::alloc::Global;
+use ws_fault::Refusal;
+use ws_log::{Fault, OpenLog};
+use ws_print::add_record;
+use ws_reply::{Outcome, Reply};
+use ws_space::Space;
+use ws_written::{Line, Record, SaidLine, Stamp};
+
+/// Who says something, and when.
+pub(crate) fn stamp_of(alloc: Global, time: &str, curator: &str) -> Result<Stamp, Memory> {
+    Ok(Stamp {
+        time: String::from_str(alloc, time)?,
+        curator: String::from_str(alloc, curator)?,
+    })
+}
+
+// The lines as they are said, the first of them with this comment.
+fn said_lines(alloc: Global, lines: Vec<Line>, comment: &str) -> Result<Vec<SaidLine>, Memory> {
+    let mut said = Vec::new(alloc);
+    let mut are_all = true;
+    for (place, line) in lines.into_iter().enumerate() {
+        let comment = if place == 0 { comment } else { "" };
+        are_all = add_said(alloc, &mut said, line, comment).is_ok() && are_all;
+    }
+    if are_all {
+        return Ok(said);
+    }
+    Err(Memory)
+}
+
+fn add_said(
+    alloc: Global,
+    said: &mut Vec<SaidLine>,
+    line: Line,
+    comment: &str,
+) -> Result<(), Memory> {
+    match String::from_str(alloc, comment) {
+        Ok(comment) => Ok(said.push(SaidLine { line, comment })?),
+        Err(_) => {
+            drop(line);
+            Err(Memory)
+        }
+    }
+}
+
+// The text of a record over the relations of a workspace that has it.
+fn text_of(alloc: Global, space: &Space, record: &Record) -> Result<Vec<u8>, Memory> {
+    let mut text = String::new(alloc);
+    add_record(&mut text, space.relations.as_slice(), record)?;
+    Ok(text.into_bytes())
+}
+
+// Keeps the record of lines that the workspace has taken, and its text.
+fn keep(
+    alloc: Global,
+    space: &mut Space,
+    texts: &mut Vec<Vec<u8>>,
+    record: Record,
+) -> Result<(), Memory> {
+    match text_of(alloc, space, &record) {
+        Ok(text) => {
+            if texts.push(text).is_err() {
+                drop(record);
+                return Err(Memory);
+            }
+            space.recorded(alloc, record)
+        }
+        Err(memory) => {
+            drop(record);
+            Err(memory)
+        }
+    }
+}
+
+impl Session {
+    /// Records what a change came to, and gives its reply. At `Ok` the record, if there is one, is acknowledged.
+    pub(crate) fn accept(
+        &mut self,
+        alloc: Global,
+        outcome: Outcome,
+        time: &str,
+        comment: &str,
+    ) -> Result<Reply, Refusal> {
+        let Outcome { reply, lines } = outcome;
+        if lines.is_empty() {
+            return Ok(reply);
+        }
+        // What takes memory comes before the append, since nothing may be refused after it.
+        match self.record(alloc, lines, time, comment) {
+            Ok(()) => self.append(alloc, reply),
+            Err(memory) => {
+                drop(reply);
+                Err(Refusal::from(memory))
+            }
+        }
+    }
+
+    /// Keeps the record of these lines, the first of which was said with this comment, and its text. If memory runs out, what was
+    /// read is of no use any more.
+    pub(crate) fn record(
+        &mut self,
+        alloc: Global,
+        lines: Vec<Line>,
+        time: &str,
+        comment: &str,
+    ) -> Result<(), Memory> {
+        let lines = said_lines(alloc, lines, comment)?;
+        match stamp_of(alloc, time, self.speaker.settings.curator.as_str()) {
+            Ok(stamp) => self.keep(alloc, Record { stamp, lines }),
+            Err(memory) => {
+                drop(lines);
+                Err(memory)
+            }
+        }
+    }
+
+    fn keep(&mut self, alloc: Global, record: Record) -> Result<(), Memory> {
+        match &mut self.space {
+            Some(space) => keep(alloc, space, &mut self.file.texts, record),
+            None => {
+                drop(record);
+                Err(Memory)
+            }
+        }
+    }
+
+    fn append(&mut self, alloc: Global, reply: Reply) -> Result<Reply, Refusal> {
+        match self.file.append(alloc, reply) {
+            Ok(reply) => Ok(reply),
+            Err(fault) => Err(self.speaker.log_fault(alloc, fault)),
+        }
+    }
+}
+
+impl Texts {
+    // Appends the last text to the log in hand, and gives the reply back.
+    fn append(&mut self, alloc: Global, reply: Reply) -> Result<Reply, Fault> {
+        let (Some(log), Some(text)) = (self.log.take(), self.texts.last()) else {
+            drop(reply);
+            return Err(Fault::Memory);
+        };
+        let (log, reply) = told(alloc, log, text.as_slice(), reply)?;
+        self.hold(log);
+        Ok(reply)
+    }
+}
+
+// Appends the text, and gives the reply back: so no reply is given before the text is acknowledged.
+fn told(alloc: Global, log: OpenLog, text: &[u8], reply: Reply) -> Result<(OpenLog, Reply), Fault>
+    ensures acknowledged { (before m : List ℕ) (texts : List (List ℕ))
+        → IsHeld before m texts (state_of log.disk) log.gate log.mark
+        → IfOk result (λ told. IsHeld before m (texts ++ text.now ∷ []) (state_of told.0.disk)
+        told.0.gate told.0.mark) }
+{
+    let log = log.append(alloc, text)?;
+    Ok((log, reply))
+}

@@ -1,0 +1,152 @@
+//! A command: read, done over the workspace in memory, and accepted.
+
+use crate::failing::{fault, fault_reply};
+use crate::leaving::Done;
+use crate::loading::Fed;
+use crate::sessions::{Session, Speaker};
+use def_memory::Memory;
+use std::alloc::Global;
+use ws_command::{Said, Verb};
+use ws_fault::{Fault, Refusal, Status};
+use ws_grammar::{Names, read_command};
+use ws_log::Access;
+use ws_reply::Reply;
+use ws_space::Space;
+
+/// A line that is to be done: when it is said, its number in a script, and what of standard input belongs to it.
+#[derive(Clone, Copy)]
+pub struct Turn<'a> {
+    pub line: &'a str,
+    pub time: &'a str,
+    pub number: Option<u64>,
+    pub fed: Option<&'a Fed>,
+}
+
+impl Session {
+    /// The reply to a line; None if it is blank or a comment. It is refused only for want of memory.
+    pub fn command(&mut self, rt: &HostRuntime, turn: &Turn<'_>) -> Result<Option<Reply>, Memory> {
+        if is_blank(turn.line) {
+            return Ok(None);
+        }
+        let alloc = rt.alloc();
+        match self.answer(rt, turn) {
+            Ok(reply) => Ok(reply),
+            Err(Refusal::Fault(fault)) => self.speaker.faulty(alloc, &fault, turn),
+            Err(Refusal::Memory) => {
+                self.forget(alloc);
+                self.speaker.faulty(alloc, &out_of_memory(alloc)?, turn)
+            }
+        }
+    }
+
+    fn answer(&mut self, rt: &HostRuntime, turn: &Turn<'_>) -> Result<Option<Reply>, Refusal> {
+        if !self.open(rt, access_of(turn.line))? {
+            return self.answer_without(rt, turn);
+        }
+        match self.done(rt, turn) {
+            Ok(done) => self.finish(rt, turn, done),
+            Err(refusal) => {
+                self.rest(rt.alloc());
+                Err(refusal)
+            }
+        }
+    }
+
+    // What the line comes to over the workspace in memory; nothing is written.
+    fn done(&mut self, rt: &HostRuntime, turn: &Turn<'_>) -> Result<Done, Refusal> {
+        let Some(space) = &mut self.space else {
+            return Err(Refusal::Memory);
+        };
+        match read_over(rt.alloc(), space, turn.line)? {
+            Some(said) => {
+                let texts = self.file.texts.as_slice();
+                self.speaker.command(rt, turn, texts, space, said)
+            }
+            None => Ok(Done::Nothing),
+        }
+    }
+
+    // Writes what is to be written, frees the file, and gives the reply. After a fault nothing that was read is kept.
+    fn finish(
+        &mut self,
+        rt: &HostRuntime,
+        turn: &Turn<'_>,
+        done: Done,
+    ) -> Result<Option<Reply>, Refusal> {
+        match self.written(rt, turn, done) {
+            Ok(reply) => {
+                self.rest(rt.alloc());
+                Ok(reply)
+            }
+            Err(refusal) => {
+                self.forget(rt.alloc());
+                Err(refusal)
+            }
+        }
+    }
+
+    fn written(
+        &mut self,
+        rt: &HostRuntime,
+        turn: &Turn<'_>,
+        done: Done,
+    ) -> Result<Option<Reply>, Refusal> {
+        match done {
+            Done::Nothing => Ok(None),
+            Done::Told(reply) => Ok(Some(reply)),
+            Done::Changed(outcome, comment) => {
+                let comment = comment.as_str();
+                Ok(Some(self.accept(rt.alloc(), outcome, turn.time, comment)?))
+            }
+            Done::Folded(head, reply) => Ok(Some(self.fold(rt, head, reply)?)),
+        }
+    }
+}
+
+impl Speaker {
+    // The reply that tells a fault.
+    fn faulty(
+        &self,
+        alloc: Global,
+        fault: &Fault,
+        turn: &Turn<'_>,
+    ) -> Result<Option<Reply>, Memory> {
+        let form = self.settings.form;
+        Ok(Some(fault_reply(alloc, form, fault, turn.line, turn.number)?))
+    }
+}
+
+/// The command of a line over the names of a workspace; None if it is blank.
+pub(crate) fn read_over(alloc: Global, space: &Space, line: &str) -> Result<Option<Said>, Refusal> {
+    let mappings = space.mapping_names(alloc)?;
+    let names = Names {
+        relations: space.relations.as_slice(),
+        mappings: mappings.as_slice(),
+    };
+    read_command(alloc, &names, line)
+}
+
+fn is_blank(line: &str) -> bool {
+    let trimmed = line.trim();
+    trimmed.is_empty() || trimmed.starts_with('#')
+}
+
+// How the file is locked for a line: for a change, if its first word is that of one.
+fn access_of(line: &str) -> Access {
+    let rest = line.trim_start();
+    let end = rest.find(|c: char| !c.is_ascii_alphabetic() && c != '_');
+    let word = rest.get(..end.unwrap_or(rest.len())).unwrap_or(rest);
+    match Verb::of(word) {
+        Some(verb) if verb.changes() => Access::Change,
+        _ => Access::Read,
+    }
+}
+
+fn out_of_memory(alloc: Global) -> Result<Fault, Memory> {
+    Ok(fault(
+        alloc,
+        Status::NoMemory,
+        String::from_str(alloc, "out of memory")?,
+        None,
+    ))
+}

@@ -1,0 +1,203 @@
+//! A file that is made by its first command.
+
+use crate::accepting::stamp_of;
+use crate::changing::quit;
+use crate::commands::{Turn, read_over};
+use crate::leaving::allowed;
+use crate::sessions::Session;
+use def_memory::Memory;
+use std::alloc::Global;
+use std::mem;
+use ws_command::{Change, Command, Said};
+use ws_fault::Refusal;
+use ws_log::{Fault, OpenLog, create};
+use ws_look::help;
+use ws_print::add_head;
+use ws_reply::{Outcome, Reply};
+use ws_space::Space;
+
+impl Session {
+    /// The answer to a line if there is no file: one that makes it, help, or that there is none.
+    pub(crate) fn answer_without(
+        &mut self,
+        rt: &HostRuntime,
+        turn: &Turn<'_>,
+    ) -> Result<Option<Reply>, Refusal> {
+        let answer = self.first(rt, turn);
+        self.rest(rt.alloc());
+        answer
+    }
+
+    fn first(&mut self, rt: &HostRuntime, turn: &Turn<'_>) -> Result<Option<Reply>, Refusal> {
+        let alloc = rt.alloc();
+        self.begin(alloc, turn.time)?;
+        let Some(space) = &self.space else {
+            return Err(Refusal::Memory);
+        };
+        match read_over(alloc, space, turn.line)? {
+            Some(said) => Ok(Some(self.first_said(rt, turn, said)?)),
+            None => Ok(None),
+        }
+    }
+
+    // A workspace of which nothing was said.
+    fn begin(&mut self, alloc: Global, time: &str) -> Result<(), Memory> {
+        let stamp = stamp_of(alloc, time, self.speaker.settings.curator.as_str())?;
+        let space = Space::fresh(alloc, stamp)?;
+        drop(mem::replace(&mut self.space, Some(space)));
+        Ok(())
+    }
+
+    // The answer to a command if there is no file.
+    fn first_said(
+        &mut self,
+        rt: &HostRuntime,
+        turn: &Turn<'_>,
+        said: Said,
+    ) -> Result<Reply, Refusal> {
+        match self.told_without(rt.alloc(), turn.time, &said.command) {
+            Ok(None) => self.first_change(rt, turn, said),
+            Ok(Some(reply)) => {
+                drop(said);
+                Ok(reply)
+            }
+            Err(refusal) => {
+                drop(said);
+                Err(refusal)
+            }
+        }
+    }
+
+    // The reply to a command that wants no file. It is refused if the command is not allowed, or if it wants a file.
+    fn told_without(
+        &self,
+        alloc: Global,
+        time: &str,
+        command: &Command,
+    ) -> Result<Option<Reply>, Refusal> {
+        allowed(alloc, &self.speaker.settings, 0, command)?;
+        match command {
+            Command::Help(verb) => {
+                let context = self.speaker.context(time, false);
+                Ok(Some(help(alloc, &context, *verb)?))
+            }
+            Command::Quit => Ok(Some(quit(alloc))),
+            Command::Change { change, .. } if makes_file(change) => Ok(None),
+            _ => Err(self.speaker.no_file(alloc)),
+        }
+    }
+
+    // The answer to the change that makes the file.
+    fn first_change(
+        &mut self,
+        rt: &HostRuntime,
+        turn: &Turn<'_>,
+        said: Said,
+    ) -> Result<Reply, Refusal> {
+        let Said { command, comment } = said;
+        match command {
+            Command::Change { change, .. } => self.make(rt, turn, change, comment.as_str()),
+            other => {
+                drop(other);
+                Err(self.speaker.no_file(rt.alloc()))
+            }
+        }
+    }
+
+    // Makes the file with the head and the record of the change, or not at all.
+    fn make(
+        &mut self,
+        rt: &HostRuntime,
+        turn: &Turn<'_>,
+        change: Change,
+        comment: &str,
+    ) -> Result<Reply, Refusal> {
+        match self.keep_head(rt.alloc()) {
+            Ok(()) => {
+                let outcome = self.first_outcome(rt, turn, change)?;
+                self.made(rt, turn.time, outcome, comment)
+            }
+            Err(memory) => {
+                drop(change);
+                Err(Refusal::from(memory))
+            }
+        }
+    }
+
+    fn keep_head(&mut self, alloc: Global) -> Result<(), Memory> {
+        let Some(space) = &self.space else {
+            return Err(Memory);
+        };
+        self.file.texts.push(head_text(alloc, space)?)?;
+        Ok(())
+    }
+
+    fn first_outcome(
+        &mut self,
+        rt: &HostRuntime,
+        turn: &Turn<'_>,
+        change: Change,
+    ) -> Result<Outcome, Refusal> {
+        match &mut self.space {
+            Some(space) => self.speaker.change(rt, turn, &[], space, change, false),
+            None => {
+                drop(change);
+                Err(Refusal::Memory)
+            }
+        }
+    }
+
+    // Makes the file with what was kept and the record of the change. Nothing is refused after that.
+    fn made(
+        &mut self,
+        rt: &HostRuntime,
+        time: &str,
+        outcome: Outcome,
+        comment: &str,
+    ) -> Result<Reply, Refusal> {
+        let Outcome { reply, lines } = outcome;
+        match self.record(rt.alloc(), lines, time, comment) {
+            Ok(()) => self.create(rt, reply),
+            Err(memory) => {
+                drop(reply);
+                Err(Refusal::from(memory))
+            }
+        }
+    }
+
+    fn create(&mut self, rt: &HostRuntime, reply: Reply) -> Result<Reply, Refusal> {
+        let path = self.speaker.settings.path.as_str();
+        match created(rt, path, self.file.texts.as_slice()) {
+            Ok(log) => {
+                self.file.hold(log);
+                Ok(reply)
+            }
+            Err(fault) => {
+                drop(reply);
+                Err(self.speaker.log_fault(rt.alloc(), fault))
+            }
+        }
+    }
+}
+
+fn created(rt: &HostRuntime, path: &str, texts: &[Vec<u8>]) -> Result<OpenLog, Fault> {
+    match texts.split_first() {
+        Some((head, records)) => create(rt, path, head.as_slice(), records),
+        None => Err(Fault::Memory),
+    }
+}
+
+fn makes_file(change: &Change) -> bool {
+    match change {
+        Change::Relation(_) => true,
+        Change::Load(load) => load.create,
+        _ => false,
+    }
+}
+
+/// The text of the head of a workspace. It is refused only for want of memory.
+pub(crate) fn head_text(alloc: Global, space: &Space) -> Result<Vec<u8>, Memory> {
+    let mut text = String::new(alloc);
+    add_head(&mut text, &space.head(alloc)?)?;
+    Ok(text.into_bytes())
+}

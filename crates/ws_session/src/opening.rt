@@ -1,0 +1,179 @@
+//! The file of a session: opened, read on, and let go of.
+
+use crate::sessions::{Session, Texts};
+use std::alloc::{AllocError, Global};
+use std::mem;
+use ws_fault::Refusal;
+use ws_log::{Access, Fault, Opened, Reopened, RestingLog, open, reopen};
+use ws_space::{Opening, Point, Space};
+
+impl Session {
+    /// Locks the file and reads what is new; false if there is none. What was read is in memory then, and the log in hand.
+    pub(crate) fn open(&mut self, rt: &HostRuntime, access: Access) -> Result<bool, Refusal> {
+        let alloc = rt.alloc();
+        match self.read_on(rt, access) {
+            Ok(()) => {
+                self.build(alloc)?;
+                Ok(true)
+            }
+            Err(Fault::Absent) => {
+                self.forget(alloc);
+                Ok(false)
+            }
+            Err(fault) => {
+                self.forget(alloc);
+                Err(self.speaker.log_fault(alloc, fault))
+            }
+        }
+    }
+
+    fn read_on(&mut self, rt: &HostRuntime, access: Access) -> Result<(), Fault> {
+        match self.file.resting.take() {
+            Some(resting) => self.reread(rt, access, resting),
+            None => {
+                let wait = self.speaker.wait();
+                let opened = open(rt, self.speaker.settings.path.as_str(), access, wait)?;
+                self.keep_anew(opened);
+                Ok(())
+            }
+        }
+    }
+
+    fn reread(
+        &mut self,
+        rt: &HostRuntime,
+        access: Access,
+        resting: RestingLog,
+    ) -> Result<(), Fault> {
+        let wait = self.speaker.wait();
+        let path = self.speaker.settings.path.as_str();
+        match reopen(rt, resting, path, access, wait)? {
+            Reopened::Same(opened) => self.file.keep(opened),
+            Reopened::Another(opened) => {
+                self.keep_anew(opened);
+                Ok(())
+            }
+        }
+    }
+
+    fn keep_anew(&mut self, opened: Opened) {
+        drop(self.space.take());
+        let Opened { log, texts } = opened;
+        self.file.texts = texts;
+        self.file.hold(log);
+    }
+
+    // The workspace of all texts that were read.
+    fn build(&mut self, alloc: Global) -> Result<(), Refusal> {
+        let fault = match self.read_texts(alloc) {
+            Ok(()) => return Ok(()),
+            Err(fault) => fault,
+        };
+        let refusal = match fault {
+            Opening::Unread(place) => self.speaker.unread(alloc, place),
+            Opening::Memory => Refusal::Memory,
+        };
+        self.forget(alloc);
+        Err(refusal)
+    }
+
+    fn read_texts(&mut self, alloc: Global) -> Result<(), Opening> {
+        let texts = self.file.texts.as_slice();
+        if let Some(space) = &mut self.space {
+            return read_new(alloc, space, texts);
+        }
+        let space = Space::open(alloc, texts)?;
+        drop(mem::replace(&mut self.space, Some(space)));
+        Ok(())
+    }
+
+    /// Whether something waits in the file; also if it cannot be read.
+    pub fn waits(&mut self, rt: &HostRuntime) -> bool {
+        let Ok(true) = self.open(rt, Access::Read) else {
+            return true;
+        };
+        let waits = match &self.space {
+            Some(space) => !space.state.waiting().is_empty(),
+            None => true,
+        };
+        self.rest(rt.alloc());
+        waits
+    }
+
+    /// Frees the lock. What was read is kept, unless no log is in hand or the file could not be freed.
+    pub(crate) fn rest(&mut self, alloc: Global) {
+        if !self.file.rest() || !self.is_back(alloc) {
+            self.forget(alloc);
+        }
+    }
+
+    // Whether the workspace has what is recorded and nothing else; what was done in memory alone is taken back.
+    fn is_back(&mut self, alloc: Global) -> bool {
+        let point = self.speaker.point.take();
+        match &mut self.space {
+            Some(space) => is_back_to(alloc, space, point),
+            None => {
+                drop(point);
+                true
+            }
+        }
+    }
+}
+
+impl Texts {
+    // Keeps the log, and the texts that are new.
+    fn keep(&mut self, opened: Opened) -> Result<(), Fault> {
+        let Opened { log, texts } = opened;
+        self.hold(log);
+        match self.add_texts(texts) {
+            Ok(()) => Ok(()),
+            Err(_) => Err(Fault::Memory),
+        }
+    }
+
+    fn add_texts(&mut self, texts: Vec<Vec<u8>>) -> Result<(), AllocError> {
+        for text in texts {
+            self.texts.push(text)?;
+        }
+        Ok(())
+    }
+
+    // Whether the log is at rest now, its lock freed.
+    fn rest(&mut self) -> bool {
+        let Some(log) = self.log.take() else {
+            return false;
+        };
+        match log.release() {
+            Ok(resting) => {
+                drop(mem::replace(&mut self.resting, Some(resting)));
+                true
+            }
+            Err(_) => false,
+        }
+    }
+}
+
+// Does what the texts say that the workspace has not got yet.
+fn read_new(alloc: Global, space: &mut Space, texts: &[Vec<u8>]) -> Result<(), Opening> {
+    let first = space.records.len().saturating_add(1);
+    let new = texts.get(first..).unwrap_or(&[]);
+    for (place, text) in new.iter().enumerate() {
+        match space.replay(alloc, text.as_slice()) {
+            Ok(()) => {}
+            Err(Opening::Unread(_)) => return Err(Opening::Unread(place.saturating_add(first))),
+            Err(Opening::Memory) => return Err(Opening::Memory),
+        }
+    }
+    Ok(())
+}
+
+fn is_back_to(alloc: Global, space: &mut Space, point: Option<Point>) -> bool {
+    if space.is_recorded() {
+        drop(point);
+        return true;
+    }
+    match point {
+        Some(point) => space.back_to(alloc, point).is_ok(),
+        None => false,
+    }
+}

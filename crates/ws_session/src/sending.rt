@@ -1,0 +1,92 @@
+//! A text that is told, or written to a file.
+
+use crate::failing::{cannot, refused, reply_of};
+use crate::sessions::{Settings, called};
+use def_memory::Memory;
+use std::alloc::{AllocError, Global};
+use std::fs;
+use std::os::unix::fs::MetadataExt;
+use ws_fault::{Refusal, Status};
+use ws_json::Object;
+use ws_print::add_escaped;
+use ws_reply::{Form, Kind, Reply};
+
+/// Writes the lines to the file, if there is one, and tells that; or tells them.
+pub(crate) fn sent(
+    rt: &HostRuntime,
+    settings: &Settings,
+    to: &Option<String>,
+    kind: &str,
+    lines: Vec<String>,
+) -> Result<Reply, Refusal> {
+    let alloc = rt.alloc();
+    match to {
+        Some(path) if is_workspace(rt, settings, path.as_str()) => {
+            let name = called(settings, path.as_str());
+            let words = format!(in alloc; "cannot write {name}: it is the workspace");
+            Err(refused(alloc, Status::NoOutput, words))
+        }
+        Some(path) => {
+            let text = joined(alloc, lines.as_slice())?;
+            match fs::write(rt, path.as_str(), text.as_str()) {
+                Ok(()) => Ok(wrote(alloc, settings.form, path.as_str())?),
+                Err(error) => {
+                    let name = called(settings, path.as_str());
+                    Err(cannot(alloc, Status::NoOutput, "write", name, &error))
+                }
+            }
+        }
+        None => Ok(told(alloc, settings.form, kind, lines)?),
+    }
+}
+
+// Whether the path leads to the file of the workspace, in whatever words.
+fn is_workspace(rt: &HostRuntime, settings: &Settings, path: &str) -> bool {
+    match (
+        fs::metadata(rt, settings.path.as_str()),
+        fs::metadata(rt, path),
+    ) {
+        (Ok(ours), Ok(other)) => ours.dev() == other.dev() && ours.ino() == other.ino(),
+        _ => false,
+    }
+}
+
+// The lines, each with a line feed; a line feed if there is none.
+fn joined(alloc: Global, lines: &[String]) -> Result<String, AllocError> {
+    let mut text = String::new(alloc);
+    for (place, line) in lines.iter().enumerate() {
+        if 0 < place {
+            text.push('\n')?;
+        }
+        text.push_str(line.as_str())?;
+    }
+    text.push('\n')?;
+    Ok(text)
+}
+
+fn told(alloc: Global, form: Form, kind: &str, lines: Vec<String>) -> Result<Reply, Memory> {
+    if form == Form::Text {
+        return Ok(Reply::of_text(Status::Done, Kind::Look, lines));
+    }
+    let text = joined(alloc, lines.as_slice())?;
+    Ok(one(alloc, kind, "text", text.as_str())?)
+}
+
+fn wrote(alloc: Global, form: Form, path: &str) -> Result<Reply, Memory> {
+    if form == Form::Json {
+        return Ok(one(alloc, "wrote", "file", path)?);
+    }
+    let mut line = String::from_str(alloc, "wrote ")?;
+    add_escaped(&mut line, path)?;
+    let mut lines = Vec::new(alloc);
+    lines.push(line)?;
+    Ok(Reply::of_text(Status::Done, Kind::Look, lines))
+}
+
+// The reply of an object of this kind that has one text.
+fn one(alloc: Global, kind: &str, key: &str, text: &str) -> Result<Reply, AllocError> {
+    let mut object = Object::new(alloc);
+    object.text("reply", kind)?;
+    object.text(key, text)?;
+    reply_of(alloc, Status::Done, Kind::Look, object)
+}

@@ -1,0 +1,130 @@
+//! A session, and what it is over.
+
+use std::alloc::{AllocError, Global};
+use std::mem;
+use std::time::Duration;
+use ws_log::{OpenLog, RestingLog};
+use ws_question::Shown;
+use ws_reply::{Context, Form};
+use ws_space::{Point, Space};
+
+/// What a session is over: the file, who speaks, for how many seconds another process may have the file, how replies are told,
+/// whether no other file is read or written, and whether further commands may come.
+#[derive(Drop)]
+pub struct Settings {
+    pub path: String,
+    pub curator: String,
+    pub wait: u32,
+    pub form: Form,
+    pub no_files: bool,
+    pub stays: bool,
+}
+
+/// A session: who speaks, what was read of the file, and the workspace of it, as far as it is at hand.
+#[derive(Drop)]
+pub struct Session {
+    pub(crate) speaker: Speaker,
+    pub(crate) file: Texts,
+    // The workspace of the texts.
+    pub(crate) space: Option<Space>,
+}
+
+/// Who speaks, and what the speaker was shown.
+#[derive(Drop)]
+pub(crate) struct Speaker {
+    pub settings: Settings,
+    // What faults call the file.
+    pub name: String,
+    pub shown: Shown,
+    // What the workspace goes back to if what is done in memory is not recorded.
+    pub point: Option<Point>,
+}
+
+/// The texts of the file that were read, the head first, and the log: in hand while a command is done, else at rest.
+#[derive(Drop)]
+pub(crate) struct Texts {
+    pub texts: Vec<Vec<u8>>,
+    pub log: Option<OpenLog>,
+    pub resting: Option<RestingLog>,
+}
+
+impl Session {
+    /// A session that has read nothing yet. It is refused only for want of memory.
+    pub fn new(alloc: Global, settings: Settings) -> Result<Session, AllocError> {
+        let name = String::from_str(alloc, called(&settings, settings.path.as_str()))?;
+        Ok(Session {
+            speaker: Speaker {
+                settings,
+                name,
+                shown: Shown::new(alloc),
+                point: None,
+            },
+            file: Texts::none(alloc),
+            space: None,
+        })
+    }
+
+    /// Frees all that was read.
+    pub(crate) fn forget(&mut self, alloc: Global) {
+        drop(mem::replace(&mut self.file, Texts::none(alloc)));
+        drop(self.space.take());
+        drop(self.speaker.point.take());
+    }
+}
+
+impl Texts {
+    /// Nothing was read.
+    pub(crate) fn none(alloc: Global) -> Texts {
+        Texts {
+            texts: Vec::new(alloc),
+            log: None,
+            resting: None,
+        }
+    }
+
+    /// Takes the log in hand.
+    pub(crate) fn hold(&mut self, log: OpenLog) {
+        drop(mem::replace(&mut self.log, Some(log)));
+    }
+}
+
+impl Speaker {
+    /// How long another process may have the file.
+    pub(crate) fn wait(&self) -> Duration {
+        Duration::from_secs(u64::from(self.settings.wait))
+    }
+
+    /// Whom a command is done for, when, and how its reply is told.
+    pub(crate) fn context<'a>(&'a self, time: &'a str, trying: bool) -> Context<'a> {
+        context_of(&self.settings, self.name.as_str(), time, trying)
+    }
+}
+
+/// Whom a command is done for, when, and how its reply is told; faults call the file by this name.
+pub(crate) fn context_of<'a>(
+    settings: &'a Settings,
+    name: &'a str,
+    time: &'a str,
+    trying: bool,
+) -> Context<'a> {
+    Context {
+        curator: settings.curator.as_str(),
+        time,
+        file: name,
+        form: settings.form,
+        trying,
+    }
+}
+
+/// What faults call a file: its last part if replies are objects, so that no folder is told.
+pub(crate) fn called<'a>(settings: &Settings, path: &'a str) -> &'a str {
+    if settings.form == Form::Text {
+        return path;
+    }
+    let trimmed = path.trim_end_matches('/');
+    let last = match trimmed.rsplit_once('/') {
+        Some((_, last)) => last,
+        None => trimmed,
+    };
+    if last.is_empty() { path } else { last }
+}
