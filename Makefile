@@ -23,6 +23,15 @@ LIVE_BASH = $(DESTDIR)$(PREFIX)/share/bash-completion/completions/$(LIVE_NAME)
 LIVE_ZSH = $(DESTDIR)$(PREFIX)/share/zsh/site-functions/_$(LIVE_NAME)
 LIVE_FISH = $(DESTDIR)$(PREFIX)/share/fish/vendor_completions.d/$(LIVE_NAME).fish
 
+# The program over a workspace, and where its files go.
+YT_NAME = yt
+YT = crates/$(YT_NAME)/out/$(YT_NAME)
+YT_BIN = $(DESTDIR)$(PREFIX)/bin/$(YT_NAME)
+YT_MAN = $(DESTDIR)$(PREFIX)/share/man/man1/$(YT_NAME).1
+YT_BASH = $(DESTDIR)$(PREFIX)/share/bash-completion/completions/$(YT_NAME)
+YT_ZSH = $(DESTDIR)$(PREFIX)/share/zsh/site-functions/_$(YT_NAME)
+YT_FISH = $(DESTDIR)$(PREFIX)/share/fish/vendor_completions.d/$(YT_NAME).fish
+
 .PHONY: help run build install uninstall share quick checks differential hostile test
 
 help:
@@ -31,14 +40,14 @@ help:
 	@echo '                       run another session'
 	@echo 'make build             prove and build the program'
 	@echo 'make install PREFIX=/usr/local'
-	@echo '                       put both built programs, their man pages and the completions of bash, zsh and fish below PREFIX'
+	@echo '                       put the three built programs, their man pages and the completions of bash, zsh and fish below PREFIX'
 	@echo 'make uninstall         take them away'
 	@echo 'make quick             the quick tier: pages, sources, and every stored row by the program without proof'
 	@echo 'make checks            what needs no prover: pages, figures, stored rows and tables of the built program'
 	@echo 'make differential SEED=1 COUNT=1000'
 	@echo '                       compare the built program with the reference in Python on random sessions'
-	@echo 'make hostile           attack the built programs: refused memory, failing devices, cut and long inputs, workers'
-	@echo 'make share             make the man page and the completions from share/words.tsv'
+	@echo 'make hostile           attack the built programs: refused memory, failing devices, cut and long inputs, workers, workspaces'
+	@echo 'make share             make the man pages and the completions from share/words.tsv'
 	@echo 'make test              the gate: prove every crate, try every must-fail edit, run every test, program and check'
 
 run:
@@ -57,7 +66,7 @@ run:
 build:
 	cd crates/$(NAME) && rt run -- run < ../../$(EXAMPLE)
 
-install: $(PROGRAM) $(LIVE)
+install: $(PROGRAM) $(LIVE) $(YT)
 	install -D -m 755 $(PROGRAM) $(BIN)
 	install -D -m 644 share/$(NAME).1 $(MAN)
 	install -D -m 644 share/$(NAME).bash $(BASH)
@@ -68,16 +77,25 @@ install: $(PROGRAM) $(LIVE)
 	install -D -m 644 share/$(LIVE_NAME).bash $(LIVE_BASH)
 	install -D -m 644 share/_$(LIVE_NAME) $(LIVE_ZSH)
 	install -D -m 644 share/$(LIVE_NAME).fish $(LIVE_FISH)
+	install -D -m 755 $(YT) $(YT_BIN)
+	install -D -m 644 share/$(YT_NAME).1 $(YT_MAN)
+	install -D -m 644 share/$(YT_NAME).bash $(YT_BASH)
+	install -D -m 644 share/_$(YT_NAME) $(YT_ZSH)
+	install -D -m 644 share/$(YT_NAME).fish $(YT_FISH)
 
 uninstall:
 	rm -f $(BIN) $(MAN) $(BASH) $(ZSH) $(FISH)
 	rm -f $(LIVE_BIN) $(LIVE_MAN) $(LIVE_BASH) $(LIVE_ZSH) $(LIVE_FISH)
+	rm -f $(YT_BIN) $(YT_MAN) $(YT_BASH) $(YT_ZSH) $(YT_FISH)
 
 $(PROGRAM):
 	$(MAKE) build
 
 $(LIVE):
 	cd crates/$(LIVE_NAME) && rt run < ../../tests/live/session-alone/lines
+
+$(YT):
+	cd crates/$(YT_NAME) && rt run -- --version
 
 share:
 	share/write
@@ -91,7 +109,7 @@ checks: $(PROGRAM)
 differential: $(PROGRAM)
 	tests/differential $(SEED) $(COUNT)
 
-hostile: $(PROGRAM) $(LIVE)
+hostile: $(PROGRAM) $(LIVE) $(YT)
 	tests/hostile
 
 test:

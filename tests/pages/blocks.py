@@ -3,7 +3,8 @@
 
 A block ```session NAME is stored in the file NAME, and one ```session NAME more goes into it before its last line. A
 block ```console has commands, each behind `$ `, and behind each what it writes on both streams. The blocks of a page are
-run in turn, in one folder, with PROGRAM as `youtopia` or as NAME and the folder `examples` of the repository beside them. Any other
+run in turn, in one folder, with PROGRAM as `youtopia` or as NAME, the built `youtopia` and `yt`, and the folder `examples` of the
+repository beside them. `yt` takes the time from YT_TIME and the curator from YT_CURATOR, so that it writes the same each time. Any other
 block is told as not run, unless `plain` is said, which lets blocks without a word and shell blocks (```sh) stand as they are.
 """
 import os
@@ -61,8 +62,11 @@ def main():
         folder.mkdir()
         tools.mkdir()
         (tools / name).symlink_to(program)
+        for other in {"youtopia", "yt"} - {name}:
+            (tools / other).symlink_to(ROOT / "crates" / other / "out" / other)
         (folder / "examples").symlink_to(ROOT / "examples")
-        environment = {**os.environ, "PATH": f"{tools}:{os.environ['PATH']}", "LC_ALL": "C.UTF-8"}
+        environment = {**os.environ, "PATH": f"{tools}:{os.environ['PATH']}", "LC_ALL": "C.UTF-8",
+                       "YT_TIME": "2026-11-30T09:00:00Z", "YT_CURATOR": "ann"}
         for number, words, lines in blocks_of(page.read_text()):
             if words[:1] == ["session"] and (len(words) == 2 or words[2:] == ["more"]):
                 store(folder / words[1], lines, words[2:] == ["more"])

@@ -5,7 +5,7 @@ use Rattle.std.proofs.Common.{◌≡◌, ℕ, zero, suc, ◌+◌, ◌<◌, ◌�
 use Rattle.std.proofs.lemmas.List.Folds.{list_any-append}
 use Rattle.base_devices.specs.Torn.{Range, covers, range_of, written, IsTorn}
 use Rattle.base_devices.specs.Logs.{Call, Load, Sync, Write}
-use Rattle.base_devices.specs.InMemory.{Held, fresh, after, after_all, may_leave, IsImage}
+use Rattle.base_devices.specs.Traces.{Held, fresh, after, after_all, may_leave, IsImage}
 use Rattle.base_devices.proofs.Places.{written_longer, written_elsewhere}
 
 neither : (a b : Bool) → (a || b) ≡ false → (a ≡ false) × (b ≡ false)

@@ -1,5 +1,6 @@
 pub mod Pieces
 pub mod Going
-mod Places
+pub mod Places
 mod Images
-mod Moments
+pub mod Moments
+mod Counting

@@ -36,6 +36,20 @@ outside r i e = by (nat_le r.at i) refl (nat_lt i (r.at + r.count)) refl e
     by true p false q f = inr (grind (arith, nat_tests))
     by false p b q f = inl (grind (arith, nat_tests))
 
+-- and the other way round
+pub before_range : (r : Range) (j : ℕ) → j < r.at → covers r j ≡ false
+before_range r j l = let a : nat_le r.at j ≡ false = grind (arith, nat_tests) in rw a refl
+
+pub after_range : (r : Range) (j : ℕ) → r.at + r.count ≤ j → covers r j ≡ false
+after_range r j l = by (nat_le r.at j)
+  where
+    past : nat_lt j (r.at + r.count) ≡ false
+    past = grind (arith, nat_tests)
+
+    by : (a : Bool) → (a && nat_lt j (r.at + r.count)) ≡ false
+    by true = past
+    by false = refl
+
 pub written_longer : (at : ℕ) (bytes old : List ℕ) → length old ≤ length (written at bytes old)
 written_longer at bytes old =
     omega (arith, length-append (take at old) (bytes ++ drop (at + length bytes) old), length-append bytes (drop (at + length bytes) old), length-take at old, length-drop (at + length bytes) old)

@@ -6,5 +6,6 @@ pub mod Given
 pub mod States
 pub mod Torn
 pub mod Logs
+pub mod Traces
 pub mod InMemory
 pub mod Counted

@@ -17,5 +17,5 @@ pub use adapters::{StdSink, StdSource};
 pub use def_memory::Memory;
 pub use devices::{Failed, Sink, Source};
 pub use disks::{Disk, DiskRefusal};
-pub use mem_disk::MemDisk;
+pub use mem_disk::{MemDisk, overwrite};
 pub use whole::{ReadRefusal, WriteFault, read_all, write_all};

@@ -22,7 +22,8 @@ pub struct MemDisk {
 
 impl Model for MemDisk {
     ghost use Rattle.std.specs.Prelude.{◌≡◌};
-    ghost use Rattle.base_devices.specs.InMemory.{MemState, after_all, fresh};
+    ghost use Rattle.base_devices.specs.InMemory.{MemState};
+    ghost use Rattle.base_devices.specs.Traces.{after_all, fresh};
 
     ghost Value = { MemState };
 
@@ -32,8 +33,8 @@ impl Model for MemDisk {
         s.bytes.items ≡ (after_all (fresh s.made_of.items) s.log.calls).bytes };
 }
 
-// Writes over what is there from the place on, and past the end, for which there is room.
-fn overwrite(file: &mut Vec<u8>, at: usize, bytes: &[u8])
+/// Writes over what is there from the place on, and past the end, for which there is room.
+pub fn overwrite(file: &mut Vec<u8>, at: usize, bytes: &[u8])
     requires at { at ≤ length file.old.items }
     requires room { vec_len file.old + length bytes.now ≤ vec_capacity file.old }
     ensures { file.new.items ≡ written at bytes.now file.old.items }

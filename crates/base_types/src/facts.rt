@@ -1,11 +1,11 @@
 //! Sets of tuples that can be gone over in order.
-ghost use Rattle.std.specs.Prelude.{◌≡◌, List, find};
+ghost use Rattle.std.specs.Prelude.{◌≡◌, List, map, find, IfSome};
 ghost use Rattle.std.specs.Option.{option_map, option_copied};
 ghost use Rattle.def_chase.specs.Cursors.{is_beyond, first_of, next_of, scan_of};
 ghost use Rattle.def_chase.specs.Repository.{has, IsRepository};
 ghost use Rattle.def_chase.specs.Values.{Fact};
 ghost use Rattle.base_types.specs.Meanings.{fact_of, datum_of};
-ghost use Rattle.base_types.specs.Candidates.{AreFurther};
+ghost use Rattle.base_types.specs.Candidates.{AreFurther, AreAllInColumn, is_holding};
 
 use crate::candidates::{Candidates, Column};
 use crate::tuples::Tuple;
@@ -59,6 +59,14 @@ pub trait Facts {
             (option_map fact_of (option_copied past.entry)) }
         ensures in_order { IsRepository (tuples self.now) };
 
+    /// The least tuple that holds a null drawn by this update at this place, by whatever attempt, and is above `past` where
+    /// that is given; None exactly where there is none.
+    fn holding(&self, update: u32, place: u32, past: Option<&Tuple>) -> Option<&Tuple>
+        ensures found { option_map fact_of (option_copied result) ≡
+            find (is_holding update place (option_map fact_of (option_copied past.entry)))
+            (tuples self.now) }
+        ensures in_order { IsRepository (tuples self.now) };
+
     /// All tuples of the relation that have the column's value, where a column is given, and are above `past`, where that is
     /// given, as far as the set has them at hand. One that has no better way says that they stand apart.
     fn candidates(
@@ -71,5 +79,14 @@ pub trait Facts {
             (option_copied _past.entry) }
     {
         Candidates::Apart
+    }
+
+    /// The values that the relation's tuples have in the column, if they are few and the set has them at hand. There may be
+    /// others among them.
+    fn values(&self, _relation: u16, _column: u16) -> Option<&[Value]>
+        ensures all { IfSome result (λ values.
+            AreAllInColumn (map datum_of values.now) (tuples self.now) _relation _column) }
+    {
+        None
     }
 }

@@ -1,13 +1,20 @@
 -- Going over all tuples, and the tuple that says that a mapping is in force.
-use Rattle.std.proofs.Common.{◌≡◌, ℕ, ℤ, pos, ◌<◌, ◌^◌, arith, to_z, of_z, w64, ap, sym, ◌∙◌, subst, List, [], ◌∷◌, map, Bool, true, false}
+use Rattle.std.proofs.Common.{◌≡◌, ℕ, ℤ, pos, ◌<◌, ◌^◌, arith, to_z, of_z, w64, ap, sym, ◌∙◌, subst, refl, List, [], ◌∷◌, ◌++◌, map, Bool, true, false, ◌&&◌, Option, Some}
 use Rattle.std.specs.Bool.{Decides}
 use Rattle.std.specs.Cmp.Lexicographic.{pointwise}
 use Rattle.std.specs.Ordering.{on, eq_by_cmp}
-use Rattle.std.specs.Prelude.{◌==◌}
+use Rattle.std.specs.Ordering.{is_lt}
+use Rattle.std.specs.Prelude.{◌==◌, find}
+use Rattle.std.proofs.lemmas.List.{append_assoc}
 use Rattle.std.proofs.lemmas.Int.{to_z_pos}
 use Rattle.std.proofs.lemmas.Bool.{ne_eqb}
 use Rattle.std.proofs.lemmas.Bool.Decides.{same_from_decides}
-use Rattle.def_chase.specs.Values.{Datum, Number, Fact, datum_cmp, same_fact}
+use Rattle.def_chase.specs.Values.{Datum, Number, Fact, datum_cmp, fact_cmp, same_fact}
+use Rattle.def_chase.specs.Queries.{holds_null}
+use Rattle.def_chase.specs.Repository.{IsRepository}
+use Rattle.def_chase.proofs.Cursors.{rest_of, moves}
+use Rattle.def_chase.proofs.Searches.{find_same}
+use Rattle.base_types.specs.Candidates.{is_holding}
 use Rattle.def_chase.specs.Mappings.{force, force_relation}
 use Rattle.def_chase.proofs.Bools.{differ}
 use Rattle.base_types.specs.Meanings.{datum_of, fact_of}
@@ -16,9 +23,22 @@ use Rattle.base_types.specs.declared.values.Value.{Value}
 use Rattle.base_types.specs.declared.values.Value.TheVariants.{Int}
 use Rattle.base_types.proofs.Exact.{same_datum_decides, same_fact_decides, pointwise_decides}
 
--- Any tuple passes.
-abbrev pub any_tuple : Fact → Bool
-any_tuple u = true
+-- The next tuple that holds the null is the first past the given one that does.
+pub next_holding : (u k : ℕ) (t : Fact) (D : List Fact) → find (is_holding u k (Some t)) D ≡ find (λ v. holds_null u k v && is_lt (fact_cmp t v)) D
+next_holding u k t D = find_same (is_holding u k (Some t)) (λ v. holds_null u k v && is_lt (fact_cmp t v)) (λ v. turn (is_lt (fact_cmp t v)) (holds_null u k v)) D
+  where
+    turn : (a b : Bool) → (a && b) ≡ (b && a)
+    turn true true = refl
+    turn true false = refl
+    turn false true = refl
+    turn false false = refl
+
+-- One more is found.
+pub one_found : (q : Fact → Bool) (D xs whole : List Fact) (o : Option Fact) (t : Fact) (next : Option Fact) → IsRepository D → o ≡ Some t → next ≡ find (λ v. q v && is_lt (fact_cmp t v)) D
+    → xs ++ rest_of q D o ≡ whole → (xs ++ t ∷ []) ++ rest_of q D next ≡ whole
+one_found q D xs whole o t next s e n w =
+    append_assoc xs (t ∷ []) (rest_of q D next)
+    ∙ ap (λ l. xs ++ t ∷ l) (ap (rest_of q D) n ∙ sym (moves q D t s)) ∙ ap (λ x. xs ++ rest_of q D x) (sym e) ∙ w
 
 -- A tuple of the relation says that the mapping is in force where the number is its only value.
 pub says_force : (n : ℕ) (t : Tuple) (vs : List Value) (b : Bool) → t.relation ≡ force_relation → vs ≡ t.values.items → Decides b (map datum_of vs ≡ Number (pos n) ∷ []) → b ≡ same_fact (force n) (fact_of t)

@@ -1,7 +1,6 @@
 -- A journal grows with its commits: where it is too long with some, it is so with more.
 use Rattle.std.proofs.Common.{◌≡◌, ℕ, ◌+◌, ◌<◌, ◌≤◌, ap, refl, sym, ◌∙◌, subst, List, [], ◌∷◌, ◌++◌, map, length, length-append, append_assoc, true, arith}
 use Rattle.std.proofs.lemmas.Bool.{ltb-true, lt-ltb}
-use Rattle.std.specs.Int.{w32, to_be_bytes}
 use Rattle.std.specs.Iterator.{Yields}
 use Rattle.std.specs.List.{AllByRecursion}
 use Rattle.std.specs.Prelude.{Option, None, Some, IfNone, IfSome}
@@ -15,27 +14,25 @@ use Rattle.def_chase.specs.Repository.{Change}
 use Rattle.def_language.specs.Printing.{printed}
 use Rattle.def_language.specs.Sessions.{RelationSchema, SessionData}
 use Rattle.base_devices.specs.InMemory.{MemState, bytes_of}
-use Rattle.run_journal.specs.Format.{IsWrite, commit_text, framed, front, journal_text, logged, opened, records}
+use Rattle.base_roll.specs.Format.{framed, opened, records}
+use Rattle.base_roll.proofs.Frames.{length_framed}
+use Rattle.run_journal.specs.Format.{IsWrite, commit_text, front, journal_text, logged, texts}
 use Rattle.run_journal.specs.Journals.{Hold}
 use Rattle.run_laws.specs.Logged.{AreLogged, commits_of}
 use Rattle.cmd_plain.specs.Journaled.{IsOneTooMany, is_too_long}
 
-length_frame : (p : List ℕ) → length (framed p) ≡ 4 + length p
-unfolding framed
-length_frame p = omega (arith, length-append (to_be_bytes w32 (length p)) p)
-
 -- one record more
 record_more : (relations : List RelationSchema) (n m : ℕ) (commits : List (List Change)) (writes : List Change) → m ≡ n + length commits
-    → length (records relations n (commits ++ writes ∷ [])) ≡ length (records relations n commits) + (5 + length (commit_text relations m writes))
+    → length (records (texts relations n (commits ++ writes ∷ []))) ≡ length (records (texts relations n commits)) + (5 + length (commit_text relations m writes))
 record_more relations n m [] writes e =
     let same : length (commit_text relations n writes) ≡ length (commit_text relations m writes) = ap (λ k. length (commit_text relations k writes)) (omega arith) in
-    omega (arith, same, length-append (opened (commit_text relations n writes)) [], length_frame (commit_text relations n writes))
+    omega (arith, same, length-append (opened (commit_text relations n writes)) [], length_framed (commit_text relations n writes))
 record_more relations n m (c ∷ commits) writes e =
     omega (
       arith,
       record_more relations (n + 1) m commits writes (omega arith),
-      length-append (opened (commit_text relations n c)) (records relations (n + 1) (commits ++ writes ∷ [])),
-      length-append (opened (commit_text relations n c)) (records relations (n + 1) commits),
+      length-append (opened (commit_text relations n c)) (records (texts relations (n + 1) (commits ++ writes ∷ []))),
+      length-append (opened (commit_text relations n c)) (records (texts relations (n + 1) commits)),
     )
 
 -- one commit more
@@ -46,8 +43,8 @@ grown s n commits writes e =
       arith,
       length-append (front s (commits ++ writes ∷ [])) (0 ∷ []),
       length-append (front s commits) (0 ∷ []),
-      length-append (framed (printed s)) (records s.relations 1 (commits ++ writes ∷ [])),
-      length-append (framed (printed s)) (records s.relations 1 commits),
+      length-append (framed (printed s)) (records (texts s.relations 1 (commits ++ writes ∷ []))),
+      length-append (framed (printed s)) (records (texts s.relations 1 commits)),
       record_more s.relations 1 n commits writes (omega arith),
     )
 
@@ -102,7 +99,7 @@ long_with_all s done rest writes h =
 pub opening_long : (s : SessionData) → 16777216 < length (printed s) → is_too_long (journal_text s []) ≡ true
 opening_long s l =
     lt-ltb 16777216 (length (journal_text s []))
-    (omega (arith, l, length-append (front s []) (0 ∷ []), length-append (framed (printed s)) [], length_frame (printed s)))
+    (omega (arith, l, length-append (front s []) (0 ∷ []), length-append (framed (printed s)) [], length_framed (printed s)))
 
 -- ---- what was found
 

@@ -1,7 +1,6 @@
 pub mod Comparing
 pub mod Naming
 pub mod Told
-pub mod Writing
 pub mod Noting
 pub mod Turning
 pub mod Alike

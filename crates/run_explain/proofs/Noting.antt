@@ -15,9 +15,9 @@ use Rattle.chase_update.specs.Wishes.{wish, wish_at}
 use Rattle.def_provenance.specs.Courses.{steps_from, unless_lacking}
 use Rattle.def_provenance.specs.Notes.{noted, notes_of}
 use Rattle.def_provenance.specs.Puts.{Step}
-use Rattle.run_serial.specs.Turns.{Steps, Rests, at_question, next_by, stepped}
+use Rattle.run_step.specs.Turns.{Steps, Rests, at_question, next_by, stepped}
 use Rattle.run_serial.proofs.Running.{steps_unended, wish_between}
-use Rattle.run_explain.specs.Steps.{step_of}
+use Rattle.run_note.specs.Steps.{step_of}
 use Rattle.run_explain.specs.Turns.{left_from}
 
 same_fits : (q : Question) (c : Choice) → fits_inquiry (inquiry_in q) c ≡ fits q c

@@ -22,7 +22,7 @@ use Rattle.chase_update.specs.Wishes.{wish, wish_at}
 use Rattle.def_provenance.specs.Courses.{is_done_with, if_done, serial_steps, steps_after, whole_steps}
 use Rattle.def_provenance.specs.Notes.{Noted, noted, notes_of}
 use Rattle.def_provenance.specs.Puts.{Step}
-use Rattle.run_serial.specs.Turns.{turn_of, whole_rest}
+use Rattle.run_serial.specs.Rests.{turn_of, whole_rest}
 use Rattle.run_serial.proofs.Onward.{ends_there, stops_there}
 use Rattle.run_serial.proofs.Running.{wish_between}
 use Rattle.run_explain.specs.Turns.{noted_from, whole_notes, wants_none_done}

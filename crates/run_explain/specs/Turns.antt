@@ -18,9 +18,9 @@ use Rattle.def_steps.specs.Serial.{Request, turns_in, turns_of}
 use Rattle.def_provenance.specs.Courses.{steps_from, whole_steps, serial_steps}
 use Rattle.def_provenance.specs.Notes.{Noted, notes_of}
 use Rattle.run_serial.specs.Meanings.{requests_of}
-use Rattle.run_serial.specs.Turns.{turn_of, whole_rest}
+use Rattle.run_serial.specs.Rests.{turn_of, whole_rest}
 use Rattle.run_explain.specs.NoteMeanings.{notes_in}
-use Rattle.run_explain.specs.declared.notes.Note.{Note}
+use Rattle.run_note.specs.declared.notes.Note.{Note}
 use Rattle.run_explain.specs.declared.runs.NotedRun.{NotedRun}
 use Rattle.run_explain.specs.declared.wholes.Taken.{Taken}
 

@@ -7,22 +7,20 @@
 
 mod checking;
 mod explaining;
-mod made;
 mod notes;
 mod reasons;
 mod rewriting;
 mod runs;
 mod sameness;
 mod seeking;
+mod stepping;
 mod telling;
 mod texts;
-mod ways;
 mod wholes;
-mod writes;
 
 pub use crate::checking::check_explanation;
 pub use crate::explaining::{Explained, explain, explain_over};
-pub use crate::notes::{Note, NoteList, Rewriting, Way};
+pub use crate::notes::NoteList;
 pub use crate::reasons::{Explanation, How, Reason};
 pub use crate::runs::{NotedRun, noted_serial};
 pub use crate::sameness::same_reasons;

@@ -1,35 +1,11 @@
-//! What is noted of a step that puts a tuple.
+//! The notes of the steps that put a tuple.
 ghost use Rattle.std.specs.Prelude.{◌≡◌, ◌++◌, OnOk};
 ghost use Rattle.def_provenance.specs.Notes.{unless_none};
-ghost use Rattle.run_explain.specs.NoteMeanings.{note_of, notes_in};
+ghost use Rattle.run_explain.specs.NoteMeanings.{notes_in};
+ghost use Rattle.run_note.specs.Meanings.{note_of};
 
-use base_types::{List, Memory, Sub, TupleList, Value};
-
-/// A substitution: of one value for another, or of a unifier.
-#[derive(Drop)]
-pub enum Rewriting {
-    Replaces { from: Value, to: Value },
-    Unifies(Sub),
-}
-
-/// How a step comes to the tuples that it puts: as they were handed in; as right sides of the mapping of this number,
-/// for this image of the left side; or by a substitution in others. A step that puts none is said to go the first way.
-#[derive(Drop)]
-pub enum Way {
-    Inserts,
-    Generates { mapping: u16, image: TupleList },
-    Rewrites(Rewriting),
-}
-
-/// A step by its update and its number there, its way, the tuples that it deleted, and those that it put.
-#[derive(Drop)]
-pub struct Note {
-    pub update: u32,
-    pub step: u32,
-    pub way: Way,
-    pub deleted: TupleList,
-    pub puts: TupleList,
-}
+use base_types::{List, Memory};
+use run_note::Note;
 
 /// Notes of steps, in the order in which they were made.
 pub type NoteList = List<Note>;

@@ -3,12 +3,12 @@ ghost use Rattle.std.specs.Prelude.{◌≡◌, map, IfOk};
 ghost use Rattle.def_chase.specs.Values.{under};
 ghost use Rattle.base_types.specs.Meanings.{datum_of, fact_of};
 ghost use Rattle.def_steps.specs.Rewriting.{replacing};
-ghost use Rattle.run_explain.specs.NoteMeanings.{rewriting_of};
+ghost use Rattle.run_note.specs.Meanings.{rewriting_of};
 ghost use Rattle.def_provenance.specs.Reasons.{source as source_def};
 
-use crate::Rewriting;
 use base_types::{List, Memory, TryCopy, Tuple, Value};
 use chase_unifier::apply;
+use run_note::Rewriting;
 use std::alloc::Global;
 
 /// The first of the tuples that the substitution takes to this one; this one itself where none does. It is refused only

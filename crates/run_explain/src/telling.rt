@@ -4,14 +4,16 @@ ghost use Rattle.def_chase.specs.Repository.{Insert, IsRepository, apply};
 ghost use Rattle.base_types.specs.Meanings.{fact_of};
 ghost use Rattle.def_provenance.specs.Notes.{reason_by as reason_by_def, told_by as told_by_def};
 ghost use Rattle.def_provenance.specs.Reasons.{premises, rooted};
-ghost use Rattle.run_explain.specs.NoteMeanings.{note_of, notes_in};
+ghost use Rattle.run_note.specs.Meanings.{note_of};
+ghost use Rattle.run_explain.specs.NoteMeanings.{notes_in};
 ghost use Rattle.run_explain.specs.ReasonMeanings.{HasTold, how_of, reason_of, reasons_in};
 
+use crate::NoteList;
 use crate::reasons::{Explanation, How, Reason};
 use crate::rewriting::source;
 use crate::seeking::{seek, take_out};
-use crate::{Note, NoteList, Way};
 use base_types::{Memory, TryCopy, Tuple};
+use run_note::{Note, Way};
 use set_facts::PlainFacts;
 use std::alloc::Global;
 

@@ -6,14 +6,14 @@ ghost use Rattle.def_steps.specs.Attempts.{question_in, outcome_in};
 ghost use Rattle.run_serial.specs.Meanings.{RestsFrom};
 ghost use Rattle.run_explain.specs.Turns.{HasNotedFrom, HasTaken};
 
-use crate::made::step;
 use crate::notes::NoteList;
+use crate::stepping::step;
 use base_limits::{Budget, Mappings};
 use base_types::{ChoiceList, Memory};
 use chase_eval::WatchedView;
 use chase_update::{Attempt, Lack};
 use lang_session::SessionUpdate;
-use run_serial::turns::{Next, what_next};
+use run_step::{Next, what_next};
 use set_facts::IndexedFacts;
 use std::alloc::Global;
 

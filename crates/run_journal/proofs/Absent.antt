@@ -8,9 +8,10 @@ use Rattle.def_language.specs.Layout.{laid_out}
 use Rattle.def_language.specs.Printing.{printed}
 use Rattle.def_language.specs.Sessions.{RelationSchema, SessionData}
 use Rattle.run_journal.specs.Damage.{HasNoCommit, HasNoOpening}
-use Rattle.run_journal.specs.Format.{framed, commit_line, commit_text, write_lines, IsWrite, IsOpening}
+use Rattle.base_roll.specs.Format.{framed}
+use Rattle.run_journal.specs.Format.{commit_line, commit_text, write_lines, IsWrite, IsOpening}
 use Rattle.run_journal.specs.Taken.{begins_header}
-use Rattle.run_journal.proofs.Frames.{frames_apart}
+use Rattle.base_roll.proofs.Frames.{frames_apart}
 
 header_begins : (s : SessionData) → begins_header (printed s) ≡ true
 unfolding laid_out

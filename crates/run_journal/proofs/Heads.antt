@@ -1,6 +1,6 @@
 -- Texts by their heads, and tuples by their texts.
 use Rattle.std.specs.Prelude.{Result, Ok, Err, Option, Some, None, IfOk, IfSome, IfNone, SomeIff, flat_map, if◌then◌else◌}
-use Rattle.std.proofs.Common.{◌≡◌, ℕ, ◌+◌, ◌-◌, ◌^◌, ◌<◌, ◌≤◌, ◌==◌, ap, refl, ◌∙◌, sym, subst, inl, inr, List, [], ◌∷◌, ◌++◌, length, take, drop, get_or, map, Bool, false, arith, append_assoc}
+use Rattle.std.proofs.Common.{◌≡◌, ℕ, ◌+◌, ◌-◌, ◌^◌, ◌<◌, ◌≤◌, ◌==◌, ap, refl, ◌∙◌, sym, subst, inl, inr, List, [], ◌∷◌, ◌++◌, length, take, map, Bool, false, arith, append_assoc}
 use Rattle.std.proofs.lemmas.Bool.{cases_lt, false≢true}
 use Rattle.std.proofs.Math.Seq.{take-append_seam}
 use Rattle.base_types.specs.Meanings.{change_of, fact_of as meant_by}
@@ -105,25 +105,11 @@ pub some_left : (bytes : List ℕ) (empty : Bool) → empty ≡ (length bytes ==
 some_left [] empty e f = absurd (false≢true (sym f ∙ e))
 some_left (b ∷ bytes) empty e f = omega arith
 
--- ---- the first byte of bytes, and a count that goes up
-
-take_all : (xs : List ℕ) → take (length xs) xs ≡ xs
-take_all [] = refl
-take_all (x ∷ xs) = ap (λ ys. x ∷ ys) (take_all xs)
+-- ---- no bytes, and a count that goes up
 
 pub nothing : (xs : List ℕ) → length xs ≡ 0 → xs ≡ []
 nothing [] e = refl
 nothing (x ∷ xs) e = absurd (omega arith)
-
-pub first_byte : (bytes : List ℕ) → 1 ≤ length bytes → bytes ≡ get_or bytes 0 0 ∷ take (length bytes - 1) (drop 1 bytes)
-first_byte [] l = absurd (omega arith)
-first_byte (x ∷ xs) l =
-    let count : length (x ∷ xs) - 1 ≡ length xs = omega arith in
-    let others : take (length (x ∷ xs) - 1) (drop 1 (x ∷ xs)) ≡ xs = ap (λ k. take k xs) count ∙ take_all xs in
-    λ i. x ∷ sym others i
-
-pub split_byte : (rest : List ℕ) → 1 ≤ length rest → get_or rest 0 0 ≡ 1 → rest ≡ 1 ∷ take (length rest - 1) (drop 1 rest)
-split_byte rest l one = first_byte rest l ∙ ap (λ x. x ∷ take (length rest - 1) (drop 1 rest)) one
 
 pub next_of : (found : Option ℕ) (count n : ℕ) → found ≡ Some n → SomeIff found (count + 1 < 2 ^ 32) (count + 1) → n ≡ count + 1
 next_of found count n e h = (subst (λ f. SomeIff f (count + 1 < 2 ^ 32) (count + 1)) e h).1

@@ -1,10 +1,6 @@
-mod Leaving
-mod TornBytes
-mod Fronts
-mod Frames
+mod Texts
 mod WriteLines
 mod OneReading
-mod Turns
 mod Onwards
 mod SoFar
 mod Openings

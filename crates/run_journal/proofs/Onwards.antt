@@ -1,106 +1,107 @@
--- Facts of a call's answer, and of a journal that no call has touched.
+-- What the calls of the roll make of a journal.
 use Rattle.std.specs.Prelude.{Result, Ok, Err, OnOk, IfOk}
-use Rattle.std.proofs.Common.{◌≡◌, ℕ, ◌+◌, ◌<◌, ◌≤◌, inl, ap, refl, ◌∙◌, sym, subst, List, [], ◌∷◌, ◌++◌, length, take, drop, arith, append_assoc, append-nil, length-append, length-drop}
-use Rattle.std.proofs.Math.ListN.{drop_of_length-le}
-use Rattle.std.proofs.Math.Seq.{take-append_seam}
-use Rattle.std.proofs.lemmas.List.{length-take}
-use Rattle.base_devices.specs.States.{State, GoesOn, LeavesOnly, IsSettled}
-use Rattle.base_devices.specs.Torn.{written}
+use Rattle.std.proofs.Common.{◌≡◌, ℕ, ◌+◌, ◌<◌, ◌≤◌, ◌^◌, inl, inr, ap, refl, ◌∙◌, sym, subst, List, [], ◌∷◌, ◌++◌, length, arith, append-nil, length-append}
+use Rattle.base_devices.specs.States.{State, IsSettled}
+use Rattle.base_roll.specs.Answers as rolls
+use Rattle.base_roll.specs.Format.{framed, roll_text}
+use Rattle.base_roll.specs.Histories.{IsBeforeOrAfter, IsAppending}
+use Rattle.base_roll.specs.Rolls.{IsRoll, Hold as RollHold, IsAt as IsRollAt, IsInHand as IsRollInHand, gate_of as roll_gate}
+use Rattle.base_roll.specs.declared.rolls.AppendFault.{AppendFault as RollFault}
+use Rattle.base_roll.specs.declared.rolls.AppendFault.TheVariants as rolling
+use Rattle.base_roll.proofs.Frames.{length_framed}
+use Rattle.base_roll.proofs.Fronts.{gate_within}
+use Rattle.base_roll.proofs.Gates.{no_closed}
+use Rattle.base_roll.proofs.Leaving.{weaker}
 use Rattle.def_chase.specs.Repository.{Change}
 use Rattle.def_language.specs.Printing.{printed}
 use Rattle.def_language.specs.Sessions.{SessionData}
-use Rattle.run_journal.specs.Format.{framed, commit_text, front, journal_text, IsOpening, IsCommit}
-use Rattle.run_journal.specs.Journals.{IsJournal, IsJournalBeforeOrAfter, gate_of, Hold, IsAt}
-use Rattle.run_journal.specs.Histories.{IsAppending}
-use Rattle.run_journal.specs.Logging.{HasRecord, IsBeingLogged, opened_at}
-use Rattle.run_journal.proofs.Leaving.{weaker}
-use Rattle.run_journal.proofs.Fronts.{logged_journal, opened_journal, front_more}
-use Rattle.run_journal.proofs.Frames.{length_framed}
+use Rattle.run_journal.specs.Answers.{AppendTold, answer_of}
+use Rattle.run_journal.specs.Format.{commit_text, journal_text, texts, IsOpening, IsCommit}
+use Rattle.run_journal.specs.Journals.{IsJournal, Hold, IsAt, IsInHand}
+use Rattle.run_journal.proofs.Texts.{as_roll, as_journal, journal_more, texts_more}
 
-pub on_ok : {T E P : Type 0} (r : Result T E) → P → OnOk r P
-on_ok (Ok x) p = p
-on_ok (Err e) p = tt
+-- ---- a journal is held as a roll
 
-pub on_ok_then : {T E P Q : Type 0} (r : Result T E) → OnOk r P → (P → Q) → OnOk r Q
-on_ok_then (Ok x) p f = f p
-on_ok_then (Err e) p f = tt
+abbrev pub roll_of : Hold → RollHold
+roll_of hold = record { gate = hold.gate }
 
--- a write behind the gate does not shorten the bytes
-pub still_within : (gate : ℕ) (text old : List ℕ) → gate < length old → gate ≤ length (written (gate + 1) text old)
-still_within gate text old l =
-    omega (arith, length-append (take (gate + 1) old) (text ++ drop (gate + 1 + length text) old), length-append text (drop (gate + 1 + length text) old), length-take (gate + 1) old, length-drop (gate + 1 + length text) old)
+pub rolled : (disk : State) (s : SessionData) (commits : List (List Change)) (hold : Hold) → IsAt disk s commits hold → IsRollAt (framed (printed s)) (texts s.relations 1 commits) disk (roll_of hold)
+rolled disk s commits hold at = record { roll = as_roll s commits disk.bytes at.journal; settled = at.settled; gate = at.gate }
 
-pub goes_nowhere : (disk : State) → GoesOn disk disk
-goes_nowhere disk = record { later = omega arith; nothing_more = λ k bytes l i. i; nothing_less = λ k bytes l i. i }
+pub in_hand : (disk : State) (s : SessionData) (hold : Hold) → IsInHand disk s hold → IsRollInHand disk (roll_of hold)
+in_hand disk s hold (commits, at) = (framed (printed s), texts s.relations 1 commits, rolled disk s commits hold at)
 
--- where no call was made
-pub unmoved : (disk : State) (s : SessionData) (commits : List (List Change)) (writes : List Change) (hold : Hold) → IsAt disk s commits hold → IsAppending s commits writes disk disk
-unmoved disk s commits writes hold at = record {
-  goes = goes_nowhere disk;
-  images = λ k bytes l m i.
-      let now : k ≡ disk.now = omega arith in
-      let is : bytes ≡ disk.bytes = at.settled bytes (subst (λ n. disk.image n bytes) now i) in
-      inl (subst (λ b. IsJournal s commits b) (sym is) at.journal);
-}
+pub within : (disk : State) (s : SessionData) (hold : Hold) → IsInHand disk s hold → hold.gate < length disk.bytes
+within disk s hold (commits, at) =
+    let less = gate_within (framed (printed s)) (texts s.relations 1 commits) disk.bytes (as_roll s commits disk.bytes at.journal) in
+    omega (arith, at.gate, less)
 
--- where the record was being logged
-pub appending : (old new : State) (s : SessionData) (n : ℕ) (commits : List (List Change)) (writes : List Change) (text : List ℕ) (hold : Hold) → IsAt old s commits hold → n ≡ hold.commits + 1 → IsCommit s.relations n writes
-    → text ≡ framed (commit_text s.relations n writes) ++ (0 ∷ []) → GoesOn old new → LeavesOnly old new (IsBeingLogged hold.gate text old.bytes) → IsAppending s commits writes old new
-appending old new s n commits writes text hold at next one e goes leaves = record {
-  goes = goes;
-  images = weaker (IsBeingLogged hold.gate text old.bytes) (IsJournalBeforeOrAfter s commits writes) old new
-      (λ bytes b. logged_journal s n hold.gate commits writes old.bytes bytes at.gate (next ∙ ap (λ k. k + 1) at.count) one at.journal (subst (λ t. IsBeingLogged hold.gate t old.bytes bytes) e b)) leaves;
-}
+-- ---- a commit is appended
 
--- where it was logged
-pub appended : (old new : State) (s : SessionData) (n gate : ℕ) (commits : List (List Change)) (writes : List Change) (text : List ℕ) (hold : Hold) → IsAt old s commits hold → n ≡ hold.commits + 1 → IsCommit s.relations n writes
-    → text ≡ framed (commit_text s.relations n writes) ++ (0 ∷ []) → IsSettled new → new.bytes ≡ opened_at hold.gate text old.bytes → gate ≡ hold.gate + length (commit_text s.relations n writes) + 5
-    → IsAt new s (commits ++ writes ∷ []) record { gate = gate; commits = n }
-appended old new s n gate commits writes text hold at next one e settled has place =
-    let count : n ≡ length commits + 1 = next ∙ ap (λ k. k + 1) at.count in
-    record {
-      journal = opened_journal s n hold.gate commits writes old.bytes new.bytes at.gate count one at.journal (subst (λ t. HasRecord 1 hold.gate t old.bytes new.bytes) e (drop (hold.gate + 1 + length text) old.bytes, has));
-      settled = settled;
-      gate = omega (arith, at.gate, place, ap length (front_more s n commits writes count), length-append (front s commits) (1 ∷ framed (commit_text s.relations n writes)), length_framed (commit_text s.relations n writes));
-      count = count ∙ sym (length-append commits (writes ∷ []));
-    }
+module _ (s : SessionData) (n : ℕ) (writes : List Change) (one : IsCommit s.relations n writes) (text : List ℕ) (is : text ≡ commit_text s.relations n writes) (old new : State) (hold : Hold) (next : n ≡ hold.commits + 1) (commits : List (List Change)) (at : IsAt old s commits hold) where
+  count : n ≡ length commits + 1
+  count = next ∙ ap (λ k. k + 1) at.count
 
--- where nothing stood behind the gate
-pub appended_text : (old new : State) (s : SessionData) (n : ℕ) (commits : List (List Change)) (writes : List Change) (text : List ℕ) (hold : Hold) → IsAt old s commits hold → n ≡ hold.commits + 1
-    → text ≡ framed (commit_text s.relations n writes) ++ (0 ∷ []) → old.bytes ≡ journal_text s commits → new.bytes ≡ opened_at hold.gate text old.bytes → new.bytes ≡ journal_text s (commits ++ writes ∷ [])
-appended_text old new s n commits writes text hold at next e whole made =
-    let count : n ≡ length commits + 1 = next ∙ ap (λ k. k + 1) at.count in
-    made ∙ ap (λ b. opened_at hold.gate text b) whole ∙ ap (λ g. opened_at g text (journal_text s commits)) at.gate
-    ∙ ap (λ xs. xs ++ (1 ∷ (text ++ drop (gate_of s commits + 1 + length text) (journal_text s commits)))) (take-append_seam (front s commits) (0 ∷ []))
-    ∙ ap (λ xs. front s commits ++ (1 ∷ (text ++ xs))) (past (front s commits) (length text))
-    ∙ ap (λ xs. front s commits ++ (1 ∷ xs)) (append-nil text ∙ e)
-    ∙ sym (append_assoc (front s commits) (1 ∷ framed (commit_text s.relations n writes)) (0 ∷ []))
-    ∙ ap (λ xs. xs ++ (0 ∷ [])) (sym (front_more s n commits writes count))
-  where
-    past : (xs : List ℕ) (k : ℕ) → drop (length xs + 1 + k) (xs ++ (0 ∷ [])) ≡ []
-    past xs k = drop_of_length-le (xs ++ (0 ∷ [])) (omega (arith, length-append xs (0 ∷ [])))
+  more : (bytes : List ℕ) → IsRoll (framed (printed s)) (texts s.relations 1 commits ++ text ∷ []) bytes → IsJournal s (commits ++ writes ∷ []) bytes
+  more bytes roll = journal_more s n commits writes count bytes at.journal.1.opening at.journal.1.commits one (subst (λ t. IsRoll (framed (printed s)) (texts s.relations 1 commits ++ t ∷ []) bytes) is roll)
 
-no_closed : ◌≡◌ {A = ℕ} 0 1 → ⊥
-no_closed e = omega arith
+  same_texts : texts s.relations 1 commits ++ text ∷ [] ≡ texts s.relations 1 (commits ++ writes ∷ [])
+  same_texts = ap (λ t. texts s.relations 1 commits ++ t ∷ []) is ∙ sym (texts_more s n commits writes count)
 
--- the text of the journal that was made on an empty disk
-pub created_text : (old new : State) (s : SessionData) (text : List ℕ) → old.bytes ≡ [] → text ≡ framed (printed s) ++ (0 ∷ []) → new.bytes ≡ written 0 text old.bytes → new.bytes ≡ journal_text s []
-created_text old new s text empty e made =
-    made ∙ ap (λ b. written 0 text b) empty ∙ none (length text) ∙ append-nil text ∙ e ∙ ap (λ xs. xs ++ (0 ∷ [])) (sym (append-nil (framed (printed s))))
-  where
-    none : (n : ℕ) → text ++ drop (0 + n) [] ≡ text ++ []
-    none n = ap (λ xs. text ++ xs) (drop_of_length-le [] (omega arith))
+  pub appending : IsAppending (IsRoll (framed (printed s))) (texts s.relations 1 commits) text old new → IsAppending (IsJournal s) commits writes old new
+  appending a = record {
+    goes = a.goes;
+    images = weaker (IsBeforeOrAfter (IsRoll (framed (printed s))) (texts s.relations 1 commits) text) (IsBeforeOrAfter (IsJournal s) commits writes) old new either a.images;
+  }
+    where
+      either : (bytes : List ℕ) → IsBeforeOrAfter (IsRoll (framed (printed s))) (texts s.relations 1 commits) text bytes → IsBeforeOrAfter (IsJournal s) commits writes bytes
+      either bytes (inl roll) = inl (as_journal s commits bytes at.journal.1.opening at.journal.1.commits roll)
+      either bytes (inr roll) = inr (more bytes roll)
 
--- the journal that was made on an empty disk
-pub created : (old new : State) (s : SessionData) (gate : ℕ) (text : List ℕ) → IsOpening s → old.bytes ≡ [] → text ≡ framed (printed s) ++ (0 ∷ []) → IsSettled new → new.bytes ≡ written 0 text old.bytes
+  pub appended : (logged : Result RollHold RollFault) → IfOk logged (λ roll. IsRollAt (framed (printed s)) (texts s.relations 1 commits ++ text ∷ []) new roll)
+      → IfOk (answer_of hold n logged) (λ j. IsAt new s (commits ++ writes ∷ []) j)
+  appended (Ok roll) h = record {
+    journal = more new.bytes h.roll;
+    settled = h.settled;
+    gate = h.gate ∙ ap (roll_gate (framed (printed s))) same_texts;
+    count = count ∙ sym (length-append commits (writes ∷ []));
+  }
+  appended (Err (rolling.TooLarge roll bytes)) h = tt
+  appended (Err rolling.DiskFault) h = tt
+  appended (Err rolling.DiskMemory) h = tt
+  appended (Err (rolling.Memory roll)) h = tt
+
+  pub appended_text : (logged : Result RollHold RollFault) → OnOk logged (new.bytes ≡ roll_text (framed (printed s)) (texts s.relations 1 commits ++ text ∷ []))
+      → OnOk (answer_of hold n logged) (new.bytes ≡ journal_text s (commits ++ writes ∷ []))
+  appended_text (Ok roll) h = h ∙ ap (roll_text (framed (printed s))) same_texts
+  appended_text (Err (rolling.TooLarge roll bytes)) h = tt
+  appended_text (Err rolling.DiskFault) h = tt
+  appended_text (Err rolling.DiskMemory) h = tt
+  appended_text (Err (rolling.Memory roll)) h = tt
+
+-- what is told of the roll is told of the journal: its text is not too large for the roll
+pub told : {D : Type 0} (hold : Hold) (roll : RollHold) (n size count bound : ℕ) (old new : D) (before now : State) → roll ≡ roll_of hold → count ≡ size → size ≤ 16777216 → hold.gate < bound → bound < 2 ^ 63
+    → (logged : Result RollHold RollFault) → rolls.AppendTold roll count old new before now logged → AppendTold hold size old new before now (answer_of hold n logged)
+told hold roll n size count bound old new before now e f fits less small (Ok next) t = fits
+told hold roll n size count bound old new before now e f fits less small (Err (rolling.TooLarge same bytes)) (is, told_, inl large, kept) = let over : 4294967295 < count = large in absurd (omega arith)
+told hold roll n size count bound old new before now e f fits less small (Err (rolling.TooLarge same bytes)) (is, told_, inr large, kept) =
+    let there : roll.gate ≡ hold.gate = ap (λ (h : RollHold). h.gate) e in
+    let over : 2 ^ 64 ≤ roll.gate + count + 6 = large in
+    absurd (omega arith)
+told hold roll n size count bound old new before now e f fits less small (Err rolling.DiskFault) t = (fits, t.1, t.2)
+told hold roll n size count bound old new before now e f fits less small (Err rolling.DiskMemory) t = (fits, t.1)
+told hold roll n size count bound old new before now e f fits less small (Err (rolling.Memory same)) t = (refl, t.1)
+
+-- ---- a journal is made
+
+pub created_text : (s : SessionData) (text : List ℕ) → text ≡ framed (printed s) ++ (0 ∷ []) → text ≡ journal_text s []
+created_text s text e = e ∙ ap (λ xs. xs ++ (0 ∷ [])) (sym (append-nil (framed (printed s))))
+
+pub created : (new : State) (s : SessionData) (gate : ℕ) (text : List ℕ) → IsOpening s → text ≡ framed (printed s) ++ (0 ∷ []) → IsSettled new → new.bytes ≡ text
     → gate ≡ length (printed s) + 4 → IsAt new s [] record { gate = gate; commits = 0 }
-created old new s gate text opening empty e settled made place = record {
-  journal = (0 ∷ [], record { opening = opening; commits = tt; bytes = created_text old new s text empty e made }, (0, [], refl, no_closed));
+created new s gate text opening e settled made place = record {
+  journal = (0 ∷ [], record { opening = opening; commits = tt; bytes = made ∙ created_text s text e }, (0, [], refl, no_closed));
   settled = settled;
   gate = omega (arith, place, length_framed (printed s), length-append (framed (printed s)) []);
   count = refl;
 }
-
-pub if_ok_weaker : {T E : Type 0} {P Q : T → Type 0} (r : Result T E) → ((x : T) → P x → Q x) → IfOk r P → IfOk r Q
-if_ok_weaker (Ok x) f h = f x h
-if_ok_weaker (Err e) f h = h

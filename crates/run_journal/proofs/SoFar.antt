@@ -3,11 +3,12 @@ use Rattle.std.proofs.Common.{◌≡◌, ℕ, ◌+◌, ◌-◌, ◌<◌, ◌≤�
 use Rattle.def_chase.specs.Values.{Fact}
 use Rattle.def_chase.specs.Repository.{Change, apply}
 use Rattle.def_language.specs.Sessions.{SessionData}
-use Rattle.run_journal.specs.Format.{commit_text, opened, front}
+use Rattle.base_roll.specs.Format.{opened}
+use Rattle.run_journal.specs.Format.{commit_text, front}
 use Rattle.run_journal.specs.Journals.{BeginsWith, gate_of, after_commits, repository_of}
 use Rattle.run_journal.specs.Damage.{IsBroken, BreaksAt, HasNoCommit}
 use Rattle.run_journal.specs.Taken.{TakesCommit}
-use Rattle.run_journal.proofs.Fronts.{begins_more}
+use Rattle.run_journal.proofs.Texts.{begins_more}
 
 -- so many commits were read, the rest is left, and the facts are the base with the commits
 pub record HasRead (bytes : List ℕ) (s : SessionData) (n : ℕ) (rest : List ℕ) (D : List Fact) : Type 0 where
@@ -27,7 +28,7 @@ read_more bytes s count n rest behind more old new h e next t =
     let there : rest ≡ opened (commit_text s.relations n t.writes) ++ more = e ∙ ap (λ xs. 1 ∷ xs) t.bytes in
     record {
       commits = h.commits ++ t.writes ∷ [];
-      begins = begins_more bytes s n h.commits t.writes more number t.commit
+      begins = begins_more s n h.commits t.writes number bytes more t.commit
           (record { opening = h.begins.opening; commits = h.begins.commits; bytes = h.begins.bytes ∙ ap (λ xs. front s h.commits ++ xs) there });
       count = omega (arith, number, length-append h.commits (t.writes ∷ []));
       facts = t.made ∙ ap (λ D. apply D t.writes) h.facts ∙ sym (after_more s.base h.commits t.writes);

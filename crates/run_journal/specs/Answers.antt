@@ -1,6 +1,9 @@
 -- When each answer of a call of a journal comes, and what it leaves.
 use Rattle.std.specs.Prelude.{◌≡◌, ◌⊎◌, ℕ, ◌<◌, ◌≤◌, List, map, Result, Ok, Err, length}
 use Rattle.base_devices.specs.States.{State, HasFailed, IsLeft}
+use Rattle.base_roll.specs.declared.rolls.AppendFault.{AppendFault as RollFault}
+use Rattle.base_roll.specs.declared.rolls.AppendFault.TheVariants as rolling
+use Rattle.base_roll.specs.Rolls.{Hold as RollHold}
 use Rattle.def_language.specs.Sessions.{SessionData}
 use Rattle.def_chase.specs.Values.{Fact}
 use Rattle.def_chase.specs.Repository.{Change}
@@ -39,6 +42,14 @@ AppendTold journal size old new before now (Err (appending.TooLarge same bytes))
 AppendTold journal size old new before now (Err appending.DiskFault) = (size ≤ PAYLOAD_LIMIT) × HasFailed before now × IsLeft now now.bytes
 AppendTold journal size old new before now (Err appending.DiskMemory) = (size ≤ PAYLOAD_LIMIT) × IsLeft now now.bytes
 AppendTold journal size old new before now (Err (appending.Memory same)) = (same ≡ journal) × (new ≡ old)
+
+-- What an answer of the roll is for a journal to which commit n was to be appended.
+abbrev pub answer_of : Hold → ℕ → Result RollHold RollFault → Result Hold AppendFault
+answer_of journal n (Ok roll) = Ok record { gate = roll.gate; commits = n }
+answer_of journal n (Err (rolling.TooLarge roll bytes)) = Err (appending.TooLarge journal bytes)
+answer_of journal n (Err rolling.DiskFault) = Err appending.DiskFault
+answer_of journal n (Err rolling.DiskMemory) = Err appending.DiskMemory
+answer_of journal n (Err (rolling.Memory roll)) = Err (appending.Memory journal)
 
 -- what is held is the journal that the bytes are, and D the repository of the session with its commits
 pub record IsHeld (bytes : List ℕ) (s : SessionData) (hold : Hold) (D : List Fact) : Type 0 where

@@ -3,7 +3,8 @@ use Rattle.std.specs.Prelude.{◌≡◌, ℕ, ◌+◌, ◌⊎◌, List, [], ◌�
 use Rattle.def_chase.specs.Repository.{Change}
 use Rattle.def_language.specs.Printing.{printed}
 use Rattle.def_language.specs.Sessions.{RelationSchema, SessionData}
-use Rattle.run_journal.specs.Format.{framed, commit_text, IsOpening, IsCommit}
+use Rattle.base_roll.specs.Format.{framed}
+use Rattle.run_journal.specs.Format.{commit_text, IsOpening, IsCommit}
 use Rattle.run_journal.specs.Journals.{BeginsWith, gate_of}
 
 -- the bytes do not begin with the session of a journal

@@ -1,8 +1,9 @@
--- The format of a journal: a session, the commits behind it, each behind an open gate, and a closed gate.
+-- The format of a journal: the frame of a session, and a roll of its commits after it.
 use Rattle.std.specs.Prelude.{◌≡◌, ℕ, ◌+◌, ◌<◌, ◌^◌, ◌==◌, List, [], ◌∷◌, ◌++◌, length, flat_map, codes, false, if◌then◌else◌}
 use Rattle.std.specs.Fmt.{decimal}
-use Rattle.std.specs.Int.{w32, to_be_bytes}
 use Rattle.std.specs.List.{AllByRecursion}
+use Rattle.base_roll.specs.Format as rolls
+use Rattle.base_roll.specs.Format.{framed}
 use Rattle.def_chase.specs.Values.{outer}
 use Rattle.def_chase.specs.Mappings.{force_relation}
 use Rattle.def_chase.specs.Repository.{Change, Insert, Delete}
@@ -12,10 +13,6 @@ use Rattle.def_language.specs.Sessions.{RelationSchema, SessionData}
 use Rattle.def_language.specs.Validity.{IsSession}
 
 -- ---- texts
-
--- a length in 4 bytes, the greatest byte first, and so many bytes
-unfoldable pub framed : List ℕ → List ℕ
-framed payload = to_be_bytes w32 (length payload) ++ payload
 
 -- a write: +FACT or -FACT
 abbrev pub write_text : List RelationSchema → Change → List ℕ
@@ -34,22 +31,18 @@ commit_line n = codes "commit " ++ (decimal n ++ 10 ∷ [])
 abbrev pub commit_text : List RelationSchema → ℕ → List Change → List ℕ
 commit_text relations n writes = commit_line n ++ write_lines relations writes
 
--- a record: an open gate, and the payload
-abbrev pub opened : List ℕ → List ℕ
-opened payload = 1 ∷ framed payload
-
--- the records of commits, the first of them number n
-abbrev pub records : List RelationSchema → ℕ → List (List Change) → List ℕ
-records relations n [] = []
-records relations n (writes ∷ commits) = opened (commit_text relations n writes) ++ records relations (n + 1) commits
+-- the texts of commits, the first of them number n
+abbrev pub texts : List RelationSchema → ℕ → List (List Change) → List (List ℕ)
+texts relations n [] = []
+texts relations n (writes ∷ commits) = commit_text relations n writes ∷ texts relations (n + 1) commits
 
 -- what stands before the gate of a journal: its session, and its commits from number 1 on
 abbrev pub front : SessionData → List (List Change) → List ℕ
-front s commits = framed (printed s) ++ records s.relations 1 commits
+front s commits = rolls.front (framed (printed s)) (texts s.relations 1 commits)
 
--- a journal with nothing behind its gate
+-- a journal with nothing after its gate
 abbrev pub journal_text : SessionData → List (List Change) → List ℕ
-journal_text s commits = front s commits ++ (0 ∷ [])
+journal_text s commits = rolls.roll_text (framed (printed s)) (texts s.relations 1 commits)
 
 -- ---- what may stand there
 

@@ -1,9 +1,10 @@
 -- Which bytes are a journal, and what they stand for.
-use Rattle.std.specs.Prelude.{◌≡◌, ℕ, ◌⊎◌, List, [], ◌∷◌, ◌++◌, length}
+use Rattle.std.specs.Prelude.{◌≡◌, ℕ, List, [], ◌∷◌, ◌++◌, length}
 use Rattle.base_devices.specs.States.{State, IsSettled}
 use Rattle.def_chase.specs.Values.{Fact}
 use Rattle.def_chase.specs.Repository.{Change, apply}
 use Rattle.def_language.specs.Sessions.{SessionData}
+use Rattle.base_roll.specs.Rolls.{IsClosed}
 use Rattle.run_journal.specs.Format.{front, IsOpening, AreCommits}
 
 -- the bytes begin with the session and these commits, and then comes the rest
@@ -12,21 +13,13 @@ pub record BeginsWith (all : List ℕ) (s : SessionData) (those : List (List Cha
   pub commits : AreCommits s.relations 1 those
   pub bytes : all ≡ front s those ++ rest
 
--- a byte that is no 1, and whatever follows
-abbrev pub IsClosed : List ℕ → Type 0
-IsClosed rest = (gate : ℕ) × (behind : List ℕ) × (rest ≡ gate ∷ behind) × (gate ≡ 1 → ⊥)
-
--- The bytes are a journal of the session with these commits: a closed gate stands behind them.
+-- The bytes are a journal of the session with these commits: a closed gate stands after them.
 abbrev pub IsJournal : SessionData → List (List Change) → List ℕ → Type 0
 IsJournal s commits bytes = (rest : List ℕ) × BeginsWith bytes s commits rest × IsClosed rest
 
 -- the place of its gate
 abbrev pub gate_of : SessionData → List (List Change) → ℕ
 gate_of s commits = length (front s commits)
-
--- a journal with the commits, or with one more
-abbrev pub IsJournalBeforeOrAfter : SessionData → List (List Change) → List Change → List ℕ → Type 0
-IsJournalBeforeOrAfter s commits writes bytes = IsJournal s commits bytes ⊎ IsJournal s (commits ++ writes ∷ []) bytes
 
 -- the place of the gate, and how many commits stand before it
 pub record Hold : Type 0 where

@@ -3,7 +3,8 @@ use Rattle.std.specs.Prelude.{◌≡◌, ℕ, ◌==◌, Bool, false, List, [], �
 use Rattle.def_chase.specs.Values.{Fact}
 use Rattle.def_chase.specs.Repository.{Change, apply}
 use Rattle.def_language.specs.Sessions.{RelationSchema}
-use Rattle.run_journal.specs.Format.{framed, commit_text, IsCommit}
+use Rattle.base_roll.specs.Format.{framed}
+use Rattle.run_journal.specs.Format.{commit_text, IsCommit}
 
 -- commit n stands at the front of the bytes, and its writes make one repository of the other
 pub record TakesCommit (relations : List RelationSchema) (n : ℕ) (all rest : List ℕ) (old new : List Fact) : Type 0 where

@@ -7,16 +7,15 @@ ghost use Rattle.def_language.specs.Validity.{IsSession};
 ghost use Rattle.base_devices.specs.States.{IsSettled};
 ghost use Rattle.lang_session.specs.Meanings.{session_of};
 ghost use Rattle.run_journal.specs.Format.{IsWrite, commit_text, journal_text};
-ghost use Rattle.run_journal.specs.Journals.{IsAt, IsInHand};
-ghost use Rattle.run_journal.specs.Histories.{IsAppending};
-ghost use Rattle.run_journal.specs.Answers.{AppendTold, CreateTold, writes_of};
+ghost use Rattle.run_journal.specs.Journals.{IsAt, IsInHand, IsJournal};
+ghost use Rattle.base_roll.specs.Histories.{IsAppending};
+ghost use Rattle.run_journal.specs.Answers.{AppendTold, CreateTold, answer_of, writes_of};
 
-use crate::framing::with_gate;
-use crate::logging::{log_record, write_synced};
 use crate::printing::commit_text;
 use crate::{AppendFault, Commit, CreateFault, Journal};
 use base_devices::{Disk, DiskRefusal};
 use base_limits::MOST_BYTES;
+use base_roll::{Roll, with_gate};
 use lang_print::print_session;
 use lang_session::Session;
 use std::alloc::Global;
@@ -52,13 +51,35 @@ pub fn create<D: Disk>(
         return Err(CreateFault::TooLarge(payload.len() as u64));
     }
     let record = with_gate(alloc, &payload)?;
-    match write_synced(disk, 0, &record) {
+    match base_roll::create(disk, &record) {
         Ok(()) => Ok(Journal {
             gate: payload.len() + 4,
             commits: 0,
         }),
         Err(DiskRefusal::Failed) => Err(CreateFault::DiskFault),
         Err(DiskRefusal::Memory) => Err(CreateFault::Memory),
+    }
+}
+
+// The answer for a journal to which the commit of this number was to be appended, by the answer of the roll.
+fn answer(
+    journal: Journal,
+    number: u32,
+    logged: Result<Roll, base_roll::AppendFault>,
+) -> Result<Journal, AppendFault>
+    ensures { result ≡ answer_of journal number logged }
+{
+    match logged {
+        Ok(roll) => Ok(Journal {
+            gate: roll.gate(),
+            commits: number,
+        }),
+        Err(base_roll::AppendFault::TooLarge(_, size)) => {
+            Err(AppendFault::TooLarge(journal, size))
+        }
+        Err(base_roll::AppendFault::DiskFault) => Err(AppendFault::DiskFault),
+        Err(base_roll::AppendFault::DiskMemory) => Err(AppendFault::DiskMemory),
+        Err(base_roll::AppendFault::Memory(_)) => Err(AppendFault::Memory(journal)),
     }
 }
 
@@ -81,8 +102,8 @@ pub fn append<D: Disk>(
     requires small { length (D.state disk.old).bytes < 2 ^ 63 }
     ensures images { (commits : List (List Change))
         → IsAt (D.state disk.old) (session_of session.now) commits journal
-        → IsAppending (session_of session.now) commits (writes_of commit.now) (D.state disk.old)
-        (D.state disk.new) }
+        → IsAppending (IsJournal (session_of session.now)) commits (writes_of commit.now)
+        (D.state disk.old) (D.state disk.new) }
     ensures acknowledged { (commits : List (List Change))
         → IsAt (D.state disk.old) (session_of session.now) commits journal
         → IfOk result (λ next.
@@ -107,17 +128,6 @@ pub fn append<D: Disk>(
     if payload.len() > PAYLOAD_LIMIT {
         return Err(AppendFault::TooLarge(journal, payload.len() as u64));
     }
-    let record = match with_gate(alloc, &payload) {
-        Ok(record) => record,
-        Err(_) => return Err(AppendFault::Memory(journal)),
-    };
-    let gate = journal.gate;
-    match log_record(disk, gate, &record) {
-        Ok(()) => Ok(Journal {
-            gate: gate + payload.len() + 5,
-            commits: commit.number,
-        }),
-        Err(DiskRefusal::Failed) => Err(AppendFault::DiskFault),
-        Err(DiskRefusal::Memory) => Err(AppendFault::DiskMemory),
-    }
+    let logged = base_roll::append(alloc, journal.roll(), disk, &payload);
+    answer(journal, commit.number, logged)
 }

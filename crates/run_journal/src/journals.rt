@@ -1,6 +1,7 @@
 // What is held of a journal, what goes into it, what comes out of it, and what may go wrong.
 
 use base_devices::DiskRefusal;
+use base_roll::Roll;
 use base_types::{Memory, TupleList, WriteList};
 use lang_session::Session;
 use std::marker::Model;
@@ -18,6 +19,17 @@ impl Model for Journal {
     ghost Value = { Hold };
 
     ghost view = { λ j. record { gate = j.gate; commits = j.commits } };
+}
+
+impl Journal {
+    ghost use Rattle.std.specs.Prelude.{◌≡◌};
+
+    // The roll of its commits.
+    pub(crate) fn roll(&self) -> Roll
+        ensures { result ≡ record { gate = self.now.gate } }
+    {
+        Roll::with_gate_at(self.gate)
+    }
 }
 
 /// What an update commits: its number, and its writes in turn.

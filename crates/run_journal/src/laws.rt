@@ -4,7 +4,7 @@ ghost use Rattle.def_chase.specs.Repository.{Change};
 ghost use Rattle.def_language.specs.Sessions.{SessionData};
 ghost use Rattle.run_journal.specs.Journals.{IsJournal};
 ghost use Rattle.run_journal.specs.Damage.{IsDamagedAt};
-ghost use Rattle.run_journal.specs.Histories.{InHand, IsAtRest, IsHistory, IsKept, Turn, last_disk};
+ghost use Rattle.base_roll.specs.Histories.{InHand, IsAtRest, IsHistory, IsKept, Turn, last_disk};
 
 use base_devices::Disk;
 use def_language::{every_input_has_one_answer, sessions_are_read_again, tuples_are_read_again};
@@ -34,11 +34,13 @@ pub fn damaged_bytes_are_no_journal()
 /// Over any list of appends, each with any faults of the disk, and a crash at any moment of any of them: what is left is
 /// a journal that has each commit which was acknowledged by then, in order, and none that was not handed in.
 pub fn crashes_keep_what_is_acknowledged<D: Disk>()
-    ensures { (s : SessionData) (commits : List (List Change)) (start : D) (turns : List (Turn D))
-        (k : ℕ) (bytes : List ℕ)
-        → IsAtRest (D.state start) s commits → IsHistory D.state s start (InHand commits) turns
+    ensures { (s : SessionData) (commits : List (List Change)) (start : D)
+        (turns : List (Turn (List Change) D)) (k : ℕ) (bytes : List ℕ)
+        → IsAtRest (IsJournal s) (D.state start) commits
+        → IsHistory (IsJournal s) D.state start (InHand commits) turns
         → (D.state start).now ≤ k → k ≤ (D.state (last_disk start turns)).now
-        → (D.state (last_disk start turns)).image k bytes → IsKept k D.state s commits turns bytes }
+        → (D.state (last_disk start turns)).image k bytes
+        → IsKept (IsJournal s) k D.state commits turns bytes }
 {
     journals_have_one_reading();
 }

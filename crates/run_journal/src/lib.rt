@@ -5,10 +5,8 @@
 #![tactic(auto)]
 
 mod appending;
-mod framing;
 mod journals;
 mod laws;
-mod logging;
 mod printing;
 mod reading;
 mod recovering;

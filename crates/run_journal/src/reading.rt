@@ -11,15 +11,16 @@ ghost use Rattle.def_language.specs.Sessions.{RelationSchema, SessionData};
 ghost use Rattle.def_language.specs.Validity.{IsSession};
 ghost use Rattle.lang_reader.specs.Places.{IsOneLine};
 ghost use Rattle.lang_session.specs.Meanings.{session_of};
-ghost use Rattle.run_journal.specs.Format.{IsCommit, IsOpening, IsWrite, commit_text, framed, write_lines, write_text};
+ghost use Rattle.base_roll.specs.Format.{framed};
+ghost use Rattle.run_journal.specs.Format.{IsCommit, IsOpening, IsWrite, commit_text, write_lines, write_text};
 ghost use Rattle.run_journal.specs.Journals.{BeginsWith};
 ghost use Rattle.run_journal.specs.Damage.{HasNoCommit};
 ghost use Rattle.run_journal.specs.Answers.{FaultTold, IsHeld, ReadTold};
 ghost use Rattle.run_journal.specs.Taken.{TakesCommit, begins_header};
 
-use crate::framing::split_frame;
 use crate::printing::commit_line;
 use crate::{Journal, RecoverFault, Recovered};
+use base_roll::split_frame;
 use base_types::{Memory, Tuple, TupleList, Write, WriteList};
 use def_language::{
     every_input_has_one_answer, lines_say_tuples, sessions_are_read_again, tuples_are_read_again,

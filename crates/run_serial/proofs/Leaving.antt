@@ -26,7 +26,7 @@ use Rattle.lang_session.specs.Base.{base_violation}
 use Rattle.lang_session.specs.Laws.{SuitTheChase, BaseHolds}
 use Rattle.lang_session.specs.Meanings.{requests_in}
 use Rattle.chase_update.specs.Results.{StopTold, stop_in}
-use Rattle.run_serial.specs.Turns.{turn_of, whole_rest}
+use Rattle.run_serial.specs.Rests.{turn_of, whole_rest}
 use Rattle.run_serial.specs.Trails.{TrailsTold, trailed, trailed_from, serial_trailed, behind}
 use Rattle.run_serial.proofs.Onward.{ends_there, stops_there}
 

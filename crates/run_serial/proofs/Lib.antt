@@ -1,4 +1,3 @@
-pub mod Answered
 pub mod Making
 pub mod Running
 pub mod Limits

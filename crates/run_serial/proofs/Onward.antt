@@ -19,7 +19,7 @@ use Rattle.lang_session.specs.Base.{base_violation}
 use Rattle.lang_session.specs.Laws.{SuitTheChase, BaseHolds}
 use Rattle.lang_session.specs.Meanings.{requests_in}
 use Rattle.chase_update.specs.Results.{FinishTold, StopTold, finish_in, stop_in, result_in}
-use Rattle.run_serial.specs.Turns.{turn_of, whole_rest}
+use Rattle.run_serial.specs.Rests.{turn_of, whole_rest}
 use Rattle.run_serial.specs.Runs.{HasFinished, told_from, behind, told_at}
 
 -- What is at rest with no lack has ended.

@@ -14,7 +14,8 @@ use Rattle.def_steps.specs.Chase.{ending, caused, caused_chase}
 use Rattle.def_steps.specs.Serial.{at_rest}
 use Rattle.chase_update.specs.Courses.{between, State}
 use Rattle.chase_update.specs.Wishes.{wish, wish_at, wish_by}
-use Rattle.run_serial.specs.Turns.{Steps, Rests, at_question, next_by, stepped, rest_from}
+use Rattle.run_step.specs.Turns.{Steps, Rests, at_question, next_by, stepped}
+use Rattle.run_serial.specs.Rests.{rest_from}
 
 same_fits : (q : Question) (c : Choice) → fits_inquiry (inquiry_in q) c ≡ fits q c
 same_fits (Positive r t cs) c = refl

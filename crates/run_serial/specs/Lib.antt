@@ -1,4 +1,4 @@
-pub mod Turns
+pub mod Rests
 pub mod Meanings
 pub mod Runs
 pub mod Trails

@@ -1,7 +1,6 @@
 -- What the types of the serial run mean.
 use Rattle.std.specs.Prelude.{◌≡◌, ℕ, ◌+◌, ◌-◌, List, ◌∷◌, ◌++◌, map, Option, Some}
-use Rattle.std.specs.Option.{option_map, option_copied}
-use Rattle.base_types.specs.Meanings.{choice_of}
+use Rattle.std.specs.Option.{option_map}
 use Rattle.def_machine.specs.Updates.{shown}
 use Rattle.def_chase.specs.Values.{Fact}
 use Rattle.def_chase.specs.Mappings.{Rule}
@@ -26,15 +25,8 @@ use Rattle.chase_update.specs.declared.results.Lack.{Lack}
 use Rattle.chase_update.specs.declared.results.SessionResult.{SessionResult}
 use Rattle.chase_update.specs.declared.results.Stop.{Stop}
 use Rattle.run_serial.specs.Runs.{HasFinished, behind, told_after, told_at, told_from}
-use Rattle.run_serial.specs.Turns as turns
-use Rattle.run_serial.specs.declared.turns.Next.{Next}
-use Rattle.run_serial.specs.declared.wholes.Rest.{Rest as RestOfUpdate}
-use Rattle.run_serial.specs.declared.turns.Next.TheVariants.{Step, Rest as RestNext}
-
--- What a `Next` says is done.
-abbrev pub next_of : Next → turns.Next
-next_of (Step c) = turns.Steps (option_map choice_of (option_copied c))
-next_of (RestNext l) = turns.Rests (option_map lack_of l)
+use Rattle.run_serial.specs.Rests.{rest_from, turn_of, whole_rest}
+use Rattle.run_serial.specs.declared.wholes.Rest.{Rest}
 
 -- What the chase sees of the updates.
 abbrev pub requests_of : List SessionUpdate → List Request
@@ -46,12 +38,12 @@ finishes_of fs = map finish_of fs.items
 
 -- From P on the attempt comes to rest over D, as P', with this lack if it stops at a question.
 abbrev pub RestsFrom : List Rule → ℕ → List Fact → List Choice → Attempt → Attempt → Option Lack → Type 0
-RestsFrom ms B D answers P P' lack = turns.rest_from ms B D answers (B - P.steps) P ≡ (P', option_map lack_of lack)
+RestsFrom ms B D answers P P' lack = rest_from ms B D answers (B - P.steps) P ≡ (P', option_map lack_of lack)
 
 -- Taken whole over D, the update of this number comes to rest there.
-abbrev pub RestsWhole : List Rule → ℕ → List Fact → ℕ → SessionUpdate → RestOfUpdate → Type 0
+abbrev pub RestsWhole : List Rule → ℕ → List Fact → ℕ → SessionUpdate → Rest → Type 0
 RestsWhole ms B D n u rest =
-    turns.whole_rest ms B D (turns.turn_of ms B n (request_of (update_of u))) ≡ (rest.program.attempt, option_map lack_of rest.lack)
+    whole_rest ms B D (turn_of ms B n (request_of (update_of u))) ≡ (rest.program.attempt, option_map lack_of rest.lack)
 
 -- Some of the changes have been made in D, the first ones, and none of the others.
 abbrev pub HasMadeSome : List Fact → List Change → List Fact → Type 0

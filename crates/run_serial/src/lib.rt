@@ -8,9 +8,7 @@
 pub mod endings;
 pub mod repositories;
 mod runs;
-pub mod stepping;
 mod trailing;
-pub mod turns;
 mod wholes;
 
 pub use crate::runs::{base_of, mappings_of, serial, serial_over};

@@ -5,15 +5,14 @@ ghost use Rattle.chase_eval.specs.Touching.{IsTouching};
 ghost use Rattle.def_chase.specs.Repository.{IsRepository};
 ghost use Rattle.def_steps.specs.Attempts.{question_in, outcome_in};
 ghost use Rattle.run_serial.specs.Meanings.{RestsFrom, RestsWhole};
-ghost use Rattle.run_serial.specs.Turns.{view_of};
+ghost use Rattle.run_step.specs.Turns.{view_of};
 
-use crate::stepping::step;
-use crate::turns::{Next, what_next};
 use base_limits::{Budget, Mappings};
 use base_types::{ChoiceList, Memory};
 use chase_eval::{Touching, WatchedView};
 use chase_update::{Attempt, Lack};
 use lang_session::SessionUpdate;
+use run_step::{Next, step, what_next};
 use set_facts::IndexedFacts;
 use std::alloc::Global;
 

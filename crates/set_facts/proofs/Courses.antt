@@ -9,14 +9,16 @@ use Rattle.std.proofs.lemmas.Bool.{and_parts, cases_eq, ne_eqb}
 use Rattle.def_chase.specs.Values.{Datum, Fact, datum_cmp, fact_cmp}
 use Rattle.def_chase.specs.Repository.{IsRepository}
 use Rattle.def_chase.specs.Cursors.{is_of, is_past, is_beyond, has_at, is_scanned, scan_of}
-use Rattle.def_chase.proofs.Bools.{differ, and-false}
+use Rattle.def_chase.proofs.Bools.{differ, and-true, and-false}
 use Rattle.def_chase.proofs.Cursors.{found_begins, is_of-is}
 use Rattle.def_chase.proofs.Order.{fact_total}
 use Rattle.def_chase.proofs.Searches.{find_filter, find_same, filter_as, none_passes, found_passes}
+use Rattle.def_chase.specs.Queries.{holds_null}
+use Rattle.base_types.specs.Candidates.{is_holding}
 use Rattle.base_types.specs.Meanings.{datum_of}
 use Rattle.set_facts.specs.Courses.{ahead, is_ahead, comes_after}
 use Rattle.set_facts.specs.declared.course.Course.{Course}
-use Rattle.set_facts.specs.declared.course.Course.TheVariants.{All, Relation, Column}
+use Rattle.set_facts.specs.declared.course.Course.TheVariants.{All, Relation, Column, Holding}
 use Rattle.set_facts.proofs.Unions.{lt_less}
 
 -- What passes p and is above a tuple that passes p is what comes after it by q.
@@ -108,10 +110,24 @@ beyond_follows (Some t) v u e = by (is_lt (fact_cmp t u)) (is_lt (fact_cmp v u))
     by false true h = h refl
     by false false h = refl
 
+pub holding_follows : (update place : ℕ) (past : Option Fact) → Follows (is_holding update place past) (λ t. is_holding update place (Some t))
+holding_follows update place past v u e = by (is_beyond past u) (is_lt (fact_cmp v u)) (holds_null update place u) (beyond past (and_parts (is_beyond past v) (holds_null update place v) e).0)
+  where
+    beyond : (past : Option Fact) → is_beyond past v ≡ true → is_lt (fact_cmp v u) ≡ true → is_beyond past u ≡ true
+    beyond None f h = refl
+    beyond (Some t) f h = through t v u f h
+
+    by : (b c x : Bool) → (c ≡ true → b ≡ true) → ((b && x) && c) ≡ (c && x)
+    by true true x h = and-true x
+    by true false x h = and-false x
+    by false true x h = differ (h refl)
+    by false false x h = refl
+
 pub course_follows : (course : Course) (t : Fact) → Follows (comes_after course t) (comes_after course)
 course_follows All t = beyond_follows (Some t)
 course_follows Relation t = past_follows t
 course_follows (Column r c v) t = scanned_follows r c (datum_of v.now) (Some t)
+course_follows (Holding update place) t = holding_follows update place (Some t)
 
 -- ---- what is ahead in a relation
 

@@ -1,61 +1,30 @@
 -- The index keeps up with the set.
-use Rattle.std.proofs.Common.{◌≡◌, ℕ, ap, refl, sym, ◌∙◌, List, [], ◌∷◌, Bool, true, false, ◌||◌, ◌&&◌, not, Option, Some, map}
+use Rattle.std.proofs.Common.{◌≡◌, ℕ, ap, refl, sym, ◌∙◌, List, [], ◌∷◌, Bool, true, false, ◌||◌, ◌&&◌, Option, Some, map}
 use Rattle.std.specs.declared.vec.Vec.{Vec}
 use Rattle.std.specs.declared.alloc.Global.{Global}
 use Rattle.std.specs.Prelude.{filter, find, slice_get}
 use Rattle.std.proofs.lemmas.Bool.{eq-eqb}
-use Rattle.def_chase.specs.Values.{Datum, Fact, same_fact, same_datum}
+use Rattle.def_chase.specs.Values.{Datum, Fact, same_datum}
 use Rattle.def_chase.specs.Repository.{Insert, Delete, IsRepository, change, has}
 use Rattle.def_chase.specs.Cursors.{is_of, is_beyond, has_at, is_datum, is_scanned, scan_of}
 use Rattle.def_chase.proofs.Bools.{and-true, none_some, some_same}
 use Rattle.def_chase.proofs.Learning.{same_datum_itself}
 use Rattle.def_chase.proofs.Members.{has-filter}
 use Rattle.def_chase.proofs.Searches.{find_same}
-use Rattle.def_chase.proofs.Sets.{has-insert, has-delete, filter_in_order, same_exact, same_repository}
+use Rattle.def_chase.proofs.Sets.{filter_in_order, same_repository}
 use Rattle.base_types.specs.Meanings.{datum_of}
 use Rattle.base_types.specs.declared.values.Value.{Value}
 use Rattle.set_facts.specs.Indexes.{Kept, kept_at, is_in, IsIndex, AddsOne, DropsOne}
 use Rattle.set_facts.proofs.Courses.{find_among}
+use Rattle.set_facts.proofs.Keeping.{one_grows, one_shrinks, one_goes_on}
 
 -- ---- one tuple
 
 pub index_grows : (D : List Fact) (ms ns : List (Vec Kept Global)) (t : Fact) → IsIndex D ms → AddsOne t ms ns → IsIndex (change D (Insert t)) ns
-index_grows D ms ns t x h r c d u =
-    h r c d u ∙ ap (λ b. b || (is_in r c d t && same_fact u t)) (x r c d u) ∙ by (same_fact u t) refl ∙ ap (λ b. b && is_in r c d u) (sym (has-insert D t u))
-  where
-    here : (a b : Bool) → ((a && b) || (b && true)) ≡ b
-    here true true = refl
-    here true false = refl
-    here false true = refl
-    here false false = refl
-
-    elsewhere : (a b : Bool) → (a || (b && false)) ≡ a
-    elsewhere true b = refl
-    elsewhere false true = refl
-    elsewhere false false = refl
-
-    by : (b : Bool) → same_fact u t ≡ b → ((has D u && is_in r c d u) || (is_in r c d t && b)) ≡ ((b || has D u) && is_in r c d u)
-    by true e = ap (λ (v : Fact). (has D u && is_in r c d u) || (is_in r c d v && true)) (sym (same_exact u t e)) ∙ here (has D u) (is_in r c d u)
-    by false e = elsewhere (has D u && is_in r c d u) (is_in r c d t)
+index_grows D ms ns t x h r c d u = one_grows (is_in r c d) D t u (has (kept_at ms r c d) u) (has (kept_at ns r c d) u) (x r c d u) (h r c d u)
 
 pub index_shrinks : (D : List Fact) (ms ns : List (Vec Kept Global)) (t : Fact) → IsIndex D ms → DropsOne t ms ns → IsIndex (change D (Delete t)) ns
-index_shrinks D ms ns t x h r c d u =
-    h r c d u ∙ ap (λ b. b && not (is_in r c d t && same_fact u t)) (x r c d u) ∙ by (same_fact u t) refl ∙ ap (λ b. b && is_in r c d u) (sym (has-delete D t u))
-  where
-    here : (a b : Bool) → ((a && b) && not (b && true)) ≡ ((a && false) && b)
-    here true true = refl
-    here true false = refl
-    here false b = refl
-
-    elsewhere : (a b x : Bool) → ((a && b) && not (x && false)) ≡ ((a && true) && b)
-    elsewhere true true true = refl
-    elsewhere true true false = refl
-    elsewhere true false x = refl
-    elsewhere false b x = refl
-
-    by : (b : Bool) → same_fact u t ≡ b → ((has D u && is_in r c d u) && not (is_in r c d t && b)) ≡ ((has D u && not b) && is_in r c d u)
-    by true e = ap (λ (v : Fact). (has D u && is_in r c d u) && not (is_in r c d v && true)) (sym (same_exact u t e)) ∙ here (has D u) (is_in r c d u)
-    by false e = elsewhere (has D u) (is_in r c d u) (is_in r c d t)
+index_shrinks D ms ns t x h r c d u = one_shrinks (is_in r c d) D t u (has (kept_at ms r c d) u) (has (kept_at ns r c d) u) (x r c d u) (h r c d u)
 
 -- ---- all tuples
 
@@ -65,22 +34,7 @@ IsIndexTo D left ms = (r c : ℕ) (d : Datum) (u : Fact) → (has (kept_at ms r 
 
 pub index_goes_on : (D left rest : List Fact) (ms ns : List (Vec Kept Global)) (t : Fact) → left ≡ t ∷ rest → AddsOne t ms ns → IsIndexTo D left ms → IsIndexTo D rest ns
 index_goes_on D left rest ms ns t e h x r c d u =
-    ap (λ b. b || (has rest u && is_in r c d u)) (h r c d u) ∙ by (same_fact u t) refl ∙ sym (ap (λ (l : List Fact). has (kept_at ms r c d) u || (has l u && is_in r c d u)) e) ∙ x r c d u
-  where
-    here : (a b r : Bool) → ((a || (b && true)) || (r && b)) ≡ (a || b)
-    here true b r = refl
-    here false true r = refl
-    here false false true = refl
-    here false false false = refl
-
-    elsewhere : (a x y : Bool) → ((a || (x && false)) || y) ≡ (a || y)
-    elsewhere true x y = refl
-    elsewhere false true y = refl
-    elsewhere false false y = refl
-
-    by : (b : Bool) → same_fact u t ≡ b → ((has (kept_at ms r c d) u || (is_in r c d t && b)) || (has rest u && is_in r c d u)) ≡ (has (kept_at ms r c d) u || ((b || has rest u) && is_in r c d u))
-    by true f = ap (λ (v : Fact). (has (kept_at ms r c d) u || (is_in r c d v && true)) || (has rest u && is_in r c d u)) (sym (same_exact u t f)) ∙ here (has (kept_at ms r c d) u) (is_in r c d u) (has rest u)
-    by false f = elsewhere (has (kept_at ms r c d) u) (is_in r c d t) (has rest u && is_in r c d u)
+    one_goes_on (is_in r c d) D left rest t u (has (kept_at ms r c d) u) (has (kept_at ns r c d) u) e (h r c d u) (x r c d u)
 
 -- ---- single tuples
 

@@ -7,6 +7,8 @@ pub mod Merged
 pub mod Running
 pub mod Further
 pub mod Groups
+pub mod Keeping
+pub mod ByNull
 pub mod Indexing
 pub mod Refusals
 pub mod Taking

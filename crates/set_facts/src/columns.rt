@@ -85,8 +85,8 @@ fn reach(columns: &mut Vec<Groups>, alloc: Global, column: usize) -> Result<(), 
     Ok(())
 }
 
-// Keeps a copy of the tuple at the value. The value is copied even where it is there, so that it is looked for once.
-fn add(groups: &mut Groups, alloc: Global, value: &Value, tuple: &Tuple) -> Result<(), Memory>
+/// Keeps a copy of the tuple at the value. The value is copied even where it is there, so that it is looked for once.
+pub fn add(groups: &mut Groups, alloc: Global, value: &Value, tuple: &Tuple) -> Result<(), Memory>
     ensures ok { OnOk result (Adds (datum_of value.now) (fact_of tuple.now) groups.old groups.new) }
     ensures err { OnErr result ((d : Datum) → group_in groups.new d ≡ group_in groups.old d) }
 {
@@ -119,8 +119,8 @@ fn sweep_at(columns: &mut Vec<Groups>, column: usize, value: &Value, tuple: &Tup
     }
 }
 
-// Takes the tuple out of the group of the value, and the group away where it is then empty.
-fn take_out(groups: &mut Groups, value: &Value, tuple: &Tuple)
+/// Takes the tuple out of the group of the value, and the group away where it is then empty.
+pub fn take_out(groups: &mut Groups, value: &Value, tuple: &Tuple)
     ensures dropped { Drops (datum_of value.now) (fact_of tuple.now) groups.old groups.new }
     ensures vacant { IfSome (lookup (λ k. same_datum (datum_of value.now) (datum_of k))
         groups.new.entries) (λ group. group ≡ [] → ⊥) }

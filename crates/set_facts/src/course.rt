@@ -18,12 +18,14 @@ pub trait Hides {
         ensures answer { result ≡ has (hidden self.now) (fact_of tuple.now) };
 }
 
-/// Which tuples a cursor goes over: all, those of a relation, or those of a relation with a value in a column.
+/// Which tuples a cursor goes over: all, those of a relation, those of a relation with a value in a column, or those that hold
+/// a null drawn by an update at a place.
 #[derive(Drop)]
 pub enum Course<'v> {
     All,
     Relation,
     Column(u16, u16, &'v Value),
+    Holding(u32, u32),
 }
 
 /// The first tuple from the cursor on that is not hidden. It takes no memory.
@@ -60,6 +62,7 @@ fn next<'a, F: Facts>(facts: &'a F, course: &Course<'_>, tuple: &Tuple) -> Optio
         Course::Column(relation, column, value) => {
             facts.scan(*relation, *column, *value, Some(tuple))
         }
+        Course::Holding(update, place) => facts.holding(*update, *place, Some(tuple)),
     }
 }
 

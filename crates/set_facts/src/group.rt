@@ -11,6 +11,7 @@ ghost use Rattle.set_facts.specs.Places.{HasAllThat};
 ghost use Rattle.set_facts.specs.Runs.{run_of};
 
 use crate::course::Hides;
+use crate::holding::holds_null;
 use crate::listed::{Held, ListedFacts};
 use crate::plain::PlainFacts;
 use crate::runs::Run;
@@ -224,6 +225,17 @@ impl Facts for Group {
             Held::Listed(tuples) => tuples.scan(relation, column, value, past),
             Held::Tree(facts) => facts.scan(relation, column, value, past),
         }
+    }
+
+    fn holding(&self, update: u32, place: u32, past: Option<&Tuple>) -> Option<&Tuple> {
+        let mut cursor = self.beyond(past);
+        while let Some(found) = cursor {
+            if holds_null(found, update, place) {
+                return Some(found);
+            }
+            cursor = self.beyond(Some(found));
+        }
+        None
     }
 }
 

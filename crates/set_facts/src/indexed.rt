@@ -1,28 +1,35 @@
-//! An ordered set of tuples with an index on each column.
+//! An ordered set of tuples with an index on each column, and one on the nulls.
 ghost use Rattle.std.specs.Prelude.{◌≡◌, [], true, not, length, map, filter, Some, IfOk, OnOk, OnErr, IfErr};
 ghost use Rattle.def_chase.specs.Cursors.{is_beyond};
+ghost use Rattle.def_chase.specs.Queries.{holds_null};
 ghost use Rattle.def_chase.specs.Repository.{has, change, Insert, Delete, IsRepository};
 ghost use Rattle.base_types.specs.Meanings.{fact_of};
-ghost use Rattle.set_facts.specs.Indexes.{IsIndex, IsIndexBut};
+ghost use Rattle.set_facts.specs.ByNull.{IsNullIndex, IsNullIndexBut, AddsHolder, AddsAtMostHolder, DropsHolder};
+ghost use Rattle.set_facts.specs.Indexes.{IsIndex, IsIndexBut, AddsOne, AddsAtMostOne, DropsOne};
 ghost use Rattle.set_facts.specs.Places.{is_inside};
 ghost use Rattle.set_facts.specs.Runs.{run_of};
 
+use crate::columns::Groups;
+use crate::nulls::{drop_nulls, holders, index_nulls, keep_nulls};
 use crate::plain::PlainFacts;
 use crate::relations::{Columns, drop_out, keep, keeps, kept};
 use crate::runs::Run;
 use base_types::{Candidates, Column, Facts, Memory, TryCopy, Tuple, TupleList, Value};
 use std::alloc::Global;
+use std::collections::HashMap;
 use std::collections::btree_set::Range;
+use std::hash::BuildHasherDefault;
 use std::marker::Model;
 
 /// A set of tuples with, for each relation, column and value, exactly its tuples that have the value there, found by the
-/// value's hash. Insertions, deletions and cursors take steps as many as the logarithm of the set's size. Whether a tuple
+/// value's hash, and for each null exactly its tuples that hold it, by whatever attempt it was drawn. Insertions, deletions and cursors take steps as many as the logarithm of the set's size. Whether a tuple
 /// is there is asked of those with its first value, since they are mostly few. Each tuple is held once more for
-/// each of its columns, and no tuple that is not in the set. Contracts see the list of its tuples, in order.
+/// each of its columns and nulls, and no tuple that is not in the set. Contracts see the list of its tuples, in order.
 #[derive(Debug, Drop)]
 pub struct IndexedFacts {
     all: PlainFacts,
     relations: Vec<Columns>,
+    by_null: Groups,
     alloc: Global,
 }
 
@@ -33,11 +40,13 @@ impl Model for IndexedFacts {
     ghost Value = { List Fact };
 
     ghost use Rattle.def_chase.specs.Repository.{IsRepository};
+    ghost use Rattle.set_facts.specs.ByNull.{IsNullIndex};
     ghost use Rattle.set_facts.specs.Indexes.{IsIndex};
 
     ghost view = { λ f. f.all };
 
-    ghost invariant = { λ f. IsRepository f.all × IsIndex f.all f.relations.items };
+    ghost invariant = { λ f.
+        IsRepository f.all × IsIndex f.all f.relations.items × IsNullIndex f.all f.by_null };
 }
 
 impl IndexedFacts {
@@ -48,6 +57,7 @@ impl IndexedFacts {
         IndexedFacts {
             all: PlainFacts::new(alloc),
             relations: Vec::new(alloc),
+            by_null: HashMap::with_hasher(alloc, BuildHasherDefault::new()),
             alloc,
         }
     }
@@ -57,11 +67,12 @@ impl IndexedFacts {
         ensures same { IfOk result (λ indexed. indexed ≡ facts) }
         ensures given_back { IfErr result (λ refused. refused.0 ≡ facts) }
     {
-        match index_all(alloc, &facts) {
-            Ok(relations) => {
+        match index_both(alloc, &facts) {
+            Ok(index) => {
                 return Ok(IndexedFacts {
                     all: facts,
-                    relations,
+                    relations: index.0,
+                    by_null: index.1,
                     alloc,
                 });
             }
@@ -84,17 +95,22 @@ impl IndexedFacts {
         ensures given_back { IfErr result (λ refused. refused.0 ≡ tuple) }
         ensures err { OnErr result (self.new ≡ self.old) }
     {
-        match keep(&mut self.relations, self.alloc, &tuple) {
+        match keep_both(&mut self.relations, &mut self.by_null, self.alloc, &tuple) {
             Ok(()) => {}
             Err(_) => {
-                take_back(&mut self.relations, &self.all, &tuple);
+                take_back(&mut self.relations, &mut self.by_null, &self.all, &tuple);
                 return Err((tuple, Memory));
             }
         }
         match self.all.insert(tuple) {
             Ok(added) => return Ok(added),
             Err(refused) => {
-                take_back(&mut self.relations, &self.all, &refused.0);
+                take_back(
+                    &mut self.relations,
+                    &mut self.by_null,
+                    &self.all,
+                    &refused.0,
+                );
                 return Err(refused);
             }
         }
@@ -106,7 +122,7 @@ impl IndexedFacts {
         ensures after { self.new ≡ change self.old (Delete (fact_of tuple.now)) }
     {
         let there = self.all.remove(tuple);
-        drop_out(&mut self.relations, tuple);
+        drop_both(&mut self.relations, &mut self.by_null, tuple);
         there
     }
 
@@ -213,6 +229,24 @@ impl Facts for IndexedFacts {
             None => self.all.relation(relation, past),
         }
     }
+
+    fn holding(&self, update: u32, place: u32, past: Option<&Tuple>) -> Option<&Tuple> {
+        match holders(&self.by_null, update, place) {
+            Some(group) => group.beyond(past),
+            None => None,
+        }
+    }
+}
+
+// Both indexes of all tuples of the set.
+fn index_both(alloc: Global, facts: &PlainFacts) -> Result<(Vec<Columns>, Groups), Memory>
+    ensures columns { IfOk result (λ index. IsIndex facts.now index.0.items) }
+    ensures nulls { IfOk result (λ index. IsNullIndex facts.now index.1) }
+    ensures in_order { IsRepository facts.now }
+{
+    let relations = index_all(alloc, facts)?;
+    let by_null = index_nulls(alloc, facts)?;
+    Ok((relations, by_null))
 }
 
 // The index of all tuples of the set.
@@ -227,12 +261,45 @@ fn index_all(alloc: Global, facts: &PlainFacts) -> Result<Vec<Columns>, Memory>
     Ok(relations)
 }
 
-// Makes an index of all tuples again, where at most this one was added to it. It takes no memory.
-fn take_back(relations: &mut Vec<Columns>, all: &PlainFacts, tuple: &Tuple)
-    requires { IsIndexBut all.now (fact_of tuple.now) relations.old.items }
-    ensures index { IsIndex all.now relations.new.items }
+// Keeps a copy of the tuple in the columns of its relation and at its nulls. It is refused only for want of memory; it may then be
+// kept at some of them, and what else is kept is as before.
+fn keep_both(
+    relations: &mut Vec<Columns>,
+    by_null: &mut Groups,
+    alloc: Global,
+    tuple: &Tuple,
+) -> Result<(), Memory>
+    ensures columns { OnOk result
+        (AddsOne (fact_of tuple.now) relations.old.items relations.new.items) }
+    ensures nulls { OnOk result (AddsHolder (λ u k. holds_null u k (fact_of tuple.now))
+        (fact_of tuple.now) by_null.old by_null.new) }
+    ensures some_columns { OnErr result
+        (AddsAtMostOne (fact_of tuple.now) relations.old.items relations.new.items) }
+    ensures some_nulls { OnErr result
+        (AddsAtMostHolder (fact_of tuple.now) by_null.old by_null.new) }
+{
+    keep(relations, alloc, tuple)?;
+    keep_nulls(by_null, alloc, tuple)
+}
+
+// Takes the tuple, and no other, out of the columns of its relation and away from its nulls. It takes no memory.
+fn drop_both(relations: &mut Vec<Columns>, by_null: &mut Groups, tuple: &Tuple)
+    ensures columns { DropsOne (fact_of tuple.now) relations.old.items relations.new.items }
+    ensures nulls { DropsHolder (λ u k. holds_null u k (fact_of tuple.now))
+        (fact_of tuple.now) by_null.old by_null.new }
+{
+    drop_out(relations, tuple);
+    drop_nulls(by_null, tuple);
+}
+
+// Makes the indexes those of all tuples again, where at most this one was added to them. It takes no memory.
+fn take_back(relations: &mut Vec<Columns>, by_null: &mut Groups, all: &PlainFacts, tuple: &Tuple)
+    requires { IsIndexBut all.now (fact_of tuple.now) relations.old.items ×
+        IsNullIndexBut all.now (fact_of tuple.now) by_null.old }
+    ensures columns { IsIndex all.now relations.new.items }
+    ensures nulls { IsNullIndex all.now by_null.new }
 {
     if !all.contains(tuple) {
-        drop_out(relations, tuple);
+        drop_both(relations, by_null, tuple);
     }
 }

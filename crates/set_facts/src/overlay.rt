@@ -145,6 +145,13 @@ impl<'a, F: Facts> Facts for Overlay<'a, F> {
         least(left, self.added.scan(relation, column, value, past))
     }
 
+    fn holding(&self, update: u32, place: u32, past: Option<&Tuple>) -> Option<&Tuple> {
+        let below = self.facts.holding(update, place, past);
+        let course = Course::Holding(update, place);
+        let left = remaining(self.facts, &self.gone, &course, below);
+        least(left, self.added.holding(update, place, past))
+    }
+
     // What the set has at hand, where no write is among them, and else a few of both.
     fn candidates(
         &self,

@@ -6,6 +6,7 @@ ghost use Rattle.def_chase.specs.Cursors.{first_of};
 ghost use Rattle.base_types.specs.Meanings.{fact_of};
 ghost use Rattle.set_facts.specs.Courses.{is_ahead};
 
+use crate::holding::holds_null;
 use crate::scanned::{is_scanned, of_relation};
 use base_types::{Facts, Memory, TryCopy, Tuple, Value};
 use std::alloc::Global;
@@ -176,6 +177,17 @@ impl Facts for PlainFacts {
                 return Some(found);
             }
             cursor = self.after(found);
+        }
+        None
+    }
+
+    fn holding(&self, update: u32, place: u32, past: Option<&Tuple>) -> Option<&Tuple> {
+        let mut cursor = self.beyond(past);
+        while let Some(found) = cursor {
+            if holds_null(found, update, place) {
+                return Some(found);
+            }
+            cursor = self.beyond(Some(found));
         }
         None
     }

@@ -7,9 +7,11 @@ use Rattle.std.specs.Option.{option_map}
 use Rattle.std.specs.Ordering.{on}
 use Rattle.std.specs.declared.cmp.Ordering.{Ordering}
 use Rattle.std.specs.declared.cmp.Ordering.TheVariants.{Less}
+use Rattle.base_types.specs.Candidates.{is_holding}
 use Rattle.base_types.specs.Meanings.{fact_of}
 use Rattle.base_types.specs.declared.tuples.Tuple.{Tuple}
 use Rattle.def_chase.specs.Values.{Datum, Fact, fact_cmp}
+use Rattle.def_chase.specs.Queries.{holds_null}
 use Rattle.def_chase.specs.Repository.{IsRepository}
 use Rattle.def_chase.specs.Cursors.{is_of, is_past, is_beyond, is_datum, has_at, is_scanned}
 use Rattle.def_chase.proofs.Bools.{and-true}
@@ -78,6 +80,15 @@ swap false false = refl
 
 pub beyond_same : (n : ℕ) (past : Option Fact) (e : Tuple × Marks) → is_sought (λ k. place_beyond past (fact_of k)) (λ f. stands n f.1) e ≡ (stands n e.1 && is_beyond past (fact_of e.0))
 beyond_same n past e = ap (λ b. b && stands n e.1) (beyond_is past (fact_of e.0)) ∙ swap (is_beyond past (fact_of e.0)) (stands n e.1)
+
+pub holding_same : (n u k : ℕ) (past : Option Fact) (e : Tuple × Marks) → is_sought (λ x. place_beyond past (fact_of x)) (λ f. stands n f.1 && holds_null u k (fact_of f.0)) e ≡ (stands n e.1 && is_holding u k past (fact_of e.0))
+holding_same n u k past e = ap (λ b. b && (stands n e.1 && holds_null u k (fact_of e.0))) (beyond_is past (fact_of e.0)) ∙ turn (is_beyond past (fact_of e.0)) (stands n e.1) (holds_null u k (fact_of e.0))
+  where
+    turn : (a b x : Bool) → (a && (b && x)) ≡ (b && (a && x))
+    turn true true x = refl
+    turn true false x = refl
+    turn false true x = refl
+    turn false false x = refl
 
 pub zone_same : (n r : ℕ) (past : Option Fact) (e : Tuple × Marks) → is_sought (λ k. place_of r past (fact_of k)) (λ f. stands n f.1) e ≡ (stands n e.1 && (is_of r (fact_of e.0) && is_beyond past (fact_of e.0)))
 zone_same n r past e = ap (λ b. b && stands n e.1) (zone_is r past (fact_of e.0)) ∙ swap (is_of r (fact_of e.0) && is_beyond past (fact_of e.0)) (stands n e.1)

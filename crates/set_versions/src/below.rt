@@ -65,4 +65,8 @@ impl<'v> Facts for Below<'v> {
         self.versions
             .candidates(self.number, relation, column, past)
     }
+
+    fn holding(&self, update: u32, place: u32, past: Option<&Tuple>) -> Option<&Tuple> {
+        self.versions.holding(self.number, update, place, past)
+    }
 }

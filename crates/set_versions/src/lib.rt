@@ -10,6 +10,7 @@ mod handles;
 mod indexes;
 mod laws;
 mod marks;
+mod nulls;
 mod passing;
 mod ranks;
 mod reading;

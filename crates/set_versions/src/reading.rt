@@ -3,7 +3,7 @@ ghost use Rattle.std.specs.Prelude.{◌≡◌, [], None, Some, find, IfNone, IfS
 ghost use Rattle.std.specs.Option.{option_map, option_copied};
 ghost use Rattle.def_chase.specs.Cursors.{is_beyond, first_of, next_of, scan_of};
 ghost use Rattle.def_chase.specs.Repository.{has, IsRepository};
-ghost use Rattle.base_types.specs.Candidates.{column_of, further_candidates, AreFirst, AreFurther, Begin};
+ghost use Rattle.base_types.specs.Candidates.{column_of, further_candidates, is_holding, AreFirst, AreFurther, Begin};
 ghost use Rattle.base_types.specs.Meanings.{fact_of, datum_of};
 ghost use Rattle.set_facts.specs.Runs.{ahead_of, left_of, merged, run_of};
 ghost use Rattle.set_versions.specs.Marked.{put_first};
@@ -51,6 +51,26 @@ impl Versions {
         let below = base.beyond(past);
         let left = remaining(base, self.taken(), &Course::All, below);
         least(left, self.table().beyond(number, past))
+    }
+
+    // The least tuple that it sees that holds a null which the update drew at the place, above `past` where that is given.
+    pub(crate) fn holding(
+        &self,
+        number: u32,
+        update: u32,
+        place: u32,
+        past: Option<&Tuple>,
+    ) -> Option<&Tuple>
+        ensures found { option_map fact_of (option_copied result)
+            ≡ find (is_holding update place (option_map fact_of (option_copied past.entry)))
+            (seen number self.now) }
+        ensures in_order { IsRepository (seen number self.now) }
+    {
+        let base = self.base();
+        let below = base.holding(update, place, past);
+        let course = Course::Holding(update, place);
+        let left = remaining(base, self.taken(), &course, below);
+        least(left, self.table().holding(number, update, place, past))
     }
 
     // The least tuple of the relation that it sees.

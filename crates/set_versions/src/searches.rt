@@ -321,7 +321,7 @@ fn place_at(relation: u16, value: &Value, past: Option<&Tuple>, tuple: &Tuple) -
 }
 
 // Where the tuple lies to what comes after `past`, where that is given.
-fn place_after(past: Option<&Tuple>, tuple: &Tuple) -> Ordering
+pub(crate) fn place_after(past: Option<&Tuple>, tuple: &Tuple) -> Ordering
     ensures { result
         ≡ place_beyond (option_map fact_of (option_copied past.entry)) (fact_of tuple.now) }
 {

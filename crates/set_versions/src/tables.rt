@@ -10,6 +10,7 @@ use crate::edits::set;
 use crate::handles::Handle;
 use crate::indexes::{indexed, shared};
 use crate::marks::Marks;
+use crate::nulls::WithNull;
 use crate::scans::Scan;
 use crate::searches::{Beyond, Further, Held, Lead, Written, Zone};
 use crate::spots::spot;
@@ -128,6 +129,7 @@ impl Table {
     ghost use Rattle.set_versions.specs.Marked.{is_row_by};
     ghost use Rattle.def_chase.specs.Cursors.{is_beyond, first_of, next_of, scan_of};
     ghost use Rattle.def_chase.specs.Repository.{has, IsRepository};
+    ghost use Rattle.base_types.specs.Candidates.{is_holding};
     ghost use Rattle.base_types.specs.Meanings.{datum_of};
     ghost use Rattle.std.specs.Ordering.{on};
     ghost use Rattle.def_chase.specs.Values.{fact_cmp};
@@ -169,6 +171,29 @@ impl Table {
         ensures in_order { IsRepository (visible number self.now) }
     {
         tuple_in(self.rows.find_in(&Beyond { number, past }))
+    }
+
+    /// The least tuple that it sees that holds a null which the update drew at the place, above `past` where that is given.
+    pub fn holding(
+        &self,
+        number: u32,
+        update: u32,
+        place: u32,
+        past: Option<&Tuple>,
+    ) -> Option<&Tuple>
+        ensures found { option_map fact_of (option_copied result)
+            ≡ find (is_holding update place (option_map fact_of (option_copied past.entry)))
+            (visible number self.now) }
+        ensures in_order { IsRepository (visible number self.now) }
+    {
+        tuple_in(
+            self.rows.find_in(&WithNull {
+                number,
+                drawer: update,
+                at: place,
+                past,
+            }),
+        )
     }
 
     /// The least tuple of the relation that it sees.

@@ -5,7 +5,7 @@ use Rattle.base_devices.specs.Faults.{next_count, Rose}
 use Rattle.base_devices.specs.declared.disks.DiskRefusal.{DiskRefusal}
 use Rattle.base_devices.specs.declared.disks.DiskRefusal.TheVariants.{Failed, Memory}
 use Rattle.base_devices.specs.Logs.{Call}
-use Rattle.ws_file.specs.Traces.{IsMade}
+use Rattle.base_devices.specs.Traces.{IsMade}
 use Rattle.ws_file.specs.Files.{Log, IsCounted, FileState, trace_of}
 
 module _ {T : Type 0} (call : Bool → Call) (old new : FileState) where

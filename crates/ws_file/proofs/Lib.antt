@@ -1,4 +1,1 @@
-mod Places
-mod Images
-mod Moments
 mod Counting

@@ -5,9 +5,9 @@ use Rattle.base_devices.specs.Faults.{next_count}
 use Rattle.base_devices.specs.declared.disks.DiskRefusal.{DiskRefusal}
 use Rattle.base_devices.specs.declared.disks.DiskRefusal.TheVariants.{Failed, Memory}
 use Rattle.base_devices.specs.States.{State}
-use Rattle.ws_file.specs.Traces as traces
 use Rattle.base_devices.specs.Logs.{Call}
-use Rattle.ws_file.specs.Traces.{Trace, state_with}
+use Rattle.base_devices.specs.Traces as traces
+use Rattle.base_devices.specs.Traces.{Trace, state_with}
 
 -- the calls that were made, and how many of them failed
 pub record Log : Type 0 where

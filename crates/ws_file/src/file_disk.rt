@@ -1,5 +1,5 @@
 // A disk over a file.
-ghost use Rattle.std.specs.Prelude.{◌≡◌, ◌+◌, ◌≤◌, length, drop, vec_len, vec_capacity, IfOk, OnOk};
+ghost use Rattle.std.specs.Prelude.{◌≡◌, ◌+◌, ◌≤◌, length, drop, IfOk, OnOk};
 ghost use Rattle.base_devices.specs.States.{GoesOn, IsLeft, IsLeftTorn, IsRefused, IsSettled, LeavesOnly};
 ghost use Rattle.base_devices.specs.Torn.{range_of, written};
 ghost use Rattle.base_devices.specs.Logs.{Load, Sync, Write};
@@ -7,7 +7,7 @@ ghost use Rattle.ws_file.specs.Files.{IsCounted, IsGivenUp, bytes_of, just_opene
 
 use crate::calls::{Deed, Log};
 use crate::locking::Released;
-use base_devices::{Disk, DiskRefusal, Memory};
+use base_devices::{Disk, DiskRefusal, Memory, overwrite};
 use std::alloc::Global;
 use std::fs::File;
 use std::io;
@@ -27,7 +27,7 @@ pub struct FileDisk {
 
 impl Model for FileDisk {
     ghost use Rattle.std.specs.Prelude.{◌≡◌};
-    ghost use Rattle.base_devices.specs.InMemory.{after_all, fresh};
+    ghost use Rattle.base_devices.specs.Traces.{after_all, fresh};
     ghost use Rattle.ws_file.specs.Files.{FileState};
 
     ghost Value = { FileState };
@@ -36,20 +36,6 @@ impl Model for FileDisk {
 
     ghost invariant = { λ s.
         s.bytes.items ≡ (after_all (fresh s.made_of.items) s.log.calls).bytes };
-}
-
-// Writes over what is there from the place on, and past the end, for which there is room.
-fn overwrite(file: &mut Vec<u8>, at: usize, bytes: &[u8])
-    requires at { at ≤ length file.old.items }
-    requires room { vec_len file.old + length bytes.now ≤ vec_capacity file.old }
-    ensures { file.new.items ≡ written at bytes.now file.old.items }
-{
-    if bytes.len() >= file.len() - at {
-        file.truncate(at);
-        file.extend_from_slice(bytes).unwrap();
-        return;
-    }
-    file[at..at + bytes.len()].copy_from_slice(bytes);
 }
 
 impl FileDisk {

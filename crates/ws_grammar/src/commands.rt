@@ -124,6 +124,12 @@ impl<'a> Cursor<'a> {
         Ok(Command::Help(verb))
     }
 
+    // The comment of a line in which no unknown is strange.
+    fn comment_at_end(&self) -> Result<String, Refusal> {
+        self.refuse_strange()?;
+        Ok(self.comment()?)
+    }
+
     /// The comment of the line, with control characters escaped.
     pub(crate) fn comment(&self) -> Result<String, AllocError> {
         let mut comment = String::new(self.alloc);
@@ -142,11 +148,11 @@ pub fn read_command(alloc: Global, names: &Names<'_>, line: &str) -> Result<Opti
         return Ok(None);
     }
     let command = cursor.command(names)?;
-    match cursor.comment() {
+    match cursor.comment_at_end() {
         Ok(comment) => Ok(Some(Said { command, comment })),
-        Err(error) => {
+        Err(refusal) => {
             drop(command);
-            Err(Refusal::from(error))
+            Err(refusal)
         }
     }
 }

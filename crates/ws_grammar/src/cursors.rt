@@ -4,13 +4,15 @@ use crate::bytes::{after_blanks, is_blank, name_run, number_run};
 use std::alloc::Global;
 use ws_fault::Refusal;
 
-/// A line, and what is left of it. After each token blanks are passed over, and so are a comment and a last `;`.
+/// A line, and what is left of it. After each token blanks are passed over, and so are a comment and a last `;`. `strange` has
+/// the digits of the first unknown whose numbers have more than 32 bits.
 #[derive(Drop)]
 pub(crate) struct Cursor<'a> {
     pub(crate) alloc: Global,
     pub(crate) line: &'a [u8],
     pub(crate) rest: &'a [u8],
     pub(crate) comment: &'a [u8],
+    pub(crate) strange: Option<(&'a str, &'a str)>,
 }
 
 // Whether nothing but `;` and blanks is left.
@@ -30,6 +32,7 @@ impl<'a> Cursor<'a> {
             line: bytes,
             rest: bytes,
             comment: b"",
+            strange: None,
         };
         cursor.go_on(bytes);
         cursor
@@ -116,12 +119,12 @@ impl<'a> Cursor<'a> {
         number_run(self.rest).is_some()
     }
 
-    /// The end of the line.
+    /// The end of the line, in which no unknown is strange.
     pub(crate) fn end(&self) -> Result<(), Refusal> {
-        if self.is_done() {
-            return Ok(());
+        if !self.is_done() {
+            return self.fail("the end of the line");
         }
-        self.fail("the end of the line")
+        self.refuse_strange()
     }
 
     /// After an item between brackets: whether the list ends here.

@@ -51,7 +51,7 @@ impl<'a> Cursor<'a> {
     /// A number, a text, or an unknown by its name.
     pub(crate) fn value(&mut self) -> Result<Value, Refusal> {
         if let Some((update, place, rest)) = unknown_run(self.rest) {
-            let unknown = self.unknown(update, place)?;
+            let unknown = self.unknown(update, place);
             self.go_on(rest);
             return Ok(Value::Unknown(unknown));
         }
@@ -72,11 +72,25 @@ impl<'a> Cursor<'a> {
         Ok(Value::Number(number))
     }
 
-    // The unknown of this name. None has one whose numbers have more than 32 bits.
-    fn unknown(&self, update: &str, place: &str) -> Result<Unknown, Refusal> {
+    // The unknown of this name. If its numbers have more than 32 bits, it is no unknown, and that is told at the end of the line.
+    fn unknown(&mut self, update: &'a str, place: &'a str) -> Unknown {
         if let Some(unknown) = unknown_of(update, place) {
-            return Ok(unknown);
+            return unknown;
         }
+        if self.strange.is_none() {
+            self.strange = Some((update, place));
+        }
+        Unknown {
+            update: u32::MAX,
+            place: u32::MAX,
+        }
+    }
+
+    /// Refuses a line with a strange unknown, which nothing has as its name.
+    pub(crate) fn refuse_strange(&self) -> Result<(), Refusal> {
+        let Some((update, place)) = self.strange else {
+            return Ok(());
+        };
         let update = bare_digits(update);
         let place = bare_digits(place);
         let hint = "`show` has them; a new one is written ? in an insert";

@@ -49,6 +49,11 @@ impl Object {
         self.put(key, Value::from(is))
     }
 
+    /// `null`: that there is none.
+    pub fn none(&mut self, key: &str) -> Result<(), AllocError> {
+        self.put(key, Value::Null)
+    }
+
     /// An object.
     pub fn object(&mut self, key: &str, object: Object) -> Result<(), AllocError> {
         self.put(key, object.into_value())

@@ -1,7 +1,7 @@
 -- A log from its gate on.
 use Rattle.std.proofs.Common.{◌≡◌, ℕ, zero, suc, ◌≤◌, ap, refl, ◌∙◌, sym, subst, List, [], ◌∷◌, ◌++◌, length, drop, arith, length-append}
 use Rattle.base_devices.specs.States.{State, IsSettled}
-use Rattle.ws_roll.specs.Rolls.{IsRoll, IsAt}
+use Rattle.base_roll.specs.Rolls.{IsRoll, IsAt}
 use Rattle.ws_seal.specs.Logs.{HasGateAt, IsHeld}
 
 dropped : (before rest : List ℕ) → drop (length before) (before ++ rest) ≡ rest

@@ -1,7 +1,7 @@
 // A log in hand, and one that rests.
 ghost use Rattle.std.specs.Prelude.{◌≡◌, ◌++◌, ◌∷◌, [], ℕ, List, IfOk};
 ghost use Rattle.ws_file.specs.Files.{bytes_of, state_of};
-ghost use Rattle.ws_roll.specs.Rolls.{IsInHand};
+ghost use Rattle.base_roll.specs.Rolls.{IsInHand};
 ghost use Rattle.base_devices.specs.States.{IsSettled};
 ghost use Rattle.ws_seal.specs.Logs.{HasGateAt, IsHeld};
 
@@ -21,7 +21,7 @@ pub struct OpenLog {
 
 impl Model for OpenLog {
     ghost use Rattle.ws_file.specs.Files.{state_of};
-    ghost use Rattle.ws_roll.specs.Rolls.{IsInHand};
+    ghost use Rattle.base_roll.specs.Rolls.{IsInHand};
     ghost use Rattle.ws_log.specs.Held.{HeldLog};
 
     ghost Value = { HeldLog };

@@ -6,6 +6,7 @@ ghost use Rattle.ws_log.specs.Held.{IsFresh};
 
 use crate::faults::{Fault, not_written};
 use crate::logs::{OpenLog, from_gate};
+use std::path::Path;
 use ws_file::{FileDisk, MadeFile, make_beside};
 use ws_seal::{LogText, log_text};
 
@@ -25,8 +26,19 @@ pub fn create(
 }
 
 /// Makes a log of the head alone, in the place of the one that is in hand: beside it first, synced, then renamed to its name, and
-/// the folder synced. So a crash leaves the one log or the other. The new one is in hand.
+/// the folder synced. So a crash leaves the one log or the other. The new one is in hand. If the path is a link, the log is made in
+/// the place of the file that it leads to.
 pub fn fold(rt: &HostRuntime, path: &str, old: OpenLog, head: &[u8]) -> Result<OpenLog, Fault>
+    ensures { IfOk result IsFresh }
+{
+    match Path::new(path).canonicalize(rt) {
+        Ok(file) => replaced(rt, file.as_str(), old, head),
+        Err(_) => replaced(rt, path, old, head),
+    }
+}
+
+// The file of this path gives way to the new one. The path is no link, or the link would give way.
+fn replaced(rt: &HostRuntime, path: &str, old: OpenLog, head: &[u8]) -> Result<OpenLog, Fault>
     ensures { IfOk result IsFresh }
 {
     let (made, log) = made_log(rt, path, head, &[])?;
@@ -63,7 +75,7 @@ fn written(disk: FileDisk, text: &LogText, count: u64) -> Result<OpenLog, Fault>
     ensures { IfOk result IsFresh }
 {
     let mut disk = disk;
-    match ws_roll::create(&mut disk, &text.bytes) {
+    match base_roll::create(&mut disk, &text.bytes) {
         Ok(()) => {
             let log = from_gate(disk, text.gate, text.mark)?;
             Ok(OpenLog::of(log, count))

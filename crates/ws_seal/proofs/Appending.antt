@@ -1,15 +1,11 @@
 -- A text appended is a payload appended.
-use Rattle.std.specs.Prelude.{Result, Ok, Err, OnOk, IfOk}
-use Rattle.std.proofs.Common.{◌≡◌, ℕ, ◌⊎◌, inl, inr, ap, refl, ◌∙◌, sym, subst, List, [], ◌∷◌, ◌++◌, arith}
-use Rattle.base_devices.specs.States.{State, GoesOn, LeavesOnly, IsSettled}
-use Rattle.ws_roll.specs.Rolls.{IsRoll, IsAt, Hold}
-use Rattle.ws_roll.specs.Histories.{IsAppending, IsBeforeOrAfter}
-use Rattle.ws_roll.specs.Answers as rolls
-use Rattle.ws_roll.specs.declared.rolls.AppendFault.{AppendFault}
-use Rattle.ws_roll.specs.declared.rolls.AppendFault.TheVariants as refused
+use Rattle.std.proofs.Common.{◌≡◌, ℕ, inl, inr, ap, ◌∙◌, sym, subst, List, [], ◌∷◌, ◌++◌, arith}
+use Rattle.base_devices.specs.States.{State}
+use Rattle.base_roll.specs.Rolls.{IsRoll, IsAt}
+use Rattle.base_roll.specs.Histories.{IsAppending, IsBeforeOrAfter}
+use Rattle.base_roll.proofs.Onwards.{resting}
 use Rattle.ws_seal.specs.Seals.{mark, sealed, payloads, last_mark}
 use Rattle.ws_seal.specs.Logs.{HasTexts, IsHeld}
-use Rattle.ws_seal.specs.Appends.{AppendTold, append_fault}
 use Rattle.ws_seal.proofs.Sealing.{payloads_more, last_more}
 
 module _ (before m : List ℕ) (texts : List (List ℕ)) (last text payload : List ℕ) (marked : last ≡ last_mark m texts) (is : payload ≡ sealed last text) where
@@ -31,10 +27,4 @@ module _ (before m : List ℕ) (texts : List (List ℕ)) (last text payload : Li
 
 -- if no call was made
 pub unmoved : (before m : List ℕ) (texts : List (List ℕ)) (text : List ℕ) (disk : State) (gate : ℕ) (last : List ℕ) → IsHeld before m texts disk gate last → IsAppending (HasTexts before m) texts text disk disk
-unmoved before m texts text disk gate last held = record {
-  goes = record { later = omega arith; nothing_more = λ k bytes l i. i; nothing_less = λ k bytes l i. i };
-  images = λ k bytes l h i.
-      let now : k ≡ disk.now = omega arith in
-      let is : bytes ≡ disk.bytes = held.at.settled bytes (subst (λ n. disk.image n bytes) now i) in
-      inl (subst (λ b. IsRoll before (payloads m texts) b) (sym is) held.at.roll);
-}
+unmoved before m texts text disk gate last held = resting (HasTexts before m) disk texts text (held.at.roll, held.at.settled)

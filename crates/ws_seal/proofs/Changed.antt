@@ -4,9 +4,9 @@ use Rattle.std.specs.Int.{w32, to_be_bytes, from_be_bytes}
 use Rattle.std.proofs.lemmas.Nat.{from_be_bytes-to_be_bytes_4}
 use Rattle.std.proofs.lemmas.List.{take-append-le}
 use Rattle.std.proofs.lemmas.Bool.{both_ways, eqb-true, eq-eqb}
-use Rattle.ws_roll.specs.Format.{framed, opened, records, front, AreShort}
-use Rattle.ws_roll.specs.Rolls.{BeginsWith, IsClosed, gate_of}
-use Rattle.ws_roll.proofs.Frames.{frames_apart, length_framed, same_parts}
+use Rattle.base_roll.specs.Format.{framed, opened, records, front, AreShort}
+use Rattle.base_roll.specs.Rolls.{BeginsWith, IsClosed, gate_of}
+use Rattle.base_roll.proofs.Frames.{frames_apart, length_framed, same_parts}
 use Rattle.ws_seal.specs.Seals.{mark, sealed, payloads, last_mark}
 use Rattle.ws_seal.specs.Logs.{HasTexts, IsHidden, IsLog, IsLogRead, IsRead, opening}
 use Rattle.ws_seal.specs.Changes.{Collision, IsLastGate, IsOtherAt}

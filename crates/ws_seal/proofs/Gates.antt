@@ -1,9 +1,8 @@
 -- The gate of a log that was read, or made.
 use Rattle.std.specs.Prelude.{Result, Ok, Err, IfOk}
-use Rattle.std.proofs.Common.{◌≡◌, ℕ, ◌∙◌, sym, subst, refl, List, [], ◌∷◌, ◌++◌, length, arith}
-use Rattle.base_devices.specs.States.{State}
-use Rattle.ws_roll.specs.Format.{front}
-use Rattle.ws_roll.specs.Rolls.{IsClosed}
+use Rattle.std.proofs.Common.{◌≡◌, ℕ, subst, refl, List, [], ◌∷◌}
+use Rattle.base_roll.specs.Format.{front}
+use Rattle.base_roll.proofs.Gates.{no_closed}
 use Rattle.ws_seal.specs.declared.types.Texts.{Texts}
 use Rattle.ws_seal.specs.declared.types.ReadFault.{ReadFault}
 use Rattle.ws_seal.specs.Seals.{mark, payloads}
@@ -24,9 +23,6 @@ gate_of_log bytes now e (Err f) h = tt
 pub gate_of_tail : (m bytes now : List ℕ) → bytes ≡ now → (r : Result Texts ReadFault) → TailTold m bytes r → IfOk r (λ found. HasGateAt found.gate now)
 gate_of_tail m bytes now e (Ok r) h = subst (HasGateAt r.gate) e (of_read [] m bytes (texts_of r) r.gate r.mark.digits h)
 gate_of_tail m bytes now e (Err f) h = tt
-
-no_closed : ◌≡◌ {A = ℕ} 0 1 → ⊥
-no_closed e = omega arith
 
 pub gate_of_text : (head : List ℕ) (texts : List (List ℕ)) (bytes : List ℕ) (gate : ℕ) (last : List ℕ) → IsLogText head texts bytes gate last → HasGateAt gate bytes
 gate_of_text head texts bytes gate last t = record { before = front (opening head) (payloads (mark [] head) texts); rest = 0 ∷ []; stands = t.bytes_are; place = t.gate_is; closed = (0, [], refl, no_closed) }

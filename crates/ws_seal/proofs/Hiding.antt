@@ -1,7 +1,7 @@
 -- When a record is hidden after a closed gate.
-use Rattle.std.proofs.Common.{◌≡◌, ℕ, ◌<◌, ◌^◌, ap, ◌∙◌, sym, List, [], ◌∷◌, ◌++◌, length, get_or, arith}
-use Rattle.ws_roll.specs.Format.{framed}
-use Rattle.ws_roll.proofs.Frames.{frames_apart}
+use Rattle.std.proofs.Common.{◌≡◌, ℕ, ◌<◌, ◌^◌, ap, ◌∙◌, sym, List, ◌∷◌, ◌++◌, length, get_or, arith}
+use Rattle.base_roll.specs.Format.{framed}
+use Rattle.base_roll.proofs.Frames.{frames_apart}
 use Rattle.ws_seal.specs.Seals.{sealed, HasNoSeal}
 use Rattle.ws_seal.specs.Logs.{IsHiddenAfter}
 

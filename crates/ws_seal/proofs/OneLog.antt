@@ -1,8 +1,8 @@
 -- Bytes are a log in one way at most.
 use Rattle.std.proofs.Common.{◌≡◌, ℕ, ◌<◌, ◌^◌, ap, refl, ◌∙◌, sym, subst, List, [], ◌∷◌, ◌++◌, drop, append_assoc}
-use Rattle.ws_roll.specs.Format.{framed, records}
-use Rattle.ws_roll.specs.Rolls.{IsRoll}
-use Rattle.ws_roll.proofs.Frames.{frames_apart}
+use Rattle.base_roll.specs.Format.{framed, records}
+use Rattle.base_roll.specs.Rolls.{IsRoll}
+use Rattle.base_roll.proofs.Frames.{frames_apart}
 use Rattle.ws_seal.specs.Seals.{mark, sealed, payloads}
 use Rattle.ws_seal.specs.Logs.{HasTexts, IsLog, opening}
 use Rattle.ws_seal.proofs.Sealing.{text_of_sealed, same_texts}

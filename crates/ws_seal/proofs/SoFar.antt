@@ -1,13 +1,13 @@
 -- What has been read of a log's bytes, text by text.
-use Rattle.std.specs.Prelude.{Result, Ok, Err, IfOk, OnOk}
-use Rattle.std.proofs.Common.{◌≡◌, ℕ, zero, suc, ◌+◌, ◌-◌, ◌<◌, ◌≤◌, ◌^◌, ◌⊎◌, inl, inr, ap, refl, ◌∙◌, sym, subst, List, [], ◌∷◌, ◌++◌, length, take, drop, get_or, map, arith, append_assoc, append-nil, length-append, zero-add}
-use Rattle.std.proofs.Math.Seq.{take-append_seam, take-length}
-use Rattle.std.proofs.lemmas.List.{take-append-drop, length-take-le}
-use Rattle.base_devices.specs.States.{State, HasFailed}
-use Rattle.ws_roll.specs.Format.{framed, opened, front}
-use Rattle.ws_roll.specs.Rolls.{BeginsWith, IsBroken, IsClosed, gate_of}
-use Rattle.ws_roll.proofs.Frames.{length_framed}
-use Rattle.ws_roll.proofs.Fronts.{begins_more}
+use Rattle.std.specs.Prelude.{Result, Ok, Err}
+use Rattle.std.proofs.Common.{◌≡◌, ℕ, suc, ◌+◌, ◌-◌, ◌<◌, ◌≤◌, ◌^◌, ◌⊎◌, inl, inr, ap, refl, ◌∙◌, sym, subst, List, [], ◌∷◌, ◌++◌, length, take, drop, arith, append_assoc, append-nil, length-append}
+use Rattle.std.proofs.Math.Seq.{take-append_seam}
+use Rattle.std.proofs.lemmas.List.{take-append-drop}
+use Rattle.base_devices.specs.States.{State}
+use Rattle.base_roll.specs.Format.{framed, opened, front}
+use Rattle.base_roll.specs.Rolls.{BeginsWith, IsBroken, gate_of}
+use Rattle.base_roll.proofs.Frames.{length_framed}
+use Rattle.base_roll.proofs.Fronts.{begins_more}
 use Rattle.ws_seal.specs.declared.types.Texts.{Texts}
 use Rattle.ws_seal.specs.declared.types.Damage.TheVariants.{At, NotAsWritten}
 use Rattle.ws_seal.specs.declared.types.ReadFault.{ReadFault}
@@ -98,18 +98,6 @@ module _ (before m : List ℕ) (earlier texts : List (List ℕ)) (bytes rest las
   at_closed byte gate after e off place (Err (reading.Damaged (At there))) (is, hidden) = breaks there (is ∙ place) (inr (byte, after, e, off, hidden))
   at_closed byte gate after e off place (Err (reading.Damaged (NotAsWritten number))) h = absurd h
   at_closed byte gate after e off place (Err reading.Memory) h = absurd h
-
--- ---- the first byte
-
-pub first_byte : (bytes : List ℕ) → 1 ≤ length bytes → bytes ≡ get_or bytes 0 0 ∷ take (length bytes - 1) (drop 1 bytes)
-first_byte [] l = absurd (omega arith)
-first_byte (x ∷ xs) l =
-    let count : length (x ∷ xs) - 1 ≡ length xs = omega arith in
-    let others : take (length (x ∷ xs) - 1) (drop 1 (x ∷ xs)) ≡ xs = ap (λ k. take k xs) count ∙ take-length xs in
-    λ i. x ∷ sym others i
-
-pub split_byte : (rest : List ℕ) → 1 ≤ length rest → get_or rest 0 0 ≡ 1 → rest ≡ 1 ∷ take (length rest - 1) (drop 1 rest)
-split_byte rest l one = first_byte rest l ∙ ap (λ x. x ∷ take (length rest - 1) (drop 1 rest)) one
 
 -- ---- of the whole
 

@@ -1,8 +1,8 @@
 -- When each answer of an append comes, and what it leaves.
 use Rattle.std.specs.Prelude.{◌≡◌, ℕ, ◌<◌, ◌≤◌, Result, Ok, Err}
 use Rattle.base_devices.specs.States.{State, HasFailed, IsLeft}
-use Rattle.ws_roll.specs.declared.rolls.AppendFault as rolls
-use Rattle.ws_roll.specs.declared.rolls.AppendFault.TheVariants as refused
+use Rattle.base_roll.specs.declared.rolls.AppendFault as rolls
+use Rattle.base_roll.specs.declared.rolls.AppendFault.TheVariants as refused
 use Rattle.ws_seal.specs.declared.logs.AppendFault.{AppendFault}
 use Rattle.ws_seal.specs.declared.logs.AppendFault.TheVariants as appending
 

@@ -1,6 +1,6 @@
 -- A log that was changed on the disk, and what would keep that from being told.
 use Rattle.std.specs.Prelude.{◌≡◌, ℕ, List, [], ◌∷◌, ◌++◌, length}
-use Rattle.ws_roll.specs.Rolls.{gate_of}
+use Rattle.base_roll.specs.Rolls.{gate_of}
 use Rattle.ws_seal.specs.Seals.{mark, payloads}
 
 -- the other bytes have another one at the place

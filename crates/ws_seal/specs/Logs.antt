@@ -1,8 +1,8 @@
 -- Which bytes are a log: the payload of a first text, the head, and a roll of the payloads of the others after it.
 use Rattle.std.specs.Prelude.{◌≡◌, ℕ, ◌<◌, ◌^◌, ◌⊎◌, suc, List, [], ◌∷◌, ◌++◌, length}
 use Rattle.base_devices.specs.States.{State}
-use Rattle.ws_roll.specs.Format.{AreShort, framed, opened, roll_text}
-use Rattle.ws_roll.specs.Rolls.{BeginsWith, IsClosed, IsRoll, IsAt, IsBroken, HasNoRecord, Hold, gate_of}
+use Rattle.base_roll.specs.Format.{AreShort, framed, opened, roll_text}
+use Rattle.base_roll.specs.Rolls.{BeginsWith, IsClosed, IsRoll, IsAt, IsBroken, HasNoRecord, Hold, gate_of}
 use Rattle.ws_seal.specs.Seals.{mark, sealed, payloads, last_mark, HasNoSeal}
 
 -- the bytes have a roll of these texts after the first ones, sealed after the mark

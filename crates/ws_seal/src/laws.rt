@@ -1,13 +1,13 @@
 // Laws of logs, each as the contract of a function that does nothing.
 ghost use Rattle.std.specs.Prelude.{◌≡◌, ◌≤◌, ◌<◌, ◌⊎◌, ◌∷◌, ℕ, List, length};
-ghost use Rattle.ws_roll.specs.Rolls.{gate_of};
-ghost use Rattle.ws_roll.specs.Lives.{AreKept, AreLives, Life};
+ghost use Rattle.base_roll.specs.Rolls.{gate_of};
+ghost use Rattle.base_roll.specs.Lives.{AreKept, AreLives, Life};
 ghost use Rattle.ws_seal.specs.Changes.{Collision, IsLastGate, IsOtherAt};
 ghost use Rattle.ws_seal.specs.Logs.{HasTexts, IsLog, IsLogRead, IsRead, opening};
 ghost use Rattle.ws_seal.specs.Seals.{last_mark, mark, payloads};
 
 use base_devices::Disk;
-use ws_roll::rolls_have_one_reading;
+use base_roll::rolls_have_one_reading;
 
 /// Bytes are a log of one list of texts at most.
 pub fn logs_have_one_reading()

@@ -1,15 +1,15 @@
 // A log in hand, and texts appended to it.
 ghost use Rattle.std.specs.Prelude.{◌≡◌, ◌++◌, ◌∷◌, [], ℕ, List, OnOk};
-ghost use Rattle.ws_roll.specs.Rolls.{IsInHand};
-ghost use Rattle.ws_roll.specs.Histories.{IsAppending};
+ghost use Rattle.base_roll.specs.Rolls.{IsInHand};
+ghost use Rattle.base_roll.specs.Histories.{IsAppending};
 ghost use Rattle.ws_seal.specs.Appends.{AppendTold};
 ghost use Rattle.ws_seal.specs.Logs.{HasTexts, IsHeld};
 
 use crate::seals::{Mark, seal};
 use base_devices::Disk;
+use base_roll::Roll;
 use def_memory::Memory;
 use std::alloc::Global;
-use ws_roll::Roll;
 
 /// A log on a disk: the place of its gate, and the mark of its last text.
 #[derive(Drop)]
@@ -44,18 +44,18 @@ impl From<Memory> for AppendFault {
     }
 }
 
-impl From<ws_roll::AppendFault> for AppendFault {
+impl From<base_roll::AppendFault> for AppendFault {
     ghost use Rattle.std.specs.Prelude.{◌≡◌};
     ghost use Rattle.ws_seal.specs.Appends.{append_fault};
 
     ghost from_gives = { λ refused fault. fault ≡ append_fault refused };
 
-    fn from(refused: ws_roll::AppendFault) -> AppendFault {
+    fn from(refused: base_roll::AppendFault) -> AppendFault {
         match refused {
-            ws_roll::AppendFault::TooLarge(_roll, size) => AppendFault::TooLarge(size),
-            ws_roll::AppendFault::DiskFault => AppendFault::DiskFault,
-            ws_roll::AppendFault::DiskMemory => AppendFault::DiskMemory,
-            ws_roll::AppendFault::Memory(_roll) => AppendFault::Memory,
+            base_roll::AppendFault::TooLarge(_roll, size) => AppendFault::TooLarge(size),
+            base_roll::AppendFault::DiskFault => AppendFault::DiskFault,
+            base_roll::AppendFault::DiskMemory => AppendFault::DiskMemory,
+            base_roll::AppendFault::Memory(_roll) => AppendFault::Memory,
         }
     }
 }
@@ -80,7 +80,7 @@ impl<D: Disk + Drop> Log<D> {
     {
         let (payload, mark) = seal(alloc, &self.mark.digits, text)?;
         let roll = Roll::with_gate_at(self.gate);
-        let next = ws_roll::append(alloc, roll, &mut self.disk, &payload)?;
+        let next = base_roll::append(alloc, roll, &mut self.disk, &payload)?;
         self.gate = next.gate();
         self.mark = mark;
         Ok(())

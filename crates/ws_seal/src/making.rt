@@ -1,13 +1,13 @@
 // The text of a new log.
 ghost use Rattle.std.specs.Prelude.{◌≡◌, ◌++◌, ◌<◌, ◌^◌, ◌∷◌, [], length, map, IfOk, OnOk};
-ghost use Rattle.ws_roll.specs.Format.{AreShort, framed, opened, records, roll_text};
+ghost use Rattle.base_roll.specs.Format.{AreShort, framed, opened, records, roll_text};
 ghost use Rattle.ws_seal.specs.Logs.{HasGateAt, IsLogText, opening};
 ghost use Rattle.ws_seal.specs.Seals.{last_mark, mark, payloads, sealed};
 
 use crate::seals::{Mark, seal};
+use base_roll::{PAYLOAD_LIMIT, push_frame, push_record};
 use def_memory::Memory;
 use std::alloc::{AllocFailed, Global};
-use ws_roll::{PAYLOAD_LIMIT, push_frame, push_record};
 
 /// Why the text of a log was not made.
 #[derive(Clone, Copy, Debug, PartialEq, Eq)]

@@ -1,16 +1,16 @@
 // A log is read, from its head on or after a mark.
 ghost use Rattle.std.specs.Prelude.{◌≡◌, ◌≤◌, ◌++◌, ◌∷◌, [], length, take, map, true, false, IfOk, OnOk};
 ghost use Rattle.base_devices.specs.States.{IsSettled};
-ghost use Rattle.ws_roll.specs.Histories.{IsReading};
+ghost use Rattle.base_roll.specs.Histories.{IsReading};
 ghost use Rattle.ws_seal.specs.Answers.{AfterTold, DiskTold, GateTold, LogTold, TailTold};
 ghost use Rattle.ws_seal.specs.Logs.{HasGateAt, IsHiddenAfter};
 
 use crate::seals::{Mark, unseal};
 use crate::types::{Damage, ReadFault, Texts};
 use base_devices::Disk;
+use base_roll::{load_synced, split_frame};
 use def_memory::Memory;
 use std::alloc::Global;
-use ws_roll::{load_synced, split_frame};
 
 /// Reads the log that the disk has, from its head on. It writes nothing. At `Ok` the log is in hand and nothing is pending.
 pub fn read_log<D: Disk>(alloc: Global, disk: &mut D) -> Result<Texts, ReadFault>

@@ -1,7 +1,7 @@
 // What is replied as done lasts.
 ghost use Rattle.std.specs.Prelude.{◌≡◌, ◌⊎◌, ◌++◌, ◌∷◌, [], ℕ, List, OnOk};
 ghost use Rattle.std.specs.Io.KnownBytes.{Appends};
-ghost use Rattle.ws_roll.specs.Rolls.{IsInHand};
+ghost use Rattle.base_roll.specs.Rolls.{IsInHand};
 ghost use Rattle.ws_seal.specs.Logs.{IsHeld};
 
 use crate::logs::{AppendFault, Log};

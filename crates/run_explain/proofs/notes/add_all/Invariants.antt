@@ -1,5 +1,5 @@
 use Rattle.std.proofs.Common.{◌≡◌, ◌++◌, map}
-use Rattle.run_explain.specs.NoteMeanings.{note_of}
+use Rattle.run_note.specs.Meanings.{note_of}
 use Rattle.run_explain.proofs.notes.add_all.Given as goal
 
 -- Those so far were added.

@@ -1,6 +1,6 @@
 use Rattle.std.proofs.Common.{◌≡◌, map, drop}
 use Rattle.base_types.specs.Meanings.{fact_of}
-use Rattle.run_explain.specs.NoteMeanings.{rewriting_of}
+use Rattle.run_note.specs.Meanings.{rewriting_of}
 use Rattle.def_provenance.specs.Reasons.{source}
 use Rattle.run_explain.proofs.rewriting.source.Given as goal
 

@@ -12,7 +12,7 @@ use Rattle.def_provenance.specs.Courses.{is_done_with}
 use Rattle.def_provenance.specs.Notes.{Noted}
 use Rattle.run_serial.specs.Runs.{behind}
 use Rattle.run_serial.proofs.Onward.{goes_on, stops_here}
-use Rattle.run_explain.specs.NoteMeanings.{note_of}
+use Rattle.run_note.specs.Meanings.{note_of}
 use Rattle.run_explain.specs.Turns.{noted_from}
 use Rattle.run_explain.proofs.Turning.{noted_on, noted_stop}
 use Rattle.run_explain.proofs.runs.close.Goals as goal

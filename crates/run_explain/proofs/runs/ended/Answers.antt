@@ -1,6 +1,6 @@
 use Rattle.std.specs.Prelude.{if◌then◌else◌}
 use Rattle.std.proofs.Common.{◌∙◌, ◌++◌, ap, map, []}
-use Rattle.run_explain.specs.NoteMeanings.{note_of}
+use Rattle.run_note.specs.Meanings.{note_of}
 use Rattle.run_explain.proofs.runs.ended.Goals as goal
 
 pub returns-clause-noted : goal.returns-clause-noted

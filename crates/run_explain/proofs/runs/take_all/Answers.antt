@@ -7,7 +7,7 @@ use Rattle.lang_session.specs.declared.sessions.SessionUpdate.{SessionUpdate}
 use Rattle.lang_session.specs.Meanings.{request_of, update_of}
 use Rattle.run_serial.specs.Runs.{behind, told_from}
 use Rattle.run_serial.proofs.Onward.{ends_here}
-use Rattle.run_explain.specs.NoteMeanings.{note_of}
+use Rattle.run_note.specs.Meanings.{note_of}
 use Rattle.run_explain.specs.Turns.{noted_from}
 use Rattle.run_explain.proofs.Turning.{noted_end}
 use Rattle.run_explain.proofs.runs.take_all.Goals as goal

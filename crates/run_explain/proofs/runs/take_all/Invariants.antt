@@ -3,7 +3,7 @@ use Rattle.def_chase.specs.Repository.{IsRepository}
 use Rattle.chase_update.specs.Results.{finish_of}
 use Rattle.lang_session.specs.Meanings.{request_of, update_of}
 use Rattle.run_serial.specs.Runs.{behind, told_from}
-use Rattle.run_explain.specs.NoteMeanings.{note_of}
+use Rattle.run_note.specs.Meanings.{note_of}
 use Rattle.run_explain.specs.Turns.{noted_from}
 use Rattle.run_explain.proofs.runs.take_all.Given as goal
 

@@ -5,7 +5,7 @@ use Rattle.def_chase.specs.Values.{Fact}
 use Rattle.def_chase.specs.Repository.{Insert, IsRepository, apply, has}
 use Rattle.def_chase.proofs.Sets.{apply_in_order, filter_in_order}
 use Rattle.def_provenance.specs.Notes.{reason_by}
-use Rattle.run_explain.specs.NoteMeanings.{note_of}
+use Rattle.run_note.specs.Meanings.{note_of}
 use Rattle.run_explain.specs.ReasonMeanings.{reason_of}
 use Rattle.run_explain.proofs.ReasonsTold.{resting, sought_step, told_step}
 use Rattle.run_explain.proofs.telling.tell.Goals as goal

@@ -2,7 +2,7 @@ use Rattle.std.proofs.Common.{◌≡◌, ◌++◌, map, filter, not}
 use Rattle.base_types.specs.Meanings.{fact_of}
 use Rattle.def_chase.specs.Repository.{Insert, apply, has}
 use Rattle.def_provenance.specs.Notes.{reason_by}
-use Rattle.run_explain.specs.NoteMeanings.{note_of}
+use Rattle.run_note.specs.Meanings.{note_of}
 use Rattle.run_explain.specs.ReasonMeanings.{reason_of}
 use Rattle.run_explain.proofs.ReasonsTold.{resting}
 use Rattle.run_explain.proofs.telling.tell.Given as goal

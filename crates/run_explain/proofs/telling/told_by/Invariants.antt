@@ -2,7 +2,7 @@ use Rattle.std.proofs.Common.{◌≡◌, ◌++◌, ◌∷◌, [], length, map, r
 use Rattle.base_types.specs.Meanings.{fact_of}
 use Rattle.def_chase.specs.Repository.{IsRepository}
 use Rattle.def_provenance.specs.Notes.{told_by}
-use Rattle.run_explain.specs.NoteMeanings.{note_of}
+use Rattle.run_note.specs.Meanings.{note_of}
 use Rattle.run_explain.specs.ReasonMeanings.{reason_of}
 use Rattle.run_explain.proofs.telling.told_by.Given as goal
 

@@ -8,10 +8,11 @@ use Rattle.std.specs.Option.{option_map, option_copied}
 use Rattle.base_types.specs.Meanings.{choice_of}
 use Rattle.chase_update.specs.Results.{lack_of}
 use Rattle.def_provenance.specs.Notes.{Noted, noted}
-use Rattle.run_serial.specs.Turns.{rest_from, stepped}
+use Rattle.run_step.specs.Turns.{stepped}
+use Rattle.run_serial.specs.Rests.{rest_from}
 use Rattle.run_serial.proofs.Running.{stays_on, rests_there}
-use Rattle.run_explain.specs.NoteMeanings.{note_of}
-use Rattle.run_explain.specs.Steps.{step_of}
+use Rattle.run_note.specs.Meanings.{note_of}
+use Rattle.run_note.specs.Steps.{step_of}
 use Rattle.run_explain.specs.Turns.{left_from}
 use Rattle.run_explain.proofs.Noting.{notes_on, notes_rest}
 use Rattle.run_explain.proofs.wholes.go_on.Goals as goal

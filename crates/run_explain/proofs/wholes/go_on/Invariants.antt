@@ -2,8 +2,8 @@ use Rattle.std.proofs.Common.{◌≡◌, ◌-◌, ◌<◌, ◌++◌, false, None
 use Rattle.base_types.specs.Meanings.{choice_of}
 use Rattle.def_chase.specs.Updates.{direction_of}
 use Rattle.def_steps.specs.Attempts.{outcome_in}
-use Rattle.run_serial.specs.Turns.{rest_from}
-use Rattle.run_explain.specs.NoteMeanings.{note_of}
+use Rattle.run_serial.specs.Rests.{rest_from}
+use Rattle.run_note.specs.Meanings.{note_of}
 use Rattle.run_explain.specs.Turns.{left_from}
 use Rattle.run_explain.proofs.wholes.go_on.Given as goal
 

@@ -1,6 +1,7 @@
 use Rattle.std.proofs.Common.{refl, inl, inr, arith}
 use Rattle.lang_session.specs.Meanings.{session_of}
-use Rattle.run_journal.proofs.Heads.{some_of, none_of, nothing, split_byte, next_of, no_next}
+use Rattle.base_roll.proofs.Gates.{split_byte}
+use Rattle.run_journal.proofs.Heads.{some_of, none_of, nothing, next_of, no_next}
 use Rattle.run_journal.proofs.SoFar.{read_more, breaks, no_commit_breaks, too_many_breaks}
 use Rattle.run_journal.proofs.reading.read_commits.Goals as goal
 

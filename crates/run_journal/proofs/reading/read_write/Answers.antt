@@ -1,6 +1,7 @@
 use Rattle.std.proofs.Common.{◌∙◌, sym}
 use Rattle.base_types.specs.Meanings.{fact_of}
-use Rattle.run_journal.proofs.Heads.{first_byte, none_of, signed_some, some_of}
+use Rattle.base_roll.proofs.Gates.{first_byte}
+use Rattle.run_journal.proofs.Heads.{none_of, signed_some, some_of}
 use Rattle.run_journal.proofs.WriteLines.{no_tuple_behind}
 use Rattle.run_journal.proofs.reading.read_write.Goals as goal
 

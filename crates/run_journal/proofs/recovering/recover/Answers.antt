@@ -1,5 +1,5 @@
 use Rattle.std.proofs.Common.{◌∙◌}
-use Rattle.run_journal.proofs.Onwards.{on_ok}
+use Rattle.base_roll.proofs.Onwards.{on_ok}
 use Rattle.run_journal.proofs.Openings.{told_of_disk}
 use Rattle.run_journal.proofs.recovering.recover.Goals as goal
 

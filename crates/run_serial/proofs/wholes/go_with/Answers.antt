@@ -6,7 +6,8 @@ use Rattle.chase_eval.specs.Watched.{Watched}
 use Rattle.std.specs.Option.{option_map, option_copied}
 use Rattle.base_types.specs.Meanings.{choice_of}
 use Rattle.chase_update.specs.Results.{lack_of}
-use Rattle.run_serial.specs.Turns.{rest_from, stepped}
+use Rattle.run_step.specs.Turns.{stepped}
+use Rattle.run_serial.specs.Rests.{rest_from}
 use Rattle.run_serial.proofs.Running.{stays_on, rests_there}
 use Rattle.run_serial.proofs.wholes.go_with.Goals as goal
 

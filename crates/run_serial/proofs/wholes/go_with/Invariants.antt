@@ -1,7 +1,8 @@
 use Rattle.std.proofs.Common.{◌≡◌, ◌-◌, ◌<◌, false, None, is_some, map}
 use Rattle.base_types.specs.Meanings.{choice_of}
 use Rattle.def_steps.specs.Attempts.{outcome_in}
-use Rattle.run_serial.specs.Turns.{rest_from, view_of}
+use Rattle.run_step.specs.Turns.{view_of}
+use Rattle.run_serial.specs.Rests.{rest_from}
 use Rattle.run_serial.proofs.wholes.go_with.Given as goal
 
 -- Between two steps; the view is of these mappings, in the update's direction, and sees the own writes; from where the attempt comes to the same rest; some steps are left unless it has ended.

@@ -1,4 +1,4 @@
-use Rattle.ws_roll.proofs.Processes.{over_lives}
+use Rattle.base_roll.proofs.Processes.{over_lives}
 use Rattle.ws_seal.specs.Logs.{HasTexts}
 use Rattle.ws_seal.proofs.OneLog.{one_list}
 use Rattle.ws_seal.proofs.laws.processes_keep_what_is_acknowledged.Goals as goal

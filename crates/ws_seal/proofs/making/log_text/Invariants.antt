@@ -1,5 +1,5 @@
 use Rattle.std.proofs.Common.{◌≡◌, ◌++◌, [], length, map}
-use Rattle.ws_roll.specs.Format.{AreShort, records}
+use Rattle.base_roll.specs.Format.{AreShort, records}
 use Rattle.ws_seal.specs.Logs.{opening}
 use Rattle.ws_seal.specs.Seals.{last_mark, mark, payloads}
 use Rattle.ws_seal.proofs.making.log_text.Given as goal

@@ -1,5 +1,5 @@
 use Rattle.std.proofs.Common.{◌∙◌, sym}
-use Rattle.ws_roll.proofs.Onwards.{on_ok}
+use Rattle.base_roll.proofs.Onwards.{on_ok}
 use Rattle.ws_seal.specs.Answers.{LogTold}
 use Rattle.ws_seal.proofs.Gates.{gate_of_log}
 use Rattle.ws_seal.proofs.SoFar.{told_of_disk}

@@ -1,6 +1,7 @@
 use Rattle.std.proofs.Common.{◌≡◌, length, rules, ◌∙◌, sym, refl, arith}
 use Rattle.std.proofs.lemmas.List.{length-map}
-use Rattle.ws_seal.proofs.SoFar.{at_closed, first_byte, forged, more_read, split_byte}
+use Rattle.base_roll.proofs.Gates.{first_byte, split_byte}
+use Rattle.ws_seal.proofs.SoFar.{at_closed, forged, more_read}
 use Rattle.ws_seal.proofs.reading.texts_after.Goals as goal
 
 pub returns-then-byte-ne1 : goal.returns-then-byte-ne1

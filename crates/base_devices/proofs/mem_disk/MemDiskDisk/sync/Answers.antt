@@ -1,25 +1,27 @@
-use Rattle.base_devices.specs.Logs.{Sync}
 use Rattle.base_devices.specs.States.{IsLeft}
-use Rattle.base_devices.specs.InMemory.{state_of}
+use Rattle.base_devices.specs.Logs.{Sync}
 use Rattle.base_devices.proofs.Moments.{settled, time, images, cause, still, still_sync, read_now, now_left, sync_left}
+use Rattle.base_devices.specs.InMemory.{state_of, trace_of}
+use Rattle.base_devices.proofs.Counting.{made, as_reliable, failing}
 use Rattle.base_devices.proofs.mem_disk.MemDiskDisk.sync.Goals as goal
 
 pub returns-clause-same : goal.returns-clause-same
-returns-clause-same c = still Sync c.args.self.now c.make_sync.new.self c.make_sync.ensures.made_of still_sync c.make_sync.result c.make_sync.ensures.counted
+returns-clause-same c = still Sync (trace_of c.args.self.now) (trace_of c.make_sync.new.self) still_sync c.make_sync.result (made Sync c.args.self.now c.make_sync.new.self c.make_sync.ensures.made_of c.make_sync.result c.make_sync.ensures.counted)
 
 pub returns-clause-time : goal.returns-clause-time
-returns-clause-time c = time Sync c.args.self.now c.make_sync.new.self c.make_sync.ensures.made_of c.make_sync.result c.make_sync.ensures.counted
+returns-clause-time c = time _ _ _ _ Sync (trace_of c.args.self.now) (trace_of c.make_sync.new.self) c.make_sync.result (made Sync c.args.self.now c.make_sync.new.self c.make_sync.ensures.made_of c.make_sync.result c.make_sync.ensures.counted)
 
 pub returns-clause-images : goal.returns-clause-images
 returns-clause-images c =
-    images Sync c.args.self.now c.make_sync.new.self c.make_sync.ensures.made_of (IsLeft (state_of c.args.self.now)) (now_left c.args.self.now) (sync_left c.args.self.now)
-    c.make_sync.result c.make_sync.ensures.counted
+    images Sync (trace_of c.args.self.now) (trace_of c.make_sync.new.self) (IsLeft (state_of c.args.self.now)) (now_left (trace_of c.args.self.now)) (sync_left (trace_of c.args.self.now)) c.make_sync.result (made Sync c.args.self.now c.make_sync.new.self c.make_sync.ensures.made_of c.make_sync.result c.make_sync.ensures.counted)
 
 pub returns-clause-read : goal.returns-clause-read
-returns-clause-read c = read_now c.make_sync.new.self
+returns-clause-read c = read_now (trace_of c.make_sync.new.self)
 
 pub returns-clause-cause : goal.returns-clause-cause
-returns-clause-cause c = cause Sync c.args.self.now c.make_sync.new.self c.make_sync.ensures.made_of c.make_sync.ensures.later c.make_sync.result c.make_sync.ensures.counted
+returns-clause-cause c =
+    cause _ _ _ _ Sync (trace_of c.args.self.now) (trace_of c.make_sync.new.self) c.make_sync.ensures.later (as_reliable Sync c.args.self.now c.make_sync.new.self c.make_sync.result c.make_sync.ensures.counted) c.make_sync.result
+    (failing Sync c.args.self.now c.make_sync.new.self c.make_sync.result c.make_sync.ensures.counted) (made Sync c.args.self.now c.make_sync.new.self c.make_sync.ensures.made_of c.make_sync.result c.make_sync.ensures.counted)
 
 pub returns-clause-settled : goal.returns-clause-settled
-returns-clause-settled c = settled c.args.self.now c.make_sync.new.self c.make_sync.ensures.made_of c.make_sync.result c.make_sync.ensures.counted
+returns-clause-settled c = settled (trace_of c.args.self.now) (trace_of c.make_sync.new.self) c.make_sync.result (made Sync c.args.self.now c.make_sync.new.self c.make_sync.ensures.made_of c.make_sync.result c.make_sync.ensures.counted)

@@ -1,6 +1,6 @@
 use Rattle.std.proofs.Common.{refl, sym, ◌∙◌}
 use Rattle.base_devices.specs.Logs.{Load}
-use Rattle.ws_file.proofs.Moments.{still, still_load}
+use Rattle.base_devices.proofs.Moments.{still, still_load}
 use Rattle.ws_file.specs.Files.{FileState, trace_of}
 use Rattle.ws_file.proofs.Counting.{made}
 use Rattle.ws_file.proofs.file_disk.FileDisk.make_load.Goals as goal

@@ -1,6 +1,6 @@
 use Rattle.std.proofs.Common.{refl, sym, ◌∙◌}
 use Rattle.base_devices.specs.Logs.{Sync}
-use Rattle.ws_file.proofs.Moments.{still, still_sync}
+use Rattle.base_devices.proofs.Moments.{still, still_sync}
 use Rattle.ws_file.specs.Files.{FileState, trace_of}
 use Rattle.ws_file.proofs.Counting.{made}
 use Rattle.ws_file.proofs.file_disk.FileDisk.make_sync.Goals as goal

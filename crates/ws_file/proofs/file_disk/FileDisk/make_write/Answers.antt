@@ -1,7 +1,7 @@
 use Rattle.std.proofs.Common.{◌≡◌, refl, sym, ap, ◌∙◌, rules}
 use Rattle.base_devices.specs.Torn.{written}
 use Rattle.base_devices.specs.Logs.{Write}
-use Rattle.ws_file.proofs.Moments.{failed_bytes, made_bytes}
+use Rattle.base_devices.proofs.Moments.{failed_bytes, made_bytes}
 use Rattle.ws_file.specs.Files.{FileState, bytes_of, trace_of}
 use Rattle.ws_file.proofs.Counting.{made}
 use Rattle.ws_file.proofs.file_disk.FileDisk.make_write.Goals as goal

@@ -1,6 +1,6 @@
 use Rattle.base_devices.specs.States.{IsLeft}
 use Rattle.base_devices.specs.Logs.{Load}
-use Rattle.ws_file.proofs.Moments.{time, images, cause, still, still_load, read_now, now_left, load_left}
+use Rattle.base_devices.proofs.Moments.{time, images, cause, still, still_load, read_now, now_left, load_left}
 use Rattle.std.proofs.Common.{refl}
 use Rattle.ws_file.specs.Files.{state_of, trace_of}
 use Rattle.ws_file.proofs.Counting.{made, failing}

@@ -1,6 +1,6 @@
 use Rattle.base_devices.specs.States.{IsLeft}
 use Rattle.base_devices.specs.Logs.{Sync}
-use Rattle.ws_file.proofs.Moments.{settled, time, images, cause, still, still_sync, read_now, now_left, sync_left}
+use Rattle.base_devices.proofs.Moments.{settled, time, images, cause, still, still_sync, read_now, now_left, sync_left}
 use Rattle.std.proofs.Common.{refl}
 use Rattle.ws_file.specs.Files.{state_of, trace_of}
 use Rattle.ws_file.proofs.Counting.{made, failing}

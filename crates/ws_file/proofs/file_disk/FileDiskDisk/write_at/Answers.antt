@@ -1,7 +1,7 @@
 use Rattle.base_devices.specs.States.{IsLeftTorn}
 use Rattle.base_devices.specs.Torn.{range_of}
 use Rattle.base_devices.specs.Logs.{Write}
-use Rattle.ws_file.proofs.Moments.{time, images, cause, wrote, read_now, unwritten_left, write_left}
+use Rattle.base_devices.proofs.Moments.{time, images, cause, wrote, read_now, unwritten_left, write_left}
 use Rattle.std.proofs.Common.{refl}
 use Rattle.ws_file.specs.Files.{state_of, trace_of}
 use Rattle.ws_file.proofs.Counting.{made, failing}

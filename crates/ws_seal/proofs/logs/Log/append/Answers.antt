@@ -1,6 +1,6 @@
 use Rattle.std.proofs.Common.{◌≡◌, ◌++◌, ◌∷◌, [], ◌∙◌, sym, subst}
 use Rattle.base_devices.specs.States.{State}
-use Rattle.ws_roll.specs.Rolls.{IsAt}
+use Rattle.base_roll.specs.Rolls.{IsAt}
 use Rattle.ws_seal.specs.Seals.{payloads, sealed}
 use Rattle.ws_seal.proofs.Appending.{appending, appended}
 use Rattle.ws_seal.proofs.logs.Log.append.Goals as goal

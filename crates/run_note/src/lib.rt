@@ -1,0 +1,10 @@
+//! What a step of an update did: the step made, and its note.
+#![tactic(auto)]
+
+mod made;
+mod notes;
+mod ways;
+mod writes;
+
+pub use crate::made::noted;
+pub use crate::notes::{Note, Rewriting, Way};

@@ -1,0 +1,29 @@
+//! What is noted of a step.
+
+use base_types::{Sub, TupleList, Value};
+
+/// A substitution: of one value for another, or of a unifier.
+#[derive(Drop)]
+pub enum Rewriting {
+    Replaces { from: Value, to: Value },
+    Unifies(Sub),
+}
+
+/// How a step comes to the tuples that it puts: as they were handed in; as right sides of the mapping of this number,
+/// for this image of the left side; or by a substitution in others. A step that puts none is said to go the first way.
+#[derive(Drop)]
+pub enum Way {
+    Inserts,
+    Generates { mapping: u16, image: TupleList },
+    Rewrites(Rewriting),
+}
+
+/// A step by its update and its number there, its way, the tuples that it deleted, and those that it put.
+#[derive(Drop)]
+pub struct Note {
+    pub update: u32,
+    pub step: u32,
+    pub way: Way,
+    pub deleted: TupleList,
+    pub puts: TupleList,
+}

@@ -1,0 +1,201 @@
+//! From what was said to the choice that fits a question.
+
+use base_types::{Tuple, TupleList};
+use def_memory::Memory;
+use std::alloc::Global;
+use std::collections::BTreeSet;
+use ws_command::SaidChoice;
+use ws_done::refuse;
+use ws_fault::{Nearest, Refusal, meant};
+use ws_lines::Asked;
+use ws_question::{AskedNow, count_text, fact_text};
+use ws_space::Space;
+use ws_written::{Answer, Choice, Fact, Question};
+
+/// The choice for a question; None to try again. It is refused if it names what is no candidate, or is for the other kind of
+/// question.
+pub(crate) fn choose(
+    alloc: Global,
+    space: &Space,
+    asked: &AskedNow,
+    said: &SaidChoice,
+) -> Result<Option<Choice>, Refusal> {
+    let chosen = match said {
+        SaidChoice::Go => return Ok(None),
+        SaidChoice::New => return Ok(Some(expanded(alloc, asked)?)),
+        SaidChoice::Numbers(numbers) => numbered(alloc, asked, numbers.as_slice())?,
+        SaidChoice::Facts(facts) => named(alloc, space, asked, facts.as_slice())?,
+        SaidChoice::Delete(facts) => {
+            let chosen = named(alloc, space, asked, facts.as_slice())?;
+            if asked.question.is_positive {
+                return refuse_which(alloc, asked);
+            }
+            chosen
+        }
+        SaidChoice::Unify(fact) => {
+            let chosen = named(alloc, space, asked, std::slice::from_ref(fact))?;
+            if !asked.question.is_positive {
+                return refuse_what(alloc, asked);
+            }
+            chosen
+        }
+    };
+    Ok(Some(taken(alloc, space, asked, chosen.as_slice())?))
+}
+
+// That the question asks which one it is.
+fn refuse_which<T: Drop>(alloc: Global, asked: &AskedNow) -> Result<T, Refusal> {
+    let number = asked.number;
+    let words = format!(in alloc;
+        "update {number} asks which one it is: answer with one candidate, or new"
+    )?;
+    refuse(alloc, words.as_str(), "")
+}
+
+// That the question asks what goes.
+fn refuse_what<T: Drop>(alloc: Global, asked: &AskedNow) -> Result<T, Refusal> {
+    let number = asked.number;
+    let words = format!(in alloc;
+        "update {number} asks what goes: answer with one candidate or more"
+    )?;
+    refuse(alloc, words.as_str(), "")
+}
+
+fn expanded(alloc: Global, asked: &AskedNow) -> Result<Choice, Refusal> {
+    if !asked.question.is_positive {
+        return refuse_what(alloc, asked);
+    }
+    Ok(Choice::Expand)
+}
+
+// The candidates of these numbers.
+fn numbered(alloc: Global, asked: &AskedNow, numbers: &[u32]) -> Result<Vec<Tuple>, Refusal> {
+    let mut chosen = Vec::new(alloc);
+    for number in numbers {
+        match asked.candidate(*number as usize) {
+            Some(candidate) => chosen.push(candidate.share()?)?,
+            None => return refuse_number(alloc, asked, *number),
+        }
+    }
+    Ok(chosen)
+}
+
+fn refuse_number(alloc: Global, asked: &AskedNow, number: u32) -> Result<Vec<Tuple>, Refusal> {
+    let update = asked.number;
+    let count = count_text(alloc, asked.count(), "candidate")?;
+    let words = format!(in alloc; "update {update} has {count}, not {number}")?;
+    let hint = format!(in alloc; "questions {update}")?;
+    refuse(alloc, words.as_str(), hint.as_str())
+}
+
+// The candidates that these tuples are.
+fn named(
+    alloc: Global,
+    space: &Space,
+    asked: &AskedNow,
+    facts: &[Fact],
+) -> Result<Vec<Tuple>, Refusal> {
+    let mut candidates: BTreeSet<Tuple> = BTreeSet::new(alloc);
+    for candidate in asked.question.candidates.as_slice() {
+        candidates.insert(candidate.share()?)?;
+    }
+    let mut chosen = Vec::new(alloc);
+    for fact in facts {
+        let tuple = space.tuple(alloc, fact)?;
+        if !candidates.contains(&tuple) {
+            return refuse_named(alloc, space, asked, &tuple);
+        }
+        chosen.push(tuple)?;
+    }
+    Ok(chosen)
+}
+
+fn refuse_named(
+    alloc: Global,
+    space: &Space,
+    asked: &AskedNow,
+    tuple: &Tuple,
+) -> Result<Vec<Tuple>, Refusal> {
+    let number = asked.number;
+    let text = fact_text(alloc, space, tuple)?;
+    let words = format!(in alloc; "{text} is no candidate of {number}")?;
+    let hint = match nearest_of(alloc, space, asked, text.as_str())? {
+        Some(near) => meant(alloc, near.as_str())?,
+        None => format!(in alloc; "questions {number} has them")?,
+    };
+    refuse(alloc, words.as_str(), hint.as_str())
+}
+
+// The candidate that is spelled most like the text, if one is near.
+fn nearest_of(
+    alloc: Global,
+    space: &Space,
+    asked: &AskedNow,
+    text: &str,
+) -> Result<Option<String>, Memory> {
+    let mut texts = Vec::new(alloc);
+    for candidate in asked.question.candidates.as_slice() {
+        texts.push(fact_text(alloc, space, candidate)?)?;
+    }
+    let mut nearest = Nearest::to(alloc, text)?;
+    for candidate in texts.iter() {
+        nearest.consider(candidate.as_str())?;
+    }
+    match nearest.name() {
+        Some(name) => Ok(Some(String::from_str(alloc, name)?)),
+        None => Ok(None),
+    }
+}
+
+// The choice of these candidates.
+fn taken(
+    alloc: Global,
+    space: &Space,
+    asked: &AskedNow,
+    chosen: &[Tuple],
+) -> Result<Choice, Refusal> {
+    if !asked.question.is_positive {
+        return Ok(Choice::Delete(each_once(alloc, space, chosen)?));
+    }
+    match chosen {
+        [one] => Ok(Choice::Unify(space.fact(alloc, one)?)),
+        _ => refuse_which(alloc, asked),
+    }
+}
+
+// The tuples in order, each once.
+fn each_once(alloc: Global, space: &Space, tuples: &[Tuple]) -> Result<Vec<Fact>, Refusal> {
+    let mut rising: BTreeSet<Tuple> = BTreeSet::new(alloc);
+    for tuple in tuples {
+        rising.insert(tuple.share()?)?;
+    }
+    let mut facts = Vec::new(alloc);
+    for tuple in &rising {
+        facts.push(space.fact(alloc, tuple)?)?;
+    }
+    Ok(facts)
+}
+
+fn facts_of(alloc: Global, space: &Space, tuples: &TupleList) -> Result<Vec<Fact>, Memory> {
+    let mut facts = Vec::new(alloc);
+    for tuple in tuples.as_slice() {
+        facts.push(space.fact(alloc, tuple)?)?;
+    }
+    Ok(facts)
+}
+
+/// The answer that gives the choice to the question. It is refused only for want of memory.
+pub(crate) fn answer_to(
+    alloc: Global,
+    space: &Space,
+    asked: &Asked,
+    choice: Choice,
+) -> Result<Answer, Memory> {
+    Ok(Answer {
+        choice,
+        question: Question {
+            mapping: space.source_name(alloc, asked.source)?,
+            facts: facts_of(alloc, space, &asked.tuples)?,
+        },
+    })
+}

@@ -1,0 +1,135 @@
+//! Answers that are given.
+
+use crate::records::steps_of;
+use def_memory::Memory;
+use std::alloc::Global;
+use ws_done::{Done, recorded, refuse};
+use ws_fault::{Refusal, Status};
+use ws_lines::Deed;
+use ws_question::{AskedNow, asked_now, count_text, question_next, reason_words};
+use ws_report::{Report, spent_fault};
+use ws_run::Reason;
+use ws_space::Space;
+use ws_state::{Mark, Told};
+use ws_written::Line;
+
+/// An answer that is given: its line, and what is told of it.
+#[derive(Drop)]
+pub(crate) struct Given {
+    pub line: Line,
+    pub text: String,
+}
+
+/// What else is told of an answer: of a repair what is left of the violations, and what may be said next.
+#[derive(Drop)]
+struct Left {
+    also: Vec<String>,
+    next: Vec<String>,
+}
+
+/// Gives an answer to an update that waits. It is refused if the steps do not suffice, or if something else is in its way.
+pub(crate) fn give(
+    alloc: Global,
+    space: &mut Space,
+    number: u32,
+    given: Given,
+) -> Result<Done, Refusal> {
+    let Given { line, text } = given;
+    let report = taken(alloc, space, number, &line, text);
+    recorded(alloc, report, line)
+}
+
+fn taken(
+    alloc: Global,
+    space: &mut Space,
+    number: u32,
+    line: &Line,
+    text: String,
+) -> Result<Report, Refusal> {
+    let mark = space.state.mark();
+    let Told { reason, .. } = space.take(alloc, line)?;
+    match reason {
+        None => done(alloc, space, number, text, mark),
+        Some(Reason::Asks(question)) => {
+            let asked = asked_now(alloc, space, number, question)?;
+            asking(alloc, Status::Waits, "waits", text, asked)
+        }
+        Some(Reason::TooLong(made)) => {
+            let steps = steps_of(space, number);
+            Err(spent_fault(alloc, space, steps, &made)?)
+        }
+        Some(other) => cannot(alloc, space, number, &other),
+    }
+}
+
+fn done(
+    alloc: Global,
+    space: &Space,
+    number: u32,
+    text: String,
+    mark: Mark,
+) -> Result<Report, Refusal> {
+    let Left { also, next } = left_of(alloc, space, number)?;
+    let effect = space.state.effect_since(alloc, mark)?;
+    let mut report = Report::with_effect(alloc, Status::Done, "done", text, effect);
+    report.number = Some(number);
+    report.also = also;
+    report.next = next;
+    Ok(report)
+}
+
+/// What is told of an update that asks. It is refused only for want of memory.
+pub(crate) fn asking(
+    alloc: Global,
+    status: Status,
+    did: &'static str,
+    text: String,
+    asked: AskedNow,
+) -> Result<Report, Refusal> {
+    match question_next(alloc, &asked) {
+        Ok(next) => {
+            let mut report = Report::asking(alloc, status, did, text, asked);
+            report.next = next;
+            Ok(report)
+        }
+        Err(_) => {
+            drop(asked);
+            Err(Refusal::Memory)
+        }
+    }
+}
+
+// Something else than a question is in its way.
+fn cannot(alloc: Global, space: &Space, number: u32, reason: &Reason) -> Result<Report, Refusal> {
+    let reason = reason_words(alloc, space, Some(reason))?;
+    let words = format!(in alloc; "update {number} cannot go on: {reason}")?;
+    let hint = format!(in alloc; "undo {number}")?;
+    refuse(alloc, words.as_str(), hint.as_str())
+}
+
+// After a repair, how many violations are left of its mapping.
+fn left_of(alloc: Global, space: &Space, number: u32) -> Result<Left, Memory> {
+    let mut also = Vec::new(alloc);
+    let mut next = Vec::new(alloc);
+    if let Some(mapping) = fixed_by(space, number) {
+        let name = space.mapping_name(mapping);
+        let left = space.count_violations(alloc, mapping)?;
+        if left == 0 {
+            also.push(format!(in alloc; "{name} has no violation now")?)?;
+            next.push(format!(in alloc; "adopt {name}")?)?;
+        } else {
+            let left = count_text(alloc, left, "violation")?;
+            also.push(format!(in alloc; "{left} of {name} left")?)?;
+            next.push(String::from_str(alloc, "questions")?)?;
+        }
+    }
+    Ok(Left { also, next })
+}
+
+// The mapping that the update repairs, if it is a repair.
+fn fixed_by(space: &Space, number: u32) -> Option<u16> {
+    match &space.state.update(number)?.deed {
+        Deed::Fix(mapping, _) => Some(*mapping),
+        _ => None,
+    }
+}

@@ -1,0 +1,82 @@
+//! What is known of updates by their numbers.
+
+use def_memory::Memory;
+use std::alloc::Global;
+use std::collections::BTreeSet;
+use ws_space::Space;
+
+// The number of the update that is held at this place.
+fn number_at(space: &Space, held: usize) -> Option<u32> {
+    match space.state.held().get(held) {
+        Some(held) => Some(held.update.number),
+        None => None,
+    }
+}
+
+fn put(numbers: &mut BTreeSet<u32>, number: Option<u32>) -> Result<(), Memory> {
+    match number {
+        Some(number) => match numbers.insert(number) {
+            Ok(_) => Ok(()),
+            Err(_) => Err(Memory),
+        },
+        None => Ok(()),
+    }
+}
+
+/// Whether the update waits.
+pub(crate) fn is_waiting(space: &Space, number: u32) -> bool {
+    space
+        .state
+        .waiting()
+        .as_slice()
+        .iter()
+        .any(|waiting| number_at(space, waiting.held) == Some(number))
+}
+
+/// The numbers of the updates that wait. It is refused only for want of memory.
+pub(crate) fn waiting_numbers(alloc: Global, space: &Space) -> Result<BTreeSet<u32>, Memory> {
+    let mut numbers = BTreeSet::new(alloc);
+    for waiting in space.state.waiting().as_slice() {
+        put(&mut numbers, number_at(space, waiting.held))?;
+    }
+    Ok(numbers)
+}
+
+/// The numbers of the updates that are undone, or of those that are not. It is refused only for want of memory.
+pub(crate) fn undone_numbers(
+    alloc: Global,
+    space: &Space,
+    is_undone: bool,
+) -> Result<BTreeSet<u32>, Memory> {
+    let mut numbers = BTreeSet::new(alloc);
+    for held in space.state.held().iter() {
+        if held.is_undone == is_undone {
+            put(&mut numbers, Some(held.update.number))?;
+        }
+    }
+    Ok(numbers)
+}
+
+/// The numbers of the updates that stand or wait with answers. It is refused only for want of memory.
+pub(crate) fn answered_numbers(alloc: Global, space: &Space) -> Result<BTreeSet<u32>, Memory> {
+    let mut numbers = BTreeSet::new(alloc);
+    for standing in space.state.order().as_slice() {
+        if !standing.answers.is_empty() {
+            put(&mut numbers, number_at(space, standing.held))?;
+        }
+    }
+    for waiting in space.state.waiting().as_slice() {
+        if !waiting.answers.is_empty() {
+            put(&mut numbers, number_at(space, waiting.held))?;
+        }
+    }
+    Ok(numbers)
+}
+
+/// The budget of the update; 0 if there is none.
+pub(crate) fn steps_of(space: &Space, number: u32) -> u32 {
+    match space.state.update(number) {
+        Some(update) => update.steps,
+        None => 0,
+    }
+}

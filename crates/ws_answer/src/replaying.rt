@@ -1,0 +1,174 @@
+//! Lines that replay the log.
+
+use crate::records::waiting_numbers;
+use base_types::TupleList;
+use def_memory::Memory;
+use std::alloc::{AllocError, Global};
+use ws_done::{Done, recorded, told_line};
+use ws_fault::{Refusal, Status as Comes};
+use ws_question::{reason_words, status_word};
+use ws_report::{AgainTold, Note, Report};
+use ws_space::Space;
+use ws_state::{Again, Effect, FilledList, Moved, MovedList, Replayed, Status, Told};
+use ws_written::Line;
+
+/// What a replay is told with: the updates that were named, hints, and what may be said next if nothing waits.
+#[derive(Drop)]
+pub(crate) struct ReplayWords {
+    pub numbers: Vec<u32>,
+    pub notes: Vec<Note>,
+    pub next: Vec<String>,
+}
+
+/// Does a line that replays the log, and tells what is different.
+pub(crate) fn replay(
+    alloc: Global,
+    space: &mut Space,
+    line: Line,
+    asked: ReplayWords,
+) -> Result<Done, Refusal> {
+    let report = replayed(alloc, space, &line, asked);
+    recorded(alloc, report, line)
+}
+
+fn replayed(
+    alloc: Global,
+    space: &mut Space,
+    line: &Line,
+    asked: ReplayWords,
+) -> Result<Report, Refusal> {
+    let mut before = Vec::new(alloc);
+    before.extend_from_slice(space.state.in_force())?;
+    let Told { replayed, .. } = space.take(alloc, line)?;
+    match replayed {
+        Some(replayed) => {
+            let again = again_of(alloc, space, &replayed, asked.numbers.as_slice())?;
+            let questions = questions_of(alloc, again.as_slice())?;
+            let also = forces_told(alloc, space, before.as_slice())?;
+            let text = told_line(alloc, space, line)?;
+            let effect = effect_of(alloc, &replayed)?;
+            let mut report = Report::with_effect(alloc, Comes::Done, "done", text, effect);
+            report.also = also;
+            report.again = again;
+            Ok(with_words(report, asked, questions))
+        }
+        None => Err(Refusal::Memory),
+    }
+}
+
+// The report with its hints and what may be said next; `questions` is that if something waits.
+fn with_words(report: Report, asked: ReplayWords, questions: Vec<String>) -> Report {
+    let ReplayWords { notes, next, .. } = asked;
+    let mut report = report;
+    report.notes = notes;
+    if questions.is_empty() {
+        report.next = next;
+    } else {
+        report.status = Comes::Waits;
+        report.next = questions;
+    }
+    report
+}
+
+// What may be said next if one of the updates waits.
+fn questions_of(alloc: Global, again: &[AgainTold]) -> Result<Vec<String>, AllocError> {
+    let mut next = Vec::new(alloc);
+    if again.iter().any(|one| one.now == "waits") {
+        next.push(String::from_str(alloc, "questions")?)?;
+    }
+    Ok(next)
+}
+
+// What came and went, by no mapping.
+fn effect_of(alloc: Global, replayed: &Replayed) -> Result<Effect, Memory> {
+    let came = moved_of(alloc, &replayed.came)?;
+    let went = moved_of(alloc, &replayed.went)?;
+    Ok(Effect {
+        came,
+        went,
+        filled: FilledList::new(alloc),
+        merged: 0,
+    })
+}
+
+// Tuples that came or went by no mapping.
+fn moved_of(alloc: Global, tuples: &TupleList) -> Result<MovedList, Memory> {
+    let mut moved = MovedList::new(alloc);
+    for tuple in tuples.as_slice() {
+        moved.push(Moved {
+            tuple: tuple.share()?,
+            by: None,
+        })?;
+    }
+    Ok(moved)
+}
+
+// What is told of the other updates that are otherwise now, and of those that were named and wait now.
+fn again_of(
+    alloc: Global,
+    space: &mut Space,
+    replayed: &Replayed,
+    numbers: &[u32],
+) -> Result<Vec<AgainTold>, Memory> {
+    let mut told = Vec::new(alloc);
+    for again in replayed.again.as_slice() {
+        told.push(again_told(alloc, space, *again)?)?;
+    }
+    let waiting = waiting_numbers(alloc, space)?;
+    for number in numbers {
+        if waiting.contains(number) {
+            let again = Again {
+                number: *number,
+                was: Status::Waits,
+                is: Status::Waits,
+            };
+            told.push(again_told(alloc, space, again)?)?;
+        }
+    }
+    Ok(told)
+}
+
+// The mappings that are no longer in force, and those that are again.
+fn forces_told(alloc: Global, space: &Space, before: &[u16]) -> Result<Vec<String>, Memory> {
+    let after = space.state.in_force();
+    let mut told = Vec::new(alloc);
+    for mapping in before {
+        if !after.iter().any(|other| other == mapping) {
+            let name = space.mapping_name(*mapping);
+            told.push(format!(in alloc; "mapping {name} is no longer in force")?)?;
+        }
+    }
+    for mapping in after {
+        if !before.iter().any(|other| other == mapping) {
+            let name = space.mapping_name(*mapping);
+            told.push(format!(in alloc; "mapping {name} is in force again")?)?;
+        }
+    }
+    Ok(told)
+}
+
+// The words on an update that is otherwise now.
+fn again_told(alloc: Global, space: &mut Space, again: Again) -> Result<AgainTold, Memory> {
+    let number = again.number;
+    let how = again_words(alloc, space, again)?;
+    let line = space.update_text(alloc, number)?;
+    Ok(AgainTold {
+        number,
+        now: status_word(again.is),
+        words: format!(in alloc; "{number} {how}: {line}")?,
+    })
+}
+
+fn again_words(alloc: Global, space: &mut Space, again: Again) -> Result<String, Memory> {
+    let words = match (again.is, again.was) {
+        (Status::Stands, Status::Stands) => "did something else now",
+        (Status::Stands, _) => "is done now",
+        (Status::GivenUp, _) => "is given up",
+        _ => {
+            let reason = space.question(alloc, again.number)?;
+            let reason = reason_words(alloc, space, reason.as_ref())?;
+            return Ok(format!(in alloc; "waits now ({reason})")?);
+        }
+    };
+    Ok(String::from_str(alloc, words)?)
+}

@@ -1,0 +1,56 @@
+//! `--at`: that a question is still the one that it was after a record.
+
+use std::alloc::Global;
+use ws_done::{refuse, refuse_with};
+use ws_fault::Refusal;
+use ws_question::{AskedNow, question_lines};
+use ws_report::CANDIDATES;
+use ws_run::{Question, Reason};
+use ws_space::Space;
+
+/// Refuses a question that is another than after the record, the state after which is `past` if it is not the last one; and a
+/// record that there is none of, or that was folded.
+pub(crate) fn check_since(
+    alloc: Global,
+    space: &Space,
+    past: Option<&mut Space>,
+    asked: &AskedNow,
+    at: u32,
+) -> Result<(), Refusal> {
+    let number = asked.number;
+    let last = space.at();
+    if last < at {
+        let words = format!(in alloc; "the log has no record {at}")?;
+        let hint = format!(in alloc; "it is at {last}")?;
+        return refuse(alloc, words.as_str(), hint.as_str());
+    }
+    if at < space.first {
+        let words = format!(in alloc; "record {at} was folded")?;
+        let hint = format!(in alloc; "look again: questions {number}")?;
+        return refuse(alloc, words.as_str(), hint.as_str());
+    }
+    if at == last || asked_so(alloc, past, asked)? {
+        return Ok(());
+    }
+    let words = format!(in alloc; "the question of {number} is another than at {at}")?;
+    let hint = format!(in alloc; "look again: questions {number}")?;
+    let lines = question_lines(alloc, space, asked, None, CANDIDATES)?;
+    refuse_with(alloc, words.as_str(), hint.as_str(), lines)
+}
+
+// Whether the update asked this question in the past.
+fn asked_so(alloc: Global, past: Option<&mut Space>, asked: &AskedNow) -> Result<bool, Refusal> {
+    let Some(past) = past else {
+        return Ok(false);
+    };
+    match past.question(alloc, asked.number)? {
+        Some(Reason::Asks(old)) => Ok(is_same(&old, &asked.question)),
+        _ => Ok(false),
+    }
+}
+
+fn is_same(one: &Question, other: &Question) -> bool {
+    one.asked.source == other.asked.source
+        && one.asked.tuples == other.asked.tuples
+        && one.candidates == other.candidates
+}

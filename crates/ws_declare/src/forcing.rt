@@ -1,0 +1,13 @@
+//! Putting a mapping in force.
+
+use std::alloc::Global;
+use ws_done::{Taken, take_update};
+use ws_fault::Refusal;
+use ws_space::Space;
+use ws_written::{STEPS, Update};
+
+/// Puts the mapping of this name in force.
+pub(crate) fn force(alloc: Global, space: &mut Space, name: &str) -> Result<Taken, Refusal> {
+    let name = String::from_str(alloc, name)?;
+    take_update(alloc, space, STEPS, Update::Force(name))
+}

@@ -1,0 +1,155 @@
+//! Hints about a mapping that is declared.
+
+use crate::mappings::{relation_name, stands_among, stands_in};
+use base_types::{Facts, List, Value};
+use def_memory::Memory;
+use std::alloc::Global;
+use ws_print::add_atom;
+use ws_report::Note;
+use ws_space::Space;
+use ws_written::{Atom, Rule, Term};
+
+/// The hints about a mapping, each `_` of which is a variable of its own: a variable that stands once and is a text of its
+/// column, and an atom of the right side that shares no variable with the left one. It is refused only for want of memory.
+pub(crate) fn lints_of(alloc: Global, space: &Space, rule: &Rule) -> Result<Vec<Note>, Memory> {
+    let mut notes = Vec::new(alloc);
+    for atom in rule.left.iter() {
+        add_lone(alloc, space, rule, atom, &mut notes)?;
+    }
+    for atom in rule.right.iter() {
+        add_lone(alloc, space, rule, atom, &mut notes)?;
+    }
+    add_unlinked(alloc, space, rule, &mut notes)?;
+    Ok(notes)
+}
+
+fn count_in(atoms: &[Atom], name: &str) -> usize {
+    let mut count = 0usize;
+    for atom in atoms {
+        for term in atom.terms.iter() {
+            if let Term::Variable(other) = term {
+                if other.as_str() == name {
+                    count = count.saturating_add(1);
+                }
+            }
+        }
+    }
+    count
+}
+
+fn stands_once(rule: &Rule, name: &str) -> bool {
+    let left = count_in(rule.left.as_slice(), name);
+    left.saturating_add(count_in(rule.right.as_slice(), name)) == 1
+}
+
+// Whether the text stands in the column.
+fn is_text_of(
+    alloc: Global,
+    space: &Space,
+    relation: u32,
+    column: usize,
+    text: &str,
+) -> Result<bool, Memory> {
+    let (Ok(relation), Ok(column)) = (u16::try_from(relation), u16::try_from(column)) else {
+        return Ok(false);
+    };
+    let mut bytes = Vec::new(alloc);
+    bytes.extend_from_slice(text.as_bytes())?;
+    let value = Value::Word(List::from_vec(bytes));
+    let facts = space.state.facts();
+    Ok(facts.scan(relation, column, &value, None).is_some())
+}
+
+// The variables of the atom that stand once in the mapping and are texts of their columns.
+fn add_lone(
+    alloc: Global,
+    space: &Space,
+    rule: &Rule,
+    atom: &Atom,
+    notes: &mut Vec<Note>,
+) -> Result<(), Memory> {
+    for (column, term) in atom.terms.iter().enumerate() {
+        let Term::Variable(name) = term else {
+            continue;
+        };
+        let name = name.as_str();
+        if stands_once(rule, name) && is_text_of(alloc, space, atom.relation, column, name)? {
+            let relation = relation_name(space, atom.relation);
+            let words = format!(in alloc;
+                "the variable {name} of {relation} stands for any value; for the text write \"{name}\""
+            )?;
+            notes.push(Note::of(alloc, words))?;
+        }
+    }
+    Ok(())
+}
+
+fn is_constant(term: &Term) -> bool {
+    match term {
+        Term::Variable(_) => false,
+        _ => true,
+    }
+}
+
+// Whether the atoms have a variable in common.
+fn share(one: &Atom, others: &[Atom]) -> bool {
+    one.terms.iter().any(|term| match term {
+        Term::Variable(name) => stands_among(others, name.as_str()),
+        _ => false,
+    })
+}
+
+fn share_two(one: &Atom, other: &Atom) -> bool {
+    one.terms.iter().any(|term| match term {
+        Term::Variable(name) => stands_in(other, name.as_str()),
+        _ => false,
+    })
+}
+
+// Whether the atom shares a variable with one of those that are linked.
+fn is_reached(atoms: &[Atom], linked: &[bool], atom: &Atom) -> bool {
+    atoms
+        .iter()
+        .zip(linked)
+        .any(|(other, is_linked)| *is_linked && share_two(atom, other))
+}
+
+// For each atom of the right side whether it shares a variable with the left one, directly or through others, or has none.
+fn linked_of(alloc: Global, rule: &Rule) -> Result<Vec<bool>, Memory> {
+    let left = rule.left.as_slice();
+    let right = rule.right.as_slice();
+    let mut linked = Vec::new(alloc);
+    for atom in right {
+        linked.push(share(atom, left) || atom.terms.iter().all(is_constant))?;
+    }
+    for _ in right {
+        let mut next = Vec::new(alloc);
+        for (atom, is_linked) in right.iter().zip(linked.iter()) {
+            next.push(*is_linked || is_reached(right, linked.as_slice(), atom))?;
+        }
+        linked = next;
+    }
+    Ok(linked)
+}
+
+fn add_unlinked(
+    alloc: Global,
+    space: &Space,
+    rule: &Rule,
+    notes: &mut Vec<Note>,
+) -> Result<(), Memory> {
+    let linked = linked_of(alloc, rule)?;
+    for (atom, is_linked) in rule.right.iter().zip(linked.iter()) {
+        if *is_linked {
+            continue;
+        }
+        let mut words = String::new(alloc);
+        add_atom(&mut words, space.relations.as_slice(), atom)?;
+        let relation = relation_name(space, atom.relation);
+        words.push_str(" shares no variable with the left side: any tuple of ")?;
+        words.push_str(relation)?;
+        words.push_str(" will do")?;
+        notes.push(Note::of(alloc, words))?;
+    }
+    Ok(())
+}

@@ -1,0 +1,177 @@
+//! Which mappings can be declared.
+
+use crate::cycles::cycle_words;
+use crate::dropping::is_in_force;
+use crate::speaking::speaker_of;
+use def_memory::Memory;
+use std::alloc::Global;
+use ws_done::refuse;
+use ws_fault::Refusal;
+use ws_grammar::set_apart;
+use ws_space::{Space, copy_rule};
+use ws_written::{Atom, Rule, Term};
+
+/// The most mappings that are not gone.
+const MAPPINGS: usize = 40;
+
+/// The most variables that stand on both sides.
+const SHARED: usize = 8;
+
+/// The mapping with a variable of its own for each `_`. It is refused only for want of memory.
+pub(crate) fn apart(alloc: Global, rule: &Rule) -> Result<Rule, Memory> {
+    let mut copy = copy_rule(alloc, rule)?;
+    set_apart(alloc, &mut copy)?;
+    Ok(copy)
+}
+
+fn same_term(one: &Term, other: &Term) -> bool {
+    match (one, other) {
+        (Term::Variable(one), Term::Variable(other)) => one.as_str() == other.as_str(),
+        (Term::Number(one), Term::Number(other)) => one == other,
+        (Term::Text(one), Term::Text(other)) => one.as_str() == other.as_str(),
+        _ => false,
+    }
+}
+
+fn same_atom(one: &Atom, other: &Atom) -> bool {
+    one.relation == other.relation
+        && one.terms.len() == other.terms.len()
+        && one
+            .terms
+            .iter()
+            .zip(other.terms.iter())
+            .all(|(one, other)| same_term(one, other))
+}
+
+fn same_atoms(one: &[Atom], other: &[Atom]) -> bool {
+    one.len() == other.len()
+        && one
+            .iter()
+            .zip(other)
+            .all(|(one, other)| same_atom(one, other))
+}
+
+/// The name of the relation of this number; empty if there is none.
+pub(crate) fn relation_name(space: &Space, relation: u32) -> &str {
+    match space.relations.get(relation as usize) {
+        Some(declared) => declared.name.as_str(),
+        None => "",
+    }
+}
+
+/// Whether the mapping of this number is gone.
+pub(crate) fn is_gone(space: &Space, place: usize) -> bool {
+    match u16::try_from(place) {
+        Ok(number) => space.state.is_gone(number),
+        Err(_) => false,
+    }
+}
+
+/// Whether this very mapping is declared, and not gone.
+pub(crate) fn is_declared(space: &Space, rule: &Rule) -> bool {
+    for (place, other) in space.rules.iter().enumerate() {
+        if other.name.as_str() == rule.name.as_str() && !is_gone(space, place) {
+            return same_atoms(other.left.as_slice(), rule.left.as_slice())
+                && same_atoms(other.right.as_slice(), rule.right.as_slice());
+        }
+    }
+    false
+}
+
+/// Refuses a mapping, each `_` of which is a variable of its own, that cannot be declared.
+pub(crate) fn check_mapping(alloc: Global, space: &Space, rule: &Rule) -> Result<(), Refusal> {
+    check_name(alloc, space, rule.name.as_str())?;
+    if MAPPINGS <= count_others(space, rule.name.as_str()) {
+        return refuse(alloc, "there are 40 mappings, which is the limit", "");
+    }
+    if let Some(cycle) = cycle_words(alloc, space, rule)? {
+        let name = rule.name.as_str();
+        let words = format!(in alloc;
+            "mapping {name} closes a circle without an unknown: {cycle}"
+        )?;
+        let hint = "a circle has to go through a variable that stands on a right side alone";
+        return refuse(alloc, words.as_str(), hint);
+    }
+    if SHARED < count_shared(rule) {
+        return refuse(alloc, "more than 8 variables stand on both sides", "");
+    }
+    Ok(())
+}
+
+// The name is free, or that of a proposed mapping of which no update speaks.
+fn check_name(alloc: Global, space: &Space, name: &str) -> Result<(), Refusal> {
+    let Some(mapping) = space.mapping(name) else {
+        return Ok(());
+    };
+    if space.state.is_gone(mapping) {
+        let words = format!(in alloc; "there was a mapping {name}; its name is free after `fold`")?;
+        return refuse(alloc, words.as_str(), "");
+    }
+    if is_in_force(space, name) {
+        let words = format!(in alloc; "mapping {name} is in force")?;
+        let hint = format!(in alloc; "drop {name} takes it away")?;
+        return refuse(alloc, words.as_str(), hint.as_str());
+    }
+    if let Some(number) = speaker_of(space, mapping) {
+        let words = format!(in alloc; "update {number} speaks of mapping {name}")?;
+        return refuse(alloc, words.as_str(), "take another name, or fold first");
+    }
+    Ok(())
+}
+
+// How many mappings of other names are not gone.
+fn count_others(space: &Space, name: &str) -> usize {
+    let mut count = 0usize;
+    for (place, rule) in space.rules.iter().enumerate() {
+        if rule.name.as_str() != name && !is_gone(space, place) {
+            count = count.saturating_add(1);
+        }
+    }
+    count
+}
+
+/// Whether the variable of this name stands in the atom.
+pub(crate) fn stands_in(atom: &Atom, name: &str) -> bool {
+    atom.terms.iter().any(|term| match term {
+        Term::Variable(variable) => variable.as_str() == name,
+        _ => false,
+    })
+}
+
+/// Whether the variable of this name stands in one of the atoms.
+pub(crate) fn stands_among(atoms: &[Atom], name: &str) -> bool {
+    atoms.iter().any(|atom| stands_in(atom, name))
+}
+
+// How many variables of the atom stand on the right side, and in no atom before it.
+fn count_new_shared(rule: &Rule, place: usize, atom: &Atom) -> usize {
+    let mut count = 0usize;
+    for (column, term) in atom.terms.iter().enumerate() {
+        if let Term::Variable(name) = term {
+            let name = name.as_str();
+            let before = rule
+                .left
+                .iter()
+                .take(place)
+                .any(|other| stands_in(other, name));
+            let above = atom
+                .terms
+                .iter()
+                .take(column)
+                .any(|other| same_term(other, term));
+            if !before && !above && stands_among(rule.right.as_slice(), name) {
+                count = count.saturating_add(1);
+            }
+        }
+    }
+    count
+}
+
+// How many variables stand on both sides.
+fn count_shared(rule: &Rule) -> usize {
+    let mut count = 0usize;
+    for (place, atom) in rule.left.iter().enumerate() {
+        count = count.saturating_add(count_new_shared(rule, place, atom));
+    }
+    count
+}

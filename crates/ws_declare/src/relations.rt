@@ -1,0 +1,152 @@
+//! `relation`.
+
+use crate::speaking::is_spoken_of;
+use def_memory::Memory;
+use std::alloc::{AllocError, Global};
+use ws_done::{Done, recorded, refuse, told_line};
+use ws_fault::{Refusal, Status};
+use ws_print::add_form;
+use ws_report::Report;
+use ws_space::Space;
+use ws_written::{Line, Relation};
+
+/// The most relations of a workspace.
+const RELATIONS: usize = 100;
+
+/// Declares a relation, anew if its columns stay or nothing speaks of it. It is refused if something does, if another name
+/// differs by capitals alone, or if there are too many.
+pub fn declare_relation(
+    alloc: Global,
+    space: &mut Space,
+    relation: Relation,
+) -> Result<Done, Refusal> {
+    let is_new = check_relation(alloc, space, &relation)?;
+    let next = next_of(alloc, &relation)?;
+    let line = Line::Relation(relation);
+    if !is_new {
+        return there_already(alloc, space, &line);
+    }
+    let report = declared(alloc, space, &line, next);
+    recorded(alloc, report, line)
+}
+
+// Whether the relation is not declared so yet. It is refused if it cannot be declared.
+fn check_relation(alloc: Global, space: &Space, relation: &Relation) -> Result<bool, Refusal> {
+    let Some(place) = place_of(space, relation.name.as_str()) else {
+        check_new(alloc, space, relation.name.as_str())?;
+        return Ok(true);
+    };
+    if is_declared(space, place, relation) {
+        return Ok(false);
+    }
+    check_unspoken(alloc, space, place, relation)?;
+    Ok(true)
+}
+
+fn there_already(alloc: Global, space: &Space, line: &Line) -> Result<Done, Refusal> {
+    let text = told_line(alloc, space, line)?;
+    Ok(Done::nothing(alloc, "there already", text))
+}
+
+fn declared(
+    alloc: Global,
+    space: &mut Space,
+    line: &Line,
+    next: Vec<String>,
+) -> Result<Report, Refusal> {
+    space.take(alloc, line)?;
+    let text = told_line(alloc, space, line)?;
+    let mut report = Report::of(alloc, Status::Done, "done", text);
+    report.next = next;
+    Ok(report)
+}
+
+fn place_of(space: &Space, name: &str) -> Option<usize> {
+    space
+        .relations
+        .iter()
+        .position(|other| other.name.as_str() == name)
+}
+
+fn has_same_columns(one: &Relation, other: &Relation) -> bool {
+    one.columns.len() == other.columns.len()
+        && one
+            .columns
+            .iter()
+            .zip(other.columns.iter())
+            .all(|(one, other)| one.name.as_str() == other.name.as_str())
+}
+
+fn has_same_key(one: &Relation, other: &Relation) -> bool {
+    one.columns
+        .iter()
+        .zip(other.columns.iter())
+        .all(|(one, other)| one.key == other.key)
+}
+
+fn is_declared(space: &Space, place: usize, relation: &Relation) -> bool {
+    match space.relations.get(place) {
+        Some(declared) => {
+            has_same_columns(declared, relation) && has_same_key(declared, relation)
+        }
+        None => false,
+    }
+}
+
+// The relation that is there can have the columns of this one.
+fn check_unspoken(
+    alloc: Global,
+    space: &Space,
+    place: usize,
+    relation: &Relation,
+) -> Result<(), Refusal> {
+    let Some(declared) = space.relations.get(place) else {
+        return Ok(());
+    };
+    if has_same_columns(declared, relation) || !is_spoken_of(space, place) {
+        return Ok(());
+    }
+    let mut words = String::from_str(alloc, "there is a relation ")?;
+    add_form(&mut words, declared)?;
+    let hint = "its columns can change only while no tuple, update or mapping speaks of it";
+    refuse(alloc, words.as_str(), hint)
+}
+
+// A relation of this name can be added.
+fn check_new(alloc: Global, space: &Space, name: &str) -> Result<(), Refusal> {
+    let lower = name.to_lowercase(alloc)?;
+    for other in space.relations.iter() {
+        if is_lower(alloc, other.name.as_str(), lower.as_str())? {
+            let name = other.name.as_str();
+            let words = format!(in alloc;
+                "there is a relation {name}; names differ by more than capitals"
+            )?;
+            return refuse(alloc, words.as_str(), "");
+        }
+    }
+    if RELATIONS <= space.relations.len() {
+        return refuse(alloc, "there are 100 relations, which is the limit", "");
+    }
+    Ok(())
+}
+
+fn is_lower(alloc: Global, name: &str, lower: &str) -> Result<bool, AllocError> {
+    let name = name.to_lowercase(alloc)?;
+    Ok(name.as_str() == lower)
+}
+
+// The commands that fill the relation.
+fn next_of(alloc: Global, relation: &Relation) -> Result<Vec<String>, Memory> {
+    let name = relation.name.as_str();
+    let mut insert = format!(in alloc; "insert {name}(")?;
+    for (place, column) in relation.columns.iter().enumerate() {
+        insert.push_str(if place == 0 { "\"" } else { ", \"" })?;
+        insert.push_str(column.name.as_str())?;
+        insert.push('"')?;
+    }
+    insert.push(')')?;
+    let mut next = Vec::new(alloc);
+    next.push(insert)?;
+    next.push(format!(in alloc; "load {name} FILE.csv")?)?;
+    Ok(next)
+}

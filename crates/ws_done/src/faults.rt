@@ -1,0 +1,47 @@
+//! Faults of changes.
+
+use std::alloc::{AllocError, Global};
+use ws_fault::{Fault, Refusal, Status};
+
+/// A fault of this status; an empty hint is none. It is refused only for want of memory.
+fn fault(alloc: Global, status: Status, words: &str, hint: &str) -> Result<Fault, AllocError> {
+    let hint = if hint.is_empty() {
+        None
+    } else {
+        Some(String::from_str(alloc, hint)?)
+    };
+    Ok(Fault {
+        status,
+        words: String::from_str(alloc, words)?,
+        place: None,
+        hint,
+        more: Vec::new(alloc),
+    })
+}
+
+/// That the change does not fit what is there; an empty hint is none. It is refused only for want of memory.
+pub(crate) fn refused(alloc: Global, words: &str, hint: &str) -> Result<Fault, AllocError> {
+    fault(alloc, Status::Refused, words, hint)
+}
+
+/// That the steps did not suffice; an empty hint is none. It is refused only for want of memory.
+pub fn spent(alloc: Global, words: &str, hint: &str) -> Result<Fault, AllocError> {
+    fault(alloc, Status::Spent, words, hint)
+}
+
+/// Refuses a change that does not fit what is there; an empty hint is none.
+pub fn refuse<T: Drop>(alloc: Global, words: &str, hint: &str) -> Result<T, Refusal> {
+    Err(Refusal::Fault(refused(alloc, words, hint)?))
+}
+
+/// The same, with further faults.
+pub fn refuse_with<T: Drop>(
+    alloc: Global,
+    words: &str,
+    hint: &str,
+    more: Vec<String>,
+) -> Result<T, Refusal> {
+    let mut fault = refused(alloc, words, hint)?;
+    fault.more = more;
+    Err(Refusal::Fault(fault))
+}

@@ -1,0 +1,79 @@
+//! The mappings as a graph in DOT: a box for each relation, an ellipse for each mapping.
+
+use crate::links::Link;
+use std::alloc::{AllocError, Global};
+use std::fmt::Write;
+use ws_print::add_form;
+use ws_written::Relation;
+
+const HEAD: [&str; 3] = ["digraph mappings {", "  rankdir=LR;", "  node [shape=box];"];
+
+/// Adds a text between quotes, as DOT has it.
+pub fn add_dot_text(out: &mut String, text: &str) -> Result<(), AllocError> {
+    out.push('"')?;
+    for letter in text.chars() {
+        if letter == '"' || letter == '\\' {
+            out.push('\\')?;
+        }
+        out.push(letter)?;
+    }
+    out.push('"')
+}
+
+fn relation_line(alloc: Global, number: usize, relation: &Relation) -> Result<String, AllocError> {
+    let mut form = String::new(alloc);
+    add_form(&mut form, relation)?;
+    let mut line = format!(in alloc; "  r{number} [label=")?;
+    add_dot_text(&mut line, form.as_str())?;
+    line.push_str("];")?;
+    Ok(line)
+}
+
+fn link_line(alloc: Global, number: usize, link: &Link<'_>) -> Result<String, AllocError> {
+    let mut line = format!(in alloc; "  m{number} [label=")?;
+    add_dot_text(&mut line, link.name)?;
+    line.push_str(", shape=ellipse")?;
+    line.push_str(if link.is_open {
+        ", style=dashed];"
+    } else {
+        "];"
+    })?;
+    Ok(line)
+}
+
+// The lines of a mapping: itself, and its edges.
+fn add_link(
+    alloc: Global,
+    lines: &mut Vec<String>,
+    number: usize,
+    link: &Link<'_>,
+) -> Result<(), AllocError> {
+    lines.push(link_line(alloc, number, link)?)?;
+    for relation in link.left.iter() {
+        lines.push(format!(in alloc; "  r{relation} -> m{number};")?)?;
+    }
+    for relation in link.right.iter() {
+        lines.push(format!(in alloc; "  m{number} -> r{relation};")?)?;
+    }
+    Ok(())
+}
+
+/// The lines of the graph.
+pub fn graph_lines(
+    alloc: Global,
+    relations: &[Relation],
+    links: &[Link<'_>],
+) -> Result<Vec<String>, AllocError> {
+    let mut lines = Vec::new(alloc);
+    for line in HEAD {
+        lines.push(String::from_str(alloc, line)?)?;
+    }
+    for (number, relation) in relations.iter().enumerate() {
+        lines.push(relation_line(alloc, number, relation)?)?;
+    }
+    for (number, link) in links.iter().enumerate() {
+        add_link(alloc, &mut lines, number, link)?;
+    }
+    lines.push(String::from_str(alloc, "}")?)?;
+    Ok(lines)
+}

@@ -1,0 +1,34 @@
+//! Texts as HTML has them.
+
+use std::alloc::AllocError;
+use std::fmt::Write;
+use ws_print::is_control;
+
+fn add_letter(out: &mut String, letter: char) -> Result<(), AllocError> {
+    match letter {
+        '&' => out.push_str("&amp;"),
+        '<' => out.push_str("&lt;"),
+        '>' => out.push_str("&gt;"),
+        '"' => out.push_str("&quot;"),
+        '\'' => out.push_str("&#x27;"),
+        '\n' | '\t' => out.push(letter),
+        _ => add_other(out, letter),
+    }
+}
+
+fn add_other(out: &mut String, letter: char) -> Result<(), AllocError> {
+    if is_control(letter) {
+        let code = u32::from(letter);
+        return write!(out, "\\u{{{code:x}}}");
+    }
+    out.push(letter)
+}
+
+/// Adds a text so that it is shown as it is, wherever it stands in a page. Control characters but line feeds and tabs are
+/// `\u{hex}`.
+pub fn add_html(out: &mut String, text: &str) -> Result<(), AllocError> {
+    for letter in text.chars() {
+        add_letter(out, letter)?;
+    }
+    Ok(())
+}

@@ -1,0 +1,16 @@
+//! Pictures of the mappings between relations: DOT, and SVG that is laid out here; and texts as HTML has them.
+//!
+//! Each function is refused only for want of memory.
+#![tactic(auto)]
+
+mod dot;
+mod html;
+mod layout;
+mod links;
+mod ranks;
+mod svg;
+
+pub use crate::dot::{add_dot_text, graph_lines};
+pub use crate::html::add_html;
+pub use crate::links::{Link, link_of};
+pub use crate::svg::svg_of;

@@ -1,0 +1,59 @@
+//! The base of a dump: what stood before its updates.
+
+use base_types::{Memory, Null, Tuple, Value};
+use std::alloc::Global;
+use std::collections::{BTreeMap, BTreeSet};
+use ws_run::{Step, WANT};
+use ws_space::Space;
+
+/// The tuples that were there before the updates that stand from this place on, within. It is refused only for want of memory.
+pub(crate) fn tuples_before(
+    alloc: Global,
+    space: &Space,
+    cut: usize,
+) -> Result<BTreeSet<Tuple>, Memory> {
+    let mut tuples = BTreeSet::new(alloc);
+    for tuple in space.state.facts().list(alloc)?.into_vec() {
+        tuples.insert(tuple)?;
+    }
+    for standing in space.state.order().as_slice().iter().skip(cut).rev() {
+        for step in standing.steps.as_slice().iter().rev() {
+            take_back(&mut tuples, step)?;
+        }
+    }
+    tuples.retain(|tuple| tuple.relation < WANT);
+    Ok(tuples)
+}
+
+// Takes back what a step did.
+fn take_back(tuples: &mut BTreeSet<Tuple>, step: &Step) -> Result<(), Memory> {
+    for tuple in step.note.puts.as_slice() {
+        tuples.remove(tuple);
+    }
+    for tuple in step.note.deleted.as_slice() {
+        tuples.insert(tuple.share()?)?;
+    }
+    Ok(())
+}
+
+/// The nulls of the tuples, each with its place among them, from 1. It is refused only for want of memory.
+pub(crate) fn places_of(
+    alloc: Global,
+    tuples: &BTreeSet<Tuple>,
+) -> Result<BTreeMap<Null, u32>, Memory> {
+    let mut nulls = BTreeSet::new(alloc);
+    for tuple in tuples {
+        for value in tuple.values.as_slice() {
+            if let Value::Null(null) = value {
+                nulls.insert(*null)?;
+            }
+        }
+    }
+    let mut places = BTreeMap::new(alloc);
+    let mut place = 0u32;
+    for null in nulls {
+        place = place.saturating_add(1);
+        places.insert(null, place)?;
+    }
+    Ok(places)
+}

@@ -1,0 +1,123 @@
+//! The comments of a dump: what its base has in it, the names of its nulls, and what waits.
+
+use crate::renaming::Renaming;
+use base_types::{Memory, Null};
+use std::alloc::{AllocError, Global};
+use ws_print::add_unknown;
+use ws_space::{Space, unknown_of};
+use ws_written::STEPS;
+
+/// Adds the comments of a dump whose base has so many of the updates that stand. It is refused only for want of memory.
+pub(crate) fn add_comments(
+    alloc: Global,
+    lines: &mut Vec<String>,
+    space: &Space,
+    renaming: &Renaming,
+    cut: usize,
+) -> Result<(), Memory> {
+    add_base(alloc, lines, space, cut)?;
+    for null in renaming.places.keys() {
+        lines.push(name_line(alloc, space, renaming, *null)?)?;
+    }
+    add_drawn(alloc, lines, space, renaming, cut)?;
+    for number in waiting_numbers(alloc, space)? {
+        lines.push(waiting_line(alloc, space, number)?)?;
+    }
+    Ok(())
+}
+
+// How many updates the base has in it.
+fn add_base(
+    alloc: Global,
+    lines: &mut Vec<String>,
+    space: &Space,
+    cut: usize,
+) -> Result<(), AllocError> {
+    let Some(last) = cut.checked_sub(1) else {
+        return Ok(());
+    };
+    let number = number_at(space, last);
+    let words = format!(in alloc; "# the base has the first {cut} updates in it, up to u{number}")?;
+    lines.push(words)?;
+    Ok(())
+}
+
+// The number of the update at a place of the order.
+fn number_at(space: &Space, place: usize) -> u32 {
+    match space.state.order().get(place) {
+        Some(standing) => held_number(space, standing.held),
+        None => 0,
+    }
+}
+
+fn held_number(space: &Space, held: usize) -> u32 {
+    match space.state.held().get(held) {
+        Some(held) => held.update.number,
+        None => 0,
+    }
+}
+
+// `# ?U.P of the dump is ?U.P`.
+fn name_line(
+    alloc: Global,
+    space: &Space,
+    renaming: &Renaming,
+    null: Null,
+) -> Result<String, AllocError> {
+    let mut line = String::from_str(alloc, "# ")?;
+    add_unknown(&mut line, unknown_of(renaming.null(null)))?;
+    line.push_str(" is ")?;
+    add_unknown(&mut line, unknown_of(space.state.names().name_of(null)))?;
+    Ok(line)
+}
+
+// The nulls that the updates of the dump draw.
+fn add_drawn(
+    alloc: Global,
+    lines: &mut Vec<String>,
+    space: &Space,
+    renaming: &Renaming,
+    cut: usize,
+) -> Result<(), AllocError> {
+    for standing in space.state.order().as_slice().iter().skip(cut) {
+        for op in standing.ops.as_slice() {
+            for place in 0..op.drawn {
+                let null = Null {
+                    update: op.number,
+                    attempt: 0,
+                    place: place.saturating_add(1),
+                };
+                lines.push(name_line(alloc, space, renaming, null)?)?;
+            }
+        }
+    }
+    Ok(())
+}
+
+fn waiting_numbers(alloc: Global, space: &Space) -> Result<Vec<u32>, AllocError> {
+    let mut numbers = Vec::new(alloc);
+    for waiting in space.state.waiting().as_slice() {
+        numbers.push(held_number(space, waiting.held))?;
+    }
+    numbers.sort_unstable();
+    Ok(numbers)
+}
+
+// `# waits: CURATOR N [steps S] UPDATE`.
+fn waiting_line(alloc: Global, space: &Space, number: u32) -> Result<String, Memory> {
+    let curator = space.curator_of(number);
+    let mut line = format!(in alloc; "# waits: {curator} {number} ")?;
+    let steps = steps_of(space, number);
+    if steps != STEPS {
+        line.push_str(format!(in alloc; "steps {steps} ")?.as_str())?;
+    }
+    line.push_str(space.update_text(alloc, number)?.as_str())?;
+    Ok(line)
+}
+
+fn steps_of(space: &Space, number: u32) -> u32 {
+    match space.state.update(number) {
+        Some(update) => update.steps,
+        None => STEPS,
+    }
+}

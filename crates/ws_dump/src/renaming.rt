@@ -1,0 +1,102 @@
+//! Tuples of the workspace as a dump has them: nulls of the base by their places there, others by the updates of the dump that
+//! drew them.
+
+use crate::hidden::Hidden;
+use base_types::{
+    Choice, ChoiceList, Memory, Null, Operation, TryCopy, Tuple, TupleList, Value, ValueList,
+};
+use std::alloc::Global;
+use std::collections::BTreeMap;
+
+/// How tuples within are called in a dump.
+#[derive(Drop)]
+pub(crate) struct Renaming {
+    pub alloc: Global,
+    /// The number of the last op before the dump's first update.
+    pub first: u32,
+    /// The place of each null of the base.
+    pub places: BTreeMap<Null, u32>,
+    pub hidden: Hidden,
+}
+
+impl Renaming {
+    /// A null. It takes no memory.
+    pub fn null(&self, null: Null) -> Null {
+        if self.first < null.update {
+            return Null {
+                update: null.update.saturating_sub(self.first),
+                attempt: 0,
+                place: null.place,
+            };
+        }
+        match self.places.get(&null) {
+            Some(place) => Null {
+                update: 0,
+                attempt: 0,
+                place: *place,
+            },
+            None => null,
+        }
+    }
+
+    /// A value. It is refused only for want of memory.
+    pub fn value(&self, value: &Value) -> Result<Value, Memory> {
+        match value {
+            Value::Null(null) => Ok(Value::Null(self.null(*null))),
+            _ => value.copy(self.alloc),
+        }
+    }
+
+    /// A tuple; a repair is one of this mapping. It is refused only for want of memory.
+    pub fn tuple(&self, tuple: &Tuple, repaired: Option<u16>) -> Result<Tuple, Memory> {
+        let mut values = ValueList::new(self.alloc);
+        for value in tuple.values.as_slice() {
+            values.push(self.value(value)?)?;
+        }
+        let relation = self.hidden.number_of(tuple.relation, repaired);
+        Tuple::new(self.alloc, relation, values)
+    }
+
+    fn tuples(&self, tuples: &[Tuple], repaired: Option<u16>) -> Result<TupleList, Memory> {
+        let mut all = TupleList::new(self.alloc);
+        for tuple in tuples {
+            all.push(self.tuple(tuple, repaired)?)?;
+        }
+        Ok(all)
+    }
+
+    /// The choices that an op took. It is refused only for want of memory.
+    pub fn choices(&self, choices: &[Choice], repaired: Option<u16>) -> Result<ChoiceList, Memory> {
+        let mut all = ChoiceList::new(self.alloc);
+        for choice in choices {
+            all.push(self.choice(choice, repaired)?)?;
+        }
+        Ok(all)
+    }
+
+    fn choice(&self, choice: &Choice, repaired: Option<u16>) -> Result<Choice, Memory> {
+        match choice {
+            Choice::Expand => Ok(Choice::Expand),
+            Choice::Unify(tuple) => Ok(Choice::Unify(self.tuple(tuple, repaired)?)),
+            Choice::Delete(tuples) => Ok(Choice::Delete(self.tuples(tuples.as_slice(), repaired)?)),
+        }
+    }
+
+    /// An operation, of which a mapping that it puts in force has this number in the dump. It is refused only for want of
+    /// memory.
+    pub fn operation(
+        &self,
+        operation: &Operation,
+        repaired: Option<u16>,
+        mapping: u16,
+    ) -> Result<Operation, Memory> {
+        match operation {
+            Operation::Insert(tuple) => Ok(Operation::Insert(self.tuple(tuple, repaired)?)),
+            Operation::Delete(tuple) => Ok(Operation::Delete(self.tuple(tuple, repaired)?)),
+            Operation::Replace(null, value) => {
+                Ok(Operation::Replace(self.null(*null), self.value(value)?))
+            }
+            Operation::Enact(_) => Ok(Operation::Enact(mapping)),
+        }
+    }
+}

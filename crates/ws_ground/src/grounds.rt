@@ -1,0 +1,163 @@
+//! What a run is over: the tuples, the names of their nulls, and what was written.
+ghost use Rattle.std.specs.Prelude.{◌≡◌, ◌≤◌, map, length, drop, take, OnOk, IfSome, IfNone};
+ghost use Rattle.base_types.specs.Meanings.{change_of};
+ghost use Rattle.def_chase.specs.Repository.{change};
+ghost use Rattle.ws_ground.specs.Trails.{HasMade, IsPopped, before, undoing};
+
+use base_types::{Facts, Memory, Tuple, Write, WriteList};
+use set_facts::IndexedFacts;
+use std::alloc::Global;
+use ws_names::Names;
+
+/// The tuples, the names of nulls, the number of the last op, and what was written since the beginning: each write that
+/// changed something, in order, so that it can be taken back.
+#[derive(Drop)]
+pub struct Ground {
+    pub facts: IndexedFacts,
+    pub names: Names,
+    pub last: u32,
+    pub trail: WriteList,
+}
+
+/// A place to which a ground can be taken back.
+#[derive(Clone, Copy)]
+pub struct Mark {
+    pub last: u32,
+    pub names: usize,
+    pub trail: usize,
+}
+
+impl Ground {
+    /// The tuples with their names, of which no op was done. It takes no memory.
+    pub fn new(alloc: Global, facts: IndexedFacts, names: Names) -> Ground {
+        Ground {
+            facts,
+            names,
+            last: 0,
+            trail: WriteList::new(alloc),
+        }
+    }
+
+    /// Where it stands. It takes no memory.
+    pub fn mark(&self) -> Mark {
+        Mark {
+            last: self.last,
+            names: self.names.len(),
+            trail: self.trail.len(),
+        }
+    }
+
+    /// Takes back what was done since the mark. It is refused only for want of memory.
+    pub fn back_to(&mut self, mark: Mark) -> Result<(), Memory>
+        ensures facts { OnOk result (self.new.facts ≡
+            before (map change_of (drop mark.trail self.old.trail.items)) self.old.facts) }
+        ensures trail { OnOk result
+            (self.new.trail.items ≡ take mark.trail self.old.trail.items) }
+    {
+        take_back(&mut self.facts, &mut self.trail, mark.trail)?;
+        self.names.keep(mark.names);
+        self.last = mark.last;
+        Ok(())
+    }
+
+    /// Makes writes in turn, and keeps those that change something. It is refused only for want of memory.
+    pub fn make(&mut self, writes: WriteList) -> Result<(), Memory>
+        ensures made { OnOk result (HasMade self.old.trail.items self.old.facts
+            self.new.trail.items self.new.facts) }
+    {
+        make_all(&mut self.facts, &mut self.trail, writes)
+    }
+}
+
+// Takes back the writes after the first so many, the last of them first. It is refused only for want of memory.
+#[tactic(auto, using(crate::proofs::Trailing::back_on, crate::proofs::Trailing::kept_on, crate::proofs::Trailing::fewer_left, crate::proofs::Trailing::back_all, crate::proofs::Trailing::kept_all))]
+fn take_back(facts: &mut IndexedFacts, trail: &mut WriteList, count: usize) -> Result<(), Memory>
+    ensures facts { OnOk result
+        (facts.new ≡ before (map change_of (drop count trail.old.items)) facts.old) }
+    ensures trail { OnOk result (trail.new.items ≡ take count trail.old.items) }
+{
+    'writes: while let Some(write) = pop_after(trail, count) {
+        undo(facts, write)?;
+    }
+    Ok(())
+}
+
+// The last write, if there are more than so many.
+fn pop_after(trail: &mut WriteList, count: usize) -> Option<Write>
+    ensures some { IfSome result (IsPopped count trail.old.items trail.new.items) }
+    ensures none { IfNone result (length trail.old.items ≤ count) }
+    ensures same { IfNone result (trail.new.items ≡ trail.old.items) }
+{
+    if trail.len() <= count {
+        return None;
+    }
+    match trail.pop() {
+        Some(write) => Some(write),
+        None => None,
+    }
+}
+
+// Takes back the write, which changed something. It is refused only for want of memory.
+fn undo(facts: &mut IndexedFacts, write: Write) -> Result<(), Memory>
+    ensures undone { OnOk result (facts.new ≡ change facts.old (undoing (change_of write))) }
+{
+    match write {
+        Write::Insert(tuple) => {
+            facts.remove(&tuple);
+        }
+        Write::Delete(tuple) => {
+            facts.insert(tuple)?;
+        }
+    }
+    Ok(())
+}
+
+// Makes the writes in turn, and adds to the trail those that change something. It is refused only for want of memory.
+#[tactic(auto, using(crate::proofs::Trailing::none_made, crate::proofs::Trailing::more_made))]
+fn make_all(
+    facts: &mut IndexedFacts,
+    trail: &mut WriteList,
+    writes: WriteList,
+) -> Result<(), Memory>
+    ensures made { OnOk result (HasMade trail.old.items facts.old trail.new.items facts.new) }
+{
+    'writes: for write in writes.into_vec() {
+        make_one(facts, trail, write)?;
+    }
+    Ok(())
+}
+
+fn make_one(facts: &mut IndexedFacts, trail: &mut WriteList, write: Write) -> Result<(), Memory>
+    ensures made { OnOk result (HasMade trail.old.items facts.old trail.new.items facts.new) }
+{
+    match write {
+        Write::Insert(tuple) => insert(facts, trail, tuple),
+        Write::Delete(tuple) => remove(facts, trail, tuple),
+    }
+}
+
+#[tactic(auto, using(crate::proofs::Trailing::came, crate::proofs::Trailing::came_not))]
+fn insert(facts: &mut IndexedFacts, trail: &mut WriteList, tuple: Tuple) -> Result<(), Memory>
+    ensures made { OnOk result (HasMade trail.old.items facts.old trail.new.items facts.new) }
+{
+    // The set tells that it is in order.
+    facts.is_in_order();
+    trail.reserve(1)?;
+    let same = tuple.share()?;
+    if facts.insert(tuple)? {
+        trail.push(Write::Insert(same))?;
+    }
+    Ok(())
+}
+
+#[tactic(auto, using(crate::proofs::Trailing::went, crate::proofs::Trailing::went_not))]
+fn remove(facts: &mut IndexedFacts, trail: &mut WriteList, tuple: Tuple) -> Result<(), Memory>
+    ensures made { OnOk result (HasMade trail.old.items facts.old trail.new.items facts.new) }
+{
+    facts.is_in_order();
+    trail.reserve(1)?;
+    if facts.remove(&tuple) {
+        trail.push(Write::Delete(tuple))?;
+    }
+    Ok(())
+}

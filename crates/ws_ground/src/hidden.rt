@@ -1,0 +1,214 @@
+//! The hidden relations and mappings.
+
+use base_types::{
+    Atom, AtomList, Mapping, Memory, Name, NameList, Term, TermRow, TryCopy, Tuple, Value,
+    ValueList,
+};
+use std::alloc::Global;
+use ws_lines::{Deed, Spelled, SpelledTuple};
+
+/// The relation that says which new unknowns are wanted.
+pub const WANT: u16 = 100;
+
+/// The relation that says what they are.
+pub const UNKNOWN: u16 = 101;
+
+/// The relation that says for which values a mapping is to be repaired.
+pub const FIX: u16 = 102;
+
+/// That the new unknown of this number is wanted. It is refused only for want of memory.
+pub fn wanted(alloc: Global, number: u32) -> Result<Tuple, Memory> {
+    let mut values = ValueList::new(alloc);
+    values.push(Value::Int(i64::from(number)))?;
+    Tuple::new(alloc, WANT, values)
+}
+
+/// That the new unknown of this number is this value. It is refused only for want of memory.
+pub fn found_as(alloc: Global, number: u32, value: Value) -> Result<Tuple, Memory> {
+    let mut values = ValueList::new(alloc);
+    values.push(Value::Int(i64::from(number)))?;
+    values.push(value)?;
+    Tuple::new(alloc, UNKNOWN, values)
+}
+
+/// That a mapping is to be repaired for these values. It is refused only for want of memory.
+pub fn to_fix(alloc: Global, values: ValueList) -> Result<Tuple, Memory> {
+    let mut values = values;
+    if values.is_empty() {
+        values.push(Value::Int(0))?;
+    }
+    Tuple::new(alloc, FIX, values)
+}
+
+/// How many new unknowns the update has. It takes no memory.
+pub fn news_of(deed: &Deed) -> u32 {
+    match deed {
+        Deed::Insert(tuples) => news_among(tuples.as_slice()),
+        Deed::Swap(_, tuple) => news_in(tuple),
+        _ => 0,
+    }
+}
+
+fn news_among(tuples: &[SpelledTuple]) -> u32 {
+    let mut most = 0;
+    for tuple in tuples {
+        let news = news_in(tuple);
+        if most < news {
+            most = news;
+        }
+    }
+    most
+}
+
+fn news_in(tuple: &SpelledTuple) -> u32 {
+    let mut most = 0;
+    for value in tuple.values.as_slice() {
+        if let Spelled::New(number) = value {
+            if most < *number {
+                most = *number;
+            }
+        }
+    }
+    most
+}
+
+/// The hidden mapping that draws new unknowns, `_new: _want(n) -> _unknown(n, u)`. It is refused only for want of memory.
+pub fn drawing_mapping(alloc: Global) -> Result<Mapping, Memory> {
+    let mut left = AtomList::new(alloc);
+    left.push(atom_of(alloc, WANT, &[0])?)?;
+    let mut right = AtomList::new(alloc);
+    right.push(atom_of(alloc, UNKNOWN, &[0, 1])?)?;
+    let mut names = NameList::new(alloc);
+    names.push(name(alloc, b"n")?)?;
+    names.push(name(alloc, b"u")?)?;
+    Ok(Mapping {
+        name: name(alloc, b"_new")?,
+        names,
+        universal: 1,
+        since: 0,
+        left,
+        right,
+    })
+}
+
+fn name(alloc: Global, bytes: &[u8]) -> Result<Name, Memory> {
+    let mut vec = Vec::new(alloc);
+    vec.extend_from_slice(bytes)?;
+    Ok(Name::from_vec(vec))
+}
+
+// The atom of the relation with these variables.
+fn atom_of(alloc: Global, relation: u16, variables: &[u16]) -> Result<Atom, Memory> {
+    let mut terms = TermRow::new(alloc);
+    for variable in variables {
+        terms.push(Term::Var(*variable))?;
+    }
+    Ok(Atom { relation, terms })
+}
+
+/// The variables of a mapping that stand on both sides, in the order of their first places. It is refused only for want of memory.
+pub fn shared_variables(alloc: Global, mapping: &Mapping) -> Result<Vec<u16>, Memory> {
+    let mut shared = Vec::new(alloc);
+    for variable in 0..mapping.universal {
+        if stands_in(&mapping.right, variable) {
+            shared.push(variable)?;
+        }
+    }
+    Ok(shared)
+}
+
+fn stands_in(atoms: &AtomList, variable: u16) -> bool {
+    atoms
+        .as_slice()
+        .iter()
+        .any(|atom| has_variable(atom, variable))
+}
+
+fn has_variable(atom: &Atom, variable: u16) -> bool {
+    atom.terms
+        .as_slice()
+        .iter()
+        .any(|term| matches!(term, Term::Var(v) if *v == variable))
+}
+
+/// The hidden mapping by which a mapping is repaired, `_fix_m: _fix_m(x, ..) -> RIGHT`. It is refused only for want of memory.
+pub fn fixing_mapping(alloc: Global, mapping: &Mapping) -> Result<Mapping, Memory> {
+    let mut numbers = shared_variables(alloc, mapping)?;
+    let shared = small(numbers.len());
+    for variable in mapping.universal..small(mapping.names.len()) {
+        numbers.push(variable)?;
+    }
+    let mut named = name(alloc, b"_fix_")?.into_vec();
+    named.extend_from_slice(mapping.name.as_slice())?;
+    Ok(Mapping {
+        name: Name::from_vec(named),
+        names: names_among(alloc, mapping, &numbers)?,
+        universal: shared,
+        since: 0,
+        left: left_side(alloc, shared)?,
+        right: atoms_among(alloc, &mapping.right, &numbers)?,
+    })
+}
+
+// The count as the number of a variable. A mapping has fewer variables than there are such numbers.
+fn small(count: usize) -> u16 {
+    u16::try_from(count).unwrap_or(u16::MAX)
+}
+
+// The names of these variables.
+fn names_among(alloc: Global, mapping: &Mapping, numbers: &[u16]) -> Result<NameList, Memory> {
+    let mut names = NameList::new(alloc);
+    for number in numbers {
+        if let Some(name) = mapping.names.get(*number as usize) {
+            names.push(name.copy(alloc)?)?;
+        }
+    }
+    Ok(names)
+}
+
+// The left side with so many variables; the number 0 stands there if there are none.
+fn left_side(alloc: Global, count: u16) -> Result<AtomList, Memory> {
+    let mut terms = TermRow::new(alloc);
+    for variable in 0..count {
+        terms.push(Term::Var(variable))?;
+    }
+    if count == 0 {
+        terms.push(Term::Const(Value::Int(0)))?;
+    }
+    let mut left = AtomList::new(alloc);
+    left.push(Atom {
+        relation: FIX,
+        terms,
+    })?;
+    Ok(left)
+}
+
+// The atoms with their variables numbered by their places among these.
+fn atoms_among(alloc: Global, atoms: &AtomList, numbers: &[u16]) -> Result<AtomList, Memory> {
+    let mut among = AtomList::new(alloc);
+    for atom in atoms.as_slice() {
+        among.push(atom_among(alloc, atom, numbers)?)?;
+    }
+    Ok(among)
+}
+
+fn atom_among(alloc: Global, atom: &Atom, numbers: &[u16]) -> Result<Atom, Memory> {
+    let mut terms = TermRow::new(alloc);
+    for term in atom.terms.as_slice() {
+        let term = match term {
+            Term::Var(variable) => Term::Var(place_among(numbers, *variable)),
+            Term::Const(value) => Term::Const(value.copy(alloc)?),
+        };
+        terms.push(term)?;
+    }
+    Ok(Atom {
+        relation: atom.relation,
+        terms,
+    })
+}
+
+// The place of the number, from 0; how many there are if it is not among them.
+fn place_among(numbers: &[u16], variable: u16) -> u16 {
+    let place = numbers.iter().position(|number| *number == variable);
+    small(place.unwrap_or(numbers.len()))
+}

@@ -1,0 +1,25 @@
+//! The image of a mapping's left side, for which a tuple is wanted.
+
+use crate::hidden::shared_variables;
+use base_types::{Binding, Facts, Mapping, Memory, TryCopy, TupleList, Value};
+use chase_match::first_match;
+use std::alloc::Global;
+
+/// The least image of the mapping's left side if the variables that stand on both sides have these values; none if there is
+/// no match. It is refused only for want of memory.
+pub fn image_for<F: Facts>(
+    alloc: Global,
+    mapping: &Mapping,
+    values: &[Value],
+    facts: &F,
+) -> Result<TupleList, Memory> {
+    let shared = shared_variables(alloc, mapping)?;
+    let mut binding = Binding::new(alloc);
+    for (variable, value) in shared.iter().zip(values) {
+        binding.set(*variable, value.copy(alloc)?)?;
+    }
+    match first_match(alloc, &mapping.left, facts, &binding)? {
+        Some(matched) => Ok(matched.image),
+        None => Ok(TupleList::new(alloc)),
+    }
+}

@@ -1,0 +1,98 @@
+//! Texts of digits in columns of numbers.
+
+use base_types::{Memory, Tuple, Value};
+use chase_match::Walk;
+use std::alloc::Global;
+use ws_report::{Note, value_text};
+use ws_space::Space;
+
+/// How many numbers and texts a column has.
+#[derive(Clone, Copy)]
+pub(crate) struct Kinds {
+    numbers: usize,
+    texts: usize,
+}
+
+impl Kinds {
+    fn count(&mut self, value: &Value) {
+        match value {
+            Value::Int(_) => self.numbers = self.numbers.saturating_add(1),
+            Value::Word(_) => self.texts = self.texts.saturating_add(1),
+            Value::Null(_) => {}
+        }
+    }
+
+    // Whether there are numbers, and so many texts beside.
+    fn are_numbers_with(&self, texts: usize) -> bool {
+        0 < self.numbers && self.texts == texts
+    }
+}
+
+/// What each column of a relation has.
+pub(crate) fn kinds_of(alloc: Global, space: &Space, relation: u16) -> Result<Vec<Kinds>, Memory> {
+    let mut kinds = Vec::new(alloc);
+    if let Some(declared) = space.relations.get(usize::from(relation)) {
+        for _ in declared.columns.iter() {
+            kinds.push(Kinds {
+                numbers: 0,
+                texts: 0,
+            })?;
+        }
+    }
+    let mut walk = Walk::new(space.state.facts(), relation, None);
+    for _ in 0..u64::MAX {
+        let Some(tuple) = walk.next() else {
+            break;
+        };
+        for (column, value) in kinds.iter_mut().zip(tuple.values.as_slice()) {
+            column.count(value);
+        }
+    }
+    Ok(kinds)
+}
+
+// Whether it is `-` or nothing, and then digits.
+fn looks_like_number(bytes: &[u8]) -> bool {
+    let digits = bytes.strip_prefix(b"-").unwrap_or(bytes);
+    !digits.is_empty() && digits.iter().all(|b| b.is_ascii_digit())
+}
+
+// Whether the value is a text that looks like a number.
+fn is_digits(value: &Value) -> bool {
+    match value {
+        Value::Word(bytes) => looks_like_number(bytes.as_slice()),
+        _ => false,
+    }
+}
+
+/// Whether a value of the tuple is a text that looks like a number.
+pub(crate) fn has_digits(tuple: &Tuple) -> bool {
+    tuple.values.as_slice().iter().any(is_digits)
+}
+
+/// Adds a hint for each text of digits that is the only text in a column of numbers.
+pub(crate) fn add_kinds(
+    alloc: Global,
+    space: &Space,
+    kinds: &[Kinds],
+    tuple: &Tuple,
+    notes: &mut Vec<Note>,
+) -> Result<(), Memory> {
+    let Some(declared) = space.relations.get(usize::from(tuple.relation)) else {
+        return Ok(());
+    };
+    let texts = usize::from(space.has(tuple));
+    let named = declared.columns.iter().zip(kinds);
+    for ((name, column), value) in named.zip(tuple.values.as_slice()) {
+        if is_digits(value) && column.are_numbers_with(texts) {
+            let relation = declared.name.as_str();
+            let name = name.name.as_str();
+            let text = value_text(alloc, &space.value(alloc, value)?)?;
+            let words = format!(in alloc;
+                "{relation}.{name} has numbers so far, and {text} is a text"
+            )?;
+            notes.push(Note::of(alloc, words))?;
+        }
+    }
+    Ok(())
+}

@@ -1,0 +1,85 @@
+//! Tuples with unknowns, by what they have in their columns.
+
+use base_types::{Memory, TryCopy, Tuple, Value};
+use chase_match::Walk;
+use std::alloc::Global;
+use std::collections::BTreeMap;
+use ws_space::Space;
+
+/// A column: by each value the tuples with unknowns that have it there, in order.
+#[derive(Drop)]
+pub(crate) struct VagueColumn {
+    tuples: BTreeMap<Value, Vec<Tuple>>,
+}
+
+impl VagueColumn {
+    fn add(&mut self, alloc: Global, value: &Value, tuple: &Tuple) -> Result<(), Memory> {
+        if let Some(tuples) = self.tuples.get_mut(value) {
+            tuples.push(tuple.share()?)?;
+            return Ok(());
+        }
+        let mut tuples = Vec::new(alloc);
+        tuples.push(tuple.share()?)?;
+        match self.tuples.insert(value.copy(alloc)?, tuples) {
+            Ok(_) => Ok(()),
+            Err(_) => Err(Memory),
+        }
+    }
+
+    /// The tuples with unknowns that have the value in the column, in order.
+    pub fn with(&self, value: &Value) -> &[Tuple] {
+        match self.tuples.get(value) {
+            Some(tuples) => tuples.as_slice(),
+            None => &[],
+        }
+    }
+}
+
+/// Whether the value is an unknown.
+pub(crate) fn is_unknown(value: &Value) -> bool {
+    match value {
+        Value::Null(_) => true,
+        _ => false,
+    }
+}
+
+fn has_unknown(tuple: &Tuple) -> bool {
+    tuple.values.as_slice().iter().any(is_unknown)
+}
+
+fn add_tuple(alloc: Global, columns: &mut Vec<VagueColumn>, tuple: &Tuple) -> Result<(), Memory> {
+    for (column, value) in columns.iter_mut().zip(tuple.values.as_slice()) {
+        if !is_unknown(value) {
+            column.add(alloc, value, tuple)?;
+        }
+    }
+    Ok(())
+}
+
+/// The columns of a relation, with its tuples that have unknowns; none if there is no unknown at all.
+pub(crate) fn vague_of(
+    alloc: Global,
+    space: &Space,
+    relation: u16,
+) -> Result<Vec<VagueColumn>, Memory> {
+    let mut columns = Vec::new(alloc);
+    if space.state.names().len() == 0 {
+        return Ok(columns);
+    }
+    if let Some(declared) = space.relations.get(usize::from(relation)) {
+        for _ in declared.columns.iter() {
+            let tuples = BTreeMap::new(alloc);
+            columns.push(VagueColumn { tuples })?;
+        }
+    }
+    let mut walk = Walk::new(space.state.facts(), relation, None);
+    for _ in 0..u64::MAX {
+        let Some(tuple) = walk.next() else {
+            break;
+        };
+        if has_unknown(tuple) {
+            add_tuple(alloc, &mut columns, tuple)?;
+        }
+    }
+    Ok(columns)
+}

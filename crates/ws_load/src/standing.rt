@@ -1,0 +1,32 @@
+//! The unknowns that stand.
+
+use base_types::{Memory, Tuple, Value};
+use std::alloc::Global;
+use std::collections::BTreeSet;
+use ws_space::{Space, unknown_of};
+use ws_written::Unknown;
+
+/// The unknowns that stand, in the order of their names. It is refused only for want of memory.
+pub(crate) fn standing_unknowns(alloc: Global, space: &Space) -> Result<Vec<Unknown>, Memory> {
+    let mut set = BTreeSet::new(alloc);
+    for place in 0..space.relations.len() {
+        let relation = u32::try_from(place).unwrap_or(u32::MAX);
+        for tuple in space.rows(alloc, relation)? {
+            add_unknowns(&mut set, space, &tuple)?;
+        }
+    }
+    let mut unknowns = Vec::new(alloc);
+    for unknown in set {
+        unknowns.push(unknown)?;
+    }
+    Ok(unknowns)
+}
+
+fn add_unknowns(set: &mut BTreeSet<Unknown>, space: &Space, tuple: &Tuple) -> Result<(), Memory> {
+    for value in tuple.values.as_slice() {
+        if let Value::Null(null) = value {
+            set.insert(unknown_of(space.state.names().name_of(*null)))?;
+        }
+    }
+    Ok(())
+}

@@ -1,0 +1,275 @@
+//! What is told of a load.
+
+use crate::adding::added_text;
+use crate::alike::add_alike;
+use crate::rows::Inserted;
+use base_types::Memory;
+use std::alloc::{AllocError, Global};
+use std::fmt::Write;
+use ws_command::{Load, Source};
+use ws_fault::Status;
+use ws_hint::Hints;
+use ws_print::{add_count, add_ranges};
+use ws_report::{Counted, Note, Report, Telling, no_effect};
+use ws_space::Space;
+use ws_state::{Effect, MovedList};
+use ws_written::{Line, NewFact, NumberedUpdate, Update};
+
+// How many hints about rows are told.
+const HINTS: usize = 3;
+
+/// What was loaded: into which relation, how many rows the file had, how many of them were passed over, and what became of the
+/// others.
+#[derive(Clone, Copy)]
+pub(crate) struct Loading<'a> {
+    pub relation: u32,
+    pub rows: usize,
+    pub skipped: usize,
+    pub inserted: &'a Inserted,
+}
+
+// What is told after the effect: hints, what may be said next, and which updates it was.
+#[derive(Drop)]
+struct Rest {
+    notes: Vec<Note>,
+    next: Vec<String>,
+    counted: Option<Counted>,
+}
+
+/// `load NAME FILE`, or with the lines that were asked for. It is refused only for want of memory.
+pub(crate) fn line_of(alloc: Global, load: &Load) -> Result<String, AllocError> {
+    let name = load.relation.as_str();
+    match &load.source {
+        Source::File(path) => {
+            let path = path.as_str();
+            format!(in alloc; "load {name} {path}")
+        }
+        Source::Lines(count) => format!(in alloc; "load {name} --lines {count}"),
+    }
+}
+
+impl<'a> Loading<'a> {
+    /// What is told if nothing is to be recorded. It is refused only for want of memory.
+    pub fn nothing(&self, alloc: Global, line: String) -> Result<Report, AllocError> {
+        let did = if 0 < self.inserted.there {
+            "there already"
+        } else {
+            "nothing to do"
+        };
+        let mut also = Vec::new(alloc);
+        also.push(self.counts(alloc)?)?;
+        Ok(Report {
+            status: Status::Nothing,
+            did,
+            line,
+            number: None,
+            effect: no_effect(alloc),
+            telling: Telling::Untold,
+            also,
+            question: None,
+            again: Vec::new(alloc),
+            notes: Vec::new(alloc),
+            next: Vec::new(alloc),
+            counted: None,
+        })
+    }
+
+    /// What is told of the updates, which begin at this place of the order, and of what they did. It is refused only for want
+    /// of memory.
+    pub fn report(
+        &self,
+        alloc: Global,
+        space: &Space,
+        line: String,
+        first: usize,
+        effect: Effect,
+    ) -> Result<Report, Memory> {
+        let (status, did) = self.outcome();
+        let also = self.also(alloc, space, first, &effect.came)?;
+        let rest = self.rest(alloc, space)?;
+        Ok(Report {
+            status,
+            did,
+            line,
+            number: None,
+            effect,
+            telling: Telling::Untold,
+            also,
+            question: None,
+            again: Vec::new(alloc),
+            notes: rest.notes,
+            next: rest.next,
+            counted: rest.counted,
+        })
+    }
+
+    fn rest(&self, alloc: Global, space: &Space) -> Result<Rest, Memory> {
+        let notes = self.notes(alloc, space)?;
+        let next = self.next(alloc)?;
+        Ok(Rest {
+            notes,
+            next,
+            counted: self.counted(alloc)?,
+        })
+    }
+
+    fn outcome(&self) -> (Status, &'static str) {
+        if self.inserted.waiting.is_empty() {
+            return (Status::Done, "done");
+        }
+        (Status::Waits, "waits")
+    }
+
+    // What the rows came to, and what the mappings added.
+    fn also(
+        &self,
+        alloc: Global,
+        space: &Space,
+        first: usize,
+        came: &MovedList,
+    ) -> Result<Vec<String>, Memory> {
+        let mut also = Vec::new(alloc);
+        also.push(self.counts(alloc)?)?;
+        if let Some(added) = added_text(alloc, space, first, came)? {
+            also.push(added)?;
+        }
+        Ok(also)
+    }
+
+    // What may be said next.
+    fn next(&self, alloc: Global) -> Result<Vec<String>, AllocError> {
+        let mut next = Vec::new(alloc);
+        if !self.inserted.waiting.is_empty() {
+            next.push(String::from_str(alloc, "questions")?)?;
+        }
+        Ok(next)
+    }
+
+    // `N rows: K inserted, ..`.
+    fn counts(&self, alloc: Global) -> Result<String, AllocError> {
+        let mut text = String::new(alloc);
+        self.add_done(&mut text)?;
+        self.add_others(&mut text)?;
+        Ok(text)
+    }
+
+    fn add_done(&self, text: &mut String) -> Result<(), AllocError> {
+        add_count(text, self.rows, "row")?;
+        let done = self.inserted.done.len();
+        write!(text, ": {done} inserted")?;
+        if 0 < done {
+            text.push_str(", by ")?;
+            add_ranges(text, self.inserted.done.as_slice())?;
+        }
+        Ok(())
+    }
+
+    fn add_others(&self, text: &mut String) -> Result<(), AllocError> {
+        let there = self.inserted.there;
+        if 0 < there {
+            write!(text, ", {there} there already")?;
+        }
+        let skipped = self.skipped;
+        if 0 < skipped {
+            write!(text, ", {skipped} skipped")?;
+        }
+        let waits = self.inserted.waiting.len();
+        if 0 < waits {
+            write!(text, ", {waits} wait: ")?;
+            add_ranges(text, self.inserted.waiting.as_slice())?;
+        }
+        Ok(())
+    }
+
+    fn counted(&self, alloc: Global) -> Result<Option<Counted>, AllocError> {
+        if self.inserted.done.is_empty() && self.inserted.waiting.is_empty() {
+            return Ok(None);
+        }
+        Ok(Some(Counted {
+            numbers: copied(alloc, self.inserted.done.as_slice())?,
+            waiting: copied(alloc, self.inserted.waiting.as_slice())?,
+        }))
+    }
+
+    fn notes(&self, alloc: Global, space: &Space) -> Result<Vec<Note>, Memory> {
+        let mut notes = self.hints(alloc, space)?;
+        add_alike(alloc, space, self.relation, &mut notes)?;
+        add_proposed(alloc, space, &mut notes)?;
+        Ok(notes)
+    }
+
+    // The tuple that a line inserted, if it is an update that is done.
+    fn done_fact<'b>(&self, line: &'b Line) -> Option<&'b NewFact> {
+        match line {
+            Line::Update(numbered) if self.is_done(numbered.number) => fact_of(numbered),
+            _ => None,
+        }
+    }
+
+    fn is_done(&self, number: u32) -> bool {
+        self.inserted.done.binary_search(&number).is_ok()
+    }
+
+    // The first hints about rows that are inserted, and how many more there are.
+    fn hints(&self, alloc: Global, space: &Space) -> Result<Vec<Note>, Memory> {
+        let mut all = self.row_hints(alloc, space)?;
+        let more = all.len().saturating_sub(HINTS);
+        all.truncate(HINTS);
+        if 0 < more {
+            let words = format!(in alloc; "and {more} more such hints")?;
+            all.push(Note::of(alloc, words))?;
+        }
+        Ok(all)
+    }
+
+    fn row_hints(&self, alloc: Global, space: &Space) -> Result<Vec<Note>, Memory> {
+        let mut all = Vec::new(alloc);
+        let mut hints = Hints::new(alloc);
+        let last = space.state.last();
+        for line in self.inserted.lines.iter() {
+            if let Some(fact) = self.done_fact(line) {
+                hints.add(space, fact, last, &mut all)?;
+            }
+        }
+        Ok(all)
+    }
+}
+
+// The tuple that an update inserts.
+fn fact_of(numbered: &NumberedUpdate) -> Option<&NewFact> {
+    match &numbered.update {
+        Update::Insert(facts) => facts.first(),
+        _ => None,
+    }
+}
+
+fn copied(alloc: Global, numbers: &[u32]) -> Result<Vec<u32>, AllocError> {
+    let mut copy = Vec::new(alloc);
+    copy.extend_from_slice(numbers)?;
+    Ok(copy)
+}
+
+// A hint for each proposed mapping that has violations.
+fn add_proposed(alloc: Global, space: &Space, notes: &mut Vec<Note>) -> Result<(), Memory> {
+    for place in 0..space.rules.len() {
+        let mapping = u16::try_from(place).unwrap_or(u16::MAX);
+        if is_proposed(space, mapping) {
+            let count = space.count_violations(alloc, mapping)?;
+            if 0 < count {
+                let words = proposed_words(alloc, space.mapping_name(mapping), count)?;
+                notes.push(Note::of(alloc, words))?;
+            }
+        }
+    }
+    Ok(())
+}
+
+fn is_proposed(space: &Space, mapping: u16) -> bool {
+    !space.state.is_gone(mapping) && !space.state.in_force().contains(&mapping)
+}
+
+fn proposed_words(alloc: Global, name: &str, count: usize) -> Result<String, AllocError> {
+    let mut words = format!(in alloc; "mapping {name} is proposed and has ")?;
+    add_count(&mut words, count, "violation")?;
+    Ok(words)
+}

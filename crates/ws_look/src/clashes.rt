@@ -1,0 +1,132 @@
+//! Tuples of one key.
+
+use crate::rows::has_unknown;
+use base_types::{Memory, TryCopy, Tuple, ValueList};
+use std::alloc::Global;
+use std::collections::BTreeMap;
+use ws_question::inner_text;
+use ws_space::Space;
+use ws_written::Relation;
+
+/// The clashes of a relation's key: for each key that several tuples have these tuples, as commands take them.
+#[derive(Drop)]
+pub(crate) struct Clashes {
+    pub relation: usize,
+    pub groups: Vec<Vec<String>>,
+}
+
+/// The clashes of the keys, relation by relation; those without a clash are left out. It is refused only for want of memory.
+pub(crate) fn clashes_of(alloc: Global, space: &Space) -> Result<Vec<Clashes>, Memory> {
+    let mut all = Vec::new(alloc);
+    for (number, relation) in space.relations.iter().enumerate() {
+        if relation.columns.iter().any(|column| column.key) {
+            let groups = clashing(alloc, space, number, relation)?;
+            if !groups.is_empty() {
+                all.push(Clashes {
+                    relation: number,
+                    groups,
+                })?;
+            }
+        }
+    }
+    Ok(all)
+}
+
+fn clashing(
+    alloc: Global,
+    space: &Space,
+    number: usize,
+    relation: &Relation,
+) -> Result<Vec<Vec<String>>, Memory> {
+    let mut clashing = Vec::new(alloc);
+    for group in grouped(alloc, space, number, relation)?.iter() {
+        if 1 < group.len() {
+            clashing.push(texts_of(alloc, space, group.as_slice())?)?;
+        }
+    }
+    Ok(clashing)
+}
+
+fn texts_of(alloc: Global, space: &Space, group: &[Tuple]) -> Result<Vec<String>, Memory> {
+    let mut texts = Vec::new(alloc);
+    for tuple in group {
+        texts.push(inner_text(alloc, space, tuple)?)?;
+    }
+    Ok(texts)
+}
+
+// The tuples by their keys, in the order of the first of each, and the place of each key among them.
+#[derive(Drop)]
+struct Groups {
+    places: BTreeMap<Tuple, usize>,
+    groups: Vec<Vec<Tuple>>,
+}
+
+// The tuples of a relation by their keys without unknowns.
+fn grouped(
+    alloc: Global,
+    space: &Space,
+    number: usize,
+    relation: &Relation,
+) -> Result<Vec<Vec<Tuple>>, Memory> {
+    let mut groups = Groups {
+        places: BTreeMap::new(alloc),
+        groups: Vec::new(alloc),
+    };
+    groups.add_rows(alloc, space, number, relation)?;
+    Ok(groups.groups)
+}
+
+impl Groups {
+    fn add_rows(
+        &mut self,
+        alloc: Global,
+        space: &Space,
+        number: usize,
+        relation: &Relation,
+    ) -> Result<(), Memory> {
+        for tuple in space.rows(alloc, u32::try_from(number).unwrap_or(u32::MAX))? {
+            self.add(alloc, relation, tuple)?;
+        }
+        Ok(())
+    }
+
+    // A tuple with an unknown in its key is left out.
+    fn add(&mut self, alloc: Global, relation: &Relation, tuple: Tuple) -> Result<(), Memory> {
+        let place = self.place_of(alloc, relation, &tuple)?;
+        if let Some(group) = self.groups.get_mut(place.unwrap_or(usize::MAX)) {
+            group.push(tuple)?;
+        }
+        Ok(())
+    }
+
+    // The place of the group of a tuple's key; a new one begins a group.
+    fn place_of(
+        &mut self,
+        alloc: Global,
+        relation: &Relation,
+        tuple: &Tuple,
+    ) -> Result<Option<usize>, Memory> {
+        let key = key_of(alloc, relation, tuple)?;
+        if has_unknown(&key) {
+            return Ok(None);
+        }
+        if let Some(place) = self.places.get(&key) {
+            return Ok(Some(*place));
+        }
+        let place = self.groups.len();
+        self.groups.push(Vec::new(alloc))?;
+        self.places.insert(key, place)?;
+        Ok(Some(place))
+    }
+}
+
+fn key_of(alloc: Global, relation: &Relation, tuple: &Tuple) -> Result<Tuple, Memory> {
+    let mut values = ValueList::new(alloc);
+    for (column, value) in relation.columns.iter().zip(tuple.values.as_slice()) {
+        if column.key {
+            values.push(value.copy(alloc)?)?;
+        }
+    }
+    Tuple::new(alloc, 0, values)
+}

@@ -1,0 +1,64 @@
+//! What `status` counts.
+
+use crate::waiting::waiting_numbers;
+use base_types::{Facts, Memory, Null, Tuple, Value};
+use std::alloc::Global;
+use std::collections::BTreeSet;
+use ws_space::Space;
+
+/// What is counted: the tuples of each relation, the unknowns, the violations of each proposed mapping, and those that wait.
+#[derive(Drop)]
+pub(crate) struct Counts {
+    pub rows: Vec<usize>,
+    pub unknowns: usize,
+    pub proposed: Vec<(u16, usize)>,
+    pub waiting: Vec<u32>,
+}
+
+/// What is here, counted. It is refused only for want of memory.
+pub(crate) fn counted(alloc: Global, space: &Space) -> Result<Counts, Memory> {
+    let mut rows = Vec::new(alloc);
+    for number in 0..space.relations.len() {
+        rows.push(space.count_rows(u32::try_from(number).unwrap_or(u32::MAX)))?;
+    }
+    let mut proposed = Vec::new(alloc);
+    for mapping in proposed_of(alloc, space)?.iter() {
+        proposed.push((*mapping, space.count_violations(alloc, *mapping)?))?;
+    }
+    Ok(Counts {
+        rows,
+        unknowns: count_unknowns(alloc, space)?,
+        proposed,
+        waiting: waiting_numbers(alloc, space)?,
+    })
+}
+
+// The numbers of the mappings that are neither in force nor gone.
+fn proposed_of(alloc: Global, space: &Space) -> Result<Vec<u16>, Memory> {
+    let mut proposed = Vec::new(alloc);
+    for number in 0..space.rules.len() {
+        let number = u16::try_from(number).unwrap_or(u16::MAX);
+        if !space.state.in_force().contains(&number) && !space.state.is_gone(number) {
+            proposed.push(number)?;
+        }
+    }
+    Ok(proposed)
+}
+
+fn count_unknowns(alloc: Global, space: &Space) -> Result<usize, Memory> {
+    let mut nulls: BTreeSet<Null> = BTreeSet::new(alloc);
+    let mut past: Option<&Tuple> = None;
+    let facts = space.state.facts();
+    for _ in 0..u64::MAX {
+        let Some(tuple) = facts.beyond(past) else {
+            break;
+        };
+        for value in tuple.values.as_slice() {
+            if let Value::Null(null) = value {
+                nulls.insert(*null)?;
+            }
+        }
+        past = Some(tuple);
+    }
+    Ok(nulls.len())
+}

@@ -1,0 +1,26 @@
+//! Commands that only look at a workspace: tables, questions, violations, the log, the status, and the help.
+#![tactic(auto)]
+
+mod clashes;
+mod counts;
+mod entries;
+mod helping;
+mod log;
+mod log_objects;
+mod log_one;
+mod looking;
+mod question_told;
+mod questions;
+mod rows;
+mod status;
+mod status_object;
+mod statuses;
+mod table_told;
+mod tables;
+mod violating;
+mod violation_lines;
+mod violation_objects;
+mod waiting;
+
+pub use crate::helping::help;
+pub use crate::looking::look;

@@ -1,0 +1,242 @@
+//! `log N`: what one update did.
+
+use base_types::{Memory, Write};
+use std::alloc::Global;
+use ws_fault::{Refusal, Status as Code};
+use ws_json::{Items, Object};
+use ws_lines::Given;
+use ws_print::{add_choice, add_count};
+use ws_question::{fact_text, reason_words, status_of, status_word};
+use ws_reply::{Context, Reply};
+use ws_seen::{object_of, seen_object, seen_text, text_items};
+use ws_space::Space;
+use ws_state::{Standing, Status};
+use ws_written::{Choice, Line};
+
+// An update: its answers, how it stands, in words, and what it wrote.
+#[derive(Drop)]
+struct Told {
+    number: u32,
+    status: Status,
+    words: String,
+    answers: Vec<String>,
+    writes: Vec<Wrote>,
+}
+
+// A tuple that came or went.
+#[derive(Drop)]
+struct Wrote {
+    sign: &'static str,
+    text: String,
+}
+
+/// The update of this number: its line, its answers, how it stands, and what it wrote. It is refused if there is none, or for
+/// want of memory.
+pub(crate) fn log_one(
+    alloc: Global,
+    space: &mut Space,
+    context: &Context<'_>,
+    number: u32,
+) -> Result<Reply, Refusal> {
+    let status = status_of(alloc, space, number)?;
+    let told = told_of(alloc, space, number, status)?;
+    Ok(reply(alloc, space, context, &told)?)
+}
+
+fn reply(
+    alloc: Global,
+    space: &Space,
+    context: &Context<'_>,
+    told: &Told,
+) -> Result<Reply, Memory> {
+    if context.is_json() {
+        return seen_object(alloc, Code::Done, object(alloc, space, told)?);
+    }
+    Ok(seen_text(Code::Done, lines(alloc, space, told)?))
+}
+
+fn told_of(alloc: Global, space: &mut Space, number: u32, status: Status) -> Result<Told, Memory> {
+    let words = words_of(alloc, space, number, status)?;
+    let answers = answers_of(alloc, space, number)?;
+    Ok(Told {
+        number,
+        status,
+        words,
+        answers,
+        writes: writes_of(alloc, space, number)?,
+    })
+}
+
+// How it stands, in words.
+fn words_of(
+    alloc: Global,
+    space: &mut Space,
+    number: u32,
+    status: Status,
+) -> Result<String, Memory> {
+    if status == Status::Waits {
+        let words = waiting_words(alloc, space, number)?;
+        return Ok(format!(in alloc; "waits: {words}")?);
+    }
+    match standing_of(space, number) {
+        Some(standing) => done_words(alloc, standing),
+        None => Ok(String::from_str(alloc, status_word(status))?),
+    }
+}
+
+fn waiting_words(alloc: Global, space: &mut Space, number: u32) -> Result<String, Memory> {
+    let reason = space.question(alloc, number)?;
+    reason_words(alloc, space, reason.as_ref())
+}
+
+fn is_held(space: &Space, held: usize, number: u32) -> bool {
+    match space.state.held().get(held) {
+        Some(held) => held.update.number == number,
+        None => false,
+    }
+}
+
+fn standing_of(space: &Space, number: u32) -> Option<&Standing> {
+    let order = space.state.order().as_slice();
+    order
+        .iter()
+        .find(|standing| is_held(space, standing.held, number))
+}
+
+// `done in K steps, with L unknowns`.
+fn done_words(alloc: Global, standing: &Standing) -> Result<String, Memory> {
+    let mut words = String::from_str(alloc, "done in ")?;
+    add_count(&mut words, standing.steps.len(), "step")?;
+    words.push_str(", with ")?;
+    let mut drawn = 0u32;
+    for op in standing.ops.as_slice() {
+        drawn = drawn.saturating_add(op.drawn);
+    }
+    add_count(&mut words, drawn as usize, "unknown")?;
+    Ok(words)
+}
+
+fn writes_of(alloc: Global, space: &Space, number: u32) -> Result<Vec<Wrote>, Memory> {
+    let mut writes = Vec::new(alloc);
+    if let Some(standing) = standing_of(space, number) {
+        for write in standing.writes.as_slice() {
+            writes.push(wrote_of(alloc, space, write)?)?;
+        }
+    }
+    Ok(writes)
+}
+
+fn wrote_of(alloc: Global, space: &Space, write: &Write) -> Result<Wrote, Memory> {
+    let (sign, tuple) = match write {
+        Write::Insert(tuple) => ("+", tuple),
+        Write::Delete(tuple) => ("-", tuple),
+    };
+    let text = fact_text(alloc, space, tuple)?;
+    Ok(Wrote { sign, text })
+}
+
+// The choices of the answers that it took; of one that neither stands nor waits those that were given to it.
+fn answers_of(alloc: Global, space: &Space, number: u32) -> Result<Vec<String>, Memory> {
+    if let Some(standing) = standing_of(space, number) {
+        return choices(alloc, space, standing.answers.as_slice());
+    }
+    let waiting = space.state.waiting().as_slice();
+    if let Some(waiting) = waiting
+        .iter()
+        .find(|waiting| is_held(space, waiting.held, number))
+    {
+        return choices(alloc, space, waiting.answers.as_slice());
+    }
+    given(alloc, space, number)
+}
+
+fn choices(alloc: Global, space: &Space, answers: &[Given]) -> Result<Vec<String>, Memory> {
+    let mut choices = Vec::new(alloc);
+    for given in answers {
+        choices.push(said_choice(alloc, space, given)?)?;
+    }
+    Ok(choices)
+}
+
+fn said_choice(alloc: Global, space: &Space, given: &Given) -> Result<String, Memory> {
+    let answer = space.said_answer(alloc, given)?;
+    choice_text(alloc, space, &answer.choice)
+}
+
+// What the log has of answers to it, those that were taken back apart.
+fn given(alloc: Global, space: &Space, number: u32) -> Result<Vec<String>, Memory> {
+    let mut given = Vec::new(alloc);
+    for recorded in space.records.iter() {
+        for said in recorded.record.lines.iter() {
+            match &said.line {
+                Line::Answer(answered, answer) if *answered == number => {
+                    given.push(choice_text(alloc, space, &answer.choice)?)?;
+                }
+                Line::UndoAnswers(numbers) if numbers.contains(&number) => given.clear(),
+                _ => (),
+            }
+        }
+    }
+    Ok(given)
+}
+
+fn choice_text(alloc: Global, space: &Space, choice: &Choice) -> Result<String, Memory> {
+    let mut text = String::new(alloc);
+    add_choice(&mut text, space.relations.as_slice(), choice)?;
+    Ok(text)
+}
+
+fn lines(alloc: Global, space: &Space, told: &Told) -> Result<Vec<String>, Memory> {
+    let mut lines = Vec::new(alloc);
+    lines.push(first_line(alloc, space, told.number)?)?;
+    for answer in told.answers.iter() {
+        lines.push(format!(in alloc; "  answer {answer}")?)?;
+    }
+    let words = told.words.as_str();
+    lines.push(format!(in alloc; "  {words}")?)?;
+    for wrote in told.writes.iter() {
+        let sign = wrote.sign;
+        let text = wrote.text.as_str();
+        lines.push(format!(in alloc; "  {sign} {text}")?)?;
+    }
+    Ok(lines)
+}
+
+fn first_line(alloc: Global, space: &Space, number: u32) -> Result<String, Memory> {
+    let time = space.time_of(number);
+    let curator = space.curator_of(number);
+    let line = space.update_text(alloc, number)?;
+    Ok(format!(in alloc; "{number}  {time}  {curator}  {line}")?)
+}
+
+fn object(alloc: Global, space: &Space, told: &Told) -> Result<Object, Memory> {
+    let mut object = object_of(alloc, "update")?;
+    add_update(alloc, &mut object, space, told)?;
+    Ok(object)
+}
+
+fn add_update(
+    alloc: Global,
+    object: &mut Object,
+    space: &Space,
+    told: &Told,
+) -> Result<(), Memory> {
+    object.number("number", i64::from(told.number))?;
+    object.text("curator", space.curator_of(told.number))?;
+    object.text("time", space.time_of(told.number))?;
+    object.text("line", space.update_text(alloc, told.number)?.as_str())?;
+    object.text("state", status_word(told.status))?;
+    object.items("answers", text_items(alloc, told.answers.as_slice())?)?;
+    object.items("writes", write_items(alloc, told.writes.as_slice())?)?;
+    Ok(())
+}
+
+fn write_items(alloc: Global, writes: &[Wrote]) -> Result<Items, Memory> {
+    let mut items = Items::new(alloc);
+    for wrote in writes {
+        let sign = wrote.sign;
+        let text = wrote.text.as_str();
+        items.text(format!(in alloc; "{sign}{text}")?.as_str())?;
+    }
+    Ok(items)
+}

@@ -1,0 +1,129 @@
+//! The lines and the objects of `questions`.
+
+use crate::questions::{Telling, Told};
+use base_types::Memory;
+use std::alloc::Global;
+use ws_json::Object;
+use ws_question::{AskedNow, question_lines, question_object};
+use ws_seen::object_of;
+use ws_space::Space;
+
+/// The updates with their questions. It is refused only for want of memory.
+pub(crate) fn lines(
+    alloc: Global,
+    space: &Space,
+    told: &[Told],
+    telling: Telling<'_>,
+) -> Result<Vec<String>, Memory> {
+    let mut lines = Vec::new(alloc);
+    for one in told {
+        if !lines.is_empty() {
+            lines.push(String::new(alloc))?;
+        }
+        add_lines(alloc, &mut lines, space, one, telling)?;
+    }
+    if lines.is_empty() {
+        lines.push(String::from_str(alloc, "no questions")?)?;
+    }
+    Ok(lines)
+}
+
+fn add_lines(
+    alloc: Global,
+    lines: &mut Vec<String>,
+    space: &Space,
+    told: &Told,
+    telling: Telling<'_>,
+) -> Result<(), Memory> {
+    lines.push(first_line(alloc, space, told.number)?)?;
+    match &told.asked {
+        Some(asked) => add_asked(alloc, lines, space, asked, telling),
+        None => {
+            let words = told.words.as_str();
+            lines.push(format!(in alloc; "  {words}")?)?;
+            Ok(())
+        }
+    }
+}
+
+fn first_line(alloc: Global, space: &Space, number: u32) -> Result<String, Memory> {
+    let curator = space.curator_of(number);
+    let line = space.update_text(alloc, number)?;
+    Ok(format!(in alloc; "{number} {curator}: {line}")?)
+}
+
+fn add_asked(
+    alloc: Global,
+    lines: &mut Vec<String>,
+    space: &Space,
+    asked: &AskedNow,
+    telling: Telling<'_>,
+) -> Result<(), Memory> {
+    for line in question_lines(alloc, space, asked, telling.like, telling.limit)?.iter() {
+        lines.push(format!(in alloc; "  {line}")?)?;
+    }
+    if asked.misfit {
+        lines.push(String::from_str(alloc, "  an answer that it had does not fit any more")?)?;
+    }
+    Ok(())
+}
+
+/// The updates with their questions, each an object. It is refused only for want of memory.
+pub(crate) fn objects(
+    alloc: Global,
+    space: &Space,
+    told: &[Told],
+    telling: Telling<'_>,
+) -> Result<Vec<Object>, Memory> {
+    let mut objects = Vec::new(alloc);
+    for one in told {
+        objects.push(object(alloc, space, one, telling)?)?;
+    }
+    if objects.is_empty() {
+        objects.push(nothing(alloc, space)?)?;
+    }
+    Ok(objects)
+}
+
+fn nothing(alloc: Global, space: &Space) -> Result<Object, Memory> {
+    let mut object = object_of(alloc, "question")?;
+    object.text("kind", "nothing")?;
+    object.number("at", i64::from(space.at()))?;
+    Ok(object)
+}
+
+fn object(
+    alloc: Global,
+    space: &Space,
+    told: &Told,
+    telling: Telling<'_>,
+) -> Result<Object, Memory> {
+    let mut object = match &told.asked {
+        Some(asked) => question_object(alloc, space, asked, telling.like, telling.limit)?,
+        None => unasked(alloc, told)?,
+    };
+    add_update(alloc, &mut object, space, told)?;
+    Ok(object)
+}
+
+fn add_update(
+    alloc: Global,
+    object: &mut Object,
+    space: &Space,
+    told: &Told,
+) -> Result<(), Memory> {
+    object.text("reply", "question")?;
+    object.number("number", i64::from(told.number))?;
+    object.text("curator", space.curator_of(told.number))?;
+    object.text("line", space.update_text(alloc, told.number)?.as_str())?;
+    object.number("at", i64::from(space.at()))?;
+    object.text("time", space.time_of(told.number))?;
+    Ok(())
+}
+
+fn unasked(alloc: Global, told: &Told) -> Result<Object, Memory> {
+    let mut object = Object::new(alloc);
+    object.text("kind", told.kind)?;
+    object.text("words", told.words.as_str())?;
+    Ok(object)
+}

@@ -1,0 +1,198 @@
+//! `status`: what is here.
+
+use crate::counts::{Counts, counted};
+use crate::status_object::status_object;
+use base_types::Memory;
+use std::alloc::{AllocError, Global};
+use std::fmt::Write;
+use ws_fault::Status;
+use ws_print::{add_count, add_form, add_rule};
+use ws_reply::{Context, Reply};
+use ws_seen::{seen_object, seen_text};
+use ws_space::Space;
+use ws_written::Relation;
+
+// How many of those that wait are told.
+const WAITING: usize = 10;
+
+/// What is here: relations, mappings, what waits, the last update and the last record. It is refused only for want of memory.
+pub(crate) fn status(alloc: Global, space: &Space, context: &Context<'_>) -> Result<Reply, Memory> {
+    let counts = counted(alloc, space)?;
+    reply(alloc, space, context, &counts)
+}
+
+fn reply(
+    alloc: Global,
+    space: &Space,
+    context: &Context<'_>,
+    counts: &Counts,
+) -> Result<Reply, Memory> {
+    if context.is_json() {
+        let object = status_object(alloc, space, context, counts)?;
+        return seen_object(alloc, Status::Done, object);
+    }
+    Ok(seen_text(Status::Done, lines(alloc, space, context, counts)?))
+}
+
+fn lines(
+    alloc: Global,
+    space: &Space,
+    context: &Context<'_>,
+    counts: &Counts,
+) -> Result<Vec<String>, Memory> {
+    let mut lines = Vec::new(alloc);
+    add_relations(alloc, &mut lines, space, context, counts)?;
+    add_mappings(alloc, &mut lines, space, counts)?;
+    add_waiting(alloc, &mut lines, space, counts)?;
+    lines.push(last_line(alloc, space)?)?;
+    add_next(alloc, &mut lines, counts)?;
+    Ok(lines)
+}
+
+/// The last part of a path.
+pub(crate) fn last_part(path: &str) -> &str {
+    match path.rsplit_once('/') {
+        Some((_, last)) => last,
+        None => path,
+    }
+}
+
+fn add_relations(
+    alloc: Global,
+    lines: &mut Vec<String>,
+    space: &Space,
+    context: &Context<'_>,
+    counts: &Counts,
+) -> Result<(), Memory> {
+    lines.push(first_line(alloc, space, context, counts)?)?;
+    for (relation, count) in space.relations.iter().zip(counts.rows.iter()) {
+        lines.push(relation_line(alloc, relation, *count)?)?;
+    }
+    Ok(())
+}
+
+// `FILE: N tuples in K relations, U unknowns`.
+fn first_line(
+    alloc: Global,
+    space: &Space,
+    context: &Context<'_>,
+    counts: &Counts,
+) -> Result<String, AllocError> {
+    let mut line = String::from_str(alloc, last_part(context.file))?;
+    line.push_str(": ")?;
+    add_count(&mut line, total(counts.rows.as_slice()), "tuple")?;
+    line.push_str(" in ")?;
+    add_count(&mut line, space.relations.len(), "relation")?;
+    line.push_str(", ")?;
+    add_count(&mut line, counts.unknowns, "unknown")?;
+    Ok(line)
+}
+
+fn total(counts: &[usize]) -> usize {
+    let mut total = 0usize;
+    for count in counts {
+        total = total.saturating_add(*count);
+    }
+    total
+}
+
+fn relation_line(alloc: Global, relation: &Relation, count: usize) -> Result<String, AllocError> {
+    let mut line = String::from_str(alloc, "  ")?;
+    add_form(&mut line, relation)?;
+    write!(line, " {count}")?;
+    Ok(line)
+}
+
+fn add_mappings(
+    alloc: Global,
+    lines: &mut Vec<String>,
+    space: &Space,
+    counts: &Counts,
+) -> Result<(), Memory> {
+    for mapping in space.state.in_force() {
+        let mut line = String::from_str(alloc, "in force: ")?;
+        add_mapping(&mut line, space, *mapping)?;
+        lines.push(line)?;
+    }
+    for (mapping, count) in counts.proposed.iter() {
+        lines.push(proposed_line(alloc, space, *mapping, *count)?)?;
+    }
+    Ok(())
+}
+
+fn proposed_line(
+    alloc: Global,
+    space: &Space,
+    mapping: u16,
+    count: usize,
+) -> Result<String, Memory> {
+    let mut line = String::from_str(alloc, "proposed: ")?;
+    add_mapping(&mut line, space, mapping)?;
+    if count == 0 {
+        let name = space.mapping_name(mapping);
+        write!(line, "  (no violations: adopt {name})")?;
+        return Ok(line);
+    }
+    line.push_str("  (")?;
+    add_count(&mut line, count, "violation")?;
+    line.push(')')?;
+    Ok(line)
+}
+
+fn add_mapping(out: &mut String, space: &Space, mapping: u16) -> Result<(), Memory> {
+    if let Some(rule) = space.rule(mapping) {
+        add_rule(out, space.relations.as_slice(), rule)?;
+    }
+    Ok(())
+}
+
+fn add_waiting(
+    alloc: Global,
+    lines: &mut Vec<String>,
+    space: &Space,
+    counts: &Counts,
+) -> Result<(), Memory> {
+    for number in counts.waiting.iter().take(WAITING) {
+        lines.push(waiting_line(alloc, space, *number)?)?;
+    }
+    if WAITING < counts.waiting.len() {
+        let more = counts.waiting.len().saturating_sub(WAITING);
+        lines.push(format!(in alloc; "waits: and {more} more")?)?;
+    }
+    Ok(())
+}
+
+fn waiting_line(alloc: Global, space: &Space, number: u32) -> Result<String, Memory> {
+    let curator = space.curator_of(number);
+    let line = space.update_text(alloc, number)?;
+    Ok(format!(in alloc; "waits: {number} {curator}: {line}")?)
+}
+
+// `last update N, at record R; K stand since ..`.
+fn last_line(alloc: Global, space: &Space) -> Result<String, Memory> {
+    let last = space.state.last();
+    let at = space.at();
+    let mut line = format!(in alloc; "last update {last}, at record {at}; ")?;
+    let count = space.state.order().len();
+    if count == 1 {
+        line.push_str("1 stands")?;
+    } else {
+        write!(line, "{count} stand")?;
+    }
+    let folded = space.folded;
+    if folded == 0 {
+        line.push_str(" since the beginning")?;
+    } else {
+        write!(line, " since the fold at {folded}")?;
+    }
+    Ok(line)
+}
+
+fn add_next(alloc: Global, lines: &mut Vec<String>, counts: &Counts) -> Result<(), Memory> {
+    if !counts.waiting.is_empty() {
+        lines.push(String::from_str(alloc, "next: questions")?)?;
+    } else if counts.proposed.iter().any(|(_, count)| 0 < *count) {
+        lines.push(String::from_str(alloc, "next: violations")?)?;
+    }
+    Ok(())
+}

@@ -1,0 +1,142 @@
+//! The object of `status`.
+
+use crate::counts::Counts;
+use crate::status::last_part;
+use base_types::Memory;
+use std::alloc::Global;
+use ws_json::{Items, Object};
+use ws_print::add_stamp;
+use ws_reply::Context;
+use ws_seen::{column_items, number_of, object_of};
+use ws_space::Space;
+use ws_written::Relation;
+
+/// What is here. It is refused only for want of memory.
+pub(crate) fn status_object(
+    alloc: Global,
+    space: &Space,
+    context: &Context<'_>,
+    counts: &Counts,
+) -> Result<Object, Memory> {
+    let mut object = object_of(alloc, "status")?;
+    add_members(alloc, &mut object, space, context, counts)?;
+    Ok(object)
+}
+
+fn add_members(
+    alloc: Global,
+    object: &mut Object,
+    space: &Space,
+    context: &Context<'_>,
+    counts: &Counts,
+) -> Result<(), Memory> {
+    object.text("file", last_part(context.file))?;
+    object.number("at", i64::from(space.at()))?;
+    object.number("last", i64::from(space.state.last()))?;
+    object.text("curator", context.curator)?;
+    object.text("created", created_text(alloc, space)?.as_str())?;
+    object.number("folded", i64::from(space.folded))?;
+    object.number("stand", number_of(space.state.order().len()))?;
+    object.number("unknowns", number_of(counts.unknowns))?;
+    add_lists(alloc, object, space, counts)?;
+    Ok(())
+}
+
+fn created_text(alloc: Global, space: &Space) -> Result<String, Memory> {
+    let mut created = String::new(alloc);
+    add_stamp(&mut created, &space.created)?;
+    Ok(created)
+}
+
+fn add_lists(
+    alloc: Global,
+    object: &mut Object,
+    space: &Space,
+    counts: &Counts,
+) -> Result<(), Memory> {
+    object.items("relations", relation_items(alloc, space, counts)?)?;
+    object.items("in_force", in_force_items(alloc, space)?)?;
+    object.object("proposed", proposed_object(alloc, space, counts)?)?;
+    object.items("waits", waiting_items(alloc, space, counts)?)?;
+    Ok(())
+}
+
+fn relation_items(alloc: Global, space: &Space, counts: &Counts) -> Result<Items, Memory> {
+    let mut items = Items::new(alloc);
+    for (relation, count) in space.relations.iter().zip(counts.rows.iter()) {
+        items.object(relation_object(alloc, relation, *count)?)?;
+    }
+    Ok(items)
+}
+
+fn relation_object(alloc: Global, relation: &Relation, count: usize) -> Result<Object, Memory> {
+    let mut object = Object::new(alloc);
+    add_relation(alloc, &mut object, relation, count)?;
+    Ok(object)
+}
+
+fn add_relation(
+    alloc: Global,
+    object: &mut Object,
+    relation: &Relation,
+    count: usize,
+) -> Result<(), Memory> {
+    object.text("name", relation.name.as_str())?;
+    object.items("columns", column_items(alloc, relation)?)?;
+    object.items("key", key_items(alloc, relation)?)?;
+    object.number("count", number_of(count))?;
+    Ok(())
+}
+
+// The numbers of the columns of the key, counted from 1.
+fn key_items(alloc: Global, relation: &Relation) -> Result<Items, Memory> {
+    let mut items = Items::new(alloc);
+    for (place, column) in relation.columns.iter().enumerate() {
+        if column.key {
+            items.number(number_of(place).saturating_add(1))?;
+        }
+    }
+    Ok(items)
+}
+
+fn in_force_items(alloc: Global, space: &Space) -> Result<Items, Memory> {
+    let mut items = Items::new(alloc);
+    for mapping in space.state.in_force() {
+        items.text(space.mapping_name(*mapping))?;
+    }
+    Ok(items)
+}
+
+fn proposed_object(alloc: Global, space: &Space, counts: &Counts) -> Result<Object, Memory> {
+    let mut object = Object::new(alloc);
+    for (mapping, count) in counts.proposed.iter() {
+        object.number(space.mapping_name(*mapping), number_of(*count))?;
+    }
+    Ok(object)
+}
+
+fn waiting_items(alloc: Global, space: &Space, counts: &Counts) -> Result<Items, Memory> {
+    let mut items = Items::new(alloc);
+    for waiting in counts.waiting.iter() {
+        items.object(waiting_object(alloc, space, *waiting)?)?;
+    }
+    Ok(items)
+}
+
+fn waiting_object(alloc: Global, space: &Space, waiting: u32) -> Result<Object, Memory> {
+    let mut object = Object::new(alloc);
+    add_waiting(alloc, &mut object, space, waiting)?;
+    Ok(object)
+}
+
+fn add_waiting(
+    alloc: Global,
+    object: &mut Object,
+    space: &Space,
+    waiting: u32,
+) -> Result<(), Memory> {
+    object.number("number", i64::from(waiting))?;
+    object.text("curator", space.curator_of(waiting))?;
+    object.text("line", space.update_text(alloc, waiting)?.as_str())?;
+    Ok(())
+}

@@ -1,0 +1,59 @@
+//! How all updates stand, for a log that tells many of them.
+
+use base_types::Memory;
+use std::alloc::Global;
+use std::collections::BTreeMap;
+use ws_state::{State, Status};
+
+/// How each update stands, by its number.
+#[derive(Drop)]
+pub(crate) struct Statuses {
+    statuses: BTreeMap<u32, Status>,
+}
+
+impl Statuses {
+    /// How the updates of the state stand, found in one walk over them. It is refused only for want of memory.
+    pub(crate) fn of(alloc: Global, state: &State) -> Result<Statuses, Memory> {
+        let places = by_places(alloc, state)?;
+        let mut statuses = BTreeMap::new(alloc);
+        for (held, status) in state.held().iter().zip(places.iter()) {
+            if statuses.insert(held.update.number, *status).is_err() {
+                return Err(Memory);
+            }
+        }
+        Ok(Statuses { statuses })
+    }
+
+    /// How the update of this number stands; None if there is none.
+    pub(crate) fn status(&self, number: u32) -> Option<Status> {
+        self.statuses.get(&number).copied()
+    }
+}
+
+// By the places of the updates among those that are held.
+fn by_places(alloc: Global, state: &State) -> Result<Vec<Status>, Memory> {
+    let mut places = Vec::new(alloc);
+    for held in state.held().iter() {
+        places.push(if held.is_undone {
+            Status::Undone
+        } else {
+            Status::GivenUp
+        })?;
+    }
+    for standing in state.order().as_slice() {
+        mark(&mut places, standing.held, Status::Stands);
+    }
+    for waiting in state.waiting().as_slice() {
+        mark(&mut places, waiting.held, Status::Waits);
+    }
+    Ok(places)
+}
+
+// What is undone stays so.
+fn mark(places: &mut [Status], place: usize, status: Status) {
+    if let Some(one) = places.get_mut(place) {
+        if *one != Status::Undone {
+            *one = status;
+        }
+    }
+}

@@ -1,0 +1,67 @@
+//! What draws an unknown.
+ghost use Rattle.std.specs.Prelude.{◌≡◌, map, IfOk};
+ghost use Rattle.std.specs.Cmp.Lexicographic.{pointwise};
+ghost use Rattle.def_chase.specs.Values.{same_fact};
+ghost use Rattle.base_types.specs.Meanings.{fact_of};
+ghost use Rattle.ws_lines.specs.Meanings.{source_of};
+ghost use Rattle.def_workspace.specs.Places.{Cause as CauseMeant, same_cause, same_source};
+ghost use Rattle.ws_names.specs.Meanings.{cause_of};
+
+use base_types::{Memory, TryCopy, TupleList};
+use std::alloc::Global;
+use ws_lines::Source;
+
+/// What draws an unknown: a mapping, for its variable of this number, when its left side has this image, by names.
+#[derive(Drop)]
+pub struct Cause {
+    pub source: Source,
+    pub variable: u16,
+    pub image: TupleList,
+}
+
+impl Cause {
+    /// Whether it is the same cause. It takes no memory.
+    pub fn is(&self, other: &Cause) -> bool
+        ensures same { result ≡ same_cause (cause_of self.now) (cause_of other.now) }
+    {
+        let is_same_source = is_same(self.source, other.source);
+        let is_same_variable = self.variable == other.variable;
+        let is_same_image = are_same(&self.image, &other.image);
+        is_same_source && is_same_variable && is_same_image
+    }
+}
+
+fn is_same(one: Source, other: Source) -> bool
+    ensures same { result ≡ same_source (source_of one) (source_of other) }
+{
+    match (one, other) {
+        (Source::By(one), Source::By(other)) => one == other,
+        (Source::Fix(one), Source::Fix(other)) => one == other,
+        (Source::Anew, Source::Anew) => true,
+        _ => false,
+    }
+}
+
+#[tactic(auto, using(crate::proofs::Images::same_images))]
+fn are_same(one: &TupleList, other: &TupleList) -> bool
+    ensures same { result ≡
+        pointwise same_fact (map fact_of one.now.items) (map fact_of other.now.items) }
+{
+    one == other
+}
+
+impl TryCopy for Cause {
+    ghost Meaning = { CauseMeant };
+
+    ghost meaning = { cause_of };
+
+    fn copy(&self, alloc: Global) -> Result<Cause, Memory>
+        ensures same { IfOk result (λ copy. cause_of copy ≡ cause_of self.now) }
+    {
+        Ok(Cause {
+            source: self.source,
+            variable: self.variable,
+            image: self.image.copy(alloc)?,
+        })
+    }
+}

@@ -1,0 +1,10 @@
+//! What unknowns are called: the name of each null that stands, and the place that each cause has in its update.
+#![tactic(auto)]
+
+mod causes;
+mod names;
+mod places;
+
+pub use crate::causes::Cause;
+pub use crate::names::Names;
+pub use crate::places::{Place, Places, give};

@@ -1,0 +1,116 @@
+//! The log of a page: each line of each record, and how its update stands.
+
+use crate::pages::Document;
+use base_types::Memory;
+use std::alloc::{AllocError, Global};
+use std::collections::BTreeMap;
+use std::fmt::Write;
+use ws_draw::add_html;
+use ws_print::{add_choice, add_line, add_update};
+use ws_space::{Recorded, Space};
+use ws_written::{Line, Relation};
+
+const HEADER: &str =
+    "<h2 id=\"log\">Log</h2><div class=\"wide\"><table><tr><th scope=\"col\">Record</th>\
+     <th scope=\"col\">When</th><th scope=\"col\">Who</th><th scope=\"col\">Update</th>\
+     <th scope=\"col\">Command</th><th scope=\"col\">State</th></tr>";
+
+// How the update of each number stands.
+type States = BTreeMap<u32, &'static str>;
+
+/// Adds the log, which ends the page. It is refused only for want of memory.
+pub(crate) fn add_log(document: &mut Document, space: &Space) -> Result<(), Memory> {
+    document.say(HEADER)?;
+    let states = states_of(document.alloc, space)?;
+    let relations = space.relations.as_slice();
+    for recorded in space.records.iter() {
+        add_record(document, relations, &states, recorded)?;
+    }
+    document.say("</table></div></body></html>")?;
+    Ok(())
+}
+
+fn states_of(alloc: Global, space: &Space) -> Result<States, AllocError> {
+    let mut states = BTreeMap::new(alloc);
+    for held in space.state.held() {
+        let word = if held.is_undone { "undone" } else { "given up" };
+        states.insert(held.update.number, word)?;
+    }
+    for standing in space.state.order().as_slice() {
+        put_state(space, &mut states, standing.held, "done")?;
+    }
+    for waiting in space.state.waiting().as_slice() {
+        put_state(space, &mut states, waiting.held, "waits")?;
+    }
+    Ok(states)
+}
+
+fn put_state(
+    space: &Space,
+    states: &mut States,
+    held: usize,
+    word: &'static str,
+) -> Result<(), AllocError> {
+    if let Some(held) = space.state.held().get(held) {
+        states.insert(held.update.number, word)?;
+    }
+    Ok(())
+}
+
+fn add_record(
+    document: &mut Document,
+    relations: &[Relation],
+    states: &States,
+    recorded: &Recorded,
+) -> Result<(), AllocError> {
+    let begin = beginning(document, recorded)?;
+    for said in recorded.record.lines.iter() {
+        let mut line = String::from_str(document.alloc, begin.as_str())?;
+        add_cells(document.alloc, &mut line, relations, states, &said.line)?;
+        document.add(line)?;
+    }
+    Ok(())
+}
+
+// The cells that the lines of a record have in common.
+fn beginning(document: &Document, recorded: &Recorded) -> Result<String, AllocError> {
+    let at = recorded.at;
+    let time = document.shown(recorded.record.stamp.time.as_str())?;
+    let curator = document.shown(recorded.record.stamp.curator.as_str())?;
+    let alloc = document.alloc;
+    format!(in alloc; "<tr><td class=\"n\">{at}</td><td>{time}</td><td>{curator}</td>")
+}
+
+// The number of the update that a line is, the line, and how the update stands.
+fn add_cells(
+    alloc: Global,
+    out: &mut String,
+    relations: &[Relation],
+    states: &States,
+    line: &Line,
+) -> Result<(), AllocError> {
+    out.push_str("<td class=\"n\">")?;
+    let mut state = "";
+    if let Line::Update(numbered) = line {
+        let number = numbered.number;
+        write!(out, "{number}")?;
+        state = states.get(&number).copied().unwrap_or("");
+    }
+    out.push_str("</td><td><code>")?;
+    add_html(out, line_text(alloc, relations, line)?.as_str())?;
+    write!(out, "</code></td><td>{state}</td></tr>")
+}
+
+// A line without the number of its update, or the question that it answers.
+fn line_text(alloc: Global, relations: &[Relation], line: &Line) -> Result<String, AllocError> {
+    let mut text = String::new(alloc);
+    match line {
+        Line::Update(numbered) => add_update(&mut text, relations, &numbered.update)?,
+        Line::Answer(number, answer) => {
+            write!(text, "answer {number} ")?;
+            add_choice(&mut text, relations, &answer.choice)?;
+        }
+        _ => add_line(&mut text, relations, line)?,
+    }
+    Ok(text)
+}

@@ -1,0 +1,152 @@
+//! `page`: the workspace as one file of HTML, without script or anything from elsewhere.
+
+use crate::page_log::add_log;
+use crate::page_mappings::add_mappings;
+use crate::page_questions::add_questions;
+use crate::page_tables::add_tables;
+use crate::page_unknowns::{Unknowns, add_unknowns, unknowns_of};
+use crate::style::STYLE;
+use base_types::Memory;
+use std::alloc::{AllocError, Global};
+use ws_draw::add_html;
+use ws_fault::Refusal;
+use ws_reply::Context;
+use ws_space::Space;
+
+const META: &str = "<html lang=\"en\"><head><meta charset=\"utf-8\"><meta name=\"viewport\" \
+                    content=\"width=device-width\">";
+
+const NAVIGATION: &str =
+    "<nav><a href=\"#questions\">Questions</a> · <a href=\"#tables\">Tables</a> · \
+                          <a href=\"#unknowns\">Unknowns</a> · <a href=\"#mappings\">Mappings</a> · \
+                          <a href=\"#log\">Log</a></nav>";
+
+/// The lines of a page that is being written.
+#[derive(Drop)]
+pub(crate) struct Document {
+    pub alloc: Global,
+    pub lines: Vec<String>,
+}
+
+impl Document {
+    /// Adds a line. It is refused only for want of memory.
+    pub fn say(&mut self, line: &str) -> Result<(), AllocError> {
+        self.lines.push(String::from_str(self.alloc, line)?)?;
+        Ok(())
+    }
+
+    /// Adds a line that is written already. It is refused only for want of memory.
+    pub fn add(&mut self, line: String) -> Result<(), AllocError> {
+        self.lines.push(line)?;
+        Ok(())
+    }
+
+    /// The text as it is shown by HTML. It is refused only for want of memory.
+    pub fn shown(&self, text: &str) -> Result<String, AllocError> {
+        let mut out = String::new(self.alloc);
+        add_html(&mut out, text)?;
+        Ok(out)
+    }
+
+    /// The text as it is shown by HTML, as code. It is refused only for want of memory.
+    pub fn code(&self, text: &str) -> Result<String, AllocError> {
+        let mut out = String::from_str(self.alloc, "<code>")?;
+        add_html(&mut out, text)?;
+        out.push_str("</code>")?;
+        Ok(out)
+    }
+}
+
+// The last part of the path of a file.
+fn name_of(file: &str) -> &str {
+    match file.rsplit_once('/') {
+        Some((_, name)) => name,
+        None => file,
+    }
+}
+
+/// The lines of the page. It is refused only for want of memory.
+pub fn page(
+    alloc: Global,
+    space: &mut Space,
+    context: &Context<'_>,
+) -> Result<Vec<String>, Refusal> {
+    let mut document = Document {
+        alloc,
+        lines: Vec::new(alloc),
+    };
+    add_all(&mut document, space, context)?;
+    Ok(document.lines)
+}
+
+fn add_all(
+    document: &mut Document,
+    space: &mut Space,
+    context: &Context<'_>,
+) -> Result<(), Memory> {
+    let unknowns = unknowns_of(document.alloc, space)?;
+    add_parts(document, space, context, &unknowns)
+}
+
+fn add_parts(
+    document: &mut Document,
+    space: &mut Space,
+    context: &Context<'_>,
+    unknowns: &Unknowns,
+) -> Result<(), Memory> {
+    add_top(document, space, context, unknowns.len())?;
+    add_questions(document, space)?;
+    add_tables(document, space)?;
+    add_unknowns(document, unknowns)?;
+    add_mappings(document, space)?;
+    add_log(document, space)
+}
+
+// What comes before the parts.
+fn add_top(
+    document: &mut Document,
+    space: &Space,
+    context: &Context<'_>,
+    unknowns: usize,
+) -> Result<(), AllocError> {
+    let name = document.shown(name_of(context.file))?;
+    add_head(document, name.as_str())?;
+    add_counts(document, space, name.as_str(), unknowns)?;
+    document.say(NAVIGATION)
+}
+
+// The head, with the style sheet in it.
+fn add_head(document: &mut Document, name: &str) -> Result<(), AllocError> {
+    document.say("<!doctype html>")?;
+    document.say(META)?;
+    let alloc = document.alloc;
+    let mut line = format!(in alloc; "<title>{name}</title><style>")?;
+    for (place, style) in STYLE.iter().enumerate() {
+        if 0 < place {
+            document.add(line)?;
+            line = String::new(alloc);
+        }
+        line.push_str(style)?;
+    }
+    line.push_str("</style></head><body>")?;
+    document.add(line)
+}
+
+fn add_counts(
+    document: &mut Document,
+    space: &Space,
+    name: &str,
+    unknowns: usize,
+) -> Result<(), AllocError> {
+    let alloc = document.alloc;
+    let at = space.at();
+    let last = space.state.last();
+    let tuples = space.state.facts().len();
+    let waiting = space.state.waiting().len();
+    let mut line = format!(in alloc; "<h1>{name}</h1><p>At record {at}; last update {last}. ")?;
+    let counts = format!(in alloc;
+        "Tuples: {tuples}. Unknowns: {unknowns}. Waiting: {waiting}.</p>"
+    )?;
+    line.push_str(counts.as_str())?;
+    document.add(line)
+}

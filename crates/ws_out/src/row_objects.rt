@@ -1,0 +1,71 @@
+//! Rows as objects of JSON, one a line.
+
+use crate::texts::{facts_of, json_text};
+use std::alloc::{AllocError, Global};
+use std::fmt::Write;
+use ws_fault::Refusal;
+use ws_print::add_unknown;
+use ws_space::Space;
+use ws_written::{Fact, Relation, Value};
+
+/// Adds an object for each row of a relation. It is refused only for want of memory.
+pub(crate) fn add_objects(
+    alloc: Global,
+    lines: &mut Vec<String>,
+    space: &Space,
+    relation: u32,
+) -> Result<(), Refusal> {
+    let Some(found) = space.relations.get(relation as usize) else {
+        return Ok(());
+    };
+    let begin = beginning(alloc, found)?;
+    let keys = keys_of(alloc, found)?;
+    for fact in facts_of(alloc, space, relation)? {
+        lines.push(object_line(alloc, begin.as_str(), keys.as_slice(), &fact)?)?;
+    }
+    Ok(())
+}
+
+// What stands in front of the members of a row.
+fn beginning(alloc: Global, relation: &Relation) -> Result<String, AllocError> {
+    let name = json_text(alloc, relation.name.as_str())?;
+    format!(in alloc; "{{\"relation\":{name},\"row\":{{")
+}
+
+// The names of the columns, each with its colon.
+fn keys_of(alloc: Global, relation: &Relation) -> Result<Vec<String>, AllocError> {
+    let mut keys = Vec::new(alloc);
+    for column in relation.columns.iter() {
+        let name = json_text(alloc, column.name.as_str())?;
+        keys.push(format!(in alloc; "{name}:")?)?;
+    }
+    Ok(keys)
+}
+
+fn object_line(
+    alloc: Global,
+    begin: &str,
+    keys: &[String],
+    fact: &Fact,
+) -> Result<String, AllocError> {
+    let mut line = String::from_str(alloc, begin)?;
+    for (place, (key, value)) in keys.iter().zip(fact.values.iter()).enumerate() {
+        line.push_str(if 0 < place { "," } else { "" })?;
+        line.push_str(key.as_str())?;
+        add_value(alloc, &mut line, value)?;
+    }
+    line.push_str("}}")?;
+    Ok(line)
+}
+
+fn add_value(alloc: Global, line: &mut String, value: &Value) -> Result<(), AllocError> {
+    match value {
+        Value::Number(number) => write!(line, "{number}"),
+        Value::Text(text) => line.push_str(json_text(alloc, text.as_str())?.as_str()),
+        Value::Unknown(unknown) => {
+            line.push_str("{\"unknown\":\"")?;
+            add_unknown(line, *unknown)?;
+            line.push_str("\"}")
+        }
+    }
+}

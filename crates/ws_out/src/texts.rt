@@ -1,0 +1,26 @@
+//! The rows of a relation as they are said, and texts as JSON has them.
+
+use base_types::Memory;
+use serde_json::Value;
+use std::alloc::{AllocError, Global};
+use ws_space::Space;
+use ws_written::Fact;
+
+/// The tuples of a relation as they are said, in order. It is refused only for want of memory.
+pub(crate) fn facts_of(alloc: Global, space: &Space, relation: u32) -> Result<Vec<Fact>, Memory> {
+    let mut facts = Vec::new(alloc);
+    for tuple in space.rows(alloc, relation)? {
+        facts.push(space.shown(alloc, &tuple)?)?;
+    }
+    Ok(facts)
+}
+
+/// The number of a relation by its place.
+pub(crate) fn relation_at(place: usize) -> u32 {
+    u32::try_from(place).unwrap_or(u32::MAX)
+}
+
+/// A text between quotes, as JSON has it. It is refused only for want of memory.
+pub(crate) fn json_text(alloc: Global, text: &str) -> Result<String, AllocError> {
+    Value::try_from_str(alloc, text)?.to_string(alloc)
+}

@@ -1,0 +1,80 @@
+//! A question as it stands now.
+
+use crate::ranking::ranked;
+use base_types::{Memory, Tuple};
+use std::alloc::Global;
+use ws_run::Question;
+use ws_space::Space;
+use ws_written::Rule;
+
+/// What an update asks, over what stands now.
+#[derive(Drop)]
+pub struct AskedNow {
+    /// The number of the update.
+    pub number: u32,
+    /// The number of the mapping that asks; of a `fix` that of the mapping that is repaired.
+    pub mapping: u16,
+    /// The question, by names.
+    pub question: Question,
+    /// The places of the candidates, those first that share most values with what is known.
+    pub ranked: Vec<usize>,
+    /// Whether the update has an answer that does not fit any more.
+    pub misfit: bool,
+}
+
+impl AskedNow {
+    /// The tuple that is wanted; None of a question that asks what goes.
+    pub fn wanted(&self) -> Option<&Tuple> {
+        if self.question.is_positive {
+            return self.question.asked.tuples.get(0);
+        }
+        None
+    }
+
+    /// The candidate of this number, counted from 1.
+    pub fn candidate(&self, number: usize) -> Option<&Tuple> {
+        self.question.candidates.get(number.checked_sub(1)?)
+    }
+
+    /// How many candidates there are.
+    pub fn count(&self) -> usize {
+        self.question.candidates.len()
+    }
+
+    /// The mapping that asks.
+    pub(crate) fn rule<'a>(&self, space: &'a Space) -> Option<&'a Rule> {
+        space.rule(self.mapping)
+    }
+}
+
+/// The question of the update of this number, by names. It is refused only for want of memory.
+pub fn asked_now(
+    alloc: Global,
+    space: &Space,
+    number: u32,
+    question: Question,
+) -> Result<AskedNow, Memory> {
+    let ranked = ranked(alloc, &question)?;
+    let misfit = (question.taken as usize) < answers_of(space, number);
+    Ok(AskedNow {
+        number,
+        mapping: space
+            .source_mapping(question.asked.source)
+            .unwrap_or(u16::MAX),
+        question,
+        ranked,
+        misfit,
+    })
+}
+
+// How many answers the update has, if it waits.
+fn answers_of(space: &Space, number: u32) -> usize {
+    for waiting in space.state.waiting().as_slice() {
+        if let Some(held) = space.state.held().get(waiting.held) {
+            if held.update.number == number {
+                return waiting.answers.len();
+            }
+        }
+    }
+    0
+}

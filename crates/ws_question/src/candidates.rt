@@ -1,0 +1,61 @@
+//! The candidates of a question as they are shown.
+
+use crate::asked::AskedNow;
+use crate::texts::fact_text;
+use base_types::Memory;
+use std::alloc::Global;
+use ws_space::Space;
+
+/// A candidate: its number, counted from 1, and the tuple as a command takes it.
+#[derive(Drop)]
+pub(crate) struct Candidate {
+    pub number: usize,
+    pub text: String,
+}
+
+/// Candidates that have a text in them: so many of them, and how many there are.
+#[derive(Drop)]
+pub(crate) struct Candidates {
+    pub shown: Vec<Candidate>,
+    pub fit: usize,
+}
+
+/// The candidates that have the text in them, capitals apart; all if there is none. At most `limit` are shown. It is refused
+/// only for want of memory.
+pub(crate) fn candidates_of(
+    alloc: Global,
+    space: &Space,
+    asked: &AskedNow,
+    like: Option<&str>,
+    limit: usize,
+) -> Result<Candidates, Memory> {
+    let mut shown = Vec::new(alloc);
+    let mut fit = 0usize;
+    for place in asked.ranked.iter() {
+        let Some(tuple) = asked.question.candidates.get(*place) else {
+            continue;
+        };
+        if like.is_none() && limit <= shown.len() {
+            fit = fit.saturating_add(1);
+            continue;
+        }
+        let text = fact_text(alloc, space, tuple)?;
+        if has_text(alloc, text.as_str(), like)? {
+            fit = fit.saturating_add(1);
+            if shown.len() < limit {
+                let number = place.saturating_add(1);
+                shown.push(Candidate { number, text })?;
+            }
+        }
+    }
+    Ok(Candidates { shown, fit })
+}
+
+fn has_text(alloc: Global, text: &str, like: Option<&str>) -> Result<bool, Memory> {
+    let Some(like) = like else {
+        return Ok(true);
+    };
+    let text = text.to_lowercase(alloc)?;
+    let like = like.to_lowercase(alloc)?;
+    Ok(text.as_str().contains(like.as_str()))
+}

@@ -1,0 +1,153 @@
+//! The lines of a question.
+
+use crate::asked::AskedNow;
+use crate::candidates::{Candidate, candidates_of};
+use crate::texts::{count_text, fact_text, facts_text};
+use base_types::{Memory, Write};
+use std::alloc::Global;
+use ws_print::{add_quoted, add_rule};
+use ws_space::Space;
+
+// How much of what the update did before it asked is told.
+const SO_FAR: usize = 6;
+
+/// The line that asks. It is refused only for want of memory.
+pub fn question_line(alloc: Global, space: &Space, asked: &AskedNow) -> Result<String, Memory> {
+    let name = match asked.rule(space) {
+        Some(rule) => rule.name.as_str(),
+        None => "",
+    };
+    match asked.wanted() {
+        Some(wanted) => {
+            let wanted = fact_text(alloc, space, wanted)?;
+            Ok(format!(in alloc; "{name} wants {wanted}. Is it one of these?")?)
+        }
+        None => Ok(format!(in alloc; "{name} no longer holds for these. Which of them go?")?),
+    }
+}
+
+/// The lines of the question: what it asks, at most `limit` of the candidates that have the text `like` in them, and why it
+/// asks. It is refused only for want of memory.
+pub fn question_lines(
+    alloc: Global,
+    space: &Space,
+    asked: &AskedNow,
+    like: Option<&str>,
+    limit: usize,
+) -> Result<Vec<String>, Memory> {
+    let mut lines = Vec::new(alloc);
+    lines.push(question_line(alloc, space, asked)?)?;
+    add_candidates(alloc, &mut lines, space, asked, like, limit)?;
+    add_why(alloc, &mut lines, space, asked)?;
+    add_so_far(alloc, &mut lines, space, asked)?;
+    Ok(lines)
+}
+
+fn add_candidates(
+    alloc: Global,
+    lines: &mut Vec<String>,
+    space: &Space,
+    asked: &AskedNow,
+    like: Option<&str>,
+    limit: usize,
+) -> Result<(), Memory> {
+    let found = candidates_of(alloc, space, asked, like, limit)?;
+    let width = number_width(alloc, asked)?;
+    for Candidate { number, text } in found.shown.iter() {
+        let number = format!(in alloc; "{number}")?;
+        lines.push(numbered(alloc, number.as_str(), width, text.as_str())?)?;
+    }
+    if limit < found.fit {
+        let more = found.fit.saturating_sub(limit);
+        let number = asked.number;
+        lines.push(format!(in alloc;
+            "  .. and {more} more: questions {number} --like TEXT, or --limit N"
+        )?)?;
+    }
+    if found.fit == 0 {
+        add_none_like(alloc, lines, asked, like)?;
+    }
+    if asked.question.is_positive {
+        lines.push(numbered(alloc, "new", width, "none of them")?)?;
+    }
+    Ok(())
+}
+
+fn add_none_like(
+    alloc: Global,
+    lines: &mut Vec<String>,
+    asked: &AskedNow,
+    like: Option<&str>,
+) -> Result<(), Memory> {
+    let Some(like) = like else {
+        return Ok(());
+    };
+    let count = count_text(alloc, asked.count(), "candidate")?;
+    let mut line = format!(in alloc; "  none of {count} has ")?;
+    add_quoted(&mut line, like)?;
+    line.push_str(" in it")?;
+    lines.push(line)?;
+    Ok(())
+}
+
+// How wide the numbers are.
+fn number_width(alloc: Global, asked: &AskedNow) -> Result<usize, Memory> {
+    let count = asked.count();
+    let digits = format!(in alloc; "{count}")?;
+    if asked.question.is_positive {
+        return Ok(digits.len().max(3));
+    }
+    Ok(digits.len())
+}
+
+// A line of the list: its number, in so many columns, and its text.
+fn numbered(alloc: Global, number: &str, width: usize, text: &str) -> Result<String, Memory> {
+    let mut line = format!(in alloc; "  {number}")?;
+    for _ in number.len()..width {
+        line.push(' ')?;
+    }
+    line.push_str("  ")?;
+    line.push_str(text)?;
+    Ok(line)
+}
+
+// By which mapping and since when.
+fn add_why(
+    alloc: Global,
+    lines: &mut Vec<String>,
+    space: &Space,
+    asked: &AskedNow,
+) -> Result<(), Memory> {
+    let mut line = String::from_str(alloc, "why: ")?;
+    if let Some(rule) = asked.rule(space) {
+        add_rule(&mut line, space.relations.as_slice(), rule)?;
+    }
+    lines.push(line)?;
+    if asked.question.is_positive {
+        let since = facts_text(alloc, space, asked.question.since.as_slice())?;
+        lines.push(format!(in alloc; "     since {since}")?)?;
+    }
+    Ok(())
+}
+
+// What the update did before it asked.
+fn add_so_far(
+    alloc: Global,
+    lines: &mut Vec<String>,
+    space: &Space,
+    asked: &AskedNow,
+) -> Result<(), Memory> {
+    let so_far = asked.question.so_far.as_slice();
+    for write in so_far.iter().take(SO_FAR) {
+        let (sign, text) = match write {
+            Write::Insert(tuple) => ("+", fact_text(alloc, space, tuple)?),
+            Write::Delete(tuple) => ("-", fact_text(alloc, space, tuple)?),
+        };
+        lines.push(format!(in alloc; "so far: {sign} {text}")?)?;
+    }
+    if SO_FAR < so_far.len() {
+        let more = so_far.len().saturating_sub(SO_FAR);
+        lines.push(format!(in alloc; "so far: and {more} more")?)?;
+    }
+    Ok(())
+}

@@ -1,0 +1,118 @@
+//! Tuples that are like one that is not there.
+
+use crate::texts::inner_text;
+use base_types::{Column, Memory, Tuple, Value};
+use chase_match::Walk;
+use std::alloc::Global;
+use std::collections::BTreeMap;
+use ws_fault::Nearest;
+use ws_print::add_value;
+use ws_space::Space;
+use ws_written::{Fact, Value as Said};
+
+// How many tuples are told.
+const TOLD: usize = 3;
+
+// How many tuples that share a value are looked at.
+const LOOKED_AT: usize = 200;
+
+/// The tuples that share most values with this one, as commands take them, three at most; if none shares one, those whose
+/// first value is spelled like its own. It is refused only for want of memory.
+pub fn near_texts(alloc: Global, space: &Space, fact: &Fact) -> Result<Vec<String>, Memory> {
+    let sharing = sharing(alloc, space, fact)?;
+    if sharing.is_empty() {
+        return alike(alloc, space, fact);
+    }
+    let mut texts = Vec::new(alloc);
+    for tuple in sharing.iter() {
+        texts.push(inner_text(alloc, space, tuple)?)?;
+    }
+    Ok(texts)
+}
+
+// The tuples that share most values with it, and then by their order.
+fn sharing(alloc: Global, space: &Space, fact: &Fact) -> Result<Vec<Tuple>, Memory> {
+    let mut counts: BTreeMap<Tuple, usize> = BTreeMap::new(alloc);
+    for (column, value) in fact.values.iter().enumerate() {
+        if let Some(value) = space.within_value(alloc, value)? {
+            count_sharing(&mut counts, space, fact.relation, column, &value)?;
+        }
+    }
+    let mut found = Vec::new(alloc);
+    for (tuple, count) in counts.iter() {
+        found.push((*count, tuple.share()?))?;
+    }
+    found.sort_by(|one, other| other.0.cmp(&one.0))?;
+    let mut first = Vec::new(alloc);
+    for (_, tuple) in found.iter().take(TOLD) {
+        first.push(tuple.share()?)?;
+    }
+    Ok(first)
+}
+
+// Counts those that have the value in the column.
+fn count_sharing(
+    counts: &mut BTreeMap<Tuple, usize>,
+    space: &Space,
+    relation: u32,
+    column: usize,
+    value: &Value,
+) -> Result<(), Memory> {
+    let (Ok(relation), Ok(number)) = (u16::try_from(relation), u16::try_from(column)) else {
+        return Ok(());
+    };
+    let column = Some(Column { number, value });
+    let mut walk = Walk::new(space.state.facts(), relation, column);
+    for _ in 0..LOOKED_AT {
+        match walk.next() {
+            Some(tuple) => count_one(counts, tuple)?,
+            None => return Ok(()),
+        }
+    }
+    Ok(())
+}
+
+// Counts the tuple once more.
+fn count_one(counts: &mut BTreeMap<Tuple, usize>, tuple: &Tuple) -> Result<(), Memory> {
+    let count = match counts.get(tuple) {
+        Some(count) => *count,
+        None => 0,
+    };
+    match counts.insert(tuple.share()?, count.saturating_add(1)) {
+        Ok(_) => Ok(()),
+        Err(_) => Err(Memory),
+    }
+}
+
+// The first tuples whose first value is spelled like its own.
+fn alike(alloc: Global, space: &Space, fact: &Fact) -> Result<Vec<String>, Memory> {
+    let mut texts = Vec::new(alloc);
+    let Some(first) = fact.values.first() else {
+        return Ok(texts);
+    };
+    let word = value_text(alloc, first)?;
+    let rows = space.rows(alloc, fact.relation)?;
+    for tuple in rows.as_slice().iter() {
+        if texts.len() < TOLD && is_alike(alloc, space, word.as_str(), tuple)? {
+            texts.push(inner_text(alloc, space, tuple)?)?;
+        }
+    }
+    Ok(texts)
+}
+
+fn is_alike(alloc: Global, space: &Space, word: &str, tuple: &Tuple) -> Result<bool, Memory> {
+    let shown = space.shown(alloc, tuple)?;
+    let Some(first) = shown.values.first() else {
+        return Ok(false);
+    };
+    let spelled = value_text(alloc, first)?;
+    let mut nearest = Nearest::to(alloc, word)?;
+    nearest.consider(spelled.as_str())?;
+    Ok(nearest.name().is_some())
+}
+
+fn value_text(alloc: Global, value: &Said) -> Result<String, Memory> {
+    let mut text = String::new(alloc);
+    add_value(&mut text, value)?;
+    Ok(text)
+}

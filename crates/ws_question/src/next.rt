@@ -1,0 +1,21 @@
+//! The commands that may come after a question.
+
+use crate::asked::AskedNow;
+use base_types::Memory;
+use std::alloc::Global;
+
+/// The commands that answer it, show it again, and take its update back. It is refused only for want of memory.
+pub fn question_next(alloc: Global, asked: &AskedNow) -> Result<Vec<String>, Memory> {
+    let number = asked.number;
+    let mut next = Vec::new(alloc);
+    if let Some(place) = asked.ranked.first() {
+        let first = place.saturating_add(1);
+        next.push(format!(in alloc; "answer {number} {first}")?)?;
+    }
+    if asked.question.is_positive {
+        next.push(format!(in alloc; "answer {number} new")?)?;
+    }
+    next.push(format!(in alloc; "questions {number}")?)?;
+    next.push(format!(in alloc; "undo {number}")?)?;
+    Ok(next)
+}

@@ -1,0 +1,38 @@
+//! How an update stands.
+
+use std::alloc::Global;
+use ws_fault::{Fault, Refusal, Status as Code};
+use ws_space::Space;
+use ws_state::Status;
+
+/// How the update of this number stands. It is refused if there is none, or for want of memory.
+pub fn status_of(alloc: Global, space: &Space, number: u32) -> Result<Status, Refusal> {
+    if let Some(status) = space.state.status(number) {
+        return Ok(status);
+    }
+    let mut fault = Fault {
+        status: Code::Refused,
+        words: format!(in alloc; "there is no update {number}")?,
+        place: None,
+        hint: None,
+        more: Vec::new(alloc),
+    };
+    if number <= space.folded {
+        fault.words = format!(in alloc; "update {number} is from before the last fold")?;
+        fault.hint = Some(String::from_str(alloc, "what was folded stays")?);
+    } else {
+        let last = space.state.last();
+        fault.hint = Some(format!(in alloc; "the last is {last}")?);
+    }
+    Err(Refusal::Fault(fault))
+}
+
+/// What a status is called.
+pub fn status_word(status: Status) -> &'static str {
+    match status {
+        Status::Stands => "stands",
+        Status::Waits => "waits",
+        Status::Undone => "undone",
+        Status::GivenUp => "given up",
+    }
+}

@@ -1,0 +1,61 @@
+//! Updates whose steps do not suffice.
+
+use def_memory::Memory;
+use std::alloc::Global;
+use ws_fault::{Fault, Refusal, Status};
+use ws_question::count_text;
+use ws_run::MadeList;
+use ws_space::Space;
+
+const MORE: &str = "more steps: --steps N, or ask whether the mappings go round for ever";
+
+/// How many tuples the mapping of this name made.
+#[derive(Drop)]
+struct Count {
+    name: String,
+    tuples: u32,
+}
+
+/// The refusal of an update for which so many steps did not suffice, with what each mapping made in them.
+pub fn spent_fault(
+    alloc: Global,
+    space: &Space,
+    steps: u32,
+    made: &MadeList,
+) -> Result<Refusal, Memory> {
+    let mut hint = String::new(alloc);
+    for count in counts_of(alloc, space, made)?.iter() {
+        hint.push_str(if hint.is_empty() { "" } else { ", " })?;
+        hint.push_str(count_words(alloc, count)?.as_str())?;
+    }
+    hint.push_str(if hint.is_empty() { "" } else { "; " })?;
+    hint.push_str(MORE)?;
+    Ok(Refusal::Fault(Fault {
+        status: Status::Spent,
+        words: format!(in alloc; "spent: {steps} steps did not suffice; nothing was changed")?,
+        place: None,
+        hint: Some(hint),
+        more: Vec::new(alloc),
+    }))
+}
+
+// What each mapping made, by their names; those that made nothing are left out.
+fn counts_of(alloc: Global, space: &Space, made: &MadeList) -> Result<Vec<Count>, Memory> {
+    let mut counts = Vec::new(alloc);
+    for one in made.as_slice().iter().filter(|one| one.tuples > 0) {
+        counts.push(Count {
+            name: space.source_name(alloc, one.source)?,
+            tuples: one.tuples,
+        })?;
+    }
+    counts.sort_by(|one: &Count, other: &Count| one.name.as_str().cmp(other.name.as_str()))?;
+    Ok(counts)
+}
+
+// `NAME made N tuples`; a repair by the name of its mapping.
+fn count_words(alloc: Global, count: &Count) -> Result<String, Memory> {
+    let name = count.name.as_str();
+    let name = name.strip_prefix("_fix_").unwrap_or(name);
+    let tuples = count_text(alloc, count.tuples as usize, "tuple")?;
+    Ok(format!(in alloc; "{name} made {tuples}")?)
+}

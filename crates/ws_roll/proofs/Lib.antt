@@ -1,9 +1,0 @@
-pub mod Frames
-pub mod Fronts
-pub mod Leaving
-pub mod OneReading
-pub mod Onwards
-pub mod Openings
-pub mod TornBytes
-pub mod Processes
-pub mod Turns

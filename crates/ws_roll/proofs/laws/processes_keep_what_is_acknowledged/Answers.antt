@@ -1,6 +1,0 @@
-use Rattle.ws_roll.specs.Rolls.{IsRoll}
-use Rattle.ws_roll.proofs.Processes.{over_lives}
-use Rattle.ws_roll.proofs.laws.processes_keep_what_is_acknowledged.Goals as goal
-
-pub returns : goal.returns
-returns g c = λ before payloads found lives left. over_lives (IsRoll before) g.D.Disk.state (c.rolls_have_one_reading.ensures before) payloads found lives left

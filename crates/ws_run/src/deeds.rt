@@ -1,0 +1,180 @@
+//! The ops of an update, one after the other.
+
+use crate::following::{follow, followed};
+use crate::halts::Halt;
+use crate::ops::{Run, take_op};
+use crate::resolving::{drawn_as, found, found_all, found_null, found_spelled, found_tuples};
+use crate::settings::Setting;
+use crate::threads::Thread;
+use base_types::{Facts, Memory, Null, Operation, Tuple, TupleList, Value};
+use std::alloc::Global;
+use ws_ground::{Ground, found_as, news_of, to_fix, wanted};
+use ws_lines::{Deed, GivenList, SpelledTuple};
+
+/// Takes the ops of an update whole over the ground, one after the other, with these answers. If it halts, the ops that were
+/// done before have to be taken back. An update that puts a mapping in force or takes one away has none.
+pub fn run_deed(
+    alloc: Global,
+    setting: &Setting<'_>,
+    ground: &mut Ground,
+    thread: &mut Thread,
+    answers: &GivenList,
+    deed: &Deed,
+) -> Result<(), Halt> {
+    let run = Run {
+        setting,
+        answers,
+        first: ground.trail.len(),
+    };
+    match deed {
+        Deed::Insert(tuples) => {
+            insert_all(alloc, run, ground, thread, tuples.as_slice(), news_of(deed))
+        }
+        Deed::Delete(tuples) => {
+            let tuples = found_tuples(alloc, ground, tuples.as_slice())?;
+            remove_all(alloc, run, ground, thread, &tuples)
+        }
+        Deed::Fill(name, value) => fill(alloc, run, ground, thread, *name, value),
+        Deed::Swap(old, new) => swap(alloc, run, ground, thread, old, new, news_of(deed)),
+        Deed::Fix(_, values) => fix(alloc, run, ground, thread, values.as_slice()),
+        Deed::Force(_) => Ok(()),
+        Deed::Drop(_) => Ok(()),
+    }
+}
+
+fn insert_all(
+    alloc: Global,
+    run: Run<'_>,
+    ground: &mut Ground,
+    thread: &mut Thread,
+    tuples: &[SpelledTuple],
+    news: u32,
+) -> Result<(), Halt> {
+    let first = ground.last;
+    draw(alloc, run, ground, thread, news)?;
+    let tuples = found_spelled(alloc, ground, first, tuples)?;
+    add_all(alloc, run, ground, thread, &tuples)?;
+    settle(alloc, run, ground, thread, first, news)
+}
+
+// One tuple comes, and then the other goes, if it is there by then.
+fn swap(
+    alloc: Global,
+    run: Run<'_>,
+    ground: &mut Ground,
+    thread: &mut Thread,
+    old: &Tuple,
+    new: &SpelledTuple,
+    news: u32,
+) -> Result<(), Halt> {
+    let first = ground.last;
+    draw(alloc, run, ground, thread, news)?;
+    let comes = found_spelled(alloc, ground, first, std::slice::from_ref(new))?;
+    let goes = found_tuples(alloc, ground, std::slice::from_ref(old))?;
+    add_all(alloc, run, ground, thread, &comes)?;
+    remove_all(alloc, run, ground, thread, &goes)?;
+    settle(alloc, run, ground, thread, first, news)
+}
+
+// Draws so many new unknowns.
+fn draw(
+    alloc: Global,
+    run: Run<'_>,
+    ground: &mut Ground,
+    thread: &mut Thread,
+    news: u32,
+) -> Result<(), Halt> {
+    for number in 0..news {
+        let tuple = wanted(alloc, number + 1)?;
+        take_op(alloc, run, ground, thread, Operation::Insert(tuple))?;
+    }
+    Ok(())
+}
+
+// Takes away what says of them what they are.
+fn settle(
+    alloc: Global,
+    run: Run<'_>,
+    ground: &mut Ground,
+    thread: &mut Thread,
+    first: u32,
+    news: u32,
+) -> Result<(), Halt> {
+    for number in 0..news {
+        let tuple = settling(alloc, thread, first, number + 1)?;
+        take_op(alloc, run, ground, thread, Operation::Delete(tuple))?;
+    }
+    Ok(())
+}
+
+// What says of the new unknown of this number what it is by now.
+fn settling(alloc: Global, thread: &Thread, first: u32, number: u32) -> Result<Tuple, Memory> {
+    let null = Value::Null(drawn_as(first, number)?);
+    let now = follow(alloc, thread.steps.as_slice(), &null)?;
+    found_as(alloc, number, now)
+}
+
+fn add_all(
+    alloc: Global,
+    run: Run<'_>,
+    ground: &mut Ground,
+    thread: &mut Thread,
+    tuples: &TupleList,
+) -> Result<(), Halt> {
+    for tuple in tuples.as_slice() {
+        let tuple = followed(alloc, thread, tuple)?;
+        take_op(alloc, run, ground, thread, Operation::Insert(tuple))?;
+    }
+    Ok(())
+}
+
+// Those that are there by then go.
+fn remove_all(
+    alloc: Global,
+    run: Run<'_>,
+    ground: &mut Ground,
+    thread: &mut Thread,
+    tuples: &TupleList,
+) -> Result<(), Halt> {
+    for tuple in tuples.as_slice() {
+        let tuple = followed(alloc, thread, tuple)?;
+        if ground.facts.contains(&tuple) {
+            take_op(alloc, run, ground, thread, Operation::Delete(tuple))?;
+        }
+    }
+    Ok(())
+}
+
+fn fill(
+    alloc: Global,
+    run: Run<'_>,
+    ground: &mut Ground,
+    thread: &mut Thread,
+    name: Null,
+    value: &Value,
+) -> Result<(), Halt> {
+    let null = found_null(ground, name)?;
+    let value = found(alloc, ground, value)?;
+    take_op(alloc, run, ground, thread, Operation::Replace(null, value))
+}
+
+// What says that a mapping is to be repaired comes, and goes as what it is by then.
+fn fix(
+    alloc: Global,
+    run: Run<'_>,
+    ground: &mut Ground,
+    thread: &mut Thread,
+    values: &[Value],
+) -> Result<(), Halt> {
+    let values = found_all(alloc, ground, values)?;
+    let tuple = to_fix(alloc, values)?;
+    take_op(
+        alloc,
+        run,
+        ground,
+        thread,
+        Operation::Insert(tuple.share()?),
+    )?;
+    let now = followed(alloc, thread, &tuple)?;
+    take_op(alloc, run, ground, thread, Operation::Delete(now))
+}

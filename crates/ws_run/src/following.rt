@@ -1,0 +1,43 @@
+//! What the steps so far made of a value.
+
+use crate::threads::{Step, Thread};
+use base_types::{Memory, TryCopy, Tuple, Value, ValueList};
+use run_note::{Rewriting, Way};
+use std::alloc::Global;
+
+/// What these steps made of the value. It is refused only for want of memory.
+pub fn follow(alloc: Global, steps: &[Step], value: &Value) -> Result<Value, Memory> {
+    let mut now = value.copy(alloc)?;
+    for step in steps {
+        now = follow_one(alloc, step, now)?;
+    }
+    Ok(now)
+}
+
+fn follow_one(alloc: Global, step: &Step, value: Value) -> Result<Value, Memory> {
+    match &step.note.way {
+        Way::Rewrites(Rewriting::Replaces { from, to }) => {
+            if value == *from {
+                return to.copy(alloc);
+            }
+            Ok(value)
+        }
+        Way::Rewrites(Rewriting::Unifies(unifier)) => match &value {
+            Value::Null(null) => match unifier.get(*null) {
+                Some(other) => other.copy(alloc),
+                None => Ok(value),
+            },
+            _ => Ok(value),
+        },
+        _ => Ok(value),
+    }
+}
+
+/// What the run so far made of the tuple. It is refused only for want of memory.
+pub(crate) fn followed(alloc: Global, thread: &Thread, tuple: &Tuple) -> Result<Tuple, Memory> {
+    let mut values = ValueList::new(alloc);
+    for value in tuple.values.as_slice() {
+        values.push(follow(alloc, thread.steps.as_slice(), value)?)?;
+    }
+    Tuple::new(alloc, tuple.relation, values)
+}

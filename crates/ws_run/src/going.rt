@@ -1,0 +1,157 @@
+//! The steps of an op, one after the other, up to its end or its halt.
+ghost use Rattle.std.specs.Prelude.{◌≡◌, ◌<◌, [], true, None, OnOk};
+ghost use Rattle.def_chase.specs.Repository.{IsRepository};
+ghost use Rattle.run_step.specs.Turns.{view_of};
+
+use crate::asking::{fitting, told};
+use crate::drawing::name_drawn;
+use crate::halts::{Halt, MadeList, Reason};
+use crate::ops::Over;
+use crate::settings::Setting;
+use crate::stepping::make;
+use crate::threads::Thread;
+use base_types::{ChoiceList, Facts, Memory, Null};
+use chase_eval::WatchedView;
+use chase_update::{Attempt, Outcome, Want};
+use run_step::{Next, what_next};
+use set_facts::IndexedFacts;
+use std::alloc::Global;
+use ws_names::Names;
+
+/// Makes the steps of the program, which has made none, up to its end, and gives the choices that it took. It is halted if it asks
+/// and no answer fits, or if it does not end done.
+pub(crate) fn go(
+    alloc: Global,
+    over: Over<'_>,
+    names: &mut Names,
+    thread: &mut Thread,
+    choices: &mut ChoiceList,
+    program: &mut Attempt,
+) -> Result<(), Halt>
+    requires between { program.old.reading ≡ None }
+    requires fresh { program.old.attempt.own ≡ [] }
+{
+    let in_force = over.run.setting.in_force;
+    let mut view = in_force.view(alloc, over.facts, program.direction())?;
+    over.facts.is_in_order();
+    go_with(alloc, over, names, thread, choices, program, &mut view)
+}
+
+// The same with a view of the tuples, which is of the mappings in force, in the op's direction, and sees its writes.
+fn go_with(
+    alloc: Global,
+    over: Over<'_>,
+    names: &mut Names,
+    thread: &mut Thread,
+    choices: &mut ChoiceList,
+    program: &mut Attempt,
+    view: &mut WatchedView<'_, IndexedFacts>,
+) -> Result<(), Halt>
+    requires between { program.old.reading ≡ None }
+    requires seen { view.old ≡ view_of over.run.setting.now.in_force.now view.old.below
+        program.old.attempt }
+    requires sorted { IsRepository view.old.below }
+{
+    let looks = over.run.setting.steps.saturating_add(1);
+    'steps: for _ in 0..looks {
+        if let Want::Ended(outcome) = program.wants() {
+            return ended(alloc, names, outcome);
+        }
+        if let Some(reason) = advance(alloc, over, names, thread, choices, program, view)? {
+            return Err(Halt::Left(reason));
+        }
+    }
+    Err(Halt::Left(too_long(alloc)))
+}
+
+// Makes the next step, or tells why it is not made.
+#[tactic(auto, using(crate::proofs::Onward::rests_after, crate::proofs::Onward::sees_on))]
+fn advance(
+    alloc: Global,
+    over: Over<'_>,
+    names: &mut Names,
+    thread: &mut Thread,
+    choices: &mut ChoiceList,
+    program: &mut Attempt,
+    view: &mut WatchedView<'_, IndexedFacts>,
+) -> Result<Option<Reason>, Memory>
+    requires between { program.old.reading ≡ None }
+    requires seen { view.old ≡ view_of over.run.setting.now.in_force.now view.old.below
+        program.old.attempt }
+    requires sorted { IsRepository view.old.below }
+    ensures between { OnOk result (program.new.reading ≡ None) }
+    ensures seen { OnOk result (view.new ≡ view_of over.entry.run.setting.now.in_force.now
+        view.old.below program.new.attempt) }
+{
+    let setting = over.run.setting;
+    if !has_steps_left(setting, program) {
+        return Ok(Some(too_long(alloc)));
+    }
+    if let Some(reason) = offer(alloc, over, names, thread, choices, program)? {
+        return Ok(Some(reason));
+    }
+    match what_next(program, choices) {
+        Next::Step(choice) => {
+            let before = program.nulls();
+            thread
+                .steps
+                .push(make(alloc, setting, view, program, choice)?)?;
+            name_drawn(alloc, setting, names, thread, program, before)?;
+            Ok(None)
+        }
+        Next::Rest(_) => Ok(Some(too_long(alloc))),
+    }
+}
+
+// If the program is at a question: takes the choice of the next answer if that fits, and else tells what is asked.
+fn offer(
+    alloc: Global,
+    over: Over<'_>,
+    names: &Names,
+    thread: &mut Thread,
+    choices: &mut ChoiceList,
+    program: &Attempt,
+) -> Result<Option<Reason>, Memory> {
+    let Want::Choice(question) = program.wants() else {
+        return Ok(None);
+    };
+    let given = over.run.answers.get(thread.taken as usize);
+    match fitting(alloc, over.run.setting, names, question, given)? {
+        Some(choice) => {
+            choices.push(choice)?;
+            thread.taken = thread.taken.saturating_add(1);
+            Ok(None)
+        }
+        None => {
+            let asked = told(alloc, over, names, program, question, thread.taken)?;
+            Ok(Some(Reason::Asks(asked)))
+        }
+    }
+}
+
+// Whether the op may make another step.
+fn has_steps_left(setting: &Setting<'_>, program: &Attempt) -> bool
+    ensures left { result ≡ true → program.now.attempt.steps < setting.now.budget }
+{
+    setting.budget.allows(program.steps()) && program.steps() < setting.steps
+}
+
+// That the program has ended so.
+fn ended(alloc: Global, names: &Names, outcome: Outcome) -> Result<(), Halt> {
+    match outcome {
+        Outcome::Done => Ok(()),
+        Outcome::Spent => Err(Halt::Left(too_long(alloc))),
+        Outcome::Refused { update, place } => {
+            let null = Null {
+                update,
+                attempt: 0,
+                place,
+            };
+            Err(Halt::Left(Reason::NotThere(names.name_of(null))))
+        }
+    }
+}
+
+fn too_long(alloc: Global) -> Reason {
+    Reason::TooLong(MadeList::new(alloc))
+}

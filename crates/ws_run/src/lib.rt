@@ -1,0 +1,27 @@
+//! One update of a workspace run over a set of tuples: its ops taken whole, one after the other, with the names of what is
+//! drawn, the answers that fit by names, and notes of each step.
+#![tactic(auto)]
+
+mod asking;
+mod deeds;
+mod drawing;
+mod following;
+mod going;
+mod halts;
+mod in_force;
+mod ops;
+mod resolving;
+mod settings;
+mod stepping;
+mod threads;
+
+pub use crate::deeds::run_deed;
+pub use crate::following::follow;
+pub use crate::halts::{Halt, Made, MadeList, Question, Reason};
+pub use crate::in_force::InForce;
+pub use crate::settings::{Setting, SourceList};
+pub use crate::threads::{Op, OpList, Step, StepList, Taking, Thread};
+pub use ws_ground::{
+    FIX, Ground, Mark, Touch, Touched, UNKNOWN, WANT, drawing_mapping, fixing_mapping, image_for,
+    news_of, shared_variables,
+};

@@ -1,0 +1,108 @@
+//! What the values of an update are in the tuples.
+
+use crate::halts::{Halt, Reason};
+use base_types::{Facts, Memory, Null, TryCopy, Tuple, TupleList, Value, ValueList};
+use set_facts::IndexedFacts;
+use std::alloc::Global;
+use ws_ground::{FIX, Ground};
+use ws_lines::{Spelled, SpelledTuple};
+
+/// What the value is in the tuples; halted at an unknown that is not there.
+pub(crate) fn found(alloc: Global, ground: &Ground, value: &Value) -> Result<Value, Halt> {
+    match value {
+        Value::Null(name) => Ok(Value::Null(found_null(ground, *name)?)),
+        Value::Int(_) => Ok(value.copy(alloc)?),
+        Value::Word(_) => Ok(value.copy(alloc)?),
+    }
+}
+
+/// The null of that name; halted if it is not there.
+pub(crate) fn found_null(ground: &Ground, name: Null) -> Result<Null, Halt> {
+    if let Some(null) = ground.names.null_called(name) {
+        if stands_in(&ground.facts, null) {
+            return Ok(null);
+        }
+    }
+    Err(Halt::Left(Reason::NotThere(name)))
+}
+
+// Whether some tuple has the null. All tuples of a relation have as many columns as its first one.
+fn stands_in(facts: &IndexedFacts, null: Null) -> bool {
+    let value = Value::Null(null);
+    (0..=FIX).any(|relation| stands_in_relation(facts, relation, &value))
+}
+
+fn stands_in_relation(facts: &IndexedFacts, relation: u16, value: &Value) -> bool {
+    match facts.first(relation) {
+        Some(tuple) => {
+            let columns = u16::try_from(tuple.values.len()).unwrap_or(u16::MAX);
+            (0..columns).any(|column| facts.scan(relation, column, value, None).is_some())
+        }
+        None => false,
+    }
+}
+
+/// What the values are.
+pub(crate) fn found_all(
+    alloc: Global,
+    ground: &Ground,
+    values: &[Value],
+) -> Result<ValueList, Halt> {
+    let mut all = ValueList::new(alloc);
+    for value in values {
+        all.push(found(alloc, ground, value)?)?;
+    }
+    Ok(all)
+}
+
+/// What the tuples are.
+pub(crate) fn found_tuples(
+    alloc: Global,
+    ground: &Ground,
+    tuples: &[Tuple],
+) -> Result<TupleList, Halt> {
+    let mut all = TupleList::new(alloc);
+    for tuple in tuples {
+        let values = found_all(alloc, ground, tuple.values.as_slice())?;
+        all.push(Tuple::new(alloc, tuple.relation, values)?)?;
+    }
+    Ok(all)
+}
+
+/// What the tuples of a line are; its new unknowns were drawn by the ops after the first so many.
+pub(crate) fn found_spelled(
+    alloc: Global,
+    ground: &Ground,
+    first: u32,
+    tuples: &[SpelledTuple],
+) -> Result<TupleList, Halt> {
+    let mut all = TupleList::new(alloc);
+    for tuple in tuples {
+        let mut values = ValueList::new(alloc);
+        for value in tuple.values.as_slice() {
+            values.push(found_value(alloc, ground, first, value)?)?;
+        }
+        all.push(Tuple::new(alloc, tuple.relation, values)?)?;
+    }
+    Ok(all)
+}
+
+fn found_value(alloc: Global, ground: &Ground, first: u32, value: &Spelled) -> Result<Value, Halt> {
+    match value {
+        Spelled::Known(value) => found(alloc, ground, value),
+        Spelled::New(number) => Ok(Value::Null(drawn_as(first, *number)?)),
+    }
+}
+
+/// The null that the new unknown of this number is when it is drawn, by the op of this number after the first so many. It is
+/// refused only if numbers do not suffice.
+pub(crate) fn drawn_as(first: u32, number: u32) -> Result<Null, Memory> {
+    match first.checked_add(number) {
+        Some(update) => Ok(Null {
+            update,
+            attempt: 0,
+            place: 1,
+        }),
+        None => Err(Memory),
+    }
+}

@@ -1,0 +1,114 @@
+//! One step of an op, with its note and why it took tuples away.
+ghost use Rattle.std.specs.Prelude.{◌≡◌, ◌<◌, None, OnOk};
+ghost use Rattle.std.specs.Option.{option_map, option_copied};
+ghost use Rattle.def_chase.specs.Repository.{IsRepository};
+ghost use Rattle.def_chase.specs.Updates.{direction_of};
+ghost use Rattle.base_types.specs.Meanings.{choice_of};
+ghost use Rattle.chase_update.specs.Wishes.{wish};
+ghost use Rattle.run_step.specs.Turns.{StepsBy, HasStepped, seen_with};
+
+use crate::settings::Setting;
+use crate::threads::{Step, Taking};
+use base_types::{Choice, Direction, Memory, Operation};
+use chase_eval::WatchedView;
+use chase_query::{Query, Reply};
+use chase_question::Question;
+use chase_update::{Attempt, Want};
+use run_note::{Note, Way, noted};
+use set_facts::IndexedFacts;
+use std::alloc::Global;
+use ws_lines::Source;
+
+/// Makes one step of the program over the tuples that the view is of, with the choice if it is at a question, and tells of it. The
+/// view is of the mappings in force and in the program's direction. It sees the program's own writes, and then also those of the
+/// step. It is refused only for want of memory; the program may then be within the step.
+pub(crate) fn make(
+    alloc: Global,
+    setting: &Setting<'_>,
+    view: &mut WatchedView<'_, IndexedFacts>,
+    program: &mut Attempt,
+    choice: Option<&Choice>,
+) -> Result<Step, Memory>
+    requires between { program.old.reading ≡ None }
+    requires wanted { StepsBy (wish program.old) (option_map choice_of (option_copied choice)) }
+    requires rules { view.old.rules ≡ setting.now.in_force.now }
+    requires heading { view.old.heading ≡ direction_of program.old.attempt.operation }
+    requires seen { view.old.own ≡ program.old.attempt.own }
+    requires sorted { IsRepository view.old.below }
+    requires left { program.old.attempt.steps < setting.now.budget }
+    ensures stepped { OnOk result (HasStepped setting.now.in_force.now setting.now.budget
+        view.old.below (option_map choice_of (option_copied choice.entry))
+        program.old program.new) }
+    ensures seen { OnOk result (view.new ≡ seen_with view.old program.new.attempt.own) }
+{
+    let taking = taking(alloc, setting, view, program)?;
+    let mappings = setting.in_force.mappings();
+    let note = noted(alloc, program, view, choice, mappings, setting.budget)?;
+    let source = source_of(setting, &note);
+    Ok(Step {
+        note,
+        source,
+        taking,
+    })
+}
+
+fn source_of(setting: &Setting<'_>, note: &Note) -> Option<Source> {
+    match &note.way {
+        Way::Generates { mapping, .. } => Some(setting.source(*mapping)),
+        _ => None,
+    }
+}
+
+// Why the program's next step takes tuples away, if it does.
+fn taking(
+    alloc: Global,
+    setting: &Setting<'_>,
+    view: &mut WatchedView<'_, IndexedFacts>,
+    program: &Attempt,
+) -> Result<Taking, Memory>
+    requires between { program.now.reading ≡ None }
+    ensures same { view.new ≡ view.old }
+{
+    match program.wants() {
+        Want::Choice(Question::Negative { mapping, .. }) => {
+            Ok(Taking::Chosen(setting.source(*mapping)))
+        }
+        Want::NextStep => {
+            if program.is_at_start() {
+                return Ok(taking_at_start(program.operation()));
+            }
+            if program.is_looking() && program.direction() == Direction::Backward {
+                return needed(alloc, setting, view);
+            }
+            Ok(Taking::Became)
+        }
+        _ => Ok(Taking::Became),
+    }
+}
+
+fn taking_at_start(operation: &Operation) -> Taking {
+    match operation {
+        Operation::Delete(_) => Taking::Named,
+        _ => Taking::Became,
+    }
+}
+
+// By the first mapping that has a violation.
+fn needed(
+    alloc: Global,
+    setting: &Setting<'_>,
+    view: &mut WatchedView<'_, IndexedFacts>,
+) -> Result<Taking, Memory>
+    ensures same { view.new ≡ view.old }
+{
+    for place in 0..setting.in_force.mappings().len() {
+        let Ok(number) = u16::try_from(place) else {
+            break;
+        };
+        let answer = view.eval(&Query::Violation(number), alloc)?;
+        if let Reply::Image(_) = answer {
+            return Ok(Taking::Needed(setting.source(number)));
+        }
+    }
+    Ok(Taking::Became)
+}

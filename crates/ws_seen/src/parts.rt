@@ -1,0 +1,123 @@
+//! Items, objects and refusals of many commands.
+
+use def_memory::Memory;
+use std::alloc::Global;
+use ws_fault::{Fault, Status};
+use ws_json::{Items, Object};
+use ws_print::add_unknown;
+use ws_reply::{Kind, Reply};
+use ws_written::{Fact, Relation, Unknown, Value};
+
+/// A count as a number of an object.
+pub fn number_of(count: usize) -> i64 {
+    i64::try_from(count).unwrap_or(i64::MAX)
+}
+
+/// The lines, parted by line feeds. It is refused only for want of memory.
+pub fn lines_text(alloc: Global, lines: &[String]) -> Result<String, Memory> {
+    let mut text = String::new(alloc);
+    for (place, line) in lines.iter().enumerate() {
+        if 0 < place {
+            text.push('\n')?;
+        }
+        text.push_str(line.as_str())?;
+    }
+    Ok(text)
+}
+
+/// An object of this kind of reply. It is refused only for want of memory.
+pub fn object_of(alloc: Global, reply: &str) -> Result<Object, Memory> {
+    let mut object = Object::new(alloc);
+    object.text("reply", reply)?;
+    Ok(object)
+}
+
+/// The numbers as items. It is refused only for want of memory.
+pub fn number_items(alloc: Global, numbers: &[u32]) -> Result<Items, Memory> {
+    let mut items = Items::new(alloc);
+    for number in numbers {
+        items.number(i64::from(*number))?;
+    }
+    Ok(items)
+}
+
+/// The texts as items. It is refused only for want of memory.
+pub fn text_items(alloc: Global, texts: &[String]) -> Result<Items, Memory> {
+    let mut items = Items::new(alloc);
+    for text in texts {
+        items.text(text.as_str())?;
+    }
+    Ok(items)
+}
+
+/// The names of the relation's columns as items. It is refused only for want of memory.
+pub fn column_items(alloc: Global, relation: &Relation) -> Result<Items, Memory> {
+    let mut items = Items::new(alloc);
+    for column in &relation.columns {
+        items.text(column.name.as_str())?;
+    }
+    Ok(items)
+}
+
+/// Rows as items, each a list of its values: a number, a text, or an object that names the unknown. It is refused only for want
+/// of memory.
+pub fn row_items(alloc: Global, rows: &[Fact]) -> Result<Items, Memory> {
+    let mut items = Items::new(alloc);
+    for row in rows {
+        items.items(cells(alloc, row)?)?;
+    }
+    Ok(items)
+}
+
+fn cells(alloc: Global, row: &Fact) -> Result<Items, Memory> {
+    let mut cells = Items::new(alloc);
+    for value in &row.values {
+        add_value(alloc, &mut cells, value)?;
+    }
+    Ok(cells)
+}
+
+fn add_value(alloc: Global, items: &mut Items, value: &Value) -> Result<(), Memory> {
+    match value {
+        Value::Number(number) => items.number(*number)?,
+        Value::Text(text) => items.text(text.as_str())?,
+        Value::Unknown(unknown) => items.object(unknown_object(alloc, *unknown)?)?,
+    }
+    Ok(())
+}
+
+fn unknown_object(alloc: Global, unknown: Unknown) -> Result<Object, Memory> {
+    let mut name = String::new(alloc);
+    add_unknown(&mut name, unknown)?;
+    let mut object = Object::new(alloc);
+    object.text("unknown", name.as_str())?;
+    Ok(object)
+}
+
+/// The reply to a command that looks, in lines of text.
+pub fn seen_text(status: Status, lines: Vec<String>) -> Reply {
+    Reply::of_text(status, Kind::Look, lines)
+}
+
+/// The reply to a command that looks, of objects. It is refused only for want of memory.
+pub fn seen_objects(alloc: Global, status: Status, objects: Vec<Object>) -> Result<Reply, Memory> {
+    Ok(Reply::of_objects(alloc, status, Kind::Look, objects)?)
+}
+
+/// The reply to a command that looks, of one object. It is refused only for want of memory.
+pub fn seen_object(alloc: Global, status: Status, object: Object) -> Result<Reply, Memory> {
+    let mut objects = Vec::new(alloc);
+    objects.push(object)?;
+    seen_objects(alloc, status, objects)
+}
+
+/// A refusal in these words, with a hint.
+pub fn refused(alloc: Global, words: String, hint: Option<String>) -> Fault {
+    Fault {
+        status: Status::Refused,
+        words,
+        place: None,
+        hint,
+        more: Vec::new(alloc),
+    }
+}

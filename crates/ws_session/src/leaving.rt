@@ -1,0 +1,83 @@
+//! What a command comes to before anything is written, and what it may not do.
+
+use crate::failing::fault;
+use crate::sessions::Settings;
+use std::alloc::Global;
+use ws_command::{Change, Command, Export, Look, Source};
+use ws_fault::{Refusal, Status};
+use ws_reply::{Outcome, Reply};
+
+/// What a command comes to over the workspace in memory.
+#[derive(Drop)]
+pub(crate) enum Done {
+    /// The line was blank.
+    Nothing,
+    /// A reply, with nothing to record.
+    Told(Reply),
+    /// A change, and the comment of its line.
+    Changed(Outcome, String),
+    /// The text of the head that takes the file's place, and the reply.
+    Folded(Vec<u8>, Reply),
+}
+
+/// Refuses a command that reads or writes another file, if files are closed; and one that wants the log to be at another record
+/// than it is.
+pub(crate) fn allowed(
+    alloc: Global,
+    settings: &Settings,
+    at: u32,
+    command: &Command,
+) -> Result<(), Refusal> {
+    if settings.no_files && uses_file(command) {
+        let words = String::from_str(alloc, "files are closed")?;
+        return Err(fault(alloc, Status::Refused, words, None));
+    }
+    match still_of(command) {
+        Some(still) if still != at => {
+            let words = format!(in alloc; "the log is at {at}")?;
+            Err(fault(alloc, Status::Refused, words, None))
+        }
+        _ => Ok(()),
+    }
+}
+
+fn still_of(command: &Command) -> Option<u32> {
+    match command {
+        Command::Change { still, .. } => *still,
+        Command::Try { still, .. } => *still,
+        _ => None,
+    }
+}
+
+fn uses_file(command: &Command) -> bool {
+    match command {
+        Command::Change { change, .. } => reads_file(change),
+        Command::Try { change, .. } => reads_file(change),
+        Command::Look(look) => writes_file(look),
+        _ => false,
+    }
+}
+
+fn reads_file(change: &Change) -> bool {
+    match change {
+        Change::Load(load) => match &load.source {
+            Source::File(path) => path.as_str() != "-",
+            Source::Lines(_) => false,
+        },
+        _ => false,
+    }
+}
+
+fn writes_file(look: &Look) -> bool {
+    match look {
+        Look::Graph(to) => to.is_some(),
+        Look::Page(to) => to.is_some(),
+        Look::Dump(to) => to.is_some(),
+        Look::Export(export) => exports_file(export),
+        _ => false,
+    }
+}
+
+fn exports_file(export: &Export) -> bool {
+    export.to.is_some()
+}

@@ -1,0 +1,81 @@
+//! The rows of a `load`: from a file, or from standard input.
+
+use crate::failing::{cannot, fault};
+use crate::sessions::{Settings, called};
+use std::alloc::Global;
+use std::fs;
+use ws_cells::form_of;
+use ws_command::{Load, Source};
+use ws_fault::{Refusal, Status};
+use ws_load::{Input, load as loaded_over};
+use ws_print::add_count;
+use ws_reply::{Context, Outcome};
+use ws_space::Space;
+
+/// What of standard input belongs to a line, and how many lines it is; 0 if all of it does.
+#[derive(Drop)]
+pub struct Fed {
+    pub bytes: Vec<u8>,
+    pub lines: u64,
+}
+
+const INPUT: &str = "standard input";
+
+/// What a `load` comes to over the workspace in memory.
+pub(crate) fn loaded(
+    rt: &HostRuntime,
+    settings: &Settings,
+    space: &mut Space,
+    context: &Context<'_>,
+    load: &Load,
+    fed: Option<&Fed>,
+) -> Result<Outcome, Refusal> {
+    let alloc = rt.alloc();
+    let _ = form_of(alloc, load)?;
+    if let Some(path) = file_of(load) {
+        let name = called(settings, path);
+        match fs::read(rt, path) {
+            Ok(bytes) => {
+                let input = Input {
+                    path: name,
+                    bytes: bytes.as_slice(),
+                };
+                return loaded_over(alloc, space, context, load, input);
+            }
+            Err(error) => return Err(cannot(alloc, Status::NoInput, "read", name, &error)),
+        }
+    }
+    let fed = fed_for(alloc, load, fed)?;
+    let input = Input {
+        path: INPUT,
+        bytes: fed.bytes.as_slice(),
+    };
+    loaded_over(alloc, space, context, load, input)
+}
+
+// The file that has the rows, if one does.
+fn file_of(load: &Load) -> Option<&str> {
+    match &load.source {
+        Source::File(path) if path.as_str() != "-" => Some(path.as_str()),
+        _ => None,
+    }
+}
+
+// What of standard input has the rows.
+fn fed_for<'a>(alloc: Global, load: &Load, fed: Option<&'a Fed>) -> Result<&'a Fed, Refusal> {
+    let Some(fed) = fed else {
+        let name = load.relation.as_str();
+        let words = String::from_str(alloc, "standard input has the commands")?;
+        let hint = format!(in alloc; "load {name} --lines N")?;
+        return Err(fault(alloc, Status::Unread, words, Some(hint)));
+    };
+    if let Source::Lines(wanted) = &load.source {
+        let count = fed.lines;
+        if count < u64::from(*wanted) {
+            let mut words = format!(in alloc; "standard input ended after {count} of ")?;
+            add_count(&mut words, *wanted as usize, "line")?;
+            return Err(fault(alloc, Status::Unread, words, None));
+        }
+    }
+    Ok(fed)
+}

@@ -1,0 +1,45 @@
+//! What is declared, by its number.
+
+use crate::lines::apart;
+use crate::sources::number_of;
+use crate::spaces::Space;
+use base_types::Memory;
+use std::alloc::Global;
+use ws_written::{Line, Relation, Rule};
+
+impl Space {
+    // What the line declares is known by its name from now on.
+    pub(crate) fn declare(&mut self, alloc: Global, line: &Line) -> Result<(), Memory> {
+        match line {
+            Line::Relation(relation) => self.declare_relation(relation.clone()?),
+            Line::Mapping(rule) => self.declare_rule(apart(alloc, rule)?),
+            _ => Ok(()),
+        }
+    }
+
+    fn declare_relation(&mut self, relation: Relation) -> Result<(), Memory> {
+        let place = self
+            .relations
+            .iter()
+            .position(|r| r.name.as_str() == relation.name.as_str());
+        if let Some(place) = place {
+            if let Some(old) = self.relations.get_mut(place) {
+                *old = relation;
+                return Ok(());
+            }
+        }
+        self.relations.push(relation)?;
+        Ok(())
+    }
+
+    fn declare_rule(&mut self, rule: Rule) -> Result<(), Memory> {
+        if let Some(place) = number_of(self.rules.as_slice(), rule.name.as_str()) {
+            if let Some(old) = self.rules.get_mut(usize::from(place)) {
+                *old = rule;
+                return Ok(());
+            }
+        }
+        self.rules.push(rule)?;
+        Ok(())
+    }
+}

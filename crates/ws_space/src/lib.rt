@@ -1,0 +1,34 @@
+//! The workspace in memory: the state by numbers, with the names of what is said of it.
+//!
+//! `Space` is opened from the texts of a file, takes one line after the other, and tells what is there in the words of commands.
+//! Tuples of `base_types` stand in two forms: *within*, as the state has them, and *by names*, as questions and effects do.
+//! After want of memory in a call that takes a line, a space is of no use.
+#![tactic(auto)]
+
+mod changed;
+mod copies;
+mod declaring;
+mod finding;
+mod folding;
+mod heads;
+mod lines;
+mod looking;
+mod losing;
+mod naming;
+mod opening;
+mod points;
+mod rules;
+mod saying;
+mod sources;
+mod spaces;
+mod spelling;
+mod texts;
+mod violating;
+mod waits;
+
+pub use crate::copies::{copy_fact, copy_rule, copy_value};
+pub use crate::naming::{null_of, unknown_of};
+pub use crate::opening::Opening;
+pub use crate::points::Point;
+pub use crate::spaces::{Recorded, Space};
+pub use crate::violating::Violation;

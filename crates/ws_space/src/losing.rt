@@ -1,0 +1,82 @@
+//! Why a name stands for no unknown.
+
+use crate::naming::{null_of, said_value};
+use crate::spaces::Space;
+use base_types::{Memory, Value};
+use std::alloc::Global;
+use std::fmt::Write;
+use ws_fault::{Fault, Status};
+use ws_print::{add_unknown, add_value};
+use ws_run::{Step, follow};
+use ws_written::Unknown;
+
+impl Space {
+    /// Why a name stands for no unknown: the updates that took it to be another value, or that there was none. It is refused
+    /// only for want of memory.
+    pub fn lost(&self, alloc: Global, unknown: Unknown) -> Result<Fault, Memory> {
+        let mut words = String::new(alloc);
+        add_unknown(&mut words, unknown)?;
+        let fate = self.fate(alloc, unknown)?;
+        if fate.is_empty() {
+            let known = format!(in alloc; "there is no unknown {words}")?;
+            let hint = "`show` has them; a new one is written ? in an insert";
+            return fault(alloc, known, String::from_str(alloc, hint)?);
+        }
+        words.push_str(" is no unknown any more")?;
+        fault(alloc, words, fate)
+    }
+
+    // `update N took it to be V, update N took that to be V, ..`; empty if none did.
+    fn fate(&self, alloc: Global, unknown: Unknown) -> Result<String, Memory> {
+        let mut fate = String::new(alloc);
+        let Some(null) = self.state.names().null_called(null_of(unknown)) else {
+            return Ok(fate);
+        };
+        let mut now = Value::Null(null);
+        for standing in self.state.order().as_slice() {
+            for step in standing.steps.as_slice() {
+                let next = follow(alloc, one(step), &now)?;
+                if next != now {
+                    self.add_taken(alloc, &mut fate, standing.held, &next)?;
+                    now = next;
+                }
+            }
+        }
+        Ok(fate)
+    }
+
+    fn add_taken(
+        &self,
+        alloc: Global,
+        fate: &mut String,
+        held: usize,
+        value: &Value,
+    ) -> Result<(), Memory> {
+        let number = match self.state.held().get(held) {
+            Some(held) => held.update.number,
+            None => 0,
+        };
+        let what = if fate.is_empty() { "it" } else { "that" };
+        if !fate.is_empty() {
+            fate.push_str(", ")?;
+        }
+        write!(fate, "update {number} took {what} to be ")?;
+        let named = self.state.names().value(alloc, value)?;
+        add_value(fate, &said_value(alloc, &named)?)?;
+        Ok(())
+    }
+}
+
+fn one(step: &Step) -> &[Step] {
+    std::slice::from_ref(step)
+}
+
+fn fault(alloc: Global, words: String, hint: String) -> Result<Fault, Memory> {
+    Ok(Fault {
+        status: Status::Refused,
+        words,
+        place: None,
+        hint: Some(hint),
+        more: Vec::new(alloc),
+    })
+}

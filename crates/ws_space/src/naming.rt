@@ -1,0 +1,123 @@
+//! From values and tuples of the state to what is said, and back.
+
+use crate::spaces::Space;
+use crate::texts::{bytes_of, small, string_of};
+use base_types::{Memory, Null, Tuple, TupleList, Value, ValueList};
+use std::alloc::Global;
+use ws_written::{Fact, Unknown, Value as Said};
+
+/// What an unknown is called whose name the state has in this form.
+pub fn unknown_of(name: Null) -> Unknown {
+    Unknown {
+        update: name.update,
+        place: name.place,
+    }
+}
+
+/// The name of an unknown in the form that the state has it in.
+pub fn null_of(unknown: Unknown) -> Null {
+    Null {
+        update: unknown.update,
+        attempt: 0,
+        place: unknown.place,
+    }
+}
+
+/// A value by names, as it is said. It is refused only for want of memory.
+pub(crate) fn said_value(alloc: Global, value: &Value) -> Result<Said, Memory> {
+    Ok(match value {
+        Value::Int(number) => Said::Number(*number),
+        Value::Word(word) => Said::Text(string_of(alloc, word.as_slice())?),
+        Value::Null(name) => Said::Unknown(unknown_of(*name)),
+    })
+}
+
+/// A tuple by names, as it is said. It is refused only for want of memory.
+pub(crate) fn said_fact(alloc: Global, tuple: &Tuple) -> Result<Fact, Memory> {
+    Ok(Fact {
+        relation: u32::from(tuple.relation),
+        values: said_values(alloc, tuple.values.as_slice())?,
+    })
+}
+
+/// Values by names, as they are said. It is refused only for want of memory.
+pub(crate) fn said_values(alloc: Global, values: &[Value]) -> Result<Vec<Said>, Memory> {
+    let mut said = Vec::new(alloc);
+    said.reserve(values.len())?;
+    for value in values {
+        said.push(said_value(alloc, value)?)?;
+    }
+    Ok(said)
+}
+
+/// Tuples by names, as they are said. It is refused only for want of memory.
+pub(crate) fn said_facts(alloc: Global, tuples: &[Tuple]) -> Result<Vec<Fact>, Memory> {
+    let mut facts = Vec::new(alloc);
+    add_said_facts(alloc, &mut facts, tuples)?;
+    Ok(facts)
+}
+
+/// Adds tuples by names, as they are said. It is refused only for want of memory.
+pub(crate) fn add_said_facts(
+    alloc: Global,
+    facts: &mut Vec<Fact>,
+    tuples: &[Tuple],
+) -> Result<(), Memory> {
+    facts.reserve(tuples.len())?;
+    for tuple in tuples {
+        facts.push(said_fact(alloc, tuple)?)?;
+    }
+    Ok(())
+}
+
+/// A value that is said, by names. It is refused only for want of memory.
+pub(crate) fn named_value(alloc: Global, value: &Said) -> Result<Value, Memory> {
+    Ok(match value {
+        Said::Number(number) => Value::Int(*number),
+        Said::Text(text) => Value::Word(bytes_of(alloc, text.as_str())?),
+        Said::Unknown(unknown) => Value::Null(null_of(*unknown)),
+    })
+}
+
+/// Values that are said, by names. It is refused only for want of memory.
+pub(crate) fn named_values(alloc: Global, values: &[Said]) -> Result<ValueList, Memory> {
+    let mut named = ValueList::new(alloc);
+    named.reserve(values.len())?;
+    for value in values {
+        named.push(named_value(alloc, value)?)?;
+    }
+    Ok(named)
+}
+
+/// A tuple that is said, by names. It is refused only for want of memory.
+pub(crate) fn named_tuple(alloc: Global, fact: &Fact) -> Result<Tuple, Memory> {
+    let values = named_values(alloc, fact.values.as_slice())?;
+    Tuple::new(alloc, small(fact.relation), values)
+}
+
+/// Tuples that are said, by names. It is refused only for want of memory.
+pub(crate) fn named_tuples(alloc: Global, facts: &[Fact]) -> Result<TupleList, Memory> {
+    let mut tuples = TupleList::new(alloc);
+    tuples.reserve(facts.len())?;
+    for fact in facts {
+        tuples.push(named_tuple(alloc, fact)?)?;
+    }
+    Ok(tuples)
+}
+
+impl Space {
+    /// A tuple by names, as it is said. It is refused only for want of memory.
+    pub fn fact(&self, alloc: Global, tuple: &Tuple) -> Result<Fact, Memory> {
+        said_fact(alloc, tuple)
+    }
+
+    /// A value by names, as it is said. It is refused only for want of memory.
+    pub fn value(&self, alloc: Global, value: &Value) -> Result<Said, Memory> {
+        said_value(alloc, value)
+    }
+
+    /// A tuple that is said, by names. It is refused only for want of memory.
+    pub fn tuple(&self, alloc: Global, fact: &Fact) -> Result<Tuple, Memory> {
+        named_tuple(alloc, fact)
+    }
+}

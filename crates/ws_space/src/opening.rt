@@ -1,0 +1,155 @@
+//! A workspace that is opened from the texts of its file.
+
+use crate::changed::Changed;
+use crate::heads::state_of;
+use crate::lines::apart;
+use crate::spaces::Space;
+use base_types::Memory;
+use std::alloc::{AllocError, AllocFailed, Global};
+use ws_grammar::{read_head, read_record};
+use ws_state::State;
+use ws_written::{Head, Record, Rule, Stamp};
+
+/// Why texts cannot be opened: want of memory, or the text at this place among them is no head or record.
+#[derive(Clone, Copy, Debug, PartialEq, Eq)]
+pub enum Opening {
+    Memory,
+    Unread(usize),
+}
+
+impl From<Memory> for Opening {
+    fn from(_memory: Memory) -> Opening {
+        Opening::Memory
+    }
+}
+
+impl From<AllocError> for Opening {
+    fn from(_error: AllocError) -> Opening {
+        Opening::Memory
+    }
+}
+
+impl<T: Drop> From<AllocFailed<T>> for Opening {
+    fn from(_failed: AllocFailed<T>) -> Opening {
+        Opening::Memory
+    }
+}
+
+impl Space {
+    /// The workspace of a file whose head is the first text, and whose records are the others.
+    pub fn open(alloc: Global, texts: &[Vec<u8>]) -> Result<Space, Opening> {
+        let Some((head, records)) = texts.split_first() else {
+            return Err(Opening::Unread(0));
+        };
+        let mut space = Space::of_head(alloc, head.as_slice())?;
+        match space.replay_all(alloc, records) {
+            Ok(()) => Ok(space),
+            Err(fault) => {
+                drop(space);
+                Err(fault)
+            }
+        }
+    }
+
+    fn replay_all(&mut self, alloc: Global, records: &[Vec<u8>]) -> Result<(), Opening> {
+        for (place, text) in records.iter().enumerate() {
+            if !self.replayed(alloc, text.as_slice())? {
+                return Err(Opening::Unread(place.saturating_add(1)));
+            }
+        }
+        Ok(())
+    }
+
+    /// Takes one more record; the place of a text that is none is 0.
+    pub fn replay(&mut self, alloc: Global, text: &[u8]) -> Result<(), Opening> {
+        if self.replayed(alloc, text)? {
+            return Ok(());
+        }
+        Err(Opening::Unread(0))
+    }
+
+    fn of_head(alloc: Global, text: &[u8]) -> Result<Space, Opening> {
+        match read_head(alloc, text)? {
+            Some(head) => Space::over(alloc, head),
+            None => Err(Opening::Unread(0)),
+        }
+    }
+
+    fn over(alloc: Global, head: Head) -> Result<Space, Opening> {
+        match begun(alloc, &head) {
+            Ok((rules, state)) => Ok(Space::begun_by(alloc, head, rules, state)),
+            Err(fault) => {
+                drop(head);
+                Err(fault)
+            }
+        }
+    }
+
+    fn begun_by(alloc: Global, head: Head, rules: Vec<Rule>, state: State) -> Space {
+        Space {
+            relations: head.relations,
+            rules,
+            state,
+            records: Vec::new(alloc),
+            created: head.created,
+            first: head.at,
+            folded: head.last,
+            stamp: Stamp {
+                time: String::new(alloc),
+                curator: String::new(alloc),
+            },
+            changed: Changed::new(alloc),
+        }
+    }
+
+    // Whether the text is a record; what it says is done then.
+    fn replayed(&mut self, alloc: Global, text: &[u8]) -> Result<bool, Memory> {
+        let Some(record) = read_record(alloc, self.relations.as_slice(), text)? else {
+            return Ok(false);
+        };
+        if !self.replay_lines(alloc, &record)? {
+            return Ok(false);
+        }
+        self.recorded(alloc, record)?;
+        Ok(true)
+    }
+
+    fn replay_lines(&mut self, alloc: Global, record: &Record) -> Result<bool, Memory> {
+        let stamp = &record.stamp;
+        self.say_as(alloc, stamp.time.as_str(), stamp.curator.as_str())?;
+        for said in &record.lines {
+            if self.try_take(alloc, &said.line)?.is_none() {
+                return Ok(false);
+            }
+        }
+        Ok(true)
+    }
+}
+
+// The mappings of the head by number, and its state.
+fn begun(alloc: Global, head: &Head) -> Result<(Vec<Rule>, State), Opening> {
+    let rules = rules_of(alloc, head)?;
+    match state_of(alloc, rules.as_slice(), head) {
+        Ok(Some(state)) => Ok((rules, state)),
+        Ok(None) => {
+            drop(rules);
+            Err(Opening::Unread(0))
+        }
+        Err(_) => {
+            drop(rules);
+            Err(Opening::Memory)
+        }
+    }
+}
+
+// The mappings of the head by number: those in force, and then those that are proposed.
+fn rules_of(alloc: Global, head: &Head) -> Result<Vec<Rule>, Memory> {
+    let mut rules = Vec::new(alloc);
+    for rule in &head.in_force {
+        rules.push(apart(alloc, rule)?)?;
+    }
+    for rule in &head.proposed {
+        rules.push(apart(alloc, rule)?)?;
+    }
+    Ok(rules)
+}

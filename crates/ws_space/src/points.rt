@@ -1,0 +1,49 @@
+//! A workspace as it was, to go back to.
+
+use crate::changed::Changed;
+use crate::copies::copy_rule;
+use crate::spaces::Space;
+use base_types::Memory;
+use std::alloc::Global;
+use ws_state::Point as StatePoint;
+use ws_written::{Relation, Rule};
+
+/// What a workspace is to go back to, after lines that are not recorded.
+#[derive(Drop)]
+pub struct Point {
+    state: StatePoint,
+    relations: Vec<Relation>,
+    rules: Vec<Rule>,
+}
+
+impl Space {
+    /// The workspace as it is now, each line being recorded. It is refused only for want of memory.
+    pub fn point(&self, alloc: Global) -> Result<Point, Memory> {
+        let mut relations = Vec::new(alloc);
+        for relation in &self.relations {
+            relations.push(relation.clone()?)?;
+        }
+        let mut rules = Vec::new(alloc);
+        for rule in &self.rules {
+            rules.push(copy_rule(alloc, rule)?)?;
+        }
+        Ok(Point {
+            state: self.state.point(alloc)?,
+            relations,
+            rules,
+        })
+    }
+
+    /// Takes back the lines that were taken since the point. It is refused only for want of memory; the space is then of no use.
+    pub fn back_to(&mut self, alloc: Global, point: Point) -> Result<(), Memory> {
+        let Point {
+            state,
+            relations,
+            rules,
+        } = point;
+        self.relations = relations;
+        self.rules = rules;
+        self.changed = Changed::new(alloc);
+        self.state.back_to(alloc, state)
+    }
+}

@@ -1,0 +1,52 @@
+//! Lines that are taken.
+
+use crate::lines::line_of;
+use crate::spaces::Space;
+use base_types::Memory;
+use std::alloc::Global;
+use ws_state::Told;
+use ws_written::Line;
+
+impl Space {
+    /// Does what the line says, as said by whom `say_as` names, and tells of it. A line that names a mapping which is not there
+    /// does nothing. It is refused only for want of memory; the space is then of no use.
+    pub fn take(&mut self, alloc: Global, line: &Line) -> Result<Told, Memory> {
+        match self.try_take(alloc, line)? {
+            Some(told) => Ok(told),
+            None => Ok(Told {
+                status: None,
+                reason: None,
+                replayed: None,
+            }),
+        }
+    }
+
+    // The same; None if the line names a mapping that is not there.
+    pub(crate) fn try_take(&mut self, alloc: Global, line: &Line) -> Result<Option<Told>, Memory> {
+        self.declare(alloc, line)?;
+        let Some(meant) = line_of(alloc, self.rules.as_slice(), &self.stamp, line)? else {
+            return Ok(None);
+        };
+        let stood = self.state.order().len();
+        let told = self.state.take(alloc, meant)?;
+        match self.note(&told, stood) {
+            Ok(()) => Ok(Some(told)),
+            Err(memory) => {
+                drop(told);
+                Err(memory)
+            }
+        }
+    }
+
+    // Notes what the line did that was taken after so many updates stood.
+    fn note(&mut self, told: &Told, stood: usize) -> Result<(), Memory> {
+        self.changed.lines = self.changed.lines.saturating_add(1);
+        if let Some(replayed) = &told.replayed {
+            return self.changed.add_replayed(replayed);
+        }
+        match self.state.order().as_slice().get(stood..) {
+            Some(new) => self.changed.add_stood(new),
+            None => Ok(()),
+        }
+    }
+}

@@ -1,0 +1,62 @@
+//! What the mapping of a question or of a cause is called.
+
+use crate::spaces::Space;
+use base_types::Memory;
+use std::alloc::Global;
+use ws_lines::Source;
+use ws_written::Rule;
+
+/// The number of a mapping by its name; None if there is none.
+pub(crate) fn number_of(rules: &[Rule], name: &str) -> Option<u16> {
+    let place = rules.iter().position(|rule| rule.name.as_str() == name)?;
+    u16::try_from(place).ok()
+}
+
+/// What is called so, if a mapping is: `_new`, `_fix_m`, or a mapping's name.
+pub(crate) fn source_of(rules: &[Rule], name: &str) -> Option<Source> {
+    if name == "_new" {
+        return Some(Source::Anew);
+    }
+    if let Some(fixed) = name.strip_prefix("_fix_") {
+        return Some(Source::Fix(number_of(rules, fixed)?));
+    }
+    Some(Source::By(number_of(rules, name)?))
+}
+
+/// The name of a mapping; empty if there is none.
+pub(crate) fn name_of(rules: &[Rule], mapping: u16) -> &str {
+    match rules.get(usize::from(mapping)) {
+        Some(rule) => rule.name.as_str(),
+        None => "",
+    }
+}
+
+/// What is called so: `_new`, `_fix_m`, or a mapping's name. It is refused only for want of memory.
+pub(crate) fn called(alloc: Global, rules: &[Rule], source: Source) -> Result<String, Memory> {
+    Ok(match source {
+        Source::Anew => String::from_str(alloc, "_new")?,
+        Source::By(mapping) => String::from_str(alloc, name_of(rules, mapping))?,
+        Source::Fix(mapping) => {
+            let mut name = String::from_str(alloc, "_fix_")?;
+            name.push_str(name_of(rules, mapping))?;
+            name
+        }
+    })
+}
+
+impl Space {
+    /// What the mapping of a question is called in an answer: its name, `_fix_m` of a `fix`, or `_new`. It is refused only for
+    /// want of memory.
+    pub fn source_name(&self, alloc: Global, source: Source) -> Result<String, Memory> {
+        called(alloc, self.rules.as_slice(), source)
+    }
+
+    /// The mapping that a question is of; of a `fix` the one that is repaired.
+    pub fn source_mapping(&self, source: Source) -> Option<u16> {
+        match source {
+            Source::By(mapping) => Some(mapping),
+            Source::Fix(mapping) => Some(mapping),
+            Source::Anew => None,
+        }
+    }
+}

@@ -1,0 +1,31 @@
+//! Texts of the state, which are bytes, and texts as they are said.
+
+use base_types::{List, Memory};
+use std::alloc::Global;
+
+/// The bytes of a text. It is refused only for want of memory.
+pub(crate) fn bytes_of(alloc: Global, text: &str) -> Result<List<u8>, Memory> {
+    let mut bytes = Vec::new(alloc);
+    bytes.extend_from_slice(text.as_bytes())?;
+    Ok(List::from_vec(bytes))
+}
+
+/// The text that bytes are; empty if they are none.
+pub(crate) fn text_of(bytes: &[u8]) -> &str {
+    str::from_utf8(bytes).unwrap_or("")
+}
+
+/// A copy of the text that bytes are. It is refused only for want of memory.
+pub(crate) fn string_of(alloc: Global, bytes: &[u8]) -> Result<String, Memory> {
+    Ok(String::from_str(alloc, text_of(bytes))?)
+}
+
+/// The number of a relation, a mapping or a variable as the state has it.
+pub(crate) fn small(number: u32) -> u16 {
+    u16::try_from(number).unwrap_or(u16::MAX)
+}
+
+/// A place as a number.
+pub(crate) fn number(place: usize) -> u32 {
+    u32::try_from(place).unwrap_or(u32::MAX)
+}

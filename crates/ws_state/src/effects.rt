@@ -1,0 +1,245 @@
+//! What came, what went and what was filled.
+
+use crate::states::{Mark, State};
+use crate::ways::{by_of, ways_of};
+use crate::worlds::Standing;
+use base_types::{Facts, List, Memory, Null, TryCopy, Tuple, TupleList, Value, ValueList};
+use std::alloc::Global;
+use std::collections::{BTreeMap, BTreeSet};
+use ws_lines::Source;
+use ws_run::{Ground, Touched, WANT, follow};
+
+/// A tuple that came or went, by names, and the mapping by which it did, if it did by one.
+#[derive(Drop)]
+pub struct Moved {
+    pub tuple: Tuple,
+    pub by: Option<u16>,
+}
+
+/// Tuples that came or went.
+pub type MovedList = List<Moved>;
+
+/// An unknown that was filled, by its name, with what it is now, by names, in how many tuples.
+#[derive(Drop)]
+pub struct Filled {
+    pub name: Null,
+    pub value: Value,
+    pub tuples: u32,
+}
+
+/// Unknowns that were filled.
+pub type FilledList = List<Filled>;
+
+/// What lines did: the tuples that came and went, each in order; the unknowns that were filled; and how many tuples became one with
+/// another by that. A tuple that only had an unknown filled counts neither as gone nor as come.
+#[derive(Drop)]
+pub struct Effect {
+    pub came: MovedList,
+    pub went: MovedList,
+    pub filled: FilledList,
+    pub merged: u32,
+}
+
+impl State {
+    /// What the lines since the mark did, if none of them was an undo or a redo. It is refused only for want of memory.
+    pub fn effect_since(&self, alloc: Global, mark: Mark) -> Result<Effect, Memory> {
+        let ground = &self.world.ground;
+        let standings = after(self.world.order.as_slice(), mark.order);
+        let mut touched = Touched::new(alloc);
+        touched.made(after(ground.trail.as_slice(), mark.trail))?;
+        let before = were_there(alloc, &touched)?;
+        let targets = followed_all(alloc, standings, &before)?;
+        let by = ways_of(alloc, ground, standings)?;
+        let came = came_of(alloc, ground, &touched, &targets, &by)?;
+        let went = went_of(alloc, ground, &before, &targets, &by)?;
+        let filled = filled_of(alloc, ground, mark, standings, &before)?;
+        let merged = merged_of(alloc, ground, &touched, &targets)?;
+        Ok(Effect {
+            came,
+            went,
+            filled,
+            merged,
+        })
+    }
+}
+
+// Those after the first so many.
+fn after<T>(items: &[T], count: usize) -> &[T] {
+    items.get(count..).unwrap_or(&[])
+}
+
+// The tuples that were there before, in order.
+fn were_there(alloc: Global, touched: &Touched) -> Result<TupleList, Memory> {
+    let mut before = TupleList::new(alloc);
+    for (tuple, touch) in &touched.tuples {
+        if touch.was && tuple.relation < WANT {
+            before.push(tuple.share()?)?;
+        }
+    }
+    Ok(before)
+}
+
+// What the updates made of the value.
+fn followed_value(alloc: Global, standings: &[Standing], value: &Value) -> Result<Value, Memory> {
+    let mut now = value.copy(alloc)?;
+    for standing in standings {
+        now = follow(alloc, standing.steps.as_slice(), &now)?;
+    }
+    Ok(now)
+}
+
+// What they made of the tuples.
+fn followed_all(
+    alloc: Global,
+    standings: &[Standing],
+    tuples: &TupleList,
+) -> Result<TupleList, Memory> {
+    let mut all = TupleList::new(alloc);
+    for tuple in tuples.as_slice() {
+        let mut values = ValueList::new(alloc);
+        for value in tuple.values.as_slice() {
+            values.push(followed_value(alloc, standings, value)?)?;
+        }
+        all.push(Tuple::new(alloc, tuple.relation, values)?)?;
+    }
+    Ok(all)
+}
+
+// The tuples that are there now, and that no tuple of before has become.
+fn came_of(
+    alloc: Global,
+    ground: &Ground,
+    touched: &Touched,
+    targets: &TupleList,
+    by: &BTreeMap<Tuple, Source>,
+) -> Result<MovedList, Memory> {
+    let targets = set_of(alloc, targets)?;
+    let mut came = MovedList::new(alloc);
+    for (tuple, touch) in &touched.tuples {
+        if touch.is && tuple.relation < WANT && !targets.contains(tuple) {
+            came.push(Moved {
+                tuple: ground.names.tuple(alloc, tuple)?,
+                by: by_of(by, tuple),
+            })?;
+        }
+    }
+    Ok(came)
+}
+
+// The tuples of before that have become none which is there.
+fn went_of(
+    alloc: Global,
+    ground: &Ground,
+    before: &TupleList,
+    targets: &TupleList,
+    by: &BTreeMap<Tuple, Source>,
+) -> Result<MovedList, Memory> {
+    let mut went = MovedList::new(alloc);
+    for (tuple, target) in before.as_slice().iter().zip(targets.as_slice()) {
+        if !ground.facts.contains(target) {
+            went.push(Moved {
+                tuple: ground.names.tuple(alloc, tuple)?,
+                by: by_of(by, tuple),
+            })?;
+        }
+    }
+    Ok(went)
+}
+
+// How many of the tuples that are still there became one with another.
+fn merged_of(
+    alloc: Global,
+    ground: &Ground,
+    touched: &Touched,
+    targets: &TupleList,
+) -> Result<u32, Memory> {
+    let mut seen: BTreeSet<Tuple> = BTreeSet::new(alloc);
+    let mut merged: u32 = 0;
+    for target in targets.as_slice() {
+        if ground.facts.contains(target) {
+            // One that was not touched was there before, and is there as itself.
+            if seen.contains(target) || touched.tuples.get(target).is_none() {
+                merged = merged.saturating_add(1);
+            }
+            if seen.insert(target.share()?).is_err() {
+                return Err(Memory);
+            }
+        }
+    }
+    Ok(merged)
+}
+
+fn set_of(alloc: Global, tuples: &TupleList) -> Result<BTreeSet<Tuple>, Memory> {
+    let mut set = BTreeSet::new(alloc);
+    for tuple in tuples.as_slice() {
+        if set.insert(tuple.share()?).is_err() {
+            return Err(Memory);
+        }
+    }
+    Ok(set)
+}
+
+// The unknowns that were there before the mark and are others now, by name.
+fn filled_of(
+    alloc: Global,
+    ground: &Ground,
+    mark: Mark,
+    standings: &[Standing],
+    before: &TupleList,
+) -> Result<FilledList, Memory> {
+    let mut filled: BTreeMap<Null, Filled> = BTreeMap::new(alloc);
+    let holders = holders_of(alloc, mark, before)?;
+    for (null, tuples) in &holders {
+        let now = followed_value(alloc, standings, &Value::Null(*null))?;
+        if now != Value::Null(*null) {
+            let name = ground.names.name_of(*null);
+            let one = Filled {
+                name,
+                value: ground.names.value(alloc, &now)?,
+                tuples: *tuples,
+            };
+            if filled.insert(name, one).is_err() {
+                return Err(Memory);
+            }
+        }
+    }
+    let mut all = FilledList::new(alloc);
+    for (_, one) in filled {
+        all.push(one)?;
+    }
+    Ok(all)
+}
+
+// The unknowns of before the mark, each with how many of the tuples hold it.
+fn holders_of(
+    alloc: Global,
+    mark: Mark,
+    before: &TupleList,
+) -> Result<BTreeMap<Null, u32>, Memory> {
+    let mut holders: BTreeMap<Null, u32> = BTreeMap::new(alloc);
+    for tuple in before.as_slice() {
+        let nulls = nulls_of(alloc, tuple)?;
+        for null in &nulls {
+            if null.update <= mark.last {
+                let count = holders.get(null).copied().unwrap_or(0);
+                if holders.insert(*null, count.saturating_add(1)).is_err() {
+                    return Err(Memory);
+                }
+            }
+        }
+    }
+    Ok(holders)
+}
+
+// The nulls of the tuple, each once.
+fn nulls_of(alloc: Global, tuple: &Tuple) -> Result<BTreeSet<Null>, Memory> {
+    let mut nulls = BTreeSet::new(alloc);
+    for value in tuple.values.as_slice() {
+        if let Value::Null(null) = value {
+            if nulls.insert(*null).is_err() {
+                return Err(Memory);
+            }
+        }
+    }
+    Ok(nulls)
+}

@@ -1,0 +1,295 @@
+//! What is undone and done again: all lines that count are replayed.
+
+use crate::states::{Event, Said, State, Told};
+use crate::visible::{Visible, came_between, visible_of};
+use crate::worlds::{StandingList, Status, WaitingList};
+use base_types::{List, Memory, NumberList, TryCopy, TupleList, Write, WriteList};
+use std::alloc::Global;
+use std::mem;
+use ws_lines::GivenList;
+
+/// What a replay changed: the tuples that came and went, by names and in order, and each other update that stands otherwise than before
+/// or wrote something else.
+#[derive(Drop)]
+pub struct Replayed {
+    pub came: TupleList,
+    pub went: TupleList,
+    pub again: AgainList,
+}
+
+/// An update that a replay changed: its number, and how it stood and stands.
+#[derive(Clone, Copy)]
+pub struct Again {
+    pub number: u32,
+    pub was: Status,
+    pub is: Status,
+}
+
+/// Updates that a replay changed, by number.
+pub type AgainList = List<Again>;
+
+impl State {
+    /// The lines of these updates and their answers do not count any more.
+    pub(crate) fn undo(&mut self, alloc: Global, numbers: &NumberList) -> Result<Told, Memory> {
+        let before = self.before(alloc)?;
+        self.set_undone(numbers, true);
+        self.replay_and_tell(alloc, before, numbers)
+    }
+
+    /// They count again.
+    pub(crate) fn redo(&mut self, alloc: Global, numbers: &NumberList) -> Result<Told, Memory> {
+        let before = self.before(alloc)?;
+        self.set_undone(numbers, false);
+        self.replay_and_tell(alloc, before, numbers)
+    }
+
+    /// The answers of these updates up to here do not count any more.
+    pub(crate) fn forget(&mut self, alloc: Global, numbers: &NumberList) -> Result<Told, Memory> {
+        let before = self.before(alloc)?;
+        for number in numbers.as_slice() {
+            if let Some(place) = self.place_of(*number) {
+                self.forget_answers(alloc, place);
+            }
+        }
+        self.replay_and_tell(alloc, before, numbers)
+    }
+
+    fn set_undone(&mut self, numbers: &NumberList, is_undone: bool) {
+        for number in numbers.as_slice() {
+            if let Some(place) = self.place_of(*number) {
+                if let Some(held) = self.held.get_mut(place) {
+                    held.is_undone = is_undone;
+                }
+            }
+        }
+    }
+
+    fn forget_answers(&mut self, alloc: Global, place: usize) {
+        for event in &mut self.events {
+            if answers_to(&event.said, place) {
+                event.is_forgotten = true;
+            }
+        }
+        if let Some(held) = self.held.get_mut(place) {
+            if held.first.is_some() {
+                held.first = Some(GivenList::new(alloc));
+            }
+        }
+    }
+
+    // What is compared with what stands after the replay.
+    fn before(&mut self, alloc: Global) -> Result<Before, Memory> {
+        let statuses = self.statuses(alloc)?;
+        let visible = visible_of(alloc, &self.world.ground)?;
+        let order = mem::replace(&mut self.world.order, StandingList::new(alloc));
+        Ok(Before {
+            statuses,
+            visible,
+            order,
+        })
+    }
+
+    fn replay_and_tell(
+        &mut self,
+        alloc: Global,
+        before: Before,
+        numbers: &NumberList,
+    ) -> Result<Told, Memory> {
+        self.replay(alloc)?;
+        let after = visible_of(alloc, &self.world.ground)?;
+        let came = came_between(alloc, &before.visible, &after)?;
+        let went = came_between(alloc, &after, &before.visible)?;
+        let again = self.changed(alloc, &before, numbers)?;
+        Ok(Told {
+            status: None,
+            reason: None,
+            replayed: Some(Replayed { came, went, again }),
+        })
+    }
+
+    /// All lines that count, anew from what stood at the last fold.
+    pub(crate) fn replay(&mut self, alloc: Global) -> Result<(), Memory> {
+        self.replays = self.replays.wrapping_add(1);
+        self.restart(alloc)?;
+        let events = mem::replace(&mut self.events, Vec::new(alloc));
+        for event in &events {
+            self.replay_one(alloc, event)?;
+        }
+        self.events = events;
+        Ok(())
+    }
+
+    fn replay_one(&mut self, alloc: Global, event: &Event) -> Result<(), Memory> {
+        if event.is_forgotten || self.is_undone_at(place_in(&event.said)) {
+            return Ok(());
+        }
+        match &event.said {
+            Said::Update(place) => self.run_again(alloc, *place, GivenList::new(alloc))?,
+            Said::Answer(place, given) => self.take_answer(alloc, *place, given)?,
+            Said::Go(place) => self.retry(alloc, *place)?,
+        };
+        Ok(())
+    }
+
+    // Back to what stood at the last fold, with what waited then.
+    fn restart(&mut self, alloc: Global) -> Result<(), Memory> {
+        self.world.ground.back_to(ws_run::Mark {
+            last: 0,
+            names: self.first_names,
+            trail: 0,
+        })?;
+        self.world.in_force = self.first_in_force.copy(alloc)?;
+        self.world.gone = List::new(alloc);
+        self.world.order = StandingList::new(alloc);
+        self.world.waiting = WaitingList::new(alloc);
+        self.wait_first(alloc)
+    }
+
+    // What waited at the last fold waits.
+    fn wait_first(&mut self, alloc: Global) -> Result<(), Memory> {
+        for (place, held) in self.held.iter().enumerate() {
+            if held.is_undone {
+                continue;
+            }
+            if let Some(first) = &held.first {
+                self.world.wait(place, first.copy(alloc)?)?;
+            }
+        }
+        Ok(())
+    }
+
+    // The other updates that stand otherwise than before, or wrote something else.
+    fn changed(
+        &self,
+        alloc: Global,
+        before: &Before,
+        numbers: &NumberList,
+    ) -> Result<AgainList, Memory> {
+        let statuses = self.statuses(alloc)?;
+        let was = by_held(alloc, &before.order, self.held.len())?;
+        let is = by_held(alloc, &self.world.order, self.held.len())?;
+        let mut again = AgainList::new(alloc);
+        for (place, held) in self.held.iter().enumerate() {
+            let one = Again {
+                number: held.update.number,
+                was: status_in(&before.statuses, place),
+                is: status_in(&statuses, place),
+            };
+            let is_other = one.was != one.is || !same_writes(&was, &is, place);
+            if is_other && !is_among(numbers, one.number) {
+                again.push(one)?;
+            }
+        }
+        Ok(again)
+    }
+
+    // How the updates that are held stand, by place.
+    fn statuses(&self, alloc: Global) -> Result<Vec<Status>, Memory> {
+        let mut statuses = Vec::new(alloc);
+        for held in &self.held {
+            statuses.push(if held.is_undone {
+                Status::Undone
+            } else {
+                Status::GivenUp
+            })?;
+        }
+        for standing in self.world.order.as_slice() {
+            if let Some(status) = statuses.get_mut(standing.held) {
+                *status = Status::Stands;
+            }
+        }
+        for waiting in self.world.waiting.as_slice() {
+            if let Some(status) = statuses.get_mut(waiting.held) {
+                *status = Status::Waits;
+            }
+        }
+        Ok(statuses)
+    }
+}
+
+fn status_in(statuses: &[Status], place: usize) -> Status {
+    statuses.get(place).copied().unwrap_or(Status::GivenUp)
+}
+
+// Updates that stand, with the place that each one held has among them, if it stands.
+#[derive(Drop)]
+struct ByHeld<'a> {
+    order: &'a StandingList,
+    places: Vec<Option<usize>>,
+}
+
+// These updates that stand, of so many that are held.
+fn by_held(alloc: Global, order: &StandingList, count: usize) -> Result<ByHeld<'_>, Memory> {
+    let mut places = Vec::new(alloc);
+    for _ in 0..count {
+        places.push(None)?;
+    }
+    for (place, standing) in order.as_slice().iter().enumerate() {
+        if let Some(one) = places.get_mut(standing.held) {
+            *one = Some(place);
+        }
+    }
+    Ok(ByHeld { order, places })
+}
+
+impl<'a> ByHeld<'a> {
+    // What the update at this place wrote, if it stands.
+    fn writes(&self, held: usize) -> Option<&'a WriteList> {
+        let place = self.places.get(held).copied().unwrap_or(None)?;
+        let standing = self.order.get(place)?;
+        Some(&standing.writes)
+    }
+}
+
+// What stood before a replay.
+#[derive(Drop)]
+struct Before {
+    statuses: Vec<Status>,
+    visible: Visible,
+    order: StandingList,
+}
+
+fn place_in(said: &Said) -> usize {
+    match said {
+        Said::Update(place) => *place,
+        Said::Answer(place, _) => *place,
+        Said::Go(place) => *place,
+    }
+}
+
+fn answers_to(said: &Said, place: usize) -> bool {
+    match said {
+        Said::Update(_) => false,
+        Said::Answer(answered, _) => *answered == place,
+        Said::Go(answered) => *answered == place,
+    }
+}
+
+fn is_among(numbers: &NumberList, number: u32) -> bool {
+    numbers.as_slice().iter().any(|other| *other == number)
+}
+
+// Whether the update at this place wrote the same in both.
+fn same_writes(was: &ByHeld<'_>, is: &ByHeld<'_>, place: usize) -> bool {
+    match (was.writes(place), is.writes(place)) {
+        (Some(old), Some(new)) => same_list(old, new),
+        (None, None) => true,
+        _ => false,
+    }
+}
+
+fn same_list(old: &WriteList, new: &WriteList) -> bool {
+    if old.len() != new.len() {
+        return false;
+    }
+    let mut pairs = old.as_slice().iter().zip(new.as_slice());
+    pairs.all(|(old, new)| same_write(old, new))
+}
+
+fn same_write(old: &Write, new: &Write) -> bool {
+    match (old, new) {
+        (Write::Insert(s), Write::Insert(t)) => s == t,
+        (Write::Delete(s), Write::Delete(t)) => s == t,
+        _ => false,
+    }
+}

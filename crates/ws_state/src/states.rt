@@ -1,0 +1,352 @@
+//! The state, and what is held of each update of the log.
+
+use crate::outcomes::Tried;
+use crate::replays::Replayed;
+use crate::worlds::{StandingList, Status, WaitingList, World};
+use base_types::{List, Mapping, MappingList, Memory, NumberList, TryCopy, TupleList};
+use set_facts::IndexedFacts;
+use std::alloc::Global;
+use std::collections::BTreeMap;
+use ws_lines::{Given, GivenList, Line, Table, TableList, Update};
+use ws_names::{Names, Places};
+use ws_run::{Ground, Reason};
+
+/// What is held of an update: whether it is undone, its table of places, and the answers that it had at the last fold, if it waited
+/// then.
+#[derive(Drop)]
+pub struct Held {
+    pub update: Update,
+    pub is_undone: bool,
+    pub places: Places,
+    pub first: Option<GivenList>,
+}
+
+/// Updates, those that waited at the last fold first, and then those of the log.
+pub type HeldList = Vec<Held>;
+
+/// What a line of the log did that runs again at a replay, by the places of the updates that are held.
+#[derive(Drop)]
+pub(crate) enum Said {
+    Update(usize),
+    Answer(usize, Given),
+    Go(usize),
+}
+
+/// Such a line, and whether its answer was taken back.
+#[derive(Drop)]
+pub(crate) struct Event {
+    pub said: Said,
+    pub is_forgotten: bool,
+}
+
+/// A place in the log: how much was written and how many updates stood by then.
+#[derive(Clone, Copy)]
+pub struct Mark {
+    pub(crate) last: u32,
+    pub(crate) trail: usize,
+    pub(crate) order: usize,
+}
+
+/// What is told of a line: how its update stands, and why it waits, if it does; and what an undo or redo changed.
+#[derive(Drop)]
+pub struct Told {
+    pub status: Option<Status>,
+    pub reason: Option<Reason>,
+    pub replayed: Option<Replayed>,
+}
+
+/// The state that a log stands for.
+#[derive(Drop)]
+pub struct State {
+    pub(crate) tables: TableList,
+    pub(crate) mappings: MappingList,
+    pub(crate) held: HeldList,
+    pub(crate) places: BTreeMap<u32, usize>,
+    pub(crate) events: Vec<Event>,
+    pub(crate) first_in_force: List<u16>,
+    pub(crate) first_names: usize,
+    pub(crate) replays: u32,
+    pub(crate) last: u32,
+    pub(crate) world: World,
+}
+
+impl State {
+    /// The state of a workspace without a line. It takes no memory.
+    pub fn new(alloc: Global) -> State {
+        let ground = Ground::new(alloc, IndexedFacts::new(alloc), Names::new(alloc));
+        State {
+            tables: TableList::new(alloc),
+            mappings: MappingList::new(alloc),
+            held: Vec::new(alloc),
+            places: BTreeMap::new(alloc),
+            events: Vec::new(alloc),
+            first_in_force: List::new(alloc),
+            first_names: 0,
+            replays: 0,
+            last: 0,
+            world: World::new(alloc, ground, List::new(alloc)),
+        }
+    }
+
+    /// Does what the line says, and tells of it. It is refused only for want of memory; the state is then of no use.
+    pub fn take(&mut self, alloc: Global, line: Line) -> Result<Told, Memory> {
+        match line {
+            Line::Update(update) => self.say(alloc, update),
+            Line::Answer(number, given) => self.answer(alloc, number, given),
+            Line::Go(number) => self.go(alloc, number),
+            Line::Undo(numbers) => self.undo(alloc, &numbers),
+            Line::Redo(numbers) => self.redo(alloc, &numbers),
+            Line::Forget(numbers) => self.forget(alloc, &numbers),
+            Line::Relation(table) => {
+                self.declare_table(table)?;
+                Ok(nothing_told())
+            }
+            Line::Mapping(mapping) => {
+                self.declare_mapping(mapping)?;
+                Ok(nothing_told())
+            }
+        }
+    }
+
+    // An update is said: it runs without answers.
+    fn say(&mut self, alloc: Global, update: Update) -> Result<Told, Memory> {
+        let number = update.number;
+        if self.last < number {
+            self.last = number;
+        }
+        let place = self.held.len();
+        self.held.push(Held {
+            update,
+            is_undone: false,
+            places: Places::new(alloc),
+            first: None,
+        })?;
+        if self.places.insert(number, place).is_err() {
+            return Err(Memory);
+        }
+        self.note(Said::Update(place))?;
+        let reason = self.run_again(alloc, place, GivenList::new(alloc))?;
+        Ok(self.told(place, reason))
+    }
+
+    // An update that waits is given an answer.
+    fn answer(&mut self, alloc: Global, number: u32, given: Given) -> Result<Told, Memory> {
+        let Some(place) = self.place_of(number) else {
+            return Ok(nothing_told());
+        };
+        let reason = self.take_answer(alloc, place, &given)?;
+        match self.note(Said::Answer(place, given)) {
+            Ok(()) => Ok(self.told(place, reason)),
+            Err(memory) => {
+                drop(reason);
+                Err(memory)
+            }
+        }
+    }
+
+    // An update that waits is told to try again.
+    fn go(&mut self, alloc: Global, number: u32) -> Result<Told, Memory> {
+        let Some(place) = self.place_of(number) else {
+            return Ok(nothing_told());
+        };
+        self.note(Said::Go(place))?;
+        let reason = self.retry(alloc, place)?;
+        Ok(self.told(place, reason))
+    }
+
+    // What was said runs again at a replay.
+    fn note(&mut self, said: Said) -> Result<(), Memory> {
+        self.events.push(Event {
+            said,
+            is_forgotten: false,
+        })?;
+        Ok(())
+    }
+
+    // What is told of the update that is held at this place.
+    fn told(&self, place: usize, reason: Option<Reason>) -> Told {
+        Told {
+            status: Some(self.status_at(place)),
+            reason,
+            replayed: None,
+        }
+    }
+
+    // The relation is declared, anew if there is one of that name.
+    fn declare_table(&mut self, table: Table) -> Result<(), Memory> {
+        match self.table_number(table.name.as_slice()) {
+            Some(number) => put(&mut self.tables, number as usize, table),
+            None => self.tables.push(table)?,
+        }
+        Ok(())
+    }
+
+    // The mapping is declared, anew if there is one of that name.
+    fn declare_mapping(&mut self, mapping: Mapping) -> Result<(), Memory> {
+        match self.mapping_number(mapping.name.as_slice()) {
+            Some(number) => put(&mut self.mappings, number as usize, mapping),
+            None => self.mappings.push(mapping)?,
+        }
+        Ok(())
+    }
+
+    /// Why the update of this number does not stand, if it waits, over what stands now; None if it does not wait or nothing is in
+    /// its way. The state stays as it is. It is refused only for want of memory.
+    pub fn ask(&mut self, alloc: Global, number: u32) -> Result<Option<Reason>, Memory> {
+        let Some(place) = self.place_of(number) else {
+            return Ok(None);
+        };
+        let Some(answers) = self.world.answers_of(alloc, place)? else {
+            return Ok(None);
+        };
+        let Tried { ran, .. } = self.look(alloc, place, &answers)?;
+        Ok(ran.reason())
+    }
+
+    /// The place of the update of this number among those that are held.
+    pub(crate) fn place_of(&self, number: u32) -> Option<usize> {
+        self.places.get(&number).copied()
+    }
+
+    /// How the update of this number stands; None if there is none. It takes no memory.
+    pub fn status(&self, number: u32) -> Option<Status> {
+        match self.place_of(number) {
+            Some(place) => Some(self.status_at(place)),
+            None => None,
+        }
+    }
+
+    /// Whether the update at this place is undone.
+    pub(crate) fn is_undone_at(&self, place: usize) -> bool {
+        match self.held.get(place) {
+            Some(held) => held.is_undone,
+            None => false,
+        }
+    }
+
+    /// How the update at this place stands.
+    pub(crate) fn status_at(&self, place: usize) -> Status {
+        if self.is_undone_at(place) {
+            return Status::Undone;
+        }
+        if self.world.waiting_place(place).is_some() {
+            return Status::Waits;
+        }
+        // Mostly it is the last one.
+        let mut order = self.world.order.as_slice().iter().rev();
+        if order.any(|standing| standing.held == place) {
+            return Status::Stands;
+        }
+        Status::GivenUp
+    }
+}
+
+/// The count as the number of a relation or a mapping; the greatest if there is none so great.
+pub(crate) fn small(count: usize) -> u16 {
+    u16::try_from(count).unwrap_or(u16::MAX)
+}
+
+/// Puts the item in place of the one that is there.
+pub(crate) fn put<T: Drop>(list: &mut List<T>, place: usize, item: T) {
+    if place < list.len() {
+        list.put(place, item);
+    }
+}
+
+/// Nothing is told.
+pub(crate) fn nothing_told() -> Told {
+    Told {
+        status: None,
+        reason: None,
+        replayed: None,
+    }
+}
+
+// ---- what is there
+
+impl State {
+    /// The relations by number.
+    pub fn tables(&self) -> &TableList {
+        &self.tables
+    }
+
+    /// The mappings that are declared, by number.
+    pub fn mappings(&self) -> &MappingList {
+        &self.mappings
+    }
+
+    /// The numbers of the mappings in force, in their order.
+    pub fn in_force(&self) -> &[u16] {
+        self.world.in_force.as_slice()
+    }
+
+    /// Whether the mapping of this number is gone.
+    pub fn is_gone(&self, mapping: u16) -> bool {
+        self.world.is_gone(mapping)
+    }
+
+    /// The number of the relation of this name; None if there is none.
+    pub fn table_number(&self, name: &[u8]) -> Option<u16> {
+        let mut tables = self.tables.as_slice().iter();
+        let place = tables.position(|table| table.name.as_slice() == name)?;
+        u16::try_from(place).ok()
+    }
+
+    /// The number of the mapping of this name, gone or not; None if there is none.
+    pub fn mapping_number(&self, name: &[u8]) -> Option<u16> {
+        let mut mappings = self.mappings.as_slice().iter();
+        let place = mappings.position(|mapping| mapping.name.as_slice() == name)?;
+        u16::try_from(place).ok()
+    }
+
+    /// The tuples, whose nulls are those within.
+    pub fn facts(&self) -> &IndexedFacts {
+        &self.world.ground.facts
+    }
+
+    /// The names of the nulls within.
+    pub fn names(&self) -> &Names {
+        &self.world.ground.names
+    }
+
+    /// The tuples by names, in the order of those within. It is refused only for want of memory.
+    pub fn visible(&self, alloc: Global) -> Result<TupleList, Memory> {
+        let tuples = self.world.ground.facts.list(alloc)?;
+        self.names().tuples(alloc, tuples.as_slice())
+    }
+
+    /// The updates that are held: those that waited at the last fold, and those of the log.
+    pub fn held(&self) -> &HeldList {
+        &self.held
+    }
+
+    /// The update of this number; None if it is not held.
+    pub fn update(&self, number: u32) -> Option<&Update> {
+        let held = self.held.get(self.place_of(number)?)?;
+        Some(&held.update)
+    }
+
+    /// The updates that stand, in the order in which they came to stand.
+    pub fn order(&self) -> &StandingList {
+        &self.world.order
+    }
+
+    /// The updates that wait.
+    pub fn waiting(&self) -> &WaitingList {
+        &self.world.waiting
+    }
+
+    /// The greatest number of an update.
+    pub fn last(&self) -> u32 {
+        self.last
+    }
+
+    /// Where the log is, so that the effect of what comes can be told.
+    pub fn mark(&self) -> Mark {
+        Mark {
+            last: self.world.ground.last,
+            trail: self.world.ground.trail.len(),
+            order: self.world.order.len(),
+        }
+    }
+}

@@ -1,0 +1,183 @@
+//! What `--only` and the want of `--cascade` refuse.
+
+use base_types::Tuple;
+use def_memory::Memory;
+use std::alloc::Global;
+use std::collections::BTreeSet;
+use ws_command::Bounds;
+use ws_done::{refuse, refuse_with};
+use ws_fault::Refusal;
+use ws_hint::known_fact;
+use ws_question::{AskedNow, count_text, fact_text, question_line};
+use ws_report::{MANY, moved_row};
+use ws_space::Space;
+use ws_state::{Effect, Moved};
+use ws_written::{Fact, Line, NewFact, Update};
+
+/// The most tuples of which `--only` tells that they would change.
+const TOLD: usize = 10;
+
+/// The tuples that a line names, by names: those that are to go, and those that are to come.
+#[derive(Drop)]
+struct Named {
+    going: BTreeSet<Tuple>,
+    coming: BTreeSet<Tuple>,
+}
+
+fn put(set: &mut BTreeSet<Tuple>, tuple: Tuple) -> Result<(), Memory> {
+    match set.insert(tuple) {
+        Ok(_) => Ok(()),
+        Err(_) => Err(Memory),
+    }
+}
+
+impl Named {
+    fn add_going(&mut self, alloc: Global, space: &Space, fact: &Fact) -> Result<(), Memory> {
+        put(&mut self.going, space.tuple(alloc, fact)?)
+    }
+
+    fn add_coming(&mut self, alloc: Global, space: &Space, fact: &NewFact) -> Result<(), Memory> {
+        match known_fact(alloc, fact)? {
+            Some(known) => put(&mut self.coming, space.tuple(alloc, &known)?),
+            None => Ok(()),
+        }
+    }
+
+    fn has(&self, tuple: &Tuple) -> bool {
+        self.going.contains(tuple) || self.coming.contains(tuple)
+    }
+}
+
+fn named_by(alloc: Global, space: &Space, line: &Line) -> Result<Named, Memory> {
+    let mut named = Named {
+        going: BTreeSet::new(alloc),
+        coming: BTreeSet::new(alloc),
+    };
+    let Line::Update(numbered) = line else {
+        return Ok(named);
+    };
+    match &numbered.update {
+        Update::Insert(facts) => {
+            for fact in facts.iter() {
+                named.add_coming(alloc, space, fact)?;
+            }
+        }
+        Update::Delete(facts) => {
+            for fact in facts.iter() {
+                named.add_going(alloc, space, fact)?;
+            }
+        }
+        Update::Change(old, new) => {
+            named.add_going(alloc, space, old)?;
+            named.add_coming(alloc, space, new)?;
+        }
+        _ => {}
+    }
+    Ok(named)
+}
+
+// Whether the line takes tuples away that it names.
+fn takes_away(line: &Line) -> bool {
+    match line {
+        Line::Update(numbered) => match &numbered.update {
+            Update::Delete(_) | Update::Change(_, _) => true,
+            _ => false,
+        },
+        _ => false,
+    }
+}
+
+/// Refuses an update that would ask, under `--only`.
+pub(crate) fn refuse_asking<T: Drop>(
+    alloc: Global,
+    space: &Space,
+    asked: &AskedNow,
+) -> Result<T, Refusal> {
+    let question = question_line(alloc, space, asked)?;
+    let words = format!(in alloc; "it would ask: {question}")?;
+    refuse(alloc, words.as_str(), "without --only it asks")
+}
+
+/// Refuses what the bounds do not let through of what the line did.
+pub(crate) fn check_bounds(
+    alloc: Global,
+    space: &Space,
+    line: &Line,
+    bounds: &Bounds,
+    effect: &Effect,
+) -> Result<(), Refusal> {
+    let named = named_by(alloc, space, line)?;
+    if bounds.only {
+        check_only(alloc, space, &named, effect)?;
+    }
+    if !bounds.cascade && takes_away(line) {
+        check_along(alloc, space, &named, effect)?;
+    }
+    Ok(())
+}
+
+fn add_texts(
+    alloc: Global,
+    space: &Space,
+    texts: &mut Vec<String>,
+    moved: &Moved,
+) -> Result<(), Memory> {
+    if texts.len() < TOLD {
+        texts.push(fact_text(alloc, space, &moved.tuple)?)?;
+    }
+    Ok(())
+}
+
+// Nothing goes that is not named, and nothing comes by a mapping.
+fn check_only(alloc: Global, space: &Space, named: &Named, effect: &Effect) -> Result<(), Refusal> {
+    let mut texts = Vec::new(alloc);
+    let mut count = 0usize;
+    for moved in effect.went.as_slice() {
+        if !named.has(&moved.tuple) {
+            count = count.saturating_add(1);
+            add_texts(alloc, space, &mut texts, moved)?;
+        }
+    }
+    for moved in effect.came.as_slice() {
+        if moved.by.is_some() {
+            count = count.saturating_add(1);
+            add_texts(alloc, space, &mut texts, moved)?;
+        }
+    }
+    if count == 0 {
+        return Ok(());
+    }
+    let count = count_text(alloc, count, "tuple")?;
+    let words = format!(in alloc; "more than what is named would change: {count}")?;
+    refuse_with(alloc, words.as_str(), "try it, or leave --only", texts)
+}
+
+// Nothing goes along that is not named to go.
+fn check_along(
+    alloc: Global,
+    space: &Space,
+    named: &Named,
+    effect: &Effect,
+) -> Result<(), Refusal> {
+    let mut rows = Vec::new(alloc);
+    let mut count = 0usize;
+    for moved in effect.went.as_slice() {
+        if named.going.contains(&moved.tuple) {
+            continue;
+        }
+        count = count.saturating_add(1);
+        if rows.len() < MANY {
+            rows.push(moved_row(alloc, space, "-", moved, true)?)?;
+        }
+    }
+    if count == 0 {
+        return Ok(());
+    }
+    if MANY < count {
+        let more = count.saturating_sub(MANY);
+        rows.push(format!(in alloc; ".. and {more} more")?)?;
+    }
+    let count = count_text(alloc, count, "tuple")?;
+    let words = format!(in alloc; "{count} would go along that you do not name")?;
+    refuse_with(alloc, words.as_str(), "to let them go: --cascade", rows)
+}

@@ -1,0 +1,127 @@
+//! `delete`.
+
+use crate::fitting::fitting_facts;
+use crate::names::{check_fact, is_there};
+use crate::single::single;
+use base_types::Tuple;
+use def_memory::Memory;
+use std::alloc::Global;
+use std::collections::BTreeSet;
+use ws_command::{Bounds, Pattern};
+use ws_done::Done;
+use ws_fault::{Refusal, Status};
+use ws_print::add_pattern;
+use ws_question::near_texts;
+use ws_report::{Note, Report, facts_text};
+use ws_space::{Space, copy_fact};
+use ws_written::{Fact, Update};
+
+/// Deletes the tuples for which patterns stand. It is refused if one names an unknown that is not there.
+pub fn delete(
+    alloc: Global,
+    space: &mut Space,
+    patterns: &[Pattern],
+    bounds: &Bounds,
+) -> Result<Done, Refusal> {
+    let facts = facts_of(alloc, space, patterns)?;
+    if facts.is_empty() {
+        let line = patterns_line(alloc, space, patterns)?;
+        return Ok(Done::nothing(alloc, "not there", line));
+    }
+    let absent = absent_of(alloc, space, facts.as_slice())?;
+    if absent.len() == facts.len() {
+        return not_there(alloc, space, facts.as_slice());
+    }
+    let notes = absent_notes(alloc, space, absent.as_slice())?;
+    let done = single(alloc, space, Update::Delete(facts), bounds)?;
+    with_notes(done, notes)
+}
+
+// The change, with these hints behind its own.
+fn with_notes(done: Done, notes: Vec<Note>) -> Result<Done, Refusal> {
+    let mut done = done;
+    let mut notes = notes;
+    match done.report.notes.append(&mut notes) {
+        Ok(()) => Ok(done),
+        Err(_) => Err(Refusal::Memory),
+    }
+}
+
+// The hint that tuples were not there, if there are any.
+fn absent_notes(alloc: Global, space: &Space, absent: &[Fact]) -> Result<Vec<Note>, Memory> {
+    let mut notes = Vec::new(alloc);
+    if let [_, ..] = absent {
+        let texts = facts_text(alloc, space, absent)?;
+        notes.push(Note::of(alloc, format!(in alloc; "{texts} was not there")?))?;
+    }
+    Ok(notes)
+}
+
+fn has_any(patterns: &[Pattern]) -> bool {
+    patterns.iter().any(|pattern| pattern.values.iter().any(|value| value.is_none()))
+}
+
+// The tuples for which the patterns stand, in order; each once if a `_` stands in one.
+fn facts_of(alloc: Global, space: &Space, patterns: &[Pattern]) -> Result<Vec<Fact>, Refusal> {
+    let each_once = has_any(patterns);
+    let mut seen: BTreeSet<Tuple> = BTreeSet::new(alloc);
+    let mut facts = Vec::new(alloc);
+    for pattern in patterns {
+        for fact in fitting_facts(alloc, space, pattern)? {
+            if !each_once || seen.insert(space.tuple(alloc, &fact)?)? {
+                facts.push(fact)?;
+            }
+        }
+    }
+    Ok(facts)
+}
+
+// Those of the tuples that are not there. It is refused if one names an unknown that is not there.
+fn absent_of(alloc: Global, space: &Space, facts: &[Fact]) -> Result<Vec<Fact>, Refusal> {
+    for fact in facts {
+        check_fact(alloc, space, fact)?;
+    }
+    let mut absent = Vec::new(alloc);
+    for fact in facts {
+        if !is_there(alloc, space, fact)? {
+            absent.push(copy_fact(alloc, fact)?)?;
+        }
+    }
+    Ok(absent)
+}
+
+fn patterns_line(alloc: Global, space: &Space, patterns: &[Pattern]) -> Result<String, Memory> {
+    let mut line = String::from_str(alloc, "delete ")?;
+    for (place, pattern) in patterns.iter().enumerate() {
+        if 0 < place {
+            line.push_str(", ")?;
+        }
+        add_pattern(&mut line, space.relations.as_slice(), pattern)?;
+    }
+    Ok(line)
+}
+
+// None of the tuples is there: those that are like the first one are told.
+fn not_there(alloc: Global, space: &Space, facts: &[Fact]) -> Result<Done, Refusal> {
+    let texts = facts_text(alloc, space, facts)?;
+    let line = format!(in alloc; "delete {texts}")?;
+    let also = near_lines(alloc, space, facts.first())?;
+    let mut report = Report::of(alloc, Status::Nothing, "not there", line);
+    report.also = also;
+    Ok(Done::unrecorded(alloc, report))
+}
+
+/// What is told of the tuples that are like one that is not there. It is refused only for want of memory.
+pub(crate) fn near_lines(
+    alloc: Global,
+    space: &Space,
+    fact: Option<&Fact>,
+) -> Result<Vec<String>, Memory> {
+    let mut lines = Vec::new(alloc);
+    if let Some(fact) = fact {
+        for text in near_texts(alloc, space, fact)?.iter() {
+            lines.push(format!(in alloc; "there is {text}")?)?;
+        }
+    }
+    Ok(lines)
+}

@@ -1,0 +1,159 @@
+//! `replace`, of an unknown and of a tuple.
+
+use crate::deleting::near_lines;
+use crate::fitting::fitting_facts;
+use crate::names::{
+    check_fact, check_new_fact, check_unknown, check_value, is_there, same_fact, same_value,
+};
+use crate::single::single;
+use def_memory::Memory;
+use std::alloc::Global;
+use ws_command::{Bounds, Pattern, Replacement};
+use ws_done::{Done, refuse, refuse_with};
+use ws_fault::Refusal;
+use ws_hint::known_fact;
+use ws_print::{add_pattern, add_update};
+use ws_question::count_text;
+use ws_report::{joined, said_text};
+use ws_space::{Space, copy_value};
+use ws_written::{Fact, NewFact, NewValue, Unknown, Update, Value};
+
+/// The most tuples that are told of those that fit.
+const TOLD: usize = 3;
+
+fn nothing_to_do(alloc: Global, space: &Space, update: &Update) -> Result<Done, Refusal> {
+    let mut line = String::new(alloc);
+    add_update(&mut line, space.relations.as_slice(), update)?;
+    Ok(Done::nothing(alloc, "nothing to do", line))
+}
+
+/// Puts a value for an unknown. It is refused if one of them is an unknown that is not there.
+pub fn fill(
+    alloc: Global,
+    space: &mut Space,
+    unknown: Unknown,
+    value: Value,
+    bounds: &Bounds,
+) -> Result<Done, Refusal> {
+    match check_both(alloc, space, unknown, &value) {
+        Ok(()) => changed(alloc, space, Update::Fill(unknown, value), bounds),
+        Err(refusal) => Err(refusal),
+    }
+}
+
+fn check_both(
+    alloc: Global,
+    space: &Space,
+    unknown: Unknown,
+    value: &Value,
+) -> Result<(), Refusal> {
+    check_unknown(alloc, space, unknown)?;
+    check_value(alloc, space, value)
+}
+
+// Takes the update, unless it puts the same for the same.
+fn changed(
+    alloc: Global,
+    space: &mut Space,
+    update: Update,
+    bounds: &Bounds,
+) -> Result<Done, Refusal> {
+    match is_idle(alloc, &update) {
+        Ok(true) => nothing_to_do(alloc, space, &update),
+        Ok(false) => single(alloc, space, update, bounds),
+        Err(_) => {
+            drop(update);
+            Err(Refusal::Memory)
+        }
+    }
+}
+
+// Whether the update puts the same for the same.
+fn is_idle(alloc: Global, update: &Update) -> Result<bool, Memory> {
+    match update {
+        Update::Fill(unknown, value) => Ok(same_value(&Value::Unknown(*unknown), value)),
+        Update::Change(old, new) => match known_fact(alloc, new)? {
+            Some(known) => Ok(same_fact(old, &known)),
+            None => Ok(false),
+        },
+        _ => Ok(false),
+    }
+}
+
+/// Puts a tuple for another. It is refused if not one tuple fits the first pattern, if that is not there, or if an unknown is
+/// not there.
+pub fn replace(
+    alloc: Global,
+    space: &mut Space,
+    old: &Pattern,
+    new: &Replacement,
+    bounds: &Bounds,
+) -> Result<Done, Refusal> {
+    let old = one_fact(alloc, space, old)?;
+    let new = replacement(alloc, &old, new)?;
+    check_fact(alloc, space, &old)?;
+    check_new_fact(alloc, space, &new)?;
+    if !is_there(alloc, space, &old)? {
+        return refuse_absent(alloc, space, &old);
+    }
+    changed(alloc, space, Update::Change(old, new), bounds)
+}
+
+// The one tuple for which the pattern stands.
+fn one_fact(alloc: Global, space: &Space, pattern: &Pattern) -> Result<Fact, Refusal> {
+    let mut facts = fitting_facts(alloc, space, pattern)?;
+    if facts.len() == 1 {
+        if let Some(fact) = facts.pop() {
+            return Ok(fact);
+        }
+    }
+    let mut words = String::new(alloc);
+    add_pattern(&mut words, space.relations.as_slice(), pattern)?;
+    words.push_str(" fits ")?;
+    words.push_str(count_text(alloc, facts.len(), "tuple")?.as_str())?;
+    let mut texts = Vec::new(alloc);
+    for fact in facts.iter().take(TOLD) {
+        texts.push(said_text(alloc, space, fact)?)?;
+    }
+    refuse_with(alloc, words.as_str(), "", texts)
+}
+
+// The tuple that comes: `_` keeps what stands in the old one.
+fn replacement(alloc: Global, old: &Fact, new: &Replacement) -> Result<NewFact, Refusal> {
+    let keeps = new.values.iter().any(|value| value.is_none());
+    if keeps && old.relation != new.relation {
+        return refuse(alloc, "_ keeps a value of the same relation", "");
+    }
+    let mut values = Vec::new(alloc);
+    for (column, value) in new.values.iter().enumerate() {
+        match value {
+            Some(value) => values.push(copy_new_value(alloc, value)?)?,
+            None => {
+                if let Some(kept) = old.values.get(column) {
+                    values.push(NewValue::Known(copy_value(alloc, kept)?))?;
+                }
+            }
+        }
+    }
+    Ok(NewFact {
+        relation: new.relation,
+        values,
+    })
+}
+
+fn copy_new_value(alloc: Global, value: &NewValue) -> Result<NewValue, Memory> {
+    Ok(match value {
+        NewValue::Known(known) => NewValue::Known(copy_value(alloc, known)?),
+        NewValue::Fresh => NewValue::Fresh,
+        NewValue::Named(name) => NewValue::Named(String::from_str(alloc, name.as_str())?),
+    })
+}
+
+// The tuple is not there: those that are like it are told.
+fn refuse_absent(alloc: Global, space: &Space, fact: &Fact) -> Result<Done, Refusal> {
+    let text = said_text(alloc, space, fact)?;
+    let words = format!(in alloc; "{text} is not there")?;
+    let near = near_lines(alloc, space, Some(fact))?;
+    let hint = joined(alloc, near.as_slice(), "; ")?;
+    refuse(alloc, words.as_str(), hint.as_str())
+}

@@ -1,0 +1,156 @@
+//! What took a tuple away that is not there.
+
+use crate::steps::{Made, rewritten};
+use base_types::{Memory, Tuple};
+use run_note::Way;
+use std::alloc::Global;
+use ws_fault::{Refusal, Status};
+use ws_json::Object;
+use ws_print::add_fact;
+use ws_question::{inner_text, near_texts};
+use ws_reply::{Context, Reply};
+use ws_run::Taking;
+use ws_seen::{object_of, refused, seen_object, seen_text};
+use ws_space::Space;
+use ws_written::Fact;
+
+// Which update took it away, how, and that in words.
+#[derive(Drop)]
+struct Told {
+    number: u32,
+    how: &'static str,
+    words: String,
+}
+
+/// What took the tuple away last. It is refused if none did, or for want of memory.
+pub(crate) fn gone(
+    alloc: Global,
+    space: &Space,
+    context: &Context<'_>,
+    fact: &Fact,
+) -> Result<Reply, Refusal> {
+    let mut said = String::new(alloc);
+    add_fact(&mut said, space.relations.as_slice(), fact)?;
+    let tuple = space.tuple(alloc, fact)?;
+    let Some(told) = last_taken(alloc, space, said.as_str(), &tuple)? else {
+        let words = format!(in alloc; "{said} is not there")?;
+        let hint = near_hint(alloc, space, fact)?;
+        return Err(Refusal::Fault(refused(alloc, words, hint)));
+    };
+    Ok(reply(alloc, space, context, said.as_str(), told)?)
+}
+
+fn near_hint(alloc: Global, space: &Space, fact: &Fact) -> Result<Option<String>, Memory> {
+    let near = near_texts(alloc, space, fact)?;
+    if near.is_empty() {
+        return Ok(None);
+    }
+    let mut hint = String::new(alloc);
+    for text in near.iter() {
+        hint.push_str(if hint.is_empty() {
+            "there is "
+        } else {
+            "; there is "
+        })?;
+        hint.push_str(text.as_str())?;
+    }
+    Ok(Some(hint))
+}
+
+// The last step that took the tuple away, by names.
+fn last_taken(
+    alloc: Global,
+    space: &Space,
+    said: &str,
+    tuple: &Tuple,
+) -> Result<Option<Told>, Memory> {
+    for standing in space.state.order().as_slice().iter().rev() {
+        for step in standing.steps.as_slice().iter().rev() {
+            for taken in step.note.deleted.as_slice() {
+                if taken.relation == tuple.relation
+                    && space.state.names().tuple(alloc, taken)? == *tuple
+                {
+                    return Ok(Some(told_of(alloc, space, said, Made { standing, step }, taken)?));
+                }
+            }
+        }
+    }
+    Ok(None)
+}
+
+fn told_of(
+    alloc: Global,
+    space: &Space,
+    said: &str,
+    made: Made<'_>,
+    taken: &Tuple,
+) -> Result<Told, Memory> {
+    let number = match space.state.held().get(made.standing.held) {
+        Some(held) => held.update.number,
+        None => 0,
+    };
+    let (how, what) = taking_words(alloc, space, made, taken)?;
+    let curator = space.curator_of(number);
+    let line = space.update_text(alloc, number)?;
+    let words = format!(in alloc; "{said} {what} in {number} by {curator}: {line}")?;
+    Ok(Told { number, how, words })
+}
+
+fn taking_words(
+    alloc: Global,
+    space: &Space,
+    made: Made<'_>,
+    taken: &Tuple,
+) -> Result<(&'static str, String), Memory> {
+    match made.step.taking {
+        Taking::Named => Ok(("deleted", format!(in alloc; "was deleted")?)),
+        Taking::Needed(source) => {
+            let mapping = space.source_mapping(source).unwrap_or(u16::MAX);
+            let name = space.mapping_name(mapping);
+            Ok(("needed", format!(in alloc; "went by {name}")?))
+        }
+        Taking::Chosen(source) => {
+            let mapping = space.source_mapping(source).unwrap_or(u16::MAX);
+            let name = space.mapping_name(mapping);
+            Ok(("chosen", format!(in alloc; "was chosen to go by {name}")?))
+        }
+        Taking::Became => {
+            let other = match &made.step.note.way {
+                Way::Rewrites(rewriting) => rewritten(alloc, rewriting, taken)?,
+                _ => taken.share()?,
+            };
+            let other = inner_text(alloc, space, &other)?;
+            Ok(("became", format!(in alloc; "became {other}")?))
+        }
+    }
+}
+
+fn reply(
+    alloc: Global,
+    space: &Space,
+    context: &Context<'_>,
+    said: &str,
+    told: Told,
+) -> Result<Reply, Memory> {
+    if context.is_json() {
+        return seen_object(alloc, Status::Nothing, object(alloc, space, said, &told)?);
+    }
+    let mut lines = Vec::new(alloc);
+    lines.push(told.words)?;
+    Ok(seen_text(Status::Nothing, lines))
+}
+
+fn object(alloc: Global, space: &Space, said: &str, told: &Told) -> Result<Object, Memory> {
+    let mut object = object_of(alloc, "gone")?;
+    add_told(&mut object, space, said, told)?;
+    Ok(object)
+}
+
+fn add_told(object: &mut Object, space: &Space, said: &str, told: &Told) -> Result<(), Memory> {
+    object.text("tuple", said)?;
+    object.text("how", told.how)?;
+    object.number("number", i64::from(told.number))?;
+    object.text("curator", space.curator_of(told.number))?;
+    object.text("words", told.words.as_str())?;
+    Ok(())
+}

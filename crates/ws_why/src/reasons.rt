@@ -1,0 +1,168 @@
+//! Why a tuple is there: the reason for it, and below it the reasons for what it rests on.
+
+use crate::steps::{Origin, Steps, origin_by};
+use base_types::{Memory, Tuple, TupleList};
+use std::alloc::Global;
+use std::collections::BTreeSet;
+use ws_lines::Source;
+use ws_run::WANT;
+use ws_space::Space;
+
+/// How a tuple came to be there: it is in the base, was inserted, was made by the mapping of this number for an image of its left
+/// side, or was another tuple. All by names.
+#[derive(Drop)]
+pub(crate) enum How {
+    Base,
+    Inserted,
+    Generated(u16, TupleList),
+    Rewritten(Tuple),
+}
+
+impl How {
+    /// What it is called.
+    pub(crate) fn word(&self) -> &'static str {
+        match self {
+            How::Base => "base",
+            How::Inserted => "inserted",
+            How::Generated(_, _) => "generated",
+            How::Rewritten(_) => "rewritten",
+        }
+    }
+}
+
+/// A reason: the tuple by names, the update that put it, how deep it stands, and whether it was told above.
+#[derive(Drop)]
+pub(crate) struct Reason {
+    pub tuple: Tuple,
+    pub number: Option<u32>,
+    pub how: How,
+    pub depth: usize,
+    pub again: bool,
+}
+
+// A tuple within that is to be explained as it was before a step.
+#[derive(Drop)]
+struct Open {
+    tuple: Tuple,
+    before: usize,
+    depth: usize,
+}
+
+/// The reasons for a tuple within that is there: first its own, behind each those for what it rests on. It is refused only for want
+/// of memory.
+pub(crate) fn reasons_for(
+    alloc: Global,
+    space: &Space,
+    tuple: &Tuple,
+) -> Result<Vec<Reason>, Memory> {
+    let steps = Steps::of(alloc, space)?;
+    let mut reasons = Vec::new(alloc);
+    let mut seen = BTreeSet::new(alloc);
+    let mut open = Vec::new(alloc);
+    open.push(Open {
+        tuple: tuple.share()?,
+        before: steps.count(),
+        depth: 0,
+    })?;
+    for _ in 0..u64::MAX {
+        let Some(next) = open.pop() else {
+            break;
+        };
+        explain(
+            alloc,
+            space,
+            &steps,
+            &mut seen,
+            &mut reasons,
+            &mut open,
+            next,
+        )?;
+    }
+    Ok(reasons)
+}
+
+// Gives the reason for the tuple, and opens what it rests on, unless that was told above.
+fn explain(
+    alloc: Global,
+    space: &Space,
+    steps: &Steps<'_>,
+    seen: &mut BTreeSet<(Tuple, Option<usize>)>,
+    reasons: &mut Vec<Reason>,
+    open: &mut Vec<Open>,
+    next: Open,
+) -> Result<(), Memory> {
+    let place = steps.origin(&next.tuple, next.before);
+    let key = (next.tuple.share()?, place);
+    let again = seen.contains(&key);
+    seen.insert(key)?;
+    if WANT <= next.tuple.relation {
+        return Ok(());
+    }
+    let (how, number, rests) = how_of(alloc, space, steps, &next.tuple, place)?;
+    if !again {
+        open_all(open, rests.as_slice(), place.unwrap_or(0), next.depth)?;
+    }
+    reasons.push(Reason {
+        tuple: space.state.names().tuple(alloc, &next.tuple)?,
+        number,
+        how,
+        depth: next.depth,
+        again,
+    })?;
+    Ok(())
+}
+
+fn open_all(
+    open: &mut Vec<Open>,
+    tuples: &[Tuple],
+    before: usize,
+    depth: usize,
+) -> Result<(), Memory> {
+    for tuple in tuples.iter().rev() {
+        open.push(Open {
+            tuple: tuple.share()?,
+            before,
+            depth: depth.saturating_add(1),
+        })?;
+    }
+    Ok(())
+}
+
+// How the tuple came to be there, by which update, and the tuples within that it rests on.
+fn how_of(
+    alloc: Global,
+    space: &Space,
+    steps: &Steps<'_>,
+    tuple: &Tuple,
+    place: Option<usize>,
+) -> Result<(How, Option<u32>, TupleList), Memory> {
+    let names = space.state.names();
+    let Some(made) = steps.all.get(place.unwrap_or(usize::MAX)) else {
+        return Ok((How::Base, None, TupleList::new(alloc)));
+    };
+    let number = match space.state.held().get(made.standing.held) {
+        Some(held) => Some(held.update.number),
+        None => None,
+    };
+    match origin_by(alloc, *made, tuple)? {
+        Origin::Inserted => Ok((How::Inserted, number, TupleList::new(alloc))),
+        Origin::Generated(source, image) => {
+            let told = names.tuples(alloc, image.as_slice())?;
+            Ok((How::Generated(mapping_of(source), told), number, image))
+        }
+        Origin::Rewritten(from) => {
+            let told = names.tuple(alloc, &from)?;
+            let mut rests = TupleList::new(alloc);
+            rests.push(from)?;
+            Ok((How::Rewritten(told), number, rests))
+        }
+    }
+}
+
+fn mapping_of(source: Source) -> u16 {
+    match source {
+        Source::By(mapping) => mapping,
+        Source::Fix(mapping) => mapping,
+        Source::Anew => u16::MAX,
+    }
+}

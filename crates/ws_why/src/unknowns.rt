@@ -1,0 +1,165 @@
+//! `why ?U.P`: what drew an unknown, and where it stands.
+
+use base_types::{Mapping, Memory, Tuple, Value};
+use std::alloc::Global;
+use std::collections::BTreeSet;
+use ws_fault::{Refusal, Status as Code};
+use ws_json::Object;
+use ws_lines::Source;
+use ws_names::Cause;
+use ws_print::add_unknown;
+use ws_question::{fact_text, inner_text};
+use ws_reply::{Context, Reply};
+use ws_run::fixing_mapping;
+use ws_seen::{object_of, seen_object, seen_text, text_items};
+use ws_space::Space;
+use ws_state::{Held, Status};
+use ws_written::Unknown;
+
+/// What drew the unknown, and the tuples that it stands in. It is refused if it is not there, or for want of memory.
+pub fn why_unknown(
+    alloc: Global,
+    space: &Space,
+    context: &Context<'_>,
+    unknown: Unknown,
+) -> Result<Reply, Refusal> {
+    let Some(value) = space.within_unknown(unknown) else {
+        return Err(Refusal::Fault(space.lost(alloc, unknown)?));
+    };
+    let mut name = String::new(alloc);
+    add_unknown(&mut name, unknown)?;
+    let words = words_of(alloc, space, name.as_str(), unknown)?;
+    let mut texts = Vec::new(alloc);
+    for tuple in standing_in(alloc, space, &value)?.iter() {
+        texts.push(inner_text(alloc, space, tuple)?)?;
+    }
+    Ok(reply(alloc, context, name.as_str(), words, texts.as_slice())?)
+}
+
+// The tuples that the value stands in, in order.
+fn standing_in(alloc: Global, space: &Space, value: &Value) -> Result<BTreeSet<Tuple>, Memory> {
+    let mut found = BTreeSet::new(alloc);
+    for number in 0..space.relations.len() {
+        for tuple in space.rows(alloc, u32::try_from(number).unwrap_or(u32::MAX))? {
+            if tuple.values.as_slice().contains(value) {
+                found.insert(tuple)?;
+            }
+        }
+    }
+    Ok(found)
+}
+
+fn words_of(alloc: Global, space: &Space, name: &str, unknown: Unknown) -> Result<String, Memory> {
+    let number = unknown.update;
+    let stands = space.state.status(number) == Some(Status::Stands);
+    let held = space
+        .state
+        .held()
+        .iter()
+        .find(|held| held.update.number == number);
+    let (Some(held), true) = (held, stands) else {
+        return Ok(format!(in alloc; "{name} is in the base")?);
+    };
+    let curator = space.curator_of(number);
+    match cause_of(held, unknown.place) {
+        Some(cause) => caused(alloc, space, name, cause, number),
+        None => Ok(format!(in alloc; "{name} is new in {number} by {curator}")?),
+    }
+}
+
+fn cause_of(held: &Held, place: u32) -> Option<&Cause> {
+    let found = held
+        .places
+        .as_slice()
+        .iter()
+        .find(|other| other.number == place)?;
+    Some(&found.cause)
+}
+
+// `?U.P is VARIABLE of MAPPING in N by C, since IMAGE`.
+fn caused(
+    alloc: Global,
+    space: &Space,
+    name: &str,
+    cause: &Cause,
+    number: u32,
+) -> Result<String, Memory> {
+    let curator = space.curator_of(number);
+    let Some(mapping) = space.source_mapping(cause.source) else {
+        return Ok(format!(in alloc; "{name} is new in {number} by {curator}")?);
+    };
+    let variable = variable_of(alloc, space, cause, mapping)?;
+    let by = space.mapping_name(mapping);
+    let mut words = format!(in alloc; "{name} is {variable} of {by} in {number} by {curator}")?;
+    if let Source::By(_) = cause.source {
+        for (place, tuple) in cause.image.as_slice().iter().enumerate() {
+            words.push_str(if place == 0 { ", since " } else { ", " })?;
+            words.push_str(fact_text(alloc, space, tuple)?.as_str())?;
+        }
+    }
+    Ok(words)
+}
+
+// The name of the variable that the unknown was drawn for.
+fn variable_of(
+    alloc: Global,
+    space: &Space,
+    cause: &Cause,
+    mapping: u16,
+) -> Result<String, Memory> {
+    let Some(mapping) = space.state.mappings().get(usize::from(mapping)) else {
+        return Ok(String::new(alloc));
+    };
+    match cause.source {
+        Source::Fix(_) => name_at(alloc, &fixing_mapping(alloc, mapping)?, cause.variable),
+        _ => name_at(alloc, mapping, cause.variable),
+    }
+}
+
+fn name_at(alloc: Global, mapping: &Mapping, variable: u16) -> Result<String, Memory> {
+    match mapping.names.get(usize::from(variable)) {
+        Some(name) => {
+            let name = str::from_utf8(name.as_slice()).unwrap_or("");
+            Ok(String::from_str(alloc, name)?)
+        }
+        None => Ok(String::new(alloc)),
+    }
+}
+
+fn reply(
+    alloc: Global,
+    context: &Context<'_>,
+    name: &str,
+    words: String,
+    texts: &[String],
+) -> Result<Reply, Memory> {
+    if context.is_json() {
+        let object = object(alloc, name, words.as_str(), texts)?;
+        return seen_object(alloc, Code::Done, object);
+    }
+    let mut lines = Vec::new(alloc);
+    lines.push(words)?;
+    for text in texts {
+        lines.push(format!(in alloc; "  stands in {text}")?)?;
+    }
+    Ok(seen_text(Code::Done, lines))
+}
+
+fn object(alloc: Global, name: &str, words: &str, texts: &[String]) -> Result<Object, Memory> {
+    let mut object = object_of(alloc, "unknown")?;
+    add_members(alloc, &mut object, name, words, texts)?;
+    Ok(object)
+}
+
+fn add_members(
+    alloc: Global,
+    object: &mut Object,
+    name: &str,
+    words: &str,
+    texts: &[String],
+) -> Result<(), Memory> {
+    object.text("unknown", name)?;
+    object.text("words", words)?;
+    object.items("tuples", text_items(alloc, texts)?)?;
+    Ok(())
+}

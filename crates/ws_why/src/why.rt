@@ -1,0 +1,216 @@
+//! `why F`: why a tuple is there, or what took it away.
+
+use crate::gone::gone;
+use crate::reasons::{How, Reason, reasons_for};
+use crate::why_dot::dot_lines;
+use base_types::{Memory, Tuple};
+use std::alloc::Global;
+use ws_command::Pattern;
+use ws_fault::{Refusal, Status};
+use ws_json::{Items, Object};
+use ws_print::add_pattern;
+use ws_question::{count_text, fact_text, inner_text};
+use ws_reply::{Context, Reply};
+use ws_seen::{lines_text, number_of, object_of, refused, seen_object, seen_text};
+use ws_space::{Space, copy_value};
+use ws_written::{Fact, Value};
+
+// How many of the tuples that fit are told.
+const TOLD: usize = 3;
+
+/// Why the tuple that fits is there, as a graph if that is asked for, or what took it away. It is refused if several fit or none was
+/// ever there, or for want of memory.
+pub fn why_fact(
+    alloc: Global,
+    space: &Space,
+    context: &Context<'_>,
+    pattern: &Pattern,
+    dot: bool,
+) -> Result<Reply, Refusal> {
+    let fact = one_fact(alloc, space, pattern)?;
+    let tuple = match space.within(alloc, &fact)? {
+        Some(tuple) if space.has(&tuple) => tuple,
+        _ => return gone(alloc, space, context, &fact),
+    };
+    let reasons = reasons_for(alloc, space, &tuple)?;
+    if dot {
+        return Ok(dot_reply(alloc, space, context, reasons.as_slice())?);
+    }
+    Ok(why_reply(alloc, space, context, reasons.as_slice())?)
+}
+
+// The tuple that is meant; if a `_` stands in it, the one that fits.
+fn one_fact(alloc: Global, space: &Space, pattern: &Pattern) -> Result<Fact, Refusal> {
+    if let Some(fact) = plain(alloc, pattern)? {
+        return Ok(fact);
+    }
+    refuse_lost(alloc, space, pattern)?;
+    let found = space.matching(alloc, pattern)?;
+    if let [tuple] = found.as_slice() {
+        return Ok(space.shown(alloc, tuple)?);
+    }
+    let mut said = String::new(alloc);
+    add_pattern(&mut said, space.relations.as_slice(), pattern)?;
+    let count = count_text(alloc, found.len(), "tuple")?;
+    let mut fault = refused(alloc, format!(in alloc; "{said} fits {count}")?, None);
+    for tuple in found.iter().take(TOLD) {
+        fault.more.push(inner_text(alloc, space, tuple)?)?;
+    }
+    Err(Refusal::Fault(fault))
+}
+
+// The tuple that a pattern is; None if a `_` stands in it.
+fn plain(alloc: Global, pattern: &Pattern) -> Result<Option<Fact>, Memory> {
+    let mut values = Vec::new(alloc);
+    for value in pattern.values.iter() {
+        match value {
+            Some(value) => values.push(copy_value(alloc, value)?)?,
+            None => return Ok(None),
+        }
+    }
+    Ok(Some(Fact {
+        relation: pattern.relation,
+        values,
+    }))
+}
+
+// An unknown that is not there is refused.
+fn refuse_lost(alloc: Global, space: &Space, pattern: &Pattern) -> Result<(), Refusal> {
+    for value in pattern.values.iter() {
+        if let Some(Value::Unknown(unknown)) = value {
+            if space.within_unknown(*unknown).is_none() {
+                return Err(Refusal::Fault(space.lost(alloc, *unknown)?));
+            }
+        }
+    }
+    Ok(())
+}
+
+fn dot_reply(
+    alloc: Global,
+    space: &Space,
+    context: &Context<'_>,
+    reasons: &[Reason],
+) -> Result<Reply, Memory> {
+    let lines = dot_lines(alloc, space, reasons)?;
+    if context.is_json() {
+        return seen_object(alloc, Status::Done, dot_object(alloc, lines.as_slice())?);
+    }
+    Ok(seen_text(Status::Done, lines))
+}
+
+fn dot_object(alloc: Global, lines: &[String]) -> Result<Object, Memory> {
+    let text = lines_text(alloc, lines)?;
+    let mut object = object_of(alloc, "dot")?;
+    object.text("text", text.as_str())?;
+    Ok(object)
+}
+
+fn why_reply(
+    alloc: Global,
+    space: &Space,
+    context: &Context<'_>,
+    reasons: &[Reason],
+) -> Result<Reply, Memory> {
+    if context.is_json() {
+        return seen_object(alloc, Status::Done, why_object(alloc, space, reasons)?);
+    }
+    let mut lines = Vec::new(alloc);
+    for reason in reasons {
+        lines.push(line(alloc, space, reason)?)?;
+    }
+    Ok(seen_text(Status::Done, lines))
+}
+
+fn why_object(alloc: Global, space: &Space, reasons: &[Reason]) -> Result<Object, Memory> {
+    let mut object = object_of(alloc, "why")?;
+    object.items("reasons", reason_items(alloc, space, reasons)?)?;
+    Ok(object)
+}
+
+fn reason_items(alloc: Global, space: &Space, reasons: &[Reason]) -> Result<Items, Memory> {
+    let mut items = Items::new(alloc);
+    for reason in reasons {
+        items.object(reason_object(alloc, space, reason)?)?;
+    }
+    Ok(items)
+}
+
+// The reason in a line, two blanks deeper for what a tuple rests on.
+fn line(alloc: Global, space: &Space, reason: &Reason) -> Result<String, Memory> {
+    let mut line = String::new(alloc);
+    add_line(alloc, &mut line, space, reason)?;
+    Ok(line)
+}
+
+fn add_line(
+    alloc: Global,
+    line: &mut String,
+    space: &Space,
+    reason: &Reason,
+) -> Result<(), Memory> {
+    for _ in 0..reason.depth {
+        line.push_str("  ")?;
+    }
+    line.push_str(fact_text(alloc, space, &reason.tuple)?.as_str())?;
+    match &reason.how {
+        How::Base => line.push_str(" is in the base")?,
+        How::Inserted => line.push_str(" was inserted")?,
+        How::Generated(mapping, _) => {
+            line.push_str(" was made by ")?;
+            line.push_str(space.mapping_name(*mapping))?;
+        }
+        How::Rewritten(from) => {
+            line.push_str(" was ")?;
+            line.push_str(fact_text(alloc, space, from)?.as_str())?;
+        }
+    }
+    if let Some(number) = reason.number {
+        let curator = space.curator_of(number);
+        line.push_str(format!(in alloc; " in {number} by {curator}")?.as_str())?;
+        if reason.again {
+            line.push_str(", as above")?;
+        }
+    }
+    Ok(())
+}
+
+fn reason_object(alloc: Global, space: &Space, reason: &Reason) -> Result<Object, Memory> {
+    let mut object = Object::new(alloc);
+    add_reason(alloc, &mut object, space, reason)?;
+    Ok(object)
+}
+
+fn add_reason(
+    alloc: Global,
+    object: &mut Object,
+    space: &Space,
+    reason: &Reason,
+) -> Result<(), Memory> {
+    object.text("tuple", fact_text(alloc, space, &reason.tuple)?.as_str())?;
+    object.number("depth", number_of(reason.depth))?;
+    if let Some(number) = reason.number {
+        object.number("number", i64::from(number))?;
+        object.text("curator", space.curator_of(number))?;
+    }
+    object.text("how", reason.how.word())?;
+    match &reason.how {
+        How::Base | How::Inserted => (),
+        How::Generated(mapping, image) => {
+            object.text("mapping", space.mapping_name(*mapping))?;
+            object.items("image", fact_items(alloc, space, image.as_slice())?)?;
+        }
+        How::Rewritten(from) => {
+            object.text("from", fact_text(alloc, space, from)?.as_str())?;
+        }
+    }
+    Ok(())
+}
+
+fn fact_items(alloc: Global, space: &Space, tuples: &[Tuple]) -> Result<Items, Memory> {
+    let mut items = Items::new(alloc);
+    for tuple in tuples {
+        items.text(fact_text(alloc, space, tuple)?.as_str())?;
+    }
+    Ok(items)
+}

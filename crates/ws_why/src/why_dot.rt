@@ -1,0 +1,120 @@
+//! The reasons for a tuple as a graph for `dot`.
+
+use crate::reasons::{How, Reason};
+use base_types::{Memory, Tuple};
+use std::alloc::Global;
+use ws_question::fact_text;
+use ws_space::Space;
+
+// A tuple by names, the update that put it, and how.
+#[derive(Drop, PartialEq, Eq)]
+struct Node {
+    tuple: Tuple,
+    number: Option<u32>,
+    how: &'static str,
+}
+
+// The lines, the nodes by number, and the edges so far.
+#[derive(Drop)]
+struct Graph {
+    lines: Vec<String>,
+    nodes: Vec<Node>,
+    edges: Vec<(usize, usize)>,
+    // The numbers of those that the next one may be a reason for.
+    path: Vec<usize>,
+}
+
+/// The lines of the graph. It is refused only for want of memory.
+pub(crate) fn dot_lines(
+    alloc: Global,
+    space: &Space,
+    reasons: &[Reason],
+) -> Result<Vec<String>, Memory> {
+    let mut graph = Graph {
+        lines: Vec::new(alloc),
+        nodes: Vec::new(alloc),
+        edges: Vec::new(alloc),
+        path: Vec::new(alloc),
+    };
+    for line in ["digraph why {", "  rankdir=BT;", "  node [shape=box];"] {
+        graph.lines.push(String::from_str(alloc, line)?)?;
+    }
+    for reason in reasons {
+        graph.add(alloc, space, reason)?;
+    }
+    graph.lines.push(String::from_str(alloc, "}")?)?;
+    Ok(graph.lines)
+}
+
+impl Graph {
+    fn add(&mut self, alloc: Global, space: &Space, reason: &Reason) -> Result<(), Memory> {
+        let number = self.number_of(alloc, space, reason)?;
+        self.path.truncate(reason.depth);
+        if let Some(last) = self.path.last() {
+            let edge = (number, *last);
+            if !self.edges.contains(&edge) {
+                self.edges.push(edge)?;
+                let (from, to) = edge;
+                self.lines.push(format!(in alloc; "  t{from} -> t{to};")?)?;
+            }
+        }
+        self.path.push(number)?;
+        Ok(())
+    }
+
+    // The number of the reason's node; a new one has its line.
+    fn number_of(
+        &mut self,
+        alloc: Global,
+        space: &Space,
+        reason: &Reason,
+    ) -> Result<usize, Memory> {
+        let node = Node {
+            tuple: reason.tuple.share()?,
+            number: reason.number,
+            how: reason.how.word(),
+        };
+        if let Some(number) = self.nodes.iter().position(|other| *other == node) {
+            return Ok(number);
+        }
+        let number = self.nodes.len();
+        let label = label_of(alloc, space, reason)?;
+        self.lines
+            .push(format!(in alloc; "  t{number} [label=\"{label}\"];")?)?;
+        self.nodes.push(node)?;
+        Ok(number)
+    }
+}
+
+// The tuple, and in a second line what it is and who put it.
+fn label_of(alloc: Global, space: &Space, reason: &Reason) -> Result<String, Memory> {
+    let mut label = String::new(alloc);
+    add_label(alloc, &mut label, space, reason)?;
+    Ok(label)
+}
+
+fn add_label(
+    alloc: Global,
+    label: &mut String,
+    space: &Space,
+    reason: &Reason,
+) -> Result<(), Memory> {
+    for letter in fact_text(alloc, space, &reason.tuple)?.as_str().chars() {
+        if letter == '"' || letter == '\\' {
+            label.push('\\')?;
+        }
+        label.push(letter)?;
+    }
+    label.push_str("\\n")?;
+    label.push_str(match &reason.how {
+        How::Base => "base",
+        How::Inserted => "inserted",
+        How::Generated(mapping, _) => space.mapping_name(*mapping),
+        How::Rewritten(_) => "filled in",
+    })?;
+    if let Some(number) = reason.number {
+        let curator = space.curator_of(number);
+        label.push_str(format!(in alloc; " {number} {curator}")?.as_str())?;
+    }
+    Ok(())
+}

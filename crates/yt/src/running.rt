@@ -1,0 +1,116 @@
+//! What the words ask for is done.
+
+use crate::feeding::{Input, fed_by};
+use crate::scripts::run_script;
+use crate::telling::{form_of, tell, tell_fault, tell_text, tell_wrong, text};
+use crate::words::{Time, curator, said_time, words_of};
+use def_memory::Memory;
+use std::fs;
+use ws_command::Verb;
+use ws_fault::{Refusal, Status};
+use ws_help::{VERSION, help_text};
+use ws_reply::Form;
+use ws_session::{Fed, Session, Settings, Turn};
+use ws_words::{Asked, Words, file_first, read_words, wants_json};
+
+/// Does what the words ask for. It is refused only for want of memory.
+pub fn run(rt: &HostRuntime) -> Result<Status, Memory> {
+    let words = words_of(rt)?;
+    let time = said_time(rt)?;
+    if let Time::Wrong = time {
+        let what = "YT_TIME is no time of the form 2026-11-30T09:00:00Z";
+        return wrong(
+            rt,
+            words.as_slice(),
+            text(rt.alloc(), what)?,
+            String::new(rt.alloc()),
+        );
+    }
+    match read_words(rt.alloc(), words.as_slice()) {
+        Ok(Asked::Help) => tell_text(rt, help_text(rt.alloc(), None)?.as_str()),
+        Ok(Asked::Version) => tell_text(rt, VERSION),
+        Ok(Asked::Work(work)) => begin(rt, words.as_slice(), &work, &time),
+        Err(refusal) => wrong_words(rt, words.as_slice(), refusal),
+    }
+}
+
+fn wrong_words(rt: &HostRuntime, words: &[String], refusal: Refusal) -> Result<Status, Memory> {
+    match refusal {
+        Refusal::Fault(fault) => tell_wrong(rt, form_of(wants_json(words)), &fault),
+        Refusal::Memory => Err(Memory),
+    }
+}
+
+fn wrong(rt: &HostRuntime, words: &[String], what: String, hint: String) -> Result<Status, Memory> {
+    tell_fault(rt, form_of(wants_json(words)), Status::Unread, what, hint)
+}
+
+// Begins to work on the file.
+fn begin(rt: &HostRuntime, words: &[String], work: &Words, time: &Time) -> Result<Status, Memory> {
+    let alloc = rt.alloc();
+    let file = work.file.as_str();
+    if Verb::of(file).is_some() && !fs::exists(rt, file).unwrap_or(true) {
+        return wrong_words(rt, words, Refusal::Fault(file_first(alloc, words, file)?));
+    }
+    let settings = Settings {
+        path: String::from_str(alloc, file)?,
+        curator: curator(rt, work)?,
+        wait: work.wait,
+        form: form_of(work.json),
+        no_files: work.no_files,
+        stays: work.command.is_none(),
+    };
+    let mut session = Session::new(alloc, settings)?;
+    match &work.command {
+        Some(command) => one(rt, words, work, time, &mut session, command.as_str()),
+        None => run_script(rt, work, time, &mut session),
+    }
+}
+
+// Does the one command that the words have.
+fn one(
+    rt: &HostRuntime,
+    words: &[String],
+    work: &Words,
+    time: &Time,
+    session: &mut Session,
+    line: &str,
+) -> Result<Status, Memory> {
+    let alloc = rt.alloc();
+    let form = form_of(work.json);
+    if line.contains('\n') {
+        return wrong(
+            rt,
+            words,
+            text(alloc, "a command is one line")?,
+            String::new(alloc),
+        );
+    }
+    let mut input = Input::new(rt)?;
+    match fed_by(rt, &mut input, line)? {
+        Ok(fed) => done(rt, form, time, session, line, fed.as_ref()),
+        Err(what) => tell_fault(rt, form, Status::NoInput, what, String::new(alloc)),
+    }
+}
+
+// Does the command, to which this of standard input belongs.
+fn done(
+    rt: &HostRuntime,
+    form: Form,
+    time: &Time,
+    session: &mut Session,
+    line: &str,
+    fed: Option<&Fed>,
+) -> Result<Status, Memory> {
+    let now = time.now(rt)?;
+    let turn = Turn {
+        line,
+        time: now.as_str(),
+        number: None,
+        fed,
+    };
+    match session.command(rt, &turn)? {
+        Some(reply) => Ok(tell(rt, form, &reply)),
+        None => Ok(Status::Done),
+    }
+}

@@ -1,0 +1,106 @@
+#!/usr/bin/env python3
+"""workspace_fuzz.py YT scripts|files FIRST COUNT: garbled scripts, or garbled CSV files, by yt and by the reference; all they tell is equal.
+
+A garbled script has commands that fit what stands, and between them such commands with tokens lost, doubled, exchanged, with odd characters,
+cut, or very long. A garbled file has odd cells, quotes, ends of lines, bytes that are no UTF-8, too many cells or too few, now and then a cell of a
+million bytes; it is loaded with random options. Statuses, both streams and what is shown at the end have to be those of the reference. What
+differs is kept, and its folder is told. The last line is 'N passed, M failed'.
+"""
+import json
+import os
+import random
+import re
+import shutil
+import sys
+from pathlib import Path
+
+from workspace_garbled import garbled_file, garbled_line, load_lines
+from workspace_runs import LOOKS, Bench, Tally, Workspace, by_reference, random_script, yt
+
+CONTROLS = re.compile("[\x00-\x1f\x7f-\x9f\u061c\u200e\u200f\u2028-\u202e\u2066-\u2069]")
+BEGIN = ['relation A(x*, y)', 'relation B(name, town, born)', 'insert A(1, ?), A("a", "Utrecht")', 'mapping m: B(n, t, b) -> A(n, u)']
+
+
+def script_of(rng, bench, seed):
+    """The options and the bytes of a garbled script."""
+    drawn = bench.path("drawn.yt")
+    Path(drawn).unlink(missing_ok=True)
+    lines = []
+    for line in random_script(seed, Workspace(drawn, "ann")):
+        if len(lines) > 5 and rng.random() < 0.4:
+            lines.append(garbled_line(rng, line))
+        else:
+            lines.append(line.encode())
+    ends = rng.choice([b"\n"] * 8 + [b"\r\n"])
+    return rng.choice([b""] * 9 + [b"\xef\xbb\xbf"]) + ends.join(lines) + ends + LOOKS
+
+
+def load_of(rng, bench):
+    """The bytes of a script that loads a garbled file, which is written."""
+    data, path = garbled_file(rng), bench.path("rows.csv")
+    Path(path).write_bytes(data)
+    return "".join(line + "\n" for line in BEGIN).encode() + load_lines(rng, path, data) + LOOKS
+
+
+def shown(text, kept=""):
+    """Words of a fault as yt shows them: control characters by their numbers, so that none reaches a terminal."""
+    return CONTROLS.sub(lambda found: found[0] if found[0] == kept else "\\u{%x}" % ord(found[0]), text)
+
+
+def with_controls_shown(told):
+    """What the reference tells, with the words of its faults as yt shows them."""
+    status, out, err = told
+    lines = out.split(b"\n")
+    for number, line in enumerate(lines):
+        if b'"reply":"fault"' in line:
+            fault = json.loads(line)
+            for key in {"words", "hint"} & set(fault):
+                fault[key] = shown(fault[key])
+            fault.update({"faults": [shown(words) for words in fault["faults"]]} if "faults" in fault else {})
+            lines[number] = json.dumps(fault, ensure_ascii=False, sort_keys=True, separators=(",", ":")).encode()
+    return status, b"\n".join(lines), shown(err.decode("utf-8", "surrogateescape"), "\n").encode("utf-8", "surrogateescape")
+
+
+def difference(bench, options, data):
+    """What yt and the reference tell, if it is not the same."""
+    file, both = bench.path("w.yt"), []
+    for run in (by_reference, lambda words, data: yt(bench.program, words, data)):
+        for name in os.listdir(bench.folder):
+            if name.startswith("w.yt"):
+                os.unlink(bench.path(name))
+        both.append(run([*options, file], data))
+    both[0] = with_controls_shown(both[0])
+    # A line that is at fault is shown as it was said, with its tabs.
+    both = [(status, out, err.replace(b"\t", b"\\u{9}")) for status, out, err in both]
+    return None if both[0] == both[1] else both
+
+
+def kept(bench, name, options, data, both):
+    """Puts what differs into a folder of its own, and tells its name."""
+    folder = Path(bench.folder + "-" + name)
+    folder.mkdir()
+    (folder / "options").write_text(" ".join(options) + "\n")
+    (folder / "script").write_bytes(data)
+    if os.path.exists(bench.path("rows.csv")):
+        shutil.copyfile(bench.path("rows.csv"), folder / "rows.csv")
+    for who, (status, out, err) in zip(("reference", "yt"), both):
+        (folder / who).write_bytes(b"status %d\n%s\n--\n%s" % (status, out, err))
+    return folder
+
+
+def main():
+    program, what, first, count = sys.argv[1], sys.argv[2], int(sys.argv[3]), int(sys.argv[4])
+    tally = Tally()
+    with Bench(program) as bench:
+        for seed in range(first, first + count):
+            rng = random.Random(f"{what} {seed}")
+            data = script_of(rng, bench, seed) if what == "scripts" else load_of(rng, bench)
+            options = ["--keep-going"] + rng.choice([[], ["--json"]])
+            both = difference(bench, options, data)
+            told = kept(bench, f"{what}-{seed}", options, data, both) if both else ""
+            tally.holds(f"{what} {seed}: {told}", not both)
+    tally.end()
+
+
+if __name__ == "__main__":
+    main()

@@ -1,0 +1,96 @@
+"""Garbled commands and garbled files of comma-separated values, drawn at random."""
+import re
+
+TOKEN = re.compile(r'"(?:[^"\\]|\\.)*"|--\w+|[\w.]+|\s+|.', re.S)
+WORDS = ("insert delete replace with mapping relation adopt drop answer undo redo try load show ask why questions violations log status export page graph "
+         "dump help quit fold new go expand unify -> , ( ) : .. * ; # ? ?x ?1.1 ?99.2 _ 0 -1 1 007 -0 9223372036854775807 9223372036854775808 "
+         '1.5 "" "a" "12" "\\n" "\\u{7f}" "\\u{0}" "\\u{d800}" "\\u{110000}" --json --limit --steps --still --at --only --cascade --answers --unknowns --like '
+         "--from --since --mine --create --lines --to x t Painting painting Painter _fix_m yt_x select update").split() + ['"a b"', '"\\q"', "'a'", "“a”"]
+ODD = list("'\"\\?#;:*_.,()-><=|&\t \u00a0\u00e9\u65e5\u0301\u202e\u200b\ufeff\x01\x7f\x85\u2028") + ["\U0001f600", "\r", "\x00", "\x1b[31m"]
+
+
+def garbled_line(rng, line):
+    """The bytes of this command, damaged once to three times."""
+    tokens = TOKEN.findall(line)
+    for _ in range(rng.choice([1, 1, 1, 2, 3])):
+        at = rng.randrange(len(tokens) + 1)
+        tokens[at:at + rng.randrange(2)] = rng.choice([
+            lambda: [],
+            lambda: [rng.choice(WORDS)],
+            lambda: [" ", rng.choice(WORDS), " "],
+            lambda: [rng.choice(ODD)],
+            lambda: tokens[at:at + 1] * 2,
+            lambda: tokens[at + 1:at + 2] + tokens[at:at + 1],
+            lambda: [long_token(rng)],
+        ])()
+    raw = "".join(tokens).replace("\n", " ").encode("utf-8", "surrogatepass")
+    if rng.random() < 0.08:
+        raw = raw[:rng.randrange(len(raw) + 1)]
+    if rng.random() < 0.04:
+        at = rng.randrange(len(raw) + 1)
+        raw = raw[:at] + rng.choice([b"\xff", b"\xc3", b"\xe2\x82", b"\xed\xa0\x80", b"\xf5\x80\x80\x80"]) + raw[at:]
+    return raw if b" --to" not in raw and b"quit" not in raw and b"exit" not in raw else b"status"
+
+
+def long_token(rng):
+    return rng.choice([
+        '"%s"' % ("x" * rng.choice([255, 256, 257, 5000])),
+        '"%s"' % ("\u00e9" * rng.choice([128, 129])),
+        "9" * rng.choice([19, 20, 400]),
+        "(" * rng.choice([2, 300]),
+        ", ".join("Loan(%d, 1)" % n for n in range(rng.choice([9, 300]))),
+        "n" * rng.choice([64, 300]),
+        "1..%d" % rng.choice([2, 999999, 4294967295, 4294967296]),
+    ])
+
+
+# ---- files ----
+
+CELLS = ["", "1", "2", "-3", "007", "-0", "+4", "1.5", "1e3", "9223372036854775807", "9223372036854775808", "-9223372036854775808", "a", "A", " a", "a ",
+         "Utrecht", "utrecht", "?1.1", "?3.1", "?9.9", "?", "_", "n/a", "NULL", '"', '""', '"a"', '"a""b"', '"a,b"', '"a\nb"', '"a\r\nb"', '"a"b', 'a"b',
+         '" a "', '"12"', "O'Brien", "\u00e9", "\u65e5\u672c", "\U0001f600", "\u202e", "\x01", "\x00", "\x7f", "a\tb", "=1+1", "\\n", "#", "x" * 256, "x" * 257, "\u00e9" * 129]
+HEADS = [["x", "y"], ["y", "x"], ["x"], ["x", "x"], ["x", "y", "z"], ["name", "town", "born"], ["born", "town", "name"], [" name ", "Town", "born"],
+         ["Name of it", "2nd", "\u00e9"], [""], ["x", ""], ['"x"', '"y"'], ["_x", "yt_y"], list("abcdefghi")]
+
+
+def garbled_file(rng):
+    """The bytes of a file."""
+    separator = rng.choice([","] * 8 + [";", "\t"])
+    head = rng.choice(HEADS)
+    tidy = rng.random() < 0.4
+    rows = [separator.join(head)]
+    for _ in range(rng.choice([0, 1, 2, 5, 20])):
+        size = len(head) if tidy or rng.random() < 0.9 else rng.randrange(len(head) + 3)
+        rows.append(separator.join(rng.choice(CELLS[1:17] if tidy else CELLS) for _ in range(size)))
+    if rng.random() < 0.1:
+        rows.insert(rng.randrange(len(rows) + 1), "")
+    if rng.random() < 0.02:
+        rows.append("1" + separator + rng.choice(["", '"']) + "m" * 1000000 + rng.choice(["", '"', '",2']))
+    end = rng.choice(["\n"] * 6 + ["\r\n", "\r\n", "\r"])
+    data = (rng.choice([""] * 7 + ["\ufeff"]) + end.join(rows) + rng.choice([end, end, "", "\n\n"])).encode()
+    if rng.random() < 0.05:
+        at = rng.randrange(len(data) + 1)
+        data = data[:at] + rng.choice([b"\xff", b"\xc3", b"\xe2\x82", b"\xfe\xff"]) + data[at:]
+    return data if rng.random() < 0.97 else b""
+
+
+OPTIONS = ["--create", "--create", "--empty new", "--empty new", "--empty text", "--empty skip", "--empty refuse", "--empty odd", "--null n/a", "--null n/a,NULL",
+           '--separator ";"', "--separator tab", '--separator ",,"', "--text x", "--text y,x", "--text nothing", "--unknowns", "--columns x,y", "--columns name,town,born",
+           "--columns y", "--columns x,x", "--steps 2"]
+
+
+def load_lines(rng, path, data):
+    """One to three lines that load the file, or its lines out of the script."""
+    out = b""
+    # Where the header makes no relation, the reference tells a column of a line that nobody said.
+    options = [option for option in OPTIONS if option != "--create" or not re.match(b"(\xef\xbb\xbf)?(_x|a[,;\t]b|x[,;\t]x)", data)]
+    for _ in range(rng.choice([1, 1, 2, 3])):
+        words = " ".join(rng.sample(options, rng.choice([0, 1, 1, 2, 3])))
+        name = rng.choice(["A", "A", "B", "B", "C", "Nothing"])
+        attempt = rng.choice(["", "", "", "try "])
+        if rng.random() < 0.25:
+            count = data.count(b"\n") + rng.choice([0, 0, 1, 3])
+            out += f"{attempt}load {name} --lines {max(1, count)} {words}\n".encode() + data + (b"" if data.endswith(b"\n") else b"\n")
+        else:
+            out += f"{attempt}load {name} {path} {words}\n".encode()
+    return out

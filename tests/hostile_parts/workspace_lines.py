@@ -1,0 +1,74 @@
+#!/usr/bin/env python3
+"""workspace_lines.py YT FIRST COUNT [LINES]: random scripts with garbled commands between theirs, by one process that goes on after faults.
+
+The commands of each script stand among LINES garbled ones (5,000), as a browser would send them. No command is lost: after every hundred lines a
+question of a number of its own is asked, and has its reply. Each reply has a status that such a command can have, the process ends by itself within
+two minutes, and its file is whole afterwards. Each line counts as one attack. The last line is 'N passed, M failed'.
+"""
+import random
+import re
+import subprocess
+import sys
+from pathlib import Path
+
+from workspace_garbled import garbled_line
+from workspace_runs import Bench, Tally, Workspace, random_script, yt
+
+STATUS = re.compile(rb'"status":(\d+)')
+LOST = re.compile(rb"there is no relation Lost_(\d+)")
+CAN_BE = {b"0", b"1", b"2", b"3", b"4", b"5", b"13", b"14"}
+SECONDS = 120
+
+
+def lines_of(seed, bench, count):
+    """A random script whose commands stand among so many garbled ones, with a numbered question after every hundred lines."""
+    drawn, rng = bench.path("drawn.yt"), random.Random(seed)
+    Path(drawn).unlink(missing_ok=True)
+    script = [line for line in random_script(seed, Workspace(drawn, "ann")) if "quit" not in line and "--to" not in line]
+    each = max(1, count // len(script))
+    lines = []
+    for line in script:
+        lines.append(line.encode())
+        for _ in range(each):
+            lines.append(garbled_line(rng, rng.choice(script)))
+            if len(lines) % 100 == 0:
+                lines.append(b"show Lost_%d" % len(lines))
+    return [line for line in lines if b"\n" not in line]
+
+
+def wrong(lines, run):
+    """What is wrong with what a process told of these lines, if something is."""
+    asked = [line[10:] for line in lines if line.startswith(b"show Lost_") and line[10:].isdigit()]
+    if run.returncode < 0:
+        return f"ended by the signal {-run.returncode}"
+    if [number for number in LOST.findall(run.stdout)] != asked:
+        return "a line has no reply"
+    odd = set(STATUS.findall(run.stdout)) - CAN_BE
+    return f"statuses {odd}" if odd else ""
+
+
+def attacked(program, seed, bench, count):
+    """How many lines were told, and what is wrong, if something is."""
+    lines, path = lines_of(seed, bench, count), bench.path("w.yt")
+    Path(path).unlink(missing_ok=True)
+    words = [program, "--json", "--no-files", "--keep-going", path]
+    try:
+        run = subprocess.run(words, input=b"\n".join(lines) + b"\n", capture_output=True, timeout=SECONDS)
+    except subprocess.TimeoutExpired:
+        return len(lines), f"it goes on after {SECONDS} seconds"
+    status = yt(program, [path, "status"])[0]
+    return len(lines), wrong(lines, run) or ("" if status == 0 else f"its file has status {status}")
+
+
+def main(program, first, count, lines="5000"):
+    tally = Tally()
+    for seed in range(int(first), int(first) + int(count)):
+        with Bench(program) as bench:
+            told, fault = attacked(program, seed, bench, int(lines))
+            tally.passed += 0 if fault else told - 1
+            tally.holds(f"script {seed}: {fault}", not fault)
+    tally.end()
+
+
+if __name__ == "__main__":
+    main(*sys.argv[1:])

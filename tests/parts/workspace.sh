@@ -1,0 +1,10 @@
+# Conversations with `yt`: the stored ones, by the reference in Python and by the program, and random scripts by both.
+workspace=$(realpath -m "${WORKSPACE:-crates/yt/out/yt}")
+check 'the reference of yt tells what the stored conversations have' \
+  "$(tests/workspace_rows > "$stored/differences" 2>&1 || cat "$stored/differences")"
+check 'yt tells what the stored conversations have' \
+  "$(tests/workspace_rows "$workspace" > "$stored/differences" 2>&1 || cat "$stored/differences")"
+check 'yt tells of 100 random scripts what the reference tells, and youtopia takes each dump' \
+  "$(tests/scripts 5 100 "$workspace" "$program" > "$stored/differences" 2>&1 || cat "$stored/differences")"
+check 'the blocks of the guide of yt are run, and write what they show' \
+  "$(tests/pages/blocks.py docs/YT.md "$workspace" plain as yt 2>&1)"
