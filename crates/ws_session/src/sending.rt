@@ -1,6 +1,6 @@
 //! A text that is told, or written to a file.
 
-use crate::failing::{cannot, fault};
+use crate::failing::{cannot, refused};
 use crate::sessions::{Settings, called};
 use def_memory::Memory;
 use std::alloc::{AllocError, Global};
@@ -8,7 +8,7 @@ use std::fs;
 use std::os::unix::fs::MetadataExt;
 use ws_fault::{Refusal, Status};
 use ws_json::Object;
-use ws_print::add_escaped;
+use ws_print::{Lines, Text, add_escaped};
 use ws_reply::{Form, Kind, Reply};
 
 /// Writes the lines to the file, if there is one, and tells that; or tells them.
@@ -23,8 +23,8 @@ pub(crate) fn sent(
     match to {
         Some(path) if is_workspace(rt, settings, path.as_str()) => {
             let name = called(settings, path.as_str());
-            let words = format!(in alloc; "cannot write {name}: it is the workspace")?;
-            Err(fault(alloc, Status::NoOutput, words, None))
+            let words = format!(in alloc; "cannot write {name}: it is the workspace");
+            Err(refused(alloc, Status::NoOutput, words))
         }
         Some(path) => {
             let text = joined(alloc, lines.as_slice())?;
@@ -53,43 +53,41 @@ fn is_workspace(rt: &HostRuntime, settings: &Settings, path: &str) -> bool {
 
 // The lines, each with a line feed; a line feed if there is none.
 fn joined(alloc: Global, lines: &[String]) -> Result<String, AllocError> {
-    let mut text = String::new(alloc);
+    let mut text = Text::new(alloc);
     for (place, line) in lines.iter().enumerate() {
         if 0 < place {
-            text.push('\n')?;
+            text.push('\n');
         }
-        text.push_str(line.as_str())?;
+        text.push_str(line.as_str());
     }
-    text.push('\n')?;
-    Ok(text)
+    text.push('\n');
+    text.done()
 }
 
 fn told(alloc: Global, form: Form, kind: &str, lines: Vec<String>) -> Result<Reply, Memory> {
     if form == Form::Text {
         return Ok(Reply::of_text(Status::Done, Kind::Look, lines));
     }
-    let mut object = Object::new(alloc);
-    object.text("reply", kind)?;
-    object.text("text", joined(alloc, lines.as_slice())?.as_str())?;
-    one(alloc, object)
+    let text = joined(alloc, lines.as_slice())?;
+    Ok(one(alloc, kind, "text", text.as_str())?)
 }
 
 fn wrote(alloc: Global, form: Form, path: &str) -> Result<Reply, Memory> {
     if form == Form::Json {
-        let mut object = Object::new(alloc);
-        object.text("reply", "wrote")?;
-        object.text("file", path)?;
-        return one(alloc, object);
+        return Ok(one(alloc, "wrote", "file", path)?);
     }
-    let mut line = String::from_str(alloc, "wrote ")?;
-    add_escaped(&mut line, path)?;
-    let mut lines = Vec::new(alloc);
-    lines.push(line)?;
-    Ok(Reply::of_text(Status::Done, Kind::Look, lines))
+    let mut line = Text::from_str(alloc, "wrote ");
+    add_escaped(&mut line, path);
+    let line = line.done()?;
+    let mut lines = Lines::new(alloc);
+    lines.push(line);
+    Ok(Reply::of_text(Status::Done, Kind::Look, lines.done()?))
 }
 
-fn one(alloc: Global, object: Object) -> Result<Reply, Memory> {
-    let mut objects = Vec::new(alloc);
-    objects.push(object)?;
-    Ok(Reply::of_objects(alloc, Status::Done, Kind::Look, objects)?)
+// The reply of an object of this kind that has one text.
+fn one(alloc: Global, kind: &str, key: &str, text: &str) -> Result<Reply, AllocError> {
+    let mut object = Object::new(alloc);
+    object.text("reply", kind);
+    object.text(key, text);
+    Reply::of_object(alloc, Status::Done, Kind::Look, object)
 }
