@@ -25,10 +25,9 @@ pub(crate) fn stamp_of(alloc: Global, time: &str, curator: &str) -> Result<Stamp
 fn said_lines(alloc: Global, lines: Vec<Line>, comment: &str) -> Result<Vec<SaidLine>, Memory> {
     let mut said = Vec::new(alloc);
     let mut are_all = true;
-    let mut comment = comment;
-    for line in lines {
+    for (place, line) in lines.into_iter().enumerate() {
+        let comment = if place == 0 { comment } else { "" };
         are_all = add_said(alloc, &mut said, line, comment).is_ok() && are_all;
-        comment = "";
     }
     if are_all {
         return Ok(said);

@@ -31,8 +31,8 @@ impl Session {
         match self.file.resting.take() {
             Some(resting) => self.reread(rt, access, resting),
             None => {
-                let path = self.speaker.settings.path.as_str();
-                let opened = open(rt, path, access, self.speaker.wait())?;
+                let wait = self.speaker.wait();
+                let opened = open(rt, self.speaker.settings.path.as_str(), access, wait)?;
                 self.keep_anew(opened);
                 Ok(())
             }
@@ -45,8 +45,9 @@ impl Session {
         access: Access,
         resting: RestingLog,
     ) -> Result<(), Fault> {
+        let wait = self.speaker.wait();
         let path = self.speaker.settings.path.as_str();
-        match reopen(rt, resting, path, access, self.speaker.wait())? {
+        match reopen(rt, resting, path, access, wait)? {
             Reopened::Same(opened) => self.file.keep(opened),
             Reopened::Another(opened) => {
                 self.keep_anew(opened);
