@@ -1,8 +1,9 @@
 -- The index of a set: for each relation and column, the tuples by their value in it.
 use Rattle.std.specs.HashMap.{HashMap}
 use Rattle.std.proofs.Common.{BuildHasherDefault}
+use Rattle.std.specs.List.{list_any}
 use Rattle.std.specs.Map.{lookup}
-use Rattle.std.specs.Prelude.{◌≡◌, ℕ, Bool, not, ◌&&◌, ◌||◌, List, [], unwrap_or, slice_get, Option, Some, None}
+use Rattle.std.specs.Prelude.{◌≡◌, ℕ, Bool, true, not, ◌&&◌, ◌||◌, List, [], unwrap_or, slice_get, Option, Some, None}
 use Rattle.def_chase.specs.Values.{Datum, Fact, same_datum, same_fact}
 use Rattle.def_chase.specs.Repository.{has}
 use Rattle.def_chase.specs.Cursors.{is_of, has_at}
@@ -27,6 +28,10 @@ group_at ms c d = at (slice_get ms c)
     at : Option Kept → List Fact
     at None = []
     at (Some m) = group_in m d
+
+-- Each value at which tuples are kept is among these.
+abbrev pub IsSpanned : List Datum → (Datum → List Fact) → Type 0
+IsSpanned ds kept = (d : Datum) (u : Fact) → has (kept d) u ≡ true → list_any (same_datum d) ds ≡ true
 
 -- The columns keep what they kept.
 abbrev pub AreSame : List Kept → List Kept → Type 0

@@ -5,11 +5,11 @@ use Rattle.def_chase.specs.Values.{Datum}
 use Rattle.base_types.specs.Meanings.{fact_of, datum_of}
 use Rattle.set_facts.specs.Indexes.{Adds, group_in}
 use Rattle.set_facts.proofs.Groups.{group_adds, group_stays, more_in_group, where_ok, where_err}
-use Rattle.set_facts.proofs.columns.add.Goals as goal
+use Rattle.set_facts.proofs.column.keep.Goals as goal
 
 pub returns-in-Ok-clause-ok : goal.returns-in-Ok-clause-ok
 returns-in-Ok-clause-ok c =
-    let m = c.args.groups.now in
+    let m = c.args.by_value.now in
     let k = c.in_ok-copy.field-0 in
     let w = c.put.new.group in
     let t = fact_of c.args.tuple.now in
@@ -23,7 +23,7 @@ returns-in-Ok-clause-ok c =
 
 pub returns-in-Ok-clause-err : goal.returns-in-Ok-clause-err
 returns-in-Ok-clause-err c =
-    let m = c.args.groups.now in
+    let m = c.args.by_value.now in
     let k = c.in_ok-copy.field-0 in
     let w = c.put.new.group in
     let x = map_with_value c.in-Ok.entry w in
