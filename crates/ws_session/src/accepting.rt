@@ -3,7 +3,7 @@ ghost use Rattle.std.specs.Prelude.{◌++◌, ◌∷◌, [], ℕ, List, IfOk};
 ghost use Rattle.ws_file.specs.Files.{state_of};
 ghost use Rattle.ws_seal.specs.Logs.{IsHeld};
 
-use crate::sessions::Session;
+use crate::sessions::{Session, Texts};
 use def_memory::Memory;
 use std::alloc::Global;
 use ws_fault::Refusal;
@@ -13,36 +13,70 @@ use ws_reply::{Outcome, Reply};
 use ws_space::Space;
 use ws_written::{Line, Record, SaidLine, Stamp};
 
-/// The record of lines, the first of which was said with this comment. It is refused only for want of memory.
-pub(crate) fn record_of(
-    alloc: Global,
-    time: &str,
-    curator: &str,
-    lines: Vec<Line>,
-    comment: &str,
-) -> Result<Record, Memory> {
-    let mut said = Vec::new(alloc);
-    for (place, line) in lines.into_iter().enumerate() {
-        let comment = if place == 0 { comment } else { "" };
-        said.push(SaidLine {
-            line,
-            comment: String::from_str(alloc, comment)?,
-        })?;
-    }
-    Ok(Record {
-        stamp: Stamp {
-            time: String::from_str(alloc, time)?,
-            curator: String::from_str(alloc, curator)?,
-        },
-        lines: said,
+/// Who says something, and when.
+pub(crate) fn stamp_of(alloc: Global, time: &str, curator: &str) -> Result<Stamp, Memory> {
+    Ok(Stamp {
+        time: String::from_str(alloc, time)?,
+        curator: String::from_str(alloc, curator)?,
     })
 }
 
-/// The text of a record over the relations of a workspace that has it. It is refused only for want of memory.
-pub(crate) fn text_of(alloc: Global, space: &Space, record: &Record) -> Result<Vec<u8>, Memory> {
+// The lines as they are said, the first of them with this comment.
+fn said_lines(alloc: Global, lines: Vec<Line>, comment: &str) -> Result<Vec<SaidLine>, Memory> {
+    let mut said = Vec::new(alloc);
+    let mut are_all = true;
+    for (place, line) in lines.into_iter().enumerate() {
+        let comment = if place == 0 { comment } else { "" };
+        are_all = add_said(alloc, &mut said, line, comment).is_ok() && are_all;
+    }
+    if are_all {
+        return Ok(said);
+    }
+    Err(Memory)
+}
+
+fn add_said(
+    alloc: Global,
+    said: &mut Vec<SaidLine>,
+    line: Line,
+    comment: &str,
+) -> Result<(), Memory> {
+    match String::from_str(alloc, comment) {
+        Ok(comment) => Ok(said.push(SaidLine { line, comment })?),
+        Err(_) => {
+            drop(line);
+            Err(Memory)
+        }
+    }
+}
+
+// The text of a record over the relations of a workspace that has it.
+fn text_of(alloc: Global, space: &Space, record: &Record) -> Result<Vec<u8>, Memory> {
     let mut text = String::new(alloc);
     add_record(&mut text, space.relations.as_slice(), record)?;
     Ok(text.into_bytes())
+}
+
+// Keeps the record of lines that the workspace has taken, and its text.
+fn keep(
+    alloc: Global,
+    space: &mut Space,
+    texts: &mut Vec<Vec<u8>>,
+    record: Record,
+) -> Result<(), Memory> {
+    match text_of(alloc, space, &record) {
+        Ok(text) => {
+            if texts.push(text).is_err() {
+                drop(record);
+                return Err(Memory);
+            }
+            space.recorded(alloc, record)
+        }
+        Err(memory) => {
+            drop(record);
+            Err(memory)
+        }
+    }
 }
 
 impl Session {
@@ -50,35 +84,71 @@ impl Session {
     pub(crate) fn accept(
         &mut self,
         alloc: Global,
-        log: OpenLog,
-        space: &mut Space,
         outcome: Outcome,
         time: &str,
         comment: &str,
-    ) -> Result<(OpenLog, Reply), Refusal> {
+    ) -> Result<Reply, Refusal> {
         let Outcome { reply, lines } = outcome;
         if lines.is_empty() {
-            return Ok((log, reply));
+            return Ok(reply);
         }
-        let record = record_of(alloc, time, self.settings.curator.as_str(), lines, comment)?;
-        let text = text_of(alloc, space, &record)?;
-        // What takes memory comes before the append, since nothing may be refused after it. At a fault the workspace is let go.
-        self.texts.push(Vec::new(alloc))?;
-        space.recorded(alloc, record)?;
-        match told(alloc, log, text.as_slice(), reply) {
-            Ok(told) => {
-                self.keep_last(text);
-                Ok(told)
+        // What takes memory comes before the append, since nothing may be refused after it.
+        match self.record(alloc, lines, time, comment) {
+            Ok(()) => self.append(alloc, reply),
+            Err(memory) => {
+                drop(reply);
+                Err(Refusal::from(memory))
             }
-            Err(fault) => Err(self.log_fault(alloc, fault)),
         }
     }
 
-    // The text of the last record.
-    fn keep_last(&mut self, text: Vec<u8>) {
-        if let Some(last) = self.texts.last_mut() {
-            *last = text;
+    /// Keeps the record of these lines, the first of which was said with this comment, and its text. If memory runs out, what was
+    /// read is of no use any more.
+    pub(crate) fn record(
+        &mut self,
+        alloc: Global,
+        lines: Vec<Line>,
+        time: &str,
+        comment: &str,
+    ) -> Result<(), Memory> {
+        let lines = said_lines(alloc, lines, comment)?;
+        match stamp_of(alloc, time, self.speaker.settings.curator.as_str()) {
+            Ok(stamp) => self.keep(alloc, Record { stamp, lines }),
+            Err(memory) => {
+                drop(lines);
+                Err(memory)
+            }
         }
+    }
+
+    fn keep(&mut self, alloc: Global, record: Record) -> Result<(), Memory> {
+        match &mut self.space {
+            Some(space) => keep(alloc, space, &mut self.file.texts, record),
+            None => {
+                drop(record);
+                Err(Memory)
+            }
+        }
+    }
+
+    fn append(&mut self, alloc: Global, reply: Reply) -> Result<Reply, Refusal> {
+        match self.file.append(alloc, reply) {
+            Ok(reply) => Ok(reply),
+            Err(fault) => Err(self.speaker.log_fault(alloc, fault)),
+        }
+    }
+}
+
+impl Texts {
+    // Appends the last text to the log in hand, and gives the reply back.
+    fn append(&mut self, alloc: Global, reply: Reply) -> Result<Reply, Fault> {
+        let (Some(log), Some(text)) = (self.log.take(), self.texts.last()) else {
+            drop(reply);
+            return Err(Fault::Memory);
+        };
+        let (log, reply) = told(alloc, log, text.as_slice(), reply)?;
+        self.hold(log);
+        Ok(reply)
     }
 }
 

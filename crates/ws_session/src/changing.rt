@@ -2,9 +2,9 @@
 
 use crate::commands::Turn;
 use crate::folding::fold_over;
-use crate::leaving::Done;
+use crate::leaving::{Done, allowed};
 use crate::loading::loaded;
-use crate::sessions::{Session, context_of};
+use crate::sessions::{Speaker, context_of};
 use def_memory::Memory;
 use std::alloc::Global;
 use std::mem;
@@ -15,35 +15,67 @@ use ws_look::help;
 use ws_reply::{Kind, Outcome, Reply};
 use ws_space::{Opening, Point, Space};
 
-impl Session {
-    /// What a command comes to over the workspace in memory.
-    pub(crate) fn done_command(
+impl Speaker {
+    /// What a command comes to over the workspace in memory, of which these are the texts. It is refused if it is not allowed.
+    pub(crate) fn command(
         &mut self,
         rt: &HostRuntime,
         turn: &Turn<'_>,
+        texts: &[Vec<u8>],
+        space: &mut Space,
+        said: Said,
+    ) -> Result<Done, Refusal> {
+        match allowed(rt.alloc(), &self.settings, space.at(), &said.command) {
+            Ok(()) => self.allowed(rt, turn, texts, space, said),
+            Err(refusal) => {
+                drop(said);
+                Err(refusal)
+            }
+        }
+    }
+
+    fn allowed(
+        &mut self,
+        rt: &HostRuntime,
+        turn: &Turn<'_>,
+        texts: &[Vec<u8>],
         space: &mut Space,
         said: Said,
     ) -> Result<Done, Refusal> {
         let Said { command, comment } = said;
         match command {
-            Command::Change { change, .. } => match change {
-                Change::Fold => fold_over(rt.alloc(), space, self.settings.form),
-                _ => {
-                    let outcome = self.change(rt, turn, space, change, false)?;
-                    Ok(Done::Changed(outcome, comment))
-                }
-            },
+            Command::Change { change, .. } => {
+                self.change_or_fold(rt, turn, texts, space, change, comment)
+            }
             Command::Try { change, .. } => {
-                let outcome = self.change(rt, turn, space, change, true)?;
+                let outcome = self.change(rt, turn, texts, space, change, true)?;
                 Ok(Done::Told(outcome.reply))
             }
-            Command::Look(look) => self.look(rt, turn, space, &look),
+            Command::Look(look) => self.look_once(rt, turn, space, look),
             Command::Help(verb) => {
-                let name = self.name.as_str();
-                let context = context_of(&self.settings, name, turn.time, false);
+                let context = self.context(turn.time, false);
                 Ok(Done::Told(help(rt.alloc(), &context, verb)?))
             }
             Command::Quit => Ok(Done::Told(quit(rt.alloc()))),
+        }
+    }
+
+    fn change_or_fold(
+        &mut self,
+        rt: &HostRuntime,
+        turn: &Turn<'_>,
+        texts: &[Vec<u8>],
+        space: &mut Space,
+        change: Change,
+        comment: String,
+    ) -> Result<Done, Refusal> {
+        if let Change::Fold = &change {
+            drop(change);
+            return fold_over(rt.alloc(), space, self.settings.form);
+        }
+        match self.change(rt, turn, texts, space, change, false) {
+            Ok(outcome) => Ok(Done::Changed(outcome, comment)),
+            Err(refusal) => Err(refusal),
         }
     }
 
@@ -52,40 +84,79 @@ impl Session {
         &mut self,
         rt: &HostRuntime,
         turn: &Turn<'_>,
+        texts: &[Vec<u8>],
         space: &mut Space,
         change: Change,
         trying: bool,
     ) -> Result<Outcome, Refusal> {
-        let alloc = rt.alloc();
-        space.say_as(alloc, turn.time, self.settings.curator.as_str())?;
+        match self.make_ready(rt.alloc(), turn.time, space) {
+            Ok(()) => self.ready_change(rt, turn, texts, space, change, trying),
+            Err(memory) => {
+                drop(change);
+                Err(Refusal::from(memory))
+            }
+        }
+    }
+
+    // Says in the workspace who speaks and when, and keeps what it may have to go back to.
+    fn make_ready(&mut self, alloc: Global, time: &str, space: &mut Space) -> Result<(), Memory> {
+        space.say_as(alloc, time, self.settings.curator.as_str())?;
         let point = point_of(alloc, space, self.settings.stays)?;
         drop(mem::replace(&mut self.point, point));
+        Ok(())
+    }
+
+    fn ready_change(
+        &mut self,
+        rt: &HostRuntime,
+        turn: &Turn<'_>,
+        texts: &[Vec<u8>],
+        space: &mut Space,
+        change: Change,
+        trying: bool,
+    ) -> Result<Outcome, Refusal> {
         if let Change::Load(load) = &change {
-            let context = context_of(&self.settings, self.name.as_str(), turn.time, trying);
-            return loaded(rt, &self.settings, space, &context, load, turn.fed);
+            let context = self.context(turn.time, trying);
+            let outcome = loaded(rt, &self.settings, space, &context, load, turn.fed);
+            drop(change);
+            return outcome;
         }
-        self.changed(alloc, turn.time, space, change, trying)
+        match self.past(rt.alloc(), texts, space, &change) {
+            Ok(past) => self.change_since(rt.alloc(), turn.time, space, past, change, trying),
+            Err(refusal) => {
+                drop(change);
+                Err(refusal)
+            }
+        }
     }
 
     // What a change that is no `load` comes to.
-    fn changed(
+    fn change_since(
         &mut self,
         alloc: Global,
         time: &str,
         space: &mut Space,
+        past: Option<Space>,
         change: Change,
         trying: bool,
     ) -> Result<Outcome, Refusal> {
-        let mut past = self.past(alloc, space, &change)?;
+        let mut past = past;
         let context = context_of(&self.settings, self.name.as_str(), time, trying);
-        let shown = &mut self.shown;
-        changed(alloc, space, shown, past.as_mut(), &context, change)
+        changed(
+            alloc,
+            space,
+            &mut self.shown,
+            past.as_mut(),
+            &context,
+            change,
+        )
     }
 
     // The workspace after the record of `--at`, if that is not the last one.
     fn past(
         &self,
         alloc: Global,
+        texts: &[Vec<u8>],
         space: &Space,
         change: &Change,
     ) -> Result<Option<Space>, Refusal> {
@@ -96,7 +167,6 @@ impl Session {
             return Ok(None);
         }
         let count = (at.saturating_sub(space.first) as usize).saturating_add(1);
-        let texts = self.texts.as_slice();
         match Space::open(alloc, texts.get(..count).unwrap_or(texts)) {
             Ok(past) => Ok(Some(past)),
             Err(Opening::Unread(place)) => Err(self.unread(alloc, place)),

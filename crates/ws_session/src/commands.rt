@@ -1,15 +1,15 @@
 //! A command: read, done over the workspace in memory, and accepted.
 
 use crate::failing::{fault, fault_reply};
-use crate::leaving::{Done, allowed};
+use crate::leaving::Done;
 use crate::loading::Fed;
-use crate::sessions::Session;
+use crate::sessions::{Session, Speaker};
 use def_memory::Memory;
 use std::alloc::Global;
 use ws_command::{Said, Verb};
 use ws_fault::{Fault, Refusal, Status};
 use ws_grammar::{Names, read_command};
-use ws_log::{Access, OpenLog};
+use ws_log::Access;
 use ws_reply::Reply;
 use ws_space::Space;
 
@@ -28,17 +28,83 @@ impl Session {
         if is_blank(turn.line) {
             return Ok(None);
         }
+        let alloc = rt.alloc();
         match self.answer(rt, turn) {
             Ok(reply) => Ok(reply),
-            Err(Refusal::Fault(fault)) => self.faulty(rt.alloc(), &fault, turn),
+            Err(Refusal::Fault(fault)) => self.speaker.faulty(alloc, &fault, turn),
             Err(Refusal::Memory) => {
-                let alloc = rt.alloc();
                 self.forget(alloc);
-                self.faulty(alloc, &out_of_memory(alloc)?, turn)
+                self.speaker.faulty(alloc, &out_of_memory(alloc)?, turn)
             }
         }
     }
 
+    fn answer(&mut self, rt: &HostRuntime, turn: &Turn<'_>) -> Result<Option<Reply>, Refusal> {
+        if !self.open(rt, access_of(turn.line))? {
+            return self.answer_without(rt, turn);
+        }
+        match self.done(rt, turn) {
+            Ok(done) => self.finish(rt, turn, done),
+            Err(refusal) => {
+                self.rest(rt.alloc());
+                Err(refusal)
+            }
+        }
+    }
+
+    // What the line comes to over the workspace in memory; nothing is written.
+    fn done(&mut self, rt: &HostRuntime, turn: &Turn<'_>) -> Result<Done, Refusal> {
+        let Some(space) = &mut self.space else {
+            return Err(Refusal::Memory);
+        };
+        match read_over(rt.alloc(), space, turn.line)? {
+            Some(said) => {
+                let texts = self.file.texts.as_slice();
+                self.speaker.command(rt, turn, texts, space, said)
+            }
+            None => Ok(Done::Nothing),
+        }
+    }
+
+    // Writes what is to be written, frees the file, and gives the reply. After a fault nothing that was read is kept.
+    fn finish(
+        &mut self,
+        rt: &HostRuntime,
+        turn: &Turn<'_>,
+        done: Done,
+    ) -> Result<Option<Reply>, Refusal> {
+        match self.written(rt, turn, done) {
+            Ok(reply) => {
+                self.rest(rt.alloc());
+                Ok(reply)
+            }
+            Err(refusal) => {
+                self.forget(rt.alloc());
+                Err(refusal)
+            }
+        }
+    }
+
+    fn written(
+        &mut self,
+        rt: &HostRuntime,
+        turn: &Turn<'_>,
+        done: Done,
+    ) -> Result<Option<Reply>, Refusal> {
+        match done {
+            Done::Nothing => Ok(None),
+            Done::Told(reply) => Ok(Some(reply)),
+            Done::Changed(outcome, comment) => {
+                let comment = comment.as_str();
+                Ok(Some(self.accept(rt.alloc(), outcome, turn.time, comment)?))
+            }
+            Done::Folded(head, reply) => Ok(Some(self.fold(rt, head, reply)?)),
+        }
+    }
+}
+
+impl Speaker {
+    // The reply that tells a fault.
     fn faulty(
         &self,
         alloc: Global,
@@ -47,85 +113,6 @@ impl Session {
     ) -> Result<Option<Reply>, Memory> {
         let form = self.settings.form;
         Ok(Some(fault_reply(alloc, form, fault, turn.line, turn.number)?))
-    }
-
-    fn answer(&mut self, rt: &HostRuntime, turn: &Turn<'_>) -> Result<Option<Reply>, Refusal> {
-        match self.open(rt, access_of(turn.line))? {
-            Some(log) => {
-                let (log, answer) = self.answer_over(rt, turn, log);
-                self.rest(rt.alloc(), log);
-                answer
-            }
-            None => self.answer_without(rt, turn),
-        }
-    }
-
-    // The answer, and the log unless it was given up.
-    fn answer_over(
-        &mut self,
-        rt: &HostRuntime,
-        turn: &Turn<'_>,
-        log: OpenLog,
-    ) -> (Option<OpenLog>, Result<Option<Reply>, Refusal>) {
-        let Some(space) = self.space.take() else {
-            return (Some(log), Err(Refusal::Memory));
-        };
-        let mut space = space;
-        match self.done(rt, turn, &mut space) {
-            Ok(done) => match self.finish(rt, turn, log, space, done) {
-                Ok((log, reply)) => (Some(log), Ok(reply)),
-                Err(refusal) => (None, Err(refusal)),
-            },
-            Err(refusal) => {
-                self.space = Some(space);
-                (Some(log), Err(refusal))
-            }
-        }
-    }
-
-    // What the line comes to over the workspace in memory; nothing is written.
-    fn done(
-        &mut self,
-        rt: &HostRuntime,
-        turn: &Turn<'_>,
-        space: &mut Space,
-    ) -> Result<Done, Refusal> {
-        match read_over(rt.alloc(), space, turn.line)? {
-            Some(said) => {
-                allowed(rt.alloc(), &self.settings, space.at(), &said.command)?;
-                self.done_command(rt, turn, space, said)
-            }
-            None => Ok(Done::Nothing),
-        }
-    }
-
-    // Writes what is to be written, and gives the reply.
-    fn finish(
-        &mut self,
-        rt: &HostRuntime,
-        turn: &Turn<'_>,
-        log: OpenLog,
-        space: Space,
-        done: Done,
-    ) -> Result<(OpenLog, Option<Reply>), Refusal> {
-        let mut space = space;
-        let (log, reply) = match done {
-            Done::Nothing => (log, None),
-            Done::Told(reply) => (log, Some(reply)),
-            Done::Changed(outcome, comment) => {
-                let comment = comment.as_str();
-                let alloc = rt.alloc();
-                let (log, reply) = self.accept(
-                    alloc, log, &mut space, outcome, turn.time, comment,
-                )?;
-                (log, Some(reply))
-            }
-            Done::Folded(head, reply) => {
-                return self.folded(rt, log, head, reply);
-            }
-        };
-        self.space = Some(space);
-        Ok((log, reply))
     }
 }
 
@@ -156,9 +143,10 @@ fn access_of(line: &str) -> Access {
 }
 
 fn out_of_memory(alloc: Global) -> Result<Fault, Memory> {
-    let words = String::from_str(alloc, "out of memory")?;
-    match fault(alloc, Status::NoMemory, words, None) {
-        Refusal::Fault(fault) => Ok(fault),
-        Refusal::Memory => Err(Memory),
-    }
+    Ok(fault(
+        alloc,
+        Status::NoMemory,
+        String::from_str(alloc, "out of memory")?,
+        None,
+    ))
 }

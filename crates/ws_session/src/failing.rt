@@ -1,6 +1,6 @@
 //! Faults: those of the file in words, and how a fault is told.
 
-use crate::sessions::Session;
+use crate::sessions::Speaker;
 use std::alloc::{AllocError, Global};
 use std::io::{self, ErrorKind};
 use ws_fault::{Fault, Refusal, Status};
@@ -10,14 +10,22 @@ use ws_print::add_fault;
 use ws_reply::{Form, Kind, Reply};
 
 /// A fault of these words, without a place.
-pub(crate) fn fault(alloc: Global, status: Status, words: String, hint: Option<String>) -> Refusal {
-    Refusal::Fault(Fault {
+pub(crate) fn fault(alloc: Global, status: Status, words: String, hint: Option<String>) -> Fault {
+    Fault {
         status,
         words,
         place: None,
         hint,
         more: Vec::new(alloc),
-    })
+    }
+}
+
+/// A refusal in these words, unless there was no memory for them.
+pub(crate) fn refused(alloc: Global, status: Status, words: Result<String, AllocError>) -> Refusal {
+    match words {
+        Ok(words) => Refusal::Fault(fault(alloc, status, words, None)),
+        Err(_) => Refusal::Memory,
+    }
 }
 
 /// `cannot read P: REASON`, or another verb; want of memory if that is why.
@@ -31,102 +39,86 @@ pub(crate) fn cannot(
     if error.kind() == ErrorKind::OutOfMemory {
         return Refusal::Memory;
     }
-    match cannot_words(alloc, verb, path, error) {
-        Ok(words) => fault(alloc, status, words, None),
-        Err(refusal) => refusal,
+    match reason(alloc, error) {
+        Ok(why) => refused(
+            alloc,
+            status,
+            format!(in alloc; "cannot {verb} {path}: {why}"),
+        ),
+        Err(_) => Refusal::Memory,
     }
 }
 
-fn cannot_words(
-    alloc: Global,
-    verb: &str,
-    path: &str,
-    error: &io::Error,
-) -> Result<String, Refusal> {
-    let why = reason(alloc, error)?;
-    Ok(format!(in alloc; "cannot {verb} {path}: {why}")?)
-}
-
-impl Session {
+impl Speaker {
     /// The fault of a call on the log, in words.
     pub(crate) fn log_fault(&self, alloc: Global, log: LogFault) -> Refusal {
-        match self.log_words(alloc, log) {
-            Ok(refusal) => refusal,
-            Err(_) => Refusal::Memory,
+        let name = self.name.as_str();
+        match log {
+            LogFault::Absent => self.no_file(alloc),
+            LogFault::Taken => refused(alloc, Status::Refused, taken(alloc, name)),
+            LogFault::Unreadable(error) => cannot(alloc, Status::NoInput, "read", name, &error),
+            LogFault::NotLocked(error) => cannot(alloc, Status::NoInput, "lock", name, &error),
+            LogFault::InUse => refused(alloc, Status::NoInput, self.in_use(alloc)),
+            LogFault::Unwritable(error) => cannot(alloc, Status::NoOutput, "write", name, &error),
+            LogFault::Damaged(damage) => {
+                refused(alloc, Status::Damaged, damaged(alloc, name, damage))
+            }
+            LogFault::TooLarge(_) => refused(alloc, Status::NoOutput, too_large(alloc, name)),
+            LogFault::Memory => Refusal::Memory,
         }
     }
 
-    fn log_words(&self, alloc: Global, log: LogFault) -> Result<Refusal, AllocError> {
+    fn in_use(&self, alloc: Global) -> Result<String, AllocError> {
         let name = self.name.as_str();
-        Ok(match log {
-            LogFault::Absent => return self.absent(alloc),
-            LogFault::Taken => {
-                let words = format!(in alloc; "somebody has just made {name}; say it again")?;
-                fault(alloc, Status::Refused, words, None)
-            }
-            LogFault::Unreadable(error) => cannot(alloc, Status::NoInput, "read", name, &error),
-            LogFault::NotLocked(error) => cannot(alloc, Status::NoInput, "lock", name, &error),
-            LogFault::InUse => {
-                let seconds = self.settings.wait;
-                let words = format!(in alloc; "{name} is in use: waited {seconds} seconds")?;
-                fault(alloc, Status::NoInput, words, None)
-            }
-            LogFault::Unwritable(error) => cannot(alloc, Status::NoOutput, "write", name, &error),
-            LogFault::Damaged(damage) => self.damaged(alloc, damage)?,
-            LogFault::TooLarge(_) => {
-                let words = format!(in alloc; "cannot write {name}: file too large")?;
-                fault(alloc, Status::NoOutput, words, None)
-            }
-            LogFault::Memory => Refusal::Memory,
-        })
-    }
-
-    fn damaged(&self, alloc: Global, damage: Damage) -> Result<Refusal, AllocError> {
-        let name = self.name.as_str();
-        let words = match damage {
-            Damage::At(place) => format!(in alloc; "{name} is damaged at {place}")?,
-            Damage::NotAsWritten(number) => {
-                format!(in alloc; "{name} is damaged: record {number} is not as it was written")?
-            }
-        };
-        Ok(fault(alloc, Status::Damaged, words, None))
+        let seconds = self.settings.wait;
+        format!(in alloc; "{name} is in use: waited {seconds} seconds")
     }
 
     /// The fault of a text that is no head or record, by its place among the texts.
     pub(crate) fn unread(&self, alloc: Global, place: usize) -> Refusal {
         let name = self.name.as_str();
-        match format!(in alloc; "{name} is damaged: record {place} cannot be read") {
-            Ok(words) => fault(alloc, Status::Damaged, words, None),
+        let words = format!(in alloc; "{name} is damaged: record {place} cannot be read");
+        refused(alloc, Status::Damaged, words)
+    }
+
+    /// That there is no file.
+    pub(crate) fn no_file(&self, alloc: Global) -> Refusal {
+        match self.absent(alloc) {
+            Ok(fault) => Refusal::Fault(fault),
             Err(_) => Refusal::Memory,
         }
     }
 
-    fn absent(&self, alloc: Global) -> Result<Refusal, AllocError> {
+    fn absent(&self, alloc: Global) -> Result<Fault, AllocError> {
         let name = self.name.as_str();
         let words = format!(in alloc; "there is no file {name}")?;
         let hint = "its first command makes it: relation NAME(COLUMN, ..)";
         let hint = String::from_str(alloc, hint)?;
         Ok(fault(alloc, Status::Refused, words, Some(hint)))
     }
+}
 
-    /// That there is no file.
-    pub(crate) fn no_file(&self, alloc: Global) -> Refusal {
-        match self.absent(alloc) {
-            Ok(refusal) => refusal,
-            Err(_) => Refusal::Memory,
+fn taken(alloc: Global, name: &str) -> Result<String, AllocError> {
+    format!(in alloc; "somebody has just made {name}; say it again")
+}
+
+fn too_large(alloc: Global, name: &str) -> Result<String, AllocError> {
+    format!(in alloc; "cannot write {name}: file too large")
+}
+
+fn damaged(alloc: Global, name: &str, damage: Damage) -> Result<String, AllocError> {
+    match damage {
+        Damage::At(place) => format!(in alloc; "{name} is damaged at {place}"),
+        Damage::NotAsWritten(number) => {
+            format!(in alloc; "{name} is damaged: record {number} is not as it was written")
         }
     }
 }
 
 /// That a line is not UTF-8 from its byte of this number on, from 1. It is refused only for want of memory.
 pub fn not_utf8(alloc: Global, number: usize) -> Result<Fault, AllocError> {
-    Ok(Fault {
-        status: Status::Unread,
-        words: format!(in alloc; "the line is not UTF-8, at byte {number} of it")?,
-        place: None,
-        hint: None,
-        more: Vec::new(alloc),
-    })
+    let words = format!(in alloc; "the line is not UTF-8, at byte {number} of it")?;
+    Ok(fault(alloc, Status::Unread, words, None))
 }
 
 /// A fault of a line as a reply; in a script the line has a number. It is refused only for want of memory.
@@ -138,7 +130,9 @@ pub fn fault_reply(
     number: Option<u64>,
 ) -> Result<Reply, AllocError> {
     if form == Form::Json {
-        return fault_object(alloc, fault, number);
+        let mut object = Object::new(alloc);
+        add_fault_members(alloc, &mut object, fault, number)?;
+        return reply_of(alloc, fault.status, Kind::Fault, object);
     }
     let mut text = String::from_str(alloc, "yt: ")?;
     add_fault(&mut text, alloc, fault, line, number)?;
@@ -149,8 +143,12 @@ pub fn fault_reply(
     Ok(Reply::of_text(fault.status, Kind::Fault, lines))
 }
 
-fn fault_object(alloc: Global, fault: &Fault, number: Option<u64>) -> Result<Reply, AllocError> {
-    let mut object = Object::new(alloc);
+fn add_fault_members(
+    alloc: Global,
+    object: &mut Object,
+    fault: &Fault,
+    number: Option<u64>,
+) -> Result<(), AllocError> {
     object.text("reply", "fault")?;
     object.text("words", fault.words.as_str())?;
     if let Some(place) = fault.place {
@@ -165,9 +163,19 @@ fn fault_object(alloc: Global, fault: &Fault, number: Option<u64>) -> Result<Rep
     if !fault.more.is_empty() {
         object.items("faults", items_of(alloc, fault.more.as_slice())?)?;
     }
+    Ok(())
+}
+
+/// The reply of one object.
+pub(crate) fn reply_of(
+    alloc: Global,
+    status: Status,
+    kind: Kind,
+    object: Object,
+) -> Result<Reply, AllocError> {
     let mut objects = Vec::new(alloc);
     objects.push(object)?;
-    Reply::of_objects(alloc, fault.status, Kind::Fault, objects)
+    Reply::of_objects(alloc, status, kind, objects)
 }
 
 fn count(number: usize) -> i64 {

@@ -1,10 +1,11 @@
 //! A fold: what stands becomes the base.
 
+use crate::failing::reply_of;
 use crate::leaving::Done;
 use crate::making::head_text;
 use crate::sessions::Session;
 use def_memory::Memory;
-use std::alloc::Global;
+use std::alloc::{AllocError, Global};
 use ws_fault::{Refusal, Status};
 use ws_json::{Items, Object};
 use ws_log::{Fault, OpenLog, fold};
@@ -13,18 +14,34 @@ use ws_space::Space;
 
 /// What a fold comes to: the text of the new head, unless there is nothing to fold. It is refused only for want of memory.
 pub(crate) fn fold_over(alloc: Global, space: &Space, form: Form) -> Result<Done, Refusal> {
-    let count = space.state.order().len();
-    if count == 0 && space.records.is_empty() {
-        let reply = reply(
-            alloc,
-            form,
-            space.at(),
-            Status::Nothing,
-            "nothing to fold",
-            None,
-        )?;
-        return Ok(Done::Told(reply));
+    if space.state.order().len() == 0 && space.records.is_empty() {
+        let did = Did {
+            status: Status::Nothing,
+            word: "nothing to fold",
+            also: None,
+        };
+        return Ok(Done::Told(reply(alloc, form, space.at(), did)?));
     }
+    let also = folded_words(alloc, space)?;
+    let did = Did {
+        status: Status::Done,
+        word: "done",
+        also: Some(also.as_str()),
+    };
+    let head = head_text(alloc, space)?;
+    Ok(Done::Folded(head, reply(alloc, form, space.at(), did)?))
+}
+
+// What a fold did: its status, the word for it, and what else there is to say.
+#[derive(Clone, Copy)]
+struct Did<'a> {
+    status: Status,
+    word: &'a str,
+    also: Option<&'a str>,
+}
+
+fn folded_words(alloc: Global, space: &Space) -> Result<String, AllocError> {
+    let count = space.state.order().len();
     let waits = space.state.waiting().len();
     let is = if count == 1 {
         "update is"
@@ -32,85 +49,81 @@ pub(crate) fn fold_over(alloc: Global, space: &Space, form: Form) -> Result<Done
         "updates are"
     };
     let wait = if waits == 1 { "waits" } else { "wait" };
-    let also = format!(in alloc;
+    format!(in alloc;
         "{count} {is} now the base; {waits} {wait}; what they did can no longer be undone"
-    )?;
-    let reply = reply(
-        alloc,
-        form,
-        space.at(),
-        Status::Done,
-        "done",
-        Some(also.as_str()),
-    )?;
-    Ok(Done::Folded(head_text(alloc, space)?, reply))
+    )
 }
 
-fn reply(
-    alloc: Global,
-    form: Form,
-    at: u32,
-    status: Status,
-    did: &str,
-    also: Option<&str>,
-) -> Result<Reply, Memory> {
+fn reply(alloc: Global, form: Form, at: u32, did: Did<'_>) -> Result<Reply, Memory> {
     if form == Form::Json {
-        return object_reply(alloc, at, status, did, also);
+        let mut object = Object::new(alloc);
+        add_members(alloc, &mut object, at, did)?;
+        return Ok(reply_of(alloc, did.status, Kind::Change, object)?);
     }
+    let word = did.word;
     let mut lines = Vec::new(alloc);
-    lines.push(format!(in alloc; "{did}: fold")?)?;
-    if let Some(also) = also {
+    lines.push(format!(in alloc; "{word}: fold")?)?;
+    if let Some(also) = did.also {
         lines.push(format!(in alloc; "  {also}")?)?;
     }
-    Ok(Reply::of_text(status, Kind::Change, lines))
+    Ok(Reply::of_text(did.status, Kind::Change, lines))
 }
 
-fn object_reply(
+fn add_members(
     alloc: Global,
+    object: &mut Object,
     at: u32,
-    status: Status,
-    did: &str,
-    also: Option<&str>,
-) -> Result<Reply, Memory> {
-    let mut object = Object::new(alloc);
+    did: Did<'_>,
+) -> Result<(), AllocError> {
     object.text("reply", "change")?;
-    object.text("did", did)?;
+    object.text("did", did.word)?;
     object.text("line", "fold")?;
     object.number("at", i64::from(at))?;
+    object.items("also", also_items(alloc, did.also)?)?;
+    object.items("came", Items::new(alloc))?;
+    object.items("went", Items::new(alloc))?;
+    object.items("filled", Items::new(alloc))
+}
+
+fn also_items(alloc: Global, also: Option<&str>) -> Result<Items, AllocError> {
     let mut items = Items::new(alloc);
     if let Some(also) = also {
         items.text(also)?;
     }
-    object.items("also", items)?;
-    object.items("came", Items::new(alloc))?;
-    object.items("went", Items::new(alloc))?;
-    object.items("filled", Items::new(alloc))?;
-    let mut objects = Vec::new(alloc);
-    objects.push(object)?;
-    Ok(Reply::of_objects(alloc, status, Kind::Change, objects)?)
+    Ok(items)
 }
 
 impl Session {
-    /// Puts the head in the place of the log, and gives the reply.
-    pub(crate) fn folded(
+    /// Puts the head in the place of the log, and gives the reply. What the workspace was made of is freed.
+    pub(crate) fn fold(
         &mut self,
         rt: &HostRuntime,
-        log: OpenLog,
         head: Vec<u8>,
         reply: Reply,
-    ) -> Result<(OpenLog, Option<Reply>), Refusal> {
-        let alloc = rt.alloc();
-        // Nothing may be refused after the fold.
-        let mut texts = Vec::new(alloc);
-        texts.push(head)?;
-        match folded_to(rt, self.settings.path.as_str(), log, texts.as_slice()) {
-            Ok(log) => {
-                self.texts = texts;
-                self.space = None;
-                Ok((log, Some(reply)))
+    ) -> Result<Reply, Refusal> {
+        match self.fold_file(rt, head) {
+            Ok(()) => {
+                drop(self.space.take());
+                Ok(reply)
             }
-            Err(fault) => Err(self.log_fault(alloc, fault)),
+            Err(fault) => {
+                drop(reply);
+                Err(self.speaker.log_fault(rt.alloc(), fault))
+            }
         }
+    }
+
+    fn fold_file(&mut self, rt: &HostRuntime, head: Vec<u8>) -> Result<(), Fault> {
+        // Nothing may be refused after the fold.
+        let mut texts = Vec::new(rt.alloc());
+        if texts.push(head).is_err() {
+            return Err(Fault::Memory);
+        }
+        let path = self.speaker.settings.path.as_str();
+        let log = folded_to(rt, path, self.file.log.take(), texts.as_slice())?;
+        self.file.hold(log);
+        self.file.texts = texts;
+        Ok(())
     }
 }
 
@@ -118,11 +131,17 @@ impl Session {
 fn folded_to(
     rt: &HostRuntime,
     path: &str,
-    log: OpenLog,
+    log: Option<OpenLog>,
     texts: &[Vec<u8>],
 ) -> Result<OpenLog, Fault> {
+    let Some(log) = log else {
+        return Err(Fault::Memory);
+    };
     match texts.first() {
         Some(head) => fold(rt, path, log, head.as_slice()),
-        None => Err(Fault::Memory),
+        None => {
+            drop(log);
+            Err(Fault::Memory)
+        }
     }
 }

@@ -1,6 +1,6 @@
 //! What a command comes to before anything is written, and what it may not do.
 
-use crate::failing::fault;
+use crate::failing::refused;
 use crate::sessions::Settings;
 use std::alloc::Global;
 use ws_command::{Change, Command, Export, Look, Source};
@@ -29,13 +29,13 @@ pub(crate) fn allowed(
     command: &Command,
 ) -> Result<(), Refusal> {
     if settings.no_files && uses_file(command) {
-        let words = String::from_str(alloc, "files are closed")?;
-        return Err(fault(alloc, Status::Refused, words, None));
+        let words = String::from_str(alloc, "files are closed");
+        return Err(refused(alloc, Status::Refused, words));
     }
     match still_of(command) {
         Some(still) if still != at => {
-            let words = format!(in alloc; "the log is at {at}")?;
-            Err(fault(alloc, Status::Refused, words, None))
+            let words = format!(in alloc; "the log is at {at}");
+            Err(refused(alloc, Status::Refused, words))
         }
         _ => Ok(()),
     }

@@ -67,14 +67,14 @@ fn fed_for<'a>(alloc: Global, load: &Load, fed: Option<&'a Fed>) -> Result<&'a F
         let name = load.relation.as_str();
         let words = String::from_str(alloc, "standard input has the commands")?;
         let hint = format!(in alloc; "load {name} --lines N")?;
-        return Err(fault(alloc, Status::Unread, words, Some(hint)));
+        return Err(Refusal::Fault(fault(alloc, Status::Unread, words, Some(hint))));
     };
     if let Source::Lines(wanted) = &load.source {
         let count = fed.lines;
         if count < u64::from(*wanted) {
             let mut words = format!(in alloc; "standard input ended after {count} of ")?;
             add_count(&mut words, *wanted as usize, "line")?;
-            return Err(fault(alloc, Status::Unread, words, None));
+            return Err(Refusal::Fault(fault(alloc, Status::Unread, words, None)));
         }
     }
     Ok(fed)

@@ -1,12 +1,13 @@
 //! A file that is made by its first command.
 
-use crate::accepting::{record_of, text_of};
+use crate::accepting::stamp_of;
 use crate::changing::quit;
 use crate::commands::{Turn, read_over};
 use crate::leaving::allowed;
-use crate::sessions::{Session, context_of};
+use crate::sessions::Session;
 use def_memory::Memory;
 use std::alloc::Global;
+use std::mem;
 use ws_command::{Change, Command, Said};
 use ws_fault::Refusal;
 use ws_log::{Fault, OpenLog, create};
@@ -14,7 +15,6 @@ use ws_look::help;
 use ws_print::add_head;
 use ws_reply::{Outcome, Reply};
 use ws_space::Space;
-use ws_written::Stamp;
 
 impl Session {
     /// The answer to a line if there is no file: one that makes it, help, or that there is none.
@@ -23,72 +23,85 @@ impl Session {
         rt: &HostRuntime,
         turn: &Turn<'_>,
     ) -> Result<Option<Reply>, Refusal> {
+        let answer = self.first(rt, turn);
+        self.rest(rt.alloc());
+        answer
+    }
+
+    fn first(&mut self, rt: &HostRuntime, turn: &Turn<'_>) -> Result<Option<Reply>, Refusal> {
         let alloc = rt.alloc();
-        let space = Space::fresh(alloc, self.stamp(alloc, turn.time)?)?;
-        match read_over(alloc, &space, turn.line)? {
-            Some(said) => Ok(Some(self.first(rt, turn, space, said)?)),
-            None => {
-                drop(space);
-                Ok(None)
+        self.begin(alloc, turn.time)?;
+        let Some(space) = &self.space else {
+            return Err(Refusal::Memory);
+        };
+        match read_over(alloc, space, turn.line)? {
+            Some(said) => Ok(Some(self.first_said(rt, turn, said)?)),
+            None => Ok(None),
+        }
+    }
+
+    // A workspace of which nothing was said.
+    fn begin(&mut self, alloc: Global, time: &str) -> Result<(), Memory> {
+        let stamp = stamp_of(alloc, time, self.speaker.settings.curator.as_str())?;
+        let space = Space::fresh(alloc, stamp)?;
+        drop(mem::replace(&mut self.space, Some(space)));
+        Ok(())
+    }
+
+    // The answer to a command if there is no file.
+    fn first_said(
+        &mut self,
+        rt: &HostRuntime,
+        turn: &Turn<'_>,
+        said: Said,
+    ) -> Result<Reply, Refusal> {
+        match self.told_without(rt.alloc(), turn.time, &said.command) {
+            Ok(None) => self.first_change(rt, turn, said),
+            Ok(Some(reply)) => {
+                drop(said);
+                Ok(reply)
+            }
+            Err(refusal) => {
+                drop(said);
+                Err(refusal)
             }
         }
     }
 
-    // The answer to a command if there is no file.
-    fn first(
-        &mut self,
-        rt: &HostRuntime,
-        turn: &Turn<'_>,
-        space: Space,
-        said: Said,
-    ) -> Result<Reply, Refusal> {
-        allowed(rt.alloc(), &self.settings, 0, &said.command)?;
-        match self.told_without(rt.alloc(), turn.time, &said.command)? {
-            Some(reply) => Ok(reply),
-            None => self.first_change(rt, turn, space, said),
-        }
-    }
-
-    // The reply to a command that wants no file.
+    // The reply to a command that wants no file. It is refused if the command is not allowed, or if it wants a file.
     fn told_without(
         &self,
         alloc: Global,
         time: &str,
         command: &Command,
-    ) -> Result<Option<Reply>, Memory> {
+    ) -> Result<Option<Reply>, Refusal> {
+        allowed(alloc, &self.speaker.settings, 0, command)?;
         match command {
             Command::Help(verb) => {
-                let context = context_of(&self.settings, self.name.as_str(), time, false);
+                let context = self.speaker.context(time, false);
                 Ok(Some(help(alloc, &context, *verb)?))
             }
             Command::Quit => Ok(Some(quit(alloc))),
-            _ => Ok(None),
+            Command::Change { change, .. } if makes_file(change) => Ok(None),
+            _ => Err(self.speaker.no_file(alloc)),
         }
     }
 
-    // The answer to a change if there is no file.
+    // The answer to the change that makes the file.
     fn first_change(
         &mut self,
         rt: &HostRuntime,
         turn: &Turn<'_>,
-        space: Space,
         said: Said,
     ) -> Result<Reply, Refusal> {
         let Said { command, comment } = said;
-        match making(command) {
-            Some(change) => self.make(rt, turn, space, change, comment.as_str()),
-            None => {
-                drop(space);
-                Err(self.no_file(rt.alloc()))
+        match command {
+            Command::Change { change, .. } => self.make(rt, turn, change, comment.as_str()),
+            other => {
+                drop(other);
+                Err(self.speaker.no_file(rt.alloc()))
             }
         }
-    }
-
-    fn stamp(&self, alloc: Global, time: &str) -> Result<Stamp, Memory> {
-        Ok(Stamp {
-            time: String::from_str(alloc, time)?,
-            curator: String::from_str(alloc, self.settings.curator.as_str())?,
-        })
     }
 
     // Makes the file with the head and the record of the change, or not at all.
@@ -96,34 +109,73 @@ impl Session {
         &mut self,
         rt: &HostRuntime,
         turn: &Turn<'_>,
-        space: Space,
         change: Change,
         comment: &str,
     ) -> Result<Reply, Refusal> {
-        let alloc = rt.alloc();
-        let mut space = space;
-        let mut texts = Vec::new(alloc);
-        texts.push(head_text(alloc, &space)?)?;
-        let outcome = self.change(rt, turn, &mut space, change, false)?;
-        let Outcome { reply, lines } = outcome;
-        let curator = self.settings.curator.as_str();
-        let record = record_of(alloc, turn.time, curator, lines, comment)?;
-        texts.push(text_of(alloc, &space, &record)?)?;
-        space.recorded(alloc, record)?;
-        self.made(rt, space, texts)?;
-        Ok(reply)
+        match self.keep_head(rt.alloc()) {
+            Ok(()) => {
+                let outcome = self.first_outcome(rt, turn, change)?;
+                self.made(rt, turn.time, outcome, comment)
+            }
+            Err(memory) => {
+                drop(change);
+                Err(Refusal::from(memory))
+            }
+        }
     }
 
-    // Makes the file with these texts, the head first, and keeps what it has. Nothing is refused after that.
-    fn made(&mut self, rt: &HostRuntime, space: Space, texts: Vec<Vec<u8>>) -> Result<(), Refusal> {
-        match created(rt, self.settings.path.as_str(), texts.as_slice()) {
-            Ok(log) => {
-                self.texts = texts;
-                self.space = Some(space);
-                self.rest(rt.alloc(), Some(log));
-                Ok(())
+    fn keep_head(&mut self, alloc: Global) -> Result<(), Memory> {
+        let Some(space) = &self.space else {
+            return Err(Memory);
+        };
+        self.file.texts.push(head_text(alloc, space)?)?;
+        Ok(())
+    }
+
+    fn first_outcome(
+        &mut self,
+        rt: &HostRuntime,
+        turn: &Turn<'_>,
+        change: Change,
+    ) -> Result<Outcome, Refusal> {
+        match &mut self.space {
+            Some(space) => self.speaker.change(rt, turn, &[], space, change, false),
+            None => {
+                drop(change);
+                Err(Refusal::Memory)
             }
-            Err(fault) => Err(self.log_fault(rt.alloc(), fault)),
+        }
+    }
+
+    // Makes the file with what was kept and the record of the change. Nothing is refused after that.
+    fn made(
+        &mut self,
+        rt: &HostRuntime,
+        time: &str,
+        outcome: Outcome,
+        comment: &str,
+    ) -> Result<Reply, Refusal> {
+        let Outcome { reply, lines } = outcome;
+        match self.record(rt.alloc(), lines, time, comment) {
+            Ok(()) => self.create(rt, reply),
+            Err(memory) => {
+                drop(reply);
+                Err(Refusal::from(memory))
+            }
+        }
+    }
+
+    fn create(&mut self, rt: &HostRuntime, reply: Reply) -> Result<Reply, Refusal> {
+        let path = self.speaker.settings.path.as_str();
+        match created(rt, path, self.file.texts.as_slice()) {
+            Ok(log) => {
+                self.file.hold(log);
+                Ok(reply)
+            }
+            Err(fault) => {
+                drop(reply);
+                Err(self.speaker.log_fault(rt.alloc(), fault))
+            }
         }
     }
 }
@@ -132,29 +184,6 @@ fn created(rt: &HostRuntime, path: &str, texts: &[Vec<u8>]) -> Result<OpenLog, F
     match texts.split_first() {
         Some((head, records)) => create(rt, path, head.as_slice(), records),
         None => Err(Fault::Memory),
-    }
-}
-
-// The change of the command, if it makes the file.
-fn making(command: Command) -> Option<Change> {
-    match command {
-        Command::Change { change, still: _ } => {
-            if makes_file(&change) {
-                return Some(change);
-            }
-            drop(change);
-            None
-        }
-        Command::Try { change, still: _ } => {
-            drop(change);
-            None
-        }
-        Command::Look(look) => {
-            drop(look);
-            None
-        }
-        Command::Help(_) => None,
-        Command::Quit => None,
     }
 }
 

@@ -1,62 +1,132 @@
 //! The file of a session: opened, read on, and let go of.
 
-use crate::sessions::Session;
+use crate::sessions::{Session, Texts};
 use std::alloc::{AllocError, Global};
+use std::mem;
 use ws_fault::Refusal;
-use ws_log::{Access, Fault, OpenLog, Opened, Reopened, open, reopen};
-use ws_space::{Opening, Space};
+use ws_log::{Access, Fault, Opened, Reopened, RestingLog, open, reopen};
+use ws_space::{Opening, Point, Space};
 
 impl Session {
-    /// Locks the file and reads what is new; None if there is none. What was read is in memory then.
-    pub(crate) fn open(
-        &mut self,
-        rt: &HostRuntime,
-        access: Access,
-    ) -> Result<Option<OpenLog>, Refusal> {
+    /// Locks the file and reads what is new; false if there is none. What was read is in memory then, and the log in hand.
+    pub(crate) fn open(&mut self, rt: &HostRuntime, access: Access) -> Result<bool, Refusal> {
         let alloc = rt.alloc();
         match self.read_on(rt, access) {
-            Ok(log) => {
+            Ok(()) => {
                 self.build(alloc)?;
-                Ok(Some(log))
+                Ok(true)
             }
             Err(Fault::Absent) => {
                 self.forget(alloc);
-                Ok(None)
+                Ok(false)
             }
             Err(fault) => {
                 self.forget(alloc);
-                Err(self.log_fault(alloc, fault))
+                Err(self.speaker.log_fault(alloc, fault))
             }
         }
     }
 
-    fn read_on(&mut self, rt: &HostRuntime, access: Access) -> Result<OpenLog, Fault> {
-        let wait = self.wait();
-        match self.resting.take() {
-            Some(resting) => {
-                match reopen(rt, resting, self.settings.path.as_str(), access, wait)? {
-                    Reopened::Same(opened) => self.keep(opened),
-                    Reopened::Another(opened) => Ok(self.keep_anew(opened)),
-                }
-            }
+    fn read_on(&mut self, rt: &HostRuntime, access: Access) -> Result<(), Fault> {
+        match self.file.resting.take() {
+            Some(resting) => self.reread(rt, access, resting),
             None => {
-                let opened = open(rt, self.settings.path.as_str(), access, wait)?;
-                Ok(self.keep_anew(opened))
+                let wait = self.speaker.wait();
+                let opened = open(rt, self.speaker.settings.path.as_str(), access, wait)?;
+                self.keep_anew(opened);
+                Ok(())
             }
         }
     }
 
-    fn keep_anew(&mut self, opened: Opened) -> OpenLog {
-        let Opened { log, texts } = opened;
-        self.texts = texts;
-        self.space = None;
-        log
+    fn reread(
+        &mut self,
+        rt: &HostRuntime,
+        access: Access,
+        resting: RestingLog,
+    ) -> Result<(), Fault> {
+        let wait = self.speaker.wait();
+        let path = self.speaker.settings.path.as_str();
+        match reopen(rt, resting, path, access, wait)? {
+            Reopened::Same(opened) => self.file.keep(opened),
+            Reopened::Another(opened) => {
+                self.keep_anew(opened);
+                Ok(())
+            }
+        }
     }
 
-    fn keep(&mut self, opened: Opened) -> Result<OpenLog, Fault> {
+    fn keep_anew(&mut self, opened: Opened) {
+        drop(self.space.take());
         let Opened { log, texts } = opened;
+        self.file.texts = texts;
+        self.file.hold(log);
+    }
+
+    // The workspace of all texts that were read.
+    fn build(&mut self, alloc: Global) -> Result<(), Refusal> {
+        let fault = match self.read_texts(alloc) {
+            Ok(()) => return Ok(()),
+            Err(fault) => fault,
+        };
+        let refusal = match fault {
+            Opening::Unread(place) => self.speaker.unread(alloc, place),
+            Opening::Memory => Refusal::Memory,
+        };
+        self.forget(alloc);
+        Err(refusal)
+    }
+
+    fn read_texts(&mut self, alloc: Global) -> Result<(), Opening> {
+        let texts = self.file.texts.as_slice();
+        if let Some(space) = &mut self.space {
+            return read_new(alloc, space, texts);
+        }
+        let space = Space::open(alloc, texts)?;
+        drop(mem::replace(&mut self.space, Some(space)));
+        Ok(())
+    }
+
+    /// Whether something waits in the file; also if it cannot be read.
+    pub fn waits(&mut self, rt: &HostRuntime) -> bool {
+        let Ok(true) = self.open(rt, Access::Read) else {
+            return true;
+        };
+        let waits = match &self.space {
+            Some(space) => !space.state.waiting().is_empty(),
+            None => true,
+        };
+        self.rest(rt.alloc());
+        waits
+    }
+
+    /// Frees the lock. What was read is kept, unless no log is in hand or the file could not be freed.
+    pub(crate) fn rest(&mut self, alloc: Global) {
+        if !self.file.rest() || !self.is_back(alloc) {
+            self.forget(alloc);
+        }
+    }
+
+    // Whether the workspace has what is recorded and nothing else; what was done in memory alone is taken back.
+    fn is_back(&mut self, alloc: Global) -> bool {
+        let point = self.speaker.point.take();
+        match &mut self.space {
+            Some(space) => is_back_to(alloc, space, point),
+            None => {
+                drop(point);
+                true
+            }
+        }
+    }
+}
+
+impl Texts {
+    // Keeps the log, and the texts that are new.
+    fn keep(&mut self, opened: Opened) -> Result<(), Fault> {
+        let Opened { log, texts } = opened;
+        self.hold(log);
         match self.add_texts(texts) {
-            Ok(()) => Ok(log),
+            Ok(()) => Ok(()),
             Err(_) => Err(Fault::Memory),
         }
     }
@@ -68,86 +138,42 @@ impl Session {
         Ok(())
     }
 
-    // The workspace of all texts that were read.
-    fn build(&mut self, alloc: Global) -> Result<(), Refusal> {
-        let built = match self.space.take() {
-            Some(space) => self.replayed(alloc, space),
-            None => Space::open(alloc, self.texts.as_slice()),
-        };
-        match built {
-            Ok(space) => {
-                self.space = Some(space);
-                Ok(())
-            }
-            Err(Opening::Unread(place)) => {
-                let refusal = self.unread(alloc, place);
-                self.forget(alloc);
-                Err(refusal)
-            }
-            Err(Opening::Memory) => {
-                self.forget(alloc);
-                Err(Refusal::Memory)
-            }
-        }
-    }
-
-    // The workspace with the texts that it has not got yet.
-    fn replayed(&self, alloc: Global, space: Space) -> Result<Space, Opening> {
-        let mut space = space;
-        let first = space.records.len().saturating_add(1);
-        let texts = self.texts.as_slice().get(first..).unwrap_or(&[]);
-        for (place, text) in texts.iter().enumerate() {
-            match space.replay(alloc, text.as_slice()) {
-                Ok(()) => {}
-                Err(Opening::Unread(_)) => {
-                    return Err(Opening::Unread(place.saturating_add(first)));
-                }
-                Err(Opening::Memory) => return Err(Opening::Memory),
-            }
-        }
-        Ok(space)
-    }
-
-    /// Whether something waits in the file; also if it cannot be read.
-    pub fn waits(&mut self, rt: &HostRuntime) -> bool {
-        let Ok(Some(log)) = self.open(rt, Access::Read) else {
-            return true;
-        };
-        let waits = match &self.space {
-            Some(space) => !space.state.waiting().is_empty(),
-            None => true,
-        };
-        self.rest(rt.alloc(), Some(log));
-        waits
-    }
-
-    /// Lets go of the lock. What was read is kept, unless the file could not be let go of.
-    pub(crate) fn rest(&mut self, alloc: Global, log: Option<OpenLog>) {
-        let Some(log) = log else {
-            self.forget(alloc);
-            return;
+    // Whether the log is at rest now, its lock freed.
+    fn rest(&mut self) -> bool {
+        let Some(log) = self.log.take() else {
+            return false;
         };
         match log.release() {
-            Ok(resting) => self.resting = Some(resting),
-            Err(_) => self.forget(alloc),
+            Ok(resting) => {
+                drop(mem::replace(&mut self.resting, Some(resting)));
+                true
+            }
+            Err(_) => false,
         }
-        self.take_back(alloc);
     }
+}
 
-    // What was done in memory and is not recorded is taken back, or the workspace is let go.
-    fn take_back(&mut self, alloc: Global) {
-        let point = self.point.take();
-        let Some(space) = self.space.take() else {
-            return;
-        };
-        let mut space = space;
-        let is_right = match point {
-            _ if space.is_recorded() => true,
-            Some(point) => space.back_to(alloc, point).is_ok(),
-            None => false,
-        };
-        if is_right {
-            self.space = Some(space);
+// Does what the texts say that the workspace has not got yet.
+fn read_new(alloc: Global, space: &mut Space, texts: &[Vec<u8>]) -> Result<(), Opening> {
+    let first = space.records.len().saturating_add(1);
+    let new = texts.get(first..).unwrap_or(&[]);
+    for (place, text) in new.iter().enumerate() {
+        match space.replay(alloc, text.as_slice()) {
+            Ok(()) => {}
+            Err(Opening::Unread(_)) => return Err(Opening::Unread(place.saturating_add(first))),
+            Err(Opening::Memory) => return Err(Opening::Memory),
         }
+    }
+    Ok(())
+}
+
+fn is_back_to(alloc: Global, space: &mut Space, point: Option<Point>) -> bool {
+    if space.is_recorded() {
+        drop(point);
+        return true;
+    }
+    match point {
+        Some(point) => space.back_to(alloc, point).is_ok(),
+        None => false,
     }
 }

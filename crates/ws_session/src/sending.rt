@@ -1,6 +1,6 @@
 //! A text that is told, or written to a file.
 
-use crate::failing::{cannot, fault};
+use crate::failing::{cannot, refused, reply_of};
 use crate::sessions::{Settings, called};
 use def_memory::Memory;
 use std::alloc::{AllocError, Global};
@@ -23,8 +23,8 @@ pub(crate) fn sent(
     match to {
         Some(path) if is_workspace(rt, settings, path.as_str()) => {
             let name = called(settings, path.as_str());
-            let words = format!(in alloc; "cannot write {name}: it is the workspace")?;
-            Err(fault(alloc, Status::NoOutput, words, None))
+            let words = format!(in alloc; "cannot write {name}: it is the workspace");
+            Err(refused(alloc, Status::NoOutput, words))
         }
         Some(path) => {
             let text = joined(alloc, lines.as_slice())?;
@@ -68,18 +68,13 @@ fn told(alloc: Global, form: Form, kind: &str, lines: Vec<String>) -> Result<Rep
     if form == Form::Text {
         return Ok(Reply::of_text(Status::Done, Kind::Look, lines));
     }
-    let mut object = Object::new(alloc);
-    object.text("reply", kind)?;
-    object.text("text", joined(alloc, lines.as_slice())?.as_str())?;
-    one(alloc, object)
+    let text = joined(alloc, lines.as_slice())?;
+    Ok(one(alloc, kind, "text", text.as_str())?)
 }
 
 fn wrote(alloc: Global, form: Form, path: &str) -> Result<Reply, Memory> {
     if form == Form::Json {
-        let mut object = Object::new(alloc);
-        object.text("reply", "wrote")?;
-        object.text("file", path)?;
-        return one(alloc, object);
+        return Ok(one(alloc, "wrote", "file", path)?);
     }
     let mut line = String::from_str(alloc, "wrote ")?;
     add_escaped(&mut line, path)?;
@@ -88,8 +83,10 @@ fn wrote(alloc: Global, form: Form, path: &str) -> Result<Reply, Memory> {
     Ok(Reply::of_text(Status::Done, Kind::Look, lines))
 }
 
-fn one(alloc: Global, object: Object) -> Result<Reply, Memory> {
-    let mut objects = Vec::new(alloc);
-    objects.push(object)?;
-    Ok(Reply::of_objects(alloc, Status::Done, Kind::Look, objects)?)
+// The reply of an object of this kind that has one text.
+fn one(alloc: Global, kind: &str, key: &str, text: &str) -> Result<Reply, AllocError> {
+    let mut object = Object::new(alloc);
+    object.text("reply", kind)?;
+    object.text(key, text)?;
+    reply_of(alloc, Status::Done, Kind::Look, object)
 }

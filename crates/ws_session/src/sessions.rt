@@ -1,8 +1,9 @@
 //! A session, and what it is over.
 
 use std::alloc::{AllocError, Global};
+use std::mem;
 use std::time::Duration;
-use ws_log::RestingLog;
+use ws_log::{OpenLog, RestingLog};
 use ws_question::Shown;
 use ws_reply::{Context, Form};
 use ws_space::{Point, Space};
@@ -19,20 +20,32 @@ pub struct Settings {
     pub stays: bool,
 }
 
-/// A session: what was read of the file, and the workspace of it, as far as it is at hand.
+/// A session: who speaks, what was read of the file, and the workspace of it, as far as it is at hand.
 #[derive(Drop)]
 pub struct Session {
-    pub(crate) settings: Settings,
-    // What faults call the file.
-    pub(crate) name: String,
-    // The texts of the file that were read, the head first.
-    pub(crate) texts: Vec<Vec<u8>>,
-    pub(crate) resting: Option<RestingLog>,
+    pub(crate) speaker: Speaker,
+    pub(crate) file: Texts,
     // The workspace of the texts.
     pub(crate) space: Option<Space>,
+}
+
+/// Who speaks, and what the speaker was shown.
+#[derive(Drop)]
+pub(crate) struct Speaker {
+    pub settings: Settings,
+    // What faults call the file.
+    pub name: String,
+    pub shown: Shown,
     // What the workspace goes back to if what is done in memory is not recorded.
-    pub(crate) point: Option<Point>,
-    pub(crate) shown: Shown,
+    pub point: Option<Point>,
+}
+
+/// The texts of the file that were read, the head first, and the log: in hand while a command is done, else at rest.
+#[derive(Drop)]
+pub(crate) struct Texts {
+    pub texts: Vec<Vec<u8>>,
+    pub log: Option<OpenLog>,
+    pub resting: Option<RestingLog>,
 }
 
 impl Session {
@@ -40,27 +53,50 @@ impl Session {
     pub fn new(alloc: Global, settings: Settings) -> Result<Session, AllocError> {
         let name = String::from_str(alloc, called(&settings, settings.path.as_str()))?;
         Ok(Session {
-            settings,
-            name,
-            texts: Vec::new(alloc),
-            resting: None,
+            speaker: Speaker {
+                settings,
+                name,
+                shown: Shown::new(alloc),
+                point: None,
+            },
+            file: Texts::none(alloc),
             space: None,
-            point: None,
-            shown: Shown::new(alloc),
         })
     }
 
+    /// Frees all that was read.
+    pub(crate) fn forget(&mut self, alloc: Global) {
+        drop(mem::replace(&mut self.file, Texts::none(alloc)));
+        drop(self.space.take());
+        drop(self.speaker.point.take());
+    }
+}
+
+impl Texts {
+    /// Nothing was read.
+    pub(crate) fn none(alloc: Global) -> Texts {
+        Texts {
+            texts: Vec::new(alloc),
+            log: None,
+            resting: None,
+        }
+    }
+
+    /// Takes the log in hand.
+    pub(crate) fn hold(&mut self, log: OpenLog) {
+        drop(mem::replace(&mut self.log, Some(log)));
+    }
+}
+
+impl Speaker {
     /// How long another process may have the file.
     pub(crate) fn wait(&self) -> Duration {
         Duration::from_secs(u64::from(self.settings.wait))
     }
 
-    /// Lets go of all that was read.
-    pub(crate) fn forget(&mut self, alloc: Global) {
-        self.texts = Vec::new(alloc);
-        self.resting = None;
-        self.space = None;
-        self.point = None;
+    /// Whom a command is done for, when, and how its reply is told.
+    pub(crate) fn context<'a>(&'a self, time: &'a str, trying: bool) -> Context<'a> {
+        context_of(&self.settings, self.name.as_str(), time, trying)
     }
 }
 
