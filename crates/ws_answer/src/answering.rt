@@ -8,7 +8,7 @@ use std::alloc::{AllocError, Global};
 use ws_command::SaidChoice;
 use ws_done::{Done, refuse, refuse_with};
 use ws_fault::{Refusal, Status as Comes};
-use ws_print::add_choice;
+use ws_print::{Text, add_choice};
 use ws_question::{AskedNow, Shown, asked_now, question_lines, reason_words, status_of};
 use ws_reply::Context;
 use ws_report::CANDIDATES;
@@ -173,9 +173,10 @@ fn choice_text(
     number: u32,
     choice: &Choice,
 ) -> Result<String, AllocError> {
-    let mut text = format!(in alloc; "answer {number} ")?;
-    add_choice(&mut text, space.relations.as_slice(), choice)?;
-    Ok(text)
+    let mut text = Text::new(alloc);
+    write!(text, "answer {number} ");
+    add_choice(&mut text, space.relations.as_slice(), choice);
+    text.done()
 }
 
 fn go_text(alloc: Global, number: u32) -> Result<String, AllocError> {

@@ -6,6 +6,7 @@ use def_memory::Memory;
 use std::alloc::{AllocError, Global};
 use ws_done::{Done, recorded, told_line};
 use ws_fault::{Refusal, Status as Comes};
+use ws_print::Lines;
 use ws_question::{reason_words, status_word};
 use ws_report::{AgainTold, Note, Report};
 use ws_space::Space;
@@ -131,20 +132,20 @@ fn again_of(
 // The mappings that are no longer in force, and those that are again.
 fn forces_told(alloc: Global, space: &Space, before: &[u16]) -> Result<Vec<String>, Memory> {
     let after = space.state.in_force();
-    let mut told = Vec::new(alloc);
+    let mut told = Lines::new(alloc);
     for mapping in before {
         if !after.iter().any(|other| other == mapping) {
             let name = space.mapping_name(*mapping);
-            told.push(format!(in alloc; "mapping {name} is no longer in force")?)?;
+            told.made(format!(in alloc; "mapping {name} is no longer in force"));
         }
     }
     for mapping in after {
         if !before.iter().any(|other| other == mapping) {
             let name = space.mapping_name(*mapping);
-            told.push(format!(in alloc; "mapping {name} is in force again")?)?;
+            told.made(format!(in alloc; "mapping {name} is in force again"));
         }
     }
-    Ok(told)
+    Ok(told.done()?)
 }
 
 // The words on an update that is otherwise now.

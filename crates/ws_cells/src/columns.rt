@@ -1,6 +1,7 @@
 //! Names of columns, as a file has them and as a relation may have them.
 
 use std::alloc::{AllocError, Global};
+use ws_print::Text;
 
 // What is cut off around the name of a column.
 fn is_margin(letter: char) -> bool {
@@ -18,12 +19,12 @@ pub(crate) fn header_of(alloc: Global, cells: &[String]) -> Result<Vec<String>, 
 
 // The name with `_` for each character that may not stand in one.
 fn with_underscores(alloc: Global, name: &str) -> Result<String, AllocError> {
-    let mut out = String::new(alloc);
+    let mut out = Text::new(alloc);
     for letter in name.chars() {
         let stands = letter.is_ascii_alphanumeric() || letter == '_';
-        out.push(if stands { letter } else { '_' })?;
+        out.push(if stands { letter } else { '_' });
     }
-    Ok(out)
+    out.done()
 }
 
 /// The name of a column that is made of a name in a file: one that begins with no letter gets a `c` in front.

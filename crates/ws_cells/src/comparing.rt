@@ -4,7 +4,7 @@ use crate::columns::has_twice;
 use crate::refusing::{add_names, faults, has, meant_of};
 use std::alloc::{AllocError, Global};
 use ws_fault::Refusal;
-use ws_print::{add_form, add_quoted};
+use ws_print::{Lines, Text, add_form, add_quoted};
 use ws_written::Relation;
 
 /// The first line names the columns of the relation, each once.
@@ -16,17 +16,20 @@ pub(crate) fn has_same(
     header: &[String],
     names: &[String],
 ) -> Result<(), Refusal> {
-    let mut more = Vec::new(alloc);
+    let mut more = Lines::new(alloc);
     add_strangers(alloc, &mut more, line, header, names)?;
     add_missing(alloc, &mut more, line, header, names)?;
     if has_twice(header) {
-        more.push(format!(in alloc; "line {line}: a column stands twice")?)?;
+        more.made(format!(in alloc; "line {line}: a column stands twice"));
     }
+    let more = more.done()?;
     if more.is_empty() {
         return Ok(());
     }
-    let mut words = format!(in alloc; "{path} does not fit ")?;
-    add_form(&mut words, relation)?;
+    let mut words = Text::new(alloc);
+    write!(words, "{path} does not fit ");
+    add_form(&mut words, relation);
+    let words = words.done()?;
     let hint = String::from_str(alloc, "its first line names the columns")?;
     faults(words, Some(hint), more)
 }
@@ -34,7 +37,7 @@ pub(crate) fn has_same(
 // A fault for each column of the file that the relation does not have.
 fn add_strangers(
     alloc: Global,
-    more: &mut Vec<String>,
+    more: &mut Lines,
     line: u64,
     header: &[String],
     names: &[String],
@@ -43,13 +46,15 @@ fn add_strangers(
         if has(names, column.as_str()) {
             continue;
         }
-        let mut words = format!(in alloc; "line {line}: there is no column ")?;
-        add_quoted(&mut words, column.as_str())?;
+        let mut words = Text::new(alloc);
+        write!(words, "line {line}: there is no column ");
+        add_quoted(&mut words, column.as_str());
         if let Some(question) = meant_of(alloc, column.as_str(), names)? {
-            words.push_str("; ")?;
-            words.push_str(question.as_str())?;
+            words.push_str("; ");
+            words.push_str(question.as_str());
         }
-        more.push(words)?;
+        let words = words.done()?;
+        more.push(words);
     }
     Ok(())
 }
@@ -57,7 +62,7 @@ fn add_strangers(
 // A fault that tells the columns of the relation that the file does not have.
 fn add_missing(
     alloc: Global,
-    more: &mut Vec<String>,
+    more: &mut Lines,
     line: u64,
     header: &[String],
     names: &[String],
@@ -73,9 +78,11 @@ fn add_missing(
     }
     let one = missing.len() == 1;
     let noun = if one { "column" } else { "columns" };
-    let mut words = format!(in alloc; "line {line}: {noun} ")?;
-    add_names(&mut words, missing.as_slice())?;
-    words.push_str(if one { " is missing" } else { " are missing" })?;
-    more.push(words)?;
+    let mut words = Text::new(alloc);
+    write!(words, "line {line}: {noun} ");
+    add_names(&mut words, missing.as_slice());
+    words.push_str(if one { " is missing" } else { " are missing" });
+    let words = words.done()?;
+    more.push(words);
     Ok(())
 }

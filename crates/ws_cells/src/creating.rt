@@ -7,6 +7,7 @@ use std::alloc::{AllocError, Global};
 use ws_command::{Change, Command, Load, Said};
 use ws_fault::{Nearest, Refusal, Status};
 use ws_grammar::{Names, read_command};
+use ws_print::Text;
 use ws_written::Relation;
 
 // The command that declares the relation by the columns that are taken.
@@ -17,17 +18,18 @@ fn declaration(
     header: &[String],
 ) -> Result<String, AllocError> {
     let name = load.relation.as_str();
-    let mut line = format!(in alloc; "relation {name}(")?;
+    let mut line = Text::new(alloc);
+    write!(line, "relation {name}(");
     let taken = match &form.columns {
         Some(chosen) => chosen.as_slice(),
         None => header,
     };
     for (place, column) in taken.iter().enumerate() {
-        line.push_str(if 0 < place { ", " } else { "" })?;
-        line.push_str(made_name(alloc, column.as_str())?.as_str())?;
+        line.push_str(if 0 < place { ", " } else { "" });
+        line.made(made_name(alloc, column.as_str()));
     }
-    line.push(')')?;
-    Ok(line)
+    line.push(')');
+    line.done()
 }
 
 fn nearest_relation(

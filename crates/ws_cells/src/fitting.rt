@@ -9,7 +9,7 @@ use crate::refusing::{add_names, fault, has, meant_of};
 use std::alloc::{AllocError, Global};
 use ws_command::Load;
 use ws_fault::{Refusal, Status};
-use ws_print::add_escaped;
+use ws_print::{Text, add_escaped};
 use ws_written::Relation;
 
 /// How the cells of a row become a tuple.
@@ -91,12 +91,15 @@ fn has_chosen(alloc: Global, form: &Form, path: &str, header: &[String]) -> Resu
 }
 
 fn no_column(alloc: Global, path: &str, name: &str, header: &[String]) -> Result<(), Refusal> {
-    let mut words = format!(in alloc; "{path} has no column ")?;
-    add_escaped(&mut words, name)?;
+    let mut words = Text::new(alloc);
+    write!(words, "{path} has no column ");
+    add_escaped(&mut words, name);
+    let words = words.done()?;
     let mut hint = meant_of(alloc, name, header)?;
     if hint.is_none() {
-        let mut known = String::from_str(alloc, "it has ")?;
-        add_names(&mut known, header)?;
+        let mut known = Text::from_str(alloc, "it has ");
+        add_names(&mut known, header);
+        let known = known.done()?;
         hint = Some(known);
     }
     let hint = escaped(alloc, &hint)?;
@@ -107,7 +110,8 @@ fn escaped(alloc: Global, text: &Option<String>) -> Result<Option<String>, Alloc
     let Some(text) = text else {
         return Ok(None);
     };
-    let mut out = String::new(alloc);
-    add_escaped(&mut out, text.as_str())?;
+    let mut out = Text::new(alloc);
+    add_escaped(&mut out, text.as_str());
+    let out = out.done()?;
     Ok(Some(out))
 }

@@ -8,7 +8,7 @@ use crate::refusing::has;
 use crate::rows::{Loaded, LoadedRow};
 use crate::values::{Read, read_cell};
 use std::alloc::{AllocError, Global};
-use ws_print::add_count;
+use ws_print::{Text, add_count};
 use ws_written::{NewFact, Unknown};
 
 /// A fault of a line.
@@ -84,9 +84,11 @@ impl<'a> Loading<'a> {
 
     fn wrong_width(&mut self, number: u64, row: &CsvRow) -> Result<(), AllocError> {
         let width = self.fitted.width;
-        let mut words = format!(in self.alloc; "row {number} has ")?;
-        add_count(&mut words, row.cells.len(), "cell")?;
-        words.push_str(format!(in self.alloc; ", the header has {width}")?.as_str())?;
+        let mut words = Text::new(self.alloc);
+        write!(words, "row {number} has ");
+        add_count(&mut words, row.cells.len(), "cell");
+        write!(words, ", the header has {width}");
+        let words = words.done()?;
         self.add_fault(row.line, words)
     }
 

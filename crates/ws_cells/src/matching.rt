@@ -6,7 +6,7 @@ use crate::forms::Form;
 use crate::refusing::{fault, has, meant_of};
 use std::alloc::{AllocError, Global};
 use ws_fault::{Refusal, Status};
-use ws_print::{add_count, add_escaped, add_form};
+use ws_print::{Text, add_count, add_escaped, add_form};
 use ws_written::Relation;
 
 /// A column of the relation.
@@ -88,8 +88,10 @@ fn has_texts(
     for text in form.texts.iter() {
         if !has(names, text.as_str()) {
             let name = relation.name.as_str();
-            let mut words = format!(in alloc; "{name} has no column ")?;
-            add_escaped(&mut words, text.as_str())?;
+            let mut words = Text::new(alloc);
+            write!(words, "{name} has no column ");
+            add_escaped(&mut words, text.as_str());
+            let words = words.done()?;
             let hint = meant_of(alloc, text.as_str(), names)?;
             return fault(alloc, Status::Refused, words, hint);
         }
@@ -103,10 +105,13 @@ fn has_count(alloc: Global, relation: &Relation, count: usize) -> Result<(), Ref
         return Ok(());
     }
     let name = relation.name.as_str();
-    let mut words = format!(in alloc; "{name} has ")?;
-    add_count(&mut words, relation.columns.len(), "column")?;
-    words.push_str(format!(in alloc; ", --columns names {count}")?.as_str())?;
-    let mut hint = String::from_str(alloc, "it is ")?;
-    add_form(&mut hint, relation)?;
+    let mut words = Text::new(alloc);
+    write!(words, "{name} has ");
+    add_count(&mut words, relation.columns.len(), "column");
+    write!(words, ", --columns names {count}");
+    let words = words.done()?;
+    let mut hint = Text::from_str(alloc, "it is ");
+    add_form(&mut hint, relation);
+    let hint = hint.done()?;
     fault(alloc, Status::Refused, words, Some(hint))
 }

@@ -1,6 +1,7 @@
 //! The rows of a text, cell by cell, each with the line that it begins in.
 
 use std::alloc::{AllocError, Global};
+use ws_print::Text;
 
 /// What is wrong with the quotes of a text, and in which line.
 #[derive(Clone, Copy, PartialEq, Eq)]
@@ -116,31 +117,31 @@ impl<'a> CsvReader<'a> {
     // The cell after an opening quote.
     fn quoted_cell(&mut self) -> Result<String, AllocError> {
         let open = self.line;
-        let mut cell = String::new(self.alloc);
+        let mut cell = Text::new(self.alloc);
         for _ in 0..u64::MAX {
             let Some((part, rest)) = self.rest.split_once('"') else {
                 let rest = self.rest;
                 self.faults.push(CsvFault::Open(open))?;
-                self.add_part(&mut cell, rest)?;
+                self.add_part(&mut cell, rest);
                 self.rest = "";
-                return Ok(cell);
+                return cell.done();
             };
-            self.add_part(&mut cell, part)?;
+            self.add_part(&mut cell, part);
             self.rest = rest;
             match rest.strip_prefix("\"") {
                 Some(after) => {
-                    cell.push('"')?;
+                    cell.push('"');
                     self.rest = after;
                 }
                 None => break,
             }
         }
         self.pass_stray()?;
-        Ok(cell)
+        cell.done()
     }
 
     // A part of a quoted cell, with the lines that it ends.
-    fn add_part(&mut self, cell: &mut String, part: &str) -> Result<(), AllocError> {
+    fn add_part(&mut self, cell: &mut Text, part: &str) {
         let ends = part.bytes().filter(|b| *b == b'\n').count();
         self.line = self.line.saturating_add(ends as u64);
         cell.push_str(part)

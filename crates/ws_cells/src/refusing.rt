@@ -2,6 +2,7 @@
 
 use std::alloc::{AllocError, Global};
 use ws_fault::{Fault, Nearest, Refusal, Status};
+use ws_print::Text;
 
 /// A fault without a place.
 pub(crate) fn fault<T>(
@@ -53,10 +54,9 @@ pub(crate) fn has(names: &[String], name: &str) -> bool {
 }
 
 /// The names between commas.
-pub(crate) fn add_names(out: &mut String, names: &[String]) -> Result<(), AllocError> {
+pub(crate) fn add_names(out: &mut Text, names: &[String]) {
     for (place, name) in names.iter().enumerate() {
-        out.push_str(if 0 < place { ", " } else { "" })?;
-        out.push_str(name.as_str())?;
+        out.push_str(if 0 < place { ", " } else { "" });
+        out.push_str(name.as_str());
     }
-    Ok(())
 }

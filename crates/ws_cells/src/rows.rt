@@ -7,7 +7,7 @@ use crate::readers::{CsvFault, CsvReader};
 use crate::refusing::faults;
 use std::alloc::{AllocError, Global};
 use ws_fault::Refusal;
-use ws_print::add_count;
+use ws_print::{Text, add_count};
 use ws_written::{NewFact, Unknown};
 
 /// A row, and its tuple.
@@ -53,9 +53,11 @@ pub fn facts_of(
 }
 
 fn refused(alloc: Global, path: &str, all: Vec<RowFault>) -> Result<Loaded, Refusal> {
-    let mut words = format!(in alloc; "{path} has ")?;
-    add_count(&mut words, all.len(), "fault")?;
-    words.push_str("; nothing was loaded")?;
+    let mut words = Text::new(alloc);
+    write!(words, "{path} has ");
+    add_count(&mut words, all.len(), "fault");
+    words.push_str("; nothing was loaded");
+    let words = words.done()?;
     let mut more = Vec::new(alloc);
     for fault in all.iter() {
         let line = fault.line;

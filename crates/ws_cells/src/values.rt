@@ -4,7 +4,7 @@ use crate::cells::{unknown_of, unknown_parts, value_of};
 use crate::forms::{Empty, Form};
 use crate::matching::FittedColumn;
 use std::alloc::{AllocError, Global};
-use ws_print::add_escaped;
+use ws_print::{Text, add_escaped};
 use ws_written::{NewValue, Unknown, Value};
 
 /// The most bytes of a text.
@@ -65,7 +65,8 @@ fn read_short(
 }
 
 fn no_unknown(alloc: Global, cell: &str) -> Result<Read, AllocError> {
-    let mut what = String::from_str(alloc, "there is no unknown ")?;
-    add_escaped(&mut what, cell)?;
+    let mut what = Text::from_str(alloc, "there is no unknown ");
+    add_escaped(&mut what, cell);
+    let what = what.done()?;
     Ok(Read::Wrong(what))
 }

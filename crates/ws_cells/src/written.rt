@@ -1,8 +1,9 @@
 //! The bytes of a file as a text, and cells as they are written.
 
 use crate::refusing::fault;
-use std::alloc::{AllocError, Global};
+use std::alloc::Global;
 use ws_fault::{Refusal, Status};
+use ws_print::Text;
 
 /// The text of a file's bytes; a file that is not UTF-8 is refused, with the place of the first byte that is none.
 pub fn text_of<'a>(alloc: Global, path: &str, bytes: &'a [u8]) -> Result<&'a str, Refusal> {
@@ -30,14 +31,14 @@ fn is_quoted(text: &str) -> bool {
 
 /// Adds a text as a cell: between quotes, its quotes doubled, if it would else be read as another one. It is refused only
 /// for want of memory.
-pub fn add_csv_cell(out: &mut String, text: &str) -> Result<(), AllocError> {
+pub fn add_csv_cell(out: &mut Text, text: &str) {
     if !is_quoted(text) {
         return out.push_str(text);
     }
-    out.push('"')?;
+    out.push('"');
     for (place, part) in text.split('"').enumerate() {
-        out.push_str(if 0 < place { "\"\"" } else { "" })?;
-        out.push_str(part)?;
+        out.push_str(if 0 < place { "\"\"" } else { "" });
+        out.push_str(part);
     }
     out.push('"')
 }

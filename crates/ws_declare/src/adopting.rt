@@ -9,6 +9,7 @@ use std::alloc::{AllocError, Global};
 use std::collections::BTreeSet;
 use ws_done::{Done, Taken, add_line, spent, take_update};
 use ws_fault::{Refusal, Status};
+use ws_print::Lines;
 use ws_question::count_text;
 use ws_report::{Counted, Report, ranges_text};
 use ws_space::Space;
@@ -166,18 +167,18 @@ impl Repairs {
 
     // How many violations were repaired, and how many repairs ask.
     fn told(&self, alloc: Global) -> Result<Vec<String>, Memory> {
-        let mut told = Vec::new(alloc);
+        let mut told = Lines::new(alloc);
         if !self.fixed.is_empty() {
             let count = count_text(alloc, self.fixed.len(), "violation")?;
             let numbers = ranges_text(alloc, self.fixed.as_slice())?;
-            told.push(format!(in alloc; "{count} repaired by {numbers}")?)?;
+            told.made(format!(in alloc; "{count} repaired by {numbers}"));
         }
         if !self.asks.is_empty() {
             let count = count_text(alloc, self.asks.len(), "question")?;
             let numbers = ranges_text(alloc, self.asks.as_slice())?;
-            told.push(format!(in alloc; "{count}: {numbers}")?)?;
+            told.made(format!(in alloc; "{count}: {numbers}"));
         }
-        Ok(told)
+        Ok(told.done()?)
     }
 
     fn adopted(&self, alloc: Global, space: &mut Space, name: &str) -> Result<Repaired, Refusal> {

@@ -7,7 +7,7 @@ use def_memory::Memory;
 use std::alloc::Global;
 use ws_done::{Done, Taken, lines_of, told_line};
 use ws_fault::{Refusal, Status};
-use ws_print::{add_fact, add_new_facts};
+use ws_print::{Lines, Text, add_fact, add_new_facts};
 use ws_question::count_text;
 use ws_report::{Note, Report};
 use ws_space::{Space, Violation};
@@ -119,13 +119,13 @@ fn violations_told(
     mapping: u16,
     violations: &[Violation],
 ) -> Result<Vec<String>, Memory> {
-    let mut told = Vec::new(alloc);
+    let mut told = Lines::new(alloc);
     let count = count_text(alloc, violations.len(), "violation")?;
-    told.push(format!(in alloc; "it has {count}, so it is not in force")?)?;
+    told.made(format!(in alloc; "it has {count}, so it is not in force"));
     for violation in violations.iter().take(TOLD) {
-        told.push(violation_line(alloc, space, mapping, violation)?)?;
+        told.made(violation_line(alloc, space, mapping, violation));
     }
-    Ok(told)
+    Ok(told.done()?)
 }
 
 fn next_of(alloc: Global, name: &str) -> Result<Vec<String>, Memory> {
@@ -144,15 +144,15 @@ fn violation_line(
     violation: &Violation,
 ) -> Result<String, Memory> {
     let relations = space.relations.as_slice();
-    let mut line = String::new(alloc);
+    let mut line = Text::new(alloc);
     for (place, tuple) in violation.image.as_slice().iter().enumerate() {
         if 0 < place {
-            line.push_str(", ")?;
+            line.push_str(", ");
         }
-        add_fact(&mut line, relations, &space.shown(alloc, tuple)?)?;
+        add_fact(&mut line, relations, &space.shown(alloc, tuple)?);
     }
-    line.push_str(" lacks ")?;
+    line.push_str(" lacks ");
     let lacking = space.lacking(alloc, mapping, violation)?;
-    add_new_facts(&mut line, relations, lacking.as_slice())?;
-    Ok(line)
+    add_new_facts(&mut line, relations, lacking.as_slice());
+    Ok(line.done()?)
 }

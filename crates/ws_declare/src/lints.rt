@@ -4,7 +4,7 @@ use crate::mappings::{relation_name, stands_among, stands_in};
 use base_types::{Facts, List, Value};
 use def_memory::Memory;
 use std::alloc::Global;
-use ws_print::add_atom;
+use ws_print::{Text, add_atom};
 use ws_report::Note;
 use ws_space::Space;
 use ws_written::{Atom, Rule, Term};
@@ -143,12 +143,13 @@ fn add_unlinked(
         if *is_linked {
             continue;
         }
-        let mut words = String::new(alloc);
-        add_atom(&mut words, space.relations.as_slice(), atom)?;
+        let mut words = Text::new(alloc);
+        add_atom(&mut words, space.relations.as_slice(), atom);
         let relation = relation_name(space, atom.relation);
-        words.push_str(" shares no variable with the left side: any tuple of ")?;
-        words.push_str(relation)?;
-        words.push_str(" will do")?;
+        words.push_str(" shares no variable with the left side: any tuple of ");
+        words.push_str(relation);
+        words.push_str(" will do");
+        let words = words.done()?;
         notes.push(Note::of(alloc, words))?;
     }
     Ok(())

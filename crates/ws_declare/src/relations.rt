@@ -5,7 +5,7 @@ use def_memory::Memory;
 use std::alloc::{AllocError, Global};
 use ws_done::{Done, recorded, refuse, told_line};
 use ws_fault::{Refusal, Status};
-use ws_print::add_form;
+use ws_print::{Text, add_form};
 use ws_report::Report;
 use ws_space::Space;
 use ws_written::{Line, Relation};
@@ -106,8 +106,9 @@ fn check_unspoken(
     if has_same_columns(declared, relation) || !is_spoken_of(space, place) {
         return Ok(());
     }
-    let mut words = String::from_str(alloc, "there is a relation ")?;
-    add_form(&mut words, declared)?;
+    let mut words = Text::from_str(alloc, "there is a relation ");
+    add_form(&mut words, declared);
+    let words = words.done()?;
     let hint = "its columns can change only while no tuple, update or mapping speaks of it";
     refuse(alloc, words.as_str(), hint)
 }
@@ -138,13 +139,15 @@ fn is_lower(alloc: Global, name: &str, lower: &str) -> Result<bool, AllocError> 
 // The commands that fill the relation.
 fn next_of(alloc: Global, relation: &Relation) -> Result<Vec<String>, Memory> {
     let name = relation.name.as_str();
-    let mut insert = format!(in alloc; "insert {name}(")?;
+    let mut insert = Text::new(alloc);
+    write!(insert, "insert {name}(");
     for (place, column) in relation.columns.iter().enumerate() {
-        insert.push_str(if place == 0 { "\"" } else { ", \"" })?;
-        insert.push_str(column.name.as_str())?;
-        insert.push('"')?;
+        insert.push_str(if place == 0 { "\"" } else { ", \"" });
+        insert.push_str(column.name.as_str());
+        insert.push('"');
     }
-    insert.push(')')?;
+    insert.push(')');
+    let insert = insert.done()?;
     let mut next = Vec::new(alloc);
     next.push(insert)?;
     next.push(format!(in alloc; "load {name} FILE.csv")?)?;

@@ -3,7 +3,7 @@
 use crate::faults::refuse;
 use std::alloc::{AllocError, Global};
 use ws_fault::Refusal;
-use ws_print::{add_line, add_update};
+use ws_print::{Text, add_line, add_update};
 use ws_report::spent_fault;
 use ws_run::Reason;
 use ws_space::{Space, unknown_of};
@@ -91,11 +91,11 @@ fn take_line(
 
 /// The line as a reply tells it: of an update without its number and its budget. It is refused only for want of memory.
 pub fn told_line(alloc: Global, space: &Space, line: &Line) -> Result<String, AllocError> {
-    let mut text = String::new(alloc);
+    let mut text = Text::new(alloc);
     let relations = space.relations.as_slice();
     match line {
-        Line::Update(numbered) => add_update(&mut text, relations, &numbered.update)?,
-        other => add_line(&mut text, relations, other)?,
+        Line::Update(numbered) => add_update(&mut text, relations, &numbered.update),
+        other => add_line(&mut text, relations, other),
     }
-    Ok(text)
+    text.done()
 }

@@ -3,59 +3,56 @@
 use crate::links::Link;
 use std::alloc::{AllocError, Global};
 use std::fmt::Write;
-use ws_print::add_form;
+use ws_print::{Lines, Text, add_form};
 use ws_written::Relation;
 
 const HEAD: [&str; 3] = ["digraph mappings {", "  rankdir=LR;", "  node [shape=box];"];
 
 /// Adds a text between quotes, as DOT has it.
-pub fn add_dot_text(out: &mut String, text: &str) -> Result<(), AllocError> {
-    out.push('"')?;
+pub fn add_dot_text(out: &mut Text, text: &str) {
+    out.push('"');
     for letter in text.chars() {
         if letter == '"' || letter == '\\' {
-            out.push('\\')?;
+            out.push('\\');
         }
-        out.push(letter)?;
+        out.push(letter);
     }
     out.push('"')
 }
 
 fn relation_line(alloc: Global, number: usize, relation: &Relation) -> Result<String, AllocError> {
-    let mut form = String::new(alloc);
-    add_form(&mut form, relation)?;
-    let mut line = format!(in alloc; "  r{number} [label=")?;
-    add_dot_text(&mut line, form.as_str())?;
-    line.push_str("];")?;
-    Ok(line)
+    let mut form = Text::new(alloc);
+    add_form(&mut form, relation);
+    let form = form.done()?;
+    let mut line = Text::new(alloc);
+    write!(line, "  r{number} [label=");
+    add_dot_text(&mut line, form.as_str());
+    line.push_str("];");
+    line.done()
 }
 
 fn link_line(alloc: Global, number: usize, link: &Link<'_>) -> Result<String, AllocError> {
-    let mut line = format!(in alloc; "  m{number} [label=")?;
-    add_dot_text(&mut line, link.name)?;
-    line.push_str(", shape=ellipse")?;
+    let mut line = Text::new(alloc);
+    write!(line, "  m{number} [label=");
+    add_dot_text(&mut line, link.name);
+    line.push_str(", shape=ellipse");
     line.push_str(if link.is_open {
         ", style=dashed];"
     } else {
         "];"
-    })?;
-    Ok(line)
+    });
+    line.done()
 }
 
 // The lines of a mapping: itself, and its edges.
-fn add_link(
-    alloc: Global,
-    lines: &mut Vec<String>,
-    number: usize,
-    link: &Link<'_>,
-) -> Result<(), AllocError> {
-    lines.push(link_line(alloc, number, link)?)?;
+fn add_link(alloc: Global, lines: &mut Lines, number: usize, link: &Link<'_>) {
+    lines.made(link_line(alloc, number, link));
     for relation in link.left.iter() {
-        lines.push(format!(in alloc; "  r{relation} -> m{number};")?)?;
+        lines.made(format!(in alloc; "  r{relation} -> m{number};"));
     }
     for relation in link.right.iter() {
-        lines.push(format!(in alloc; "  m{number} -> r{relation};")?)?;
+        lines.made(format!(in alloc; "  m{number} -> r{relation};"));
     }
-    Ok(())
 }
 
 /// The lines of the graph.
@@ -64,16 +61,16 @@ pub fn graph_lines(
     relations: &[Relation],
     links: &[Link<'_>],
 ) -> Result<Vec<String>, AllocError> {
-    let mut lines = Vec::new(alloc);
+    let mut lines = Lines::new(alloc);
     for line in HEAD {
-        lines.push(String::from_str(alloc, line)?)?;
+        lines.push_str(line);
     }
     for (number, relation) in relations.iter().enumerate() {
-        lines.push(relation_line(alloc, number, relation)?)?;
+        lines.made(relation_line(alloc, number, relation));
     }
     for (number, link) in links.iter().enumerate() {
-        add_link(alloc, &mut lines, number, link)?;
+        add_link(alloc, &mut lines, number, link);
     }
-    lines.push(String::from_str(alloc, "}")?)?;
-    Ok(lines)
+    lines.push_str("}");
+    lines.done()
 }

@@ -1,10 +1,9 @@
 //! Texts as HTML has them.
 
-use std::alloc::AllocError;
 use std::fmt::Write;
-use ws_print::is_control;
+use ws_print::{Text, is_control};
 
-fn add_letter(out: &mut String, letter: char) -> Result<(), AllocError> {
+fn add_letter(out: &mut Text, letter: char) {
     match letter {
         '&' => out.push_str("&amp;"),
         '<' => out.push_str("&lt;"),
@@ -16,7 +15,7 @@ fn add_letter(out: &mut String, letter: char) -> Result<(), AllocError> {
     }
 }
 
-fn add_other(out: &mut String, letter: char) -> Result<(), AllocError> {
+fn add_other(out: &mut Text, letter: char) {
     if is_control(letter) {
         let code = u32::from(letter);
         return write!(out, "\\u{{{code:x}}}");
@@ -26,9 +25,8 @@ fn add_other(out: &mut String, letter: char) -> Result<(), AllocError> {
 
 /// Adds a text so that it is shown as it is, wherever it stands in a page. Control characters but line feeds and tabs are
 /// `\u{hex}`.
-pub fn add_html(out: &mut String, text: &str) -> Result<(), AllocError> {
+pub fn add_html(out: &mut Text, text: &str) {
     for letter in text.chars() {
-        add_letter(out, letter)?;
+        add_letter(out, letter);
     }
-    Ok(())
 }

@@ -5,6 +5,7 @@ use crate::layout::{HIGH, Layout, Node, layout_of};
 use crate::links::Link;
 use std::alloc::{AllocError, Global};
 use std::fmt::Write;
+use ws_print::Text;
 use ws_written::Relation;
 
 const LABEL: &str = "<svg role=\"img\" aria-label=\"The mappings between the tables\"";
@@ -20,70 +21,58 @@ pub fn svg_of(
     links: &[Link<'_>],
 ) -> Result<String, AllocError> {
     let layout = layout_of(alloc, relations, links)?;
-    let mut out = String::new(alloc);
-    add_head(&mut out, &layout)?;
+    let mut out = Text::new(alloc);
+    add_head(&mut out, &layout);
     for (number, link) in links.iter().enumerate() {
-        add_edges(&mut out, &layout, number, link)?;
+        add_edges(&mut out, &layout, number, link);
     }
     for node in layout.nodes.iter() {
-        add_box(&mut out, node)?;
+        add_box(&mut out, node);
     }
-    out.push_str("</svg>")?;
-    Ok(out)
+    out.push_str("</svg>");
+    out.done()
 }
 
-fn add_head(out: &mut String, layout: &Layout<'_>) -> Result<(), AllocError> {
+fn add_head(out: &mut Text, layout: &Layout<'_>) {
     let width = layout.width;
     let height = layout.height.saturating_add(HIGH);
-    out.push_str(LABEL)?;
+    out.push_str(LABEL);
     write!(
         out,
         " width=\"{width}\" height=\"{height}\" viewBox=\"0 0 {width} {height}\">"
-    )?;
+    );
     out.push_str(MARKER)
 }
 
-fn add_edges(
-    out: &mut String,
-    layout: &Layout<'_>,
-    number: usize,
-    link: &Link<'_>,
-) -> Result<(), AllocError> {
+fn add_edges(out: &mut Text, layout: &Layout<'_>, number: usize, link: &Link<'_>) {
     let Some(node) = layout.node(true, number) else {
-        return Ok(());
+        return;
     };
     for relation in link.left.iter() {
         if let Some(from) = layout.node(false, *relation as usize) {
-            add_edge(out, layout.height, from, node, link.is_open)?;
+            add_edge(out, layout.height, from, node, link.is_open);
         }
     }
     for relation in link.right.iter() {
         if let Some(to) = layout.node(false, *relation as usize) {
-            add_edge(out, layout.height, node, to, link.is_open)?;
+            add_edge(out, layout.height, node, to, link.is_open);
         }
     }
-    Ok(())
 }
 
-fn add_edge(
-    out: &mut String,
-    height: usize,
-    from: &Node<'_>,
-    to: &Node<'_>,
-    is_open: bool,
-) -> Result<(), AllocError> {
-    out.push_str("<path d=\"")?;
+fn add_edge(out: &mut Text, height: usize, from: &Node<'_>, to: &Node<'_>, is_open: bool) {
+    out.push_str("<path d=\"");
     if from.x < to.x {
-        add_way_on(out, from, to)?;
+        add_way_on(out, from, to);
     } else {
-        add_way_back(out, height, from, to)?;
+        add_way_back(out, height, from, to);
     }
     let class = if is_open { "edge open" } else { "edge" };
     write!(out, "\" class=\"{class}\" marker-end=\"url(#a)\"/>")
 }
 
 // From the right side of a box to the left side of one in a later column.
-fn add_way_on(out: &mut String, from: &Node<'_>, to: &Node<'_>) -> Result<(), AllocError> {
+fn add_way_on(out: &mut Text, from: &Node<'_>, to: &Node<'_>) {
     let x = from.x.saturating_add(from.width);
     let y = from.y.saturating_add(HIGH / 2);
     let out_x = x.saturating_add(30);
@@ -94,12 +83,7 @@ fn add_way_on(out: &mut String, from: &Node<'_>, to: &Node<'_>) -> Result<(), Al
 }
 
 // From the foot of a box to the foot of one in no later column, below all boxes.
-fn add_way_back(
-    out: &mut String,
-    height: usize,
-    from: &Node<'_>,
-    to: &Node<'_>,
-) -> Result<(), AllocError> {
+fn add_way_back(out: &mut Text, height: usize, from: &Node<'_>, to: &Node<'_>) {
     let low = height.saturating_add(25);
     let x = from.x.saturating_add(from.width / 2);
     let y = from.y.saturating_add(HIGH);
@@ -115,7 +99,7 @@ fn class_of(node: &Node<'_>) -> &'static str {
     if node.is_open { "map open" } else { "map" }
 }
 
-fn add_box(out: &mut String, node: &Node<'_>) -> Result<(), AllocError> {
+fn add_box(out: &mut Text, node: &Node<'_>) {
     let x = node.x;
     let y = node.y;
     let width = node.width;
@@ -124,10 +108,10 @@ fn add_box(out: &mut String, node: &Node<'_>) -> Result<(), AllocError> {
     write!(
         out,
         "<rect x=\"{x}\" y=\"{y}\" width=\"{width}\" height=\"30\" rx=\"{round}\" class=\"{class}\"/>"
-    )?;
+    );
     let text_x = x.saturating_add(8);
     let text_y = y.saturating_add(20);
-    write!(out, "<text x=\"{text_x}\" y=\"{text_y}\">")?;
-    add_html(out, node.name)?;
+    write!(out, "<text x=\"{text_x}\" y=\"{text_y}\">");
+    add_html(out, node.name);
     out.push_str("</text>")
 }

@@ -3,42 +3,37 @@
 use crate::renaming::Renaming;
 use base_types::{Memory, Null};
 use std::alloc::{AllocError, Global};
-use ws_print::add_unknown;
+use ws_print::{Lines, Text, add_unknown};
 use ws_space::{Space, unknown_of};
 use ws_written::STEPS;
 
 /// Adds the comments of a dump whose base has so many of the updates that stand. It is refused only for want of memory.
 pub(crate) fn add_comments(
     alloc: Global,
-    lines: &mut Vec<String>,
+    lines: &mut Lines,
     space: &Space,
     renaming: &Renaming,
     cut: usize,
 ) -> Result<(), Memory> {
     add_base(alloc, lines, space, cut)?;
     for null in renaming.places.keys() {
-        lines.push(name_line(alloc, space, renaming, *null)?)?;
+        lines.made(name_line(alloc, space, renaming, *null));
     }
-    add_drawn(alloc, lines, space, renaming, cut)?;
+    add_drawn(alloc, lines, space, renaming, cut);
     for number in waiting_numbers(alloc, space)? {
-        lines.push(waiting_line(alloc, space, number)?)?;
+        lines.made(waiting_line(alloc, space, number));
     }
     Ok(())
 }
 
 // How many updates the base has in it.
-fn add_base(
-    alloc: Global,
-    lines: &mut Vec<String>,
-    space: &Space,
-    cut: usize,
-) -> Result<(), AllocError> {
+fn add_base(alloc: Global, lines: &mut Lines, space: &Space, cut: usize) -> Result<(), AllocError> {
     let Some(last) = cut.checked_sub(1) else {
         return Ok(());
     };
     let number = number_at(space, last);
     let words = format!(in alloc; "# the base has the first {cut} updates in it, up to u{number}")?;
-    lines.push(words)?;
+    lines.push(words);
     Ok(())
 }
 
@@ -64,21 +59,15 @@ fn name_line(
     renaming: &Renaming,
     null: Null,
 ) -> Result<String, AllocError> {
-    let mut line = String::from_str(alloc, "# ")?;
-    add_unknown(&mut line, unknown_of(renaming.null(null)))?;
-    line.push_str(" is ")?;
-    add_unknown(&mut line, unknown_of(space.state.names().name_of(null)))?;
-    Ok(line)
+    let mut line = Text::from_str(alloc, "# ");
+    add_unknown(&mut line, unknown_of(renaming.null(null)));
+    line.push_str(" is ");
+    add_unknown(&mut line, unknown_of(space.state.names().name_of(null)));
+    line.done()
 }
 
 // The nulls that the updates of the dump draw.
-fn add_drawn(
-    alloc: Global,
-    lines: &mut Vec<String>,
-    space: &Space,
-    renaming: &Renaming,
-    cut: usize,
-) -> Result<(), AllocError> {
+fn add_drawn(alloc: Global, lines: &mut Lines, space: &Space, renaming: &Renaming, cut: usize) {
     for standing in space.state.order().as_slice().iter().skip(cut) {
         for op in standing.ops.as_slice() {
             for place in 0..op.drawn {
@@ -87,11 +76,10 @@ fn add_drawn(
                     attempt: 0,
                     place: place.saturating_add(1),
                 };
-                lines.push(name_line(alloc, space, renaming, null)?)?;
+                lines.made(name_line(alloc, space, renaming, null));
             }
         }
     }
-    Ok(())
 }
 
 fn waiting_numbers(alloc: Global, space: &Space) -> Result<Vec<u32>, AllocError> {
@@ -106,13 +94,14 @@ fn waiting_numbers(alloc: Global, space: &Space) -> Result<Vec<u32>, AllocError>
 // `# waits: CURATOR N [steps S] UPDATE`.
 fn waiting_line(alloc: Global, space: &Space, number: u32) -> Result<String, Memory> {
     let curator = space.curator_of(number);
-    let mut line = format!(in alloc; "# waits: {curator} {number} ")?;
+    let mut line = Text::new(alloc);
+    write!(line, "# waits: {curator} {number} ");
     let steps = steps_of(space, number);
     if steps != STEPS {
-        line.push_str(format!(in alloc; "steps {steps} ")?.as_str())?;
+        write!(line, "steps {steps} ");
     }
-    line.push_str(space.update_text(alloc, number)?.as_str())?;
-    Ok(line)
+    line.made(space.update_text(alloc, number));
+    Ok(line.done()?)
 }
 
 fn steps_of(space: &Space, number: u32) -> u32 {

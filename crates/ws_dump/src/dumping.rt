@@ -13,6 +13,7 @@ use lang_schema::Schema;
 use lang_session::{Session, SessionUpdates};
 use std::alloc::Global;
 use std::collections::BTreeSet;
+use ws_print::Lines;
 use ws_space::Space;
 
 /// The lines of the dump. It is refused only for want of memory.
@@ -49,14 +50,14 @@ fn lines_of(
     text: &str,
     cut: usize,
 ) -> Result<Vec<String>, Memory> {
-    let mut lines = Vec::new(alloc);
+    let mut lines = Lines::new(alloc);
     for (place, line) in text.trim_end_matches('\n').split('\n').enumerate() {
-        lines.push(String::from_str(alloc, line)?)?;
+        lines.push_str(line);
         if place == 0 {
             add_comments(alloc, &mut lines, space, renaming, cut)?;
         }
     }
-    Ok(lines)
+    Ok(lines.done()?)
 }
 
 // The number of the last op of the updates before this place.

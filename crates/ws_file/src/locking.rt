@@ -39,13 +39,16 @@ const TURNS: u32 = 1_000;
 const PAUSE_IN_MILLIS: u64 = 10;
 
 /// Opens the file and locks it, and waits as long as it may while other processes have it in hand. A file whose name went
-/// over to another one meanwhile is let go, and the other one is locked.
+/// over to another one meanwhile is let go, and the other one is locked. A pipe or a device is not opened: it has no places.
 pub fn lock(
     rt: &HostRuntime,
     path: &str,
     access: Access,
     wait: Duration,
 ) -> Result<Locked, OpenFault> {
+    if is_stream(rt, path) {
+        return Err(OpenFault::Unreadable(io::Error::from(ErrorKind::NotSeekable)));
+    }
     let start = now(rt)?;
     for _turn in 0..TURNS {
         let file = opened(rt, path, access)?;
@@ -55,6 +58,14 @@ pub fn lock(
         }
     }
     Err(OpenFault::InUse)
+}
+
+// Whether the path names a pipe, a device or a socket.
+fn is_stream(rt: &HostRuntime, path: &str) -> bool {
+    match fs::metadata(rt, path) {
+        Ok(named) => !named.is_file() && !named.is_dir(),
+        Err(_) => false,
+    }
 }
 
 // The clock that only goes on.

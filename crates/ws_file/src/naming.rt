@@ -38,14 +38,16 @@ fn made_anew(rt: &HostRuntime, name: &str) -> io::Result<File> {
 }
 
 impl MadeFile {
-    /// Gives the file the name, which no file has, in one step, and makes that last. `Taken` if a file has it; the file that
-    /// was made goes then, and after every other fault.
+    /// Gives the file the name, which no file has, in one step, and makes that last. `Taken` if a file has it, `Unwritable` if
+    /// a link has it that leads nowhere; the file that was made goes then, and after every other fault.
     pub fn publish(self, rt: &HostRuntime, path: &str) -> Result<(), OpenFault> {
         let name = self.name.as_str();
         let linked = fs::hard_link(rt, name, path);
         let removed = fs::remove_file(rt, name);
         match linked {
-            Err(error) if error.kind() == ErrorKind::AlreadyExists => return Err(OpenFault::Taken),
+            Err(error) if error.kind() == ErrorKind::AlreadyExists => {
+                return Err(taken(rt, path, error));
+            }
             Err(error) => return Err(OpenFault::Unwritable(error)),
             Ok(()) => {}
         }
@@ -67,6 +69,14 @@ impl MadeFile {
     /// The file goes.
     pub fn give_up(self, rt: &HostRuntime) {
         let _gone = fs::remove_file(rt, self.name.as_str());
+    }
+}
+
+// Why the path cannot be named anew: a file has it, or it is a link that leads nowhere.
+fn taken(rt: &HostRuntime, path: &str, error: io::Error) -> OpenFault {
+    match fs::exists(rt, path) {
+        Ok(false) => OpenFault::Unwritable(error),
+        _ => OpenFault::Taken,
     }
 }
 

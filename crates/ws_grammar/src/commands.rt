@@ -6,7 +6,7 @@ use crate::standing::Names;
 use std::alloc::{AllocError, Global};
 use ws_command::{Command, Said, VERBS, Verb};
 use ws_fault::{Nearest, Refusal, Status, meant};
-use ws_print::add_escaped;
+use ws_print::{Text, add_escaped};
 
 // The verb that does what a word of another language asks for.
 fn same_as(word: &str) -> Option<&'static str> {
@@ -132,10 +132,10 @@ impl<'a> Cursor<'a> {
 
     /// The comment of the line, with control characters escaped.
     pub(crate) fn comment(&self) -> Result<String, AllocError> {
-        let mut comment = String::new(self.alloc);
+        let mut comment = Text::new(self.alloc);
         let text = str::from_utf8(self.comment).unwrap_or("");
-        add_escaped(&mut comment, text.trim_matches(is_white))?;
-        Ok(comment)
+        add_escaped(&mut comment, text.trim_matches(is_white));
+        comment.done()
     }
 }
 

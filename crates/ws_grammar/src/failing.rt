@@ -4,7 +4,7 @@ use crate::bytes::{name_run, text_of, word_run};
 use crate::cursors::Cursor;
 use std::alloc::AllocError;
 use ws_fault::{Fault, Refusal, Status};
-use ws_print::add_escaped;
+use ws_print::{Text, add_letter};
 
 const QUOTES: &str = "a text stands between two \" signs";
 
@@ -125,30 +125,27 @@ impl<'a> Cursor<'a> {
 
     /// Something else was expected here, and this may be done about it.
     pub(crate) fn fail_with<T>(&self, expected: &str, hint: &str) -> Result<T, Refusal> {
-        let mut words = format!(in self.alloc; "expected {expected}")?;
+        let mut words = Text::new(self.alloc);
+        write!(words, "expected {expected}");
         if self.is_done() {
-            words.push_str(" at the end of the line")?;
+            words.push_str(" at the end of the line");
         } else {
-            words.push_str(", found ")?;
-            self.add_found(&mut words)?;
+            words.push_str(", found ");
+            self.add_found(&mut words);
         }
+        let words = words.done()?;
         let hint = self.hint(hint)?;
         self.refuse(Status::Unread, self.at(), words, hint)
     }
 
     // The run of letters, digits and `_` here, or the one character.
-    fn add_found(&self, words: &mut String) -> Result<(), AllocError> {
+    fn add_found(&self, words: &mut Text) {
         let (run, _) = word_run(self.rest);
         if !run.is_empty() {
             return words.push_str(text_of(run));
         }
-        match first_letter(self.rest) {
-            Some(letter) => {
-                let mut found = String::new(self.alloc);
-                found.push(letter)?;
-                add_escaped(words, found.as_str())
-            }
-            None => Ok(()),
+        if let Some(letter) = first_letter(self.rest) {
+            add_letter(words, letter);
         }
     }
 

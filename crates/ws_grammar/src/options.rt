@@ -5,6 +5,7 @@ use crate::cursors::Cursor;
 use std::alloc::AllocError;
 use ws_command::{Opt, OptKind, Verb};
 use ws_fault::{Nearest, Refusal, Status};
+use ws_print::Text;
 use ws_written::STEPS;
 
 /// What was given with an option.
@@ -109,12 +110,12 @@ impl<'a> Cursor<'a> {
         if verb.options().is_empty() {
             return String::from_str(self.alloc, "it has none");
         }
-        let mut known = String::from_str(self.alloc, "it has ")?;
+        let mut known = Text::from_str(self.alloc, "it has ");
         for (place, opt) in verb.options().iter().enumerate() {
-            known.push_str(if 0 < place { ", --" } else { "--" })?;
-            known.push_str(opt.name())?;
+            known.push_str(if 0 < place { ", --" } else { "--" });
+            known.push_str(opt.name());
         }
-        Ok(known)
+        known.done()
     }
 
     // What stands after an option.

@@ -3,7 +3,7 @@
 use crate::cursors::Cursor;
 use std::alloc::{AllocError, Global};
 use ws_fault::{Nearest, Refusal, Status};
-use ws_print::{add_count, add_form};
+use ws_print::{Text, add_count, add_form};
 use ws_written::Relation;
 
 /// The names that a command may use: the relations in the order of their declaration, and the mappings that are not
@@ -32,12 +32,12 @@ fn relation_hint(alloc: Global, relations: &[Relation], name: &str) -> Result<St
     if relations.is_empty() {
         return format!(in alloc; "make one: relation {name}(COLUMN, ..)");
     }
-    let mut known = String::from_str(alloc, "known: ")?;
+    let mut known = Text::from_str(alloc, "known: ");
     for (place, relation) in relations.iter().enumerate() {
-        known.push_str(if 0 < place { ", " } else { "" })?;
-        known.push_str(relation.name.as_str())?;
+        known.push_str(if 0 < place { ", " } else { "" });
+        known.push_str(relation.name.as_str());
     }
-    Ok(known)
+    known.done()
 }
 
 // What may be done if there is no such mapping.
@@ -53,11 +53,12 @@ fn mapping_hint(
     if nearest.name().is_some() || mappings.is_empty() {
         return nearest.question();
     }
-    let mut known = String::from_str(alloc, "known: ")?;
+    let mut known = Text::from_str(alloc, "known: ");
     for (place, mapping) in mappings.iter().enumerate() {
-        known.push_str(if 0 < place { ", " } else { "" })?;
-        known.push_str(mapping.as_str())?;
+        known.push_str(if 0 < place { ", " } else { "" });
+        known.push_str(mapping.as_str());
     }
+    let known = known.done()?;
     Ok(Some(known))
 }
 
@@ -92,11 +93,14 @@ impl<'a> Cursor<'a> {
         if relation.columns.len() == found {
             return Ok(number);
         }
-        let mut words = format!(in self.alloc; "{name} has ")?;
-        add_count(&mut words, relation.columns.len(), "column")?;
-        words.push_str(format!(in self.alloc; ", found {found}")?.as_str())?;
-        let mut form = String::from_str(self.alloc, "it is ")?;
-        add_form(&mut form, relation)?;
+        let mut words = Text::new(self.alloc);
+        write!(words, "{name} has ");
+        add_count(&mut words, relation.columns.len(), "column");
+        write!(words, ", found {found}");
+        let words = words.done()?;
+        let mut form = Text::from_str(self.alloc, "it is ");
+        add_form(&mut form, relation);
+        let form = form.done()?;
         self.refuse(Status::Refused, at, words, Some(form))
     }
 

@@ -1,6 +1,6 @@
 -- Trails that grow, and that are taken back.
 use Rattle.std.proofs.Common.{◌≡◌, ◌∙◌, ap, refl, sym, Bool, true, false, not, ℕ, ◌+◌, ◌<◌, ◌≤◌, List, [], ◌∷◌, ◌++◌, map, length, drop, take, append_assoc, length-append, arith}
-use Rattle.std.proofs.lemmas.List.{append-nil, map-append, drop-append-le, take-append-le, drop_all, take_all}
+use Rattle.std.proofs.lemmas.List.{append-nil, map-append, take-append-drop, drop-append-le, take-append-le, drop_all, take_all}
 use Rattle.base_types.specs.Meanings.{change_of, fact_of}
 use Rattle.base_types.specs.declared.tuples.Tuple.{Tuple}
 use Rattle.base_types.specs.declared.updates.Write.{Write}
@@ -8,7 +8,8 @@ use Rattle.base_types.specs.declared.updates.Write.TheVariants.{Insert as Insert
 use Rattle.def_chase.specs.Values.{Fact}
 use Rattle.def_chase.specs.Repository.{Change, Insert, Delete, IsRepository, has, change}
 use Rattle.ws_ground.proofs.Undoing.{inserted_again, deleted_again, insertion_undone, deletion_undone}
-use Rattle.ws_ground.specs.Trails.{HasMade, IsPopped, before, undoing}
+use Rattle.ws_ground.specs.declared.grounds.Ground.{Ground}
+use Rattle.ws_ground.specs.Trails.{HasMade, IsPopped, HasGrown, IsSame, IsBackTo, before, first_facts, undoing}
 
 -- Before writes and more writes.
 pub before_both : (ws vs : List Change) (D : List Fact) → before (ws ++ vs) D ≡ before ws (before vs D)
@@ -73,6 +74,54 @@ more_made ws vs us D E F p q = record {
       ∙ before_both (map change_of p.more) (map change_of q.more) F
       ∙ ap (λ (G : List Fact). before (map change_of p.more) G) q.undone
       ∙ p.undone;
+}
+
+-- ---- grounds
+
+-- What was there before all of the trail stays as it grows,
+pub grown_first : (g h : Ground) → HasGrown g h → first_facts h ≡ first_facts g
+grown_first g h p =
+    ap (λ (l : List Write). before (map change_of l) h.facts) p.longer
+    ∙ ap (λ (l : List Change). before l h.facts) (map-append change_of g.trail.items p.more)
+    ∙ before_both (map change_of g.trail.items) (map change_of p.more) h.facts
+    ∙ ap (λ (D : List Fact). before (map change_of g.trail.items) D) p.undone
+
+-- and as it is taken back.
+pub back_first : (k : ℕ) (g h : Ground) → IsBackTo k g h → first_facts h ≡ first_facts g
+back_first k g h b =
+    ap (λ (D : List Fact). before (map change_of h.trail.items) D) b.facts
+    ∙ ap (λ (l : List Write). before (map change_of l) (before (map change_of (drop k g.trail.items)) g.facts)) b.trail
+    ∙ sym (before_both (map change_of (take k g.trail.items)) (map change_of (drop k g.trail.items)) g.facts)
+    ∙ sym (ap (λ (l : List Change). before l g.facts) (map-append change_of (take k g.trail.items) (drop k g.trail.items)))
+    ∙ ap (λ (l : List Write). before (map change_of l) g.facts) (take-append-drop k g.trail.items)
+
+-- A ground that is the same has the same before all of its trail.
+pub same_first : (g h : Ground) → IsSame g h → first_facts h ≡ first_facts g
+same_first g h s =
+    ap (λ (D : List Fact). before (map change_of h.trail.items) D) s.facts
+    ∙ ap (λ (l : List Write). before (map change_of l) g.facts) s.trail
+
+-- What is behind a list, and the list before it.
+behind : (ws vs : List Write) → drop (length ws) (ws ++ vs) ≡ vs
+behind ws vs =
+    drop-append-le (length ws) ws vs (omega arith)
+    ∙ ap (λ (l : List Write). l ++ vs) (drop_all (length ws) ws (omega arith))
+
+in_front : (ws vs : List Write) → take (length ws) (ws ++ vs) ≡ ws
+in_front ws vs = take-append-le (length ws) ws vs (omega arith) ∙ take_all (length ws) ws (omega arith)
+
+-- A ground that has grown, and is taken back to the length that its trail had, is the same.
+pub back_same : (g h i : Ground) → HasGrown g h → IsBackTo (length g.trail.items) h i → IsSame g i
+back_same g h i p b = record {
+  facts =
+      b.facts
+      ∙ ap (λ (l : List Write). before (map change_of (drop (length g.trail.items) l)) h.facts) p.longer
+      ∙ ap (λ (l : List Write). before (map change_of l) h.facts) (behind g.trail.items p.more)
+      ∙ p.undone;
+  trail =
+      b.trail
+      ∙ ap (λ (l : List Write). take (length g.trail.items) l) p.longer
+      ∙ in_front g.trail.items p.more;
 }
 
 -- ---- one write, by whether it changed anything

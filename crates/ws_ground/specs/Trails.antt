@@ -1,9 +1,10 @@
 -- Writes that changed something, and what was there before them.
-use Rattle.std.specs.Prelude.{◌≡◌, ℕ, ◌<◌, List, [], ◌∷◌, ◌++◌, map, length}
+use Rattle.std.specs.Prelude.{◌≡◌, ℕ, ◌<◌, List, [], ◌∷◌, ◌++◌, map, length, drop, take}
 use Rattle.base_types.specs.Meanings.{change_of}
 use Rattle.base_types.specs.declared.updates.Write.{Write}
 use Rattle.def_chase.specs.Values.{Fact}
 use Rattle.def_chase.specs.Repository.{Change, Insert, Delete, change}
+use Rattle.ws_ground.specs.declared.grounds.Ground.{Ground}
 
 -- The write that takes one back.
 abbrev pub undoing : Change → Change
@@ -25,3 +26,21 @@ pub record HasMade (ws : List Write) (D : List Fact) (vs : List Write) (E : List
 pub record IsPopped (k : ℕ) (ws : List Write) (vs : List Write) (w : Write) : Type 0 where
   pub many : k < length ws
   pub last : ws ≡ vs ++ w ∷ []
+
+-- What was there before all that is in the trail.
+abbrev pub first_facts : Ground → List Fact
+first_facts g = before (map change_of g.trail.items) g.facts
+
+-- The ground h has grown from g: what it wrote since leaves the tuples of g, if it is taken back.
+abbrev pub HasGrown : Ground → Ground → Type 0
+HasGrown g h = HasMade g.trail.items g.facts h.trail.items h.facts
+
+-- The ground h has the tuples and the trail of g.
+pub record IsSame (g : Ground) (h : Ground) : Type 0 where
+  pub facts : h.facts ≡ g.facts
+  pub trail : h.trail.items ≡ g.trail.items
+
+-- The ground h is g with all taken back that was written after the first k writes.
+pub record IsBackTo (k : ℕ) (g : Ground) (h : Ground) : Type 0 where
+  pub facts : h.facts ≡ before (map change_of (drop k g.trail.items)) g.facts
+  pub trail : h.trail.items ≡ take k g.trail.items

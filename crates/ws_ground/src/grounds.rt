@@ -2,7 +2,7 @@
 ghost use Rattle.std.specs.Prelude.{◌≡◌, ◌≤◌, map, length, drop, take, OnOk, IfSome, IfNone};
 ghost use Rattle.base_types.specs.Meanings.{change_of};
 ghost use Rattle.def_chase.specs.Repository.{change};
-ghost use Rattle.ws_ground.specs.Trails.{HasMade, IsPopped, before, undoing};
+ghost use Rattle.ws_ground.specs.Trails.{HasMade, IsPopped, HasGrown, IsBackTo, before, undoing};
 
 use base_types::{Facts, Memory, Tuple, Write, WriteList};
 use set_facts::IndexedFacts;
@@ -39,7 +39,9 @@ impl Ground {
     }
 
     /// Where it stands. It takes no memory.
-    pub fn mark(&self) -> Mark {
+    pub fn mark(&self) -> Mark
+        ensures trail { result.trail ≡ length self.now.trail.items }
+    {
         Mark {
             last: self.last,
             names: self.names.len(),
@@ -49,10 +51,7 @@ impl Ground {
 
     /// Takes back what was done since the mark. It is refused only for want of memory.
     pub fn back_to(&mut self, mark: Mark) -> Result<(), Memory>
-        ensures facts { OnOk result (self.new.facts ≡
-            before (map change_of (drop mark.trail self.old.trail.items)) self.old.facts) }
-        ensures trail { OnOk result
-            (self.new.trail.items ≡ take mark.trail self.old.trail.items) }
+        ensures back { OnOk result (IsBackTo mark.trail self.old self.new) }
     {
         take_back(&mut self.facts, &mut self.trail, mark.trail)?;
         self.names.keep(mark.names);
@@ -60,10 +59,9 @@ impl Ground {
         Ok(())
     }
 
-    /// Makes writes in turn, and keeps those that change something. It is refused only for want of memory.
+    /// Makes writes in turn, and keeps those that change something. It is refused only for want of memory; some are then made.
     pub fn make(&mut self, writes: WriteList) -> Result<(), Memory>
-        ensures made { OnOk result (HasMade self.old.trail.items self.old.facts
-            self.new.trail.items self.new.facts) }
+        ensures grown { HasGrown self.old self.new }
     {
         make_all(&mut self.facts, &mut self.trail, writes)
     }
@@ -119,7 +117,7 @@ fn make_all(
     trail: &mut WriteList,
     writes: WriteList,
 ) -> Result<(), Memory>
-    ensures made { OnOk result (HasMade trail.old.items facts.old trail.new.items facts.new) }
+    ensures made { HasMade trail.old.items facts.old trail.new.items facts.new }
 {
     'writes: for write in writes.into_vec() {
         make_one(facts, trail, write)?;
@@ -128,7 +126,7 @@ fn make_all(
 }
 
 fn make_one(facts: &mut IndexedFacts, trail: &mut WriteList, write: Write) -> Result<(), Memory>
-    ensures made { OnOk result (HasMade trail.old.items facts.old trail.new.items facts.new) }
+    ensures made { HasMade trail.old.items facts.old trail.new.items facts.new }
 {
     match write {
         Write::Insert(tuple) => insert(facts, trail, tuple),
@@ -136,9 +134,9 @@ fn make_one(facts: &mut IndexedFacts, trail: &mut WriteList, write: Write) -> Re
     }
 }
 
-#[tactic(auto, using(crate::proofs::Trailing::came, crate::proofs::Trailing::came_not))]
+#[tactic(auto, using(crate::proofs::Trailing::none_made, crate::proofs::Trailing::came, crate::proofs::Trailing::came_not))]
 fn insert(facts: &mut IndexedFacts, trail: &mut WriteList, tuple: Tuple) -> Result<(), Memory>
-    ensures made { OnOk result (HasMade trail.old.items facts.old trail.new.items facts.new) }
+    ensures made { HasMade trail.old.items facts.old trail.new.items facts.new }
 {
     // The set tells that it is in order.
     facts.is_in_order();
@@ -150,9 +148,9 @@ fn insert(facts: &mut IndexedFacts, trail: &mut WriteList, tuple: Tuple) -> Resu
     Ok(())
 }
 
-#[tactic(auto, using(crate::proofs::Trailing::went, crate::proofs::Trailing::went_not))]
+#[tactic(auto, using(crate::proofs::Trailing::none_made, crate::proofs::Trailing::went, crate::proofs::Trailing::went_not))]
 fn remove(facts: &mut IndexedFacts, trail: &mut WriteList, tuple: Tuple) -> Result<(), Memory>
-    ensures made { OnOk result (HasMade trail.old.items facts.old trail.new.items facts.new) }
+    ensures made { HasMade trail.old.items facts.old trail.new.items facts.new }
 {
     facts.is_in_order();
     trail.reserve(1)?;

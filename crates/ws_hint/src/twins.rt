@@ -6,7 +6,7 @@ use chase_match::Walk;
 use chase_unifier::is_more_specific;
 use std::alloc::Global;
 use std::collections::BTreeSet;
-use ws_print::{add_unknown, add_value};
+use ws_print::{Text, add_unknown, add_value};
 use ws_question::inner_text;
 use ws_report::Note;
 use ws_space::{Space, unknown_of};
@@ -39,11 +39,11 @@ pub(crate) fn twins_of(
 // `replace ?U.P with VALUE`.
 fn filling(alloc: Global, space: &Space, null: Null, value: &Value) -> Result<String, Memory> {
     let names = space.state.names();
-    let mut text = String::from_str(alloc, "replace ")?;
-    add_unknown(&mut text, unknown_of(names.name_of(null)))?;
-    text.push_str(" with ")?;
-    add_value(&mut text, &space.value(alloc, &names.value(alloc, value)?)?)?;
-    Ok(text)
+    let mut text = Text::from_str(alloc, "replace ");
+    add_unknown(&mut text, unknown_of(names.name_of(null)));
+    text.push_str(" with ");
+    add_value(&mut text, &space.value(alloc, &names.value(alloc, value)?)?);
+    Ok(text.done()?)
 }
 
 // The commands that make the twin the tuple, one for each of its unknowns.
@@ -130,19 +130,19 @@ fn column_names(
     relation: u32,
     places: &[usize],
 ) -> Result<String, Memory> {
-    let mut names = String::new(alloc);
+    let mut names = Text::new(alloc);
     let Some(declared) = space.relations.get(relation as usize) else {
-        return Ok(names);
+        return Ok(names.done()?);
     };
     for place in places {
         if let Some(column) = declared.columns.get(*place) {
             if !names.is_empty() {
-                names.push_str(", ")?;
+                names.push_str(", ");
             }
-            names.push_str(column.name.as_str())?;
+            names.push_str(column.name.as_str());
         }
     }
-    Ok(names)
+    Ok(names.done()?)
 }
 
 /// Adds a hint if another tuple, which is no twin, has the same key.

@@ -3,18 +3,20 @@
 use serde_json::{Map, Value};
 use std::alloc::{AllocError, Global};
 
-/// An object that is being filled.
+/// An object that is being filled. A want of memory is kept, and comes out with the object.
 #[derive(Drop)]
 pub struct Object {
     alloc: Global,
     members: Map<String, Value>,
+    lacks: bool,
 }
 
-/// A list that is being filled.
+/// A list that is being filled. A want of memory is kept, and comes out with the object that the list is put into.
 #[derive(Drop)]
 pub struct Items {
     alloc: Global,
     items: Vec<Value>,
+    lacks: bool,
 }
 
 impl Object {
@@ -23,56 +25,89 @@ impl Object {
         Object {
             alloc,
             members: Map::new(alloc),
+            lacks: false,
         }
     }
 
-    /// Puts a member there, in place of the one of its key.
-    fn put(&mut self, key: &str, value: Value) -> Result<(), AllocError> {
-        let key = String::from_str(self.alloc, key)?;
-        self.members.insert(key, value)?;
-        Ok(())
+    // Puts a member there, in place of the one of its key.
+    fn put(&mut self, key: &str, value: Result<Value, AllocError>) {
+        match value {
+            Ok(value) => self.insert(key, value),
+            Err(_) => self.lacks = true,
+        }
+    }
+
+    fn insert(&mut self, key: &str, value: Value) {
+        match String::from_str(self.alloc, key) {
+            Ok(key) => {
+                if self.members.insert(key, value).is_err() {
+                    self.lacks = true;
+                }
+            }
+            Err(_) => {
+                drop(value);
+                self.lacks = true;
+            }
+        }
     }
 
     /// A text.
-    pub fn text(&mut self, key: &str, text: &str) -> Result<(), AllocError> {
-        let value = Value::try_from_str(self.alloc, text)?;
-        self.put(key, value)
+    pub fn text(&mut self, key: &str, text: &str) {
+        self.put(key, Value::try_from_str(self.alloc, text));
+    }
+
+    /// A text that was made, if there was memory for it.
+    pub fn made<E: Drop>(&mut self, key: &str, text: Result<String, E>) {
+        match text {
+            Ok(text) => self.insert(key, Value::String(text)),
+            Err(_) => self.lacks = true,
+        }
     }
 
     /// A number with all its digits.
-    pub fn number(&mut self, key: &str, number: i64) -> Result<(), AllocError> {
-        self.put(key, Value::from(number))
+    pub fn number(&mut self, key: &str, number: i64) {
+        self.insert(key, Value::from(number));
     }
 
     /// Whether something is so.
-    pub fn flag(&mut self, key: &str, is: bool) -> Result<(), AllocError> {
-        self.put(key, Value::from(is))
+    pub fn flag(&mut self, key: &str, is: bool) {
+        self.insert(key, Value::from(is));
     }
 
     /// `null`: that there is none.
-    pub fn none(&mut self, key: &str) -> Result<(), AllocError> {
-        self.put(key, Value::Null)
+    pub fn none(&mut self, key: &str) {
+        self.insert(key, Value::Null);
     }
 
     /// An object.
-    pub fn object(&mut self, key: &str, object: Object) -> Result<(), AllocError> {
-        self.put(key, object.into_value())
+    pub fn object(&mut self, key: &str, object: Object) {
+        self.put(key, object.into_value());
     }
 
     /// A list.
-    pub fn items(&mut self, key: &str, items: Items) -> Result<(), AllocError> {
-        self.put(key, items.into_value())
+    pub fn items(&mut self, key: &str, items: Items) {
+        self.put(key, items.into_value());
     }
 
     /// The object in a line, without a line feed.
     pub fn into_line(self) -> Result<String, AllocError> {
         let alloc = self.alloc;
-        self.into_value().to_string(alloc)
+        match self.into_value() {
+            Ok(value) => value.to_string(alloc),
+            Err(error) => Err(error),
+        }
     }
 
-    fn into_value(self) -> Value {
-        let Object { alloc: _, members } = self;
-        Value::Object(members)
+    fn into_value(self) -> Result<Value, AllocError> {
+        let Object {
+            alloc: _,
+            members,
+            lacks,
+        } = self;
+        if lacks {
+            return Err(AllocError);
+        }
+        Ok(Value::Object(members))
     }
 }
 
@@ -82,35 +117,60 @@ impl Items {
         Items {
             alloc,
             items: Vec::new(alloc),
+            lacks: false,
+        }
+    }
+
+    fn put(&mut self, value: Result<Value, AllocError>) {
+        match value {
+            Ok(value) => self.push(value),
+            Err(_) => self.lacks = true,
+        }
+    }
+
+    fn push(&mut self, value: Value) {
+        if self.items.push(value).is_err() {
+            self.lacks = true;
         }
     }
 
     /// A text more.
-    pub fn text(&mut self, text: &str) -> Result<(), AllocError> {
-        self.items.push(Value::try_from_str(self.alloc, text)?)?;
-        Ok(())
+    pub fn text(&mut self, text: &str) {
+        self.put(Value::try_from_str(self.alloc, text));
+    }
+
+    /// A text more that was made, if there was memory for it.
+    pub fn made<E: Drop>(&mut self, text: Result<String, E>) {
+        match text {
+            Ok(text) => self.push(Value::String(text)),
+            Err(_) => self.lacks = true,
+        }
     }
 
     /// A number more.
-    pub fn number(&mut self, number: i64) -> Result<(), AllocError> {
-        self.items.push(Value::from(number))?;
-        Ok(())
+    pub fn number(&mut self, number: i64) {
+        self.push(Value::from(number));
     }
 
     /// An object more.
-    pub fn object(&mut self, object: Object) -> Result<(), AllocError> {
-        self.items.push(object.into_value())?;
-        Ok(())
+    pub fn object(&mut self, object: Object) {
+        self.put(object.into_value());
     }
 
     /// A list more.
-    pub fn items(&mut self, items: Items) -> Result<(), AllocError> {
-        self.items.push(items.into_value())?;
-        Ok(())
+    pub fn items(&mut self, items: Items) {
+        self.put(items.into_value());
     }
 
-    fn into_value(self) -> Value {
-        let Items { alloc: _, items } = self;
-        Value::Array(items)
+    fn into_value(self) -> Result<Value, AllocError> {
+        let Items {
+            alloc: _,
+            items,
+            lacks,
+        } = self;
+        if lacks {
+            return Err(AllocError);
+        }
+        Ok(Value::Array(items))
     }
 }

@@ -3,6 +3,7 @@
 use base_types::{Memory, Operation, Tuple};
 use std::alloc::{AllocError, Global};
 use std::collections::{BTreeMap, BTreeSet};
+use ws_print::Text;
 use ws_space::Space;
 use ws_state::{MovedList, Standing};
 
@@ -29,13 +30,13 @@ pub(crate) fn added_text(
 }
 
 fn told(alloc: Global, space: &Space, counts: &BTreeMap<u16, usize>) -> Result<String, AllocError> {
-    let mut text = String::from_str(alloc, "the mappings added ")?;
+    let mut text = Text::from_str(alloc, "the mappings added ");
     for (place, (relation, count)) in counts.iter().enumerate() {
         let name = name_of(space, *relation);
-        text.push_str(if 0 < place { ", " } else { "" })?;
-        text.push_str(format!(in alloc; "{count} {name}")?.as_str())?;
+        text.push_str(if 0 < place { ", " } else { "" });
+        write!(text, "{count} {name}");
     }
-    Ok(text)
+    text.done()
 }
 
 fn name_of(space: &Space, relation: u16) -> &str {

@@ -4,7 +4,7 @@ use base_types::{Memory, Tuple, Value};
 use caseless::default_case_fold_str;
 use std::alloc::{AllocError, Global};
 use std::collections::{BTreeMap, BTreeSet};
-use ws_print::add_quoted;
+use ws_print::{Text, add_quoted};
 use ws_report::Note;
 use ws_space::Space;
 
@@ -39,28 +39,27 @@ fn words_of(
     column: &str,
     groups: &[Vec<String>],
 ) -> Result<String, AllocError> {
-    let mut words = format!(in alloc; "{table}.{column} has spellings that are alike: ")?;
-    add_groups(&mut words, groups)?;
-    Ok(words)
+    let mut words = Text::new(alloc);
+    write!(words, "{table}.{column} has spellings that are alike: ");
+    add_groups(&mut words, groups);
+    words.done()
 }
 
-fn add_groups(words: &mut String, groups: &[Vec<String>]) -> Result<(), AllocError> {
+fn add_groups(words: &mut Text, groups: &[Vec<String>]) {
     for (place, group) in groups.iter().take(MOST).enumerate() {
-        words.push_str(if 0 < place { "; " } else { "" })?;
-        add_group(words, group.as_slice())?;
+        words.push_str(if 0 < place { "; " } else { "" });
+        add_group(words, group.as_slice());
     }
     if MOST < groups.len() {
-        words.push_str("; ..")?;
+        words.push_str("; ..");
     }
-    Ok(())
 }
 
-fn add_group(words: &mut String, group: &[String]) -> Result<(), AllocError> {
+fn add_group(words: &mut Text, group: &[String]) {
     for (place, text) in group.iter().enumerate() {
-        words.push_str(if 0 < place { " and " } else { "" })?;
-        add_quoted(words, text.as_str())?;
+        words.push_str(if 0 < place { " and " } else { "" });
+        add_quoted(words, text.as_str());
     }
-    Ok(())
 }
 
 // The spellings by their forms, in the order of the first of each, and the place of each form among them.
@@ -125,14 +124,14 @@ fn texts_of(alloc: Global, rows: &[Tuple], column: usize) -> Result<BTreeSet<Str
 // What two texts have in common that are alike: the words without capitals, with one blank between them.
 fn form_of(alloc: Global, text: &str) -> Result<String, AllocError> {
     let folded = default_case_fold_str(alloc, text)?;
-    let mut form = String::new(alloc);
+    let mut form = Text::new(alloc);
     for word in folded.as_str().split(is_blank) {
         if !word.is_empty() {
-            form.push_str(if form.is_empty() { "" } else { " " })?;
-            form.push_str(word)?;
+            form.push_str(if form.is_empty() { "" } else { " " });
+            form.push_str(word);
         }
     }
-    Ok(form)
+    form.done()
 }
 
 fn is_blank(letter: char) -> bool {

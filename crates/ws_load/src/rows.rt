@@ -5,7 +5,7 @@ use crate::known::{Row, row_of};
 use std::alloc::{AllocError, Global};
 use ws_cells::LoadedRow;
 use ws_fault::Refusal;
-use ws_print::add_unknown;
+use ws_print::{Text, add_unknown};
 use ws_report::spent_fault;
 use ws_run::Reason;
 use ws_space::Space;
@@ -150,8 +150,10 @@ fn next_number(alloc: Global, space: &Space) -> Result<u32, Refusal> {
 fn lost(alloc: Global, row: &LoadedRow, unknown: Unknown) -> Result<Refusal, AllocError> {
     let line = row.line;
     let number = row.row;
-    let mut words = format!(in alloc; "line {line}: row {number}: unknown ")?;
-    add_unknown(&mut words, unknown)?;
-    words.push_str(" was filled by a row before")?;
+    let mut words = Text::new(alloc);
+    write!(words, "line {line}: row {number}: unknown ");
+    add_unknown(&mut words, unknown);
+    words.push_str(" was filled by a row before");
+    let words = words.done()?;
     Ok(refused(alloc, words))
 }

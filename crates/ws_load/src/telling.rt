@@ -9,7 +9,7 @@ use std::fmt::Write;
 use ws_command::{Load, Source};
 use ws_fault::Status;
 use ws_hint::Hints;
-use ws_print::{add_count, add_ranges};
+use ws_print::{Text, add_count, add_ranges};
 use ws_report::{Counted, Note, Report, Telling, no_effect};
 use ws_space::Space;
 use ws_state::{Effect, MovedList};
@@ -147,38 +147,36 @@ impl<'a> Loading<'a> {
 
     // `N rows: K inserted, ..`.
     fn counts(&self, alloc: Global) -> Result<String, AllocError> {
-        let mut text = String::new(alloc);
-        self.add_done(&mut text)?;
-        self.add_others(&mut text)?;
-        Ok(text)
+        let mut text = Text::new(alloc);
+        self.add_done(&mut text);
+        self.add_others(&mut text);
+        text.done()
     }
 
-    fn add_done(&self, text: &mut String) -> Result<(), AllocError> {
-        add_count(text, self.rows, "row")?;
+    fn add_done(&self, text: &mut Text) {
+        add_count(text, self.rows, "row");
         let done = self.inserted.done.len();
-        write!(text, ": {done} inserted")?;
+        write!(text, ": {done} inserted");
         if 0 < done {
-            text.push_str(", by ")?;
-            add_ranges(text, self.inserted.done.as_slice())?;
+            text.push_str(", by ");
+            add_ranges(text, self.inserted.done.as_slice());
         }
-        Ok(())
     }
 
-    fn add_others(&self, text: &mut String) -> Result<(), AllocError> {
+    fn add_others(&self, text: &mut Text) {
         let there = self.inserted.there;
         if 0 < there {
-            write!(text, ", {there} there already")?;
+            write!(text, ", {there} there already");
         }
         let skipped = self.skipped;
         if 0 < skipped {
-            write!(text, ", {skipped} skipped")?;
+            write!(text, ", {skipped} skipped");
         }
         let waits = self.inserted.waiting.len();
         if 0 < waits {
-            write!(text, ", {waits} wait: ")?;
-            add_ranges(text, self.inserted.waiting.as_slice())?;
+            write!(text, ", {waits} wait: ");
+            add_ranges(text, self.inserted.waiting.as_slice());
         }
-        Ok(())
     }
 
     fn counted(&self, alloc: Global) -> Result<Option<Counted>, AllocError> {
@@ -269,7 +267,8 @@ fn is_proposed(space: &Space, mapping: u16) -> bool {
 }
 
 fn proposed_words(alloc: Global, name: &str, count: usize) -> Result<String, AllocError> {
-    let mut words = format!(in alloc; "mapping {name} is proposed and has ")?;
-    add_count(&mut words, count, "violation")?;
-    Ok(words)
+    let mut words = Text::new(alloc);
+    write!(words, "mapping {name} is proposed and has ");
+    add_count(&mut words, count, "violation");
+    words.done()
 }

@@ -4,6 +4,7 @@ use crate::rows::has_unknown;
 use base_types::{Memory, TryCopy, Tuple, ValueList};
 use std::alloc::Global;
 use std::collections::BTreeMap;
+use ws_print::Lines;
 use ws_question::inner_text;
 use ws_space::Space;
 use ws_written::Relation;
@@ -48,11 +49,11 @@ fn clashing(
 }
 
 fn texts_of(alloc: Global, space: &Space, group: &[Tuple]) -> Result<Vec<String>, Memory> {
-    let mut texts = Vec::new(alloc);
+    let mut texts = Lines::new(alloc);
     for tuple in group {
-        texts.push(inner_text(alloc, space, tuple)?)?;
+        texts.made(inner_text(alloc, space, tuple));
     }
-    Ok(texts)
+    Ok(texts.done()?)
 }
 
 // The tuples by their keys, in the order of the first of each, and the place of each key among them.

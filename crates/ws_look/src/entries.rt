@@ -2,9 +2,9 @@
 
 use crate::statuses::Statuses;
 use base_types::Memory;
-use std::alloc::{AllocError, Global};
+use std::alloc::Global;
 use std::fmt::Write;
-use ws_print::{add_choice, add_line, add_update};
+use ws_print::{Text, add_choice, add_line, add_update};
 use ws_question::status_word;
 use ws_space::{Recorded, Space};
 use ws_state::Status;
@@ -86,16 +86,16 @@ fn state_of(space: &Space, statuses: Option<&Statuses>, number: Option<u32>) -> 
 
 // The line, without the number and the budget of an update, and without the question of an answer.
 fn line_text(alloc: Global, relations: &[Relation], line: &Line) -> Result<String, Memory> {
-    let mut text = String::new(alloc);
-    add_text(&mut text, relations, line)?;
-    Ok(text)
+    let mut text = Text::new(alloc);
+    add_text(&mut text, relations, line);
+    Ok(text.done()?)
 }
 
-fn add_text(text: &mut String, relations: &[Relation], line: &Line) -> Result<(), AllocError> {
+fn add_text(text: &mut Text, relations: &[Relation], line: &Line) {
     match line {
         Line::Update(numbered) => add_update(text, relations, &numbered.update),
         Line::Answer(number, answer) => {
-            write!(text, "answer {number} ")?;
+            write!(text, "answer {number} ");
             add_choice(text, relations, &answer.choice)
         }
         other => add_line(text, relations, other),
@@ -104,31 +104,30 @@ fn add_text(text: &mut String, relations: &[Relation], line: &Line) -> Result<()
 
 /// `R  TIME  CURATOR  [N ]LINE[  (STATE)][  # COMMENT]`. It is refused only for want of memory.
 pub(crate) fn entry_line(alloc: Global, entry: &Entry<'_>) -> Result<String, Memory> {
-    let mut line = String::new(alloc);
-    add_entry(&mut line, entry)?;
-    add_state(&mut line, entry)?;
-    Ok(line)
+    let mut line = Text::new(alloc);
+    add_entry(&mut line, entry);
+    add_state(&mut line, entry);
+    Ok(line.done()?)
 }
 
-fn add_entry(line: &mut String, entry: &Entry<'_>) -> Result<(), AllocError> {
+fn add_entry(line: &mut Text, entry: &Entry<'_>) {
     let at = entry.at;
     let time = entry.stamp.time.as_str();
     let curator = entry.stamp.curator.as_str();
-    write!(line, "{at}  {time}  {curator}  ")?;
+    write!(line, "{at}  {time}  {curator}  ");
     if let Some(number) = entry.number {
-        write!(line, "{number} ")?;
+        write!(line, "{number} ");
     }
     line.push_str(entry.text.as_str())
 }
 
-fn add_state(line: &mut String, entry: &Entry<'_>) -> Result<(), AllocError> {
+fn add_state(line: &mut Text, entry: &Entry<'_>) {
     let state = entry.state;
     if entry.number.is_some() && state != status_word(Status::Stands) {
-        write!(line, "  ({state})")?;
+        write!(line, "  ({state})");
     }
     if !entry.comment.is_empty() {
-        line.push_str("  # ")?;
-        line.push_str(entry.comment)?;
+        line.push_str("  # ");
+        line.push_str(entry.comment);
     }
-    Ok(())
 }

@@ -5,6 +5,7 @@ use std::alloc::Global;
 use ws_command::Verb;
 use ws_fault::Status;
 use ws_help::help_text;
+use ws_print::Lines;
 use ws_reply::{Context, Reply};
 use ws_seen::{object_of, seen_object, seen_text};
 
@@ -12,13 +13,13 @@ use ws_seen::{object_of, seen_object, seen_text};
 pub fn help(alloc: Global, context: &Context<'_>, verb: Option<Verb>) -> Result<Reply, Memory> {
     let text = help_text(alloc, verb)?;
     if context.is_json() {
-        let mut object = object_of(alloc, "help")?;
-        object.text("text", text.as_str())?;
+        let mut object = object_of(alloc, "help");
+        object.text("text", text.as_str());
         return seen_object(alloc, Status::Done, object);
     }
-    let mut lines = Vec::new(alloc);
+    let mut lines = Lines::new(alloc);
     for line in text.as_str().split('\n') {
-        lines.push(String::from_str(alloc, line)?)?;
+        lines.push_str(line);
     }
-    Ok(seen_text(Status::Done, lines))
+    Ok(seen_text(Status::Done, lines.done()?))
 }

@@ -5,6 +5,7 @@ use crate::log_objects::{entry_objects, record_objects};
 use base_types::Memory;
 use std::alloc::Global;
 use ws_fault::{Refusal, Status};
+use ws_print::Lines;
 use ws_reply::{Context, Reply};
 use ws_seen::{refused, seen_objects, seen_text};
 use ws_space::{Recorded, Space};
@@ -30,30 +31,24 @@ pub(crate) fn log(
     if context.is_json() {
         return seen_objects(alloc, Status::Done, entry_objects(alloc, space, records)?);
     }
-    let mut lines = Vec::new(alloc);
-    add_folded(alloc, &mut lines, space, records)?;
+    let mut lines = Lines::new(alloc);
+    add_folded(alloc, &mut lines, space, records);
     add_records(alloc, &mut lines, space, records)?;
-    Ok(seen_text(Status::Done, lines))
+    Ok(seen_text(Status::Done, lines.done()?))
 }
 
 // That records were folded, if some were.
-fn add_folded(
-    alloc: Global,
-    lines: &mut Vec<String>,
-    space: &Space,
-    records: &[Recorded],
-) -> Result<(), Memory> {
+fn add_folded(alloc: Global, lines: &mut Lines, space: &Space, records: &[Recorded]) {
     let folded = space.folded;
     if folded == 0 {
-        return Ok(());
+        return;
     }
     if records.is_empty() {
         let at = space.at();
-        lines.push(format!(in alloc; "nothing since the fold at {at}")?)?;
-        return Ok(());
+        lines.made(format!(in alloc; "nothing since the fold at {at}"));
+        return;
     }
-    lines.push(format!(in alloc; "what came before was folded, up to {folded}")?)?;
-    Ok(())
+    lines.made(format!(in alloc; "what came before was folded, up to {folded}"));
 }
 
 /// The records after the one of this number, or the first so many of them. It is refused if that record was folded or is not
@@ -76,12 +71,12 @@ pub(crate) fn log_since(
         let objects = record_objects(alloc, space, records)?;
         return Ok(seen_objects(alloc, Status::Done, objects)?);
     }
-    let mut lines = Vec::new(alloc);
+    let mut lines = Lines::new(alloc);
     add_records(alloc, &mut lines, space, records)?;
     if lines.is_empty() {
-        lines.push(format!(in alloc; "nothing since record {since}")?)?;
+        lines.made(format!(in alloc; "nothing since record {since}"));
     }
-    Ok(seen_text(Status::Done, lines))
+    Ok(seen_text(Status::Done, lines.done()?))
 }
 
 fn refuse_unknown(alloc: Global, space: &Space, since: u32) -> Result<(), Refusal> {
@@ -101,7 +96,7 @@ fn refuse_unknown(alloc: Global, space: &Space, since: u32) -> Result<(), Refusa
 
 fn add_records(
     alloc: Global,
-    lines: &mut Vec<String>,
+    lines: &mut Lines,
     space: &Space,
     records: &[Recorded],
 ) -> Result<(), Memory> {
@@ -109,10 +104,10 @@ fn add_records(
         let count = recorded.record.lines.len();
         let told = if count <= MOST { MOST } else { FIRST };
         for entry in entries_of(alloc, space, None, recorded, told)?.iter() {
-            lines.push(entry_line(alloc, entry)?)?;
+            lines.made(entry_line(alloc, entry));
         }
         if MOST < count {
-            lines.push(rest_line(alloc, recorded)?)?;
+            lines.made(rest_line(alloc, recorded));
         }
     }
     Ok(())

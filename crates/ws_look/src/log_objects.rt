@@ -21,46 +21,44 @@ pub(crate) fn entry_objects(
         let entries = entries_of(alloc, space, Some(&statuses), recorded, usize::MAX)?;
         let told = if entries.len() <= MOST { MOST } else { FIRST };
         for (place, entry) in entries.iter().enumerate() {
-            objects.push(entry_object(alloc, entry, place < told)?)?;
+            objects.push(entry_object(alloc, entry, place < told))?;
         }
     }
     if objects.is_empty() {
-        objects.push(no_entry(alloc)?)?;
+        objects.push(no_entry(alloc))?;
     }
     Ok(objects)
 }
 
-fn no_entry(alloc: Global) -> Result<Object, Memory> {
-    let mut object = object_of(alloc, "log")?;
-    object.none("line")?;
-    Ok(object)
+fn no_entry(alloc: Global) -> Object {
+    let mut object = object_of(alloc, "log");
+    object.none("line");
+    object
 }
 
-fn entry_object(alloc: Global, entry: &Entry<'_>, has_comment: bool) -> Result<Object, Memory> {
-    let mut object = object_of(alloc, "log")?;
-    add_stamped(&mut object, entry, has_comment)?;
-    Ok(object)
+fn entry_object(alloc: Global, entry: &Entry<'_>, has_comment: bool) -> Object {
+    let mut object = object_of(alloc, "log");
+    add_stamped(&mut object, entry, has_comment);
+    object
 }
 
-fn add_stamped(object: &mut Object, entry: &Entry<'_>, has_comment: bool) -> Result<(), Memory> {
-    object.number("at", i64::from(entry.at))?;
-    object.text("time", entry.stamp.time.as_str())?;
-    object.text("curator", entry.stamp.curator.as_str())?;
-    add_entry(object, entry, has_comment)?;
-    Ok(())
+fn add_stamped(object: &mut Object, entry: &Entry<'_>, has_comment: bool) {
+    object.number("at", i64::from(entry.at));
+    object.text("time", entry.stamp.time.as_str());
+    object.text("curator", entry.stamp.curator.as_str());
+    add_entry(object, entry, has_comment);
 }
 
 // The line of an entry, and if it has them its number, state and comment.
-fn add_entry(object: &mut Object, entry: &Entry<'_>, has_comment: bool) -> Result<(), Memory> {
-    object.text("line", entry.text.as_str())?;
+fn add_entry(object: &mut Object, entry: &Entry<'_>, has_comment: bool) {
+    object.text("line", entry.text.as_str());
     if let Some(number) = entry.number {
-        object.number("number", i64::from(number))?;
-        object.text("state", entry.state)?;
+        object.number("number", i64::from(number));
+        object.text("state", entry.state);
     }
     if has_comment && !entry.comment.is_empty() {
-        object.text("comment", entry.comment)?;
+        object.text("comment", entry.comment);
     }
-    Ok(())
 }
 
 /// The records, each an object with its first lines. It is refused only for want of memory.
@@ -74,27 +72,26 @@ pub(crate) fn record_objects(
         objects.push(record_object(alloc, space, recorded)?)?;
     }
     if objects.is_empty() {
-        objects.push(no_record(alloc, space)?)?;
+        objects.push(no_record(alloc, space))?;
     }
     Ok(objects)
 }
 
-fn no_record(alloc: Global, space: &Space) -> Result<Object, Memory> {
-    let mut object = object_of(alloc, "record")?;
-    add_no_record(alloc, &mut object, space)?;
-    Ok(object)
+fn no_record(alloc: Global, space: &Space) -> Object {
+    let mut object = object_of(alloc, "record");
+    add_no_record(alloc, &mut object, space);
+    object
 }
 
-fn add_no_record(alloc: Global, object: &mut Object, space: &Space) -> Result<(), Memory> {
-    object.number("at", i64::from(space.at()))?;
-    object.number("count", 0)?;
-    object.items("lines", Items::new(alloc))?;
-    object.items("tables", Items::new(alloc))?;
-    Ok(())
+fn add_no_record(alloc: Global, object: &mut Object, space: &Space) {
+    object.number("at", i64::from(space.at()));
+    object.number("count", 0);
+    object.items("lines", Items::new(alloc));
+    object.items("tables", Items::new(alloc));
 }
 
 fn record_object(alloc: Global, space: &Space, recorded: &Recorded) -> Result<Object, Memory> {
-    let mut object = object_of(alloc, "record")?;
+    let mut object = object_of(alloc, "record");
     add_record(alloc, &mut object, space, recorded)?;
     Ok(object)
 }
@@ -106,37 +103,37 @@ fn add_record(
     recorded: &Recorded,
 ) -> Result<(), Memory> {
     let entries = entries_of(alloc, space, None, recorded, FIRST)?;
-    object.number("at", i64::from(recorded.at))?;
-    object.text("time", recorded.record.stamp.time.as_str())?;
-    object.text("curator", recorded.record.stamp.curator.as_str())?;
-    object.number("count", number_of(recorded.record.lines.len()))?;
-    object.items("lines", line_items(alloc, entries.as_slice())?)?;
-    object.items("tables", table_items(alloc, space, recorded)?)?;
+    object.number("at", i64::from(recorded.at));
+    object.text("time", recorded.record.stamp.time.as_str());
+    object.text("curator", recorded.record.stamp.curator.as_str());
+    object.number("count", number_of(recorded.record.lines.len()));
+    object.items("lines", line_items(alloc, entries.as_slice()));
+    object.items("tables", table_items(alloc, space, recorded));
     Ok(())
 }
 
 // The first lines.
-fn line_items(alloc: Global, entries: &[Entry<'_>]) -> Result<Items, Memory> {
+fn line_items(alloc: Global, entries: &[Entry<'_>]) -> Items {
     let mut items = Items::new(alloc);
     for entry in entries.iter() {
-        items.object(line_object(alloc, entry)?)?;
+        items.object(line_object(alloc, entry));
     }
-    Ok(items)
+    items
 }
 
-fn line_object(alloc: Global, entry: &Entry<'_>) -> Result<Object, Memory> {
+fn line_object(alloc: Global, entry: &Entry<'_>) -> Object {
     let mut object = Object::new(alloc);
-    add_entry(&mut object, entry, true)?;
-    Ok(object)
+    add_entry(&mut object, entry, true);
+    object
 }
 
 // The names of the relations whose tuples the record changed.
-fn table_items(alloc: Global, space: &Space, recorded: &Recorded) -> Result<Items, Memory> {
+fn table_items(alloc: Global, space: &Space, recorded: &Recorded) -> Items {
     let mut items = Items::new(alloc);
     for table in recorded.tables.iter() {
         if let Some(relation) = space.relations.get(*table as usize) {
-            items.text(relation.name.as_str())?;
+            items.text(relation.name.as_str());
         }
     }
-    Ok(items)
+    items
 }

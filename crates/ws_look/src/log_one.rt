@@ -5,7 +5,7 @@ use std::alloc::Global;
 use ws_fault::{Refusal, Status as Code};
 use ws_json::{Items, Object};
 use ws_lines::Given;
-use ws_print::{add_choice, add_count};
+use ws_print::{Lines, Text, add_choice, add_count};
 use ws_question::{fact_text, reason_words, status_of, status_word};
 use ws_reply::{Context, Reply};
 use ws_seen::{object_of, seen_object, seen_text, text_items};
@@ -50,7 +50,7 @@ fn reply(
     told: &Told,
 ) -> Result<Reply, Memory> {
     if context.is_json() {
-        return seen_object(alloc, Code::Done, object(alloc, space, told)?);
+        return seen_object(alloc, Code::Done, object(alloc, space, told));
     }
     Ok(seen_text(Code::Done, lines(alloc, space, told)?))
 }
@@ -105,15 +105,15 @@ fn standing_of(space: &Space, number: u32) -> Option<&Standing> {
 
 // `done in K steps, with L unknowns`.
 fn done_words(alloc: Global, standing: &Standing) -> Result<String, Memory> {
-    let mut words = String::from_str(alloc, "done in ")?;
-    add_count(&mut words, standing.steps.len(), "step")?;
-    words.push_str(", with ")?;
+    let mut words = Text::from_str(alloc, "done in ");
+    add_count(&mut words, standing.steps.len(), "step");
+    words.push_str(", with ");
     let mut drawn = 0u32;
     for op in standing.ops.as_slice() {
         drawn = drawn.saturating_add(op.drawn);
     }
-    add_count(&mut words, drawn as usize, "unknown")?;
-    Ok(words)
+    add_count(&mut words, drawn as usize, "unknown");
+    Ok(words.done()?)
 }
 
 fn writes_of(alloc: Global, space: &Space, number: u32) -> Result<Vec<Wrote>, Memory> {
@@ -181,25 +181,25 @@ fn given(alloc: Global, space: &Space, number: u32) -> Result<Vec<String>, Memor
 }
 
 fn choice_text(alloc: Global, space: &Space, choice: &Choice) -> Result<String, Memory> {
-    let mut text = String::new(alloc);
-    add_choice(&mut text, space.relations.as_slice(), choice)?;
-    Ok(text)
+    let mut text = Text::new(alloc);
+    add_choice(&mut text, space.relations.as_slice(), choice);
+    Ok(text.done()?)
 }
 
 fn lines(alloc: Global, space: &Space, told: &Told) -> Result<Vec<String>, Memory> {
-    let mut lines = Vec::new(alloc);
-    lines.push(first_line(alloc, space, told.number)?)?;
+    let mut lines = Lines::new(alloc);
+    lines.made(first_line(alloc, space, told.number));
     for answer in told.answers.iter() {
-        lines.push(format!(in alloc; "  answer {answer}")?)?;
+        lines.made(format!(in alloc; "  answer {answer}"));
     }
     let words = told.words.as_str();
-    lines.push(format!(in alloc; "  {words}")?)?;
+    lines.made(format!(in alloc; "  {words}"));
     for wrote in told.writes.iter() {
         let sign = wrote.sign;
         let text = wrote.text.as_str();
-        lines.push(format!(in alloc; "  {sign} {text}")?)?;
+        lines.made(format!(in alloc; "  {sign} {text}"));
     }
-    Ok(lines)
+    Ok(lines.done()?)
 }
 
 fn first_line(alloc: Global, space: &Space, number: u32) -> Result<String, Memory> {
@@ -209,34 +209,28 @@ fn first_line(alloc: Global, space: &Space, number: u32) -> Result<String, Memor
     Ok(format!(in alloc; "{number}  {time}  {curator}  {line}")?)
 }
 
-fn object(alloc: Global, space: &Space, told: &Told) -> Result<Object, Memory> {
-    let mut object = object_of(alloc, "update")?;
-    add_update(alloc, &mut object, space, told)?;
-    Ok(object)
+fn object(alloc: Global, space: &Space, told: &Told) -> Object {
+    let mut object = object_of(alloc, "update");
+    add_update(alloc, &mut object, space, told);
+    object
 }
 
-fn add_update(
-    alloc: Global,
-    object: &mut Object,
-    space: &Space,
-    told: &Told,
-) -> Result<(), Memory> {
-    object.number("number", i64::from(told.number))?;
-    object.text("curator", space.curator_of(told.number))?;
-    object.text("time", space.time_of(told.number))?;
-    object.text("line", space.update_text(alloc, told.number)?.as_str())?;
-    object.text("state", status_word(told.status))?;
-    object.items("answers", text_items(alloc, told.answers.as_slice())?)?;
-    object.items("writes", write_items(alloc, told.writes.as_slice())?)?;
-    Ok(())
+fn add_update(alloc: Global, object: &mut Object, space: &Space, told: &Told) {
+    object.number("number", i64::from(told.number));
+    object.text("curator", space.curator_of(told.number));
+    object.text("time", space.time_of(told.number));
+    object.made("line", space.update_text(alloc, told.number));
+    object.text("state", status_word(told.status));
+    object.items("answers", text_items(alloc, told.answers.as_slice()));
+    object.items("writes", write_items(alloc, told.writes.as_slice()));
 }
 
-fn write_items(alloc: Global, writes: &[Wrote]) -> Result<Items, Memory> {
+fn write_items(alloc: Global, writes: &[Wrote]) -> Items {
     let mut items = Items::new(alloc);
     for wrote in writes {
         let sign = wrote.sign;
         let text = wrote.text.as_str();
-        items.text(format!(in alloc; "{sign}{text}")?.as_str())?;
+        items.made(format!(in alloc; "{sign}{text}"));
     }
-    Ok(items)
+    items
 }

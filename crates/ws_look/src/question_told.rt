@@ -4,6 +4,7 @@ use crate::questions::{Telling, Told};
 use base_types::Memory;
 use std::alloc::Global;
 use ws_json::Object;
+use ws_print::Lines;
 use ws_question::{AskedNow, question_lines, question_object};
 use ws_seen::object_of;
 use ws_space::Space;
@@ -15,32 +16,32 @@ pub(crate) fn lines(
     told: &[Told],
     telling: Telling<'_>,
 ) -> Result<Vec<String>, Memory> {
-    let mut lines = Vec::new(alloc);
+    let mut lines = Lines::new(alloc);
     for one in told {
         if !lines.is_empty() {
-            lines.push(String::new(alloc))?;
+            lines.push_str("");
         }
         add_lines(alloc, &mut lines, space, one, telling)?;
     }
     if lines.is_empty() {
-        lines.push(String::from_str(alloc, "no questions")?)?;
+        lines.push_str("no questions");
     }
-    Ok(lines)
+    Ok(lines.done()?)
 }
 
 fn add_lines(
     alloc: Global,
-    lines: &mut Vec<String>,
+    lines: &mut Lines,
     space: &Space,
     told: &Told,
     telling: Telling<'_>,
 ) -> Result<(), Memory> {
-    lines.push(first_line(alloc, space, told.number)?)?;
+    lines.made(first_line(alloc, space, told.number));
     match &told.asked {
         Some(asked) => add_asked(alloc, lines, space, asked, telling),
         None => {
             let words = told.words.as_str();
-            lines.push(format!(in alloc; "  {words}")?)?;
+            lines.made(format!(in alloc; "  {words}"));
             Ok(())
         }
     }
@@ -54,16 +55,16 @@ fn first_line(alloc: Global, space: &Space, number: u32) -> Result<String, Memor
 
 fn add_asked(
     alloc: Global,
-    lines: &mut Vec<String>,
+    lines: &mut Lines,
     space: &Space,
     asked: &AskedNow,
     telling: Telling<'_>,
 ) -> Result<(), Memory> {
     for line in question_lines(alloc, space, asked, telling.like, telling.limit)?.iter() {
-        lines.push(format!(in alloc; "  {line}")?)?;
+        lines.made(format!(in alloc; "  {line}"));
     }
     if asked.misfit {
-        lines.push(String::from_str(alloc, "  an answer that it had does not fit any more")?)?;
+        lines.push_str("  an answer that it had does not fit any more");
     }
     Ok(())
 }
@@ -80,16 +81,16 @@ pub(crate) fn objects(
         objects.push(object(alloc, space, one, telling)?)?;
     }
     if objects.is_empty() {
-        objects.push(nothing(alloc, space)?)?;
+        objects.push(nothing(alloc, space))?;
     }
     Ok(objects)
 }
 
-fn nothing(alloc: Global, space: &Space) -> Result<Object, Memory> {
-    let mut object = object_of(alloc, "question")?;
-    object.text("kind", "nothing")?;
-    object.number("at", i64::from(space.at()))?;
-    Ok(object)
+fn nothing(alloc: Global, space: &Space) -> Object {
+    let mut object = object_of(alloc, "question");
+    object.text("kind", "nothing");
+    object.number("at", i64::from(space.at()));
+    object
 }
 
 fn object(
@@ -100,30 +101,24 @@ fn object(
 ) -> Result<Object, Memory> {
     let mut object = match &told.asked {
         Some(asked) => question_object(alloc, space, asked, telling.like, telling.limit)?,
-        None => unasked(alloc, told)?,
+        None => unasked(alloc, told),
     };
-    add_update(alloc, &mut object, space, told)?;
+    add_update(alloc, &mut object, space, told);
     Ok(object)
 }
 
-fn add_update(
-    alloc: Global,
-    object: &mut Object,
-    space: &Space,
-    told: &Told,
-) -> Result<(), Memory> {
-    object.text("reply", "question")?;
-    object.number("number", i64::from(told.number))?;
-    object.text("curator", space.curator_of(told.number))?;
-    object.text("line", space.update_text(alloc, told.number)?.as_str())?;
-    object.number("at", i64::from(space.at()))?;
-    object.text("time", space.time_of(told.number))?;
-    Ok(())
+fn add_update(alloc: Global, object: &mut Object, space: &Space, told: &Told) {
+    object.text("reply", "question");
+    object.number("number", i64::from(told.number));
+    object.text("curator", space.curator_of(told.number));
+    object.made("line", space.update_text(alloc, told.number));
+    object.number("at", i64::from(space.at()));
+    object.text("time", space.time_of(told.number));
 }
 
-fn unasked(alloc: Global, told: &Told) -> Result<Object, Memory> {
+fn unasked(alloc: Global, told: &Told) -> Object {
     let mut object = Object::new(alloc);
-    object.text("kind", told.kind)?;
-    object.text("words", told.words.as_str())?;
-    Ok(object)
+    object.text("kind", told.kind);
+    object.text("words", told.words.as_str());
+    object
 }

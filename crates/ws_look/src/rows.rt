@@ -3,7 +3,7 @@
 use base_types::{Memory, Tuple, Value};
 use std::alloc::Global;
 use ws_command::Paging;
-use ws_print::add_cell;
+use ws_print::{Text, add_cell};
 use ws_space::Space;
 use ws_written::{Atom, Term, Value as Said};
 
@@ -111,7 +111,8 @@ fn has_text(alloc: Global, space: &Space, tuple: &Tuple, like: &str) -> Result<b
 }
 
 fn cell_text(alloc: Global, value: &Said) -> Result<String, Memory> {
-    let mut cell = String::new(alloc);
-    add_cell(&mut cell, value)?;
+    let mut cell = Text::new(alloc);
+    add_cell(&mut cell, value);
+    let cell = cell.done()?;
     Ok(cell.as_str().to_lowercase(alloc)?)
 }

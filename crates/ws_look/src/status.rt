@@ -6,7 +6,7 @@ use base_types::Memory;
 use std::alloc::{AllocError, Global};
 use std::fmt::Write;
 use ws_fault::Status;
-use ws_print::{add_count, add_form, add_rule};
+use ws_print::{Lines, Text, add_count, add_form, add_rule};
 use ws_reply::{Context, Reply};
 use ws_seen::{seen_object, seen_text};
 use ws_space::Space;
@@ -28,7 +28,7 @@ fn reply(
     counts: &Counts,
 ) -> Result<Reply, Memory> {
     if context.is_json() {
-        let object = status_object(alloc, space, context, counts)?;
+        let object = status_object(alloc, space, context, counts);
         return seen_object(alloc, Status::Done, object);
     }
     Ok(seen_text(Status::Done, lines(alloc, space, context, counts)?))
@@ -40,13 +40,13 @@ fn lines(
     context: &Context<'_>,
     counts: &Counts,
 ) -> Result<Vec<String>, Memory> {
-    let mut lines = Vec::new(alloc);
-    add_relations(alloc, &mut lines, space, context, counts)?;
+    let mut lines = Lines::new(alloc);
+    add_relations(alloc, &mut lines, space, context, counts);
     add_mappings(alloc, &mut lines, space, counts)?;
-    add_waiting(alloc, &mut lines, space, counts)?;
-    lines.push(last_line(alloc, space)?)?;
-    add_next(alloc, &mut lines, counts)?;
-    Ok(lines)
+    add_waiting(alloc, &mut lines, space, counts);
+    lines.made(last_line(alloc, space));
+    add_next(alloc, &mut lines, counts);
+    Ok(lines.done()?)
 }
 
 /// The last part of a path.
@@ -59,16 +59,15 @@ pub(crate) fn last_part(path: &str) -> &str {
 
 fn add_relations(
     alloc: Global,
-    lines: &mut Vec<String>,
+    lines: &mut Lines,
     space: &Space,
     context: &Context<'_>,
     counts: &Counts,
-) -> Result<(), Memory> {
-    lines.push(first_line(alloc, space, context, counts)?)?;
+) {
+    lines.made(first_line(alloc, space, context, counts));
     for (relation, count) in space.relations.iter().zip(counts.rows.iter()) {
-        lines.push(relation_line(alloc, relation, *count)?)?;
+        lines.made(relation_line(alloc, relation, *count));
     }
-    Ok(())
 }
 
 // `FILE: N tuples in K relations, U unknowns`.
@@ -78,14 +77,14 @@ fn first_line(
     context: &Context<'_>,
     counts: &Counts,
 ) -> Result<String, AllocError> {
-    let mut line = String::from_str(alloc, last_part(context.file))?;
-    line.push_str(": ")?;
-    add_count(&mut line, total(counts.rows.as_slice()), "tuple")?;
-    line.push_str(" in ")?;
-    add_count(&mut line, space.relations.len(), "relation")?;
-    line.push_str(", ")?;
-    add_count(&mut line, counts.unknowns, "unknown")?;
-    Ok(line)
+    let mut line = Text::from_str(alloc, last_part(context.file));
+    line.push_str(": ");
+    add_count(&mut line, total(counts.rows.as_slice()), "tuple");
+    line.push_str(" in ");
+    add_count(&mut line, space.relations.len(), "relation");
+    line.push_str(", ");
+    add_count(&mut line, counts.unknowns, "unknown");
+    line.done()
 }
 
 fn total(counts: &[usize]) -> usize {
@@ -97,25 +96,26 @@ fn total(counts: &[usize]) -> usize {
 }
 
 fn relation_line(alloc: Global, relation: &Relation, count: usize) -> Result<String, AllocError> {
-    let mut line = String::from_str(alloc, "  ")?;
-    add_form(&mut line, relation)?;
-    write!(line, " {count}")?;
-    Ok(line)
+    let mut line = Text::from_str(alloc, "  ");
+    add_form(&mut line, relation);
+    write!(line, " {count}");
+    line.done()
 }
 
 fn add_mappings(
     alloc: Global,
-    lines: &mut Vec<String>,
+    lines: &mut Lines,
     space: &Space,
     counts: &Counts,
 ) -> Result<(), Memory> {
     for mapping in space.state.in_force() {
-        let mut line = String::from_str(alloc, "in force: ")?;
-        add_mapping(&mut line, space, *mapping)?;
-        lines.push(line)?;
+        let mut line = Text::from_str(alloc, "in force: ");
+        add_mapping(&mut line, space, *mapping);
+        let line = line.done()?;
+        lines.push(line);
     }
     for (mapping, count) in counts.proposed.iter() {
-        lines.push(proposed_line(alloc, space, *mapping, *count)?)?;
+        lines.made(proposed_line(alloc, space, *mapping, *count));
     }
     Ok(())
 }
@@ -126,40 +126,33 @@ fn proposed_line(
     mapping: u16,
     count: usize,
 ) -> Result<String, Memory> {
-    let mut line = String::from_str(alloc, "proposed: ")?;
-    add_mapping(&mut line, space, mapping)?;
+    let mut line = Text::from_str(alloc, "proposed: ");
+    add_mapping(&mut line, space, mapping);
     if count == 0 {
         let name = space.mapping_name(mapping);
-        write!(line, "  (no violations: adopt {name})")?;
-        return Ok(line);
+        write!(line, "  (no violations: adopt {name})");
+        return Ok(line.done()?);
     }
-    line.push_str("  (")?;
-    add_count(&mut line, count, "violation")?;
-    line.push(')')?;
-    Ok(line)
+    line.push_str("  (");
+    add_count(&mut line, count, "violation");
+    line.push(')');
+    Ok(line.done()?)
 }
 
-fn add_mapping(out: &mut String, space: &Space, mapping: u16) -> Result<(), Memory> {
+fn add_mapping(out: &mut Text, space: &Space, mapping: u16) {
     if let Some(rule) = space.rule(mapping) {
-        add_rule(out, space.relations.as_slice(), rule)?;
+        add_rule(out, space.relations.as_slice(), rule);
     }
-    Ok(())
 }
 
-fn add_waiting(
-    alloc: Global,
-    lines: &mut Vec<String>,
-    space: &Space,
-    counts: &Counts,
-) -> Result<(), Memory> {
+fn add_waiting(alloc: Global, lines: &mut Lines, space: &Space, counts: &Counts) {
     for number in counts.waiting.iter().take(WAITING) {
-        lines.push(waiting_line(alloc, space, *number)?)?;
+        lines.made(waiting_line(alloc, space, *number));
     }
     if WAITING < counts.waiting.len() {
         let more = counts.waiting.len().saturating_sub(WAITING);
-        lines.push(format!(in alloc; "waits: and {more} more")?)?;
+        lines.made(format!(in alloc; "waits: and {more} more"));
     }
-    Ok(())
 }
 
 fn waiting_line(alloc: Global, space: &Space, number: u32) -> Result<String, Memory> {
@@ -172,27 +165,27 @@ fn waiting_line(alloc: Global, space: &Space, number: u32) -> Result<String, Mem
 fn last_line(alloc: Global, space: &Space) -> Result<String, Memory> {
     let last = space.state.last();
     let at = space.at();
-    let mut line = format!(in alloc; "last update {last}, at record {at}; ")?;
+    let mut line = Text::new(alloc);
+    write!(line, "last update {last}, at record {at}; ");
     let count = space.state.order().len();
     if count == 1 {
-        line.push_str("1 stands")?;
+        line.push_str("1 stands");
     } else {
-        write!(line, "{count} stand")?;
+        write!(line, "{count} stand");
     }
     let folded = space.folded;
     if folded == 0 {
-        line.push_str(" since the beginning")?;
+        line.push_str(" since the beginning");
     } else {
-        write!(line, " since the fold at {folded}")?;
+        write!(line, " since the fold at {folded}");
     }
-    Ok(line)
+    Ok(line.done()?)
 }
 
-fn add_next(alloc: Global, lines: &mut Vec<String>, counts: &Counts) -> Result<(), Memory> {
+fn add_next(alloc: Global, lines: &mut Lines, counts: &Counts) {
     if !counts.waiting.is_empty() {
-        lines.push(String::from_str(alloc, "next: questions")?)?;
+        lines.push_str("next: questions");
     } else if counts.proposed.iter().any(|(_, count)| 0 < *count) {
-        lines.push(String::from_str(alloc, "next: violations")?)?;
+        lines.push_str("next: violations");
     }
-    Ok(())
 }

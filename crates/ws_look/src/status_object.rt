@@ -5,7 +5,7 @@ use crate::status::last_part;
 use base_types::Memory;
 use std::alloc::Global;
 use ws_json::{Items, Object};
-use ws_print::add_stamp;
+use ws_print::{Text, add_stamp};
 use ws_reply::Context;
 use ws_seen::{column_items, number_of, object_of};
 use ws_space::Space;
@@ -17,10 +17,10 @@ pub(crate) fn status_object(
     space: &Space,
     context: &Context<'_>,
     counts: &Counts,
-) -> Result<Object, Memory> {
-    let mut object = object_of(alloc, "status")?;
-    add_members(alloc, &mut object, space, context, counts)?;
-    Ok(object)
+) -> Object {
+    let mut object = object_of(alloc, "status");
+    add_members(alloc, &mut object, space, context, counts);
+    object
 }
 
 fn add_members(
@@ -29,114 +29,96 @@ fn add_members(
     space: &Space,
     context: &Context<'_>,
     counts: &Counts,
-) -> Result<(), Memory> {
-    object.text("file", last_part(context.file))?;
-    object.number("at", i64::from(space.at()))?;
-    object.number("last", i64::from(space.state.last()))?;
-    object.text("curator", context.curator)?;
-    object.text("created", created_text(alloc, space)?.as_str())?;
-    object.number("folded", i64::from(space.folded))?;
-    object.number("stand", number_of(space.state.order().len()))?;
-    object.number("unknowns", number_of(counts.unknowns))?;
-    add_lists(alloc, object, space, counts)?;
-    Ok(())
+) {
+    object.text("file", last_part(context.file));
+    object.number("at", i64::from(space.at()));
+    object.number("last", i64::from(space.state.last()));
+    object.text("curator", context.curator);
+    object.made("created", created_text(alloc, space));
+    object.number("folded", i64::from(space.folded));
+    object.number("stand", number_of(space.state.order().len()));
+    object.number("unknowns", number_of(counts.unknowns));
+    add_lists(alloc, object, space, counts);
 }
 
 fn created_text(alloc: Global, space: &Space) -> Result<String, Memory> {
-    let mut created = String::new(alloc);
-    add_stamp(&mut created, &space.created)?;
+    let mut created = Text::new(alloc);
+    add_stamp(&mut created, &space.created);
+    let created = created.done()?;
     Ok(created)
 }
 
-fn add_lists(
-    alloc: Global,
-    object: &mut Object,
-    space: &Space,
-    counts: &Counts,
-) -> Result<(), Memory> {
-    object.items("relations", relation_items(alloc, space, counts)?)?;
-    object.items("in_force", in_force_items(alloc, space)?)?;
-    object.object("proposed", proposed_object(alloc, space, counts)?)?;
-    object.items("waits", waiting_items(alloc, space, counts)?)?;
-    Ok(())
+fn add_lists(alloc: Global, object: &mut Object, space: &Space, counts: &Counts) {
+    object.items("relations", relation_items(alloc, space, counts));
+    object.items("in_force", in_force_items(alloc, space));
+    object.object("proposed", proposed_object(alloc, space, counts));
+    object.items("waits", waiting_items(alloc, space, counts));
 }
 
-fn relation_items(alloc: Global, space: &Space, counts: &Counts) -> Result<Items, Memory> {
+fn relation_items(alloc: Global, space: &Space, counts: &Counts) -> Items {
     let mut items = Items::new(alloc);
     for (relation, count) in space.relations.iter().zip(counts.rows.iter()) {
-        items.object(relation_object(alloc, relation, *count)?)?;
+        items.object(relation_object(alloc, relation, *count));
     }
-    Ok(items)
+    items
 }
 
-fn relation_object(alloc: Global, relation: &Relation, count: usize) -> Result<Object, Memory> {
+fn relation_object(alloc: Global, relation: &Relation, count: usize) -> Object {
     let mut object = Object::new(alloc);
-    add_relation(alloc, &mut object, relation, count)?;
-    Ok(object)
+    add_relation(alloc, &mut object, relation, count);
+    object
 }
 
-fn add_relation(
-    alloc: Global,
-    object: &mut Object,
-    relation: &Relation,
-    count: usize,
-) -> Result<(), Memory> {
-    object.text("name", relation.name.as_str())?;
-    object.items("columns", column_items(alloc, relation)?)?;
-    object.items("key", key_items(alloc, relation)?)?;
-    object.number("count", number_of(count))?;
-    Ok(())
+fn add_relation(alloc: Global, object: &mut Object, relation: &Relation, count: usize) {
+    object.text("name", relation.name.as_str());
+    object.items("columns", column_items(alloc, relation));
+    object.items("key", key_items(alloc, relation));
+    object.number("count", number_of(count));
 }
 
 // The numbers of the columns of the key, counted from 1.
-fn key_items(alloc: Global, relation: &Relation) -> Result<Items, Memory> {
+fn key_items(alloc: Global, relation: &Relation) -> Items {
     let mut items = Items::new(alloc);
     for (place, column) in relation.columns.iter().enumerate() {
         if column.key {
-            items.number(number_of(place).saturating_add(1))?;
+            items.number(number_of(place).saturating_add(1));
         }
     }
-    Ok(items)
+    items
 }
 
-fn in_force_items(alloc: Global, space: &Space) -> Result<Items, Memory> {
+fn in_force_items(alloc: Global, space: &Space) -> Items {
     let mut items = Items::new(alloc);
     for mapping in space.state.in_force() {
-        items.text(space.mapping_name(*mapping))?;
+        items.text(space.mapping_name(*mapping));
     }
-    Ok(items)
+    items
 }
 
-fn proposed_object(alloc: Global, space: &Space, counts: &Counts) -> Result<Object, Memory> {
+fn proposed_object(alloc: Global, space: &Space, counts: &Counts) -> Object {
     let mut object = Object::new(alloc);
     for (mapping, count) in counts.proposed.iter() {
-        object.number(space.mapping_name(*mapping), number_of(*count))?;
+        object.number(space.mapping_name(*mapping), number_of(*count));
     }
-    Ok(object)
+    object
 }
 
-fn waiting_items(alloc: Global, space: &Space, counts: &Counts) -> Result<Items, Memory> {
+fn waiting_items(alloc: Global, space: &Space, counts: &Counts) -> Items {
     let mut items = Items::new(alloc);
     for waiting in counts.waiting.iter() {
-        items.object(waiting_object(alloc, space, *waiting)?)?;
+        items.object(waiting_object(alloc, space, *waiting));
     }
-    Ok(items)
+    items
 }
 
-fn waiting_object(alloc: Global, space: &Space, waiting: u32) -> Result<Object, Memory> {
+fn waiting_object(alloc: Global, space: &Space, waiting: u32) -> Object {
     let mut object = Object::new(alloc);
-    add_waiting(alloc, &mut object, space, waiting)?;
-    Ok(object)
+    add_waiting(alloc, &mut object, space, waiting);
+    object
 }
 
-fn add_waiting(
-    alloc: Global,
-    object: &mut Object,
-    space: &Space,
-    waiting: u32,
-) -> Result<(), Memory> {
-    object.number("number", i64::from(waiting))?;
-    object.text("curator", space.curator_of(waiting))?;
-    object.text("line", space.update_text(alloc, waiting)?.as_str())?;
-    Ok(())
+fn add_waiting(alloc: Global, object: &mut Object, space: &Space, waiting: u32) {
+    object.number("number", i64::from(waiting));
+    object.text("curator", space.curator_of(waiting));
+    object.made("line", space.update_text(alloc, waiting));
 }

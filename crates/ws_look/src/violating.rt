@@ -6,7 +6,7 @@ use crate::violation_objects::objects;
 use base_types::Memory;
 use std::alloc::Global;
 use ws_fault::Status;
-use ws_print::add_new_fact;
+use ws_print::{Lines, Text, add_new_fact};
 use ws_question::inner_text;
 use ws_reply::{Context, Reply};
 use ws_seen::{seen_objects, seen_text};
@@ -155,11 +155,11 @@ fn lack_of(
 }
 
 fn since_texts(alloc: Global, space: &Space, violation: &Violation) -> Result<Vec<String>, Memory> {
-    let mut texts = Vec::new(alloc);
+    let mut texts = Lines::new(alloc);
     for tuple in violation.image.as_slice() {
-        texts.push(inner_text(alloc, space, tuple)?)?;
+        texts.made(inner_text(alloc, space, tuple));
     }
-    Ok(texts)
+    Ok(texts.done()?)
 }
 
 fn lack_texts(
@@ -169,17 +169,17 @@ fn lack_texts(
     violation: &Violation,
 ) -> Result<Vec<String>, Memory> {
     let facts = space.lacking(alloc, mapping, violation)?;
-    let mut texts = Vec::new(alloc);
+    let mut texts = Lines::new(alloc);
     for fact in facts.iter() {
-        texts.push(new_fact_text(alloc, space, fact)?)?;
+        texts.made(new_fact_text(alloc, space, fact));
     }
-    Ok(texts)
+    Ok(texts.done()?)
 }
 
 fn new_fact_text(alloc: Global, space: &Space, fact: &NewFact) -> Result<String, Memory> {
-    let mut text = String::new(alloc);
-    add_new_fact(&mut text, space.relations.as_slice(), fact)?;
-    Ok(text)
+    let mut text = Text::new(alloc);
+    add_new_fact(&mut text, space.relations.as_slice(), fact);
+    Ok(text.done()?)
 }
 
 fn status_of(told: &[Told], clashes: &[Clashes]) -> Status {

@@ -4,7 +4,7 @@ use crate::clashes::Clashes;
 use crate::violating::{Lack, Told};
 use base_types::Memory;
 use std::alloc::{AllocError, Global};
-use ws_print::{add_count, add_form};
+use ws_print::{Lines, Text, add_count, add_form};
 use ws_space::Space;
 
 /// The mappings with their violations, and the clashes of keys. It is refused only for want of memory.
@@ -15,46 +15,40 @@ pub(crate) fn lines(
     clashes: &[Clashes],
     limit: usize,
 ) -> Result<Vec<String>, Memory> {
-    let mut lines = Vec::new(alloc);
+    let mut lines = Lines::new(alloc);
     for one in told {
-        add_mapping(alloc, &mut lines, space, one)?;
+        add_mapping(alloc, &mut lines, space, one);
     }
     for one in clashes {
         add_clashes(alloc, &mut lines, space, one, limit)?;
     }
     if lines.is_empty() {
-        lines.push(String::from_str(alloc, "no mappings")?)?;
+        lines.push_str("no mappings");
     }
-    Ok(lines)
+    Ok(lines.done()?)
 }
 
 fn joined(alloc: Global, texts: &[String]) -> Result<String, Memory> {
-    let mut all = String::new(alloc);
+    let mut all = Text::new(alloc);
     for (place, text) in texts.iter().enumerate() {
         if 0 < place {
-            all.push_str(", ")?;
+            all.push_str(", ");
         }
-        all.push_str(text.as_str())?;
+        all.push_str(text.as_str());
     }
-    Ok(all)
+    Ok(all.done()?)
 }
 
-fn add_mapping(
-    alloc: Global,
-    lines: &mut Vec<String>,
-    space: &Space,
-    told: &Told,
-) -> Result<(), Memory> {
+fn add_mapping(alloc: Global, lines: &mut Lines, space: &Space, told: &Told) {
     let name = space.mapping_name(told.mapping);
-    lines.push(mapping_line(alloc, name, told)?)?;
+    lines.made(mapping_line(alloc, name, told));
     for lack in told.first.iter() {
-        lines.push(lack_line(alloc, lack)?)?;
+        lines.made(lack_line(alloc, lack));
     }
     if told.first.len() < told.count {
         let more = told.count.saturating_sub(told.first.len());
-        lines.push(format!(in alloc; "  .. and {more} more: violations {name}")?)?;
+        lines.made(format!(in alloc; "  .. and {more} more: violations {name}"));
     }
-    Ok(())
 }
 
 fn mapping_line(alloc: Global, name: &str, told: &Told) -> Result<String, AllocError> {
@@ -63,13 +57,14 @@ fn mapping_line(alloc: Global, name: &str, told: &Told) -> Result<String, AllocE
     } else {
         "proposed"
     };
-    let mut line = format!(in alloc; "{name}: {how}, ")?;
+    let mut line = Text::new(alloc);
+    write!(line, "{name}: {how}, ");
     if told.count == 0 {
-        line.push_str("no violations")?;
+        line.push_str("no violations");
     } else {
-        add_count(&mut line, told.count, "violation")?;
+        add_count(&mut line, told.count, "violation");
     }
-    Ok(line)
+    line.done()
 }
 
 fn lack_line(alloc: Global, lack: &Lack) -> Result<String, Memory> {
@@ -80,19 +75,19 @@ fn lack_line(alloc: Global, lack: &Lack) -> Result<String, Memory> {
 
 fn add_clashes(
     alloc: Global,
-    lines: &mut Vec<String>,
+    lines: &mut Lines,
     space: &Space,
     clashes: &Clashes,
     limit: usize,
 ) -> Result<(), Memory> {
-    lines.push(key_line(alloc, space, clashes)?)?;
+    lines.made(key_line(alloc, space, clashes));
     for group in clashes.groups.iter().take(limit) {
         let group = joined(alloc, group.as_slice())?;
-        lines.push(format!(in alloc; "  {group}")?)?;
+        lines.made(format!(in alloc; "  {group}"));
     }
     if limit < clashes.groups.len() {
         let more = clashes.groups.len().saturating_sub(limit);
-        lines.push(format!(in alloc; "  .. and {more} more")?)?;
+        lines.made(format!(in alloc; "  .. and {more} more"));
     }
     Ok(())
 }
@@ -100,16 +95,17 @@ fn add_clashes(
 // `key of FORM: N clashes`.
 fn key_line(alloc: Global, space: &Space, clashes: &Clashes) -> Result<String, Memory> {
     let form = form_of(alloc, space, clashes)?;
-    let mut line = format!(in alloc; "key of {form}: ")?;
-    add_count(&mut line, clashes.groups.len(), "clash")?;
-    Ok(line)
+    let mut line = Text::new(alloc);
+    write!(line, "key of {form}: ");
+    add_count(&mut line, clashes.groups.len(), "clash");
+    Ok(line.done()?)
 }
 
 /// The relation with its columns. It is refused only for want of memory.
 pub(crate) fn form_of(alloc: Global, space: &Space, clashes: &Clashes) -> Result<String, Memory> {
-    let mut form = String::new(alloc);
+    let mut form = Text::new(alloc);
     if let Some(relation) = space.relations.get(clashes.relation) {
-        add_form(&mut form, relation)?;
+        add_form(&mut form, relation);
     }
-    Ok(form)
+    Ok(form.done()?)
 }

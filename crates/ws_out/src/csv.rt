@@ -4,7 +4,7 @@ use crate::texts::facts_of;
 use std::alloc::{AllocError, Global};
 use ws_cells::add_csv_cell;
 use ws_fault::Refusal;
-use ws_print::add_value;
+use ws_print::{Lines, Text, add_value};
 use ws_space::Space;
 use ws_written::{Fact, Relation, Value};
 
@@ -14,35 +14,35 @@ pub(crate) fn csv_lines(
     space: &Space,
     relation: u32,
 ) -> Result<Vec<String>, Refusal> {
-    let mut lines = Vec::new(alloc);
+    let mut lines = Lines::new(alloc);
     if let Some(found) = space.relations.get(relation as usize) {
-        lines.push(head_line(alloc, found)?)?;
+        lines.made(head_line(alloc, found));
     }
     for fact in facts_of(alloc, space, relation)? {
-        lines.push(row_line(alloc, &fact)?)?;
+        lines.made(row_line(alloc, &fact));
     }
-    Ok(lines)
+    Ok(lines.done()?)
 }
 
 fn head_line(alloc: Global, relation: &Relation) -> Result<String, AllocError> {
-    let mut line = String::new(alloc);
+    let mut line = Text::new(alloc);
     for (place, column) in relation.columns.iter().enumerate() {
-        line.push_str(if 0 < place { "," } else { "" })?;
-        line.push_str(column.name.as_str())?;
+        line.push_str(if 0 < place { "," } else { "" });
+        line.push_str(column.name.as_str());
     }
-    Ok(line)
+    line.done()
 }
 
 fn row_line(alloc: Global, fact: &Fact) -> Result<String, AllocError> {
-    let mut line = String::new(alloc);
+    let mut line = Text::new(alloc);
     for (place, value) in fact.values.iter().enumerate() {
-        line.push_str(if 0 < place { "," } else { "" })?;
-        add_cell(&mut line, value)?;
+        line.push_str(if 0 < place { "," } else { "" });
+        add_cell(&mut line, value);
     }
-    Ok(line)
+    line.done()
 }
 
-fn add_cell(line: &mut String, value: &Value) -> Result<(), AllocError> {
+fn add_cell(line: &mut Text, value: &Value) {
     match value {
         Value::Text(text) => add_csv_cell(line, text.as_str()),
         _ => add_value(line, value),

@@ -7,6 +7,7 @@ use crate::texts::relation_at;
 use std::alloc::{AllocError, Global};
 use ws_command::Export;
 use ws_fault::{Fault, Refusal, Status};
+use ws_print::Lines;
 use ws_space::Space;
 
 /// What the text of the export is called in a reply.
@@ -60,11 +61,11 @@ fn relations_of(alloc: Global, space: &Space, export: &Export) -> Result<Vec<u32
 }
 
 fn object_lines(alloc: Global, space: &Space, relations: &[u32]) -> Result<Vec<String>, Refusal> {
-    let mut lines = Vec::new(alloc);
+    let mut lines = Lines::new(alloc);
     for relation in relations {
         add_objects(alloc, &mut lines, space, *relation)?;
     }
-    Ok(lines)
+    Ok(lines.done()?)
 }
 
 fn refused(

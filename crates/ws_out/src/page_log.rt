@@ -6,7 +6,7 @@ use std::alloc::{AllocError, Global};
 use std::collections::BTreeMap;
 use std::fmt::Write;
 use ws_draw::add_html;
-use ws_print::{add_choice, add_line, add_update};
+use ws_print::{Text, add_choice, add_line, add_update};
 use ws_space::{Recorded, Space};
 use ws_written::{Line, Relation};
 
@@ -65,8 +65,9 @@ fn add_record(
 ) -> Result<(), AllocError> {
     let begin = beginning(document, recorded)?;
     for said in recorded.record.lines.iter() {
-        let mut line = String::from_str(document.alloc, begin.as_str())?;
+        let mut line = Text::from_str(document.alloc, begin.as_str());
         add_cells(document.alloc, &mut line, relations, states, &said.line)?;
+        let line = line.done()?;
         document.add(line)?;
     }
     Ok(())
@@ -84,33 +85,34 @@ fn beginning(document: &Document, recorded: &Recorded) -> Result<String, AllocEr
 // The number of the update that a line is, the line, and how the update stands.
 fn add_cells(
     alloc: Global,
-    out: &mut String,
+    out: &mut Text,
     relations: &[Relation],
     states: &States,
     line: &Line,
 ) -> Result<(), AllocError> {
-    out.push_str("<td class=\"n\">")?;
+    out.push_str("<td class=\"n\">");
     let mut state = "";
     if let Line::Update(numbered) = line {
         let number = numbered.number;
-        write!(out, "{number}")?;
+        write!(out, "{number}");
         state = states.get(&number).copied().unwrap_or("");
     }
-    out.push_str("</td><td><code>")?;
-    add_html(out, line_text(alloc, relations, line)?.as_str())?;
-    write!(out, "</code></td><td>{state}</td></tr>")
+    out.push_str("</td><td><code>");
+    add_html(out, line_text(alloc, relations, line)?.as_str());
+    write!(out, "</code></td><td>{state}</td></tr>");
+    Ok(())
 }
 
 // A line without the number of its update, or the question that it answers.
 fn line_text(alloc: Global, relations: &[Relation], line: &Line) -> Result<String, AllocError> {
-    let mut text = String::new(alloc);
+    let mut text = Text::new(alloc);
     match line {
-        Line::Update(numbered) => add_update(&mut text, relations, &numbered.update)?,
+        Line::Update(numbered) => add_update(&mut text, relations, &numbered.update),
         Line::Answer(number, answer) => {
-            write!(text, "answer {number} ")?;
-            add_choice(&mut text, relations, &answer.choice)?;
+            write!(text, "answer {number} ");
+            add_choice(&mut text, relations, &answer.choice);
         }
-        _ => add_line(&mut text, relations, line)?,
+        _ => add_line(&mut text, relations, line),
     }
-    Ok(text)
+    text.done()
 }

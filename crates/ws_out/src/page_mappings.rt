@@ -5,7 +5,7 @@ use crate::pages::Document;
 use base_types::Memory;
 use std::alloc::{AllocError, Global};
 use ws_draw::svg_of;
-use ws_print::add_rule;
+use ws_print::{Text, add_rule};
 use ws_space::Space;
 
 /// Adds the mappings. It is refused only for want of memory.
@@ -39,11 +39,11 @@ fn add_mapping(document: &mut Document, space: &Space, mapping: u16) -> Result<(
 }
 
 fn rule_text(alloc: Global, space: &Space, mapping: u16) -> Result<String, AllocError> {
-    let mut text = String::new(alloc);
+    let mut text = Text::new(alloc);
     if let Some(rule) = space.rule(mapping) {
-        add_rule(&mut text, space.relations.as_slice(), rule)?;
+        add_rule(&mut text, space.relations.as_slice(), rule);
     }
-    Ok(text)
+    text.done()
 }
 
 fn state_text(alloc: Global, space: &Space, mapping: u16) -> Result<String, Memory> {

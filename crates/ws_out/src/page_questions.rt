@@ -3,7 +3,7 @@
 use crate::pages::Document;
 use base_types::{List, Memory, Tuple};
 use std::alloc::{AllocError, Global};
-use ws_print::add_rule;
+use ws_print::{Text, add_rule};
 use ws_question::{fact_text, reason_words};
 use ws_run::{Question, Reason};
 use ws_space::Space;
@@ -111,23 +111,23 @@ fn add_wanted(
 }
 
 fn rule_text(alloc: Global, space: &Space, question: &Question) -> Result<String, AllocError> {
-    let mut text = String::new(alloc);
+    let mut text = Text::new(alloc);
     let mapping = space.source_mapping(question.asked.source);
     if let Some(rule) = mapping.and_then(|mapping| space.rule(mapping)) {
-        add_rule(&mut text, space.relations.as_slice(), rule)?;
+        add_rule(&mut text, space.relations.as_slice(), rule);
     }
-    Ok(text)
+    text.done()
 }
 
 // The tuples, as code between commas.
 fn codes(document: &Document, space: &Space, tuples: &List<Tuple>) -> Result<String, Memory> {
-    let mut out = String::new(document.alloc);
+    let mut out = Text::new(document.alloc);
     for (place, tuple) in tuples.as_slice().iter().enumerate() {
         let text = fact_text(document.alloc, space, tuple)?;
-        out.push_str(if 0 < place { ", " } else { "" })?;
-        out.push_str(document.code(text.as_str())?.as_str())?;
+        out.push_str(if 0 < place { ", " } else { "" });
+        out.made(document.code(text.as_str()));
     }
-    Ok(out)
+    Ok(out.done()?)
 }
 
 fn add_candidate(

@@ -5,7 +5,7 @@ use crate::texts::{facts_of, relation_at};
 use base_types::Memory;
 use std::alloc::{AllocError, Global};
 use ws_draw::add_html;
-use ws_print::{add_count, add_value};
+use ws_print::{Text, add_count, add_value};
 use ws_space::Space;
 use ws_written::{Column, Fact, Relation, Value};
 
@@ -33,46 +33,47 @@ fn add_table(
 
 // The beginning of a table, its columns in it.
 fn head_line(alloc: Global, relation: &Relation, rows: usize) -> Result<String, AllocError> {
-    let mut line = String::from_str(alloc, "<div class=\"wide\"><table><caption>")?;
-    add_html(&mut line, relation.name.as_str())?;
-    line.push_str(", ")?;
-    add_count(&mut line, rows, "row")?;
-    line.push_str("</caption><tr>")?;
+    let mut line = Text::from_str(alloc, "<div class=\"wide\"><table><caption>");
+    add_html(&mut line, relation.name.as_str());
+    line.push_str(", ");
+    add_count(&mut line, rows, "row");
+    line.push_str("</caption><tr>");
     for column in relation.columns.iter() {
-        add_column(&mut line, column)?;
+        add_column(&mut line, column);
     }
-    line.push_str("</tr>")?;
-    Ok(line)
+    line.push_str("</tr>");
+    line.done()
 }
 
-fn add_column(line: &mut String, column: &Column) -> Result<(), AllocError> {
-    line.push_str("<th scope=\"col\">")?;
-    add_html(line, column.name.as_str())?;
+fn add_column(line: &mut Text, column: &Column) {
+    line.push_str("<th scope=\"col\">");
+    add_html(line, column.name.as_str());
     line.push_str(if column.key { "*</th>" } else { "</th>" })
 }
 
 fn add_row(document: &mut Document, fact: &Fact) -> Result<(), AllocError> {
-    let mut line = String::from_str(document.alloc, "<tr>")?;
+    let mut line = Text::from_str(document.alloc, "<tr>");
     for value in fact.values.iter() {
-        add_cell(&mut line, value)?;
+        add_cell(&mut line, value);
     }
-    line.push_str("</tr>")?;
+    line.push_str("</tr>");
+    let line = line.done()?;
     document.add(line)
 }
 
-fn add_cell(line: &mut String, value: &Value) -> Result<(), AllocError> {
+fn add_cell(line: &mut Text, value: &Value) {
     match value {
         Value::Text(text) => {
-            line.push_str("<td>")?;
-            add_html(line, text.as_str())?;
+            line.push_str("<td>");
+            add_html(line, text.as_str());
         }
         Value::Number(_) => {
-            line.push_str("<td class=\"n\">")?;
-            add_value(line, value)?;
+            line.push_str("<td class=\"n\">");
+            add_value(line, value);
         }
         Value::Unknown(_) => {
-            line.push_str("<td class=\"u\">")?;
-            add_value(line, value)?;
+            line.push_str("<td class=\"u\">");
+            add_value(line, value);
         }
     }
     line.push_str("</td>")

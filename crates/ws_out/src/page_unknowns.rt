@@ -6,7 +6,7 @@ use base_types::{Memory, Tuple, Value};
 use std::alloc::{AllocError, Global};
 use std::collections::BTreeMap;
 use std::fmt::Write;
-use ws_print::add_unknown;
+use ws_print::{Text, add_unknown};
 use ws_question::inner_text;
 use ws_space::{Space, unknown_of};
 use ws_written::Unknown;
@@ -102,22 +102,24 @@ pub(crate) fn add_unknowns(document: &mut Document, unknowns: &Unknowns) -> Resu
 }
 
 fn add_row(document: &mut Document, unknown: Unknown, texts: &[String]) -> Result<(), AllocError> {
-    let mut name = String::new(document.alloc);
-    add_unknown(&mut name, unknown)?;
+    let mut name = Text::new(document.alloc);
+    add_unknown(&mut name, unknown);
+    let name = name.done()?;
     let line = row_of(document, name.as_str(), texts)?;
     document.add(line)
 }
 
 fn row_of(document: &Document, name: &str, texts: &[String]) -> Result<String, AllocError> {
     let alloc = document.alloc;
-    let mut line = format!(in alloc; "<tr><td class=\"u\">{name}</td><td>")?;
+    let mut line = Text::new(alloc);
+    write!(line, "<tr><td class=\"u\">{name}</td><td>");
     for (place, text) in texts.iter().enumerate() {
-        line.push_str(if 0 < place { "<br>" } else { "" })?;
-        line.push_str(document.code(text.as_str())?.as_str())?;
+        line.push_str(if 0 < place { "<br>" } else { "" });
+        line.made(document.code(text.as_str()));
     }
     write!(
         line,
         "</td><td><code>replace {name} with VALUE</code></td></tr>"
-    )?;
-    Ok(line)
+    );
+    line.done()
 }

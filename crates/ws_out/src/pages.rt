@@ -10,6 +10,7 @@ use base_types::Memory;
 use std::alloc::{AllocError, Global};
 use ws_draw::add_html;
 use ws_fault::Refusal;
+use ws_print::Text;
 use ws_reply::Context;
 use ws_space::Space;
 
@@ -43,17 +44,17 @@ impl Document {
 
     /// The text as it is shown by HTML. It is refused only for want of memory.
     pub fn shown(&self, text: &str) -> Result<String, AllocError> {
-        let mut out = String::new(self.alloc);
-        add_html(&mut out, text)?;
-        Ok(out)
+        let mut out = Text::new(self.alloc);
+        add_html(&mut out, text);
+        out.done()
     }
 
     /// The text as it is shown by HTML, as code. It is refused only for want of memory.
     pub fn code(&self, text: &str) -> Result<String, AllocError> {
-        let mut out = String::from_str(self.alloc, "<code>")?;
-        add_html(&mut out, text)?;
-        out.push_str("</code>")?;
-        Ok(out)
+        let mut out = Text::from_str(self.alloc, "<code>");
+        add_html(&mut out, text);
+        out.push_str("</code>");
+        out.done()
     }
 }
 
@@ -143,10 +144,15 @@ fn add_counts(
     let last = space.state.last();
     let tuples = space.state.facts().len();
     let waiting = space.state.waiting().len();
-    let mut line = format!(in alloc; "<h1>{name}</h1><p>At record {at}; last update {last}. ")?;
+    let mut line = Text::new(alloc);
+    write!(
+        line,
+        "<h1>{name}</h1><p>At record {at}; last update {last}. "
+    );
     let counts = format!(in alloc;
         "Tuples: {tuples}. Unknowns: {unknowns}. Waiting: {waiting}.</p>"
     )?;
-    line.push_str(counts.as_str())?;
+    line.push_str(counts.as_str());
+    let line = line.done()?;
     document.add(line)
 }

@@ -4,14 +4,14 @@ use crate::texts::{facts_of, json_text};
 use std::alloc::{AllocError, Global};
 use std::fmt::Write;
 use ws_fault::Refusal;
-use ws_print::add_unknown;
+use ws_print::{Lines, Text, add_unknown};
 use ws_space::Space;
 use ws_written::{Fact, Relation, Value};
 
 /// Adds an object for each row of a relation. It is refused only for want of memory.
 pub(crate) fn add_objects(
     alloc: Global,
-    lines: &mut Vec<String>,
+    lines: &mut Lines,
     space: &Space,
     relation: u32,
 ) -> Result<(), Refusal> {
@@ -21,7 +21,7 @@ pub(crate) fn add_objects(
     let begin = beginning(alloc, found)?;
     let keys = keys_of(alloc, found)?;
     for fact in facts_of(alloc, space, relation)? {
-        lines.push(object_line(alloc, begin.as_str(), keys.as_slice(), &fact)?)?;
+        lines.made(object_line(alloc, begin.as_str(), keys.as_slice(), &fact));
     }
     Ok(())
 }
@@ -48,23 +48,23 @@ fn object_line(
     keys: &[String],
     fact: &Fact,
 ) -> Result<String, AllocError> {
-    let mut line = String::from_str(alloc, begin)?;
+    let mut line = Text::from_str(alloc, begin);
     for (place, (key, value)) in keys.iter().zip(fact.values.iter()).enumerate() {
-        line.push_str(if 0 < place { "," } else { "" })?;
-        line.push_str(key.as_str())?;
-        add_value(alloc, &mut line, value)?;
+        line.push_str(if 0 < place { "," } else { "" });
+        line.push_str(key.as_str());
+        add_value(alloc, &mut line, value);
     }
-    line.push_str("}}")?;
-    Ok(line)
+    line.push_str("}}");
+    line.done()
 }
 
-fn add_value(alloc: Global, line: &mut String, value: &Value) -> Result<(), AllocError> {
+fn add_value(alloc: Global, line: &mut Text, value: &Value) {
     match value {
         Value::Number(number) => write!(line, "{number}"),
-        Value::Text(text) => line.push_str(json_text(alloc, text.as_str())?.as_str()),
+        Value::Text(text) => line.made(json_text(alloc, text.as_str())),
         Value::Unknown(unknown) => {
-            line.push_str("{\"unknown\":\"")?;
-            add_unknown(line, *unknown)?;
+            line.push_str("{\"unknown\":\"");
+            add_unknown(line, *unknown);
             line.push_str("\"}")
         }
     }

@@ -4,7 +4,7 @@ use crate::texts::facts_of;
 use std::alloc::{AllocError, Global};
 use std::fmt::Write;
 use ws_fault::Refusal;
-use ws_print::add_unknown;
+use ws_print::{Text, add_unknown};
 use ws_space::Space;
 use ws_written::{Column, Fact, Relation, Unknown, Value};
 
@@ -120,14 +120,15 @@ fn has_texts(facts: &[Fact], place: usize) -> bool {
 
 fn create(alloc: Global, relation: &Relation, columns: &[Kind<'_>]) -> Result<String, AllocError> {
     let name = relation.name.as_str();
-    let mut line = format!(in alloc; "CREATE TABLE \"{name}\" (yt_row BIGINT PRIMARY KEY")?;
+    let mut line = Text::new(alloc);
+    write!(line, "CREATE TABLE \"{name}\" (yt_row BIGINT PRIMARY KEY");
     for kind in columns {
         let column = kind.column.name.as_str();
         let word = if kind.is_number { "BIGINT" } else { "TEXT" };
-        write!(line, ", \"{column}\" {word}")?;
+        write!(line, ", \"{column}\" {word}");
     }
-    line.push_str(");")?;
-    Ok(line)
+    line.push_str(");");
+    line.done()
 }
 
 fn insert(
@@ -138,16 +139,17 @@ fn insert(
     fact: &Fact,
 ) -> Result<String, AllocError> {
     let name = relation.name.as_str();
-    let mut line = format!(in alloc; "INSERT INTO \"{name}\" VALUES ({row}")?;
+    let mut line = Text::new(alloc);
+    write!(line, "INSERT INTO \"{name}\" VALUES ({row}");
     for (kind, value) in columns.iter().zip(fact.values.iter()) {
-        line.push_str(", ")?;
-        add_cell(&mut line, kind.is_number, value)?;
+        line.push_str(", ");
+        add_cell(&mut line, kind.is_number, value);
     }
-    line.push_str(");")?;
-    Ok(line)
+    line.push_str(");");
+    line.done()
 }
 
-fn add_cell(line: &mut String, is_number: bool, value: &Value) -> Result<(), AllocError> {
+fn add_cell(line: &mut Text, is_number: bool, value: &Value) {
     match value {
         Value::Unknown(_) => line.push_str("NULL"),
         Value::Text(text) => add_text(line, text.as_str()),
@@ -161,11 +163,11 @@ fn add_cell(line: &mut String, is_number: bool, value: &Value) -> Result<(), All
 }
 
 // A text between quotes, its own doubled.
-fn add_text(line: &mut String, text: &str) -> Result<(), AllocError> {
-    line.push('\'')?;
+fn add_text(line: &mut Text, text: &str) {
+    line.push('\'');
     for (place, part) in text.split('\'').enumerate() {
-        line.push_str(if 0 < place { "''" } else { "" })?;
-        line.push_str(part)?;
+        line.push_str(if 0 < place { "''" } else { "" });
+        line.push_str(part);
     }
     line.push('\'')
 }
@@ -180,10 +182,12 @@ fn named(
 ) -> Result<String, AllocError> {
     let name = relation.name.as_str();
     let column = column.name.as_str();
-    let mut line = format!(in alloc;
+    let mut line = Text::new(alloc);
+    write!(
+        line,
         "INSERT INTO yt_unknown VALUES ('{name}', {row}, '{column}', '"
-    )?;
-    add_unknown(&mut line, unknown)?;
-    line.push_str("');")?;
-    Ok(line)
+    );
+    add_unknown(&mut line, unknown);
+    line.push_str("');");
+    line.done()
 }

@@ -1,6 +1,6 @@
 //! Control characters as escapes, and texts in their quotes.
 
-use std::alloc::AllocError;
+use crate::texts::Text;
 use std::fmt::Write;
 
 /// Whether a character could act on a terminal or turn the direction of writing: C0, DEL, C1, and the marks of lines,
@@ -14,7 +14,8 @@ pub fn is_control(letter: char) -> bool {
     }
 }
 
-fn add_letter(out: &mut String, letter: char) -> Result<(), AllocError> {
+/// The letter; a control character as `\u{hex}`.
+pub fn add_letter(out: &mut Text, letter: char) {
     if is_control(letter) {
         let code = u32::from(letter);
         return write!(out, "\\u{{{code:x}}}");
@@ -23,22 +24,21 @@ fn add_letter(out: &mut String, letter: char) -> Result<(), AllocError> {
 }
 
 /// The text, with control characters as `\u{hex}`.
-pub fn add_escaped(out: &mut String, text: &str) -> Result<(), AllocError> {
+pub fn add_escaped(out: &mut Text, text: &str) {
     for letter in text.chars() {
-        add_letter(out, letter)?;
+        add_letter(out, letter);
     }
-    Ok(())
 }
 
 /// The text between quotes, as a command takes it.
-pub fn add_quoted(out: &mut String, text: &str) -> Result<(), AllocError> {
-    out.push('"')?;
+pub fn add_quoted(out: &mut Text, text: &str) {
+    out.push('"');
     for letter in text.chars() {
         match letter {
-            '"' => out.push_str("\\\"")?,
-            '\\' => out.push_str("\\\\")?,
-            '\n' => out.push_str("\\n")?,
-            _ => add_letter(out, letter)?,
+            '"' => out.push_str("\\\""),
+            '\\' => out.push_str("\\\\"),
+            '\n' => out.push_str("\\n"),
+            _ => add_letter(out, letter),
         }
     }
     out.push('"')

@@ -3,46 +3,37 @@
 use crate::facts::{add_fact, add_facts};
 use crate::numbers::add_ranges;
 use crate::rules::{add_form, add_rule};
+use crate::texts::Text;
 use crate::updates::add_numbered;
-use std::alloc::AllocError;
 use std::fmt::Write;
 use ws_written::{Answer, Choice, Line, Record, Relation, Stamp};
 
 /// `expand`, `unify FACT` or `delete FACT, ..`.
-pub fn add_choice(
-    out: &mut String,
-    relations: &[Relation],
-    choice: &Choice,
-) -> Result<(), AllocError> {
+pub fn add_choice(out: &mut Text, relations: &[Relation], choice: &Choice) {
     match choice {
         Choice::Expand => out.push_str("expand"),
         Choice::Unify(fact) => {
-            out.push_str("unify ")?;
+            out.push_str("unify ");
             add_fact(out, relations, fact)
         }
         Choice::Delete(facts) => {
-            out.push_str("delete ")?;
+            out.push_str("delete ");
             add_facts(out, relations, facts.as_slice())
         }
     }
 }
 
 /// `answer N CHOICE to NAME FACT, ..`.
-pub fn add_answer(
-    out: &mut String,
-    relations: &[Relation],
-    number: u32,
-    answer: &Answer,
-) -> Result<(), AllocError> {
-    write!(out, "answer {number} ")?;
-    add_choice(out, relations, &answer.choice)?;
+pub fn add_answer(out: &mut Text, relations: &[Relation], number: u32, answer: &Answer) {
+    write!(out, "answer {number} ");
+    add_choice(out, relations, &answer.choice);
     let mapping = answer.question.mapping.as_str();
-    write!(out, " to {mapping} ")?;
+    write!(out, " to {mapping} ");
     add_facts(out, relations, answer.question.facts.as_slice())
 }
 
 /// A line of the log, without its comment.
-pub fn add_line(out: &mut String, relations: &[Relation], line: &Line) -> Result<(), AllocError> {
+pub fn add_line(out: &mut Text, relations: &[Relation], line: &Line) {
     match line {
         Line::Update(numbered) => add_numbered(out, relations, numbered),
         Line::Answer(number, answer) => add_answer(out, relations, *number, answer),
@@ -51,43 +42,38 @@ pub fn add_line(out: &mut String, relations: &[Relation], line: &Line) -> Result
         Line::UndoAnswers(numbers) => add_said(out, "undo ", numbers.as_slice(), " --answers"),
         Line::Redo(numbers) => add_said(out, "redo ", numbers.as_slice(), ""),
         Line::Relation(relation) => {
-            out.push_str("relation ")?;
+            out.push_str("relation ");
             add_form(out, relation)
         }
         Line::Mapping(rule) => {
-            out.push_str("mapping ")?;
+            out.push_str("mapping ");
             add_rule(out, relations, rule)
         }
     }
 }
 
-fn add_said(out: &mut String, verb: &str, numbers: &[u32], end: &str) -> Result<(), AllocError> {
-    out.push_str(verb)?;
-    add_ranges(out, numbers)?;
+fn add_said(out: &mut Text, verb: &str, numbers: &[u32], end: &str) {
+    out.push_str(verb);
+    add_ranges(out, numbers);
     out.push_str(end)
 }
 
 /// `TIME CURATOR`.
-pub fn add_stamp(out: &mut String, stamp: &Stamp) -> Result<(), AllocError> {
-    out.push_str(stamp.time.as_str())?;
-    out.push(' ')?;
+pub fn add_stamp(out: &mut Text, stamp: &Stamp) {
+    out.push_str(stamp.time.as_str());
+    out.push(' ');
     out.push_str(stamp.curator.as_str())
 }
 
 /// The text of a record, over the relations that stand after it.
-pub fn add_record(
-    out: &mut String,
-    relations: &[Relation],
-    record: &Record,
-) -> Result<(), AllocError> {
-    add_stamp(out, &record.stamp)?;
+pub fn add_record(out: &mut Text, relations: &[Relation], record: &Record) {
+    add_stamp(out, &record.stamp);
     for said in record.lines.iter() {
-        out.push('\n')?;
-        add_line(out, relations, &said.line)?;
+        out.push('\n');
+        add_line(out, relations, &said.line);
         if !said.comment.is_empty() {
-            out.push_str("  # ")?;
-            out.push_str(said.comment.as_str())?;
+            out.push_str("  # ");
+            out.push_str(said.comment.as_str());
         }
     }
-    Ok(())
 }

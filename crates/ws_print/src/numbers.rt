@@ -1,9 +1,9 @@
 //! Ranges of numbers, and counts with their nouns.
 
-use std::alloc::AllocError;
+use crate::texts::Text;
 use std::fmt::Write;
 
-fn add_range(out: &mut String, first: u32, last: u32) -> Result<(), AllocError> {
+fn add_range(out: &mut Text, first: u32, last: u32) {
     if first == last {
         return write!(out, "{first}");
     }
@@ -11,16 +11,16 @@ fn add_range(out: &mut String, first: u32, last: u32) -> Result<(), AllocError> 
 }
 
 /// The numbers; those that follow each other as `A..B`.
-pub fn add_ranges(out: &mut String, numbers: &[u32]) -> Result<(), AllocError> {
+pub fn add_ranges(out: &mut Text, numbers: &[u32]) {
     let Some((first, others)) = numbers.split_first() else {
-        return Ok(());
+        return;
     };
     let mut from = *first;
     let mut to = *first;
     for number in others {
         if to.checked_add(1) != Some(*number) {
-            add_range(out, from, to)?;
-            out.push_str(", ")?;
+            add_range(out, from, to);
+            out.push_str(", ");
             from = *number;
         }
         to = *number;
@@ -29,7 +29,7 @@ pub fn add_ranges(out: &mut String, numbers: &[u32]) -> Result<(), AllocError> {
 }
 
 /// `1 tuple`, `2 tuples`, `2 queries`, `2 clashes`: a count and its noun.
-pub fn add_count(out: &mut String, count: usize, noun: &str) -> Result<(), AllocError> {
+pub fn add_count(out: &mut Text, count: usize, noun: &str) {
     if count == 1 {
         return write!(out, "1 {noun}");
     }

@@ -1,13 +1,14 @@
 //! Tables: columns that are as wide as their widest cell.
 
 use crate::escapes::{add_quoted, is_control};
+use crate::texts::{Lines, Text};
 use crate::values::add_value;
 use std::alloc::{AllocError, Global};
 use unicode_width::UnicodeWidthStr;
 use ws_written::Value;
 
 /// A cell of a table: a text stands bare if it cannot be taken for anything else.
-pub fn add_cell(out: &mut String, value: &Value) -> Result<(), AllocError> {
+pub fn add_cell(out: &mut Text, value: &Value) {
     match value {
         Value::Text(text) => {
             if is_bare(text.as_str()) {
@@ -74,8 +75,9 @@ impl Table {
     pub fn add_row(&mut self, values: &[Value]) -> Result<(), AllocError> {
         let alloc = self.alloc;
         for (column, value) in self.columns.iter_mut().zip(values) {
-            let mut cell = String::new(alloc);
-            add_cell(&mut cell, value)?;
+            let mut cell = Text::new(alloc);
+            add_cell(&mut cell, value);
+            let cell = cell.done()?;
             column.add(cell, is_number(value))?;
         }
         self.rows = self.rows.saturating_add(1);
@@ -88,35 +90,34 @@ impl Table {
     }
 
     /// The lines of the table: the names, a rule of `-`, and the rows.
-    pub fn add_to(&self, out: &mut Vec<String>) -> Result<(), AllocError> {
-        out.push(self.line(0)?)?;
-        out.push(self.ruled()?)?;
+    pub fn add_to(&self, out: &mut Lines) {
+        out.made(self.line(0));
+        out.made(self.ruled());
         for row in 0..self.rows {
-            out.push(self.line(row.saturating_add(1))?)?;
+            out.made(self.line(row.saturating_add(1)));
         }
-        Ok(())
     }
 
     // The cells of a row, the names being row 0.
     fn line(&self, row: usize) -> Result<String, AllocError> {
-        let mut line = String::new(self.alloc);
+        let mut line = Text::new(self.alloc);
         let mut gap = 0usize;
         for column in self.columns.iter() {
-            add_times(&mut line, ' ', gap)?;
+            add_times(&mut line, ' ', gap);
             gap = column.add_at(&mut line, row, 0 < self.rows)?;
         }
-        Ok(line)
+        line.done()
     }
 
     fn ruled(&self) -> Result<String, AllocError> {
-        let mut line = String::new(self.alloc);
+        let mut line = Text::new(self.alloc);
         for (place, column) in self.columns.iter().enumerate() {
             if 0 < place {
-                line.push_str("  ")?;
+                line.push_str("  ");
             }
-            add_times(&mut line, '-', column.width)?;
+            add_times(&mut line, '-', column.width);
         }
-        Ok(line)
+        line.done()
     }
 }
 
@@ -129,17 +130,17 @@ impl TableColumn {
     }
 
     // The cell of a row, and how many blanks come before the next column. Numbers stand to the right.
-    fn add_at(&self, line: &mut String, row: usize, has_rows: bool) -> Result<usize, AllocError> {
+    fn add_at(&self, line: &mut Text, row: usize, has_rows: bool) -> Result<usize, AllocError> {
         let Some(cell) = self.cells.get(row) else {
             return Ok(0);
         };
         let spare = self.width.saturating_sub(cell.as_str().width());
         if self.numbers && has_rows {
-            add_times(line, ' ', spare)?;
-            line.push_str(cell.as_str())?;
+            add_times(line, ' ', spare);
+            line.push_str(cell.as_str());
             return Ok(2);
         }
-        line.push_str(cell.as_str())?;
+        line.push_str(cell.as_str());
         Ok(spare.saturating_add(2))
     }
 }
@@ -151,9 +152,8 @@ fn is_number(value: &Value) -> bool {
     }
 }
 
-pub(crate) fn add_times(out: &mut String, letter: char, times: usize) -> Result<(), AllocError> {
+pub(crate) fn add_times(out: &mut Text, letter: char, times: usize) {
     for _ in 0..times {
-        out.push(letter)?;
+        out.push(letter);
     }
-    Ok(())
 }

@@ -1,19 +1,19 @@
 //! Values.
 
 use crate::escapes::add_quoted;
-use std::alloc::AllocError;
+use crate::texts::Text;
 use std::fmt::Write;
 use ws_written::{NewValue, Unknown, Value};
 
 /// `?U.P`.
-pub fn add_unknown(out: &mut String, unknown: Unknown) -> Result<(), AllocError> {
+pub fn add_unknown(out: &mut Text, unknown: Unknown) {
     let update = unknown.update;
     let place = unknown.place;
     write!(out, "?{update}.{place}")
 }
 
 /// A number, a text in quotes, or an unknown.
-pub fn add_value(out: &mut String, value: &Value) -> Result<(), AllocError> {
+pub fn add_value(out: &mut Text, value: &Value) {
     match value {
         Value::Number(number) => write!(out, "{number}"),
         Value::Text(text) => add_quoted(out, text.as_str()),
@@ -22,30 +22,28 @@ pub fn add_value(out: &mut String, value: &Value) -> Result<(), AllocError> {
 }
 
 /// A value, or a new unknown, `?` or `?x`.
-pub fn add_new_value(out: &mut String, value: &NewValue) -> Result<(), AllocError> {
+pub fn add_new_value(out: &mut Text, value: &NewValue) {
     match value {
         NewValue::Known(known) => add_value(out, known),
         NewValue::Fresh => out.push('?'),
         NewValue::Named(name) => {
-            out.push('?')?;
+            out.push('?');
             out.push_str(name.as_str())
         }
     }
 }
 
 /// Values between commas.
-pub(crate) fn add_values(out: &mut String, values: &[Value]) -> Result<(), AllocError> {
+pub(crate) fn add_values(out: &mut Text, values: &[Value]) {
     for (place, value) in values.iter().enumerate() {
-        add_comma(out, place)?;
-        add_value(out, value)?;
+        add_comma(out, place);
+        add_value(out, value);
     }
-    Ok(())
 }
 
 /// The comma in front of what stands at this place of a list: none at the first.
-pub(crate) fn add_comma(out: &mut String, place: usize) -> Result<(), AllocError> {
+pub(crate) fn add_comma(out: &mut Text, place: usize) {
     if 0 < place {
         return out.push_str(", ");
     }
-    Ok(())
 }

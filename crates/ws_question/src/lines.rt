@@ -5,7 +5,7 @@ use crate::candidates::{Candidate, candidates_of};
 use crate::texts::{count_text, fact_text, facts_text};
 use base_types::{Memory, Write};
 use std::alloc::Global;
-use ws_print::{add_quoted, add_rule};
+use ws_print::{Lines, Text, add_quoted, add_rule};
 use ws_space::Space;
 
 // How much of what the update did before it asked is told.
@@ -35,17 +35,17 @@ pub fn question_lines(
     like: Option<&str>,
     limit: usize,
 ) -> Result<Vec<String>, Memory> {
-    let mut lines = Vec::new(alloc);
-    lines.push(question_line(alloc, space, asked)?)?;
+    let mut lines = Lines::new(alloc);
+    lines.made(question_line(alloc, space, asked));
     add_candidates(alloc, &mut lines, space, asked, like, limit)?;
     add_why(alloc, &mut lines, space, asked)?;
     add_so_far(alloc, &mut lines, space, asked)?;
-    Ok(lines)
+    Ok(lines.done()?)
 }
 
 fn add_candidates(
     alloc: Global,
-    lines: &mut Vec<String>,
+    lines: &mut Lines,
     space: &Space,
     asked: &AskedNow,
     like: Option<&str>,
@@ -55,27 +55,27 @@ fn add_candidates(
     let width = number_width(alloc, asked)?;
     for Candidate { number, text } in found.shown.iter() {
         let number = format!(in alloc; "{number}")?;
-        lines.push(numbered(alloc, number.as_str(), width, text.as_str())?)?;
+        lines.made(numbered(alloc, number.as_str(), width, text.as_str()));
     }
     if limit < found.fit {
         let more = found.fit.saturating_sub(limit);
         let number = asked.number;
-        lines.push(format!(in alloc;
+        lines.made(format!(in alloc;
             "  .. and {more} more: questions {number} --like TEXT, or --limit N"
-        )?)?;
+        ));
     }
     if found.fit == 0 {
         add_none_like(alloc, lines, asked, like)?;
     }
     if asked.question.is_positive {
-        lines.push(numbered(alloc, "new", width, "none of them")?)?;
+        lines.made(numbered(alloc, "new", width, "none of them"));
     }
     Ok(())
 }
 
 fn add_none_like(
     alloc: Global,
-    lines: &mut Vec<String>,
+    lines: &mut Lines,
     asked: &AskedNow,
     like: Option<&str>,
 ) -> Result<(), Memory> {
@@ -83,10 +83,12 @@ fn add_none_like(
         return Ok(());
     };
     let count = count_text(alloc, asked.count(), "candidate")?;
-    let mut line = format!(in alloc; "  none of {count} has ")?;
-    add_quoted(&mut line, like)?;
-    line.push_str(" in it")?;
-    lines.push(line)?;
+    let mut line = Text::new(alloc);
+    write!(line, "  none of {count} has ");
+    add_quoted(&mut line, like);
+    line.push_str(" in it");
+    let line = line.done()?;
+    lines.push(line);
     Ok(())
 }
 
@@ -102,30 +104,32 @@ fn number_width(alloc: Global, asked: &AskedNow) -> Result<usize, Memory> {
 
 // A line of the list: its number, in so many columns, and its text.
 fn numbered(alloc: Global, number: &str, width: usize, text: &str) -> Result<String, Memory> {
-    let mut line = format!(in alloc; "  {number}")?;
+    let mut line = Text::new(alloc);
+    write!(line, "  {number}");
     for _ in number.len()..width {
-        line.push(' ')?;
+        line.push(' ');
     }
-    line.push_str("  ")?;
-    line.push_str(text)?;
-    Ok(line)
+    line.push_str("  ");
+    line.push_str(text);
+    Ok(line.done()?)
 }
 
 // By which mapping and since when.
 fn add_why(
     alloc: Global,
-    lines: &mut Vec<String>,
+    lines: &mut Lines,
     space: &Space,
     asked: &AskedNow,
 ) -> Result<(), Memory> {
-    let mut line = String::from_str(alloc, "why: ")?;
+    let mut line = Text::from_str(alloc, "why: ");
     if let Some(rule) = asked.rule(space) {
-        add_rule(&mut line, space.relations.as_slice(), rule)?;
+        add_rule(&mut line, space.relations.as_slice(), rule);
     }
-    lines.push(line)?;
+    let line = line.done()?;
+    lines.push(line);
     if asked.question.is_positive {
         let since = facts_text(alloc, space, asked.question.since.as_slice())?;
-        lines.push(format!(in alloc; "     since {since}")?)?;
+        lines.made(format!(in alloc; "     since {since}"));
     }
     Ok(())
 }
@@ -133,7 +137,7 @@ fn add_why(
 // What the update did before it asked.
 fn add_so_far(
     alloc: Global,
-    lines: &mut Vec<String>,
+    lines: &mut Lines,
     space: &Space,
     asked: &AskedNow,
 ) -> Result<(), Memory> {
@@ -143,11 +147,11 @@ fn add_so_far(
             Write::Insert(tuple) => ("+", fact_text(alloc, space, tuple)?),
             Write::Delete(tuple) => ("-", fact_text(alloc, space, tuple)?),
         };
-        lines.push(format!(in alloc; "so far: {sign} {text}")?)?;
+        lines.made(format!(in alloc; "so far: {sign} {text}"));
     }
     if SO_FAR < so_far.len() {
         let more = so_far.len().saturating_sub(SO_FAR);
-        lines.push(format!(in alloc; "so far: and {more} more")?)?;
+        lines.made(format!(in alloc; "so far: and {more} more"));
     }
     Ok(())
 }

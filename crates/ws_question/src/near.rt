@@ -6,7 +6,7 @@ use chase_match::Walk;
 use std::alloc::Global;
 use std::collections::BTreeMap;
 use ws_fault::Nearest;
-use ws_print::add_value;
+use ws_print::{Lines, Text, add_value};
 use ws_space::Space;
 use ws_written::{Fact, Value as Said};
 
@@ -23,11 +23,11 @@ pub fn near_texts(alloc: Global, space: &Space, fact: &Fact) -> Result<Vec<Strin
     if sharing.is_empty() {
         return alike(alloc, space, fact);
     }
-    let mut texts = Vec::new(alloc);
+    let mut texts = Lines::new(alloc);
     for tuple in sharing.iter() {
-        texts.push(inner_text(alloc, space, tuple)?)?;
+        texts.made(inner_text(alloc, space, tuple));
     }
-    Ok(texts)
+    Ok(texts.done()?)
 }
 
 // The tuples that share most values with it, and then by their order.
@@ -86,18 +86,18 @@ fn count_one(counts: &mut BTreeMap<Tuple, usize>, tuple: &Tuple) -> Result<(), M
 
 // The first tuples whose first value is spelled like its own.
 fn alike(alloc: Global, space: &Space, fact: &Fact) -> Result<Vec<String>, Memory> {
-    let mut texts = Vec::new(alloc);
+    let mut texts = Lines::new(alloc);
     let Some(first) = fact.values.first() else {
-        return Ok(texts);
+        return Ok(texts.done()?);
     };
     let word = value_text(alloc, first)?;
     let rows = space.rows(alloc, fact.relation)?;
     for tuple in rows.as_slice().iter() {
         if texts.len() < TOLD && is_alike(alloc, space, word.as_str(), tuple)? {
-            texts.push(inner_text(alloc, space, tuple)?)?;
+            texts.made(inner_text(alloc, space, tuple));
         }
     }
-    Ok(texts)
+    Ok(texts.done()?)
 }
 
 fn is_alike(alloc: Global, space: &Space, word: &str, tuple: &Tuple) -> Result<bool, Memory> {
@@ -112,7 +112,7 @@ fn is_alike(alloc: Global, space: &Space, word: &str, tuple: &Tuple) -> Result<b
 }
 
 fn value_text(alloc: Global, value: &Said) -> Result<String, Memory> {
-    let mut text = String::new(alloc);
-    add_value(&mut text, value)?;
-    Ok(text)
+    let mut text = Text::new(alloc);
+    add_value(&mut text, value);
+    Ok(text.done()?)
 }

@@ -6,7 +6,7 @@ use crate::texts::fact_text;
 use base_types::{Memory, Tuple, Write};
 use std::alloc::Global;
 use ws_json::{Items, Object};
-use ws_print::add_rule;
+use ws_print::{Text, add_rule};
 use ws_space::Space;
 
 /// The object of the question, with at most `limit` of the candidates that have the text `like` in them. It is refused only
@@ -31,22 +31,22 @@ fn add_question(
     like: Option<&str>,
     limit: usize,
 ) -> Result<(), Memory> {
-    object.number("number", i64::from(asked.number))?;
+    object.number("number", i64::from(asked.number));
     let is_positive = asked.question.is_positive;
-    object.text("kind", if is_positive { "positive" } else { "negative" })?;
+    object.text("kind", if is_positive { "positive" } else { "negative" });
     add_mapping(alloc, object, space, asked)?;
     add_candidates(alloc, object, space, asked, like, limit)?;
-    object.number("count", as_number(asked.count()))?;
+    object.number("count", as_number(asked.count()));
     object.items(
         "since",
-        facts(alloc, space, asked.question.since.as_slice())?,
-    )?;
+        facts(alloc, space, asked.question.since.as_slice()),
+    );
     object.items(
         "so_far",
         so_far(alloc, space, asked.question.so_far.as_slice())?,
-    )?;
+    );
     if let Some(wanted) = asked.wanted() {
-        object.text("wanted", fact_text(alloc, space, wanted)?.as_str())?;
+        object.made("wanted", fact_text(alloc, space, wanted));
     }
     Ok(())
 }
@@ -61,12 +61,13 @@ fn add_mapping(
     space: &Space,
     asked: &AskedNow,
 ) -> Result<(), Memory> {
-    let mut pattern = String::new(alloc);
+    let mut pattern = Text::new(alloc);
     if let Some(rule) = asked.rule(space) {
-        object.text("mapping", rule.name.as_str())?;
-        add_rule(&mut pattern, space.relations.as_slice(), rule)?;
+        object.text("mapping", rule.name.as_str());
+        add_rule(&mut pattern, space.relations.as_slice(), rule);
     }
-    object.text("rule", pattern.as_str())?;
+    let pattern = pattern.done()?;
+    object.text("rule", pattern.as_str());
     Ok(())
 }
 
@@ -81,28 +82,28 @@ fn add_candidates(
     let found = candidates_of(alloc, space, asked, like, limit)?;
     let mut items = Items::new(alloc);
     for candidate in found.shown.iter() {
-        items.object(candidate_object(alloc, candidate)?)?;
+        items.object(candidate_object(alloc, candidate));
     }
-    object.items("candidates", items)?;
+    object.items("candidates", items);
     if like.is_some() {
-        object.number("fit", as_number(found.fit))?;
+        object.number("fit", as_number(found.fit));
     }
     Ok(())
 }
 
-fn candidate_object(alloc: Global, candidate: &Candidate) -> Result<Object, Memory> {
+fn candidate_object(alloc: Global, candidate: &Candidate) -> Object {
     let mut object = Object::new(alloc);
-    object.number("number", as_number(candidate.number))?;
-    object.text("tuple", candidate.text.as_str())?;
-    Ok(object)
+    object.number("number", as_number(candidate.number));
+    object.text("tuple", candidate.text.as_str());
+    object
 }
 
-fn facts(alloc: Global, space: &Space, tuples: &[Tuple]) -> Result<Items, Memory> {
+fn facts(alloc: Global, space: &Space, tuples: &[Tuple]) -> Items {
     let mut items = Items::new(alloc);
     for tuple in tuples {
-        items.text(fact_text(alloc, space, tuple)?.as_str())?;
+        items.made(fact_text(alloc, space, tuple));
     }
-    Ok(items)
+    items
 }
 
 fn so_far(alloc: Global, space: &Space, writes: &[Write]) -> Result<Items, Memory> {
@@ -118,7 +119,7 @@ fn so_far(alloc: Global, space: &Space, writes: &[Write]) -> Result<Items, Memor
                 format!(in alloc; "-{text}")?
             }
         };
-        items.text(text.as_str())?;
+        items.text(text.as_str());
     }
     Ok(items)
 }

@@ -2,53 +2,53 @@
 
 use base_types::{Memory, Null, Tuple};
 use std::alloc::Global;
-use ws_print::{add_count, add_fact, add_unknown};
+use ws_print::{Text, add_count, add_fact, add_unknown};
 use ws_space::{Space, unknown_of};
 
 /// A tuple by names, as a command takes it. It is refused only for want of memory.
 pub fn fact_text(alloc: Global, space: &Space, tuple: &Tuple) -> Result<String, Memory> {
-    let mut text = String::new(alloc);
+    let mut text = Text::new(alloc);
     add_fact(
         &mut text,
         space.relations.as_slice(),
         &space.fact(alloc, tuple)?,
-    )?;
-    Ok(text)
+    );
+    Ok(text.done()?)
 }
 
 /// A tuple within, as a command takes it. It is refused only for want of memory.
 pub fn inner_text(alloc: Global, space: &Space, tuple: &Tuple) -> Result<String, Memory> {
-    let mut text = String::new(alloc);
+    let mut text = Text::new(alloc);
     add_fact(
         &mut text,
         space.relations.as_slice(),
         &space.shown(alloc, tuple)?,
-    )?;
-    Ok(text)
+    );
+    Ok(text.done()?)
 }
 
 /// The name of an unknown. It is refused only for want of memory.
 pub fn unknown_text(alloc: Global, name: Null) -> Result<String, Memory> {
-    let mut text = String::new(alloc);
-    add_unknown(&mut text, unknown_of(name))?;
-    Ok(text)
+    let mut text = Text::new(alloc);
+    add_unknown(&mut text, unknown_of(name));
+    Ok(text.done()?)
 }
 
 /// A count and its noun. It is refused only for want of memory.
 pub fn count_text(alloc: Global, count: usize, noun: &str) -> Result<String, Memory> {
-    let mut text = String::new(alloc);
-    add_count(&mut text, count, noun)?;
-    Ok(text)
+    let mut text = Text::new(alloc);
+    add_count(&mut text, count, noun);
+    Ok(text.done()?)
 }
 
 /// The tuples by names, between commas. It is refused only for want of memory.
 pub(crate) fn facts_text(alloc: Global, space: &Space, tuples: &[Tuple]) -> Result<String, Memory> {
-    let mut text = String::new(alloc);
+    let mut text = Text::new(alloc);
     for tuple in tuples {
         if !text.is_empty() {
-            text.push_str(", ")?;
+            text.push_str(", ");
         }
-        text.push_str(fact_text(alloc, space, tuple)?.as_str())?;
+        text.made(fact_text(alloc, space, tuple));
     }
-    Ok(text)
+    Ok(text.done()?)
 }

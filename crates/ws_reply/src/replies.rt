@@ -32,6 +32,19 @@ impl Reply {
         }
     }
 
+    /// A reply of one object, with the status. It is refused only for want of memory.
+    pub fn of_object(
+        alloc: Global,
+        status: Status,
+        kind: Kind,
+        object: Object,
+    ) -> Result<Reply, AllocError> {
+        let line = line_of(object, status, false)?;
+        let mut lines = Vec::new(alloc);
+        lines.push(line)?;
+        Ok(Reply::of_text(status, kind, lines))
+    }
+
     /// A reply of objects, one a line, each with the status, and all but the last with the mark `more`. It is refused only
     /// for want of memory.
     pub fn of_objects(
@@ -40,20 +53,36 @@ impl Reply {
         kind: Kind,
         objects: Vec<Object>,
     ) -> Result<Reply, AllocError> {
-        let mut lines = Vec::new(alloc);
         let count = objects.len();
+        let mut lines = Vec::new(alloc);
+        let mut are_all = true;
         for (place, object) in objects.into_iter().enumerate() {
-            let mut object = object;
-            object.number("status", i64::from(status.code()))?;
-            if place.saturating_add(1) < count {
-                object.flag("more", true)?;
-            }
-            lines.push(object.into_line()?)?;
+            let more = place.saturating_add(1) < count;
+            are_all = add_line(&mut lines, object, status, more).is_ok() && are_all;
         }
-        Ok(Reply {
-            status,
-            kind,
-            lines,
-        })
+        if are_all {
+            return Ok(Reply::of_text(status, kind, lines));
+        }
+        Err(AllocError)
     }
+}
+
+fn add_line(
+    lines: &mut Vec<String>,
+    object: Object,
+    status: Status,
+    more: bool,
+) -> Result<(), AllocError> {
+    lines.push(line_of(object, status, more)?)?;
+    Ok(())
+}
+
+// The object with the status, and the mark `more` if others follow.
+fn line_of(object: Object, status: Status, more: bool) -> Result<String, AllocError> {
+    let mut object = object;
+    object.number("status", i64::from(status.code()));
+    if more {
+        object.flag("more", true);
+    }
+    object.into_line()
 }

@@ -3,6 +3,7 @@
 use def_memory::Memory;
 use std::alloc::Global;
 use ws_json::{Items, Object};
+use ws_print::Text;
 
 /// A hint: its words, and commands that it proposes.
 #[derive(Drop)]
@@ -23,23 +24,24 @@ impl Note {
     /// `note: WORDS: COMMAND | COMMAND`.
     pub(crate) fn line(&self, alloc: Global) -> Result<String, Memory> {
         let words = self.words.as_str();
-        let mut line = format!(in alloc; "note: {words}")?;
+        let mut line = Text::new(alloc);
+        write!(line, "note: {words}");
         for (place, command) in self.commands.iter().enumerate() {
-            line.push_str(if place == 0 { ": " } else { " | " })?;
-            line.push_str(command.as_str())?;
+            line.push_str(if place == 0 { ": " } else { " | " });
+            line.push_str(command.as_str());
         }
-        Ok(line)
+        Ok(line.done()?)
     }
 
     /// Its words and its commands.
     pub(crate) fn object(&self, alloc: Global) -> Result<Object, Memory> {
         let mut commands = Items::new(alloc);
         for command in self.commands.iter() {
-            commands.text(command.as_str())?;
+            commands.text(command.as_str());
         }
         let mut object = Object::new(alloc);
-        object.text("words", self.words.as_str())?;
-        object.items("commands", commands)?;
+        object.text("words", self.words.as_str());
+        object.items("commands", commands);
         Ok(object)
     }
 }

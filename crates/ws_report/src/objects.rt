@@ -34,15 +34,15 @@ impl Report {
         at: u32,
         object: &mut Object,
     ) -> Result<(), Memory> {
-        object.text("reply", if trying { "try" } else { "change" })?;
-        object.text("did", self.did)?;
-        object.text("line", self.line.as_str())?;
-        object.number("at", i64::from(at))?;
+        object.text("reply", if trying { "try" } else { "change" });
+        object.text("did", self.did);
+        object.text("line", self.line.as_str());
+        object.number("at", i64::from(at));
         self.add_effect(alloc, space, object)?;
         self.add_said(alloc, space, object)?;
         self.add_lists(alloc, object)?;
         if !trying && !self.next.is_empty() {
-            object.items("next", texts(alloc, self.next.as_slice())?)?;
+            object.items("next", texts(alloc, self.next.as_slice()));
         }
         Ok(())
     }
@@ -51,23 +51,24 @@ impl Report {
         let with_mapping = self.telling == Telling::Whole;
         let came = moved_items(alloc, space, self.effect.came.as_slice(), with_mapping)?;
         let went = moved_items(alloc, space, self.effect.went.as_slice(), with_mapping)?;
-        object.items("came", came)?;
-        object.items("went", went)?;
+        object.items("came", came);
+        object.items("went", went);
         let filled = filled_items(alloc, space, self.effect.filled.as_slice())?;
-        Ok(object.items("filled", filled)?)
+        object.items("filled", filled);
+        Ok(())
     }
 
     // The number, the question, and what else is said.
     fn add_said(&self, alloc: Global, space: &Space, object: &mut Object) -> Result<(), Memory> {
         if let Some(number) = self.number {
-            object.number("number", i64::from(number))?;
+            object.number("number", i64::from(number));
         }
         if let Some(question) = &self.question {
             let asked = question_object(alloc, space, question, None, CANDIDATES)?;
-            object.object("question", asked)?;
+            object.object("question", asked);
         }
         if self.telling != Telling::Whole || !self.also.is_empty() {
-            object.items("also", texts(alloc, self.also.as_slice())?)?;
+            object.items("also", texts(alloc, self.also.as_slice()));
         }
         Ok(())
     }
@@ -75,37 +76,37 @@ impl Report {
     // Other updates, hints, and the updates of a change of several.
     fn add_lists(&self, alloc: Global, object: &mut Object) -> Result<(), Memory> {
         if !self.again.is_empty() {
-            object.items("again", again_items(alloc, self.again.as_slice())?)?;
+            object.items("again", again_items(alloc, self.again.as_slice()));
         }
         if !self.notes.is_empty() {
             let mut notes = Items::new(alloc);
             for note in self.notes.iter() {
-                notes.object(note.object(alloc)?)?;
+                notes.object(note.object(alloc)?);
             }
-            object.items("notes", notes)?;
+            object.items("notes", notes);
         }
         if let Some(counted) = &self.counted {
-            object.items("numbers", numbers(alloc, counted.numbers.as_slice())?)?;
-            object.items("waiting", numbers(alloc, counted.waiting.as_slice())?)?;
+            object.items("numbers", numbers(alloc, counted.numbers.as_slice()));
+            object.items("waiting", numbers(alloc, counted.waiting.as_slice()));
         }
         Ok(())
     }
 }
 
-fn texts(alloc: Global, texts: &[String]) -> Result<Items, Memory> {
+fn texts(alloc: Global, texts: &[String]) -> Items {
     let mut items = Items::new(alloc);
     for text in texts {
-        items.text(text.as_str())?;
+        items.text(text.as_str());
     }
-    Ok(items)
+    items
 }
 
-fn numbers(alloc: Global, numbers: &[u32]) -> Result<Items, Memory> {
+fn numbers(alloc: Global, numbers: &[u32]) -> Items {
     let mut items = Items::new(alloc);
     for number in numbers {
-        items.number(i64::from(*number))?;
+        items.number(i64::from(*number));
     }
-    Ok(items)
+    items
 }
 
 fn moved_items(
@@ -118,13 +119,13 @@ fn moved_items(
     for one in moved {
         let mut object = Object::new(alloc);
         let fact = fact_text(alloc, space, &one.tuple)?;
-        object.text("tuple", fact.as_str())?;
+        object.text("tuple", fact.as_str());
         if let Some(number) = one.by {
             if with_mapping {
-                object.text("by", space.mapping_name(number))?;
+                object.text("by", space.mapping_name(number));
             }
         }
-        items.object(object)?;
+        items.object(object);
     }
     Ok(items)
 }
@@ -135,22 +136,22 @@ fn filled_items(alloc: Global, space: &Space, filled: &[Filled]) -> Result<Items
         let name = space.value(alloc, &base_types::Value::Null(one.name))?;
         let value = space.value(alloc, &one.value)?;
         let mut object = Object::new(alloc);
-        object.text("unknown", value_text(alloc, &name)?.as_str())?;
-        object.text("value", value_text(alloc, &value)?.as_str())?;
-        object.number("tuples", i64::from(one.tuples))?;
-        items.object(object)?;
+        object.made("unknown", value_text(alloc, &name));
+        object.made("value", value_text(alloc, &value));
+        object.number("tuples", i64::from(one.tuples));
+        items.object(object);
     }
     Ok(items)
 }
 
-fn again_items(alloc: Global, again: &[AgainTold]) -> Result<Items, Memory> {
+fn again_items(alloc: Global, again: &[AgainTold]) -> Items {
     let mut items = Items::new(alloc);
     for one in again {
         let mut object = Object::new(alloc);
-        object.number("number", i64::from(one.number))?;
-        object.text("now", one.now)?;
-        object.text("words", one.words.as_str())?;
-        items.object(object)?;
+        object.number("number", i64::from(one.number));
+        object.text("now", one.now);
+        object.text("words", one.words.as_str());
+        items.object(object);
     }
-    Ok(items)
+    items
 }

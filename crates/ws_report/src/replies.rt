@@ -5,6 +5,7 @@ use crate::rows::effect_rows;
 use crate::words::joined;
 use def_memory::Memory;
 use std::alloc::Global;
+use ws_print::{Lines, Text};
 use ws_question::question_lines;
 use ws_reply::{Context, Kind, Reply};
 use ws_space::Space;
@@ -29,9 +30,7 @@ impl Report {
         if context.is_json() {
             let at = at_after(space, context, is_recorded);
             let object = self.object(alloc, space, context.trying, at)?;
-            let mut objects = Vec::new(alloc);
-            objects.push(object)?;
-            return Ok(Reply::of_objects(alloc, self.status, kind, objects)?);
+            return Ok(Reply::of_object(alloc, self.status, kind, object)?);
         }
         let lines = self.lines(alloc, space, context.trying)?;
         Ok(Reply::of_text(self.status, kind, lines))
@@ -50,40 +49,40 @@ impl Report {
 
     // `[try ][N ]DID: LINE`.
     fn head(&self, alloc: Global, trying: bool) -> Result<String, Memory> {
-        let mut head = String::new(alloc);
+        let mut head = Text::new(alloc);
         if trying {
-            head.push_str("try ")?;
+            head.push_str("try ");
         }
         if let Some(number) = self.number {
-            head.push_str(format!(in alloc; "{number} ")?.as_str())?;
+            write!(head, "{number} ");
         }
-        head.push_str(self.did)?;
-        head.push_str(": ")?;
-        head.push_str(self.line.as_str())?;
-        Ok(head)
+        head.push_str(self.did);
+        head.push_str(": ");
+        head.push_str(self.line.as_str());
+        Ok(head.done()?)
     }
 
     fn lines(&self, alloc: Global, space: &Space, trying: bool) -> Result<Vec<String>, Memory> {
-        let mut lines = Vec::new(alloc);
-        lines.push(self.head(alloc, trying)?)?;
+        let mut lines = Lines::new(alloc);
+        lines.made(self.head(alloc, trying));
         let rows = effect_rows(alloc, space, self)?;
-        add_indented(alloc, &mut lines, rows.as_slice())?;
-        add_indented(alloc, &mut lines, self.also.as_slice())?;
+        add_indented(alloc, &mut lines, rows.as_slice());
+        add_indented(alloc, &mut lines, self.also.as_slice());
         if let Some(question) = &self.question {
             let rows = question_lines(alloc, space, question, None, CANDIDATES)?;
-            add_indented(alloc, &mut lines, rows.as_slice())?;
+            add_indented(alloc, &mut lines, rows.as_slice());
         }
         for again in self.again.iter() {
-            lines.push(again_line(alloc, again)?)?;
+            lines.made(again_line(alloc, again));
         }
         for note in self.notes.iter() {
-            lines.push(note.line(alloc)?)?;
+            lines.made(note.line(alloc));
         }
         if !trying && !self.next.is_empty() {
             let next = joined(alloc, self.next.as_slice(), " | ")?;
-            lines.push(format!(in alloc; "next: {next}")?)?;
+            lines.made(format!(in alloc; "next: {next}"));
         }
-        Ok(lines)
+        Ok(lines.done()?)
     }
 }
 
@@ -101,9 +100,8 @@ fn again_line(alloc: Global, again: &AgainTold) -> Result<String, Memory> {
 }
 
 // The rows, with two blanks in front.
-fn add_indented(alloc: Global, lines: &mut Vec<String>, rows: &[String]) -> Result<(), Memory> {
+fn add_indented(alloc: Global, lines: &mut Lines, rows: &[String]) {
     for row in rows {
-        lines.push(format!(in alloc; "  {row}")?)?;
+        lines.made(format!(in alloc; "  {row}"));
     }
-    Ok(())
 }

@@ -4,6 +4,7 @@ use crate::reports::{Report, Telling};
 use crate::words::value_text;
 use def_memory::Memory;
 use std::alloc::Global;
+use ws_print::{Lines, Text};
 use ws_question::{count_text, fact_text};
 use ws_space::Space;
 use ws_state::{Effect, Filled, Moved};
@@ -21,14 +22,15 @@ pub fn moved_row(
 ) -> Result<String, Memory> {
     let fact = fact_text(alloc, space, &moved.tuple)?;
     let fact = fact.as_str();
-    let mut row = format!(in alloc; "{sign} {fact}")?;
+    let mut row = Text::new(alloc);
+    write!(row, "{sign} {fact}");
     if let Some(number) = moved.by {
         if with_mapping {
-            row.push_str("   by ")?;
-            row.push_str(space.mapping_name(number))?;
+            row.push_str("   by ");
+            row.push_str(space.mapping_name(number));
         }
     }
-    Ok(row)
+    Ok(row.done()?)
 }
 
 // `= ?U.P is VALUE, in K tuples`.
@@ -43,29 +45,22 @@ fn filled_row(alloc: Global, space: &Space, filled: &Filled) -> Result<String, M
 fn add_moved(
     alloc: Global,
     space: &Space,
-    rows: &mut Vec<String>,
+    rows: &mut Lines,
     sign: &str,
     moved: &[Moved],
     with_mapping: bool,
-) -> Result<(), Memory> {
+) {
     let room = MANY.saturating_sub(rows.len());
     for one in moved.iter().take(room) {
-        rows.push(moved_row(alloc, space, sign, one, with_mapping)?)?;
+        rows.made(moved_row(alloc, space, sign, one, with_mapping));
     }
-    Ok(())
 }
 
-fn add_filled(
-    alloc: Global,
-    space: &Space,
-    rows: &mut Vec<String>,
-    filled: &[Filled],
-) -> Result<(), Memory> {
+fn add_filled(alloc: Global, space: &Space, rows: &mut Lines, filled: &[Filled]) {
     let room = MANY.saturating_sub(rows.len());
     for one in filled.iter().take(room) {
-        rows.push(filled_row(alloc, space, one)?)?;
+        rows.made(filled_row(alloc, space, one));
     }
-    Ok(())
 }
 
 // `.. and K more: A tuples came, B tuples went in all`.
@@ -76,34 +71,34 @@ fn more_row(alloc: Global, effect: &Effect, more: usize) -> Result<String, Memor
 }
 
 fn whole_rows(alloc: Global, space: &Space, effect: &Effect) -> Result<Vec<String>, Memory> {
-    let mut rows = Vec::new(alloc);
-    add_moved(alloc, space, &mut rows, "+", effect.came.as_slice(), true)?;
-    add_moved(alloc, space, &mut rows, "-", effect.went.as_slice(), true)?;
-    add_filled(alloc, space, &mut rows, effect.filled.as_slice())?;
+    let mut rows = Lines::new(alloc);
+    add_moved(alloc, space, &mut rows, "+", effect.came.as_slice(), true);
+    add_moved(alloc, space, &mut rows, "-", effect.went.as_slice(), true);
+    add_filled(alloc, space, &mut rows, effect.filled.as_slice());
     let moved = effect.came.len().saturating_add(effect.went.len());
     let more = moved
         .saturating_add(effect.filled.len())
         .saturating_sub(MANY);
     if 0 < more {
-        rows.push(more_row(alloc, effect, more)?)?;
+        rows.made(more_row(alloc, effect, more));
     }
     if 0 < effect.merged {
         let merged = count_text(alloc, effect.merged as usize, "tuple")?;
-        rows.push(format!(in alloc; "{merged} became one with another")?)?;
+        rows.made(format!(in alloc; "{merged} became one with another"));
     }
-    Ok(rows)
+    Ok(rows.done()?)
 }
 
 fn brief_rows(alloc: Global, space: &Space, effect: &Effect) -> Result<Vec<String>, Memory> {
-    let mut rows = Vec::new(alloc);
-    add_moved(alloc, space, &mut rows, "+", effect.came.as_slice(), false)?;
-    add_moved(alloc, space, &mut rows, "-", effect.went.as_slice(), false)?;
+    let mut rows = Lines::new(alloc);
+    add_moved(alloc, space, &mut rows, "+", effect.came.as_slice(), false);
+    add_moved(alloc, space, &mut rows, "-", effect.went.as_slice(), false);
     let moved = effect.came.len().saturating_add(effect.went.len());
     let more = moved.saturating_sub(MANY);
     if 0 < more {
-        rows.push(format!(in alloc; ".. and {more} more")?)?;
+        rows.made(format!(in alloc; ".. and {more} more"));
     }
-    Ok(rows)
+    Ok(rows.done()?)
 }
 
 /// The lines on what came, went and was filled.

@@ -3,6 +3,7 @@
 use def_memory::Memory;
 use std::alloc::Global;
 use ws_fault::{Fault, Refusal, Status};
+use ws_print::Text;
 use ws_question::count_text;
 use ws_run::MadeList;
 use ws_space::Space;
@@ -23,13 +24,14 @@ pub fn spent_fault(
     steps: u32,
     made: &MadeList,
 ) -> Result<Refusal, Memory> {
-    let mut hint = String::new(alloc);
+    let mut hint = Text::new(alloc);
     for count in counts_of(alloc, space, made)?.iter() {
-        hint.push_str(if hint.is_empty() { "" } else { ", " })?;
-        hint.push_str(count_words(alloc, count)?.as_str())?;
+        hint.push_str(if hint.is_empty() { "" } else { ", " });
+        hint.made(count_words(alloc, count));
     }
-    hint.push_str(if hint.is_empty() { "" } else { "; " })?;
-    hint.push_str(MORE)?;
+    hint.push_str(if hint.is_empty() { "" } else { "; " });
+    hint.push_str(MORE);
+    let hint = hint.done()?;
     Ok(Refusal::Fault(Fault {
         status: Status::Spent,
         words: format!(in alloc; "spent: {steps} steps did not suffice; nothing was changed")?,

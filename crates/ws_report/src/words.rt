@@ -2,46 +2,46 @@
 
 use def_memory::Memory;
 use std::alloc::Global;
-use ws_print::{add_fact, add_facts, add_ranges, add_value};
+use ws_print::{Text, add_fact, add_facts, add_ranges, add_value};
 use ws_space::Space;
 use ws_written::{Fact, Value};
 
 /// A tuple as a command takes it.
 pub fn said_text(alloc: Global, space: &Space, fact: &Fact) -> Result<String, Memory> {
-    let mut text = String::new(alloc);
-    add_fact(&mut text, space.relations.as_slice(), fact)?;
-    Ok(text)
+    let mut text = Text::new(alloc);
+    add_fact(&mut text, space.relations.as_slice(), fact);
+    Ok(text.done()?)
 }
 
 /// Tuples between commas.
 pub fn facts_text(alloc: Global, space: &Space, facts: &[Fact]) -> Result<String, Memory> {
-    let mut text = String::new(alloc);
-    add_facts(&mut text, space.relations.as_slice(), facts)?;
-    Ok(text)
+    let mut text = Text::new(alloc);
+    add_facts(&mut text, space.relations.as_slice(), facts);
+    Ok(text.done()?)
 }
 
 /// A value as a command takes it.
 pub fn value_text(alloc: Global, value: &Value) -> Result<String, Memory> {
-    let mut text = String::new(alloc);
-    add_value(&mut text, value)?;
-    Ok(text)
+    let mut text = Text::new(alloc);
+    add_value(&mut text, value);
+    Ok(text.done()?)
 }
 
 /// The numbers; those that follow each other as `A..B`.
 pub fn ranges_text(alloc: Global, numbers: &[u32]) -> Result<String, Memory> {
-    let mut text = String::new(alloc);
-    add_ranges(&mut text, numbers)?;
-    Ok(text)
+    let mut text = Text::new(alloc);
+    add_ranges(&mut text, numbers);
+    Ok(text.done()?)
 }
 
 /// The texts in one, with another between them.
 pub fn joined(alloc: Global, texts: &[String], between: &str) -> Result<String, Memory> {
-    let mut all = String::new(alloc);
+    let mut all = Text::new(alloc);
     for (place, text) in texts.iter().enumerate() {
         if 0 < place {
-            all.push_str(between)?;
+            all.push_str(between);
         }
-        all.push_str(text.as_str())?;
+        all.push_str(text.as_str());
     }
-    Ok(all)
+    Ok(all.done()?)
 }

@@ -1,4 +1,5 @@
 //! The ops of an update, one after the other.
+ghost use Rattle.ws_ground.specs.Trails.{HasGrown};
 
 use crate::following::{follow, followed};
 use crate::halts::Halt;
@@ -13,6 +14,7 @@ use ws_lines::{Deed, GivenList, SpelledTuple};
 
 /// Takes the ops of an update whole over the ground, one after the other, with these answers. If it halts, the ops that were
 /// done before have to be taken back. An update that puts a mapping in force or takes one away has none.
+#[tactic(auto, using(ws_ground::proofs::Trailing::none_made))]
 pub fn run_deed(
     alloc: Global,
     setting: &Setting<'_>,
@@ -20,7 +22,9 @@ pub fn run_deed(
     thread: &mut Thread,
     answers: &GivenList,
     deed: &Deed,
-) -> Result<(), Halt> {
+) -> Result<(), Halt>
+    ensures grown { HasGrown ground.old ground.new }
+{
     let run = Run {
         setting,
         answers,
@@ -42,6 +46,7 @@ pub fn run_deed(
     }
 }
 
+#[tactic(auto, using(ws_ground::proofs::Trailing::none_made, ws_ground::proofs::Trailing::more_made))]
 fn insert_all(
     alloc: Global,
     run: Run<'_>,
@@ -49,7 +54,9 @@ fn insert_all(
     thread: &mut Thread,
     tuples: &[SpelledTuple],
     news: u32,
-) -> Result<(), Halt> {
+) -> Result<(), Halt>
+    ensures grown { HasGrown ground.old ground.new }
+{
     let first = ground.last;
     draw(alloc, run, ground, thread, news)?;
     let tuples = found_spelled(alloc, ground, first, tuples)?;
@@ -58,6 +65,7 @@ fn insert_all(
 }
 
 // One tuple comes, and then the other goes, if it is there by then.
+#[tactic(auto, using(ws_ground::proofs::Trailing::none_made, ws_ground::proofs::Trailing::more_made))]
 fn swap(
     alloc: Global,
     run: Run<'_>,
@@ -66,7 +74,9 @@ fn swap(
     old: &Tuple,
     new: &SpelledTuple,
     news: u32,
-) -> Result<(), Halt> {
+) -> Result<(), Halt>
+    ensures grown { HasGrown ground.old ground.new }
+{
     let first = ground.last;
     draw(alloc, run, ground, thread, news)?;
     let comes = found_spelled(alloc, ground, first, std::slice::from_ref(new))?;
@@ -77,13 +87,16 @@ fn swap(
 }
 
 // Draws so many new unknowns.
+#[tactic(auto, using(ws_ground::proofs::Trailing::none_made, ws_ground::proofs::Trailing::more_made))]
 fn draw(
     alloc: Global,
     run: Run<'_>,
     ground: &mut Ground,
     thread: &mut Thread,
     news: u32,
-) -> Result<(), Halt> {
+) -> Result<(), Halt>
+    ensures grown { HasGrown ground.old ground.new }
+{
     for number in 0..news {
         let tuple = wanted(alloc, number + 1)?;
         take_op(alloc, run, ground, thread, Operation::Insert(tuple))?;
@@ -92,6 +105,7 @@ fn draw(
 }
 
 // Takes away what says of them what they are.
+#[tactic(auto, using(ws_ground::proofs::Trailing::none_made, ws_ground::proofs::Trailing::more_made))]
 fn settle(
     alloc: Global,
     run: Run<'_>,
@@ -99,7 +113,9 @@ fn settle(
     thread: &mut Thread,
     first: u32,
     news: u32,
-) -> Result<(), Halt> {
+) -> Result<(), Halt>
+    ensures grown { HasGrown ground.old ground.new }
+{
     for number in 0..news {
         let tuple = settling(alloc, thread, first, number + 1)?;
         take_op(alloc, run, ground, thread, Operation::Delete(tuple))?;
@@ -114,13 +130,16 @@ fn settling(alloc: Global, thread: &Thread, first: u32, number: u32) -> Result<T
     found_as(alloc, number, now)
 }
 
+#[tactic(auto, using(ws_ground::proofs::Trailing::none_made, ws_ground::proofs::Trailing::more_made))]
 fn add_all(
     alloc: Global,
     run: Run<'_>,
     ground: &mut Ground,
     thread: &mut Thread,
     tuples: &TupleList,
-) -> Result<(), Halt> {
+) -> Result<(), Halt>
+    ensures grown { HasGrown ground.old ground.new }
+{
     for tuple in tuples.as_slice() {
         let tuple = followed(alloc, thread, tuple)?;
         take_op(alloc, run, ground, thread, Operation::Insert(tuple))?;
@@ -129,13 +148,16 @@ fn add_all(
 }
 
 // Those that are there by then go.
+#[tactic(auto, using(ws_ground::proofs::Trailing::none_made, ws_ground::proofs::Trailing::more_made))]
 fn remove_all(
     alloc: Global,
     run: Run<'_>,
     ground: &mut Ground,
     thread: &mut Thread,
     tuples: &TupleList,
-) -> Result<(), Halt> {
+) -> Result<(), Halt>
+    ensures grown { HasGrown ground.old ground.new }
+{
     for tuple in tuples.as_slice() {
         let tuple = followed(alloc, thread, tuple)?;
         if ground.facts.contains(&tuple) {
@@ -145,6 +167,7 @@ fn remove_all(
     Ok(())
 }
 
+#[tactic(auto, using(ws_ground::proofs::Trailing::none_made))]
 fn fill(
     alloc: Global,
     run: Run<'_>,
@@ -152,20 +175,25 @@ fn fill(
     thread: &mut Thread,
     name: Null,
     value: &Value,
-) -> Result<(), Halt> {
+) -> Result<(), Halt>
+    ensures grown { HasGrown ground.old ground.new }
+{
     let null = found_null(ground, name)?;
     let value = found(alloc, ground, value)?;
     take_op(alloc, run, ground, thread, Operation::Replace(null, value))
 }
 
 // What says that a mapping is to be repaired comes, and goes as what it is by then.
+#[tactic(auto, using(ws_ground::proofs::Trailing::none_made, ws_ground::proofs::Trailing::more_made))]
 fn fix(
     alloc: Global,
     run: Run<'_>,
     ground: &mut Ground,
     thread: &mut Thread,
     values: &[Value],
-) -> Result<(), Halt> {
+) -> Result<(), Halt>
+    ensures grown { HasGrown ground.old ground.new }
+{
     let values = found_all(alloc, ground, values)?;
     let tuple = to_fix(alloc, values)?;
     take_op(

@@ -1,4 +1,5 @@
 //! One op taken whole over the ground.
+ghost use Rattle.ws_ground.specs.Trails.{HasGrown};
 
 use crate::going::go;
 use crate::halts::Halt;
@@ -30,13 +31,16 @@ pub(crate) struct Over<'a> {
 
 /// Takes the operation whole over the ground as its next op, with the answers that the run has not taken yet. If it halts, the
 /// tuples and the number of the last op are as before.
+#[tactic(auto, using(ws_ground::proofs::Trailing::none_made))]
 pub(crate) fn take_op(
     alloc: Global,
     run: Run<'_>,
     ground: &mut Ground,
     thread: &mut Thread,
     operation: Operation,
-) -> Result<(), Halt> {
+) -> Result<(), Halt>
+    ensures grown { HasGrown ground.old ground.new }
+{
     let Some(number) = ground.last.checked_add(1) else {
         return Err(Halt::Memory);
     };

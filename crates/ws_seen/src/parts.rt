@@ -4,7 +4,7 @@ use def_memory::Memory;
 use std::alloc::Global;
 use ws_fault::{Fault, Status};
 use ws_json::{Items, Object};
-use ws_print::add_unknown;
+use ws_print::{Text, add_unknown};
 use ws_reply::{Kind, Reply};
 use ws_written::{Fact, Relation, Unknown, Value};
 
@@ -15,48 +15,48 @@ pub fn number_of(count: usize) -> i64 {
 
 /// The lines, parted by line feeds. It is refused only for want of memory.
 pub fn lines_text(alloc: Global, lines: &[String]) -> Result<String, Memory> {
-    let mut text = String::new(alloc);
+    let mut text = Text::new(alloc);
     for (place, line) in lines.iter().enumerate() {
         if 0 < place {
-            text.push('\n')?;
+            text.push('\n');
         }
-        text.push_str(line.as_str())?;
+        text.push_str(line.as_str());
     }
-    Ok(text)
+    Ok(text.done()?)
 }
 
-/// An object of this kind of reply. It is refused only for want of memory.
-pub fn object_of(alloc: Global, reply: &str) -> Result<Object, Memory> {
+/// An object of this kind of reply.
+pub fn object_of(alloc: Global, reply: &str) -> Object {
     let mut object = Object::new(alloc);
-    object.text("reply", reply)?;
-    Ok(object)
+    object.text("reply", reply);
+    object
 }
 
-/// The numbers as items. It is refused only for want of memory.
-pub fn number_items(alloc: Global, numbers: &[u32]) -> Result<Items, Memory> {
+/// The numbers as items.
+pub fn number_items(alloc: Global, numbers: &[u32]) -> Items {
     let mut items = Items::new(alloc);
     for number in numbers {
-        items.number(i64::from(*number))?;
+        items.number(i64::from(*number));
     }
-    Ok(items)
+    items
 }
 
-/// The texts as items. It is refused only for want of memory.
-pub fn text_items(alloc: Global, texts: &[String]) -> Result<Items, Memory> {
+/// The texts as items.
+pub fn text_items(alloc: Global, texts: &[String]) -> Items {
     let mut items = Items::new(alloc);
     for text in texts {
-        items.text(text.as_str())?;
+        items.text(text.as_str());
     }
-    Ok(items)
+    items
 }
 
-/// The names of the relation's columns as items. It is refused only for want of memory.
-pub fn column_items(alloc: Global, relation: &Relation) -> Result<Items, Memory> {
+/// The names of the relation's columns as items.
+pub fn column_items(alloc: Global, relation: &Relation) -> Items {
     let mut items = Items::new(alloc);
     for column in &relation.columns {
-        items.text(column.name.as_str())?;
+        items.text(column.name.as_str());
     }
-    Ok(items)
+    items
 }
 
 /// Rows as items, each a list of its values: a number, a text, or an object that names the unknown. It is refused only for want
@@ -64,7 +64,7 @@ pub fn column_items(alloc: Global, relation: &Relation) -> Result<Items, Memory>
 pub fn row_items(alloc: Global, rows: &[Fact]) -> Result<Items, Memory> {
     let mut items = Items::new(alloc);
     for row in rows {
-        items.items(cells(alloc, row)?)?;
+        items.items(cells(alloc, row)?);
     }
     Ok(items)
 }
@@ -79,18 +79,19 @@ fn cells(alloc: Global, row: &Fact) -> Result<Items, Memory> {
 
 fn add_value(alloc: Global, items: &mut Items, value: &Value) -> Result<(), Memory> {
     match value {
-        Value::Number(number) => items.number(*number)?,
-        Value::Text(text) => items.text(text.as_str())?,
-        Value::Unknown(unknown) => items.object(unknown_object(alloc, *unknown)?)?,
+        Value::Number(number) => items.number(*number),
+        Value::Text(text) => items.text(text.as_str()),
+        Value::Unknown(unknown) => items.object(unknown_object(alloc, *unknown)?),
     }
     Ok(())
 }
 
 fn unknown_object(alloc: Global, unknown: Unknown) -> Result<Object, Memory> {
-    let mut name = String::new(alloc);
-    add_unknown(&mut name, unknown)?;
+    let mut name = Text::new(alloc);
+    add_unknown(&mut name, unknown);
+    let name = name.done()?;
     let mut object = Object::new(alloc);
-    object.text("unknown", name.as_str())?;
+    object.text("unknown", name.as_str());
     Ok(object)
 }
 
@@ -106,9 +107,7 @@ pub fn seen_objects(alloc: Global, status: Status, objects: Vec<Object>) -> Resu
 
 /// The reply to a command that looks, of one object. It is refused only for want of memory.
 pub fn seen_object(alloc: Global, status: Status, object: Object) -> Result<Reply, Memory> {
-    let mut objects = Vec::new(alloc);
-    objects.push(object)?;
-    seen_objects(alloc, status, objects)
+    Ok(Reply::of_object(alloc, status, Kind::Look, object)?)
 }
 
 /// A refusal in these words, with a hint.

@@ -8,7 +8,7 @@ use def_memory::Memory;
 use std::alloc::Global;
 use ws_fault::Refusal;
 use ws_log::{Fault, OpenLog};
-use ws_print::add_record;
+use ws_print::{Text, add_record};
 use ws_reply::{Outcome, Reply};
 use ws_space::Space;
 use ws_written::{Line, Record, SaidLine, Stamp};
@@ -52,8 +52,9 @@ fn add_said(
 
 // The text of a record over the relations of a workspace that has it.
 fn text_of(alloc: Global, space: &Space, record: &Record) -> Result<Vec<u8>, Memory> {
-    let mut text = String::new(alloc);
-    add_record(&mut text, space.relations.as_slice(), record)?;
+    let mut text = Text::new(alloc);
+    add_record(&mut text, space.relations.as_slice(), record);
+    let text = text.done()?;
     Ok(text.into_bytes())
 }
 

@@ -6,7 +6,7 @@ use std::io::{self, ErrorKind};
 use ws_fault::{Fault, Refusal, Status};
 use ws_json::{Items, Object};
 use ws_log::{Damage, Fault as LogFault, reason};
-use ws_print::add_fault;
+use ws_print::{Lines, Text, add_fault};
 use ws_reply::{Form, Kind, Reply};
 
 /// A fault of these words, without a place.
@@ -130,62 +130,46 @@ pub fn fault_reply(
     number: Option<u64>,
 ) -> Result<Reply, AllocError> {
     if form == Form::Json {
-        let mut object = Object::new(alloc);
-        add_fault_members(alloc, &mut object, fault, number)?;
-        return reply_of(alloc, fault.status, Kind::Fault, object);
+        let object = fault_object(alloc, fault, number);
+        return Reply::of_object(alloc, fault.status, Kind::Fault, object);
     }
-    let mut text = String::from_str(alloc, "yt: ")?;
-    add_fault(&mut text, alloc, fault, line, number)?;
-    let mut lines = Vec::new(alloc);
+    let mut text = Text::from_str(alloc, "yt: ");
+    add_fault(&mut text, fault, line, number);
+    let text = text.done()?;
+    let mut lines = Lines::new(alloc);
     for line in text.as_str().split('\n') {
-        lines.push(String::from_str(alloc, line)?)?;
+        lines.push_str(line);
     }
-    Ok(Reply::of_text(fault.status, Kind::Fault, lines))
+    Ok(Reply::of_text(fault.status, Kind::Fault, lines.done()?))
 }
 
-fn add_fault_members(
-    alloc: Global,
-    object: &mut Object,
-    fault: &Fault,
-    number: Option<u64>,
-) -> Result<(), AllocError> {
-    object.text("reply", "fault")?;
-    object.text("words", fault.words.as_str())?;
+fn fault_object(alloc: Global, fault: &Fault, number: Option<u64>) -> Object {
+    let mut object = Object::new(alloc);
+    object.text("reply", "fault");
+    object.text("words", fault.words.as_str());
     if let Some(place) = fault.place {
-        object.number("column", count(place.saturating_add(1)))?;
+        object.number("column", count(place.saturating_add(1)));
     }
     if let Some(number) = number {
-        object.number("line", i64::try_from(number).unwrap_or(i64::MAX))?;
+        object.number("line", i64::try_from(number).unwrap_or(i64::MAX));
     }
     if let Some(hint) = &fault.hint {
-        object.text("hint", hint.as_str())?;
+        object.text("hint", hint.as_str());
     }
     if !fault.more.is_empty() {
-        object.items("faults", items_of(alloc, fault.more.as_slice())?)?;
+        object.items("faults", items_of(alloc, fault.more.as_slice()));
     }
-    Ok(())
-}
-
-/// The reply of one object.
-pub(crate) fn reply_of(
-    alloc: Global,
-    status: Status,
-    kind: Kind,
-    object: Object,
-) -> Result<Reply, AllocError> {
-    let mut objects = Vec::new(alloc);
-    objects.push(object)?;
-    Reply::of_objects(alloc, status, kind, objects)
+    object
 }
 
 fn count(number: usize) -> i64 {
     i64::try_from(number).unwrap_or(i64::MAX)
 }
 
-fn items_of(alloc: Global, texts: &[String]) -> Result<Items, AllocError> {
+fn items_of(alloc: Global, texts: &[String]) -> Items {
     let mut items = Items::new(alloc);
     for text in texts {
-        items.text(text.as_str())?;
+        items.text(text.as_str());
     }
-    Ok(items)
+    items
 }

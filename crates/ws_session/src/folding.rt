@@ -1,6 +1,5 @@
 //! A fold: what stands becomes the base.
 
-use crate::failing::reply_of;
 use crate::leaving::Done;
 use crate::making::head_text;
 use crate::sessions::Session;
@@ -9,6 +8,7 @@ use std::alloc::{AllocError, Global};
 use ws_fault::{Refusal, Status};
 use ws_json::{Items, Object};
 use ws_log::{Fault, OpenLog, fold};
+use ws_print::Lines;
 use ws_reply::{Form, Kind, Reply};
 use ws_space::Space;
 
@@ -56,41 +56,33 @@ fn folded_words(alloc: Global, space: &Space) -> Result<String, AllocError> {
 
 fn reply(alloc: Global, form: Form, at: u32, did: Did<'_>) -> Result<Reply, Memory> {
     if form == Form::Json {
-        let mut object = Object::new(alloc);
-        add_members(alloc, &mut object, at, did)?;
-        return Ok(reply_of(alloc, did.status, Kind::Change, object)?);
+        let object = object(alloc, at, did);
+        return Ok(Reply::of_object(alloc, did.status, Kind::Change, object)?);
     }
     let word = did.word;
-    let mut lines = Vec::new(alloc);
-    lines.push(format!(in alloc; "{word}: fold")?)?;
+    let mut lines = Lines::new(alloc);
+    lines.made(format!(in alloc; "{word}: fold"));
     if let Some(also) = did.also {
-        lines.push(format!(in alloc; "  {also}")?)?;
+        lines.made(format!(in alloc; "  {also}"));
     }
-    Ok(Reply::of_text(did.status, Kind::Change, lines))
+    Ok(Reply::of_text(did.status, Kind::Change, lines.done()?))
 }
 
-fn add_members(
-    alloc: Global,
-    object: &mut Object,
-    at: u32,
-    did: Did<'_>,
-) -> Result<(), AllocError> {
-    object.text("reply", "change")?;
-    object.text("did", did.word)?;
-    object.text("line", "fold")?;
-    object.number("at", i64::from(at))?;
-    object.items("also", also_items(alloc, did.also)?)?;
-    object.items("came", Items::new(alloc))?;
-    object.items("went", Items::new(alloc))?;
-    object.items("filled", Items::new(alloc))
-}
-
-fn also_items(alloc: Global, also: Option<&str>) -> Result<Items, AllocError> {
+fn object(alloc: Global, at: u32, did: Did<'_>) -> Object {
+    let mut object = Object::new(alloc);
+    object.text("reply", "change");
+    object.text("did", did.word);
+    object.text("line", "fold");
+    object.number("at", i64::from(at));
     let mut items = Items::new(alloc);
-    if let Some(also) = also {
-        items.text(also)?;
+    if let Some(also) = did.also {
+        items.text(also);
     }
-    Ok(items)
+    object.items("also", items);
+    object.items("came", Items::new(alloc));
+    object.items("went", Items::new(alloc));
+    object.items("filled", Items::new(alloc));
+    object
 }
 
 impl Session {

@@ -8,7 +8,7 @@ use ws_cells::form_of;
 use ws_command::{Load, Source};
 use ws_fault::{Refusal, Status};
 use ws_load::{Input, load as loaded_over};
-use ws_print::add_count;
+use ws_print::{Text, add_count};
 use ws_reply::{Context, Outcome};
 use ws_space::Space;
 
@@ -72,8 +72,10 @@ fn fed_for<'a>(alloc: Global, load: &Load, fed: Option<&'a Fed>) -> Result<&'a F
     if let Source::Lines(wanted) = &load.source {
         let count = fed.lines;
         if count < u64::from(*wanted) {
-            let mut words = format!(in alloc; "standard input ended after {count} of ")?;
-            add_count(&mut words, *wanted as usize, "line")?;
+            let mut words = Text::new(alloc);
+            write!(words, "standard input ended after {count} of ");
+            add_count(&mut words, *wanted as usize, "line");
+            let words = words.done()?;
             return Err(Refusal::Fault(fault(alloc, Status::Unread, words, None)));
         }
     }

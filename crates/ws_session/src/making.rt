@@ -12,7 +12,7 @@ use ws_command::{Change, Command, Said};
 use ws_fault::Refusal;
 use ws_log::{Fault, OpenLog, create};
 use ws_look::help;
-use ws_print::add_head;
+use ws_print::{Text, add_head};
 use ws_reply::{Outcome, Reply};
 use ws_space::Space;
 
@@ -197,7 +197,8 @@ fn makes_file(change: &Change) -> bool {
 
 /// The text of the head of a workspace. It is refused only for want of memory.
 pub(crate) fn head_text(alloc: Global, space: &Space) -> Result<Vec<u8>, Memory> {
-    let mut text = String::new(alloc);
-    add_head(&mut text, &space.head(alloc)?)?;
+    let mut text = Text::new(alloc);
+    add_head(&mut text, &space.head(alloc)?);
+    let text = text.done()?;
     Ok(text.into_bytes())
 }

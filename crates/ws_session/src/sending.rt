@@ -1,6 +1,6 @@
 //! A text that is told, or written to a file.
 
-use crate::failing::{cannot, refused, reply_of};
+use crate::failing::{cannot, refused};
 use crate::sessions::{Settings, called};
 use def_memory::Memory;
 use std::alloc::{AllocError, Global};
@@ -8,7 +8,7 @@ use std::fs;
 use std::os::unix::fs::MetadataExt;
 use ws_fault::{Refusal, Status};
 use ws_json::Object;
-use ws_print::add_escaped;
+use ws_print::{Lines, Text, add_escaped};
 use ws_reply::{Form, Kind, Reply};
 
 /// Writes the lines to the file, if there is one, and tells that; or tells them.
@@ -53,15 +53,15 @@ fn is_workspace(rt: &HostRuntime, settings: &Settings, path: &str) -> bool {
 
 // The lines, each with a line feed; a line feed if there is none.
 fn joined(alloc: Global, lines: &[String]) -> Result<String, AllocError> {
-    let mut text = String::new(alloc);
+    let mut text = Text::new(alloc);
     for (place, line) in lines.iter().enumerate() {
         if 0 < place {
-            text.push('\n')?;
+            text.push('\n');
         }
-        text.push_str(line.as_str())?;
+        text.push_str(line.as_str());
     }
-    text.push('\n')?;
-    Ok(text)
+    text.push('\n');
+    text.done()
 }
 
 fn told(alloc: Global, form: Form, kind: &str, lines: Vec<String>) -> Result<Reply, Memory> {
@@ -76,17 +76,18 @@ fn wrote(alloc: Global, form: Form, path: &str) -> Result<Reply, Memory> {
     if form == Form::Json {
         return Ok(one(alloc, "wrote", "file", path)?);
     }
-    let mut line = String::from_str(alloc, "wrote ")?;
-    add_escaped(&mut line, path)?;
-    let mut lines = Vec::new(alloc);
-    lines.push(line)?;
-    Ok(Reply::of_text(Status::Done, Kind::Look, lines))
+    let mut line = Text::from_str(alloc, "wrote ");
+    add_escaped(&mut line, path);
+    let line = line.done()?;
+    let mut lines = Lines::new(alloc);
+    lines.push(line);
+    Ok(Reply::of_text(Status::Done, Kind::Look, lines.done()?))
 }
 
 // The reply of an object of this kind that has one text.
 fn one(alloc: Global, kind: &str, key: &str, text: &str) -> Result<Reply, AllocError> {
     let mut object = Object::new(alloc);
-    object.text("reply", kind)?;
-    object.text(key, text)?;
-    reply_of(alloc, Status::Done, Kind::Look, object)
+    object.text("reply", kind);
+    object.text(key, text);
+    Reply::of_object(alloc, Status::Done, Kind::Look, object)
 }

@@ -8,7 +8,7 @@ use crate::texts::text_of;
 use base_types::Memory;
 use std::alloc::Global;
 use ws_lines::{Given, Update as Numbered};
-use ws_print::add_update;
+use ws_print::{Text, add_update};
 use ws_run::Reason;
 use ws_written::{Answer, Rule, Update};
 
@@ -69,11 +69,11 @@ impl Space {
     /// An update as it is printed, without its number and its budget; empty if it is not there. It is refused only for want of
     /// memory.
     pub fn update_text(&self, alloc: Global, number: u32) -> Result<String, Memory> {
-        let mut text = String::new(alloc);
+        let mut text = Text::new(alloc);
         if let Some(update) = self.update(alloc, number)? {
-            add_update(&mut text, self.relations.as_slice(), &update)?;
+            add_update(&mut text, self.relations.as_slice(), &update);
         }
-        Ok(text)
+        Ok(text.done()?)
     }
 
     /// Who said an update; empty if it is not there.

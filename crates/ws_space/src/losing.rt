@@ -6,7 +6,7 @@ use base_types::{Memory, Value};
 use std::alloc::Global;
 use std::fmt::Write;
 use ws_fault::{Fault, Status};
-use ws_print::{add_unknown, add_value};
+use ws_print::{Text, add_unknown, add_value};
 use ws_run::{Step, follow};
 use ws_written::Unknown;
 
@@ -14,23 +14,27 @@ impl Space {
     /// Why a name stands for no unknown: the updates that took it to be another value, or that there was none. It is refused
     /// only for want of memory.
     pub fn lost(&self, alloc: Global, unknown: Unknown) -> Result<Fault, Memory> {
-        let mut words = String::new(alloc);
-        add_unknown(&mut words, unknown)?;
+        let mut name = Text::new(alloc);
+        add_unknown(&mut name, unknown);
+        let name = name.done()?;
         let fate = self.fate(alloc, unknown)?;
         if fate.is_empty() {
-            let known = format!(in alloc; "there is no unknown {words}")?;
+            let words = format!(in alloc; "there is no unknown {name}")?;
             let hint = "`show` has them; a new one is written ? in an insert";
-            return fault(alloc, known, String::from_str(alloc, hint)?);
+            return fault(alloc, words, String::from_str(alloc, hint)?);
         }
-        words.push_str(" is no unknown any more")?;
-        fault(alloc, words, fate)
+        fault(
+            alloc,
+            format!(in alloc; "{name} is no unknown any more")?,
+            fate,
+        )
     }
 
     // `update N took it to be V, update N took that to be V, ..`; empty if none did.
     fn fate(&self, alloc: Global, unknown: Unknown) -> Result<String, Memory> {
-        let mut fate = String::new(alloc);
+        let mut fate = Text::new(alloc);
         let Some(null) = self.state.names().null_called(null_of(unknown)) else {
-            return Ok(fate);
+            return Ok(fate.done()?);
         };
         let mut now = Value::Null(null);
         for standing in self.state.order().as_slice() {
@@ -42,13 +46,13 @@ impl Space {
                 }
             }
         }
-        Ok(fate)
+        Ok(fate.done()?)
     }
 
     fn add_taken(
         &self,
         alloc: Global,
-        fate: &mut String,
+        fate: &mut Text,
         held: usize,
         value: &Value,
     ) -> Result<(), Memory> {
@@ -58,11 +62,11 @@ impl Space {
         };
         let what = if fate.is_empty() { "it" } else { "that" };
         if !fate.is_empty() {
-            fate.push_str(", ")?;
+            fate.push_str(", ");
         }
-        write!(fate, "update {number} took {what} to be ")?;
+        write!(fate, "update {number} took {what} to be ");
         let named = self.state.names().value(alloc, value)?;
-        add_value(fate, &said_value(alloc, &named)?)?;
+        add_value(fate, &said_value(alloc, &named)?);
         Ok(())
     }
 }

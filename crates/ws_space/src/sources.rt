@@ -4,6 +4,7 @@ use crate::spaces::Space;
 use base_types::Memory;
 use std::alloc::Global;
 use ws_lines::Source;
+use ws_print::Text;
 use ws_written::Rule;
 
 /// The number of a mapping by its name; None if there is none.
@@ -37,8 +38,9 @@ pub(crate) fn called(alloc: Global, rules: &[Rule], source: Source) -> Result<St
         Source::Anew => String::from_str(alloc, "_new")?,
         Source::By(mapping) => String::from_str(alloc, name_of(rules, mapping))?,
         Source::Fix(mapping) => {
-            let mut name = String::from_str(alloc, "_fix_")?;
-            name.push_str(name_of(rules, mapping))?;
+            let mut name = Text::from_str(alloc, "_fix_");
+            name.push_str(name_of(rules, mapping));
+            let name = name.done()?;
             name
         }
     })

@@ -8,6 +8,7 @@ use ws_command::Bounds;
 use ws_done::{refuse, refuse_with};
 use ws_fault::Refusal;
 use ws_hint::known_fact;
+use ws_print::Lines;
 use ws_question::{AskedNow, count_text, fact_text, question_line};
 use ws_report::{MANY, moved_row};
 use ws_space::Space;
@@ -116,32 +117,26 @@ pub(crate) fn check_bounds(
     Ok(())
 }
 
-fn add_texts(
-    alloc: Global,
-    space: &Space,
-    texts: &mut Vec<String>,
-    moved: &Moved,
-) -> Result<(), Memory> {
+fn add_texts(alloc: Global, space: &Space, texts: &mut Lines, moved: &Moved) {
     if texts.len() < TOLD {
-        texts.push(fact_text(alloc, space, &moved.tuple)?)?;
+        texts.made(fact_text(alloc, space, &moved.tuple));
     }
-    Ok(())
 }
 
 // Nothing goes that is not named, and nothing comes by a mapping.
 fn check_only(alloc: Global, space: &Space, named: &Named, effect: &Effect) -> Result<(), Refusal> {
-    let mut texts = Vec::new(alloc);
+    let mut texts = Lines::new(alloc);
     let mut count = 0usize;
     for moved in effect.went.as_slice() {
         if !named.has(&moved.tuple) {
             count = count.saturating_add(1);
-            add_texts(alloc, space, &mut texts, moved)?;
+            add_texts(alloc, space, &mut texts, moved);
         }
     }
     for moved in effect.came.as_slice() {
         if moved.by.is_some() {
             count = count.saturating_add(1);
-            add_texts(alloc, space, &mut texts, moved)?;
+            add_texts(alloc, space, &mut texts, moved);
         }
     }
     if count == 0 {
@@ -149,7 +144,12 @@ fn check_only(alloc: Global, space: &Space, named: &Named, effect: &Effect) -> R
     }
     let count = count_text(alloc, count, "tuple")?;
     let words = format!(in alloc; "more than what is named would change: {count}")?;
-    refuse_with(alloc, words.as_str(), "try it, or leave --only", texts)
+    refuse_with(
+        alloc,
+        words.as_str(),
+        "try it, or leave --only",
+        texts.done()?,
+    )
 }
 
 // Nothing goes along that is not named to go.

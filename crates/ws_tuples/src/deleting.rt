@@ -10,7 +10,7 @@ use std::collections::BTreeSet;
 use ws_command::{Bounds, Pattern};
 use ws_done::Done;
 use ws_fault::{Refusal, Status};
-use ws_print::add_pattern;
+use ws_print::{Lines, Text, add_pattern};
 use ws_question::near_texts;
 use ws_report::{Note, Report, facts_text};
 use ws_space::{Space, copy_fact};
@@ -91,14 +91,14 @@ fn absent_of(alloc: Global, space: &Space, facts: &[Fact]) -> Result<Vec<Fact>, 
 }
 
 fn patterns_line(alloc: Global, space: &Space, patterns: &[Pattern]) -> Result<String, Memory> {
-    let mut line = String::from_str(alloc, "delete ")?;
+    let mut line = Text::from_str(alloc, "delete ");
     for (place, pattern) in patterns.iter().enumerate() {
         if 0 < place {
-            line.push_str(", ")?;
+            line.push_str(", ");
         }
-        add_pattern(&mut line, space.relations.as_slice(), pattern)?;
+        add_pattern(&mut line, space.relations.as_slice(), pattern);
     }
-    Ok(line)
+    Ok(line.done()?)
 }
 
 // None of the tuples is there: those that are like the first one are told.
@@ -117,11 +117,11 @@ pub(crate) fn near_lines(
     space: &Space,
     fact: Option<&Fact>,
 ) -> Result<Vec<String>, Memory> {
-    let mut lines = Vec::new(alloc);
+    let mut lines = Lines::new(alloc);
     if let Some(fact) = fact {
         for text in near_texts(alloc, space, fact)?.iter() {
-            lines.push(format!(in alloc; "there is {text}")?)?;
+            lines.made(format!(in alloc; "there is {text}"));
         }
     }
-    Ok(lines)
+    Ok(lines.done()?)
 }

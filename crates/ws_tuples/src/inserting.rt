@@ -8,7 +8,7 @@ use ws_command::Bounds;
 use ws_done::{Done, refuse};
 use ws_fault::Refusal;
 use ws_hint::known_fact;
-use ws_print::add_new_facts;
+use ws_print::{Text, add_new_facts};
 use ws_space::Space;
 use ws_written::{NewFact, Update};
 
@@ -44,8 +44,9 @@ fn line_if_there(
     if !are_there(alloc, space, facts)? {
         return Ok(None);
     }
-    let mut line = String::from_str(alloc, "insert ")?;
-    add_new_facts(&mut line, space.relations.as_slice(), facts)?;
+    let mut line = Text::from_str(alloc, "insert ");
+    add_new_facts(&mut line, space.relations.as_slice(), facts);
+    let line = line.done()?;
     Ok(Some(line))
 }
 

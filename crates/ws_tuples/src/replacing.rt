@@ -12,7 +12,7 @@ use ws_command::{Bounds, Pattern, Replacement};
 use ws_done::{Done, refuse, refuse_with};
 use ws_fault::Refusal;
 use ws_hint::known_fact;
-use ws_print::{add_pattern, add_update};
+use ws_print::{Text, add_pattern, add_update};
 use ws_question::count_text;
 use ws_report::{joined, said_text};
 use ws_space::{Space, copy_value};
@@ -22,8 +22,9 @@ use ws_written::{Fact, NewFact, NewValue, Unknown, Update, Value};
 const TOLD: usize = 3;
 
 fn nothing_to_do(alloc: Global, space: &Space, update: &Update) -> Result<Done, Refusal> {
-    let mut line = String::new(alloc);
-    add_update(&mut line, space.relations.as_slice(), update)?;
+    let mut line = Text::new(alloc);
+    add_update(&mut line, space.relations.as_slice(), update);
+    let line = line.done()?;
     Ok(Done::nothing(alloc, "nothing to do", line))
 }
 
@@ -107,10 +108,11 @@ fn one_fact(alloc: Global, space: &Space, pattern: &Pattern) -> Result<Fact, Ref
             return Ok(fact);
         }
     }
-    let mut words = String::new(alloc);
-    add_pattern(&mut words, space.relations.as_slice(), pattern)?;
-    words.push_str(" fits ")?;
-    words.push_str(count_text(alloc, facts.len(), "tuple")?.as_str())?;
+    let mut words = Text::new(alloc);
+    add_pattern(&mut words, space.relations.as_slice(), pattern);
+    words.push_str(" fits ");
+    words.made(count_text(alloc, facts.len(), "tuple"));
+    let words = words.done()?;
     let mut texts = Vec::new(alloc);
     for fact in facts.iter().take(TOLD) {
         texts.push(said_text(alloc, space, fact)?)?;

@@ -6,7 +6,7 @@ use run_note::Way;
 use std::alloc::Global;
 use ws_fault::{Refusal, Status};
 use ws_json::Object;
-use ws_print::add_fact;
+use ws_print::{Lines, Text, add_fact};
 use ws_question::{inner_text, near_texts};
 use ws_reply::{Context, Reply};
 use ws_run::Taking;
@@ -29,8 +29,9 @@ pub(crate) fn gone(
     context: &Context<'_>,
     fact: &Fact,
 ) -> Result<Reply, Refusal> {
-    let mut said = String::new(alloc);
-    add_fact(&mut said, space.relations.as_slice(), fact)?;
+    let mut said = Text::new(alloc);
+    add_fact(&mut said, space.relations.as_slice(), fact);
+    let said = said.done()?;
     let tuple = space.tuple(alloc, fact)?;
     let Some(told) = last_taken(alloc, space, said.as_str(), &tuple)? else {
         let words = format!(in alloc; "{said} is not there")?;
@@ -45,15 +46,16 @@ fn near_hint(alloc: Global, space: &Space, fact: &Fact) -> Result<Option<String>
     if near.is_empty() {
         return Ok(None);
     }
-    let mut hint = String::new(alloc);
+    let mut hint = Text::new(alloc);
     for text in near.iter() {
         hint.push_str(if hint.is_empty() {
             "there is "
         } else {
             "; there is "
-        })?;
-        hint.push_str(text.as_str())?;
+        });
+        hint.push_str(text.as_str());
     }
+    let hint = hint.done()?;
     Ok(Some(hint))
 }
 
@@ -133,24 +135,23 @@ fn reply(
     told: Told,
 ) -> Result<Reply, Memory> {
     if context.is_json() {
-        return seen_object(alloc, Status::Nothing, object(alloc, space, said, &told)?);
+        return seen_object(alloc, Status::Nothing, object(alloc, space, said, &told));
     }
-    let mut lines = Vec::new(alloc);
-    lines.push(told.words)?;
-    Ok(seen_text(Status::Nothing, lines))
+    let mut lines = Lines::new(alloc);
+    lines.push(told.words);
+    Ok(seen_text(Status::Nothing, lines.done()?))
 }
 
-fn object(alloc: Global, space: &Space, said: &str, told: &Told) -> Result<Object, Memory> {
-    let mut object = object_of(alloc, "gone")?;
-    add_told(&mut object, space, said, told)?;
-    Ok(object)
+fn object(alloc: Global, space: &Space, said: &str, told: &Told) -> Object {
+    let mut object = object_of(alloc, "gone");
+    add_told(&mut object, space, said, told);
+    object
 }
 
-fn add_told(object: &mut Object, space: &Space, said: &str, told: &Told) -> Result<(), Memory> {
-    object.text("tuple", said)?;
-    object.text("how", told.how)?;
-    object.number("number", i64::from(told.number))?;
-    object.text("curator", space.curator_of(told.number))?;
-    object.text("words", told.words.as_str())?;
-    Ok(())
+fn add_told(object: &mut Object, space: &Space, said: &str, told: &Told) {
+    object.text("tuple", said);
+    object.text("how", told.how);
+    object.number("number", i64::from(told.number));
+    object.text("curator", space.curator_of(told.number));
+    object.text("words", told.words.as_str());
 }

@@ -7,7 +7,7 @@ use ws_fault::{Refusal, Status as Code};
 use ws_json::Object;
 use ws_lines::Source;
 use ws_names::Cause;
-use ws_print::add_unknown;
+use ws_print::{Lines, Text, add_unknown};
 use ws_question::{fact_text, inner_text};
 use ws_reply::{Context, Reply};
 use ws_run::fixing_mapping;
@@ -26,8 +26,9 @@ pub fn why_unknown(
     let Some(value) = space.within_unknown(unknown) else {
         return Err(Refusal::Fault(space.lost(alloc, unknown)?));
     };
-    let mut name = String::new(alloc);
-    add_unknown(&mut name, unknown)?;
+    let mut name = Text::new(alloc);
+    add_unknown(&mut name, unknown);
+    let name = name.done()?;
     let words = words_of(alloc, space, name.as_str(), unknown)?;
     let mut texts = Vec::new(alloc);
     for tuple in standing_in(alloc, space, &value)?.iter() {
@@ -90,14 +91,18 @@ fn caused(
     };
     let variable = variable_of(alloc, space, cause, mapping)?;
     let by = space.mapping_name(mapping);
-    let mut words = format!(in alloc; "{name} is {variable} of {by} in {number} by {curator}")?;
+    let mut words = Text::new(alloc);
+    write!(
+        words,
+        "{name} is {variable} of {by} in {number} by {curator}"
+    );
     if let Source::By(_) = cause.source {
         for (place, tuple) in cause.image.as_slice().iter().enumerate() {
-            words.push_str(if place == 0 { ", since " } else { ", " })?;
-            words.push_str(fact_text(alloc, space, tuple)?.as_str())?;
+            words.push_str(if place == 0 { ", since " } else { ", " });
+            words.made(fact_text(alloc, space, tuple));
         }
     }
-    Ok(words)
+    Ok(words.done()?)
 }
 
 // The name of the variable that the unknown was drawn for.
@@ -134,32 +139,25 @@ fn reply(
     texts: &[String],
 ) -> Result<Reply, Memory> {
     if context.is_json() {
-        let object = object(alloc, name, words.as_str(), texts)?;
+        let object = object(alloc, name, words.as_str(), texts);
         return seen_object(alloc, Code::Done, object);
     }
-    let mut lines = Vec::new(alloc);
-    lines.push(words)?;
+    let mut lines = Lines::new(alloc);
+    lines.push(words);
     for text in texts {
-        lines.push(format!(in alloc; "  stands in {text}")?)?;
+        lines.made(format!(in alloc; "  stands in {text}"));
     }
-    Ok(seen_text(Code::Done, lines))
+    Ok(seen_text(Code::Done, lines.done()?))
 }
 
-fn object(alloc: Global, name: &str, words: &str, texts: &[String]) -> Result<Object, Memory> {
-    let mut object = object_of(alloc, "unknown")?;
-    add_members(alloc, &mut object, name, words, texts)?;
-    Ok(object)
+fn object(alloc: Global, name: &str, words: &str, texts: &[String]) -> Object {
+    let mut object = object_of(alloc, "unknown");
+    add_members(alloc, &mut object, name, words, texts);
+    object
 }
 
-fn add_members(
-    alloc: Global,
-    object: &mut Object,
-    name: &str,
-    words: &str,
-    texts: &[String],
-) -> Result<(), Memory> {
-    object.text("unknown", name)?;
-    object.text("words", words)?;
-    object.items("tuples", text_items(alloc, texts)?)?;
-    Ok(())
+fn add_members(alloc: Global, object: &mut Object, name: &str, words: &str, texts: &[String]) {
+    object.text("unknown", name);
+    object.text("words", words);
+    object.items("tuples", text_items(alloc, texts));
 }

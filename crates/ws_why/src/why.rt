@@ -8,7 +8,7 @@ use std::alloc::Global;
 use ws_command::Pattern;
 use ws_fault::{Refusal, Status};
 use ws_json::{Items, Object};
-use ws_print::add_pattern;
+use ws_print::{Lines, Text, add_pattern};
 use ws_question::{count_text, fact_text, inner_text};
 use ws_reply::{Context, Reply};
 use ws_seen::{lines_text, number_of, object_of, refused, seen_object, seen_text};
@@ -49,8 +49,9 @@ fn one_fact(alloc: Global, space: &Space, pattern: &Pattern) -> Result<Fact, Ref
     if let [tuple] = found.as_slice() {
         return Ok(space.shown(alloc, tuple)?);
     }
-    let mut said = String::new(alloc);
-    add_pattern(&mut said, space.relations.as_slice(), pattern)?;
+    let mut said = Text::new(alloc);
+    add_pattern(&mut said, space.relations.as_slice(), pattern);
+    let said = said.done()?;
     let count = count_text(alloc, found.len(), "tuple")?;
     let mut fault = refused(alloc, format!(in alloc; "{said} fits {count}")?, None);
     for tuple in found.iter().take(TOLD) {
@@ -101,8 +102,8 @@ fn dot_reply(
 
 fn dot_object(alloc: Global, lines: &[String]) -> Result<Object, Memory> {
     let text = lines_text(alloc, lines)?;
-    let mut object = object_of(alloc, "dot")?;
-    object.text("text", text.as_str())?;
+    let mut object = object_of(alloc, "dot");
+    object.text("text", text.as_str());
     Ok(object)
 }
 
@@ -113,104 +114,92 @@ fn why_reply(
     reasons: &[Reason],
 ) -> Result<Reply, Memory> {
     if context.is_json() {
-        return seen_object(alloc, Status::Done, why_object(alloc, space, reasons)?);
+        return seen_object(alloc, Status::Done, why_object(alloc, space, reasons));
     }
-    let mut lines = Vec::new(alloc);
+    let mut lines = Lines::new(alloc);
     for reason in reasons {
-        lines.push(line(alloc, space, reason)?)?;
+        lines.made(line(alloc, space, reason));
     }
-    Ok(seen_text(Status::Done, lines))
+    Ok(seen_text(Status::Done, lines.done()?))
 }
 
-fn why_object(alloc: Global, space: &Space, reasons: &[Reason]) -> Result<Object, Memory> {
-    let mut object = object_of(alloc, "why")?;
-    object.items("reasons", reason_items(alloc, space, reasons)?)?;
-    Ok(object)
+fn why_object(alloc: Global, space: &Space, reasons: &[Reason]) -> Object {
+    let mut object = object_of(alloc, "why");
+    object.items("reasons", reason_items(alloc, space, reasons));
+    object
 }
 
-fn reason_items(alloc: Global, space: &Space, reasons: &[Reason]) -> Result<Items, Memory> {
+fn reason_items(alloc: Global, space: &Space, reasons: &[Reason]) -> Items {
     let mut items = Items::new(alloc);
     for reason in reasons {
-        items.object(reason_object(alloc, space, reason)?)?;
+        items.object(reason_object(alloc, space, reason));
     }
-    Ok(items)
+    items
 }
 
 // The reason in a line, two blanks deeper for what a tuple rests on.
 fn line(alloc: Global, space: &Space, reason: &Reason) -> Result<String, Memory> {
-    let mut line = String::new(alloc);
-    add_line(alloc, &mut line, space, reason)?;
-    Ok(line)
+    let mut line = Text::new(alloc);
+    add_line(alloc, &mut line, space, reason);
+    Ok(line.done()?)
 }
 
-fn add_line(
-    alloc: Global,
-    line: &mut String,
-    space: &Space,
-    reason: &Reason,
-) -> Result<(), Memory> {
+fn add_line(alloc: Global, line: &mut Text, space: &Space, reason: &Reason) {
     for _ in 0..reason.depth {
-        line.push_str("  ")?;
+        line.push_str("  ");
     }
-    line.push_str(fact_text(alloc, space, &reason.tuple)?.as_str())?;
+    line.made(fact_text(alloc, space, &reason.tuple));
     match &reason.how {
-        How::Base => line.push_str(" is in the base")?,
-        How::Inserted => line.push_str(" was inserted")?,
+        How::Base => line.push_str(" is in the base"),
+        How::Inserted => line.push_str(" was inserted"),
         How::Generated(mapping, _) => {
-            line.push_str(" was made by ")?;
-            line.push_str(space.mapping_name(*mapping))?;
+            line.push_str(" was made by ");
+            line.push_str(space.mapping_name(*mapping));
         }
         How::Rewritten(from) => {
-            line.push_str(" was ")?;
-            line.push_str(fact_text(alloc, space, from)?.as_str())?;
+            line.push_str(" was ");
+            line.made(fact_text(alloc, space, from));
         }
     }
     if let Some(number) = reason.number {
         let curator = space.curator_of(number);
-        line.push_str(format!(in alloc; " in {number} by {curator}")?.as_str())?;
+        write!(line, " in {number} by {curator}");
         if reason.again {
-            line.push_str(", as above")?;
+            line.push_str(", as above");
         }
     }
-    Ok(())
 }
 
-fn reason_object(alloc: Global, space: &Space, reason: &Reason) -> Result<Object, Memory> {
+fn reason_object(alloc: Global, space: &Space, reason: &Reason) -> Object {
     let mut object = Object::new(alloc);
-    add_reason(alloc, &mut object, space, reason)?;
-    Ok(object)
+    add_reason(alloc, &mut object, space, reason);
+    object
 }
 
-fn add_reason(
-    alloc: Global,
-    object: &mut Object,
-    space: &Space,
-    reason: &Reason,
-) -> Result<(), Memory> {
-    object.text("tuple", fact_text(alloc, space, &reason.tuple)?.as_str())?;
-    object.number("depth", number_of(reason.depth))?;
+fn add_reason(alloc: Global, object: &mut Object, space: &Space, reason: &Reason) {
+    object.made("tuple", fact_text(alloc, space, &reason.tuple));
+    object.number("depth", number_of(reason.depth));
     if let Some(number) = reason.number {
-        object.number("number", i64::from(number))?;
-        object.text("curator", space.curator_of(number))?;
+        object.number("number", i64::from(number));
+        object.text("curator", space.curator_of(number));
     }
-    object.text("how", reason.how.word())?;
+    object.text("how", reason.how.word());
     match &reason.how {
         How::Base | How::Inserted => (),
         How::Generated(mapping, image) => {
-            object.text("mapping", space.mapping_name(*mapping))?;
-            object.items("image", fact_items(alloc, space, image.as_slice())?)?;
+            object.text("mapping", space.mapping_name(*mapping));
+            object.items("image", fact_items(alloc, space, image.as_slice()));
         }
         How::Rewritten(from) => {
-            object.text("from", fact_text(alloc, space, from)?.as_str())?;
+            object.made("from", fact_text(alloc, space, from));
         }
     }
-    Ok(())
 }
 
-fn fact_items(alloc: Global, space: &Space, tuples: &[Tuple]) -> Result<Items, Memory> {
+fn fact_items(alloc: Global, space: &Space, tuples: &[Tuple]) -> Items {
     let mut items = Items::new(alloc);
     for tuple in tuples {
-        items.text(fact_text(alloc, space, tuple)?.as_str())?;
+        items.made(fact_text(alloc, space, tuple));
     }
-    Ok(items)
+    items
 }

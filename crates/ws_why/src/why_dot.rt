@@ -3,6 +3,7 @@
 use crate::reasons::{How, Reason};
 use base_types::{Memory, Tuple};
 use std::alloc::Global;
+use ws_print::Text;
 use ws_question::fact_text;
 use ws_space::Space;
 
@@ -88,33 +89,33 @@ impl Graph {
 
 // The tuple, and in a second line what it is and who put it.
 fn label_of(alloc: Global, space: &Space, reason: &Reason) -> Result<String, Memory> {
-    let mut label = String::new(alloc);
+    let mut label = Text::new(alloc);
     add_label(alloc, &mut label, space, reason)?;
-    Ok(label)
+    Ok(label.done()?)
 }
 
 fn add_label(
     alloc: Global,
-    label: &mut String,
+    label: &mut Text,
     space: &Space,
     reason: &Reason,
 ) -> Result<(), Memory> {
     for letter in fact_text(alloc, space, &reason.tuple)?.as_str().chars() {
         if letter == '"' || letter == '\\' {
-            label.push('\\')?;
+            label.push('\\');
         }
-        label.push(letter)?;
+        label.push(letter);
     }
-    label.push_str("\\n")?;
+    label.push_str("\\n");
     label.push_str(match &reason.how {
         How::Base => "base",
         How::Inserted => "inserted",
         How::Generated(mapping, _) => space.mapping_name(*mapping),
         How::Rewritten(_) => "filled in",
-    })?;
+    });
     if let Some(number) = reason.number {
         let curator = space.curator_of(number);
-        label.push_str(format!(in alloc; " {number} {curator}")?.as_str())?;
+        write!(label, " {number} {curator}");
     }
     Ok(())
 }

@@ -3,17 +3,19 @@
 use crate::steps::fault_of;
 use std::alloc::{AllocError, Global};
 use ws_fault::Fault;
+use ws_print::Text;
 
 /// Words joined by blanks; none if there are none. It is refused only for want of memory.
 pub fn joined(alloc: Global, words: &[String]) -> Result<Option<String>, AllocError> {
     if words.is_empty() {
         return Ok(None);
     }
-    let mut line = String::new(alloc);
+    let mut line = Text::new(alloc);
     for (place, word) in words.iter().enumerate() {
-        line.push_str(if 0 < place { " " } else { "" })?;
-        line.push_str(word.as_str())?;
+        line.push_str(if 0 < place { " " } else { "" });
+        line.push_str(word.as_str());
     }
+    let line = line.done()?;
     Ok(Some(line))
 }
 
@@ -42,9 +44,10 @@ pub fn wants_json(words: &[String]) -> bool {
 pub fn file_first(alloc: Global, words: &[String], file: &str) -> Result<Fault, AllocError> {
     let place = words.iter().position(|w| w.as_str() == file);
     let from = words.get(place.unwrap_or(0)..).unwrap_or(words);
-    let mut hint = String::from_str(alloc, "yt FILE ")?;
+    let mut hint = Text::from_str(alloc, "yt FILE ");
     if let Some(line) = joined(alloc, from)? {
-        hint.push_str(line.as_str())?;
+        hint.push_str(line.as_str());
     }
+    let hint = hint.done()?;
     fault_of(alloc, "the file comes first", hint.as_str())
 }

@@ -2,7 +2,7 @@
 
 use std::alloc::{AllocError, Global};
 use ws_fault::{Fault, Nearest, Refusal, Status};
-use ws_print::add_escaped;
+use ws_print::{Text, add_escaped};
 
 const OPTIONS: [&str; 7] = [
     "--json",
@@ -167,10 +167,12 @@ pub(crate) fn wrong<T>(alloc: Global, words: &str, hint: &str) -> Result<T, Refu
 
 /// A fault of the words; an empty hint is none.
 pub(crate) fn fault_of(alloc: Global, words: &str, hint: &str) -> Result<Fault, AllocError> {
-    let mut told = String::new(alloc);
-    add_escaped(&mut told, words)?;
-    let mut advice = String::new(alloc);
-    add_escaped(&mut advice, hint)?;
+    let mut told = Text::new(alloc);
+    add_escaped(&mut told, words);
+    let told = told.done()?;
+    let mut advice = Text::new(alloc);
+    add_escaped(&mut advice, hint);
+    let advice = advice.done()?;
     Ok(Fault {
         status: Status::Unread,
         words: told,

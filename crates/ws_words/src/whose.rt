@@ -1,15 +1,16 @@
 //! Who speaks.
 
 use std::alloc::{AllocError, Global};
+use ws_print::Text;
 
 // The text with `_` for each character that may not stand in a name.
 fn with_underscores(alloc: Global, text: &str) -> Result<String, AllocError> {
-    let mut out = String::new(alloc);
+    let mut out = Text::new(alloc);
     for letter in text.chars() {
         let stands = letter.is_ascii_alphanumeric() || letter == '_';
-        out.push(if stands { letter } else { '_' })?;
+        out.push(if stands { letter } else { '_' });
     }
-    Ok(out)
+    out.done()
 }
 
 /// The name of the curator that a text of the environment or of `--as` stands for: each character that may not stand in a name

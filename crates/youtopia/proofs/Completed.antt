@@ -30,9 +30,9 @@ query_in _ p input x made = tt
 pub row_done : (k : CommandName) (p : Options) (status : Status) (source out err : Change) → HasQuery k p
     → Does k p status source out err → Row status (makes k p) (read_for k source) out err
 row_done Ask p status source out err has (inl refused) = absurd (refused.1 has.0 has.1)
-row_done Ask p status source out err has (inr row) = row
+row_done Ask p status source out err has (inr row) = row.0
 row_done Explain p status source out err has (inl refused) = absurd (refused.1 has.0 has.1)
-row_done Explain p status source out err has (inr row) = row
+row_done Explain p status source out err has (inr row) = row.0
 row_done Drill p status source out err has did = did.0
 row_done Run p status source out err has row = row
 row_done _ p status source out err has row = row

@@ -89,15 +89,19 @@ makes Recover options = recovering
 makes Explain options = λ input output. (fact : WrittenFact) × AsksWhy options fact × on_session (explained options.steps fact) input output
 makes Ask options = λ input output. (q : WrittenAsk) × AsksFor options q × on_session (asked options.steps q) input output
 
--- what a command with its options does: the row of the status holds; `ask` without a query and `explain` without a fact are refused as wrong words are;
--- `drill` leaves the input alone
+-- the row of a status; unless what the command needs is given, the source was not read, and `out` took nothing
+abbrev pub RowOfGiven : Type 0 → Status → Meaning → Change → Change → Change → Type 0
+RowOfGiven Given status means source out err = Row status means source out err × (Given ⊎ (Unread source × TakesNothing out))
+
+-- what a command with its options does: the row of the status holds; `ask` without a query and `explain` without a fact are refused as wrong words are,
+-- and read nothing; `drill` leaves the input alone
 abbrev pub Does : CommandName → Options → Status → Change → Change → Change → Type 0
 Does Ask options status source out err =
     ((status ≡ Usage) × LacksQuery options × DoesNothing failures.Usage source out err)
-    ⊎ Row status (makes Ask options) source out err
+    ⊎ RowOfGiven ((q : WrittenAsk) × AsksFor options q) status (makes Ask options) source out err
 Does Explain options status source out err =
     ((status ≡ Usage) × LacksFact options × DoesNothing failures.Usage source out err)
-    ⊎ Row status (makes Explain options) source out err
+    ⊎ RowOfGiven ((fact : WrittenFact) × AsksWhy options fact) status (makes Explain options) source out err
 Does Drill options status source out err = Row status (makes Drill options) no_input out err × Unread source
 Does command options status source out err = Row status (makes command options) source out err
 
