@@ -5,10 +5,11 @@ use crate::creating::created;
 use crate::forms::Form;
 use crate::matching::{FittedColumn, column_names, fitted_columns};
 use crate::readers::CsvRow;
-use crate::refusing::{add_names, fault, has, meant_of};
+use crate::refusing::{add_names, fault, meant_of};
 use std::alloc::{AllocError, Global};
 use ws_command::Load;
 use ws_fault::{Refusal, Status};
+use ws_grammar::{has_name, place_of};
 use ws_print::{Text, add_escaped};
 use ws_written::Relation;
 
@@ -38,8 +39,7 @@ pub fn fit(
     let header = header_of(alloc, first.cells.as_slice())?;
     has_chosen(alloc, form, path, header.as_slice())?;
     let name = load.relation.as_str();
-    let there = relations.iter().position(|r| r.name.as_str() == name);
-    if let Some(number) = there {
+    if let Some(number) = place_of(relations, name) {
         if let Some(relation) = relations.get(number) {
             let columns = fitted_columns(alloc, form, path, first.line, relation, &header)?;
             return Ok(Fitted {
@@ -83,7 +83,7 @@ fn has_chosen(alloc: Global, form: &Form, path: &str, header: &[String]) -> Resu
         return Ok(());
     };
     for name in chosen.iter() {
-        if !has(header, name.as_str()) {
+        if !has_name(header, name.as_str()) {
             return no_column(alloc, path, name.as_str(), header);
         }
     }

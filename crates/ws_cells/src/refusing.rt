@@ -48,11 +48,6 @@ pub(crate) fn meant_of(
     nearest.question()
 }
 
-/// Whether a name stands among others.
-pub(crate) fn has(names: &[String], name: &str) -> bool {
-    names.iter().any(|n| n.as_str() == name)
-}
-
 /// The names between commas.
 pub(crate) fn add_names(out: &mut Text, names: &[String]) {
     for (place, name) in names.iter().enumerate() {

@@ -16,10 +16,14 @@ type Leads = BTreeMap<u32, Ways>;
 
 // Whether each variable of the atom stands on the left.
 fn is_plain(rule: &Rule, atom: &Atom) -> bool {
-    atom.terms.iter().all(|term| match term {
-        Term::Variable(name) => stands_among(rule.left.as_slice(), name.as_str()),
-        _ => true,
-    })
+    for term in atom.terms.iter() {
+        if let Term::Variable(name) = term {
+            if !stands_among(rule.left.as_slice(), name.as_str()) {
+                return false;
+            }
+        }
+    }
+    true
 }
 
 fn add_way(
@@ -84,10 +88,12 @@ struct Walk {
 
 impl Walk {
     fn has(&self, relation: u32) -> bool {
-        self.stops
-            .iter()
-            .skip(1)
-            .any(|stop| stop.relation == relation)
+        for stop in self.stops.iter().skip(1) {
+            if stop.relation == relation {
+                return true;
+            }
+        }
+        false
     }
 
     // Goes on from a stop to the relations to which it leads.

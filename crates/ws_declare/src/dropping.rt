@@ -37,7 +37,7 @@ fn dropped(
 /// Whether the mapping of this name is in force.
 pub(crate) fn is_in_force(space: &Space, name: &str) -> bool {
     match space.mapping(name) {
-        Some(mapping) => space.state.in_force().iter().any(|other| *other == mapping),
+        Some(mapping) => space.state.in_force().contains(&mapping),
         None => false,
     }
 }

@@ -1,18 +1,19 @@
 //! Records of the log, line by line.
 
 use crate::cursors::Cursor;
+use crate::items::Item;
 use crate::stamps::record_stamp;
-use crate::standing::number_of;
+use crate::standing::{Names, place_of};
 use std::alloc::{AllocError, Global};
 use ws_fault::Refusal;
-use ws_written::{Line, Record, Relation, SaidLine};
+use ws_written::{Answer, Line, NumberedUpdate, Record, Relation, Rule, SaidLine};
 
 impl<'a> Cursor<'a> {
-    fn log_line(&mut self, relations: &[Relation]) -> Result<SaidLine, Refusal> {
+    fn log_line(&mut self) -> Result<SaidLine, Refusal> {
         let line = if self.is_number() {
-            Line::Update(self.numbered(relations)?)
+            Line::Update(NumberedUpdate::read(self)?)
         } else {
-            self.plain_line(relations)?
+            self.plain_line()?
         };
         match self.last_comment() {
             Ok(comment) => Ok(SaidLine { line, comment }),
@@ -23,30 +24,24 @@ impl<'a> Cursor<'a> {
         }
     }
 
-    // The comment, at the end of the line.
-    fn last_comment(&self) -> Result<String, Refusal> {
-        self.end()?;
-        Ok(self.comment()?)
-    }
-
     // A line that is no update.
-    fn plain_line(&mut self, relations: &[Relation]) -> Result<Line, Refusal> {
+    fn plain_line(&mut self) -> Result<Line, Refusal> {
         match self.name("a line")? {
-            "answer" => self.answer_line(relations),
+            "answer" => self.answer_line(),
             "undo" => self.undo_line(),
             "redo" => Ok(Line::Redo(self.rising()?)),
-            "relation" => Ok(Line::Relation(self.new_relation()?)),
-            "mapping" => Ok(Line::Mapping(self.known_rule(relations)?)),
+            "relation" => Ok(Line::Relation(Relation::read(self)?)),
+            "mapping" => Ok(Line::Mapping(Rule::read(self)?)),
             _ => self.fail("a line"),
         }
     }
 
-    fn answer_line(&mut self, relations: &[Relation]) -> Result<Line, Refusal> {
+    fn answer_line(&mut self) -> Result<Line, Refusal> {
         let number = self.update_number()?;
         if self.take_word("go") {
             return Ok(Line::Go(number));
         }
-        Ok(Line::Answer(number, self.answer(relations)?))
+        Ok(Line::Answer(number, Answer::read(self)?))
     }
 
     fn undo_line(&mut self) -> Result<Line, Refusal> {
@@ -95,23 +90,20 @@ pub(crate) fn readable<T: Drop>(read: Result<T, Refusal>) -> Result<Option<T>, A
     }
 }
 
-/// A line of the log over the relations that stand, if it is one. It is refused only for want of memory.
-pub fn read_line(
+// A line of the log over the relations that stand, if it is one.
+fn read_line(
     alloc: Global,
     relations: &[Relation],
     line: &str,
 ) -> Result<Option<SaidLine>, AllocError> {
-    readable(Cursor::over(alloc, line).log_line(relations))
+    readable(Cursor::over(alloc, Names::of(relations), line).log_line())
 }
 
-/// Declares a relation: in place of the one of its name, or after the others.
-pub(crate) fn declare(
-    relations: &mut Vec<Relation>,
-    relation: &Relation,
-) -> Result<(), AllocError> {
+// Declares a relation: in place of the one of its name, or after the others.
+fn declare(relations: &mut Vec<Relation>, relation: &Relation) -> Result<(), AllocError> {
     let copy = relation.clone()?;
-    if let Some(number) = number_of(relations.as_slice(), relation.name.as_str()) {
-        if let Some(old) = relations.get_mut(number as usize) {
+    if let Some(place) = place_of(relations.as_slice(), relation.name.as_str()) {
+        if let Some(old) = relations.get_mut(place) {
             *old = copy;
             return Ok(());
         }

@@ -1,12 +1,11 @@
 //! Tuples of one key.
 
-use crate::rows::has_unknown;
 use base_types::{Memory, TryCopy, Tuple, ValueList};
 use std::alloc::Global;
 use std::collections::BTreeMap;
 use ws_print::Lines;
 use ws_question::inner_text;
-use ws_space::Space;
+use ws_space::{Space, has_unknown};
 use ws_written::Relation;
 
 /// The clashes of a relation's key: for each key that several tuples have these tuples, as commands take them.
@@ -20,7 +19,7 @@ pub(crate) struct Clashes {
 pub(crate) fn clashes_of(alloc: Global, space: &Space) -> Result<Vec<Clashes>, Memory> {
     let mut all = Vec::new(alloc);
     for (number, relation) in space.relations.iter().enumerate() {
-        if relation.columns.iter().any(|column| column.key) {
+        if has_key(relation) {
             let groups = clashing(alloc, space, number, relation)?;
             if !groups.is_empty() {
                 all.push(Clashes {
@@ -31,6 +30,15 @@ pub(crate) fn clashes_of(alloc: Global, space: &Space) -> Result<Vec<Clashes>, M
         }
     }
     Ok(all)
+}
+
+fn has_key(relation: &Relation) -> bool {
+    for column in relation.columns.iter() {
+        if column.key {
+            return true;
+        }
+    }
+    false
 }
 
 fn clashing(
@@ -124,9 +132,10 @@ impl Groups {
 
 fn key_of(alloc: Global, relation: &Relation, tuple: &Tuple) -> Result<Tuple, Memory> {
     let mut values = ValueList::new(alloc);
-    for (column, value) in relation.columns.iter().zip(tuple.values.as_slice()) {
-        if column.key {
-            values.push(value.copy(alloc)?)?;
+    for (place, value) in tuple.values.as_slice().iter().enumerate() {
+        match relation.columns.get(place) {
+            Some(column) if column.key => values.push(value.copy(alloc)?)?,
+            _ => {}
         }
     }
     Tuple::new(alloc, 0, values)

@@ -19,15 +19,25 @@ pub(crate) fn entry_objects(
     let mut objects = Vec::new(alloc);
     for recorded in records {
         let entries = entries_of(alloc, space, Some(&statuses), recorded, usize::MAX)?;
-        let told = if entries.len() <= MOST { MOST } else { FIRST };
-        for (place, entry) in entries.iter().enumerate() {
-            objects.push(entry_object(alloc, entry, place < told))?;
-        }
+        add_entries(alloc, &mut objects, entries.as_slice())?;
     }
     if objects.is_empty() {
         objects.push(no_entry(alloc))?;
     }
     Ok(objects)
+}
+
+// Adds the lines of a record; if they are many, the first of them alone have their comments.
+fn add_entries(
+    alloc: Global,
+    objects: &mut Vec<Object>,
+    entries: &[Entry<'_>],
+) -> Result<(), Memory> {
+    let told = if entries.len() <= MOST { MOST } else { FIRST };
+    for (place, entry) in entries.iter().enumerate() {
+        objects.push(entry_object(alloc, entry, place < told))?;
+    }
+    Ok(())
 }
 
 fn no_entry(alloc: Global) -> Object {

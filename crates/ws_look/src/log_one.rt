@@ -10,7 +10,7 @@ use ws_question::{fact_text, reason_words, status_of, status_word};
 use ws_reply::{Context, Reply};
 use ws_seen::{object_of, seen_object, seen_text, text_items};
 use ws_space::Space;
-use ws_state::{Standing, Status};
+use ws_state::{Standing, Status, Waiting};
 use ws_written::{Choice, Line};
 
 // An update: its answers, how it stands, in words, and what it wrote.
@@ -89,18 +89,22 @@ fn waiting_words(alloc: Global, space: &mut Space, number: u32) -> Result<String
     reason_words(alloc, space, reason.as_ref())
 }
 
-fn is_held(space: &Space, held: usize, number: u32) -> bool {
-    match space.state.held().get(held) {
-        Some(held) => held.update.number == number,
-        None => false,
+fn standing_of(space: &Space, number: u32) -> Option<&Standing> {
+    for standing in space.state.order().as_slice() {
+        if space.number_at(standing.held) == Some(number) {
+            return Some(standing);
+        }
     }
+    None
 }
 
-fn standing_of(space: &Space, number: u32) -> Option<&Standing> {
-    let order = space.state.order().as_slice();
-    order
-        .iter()
-        .find(|standing| is_held(space, standing.held, number))
+fn waiting_of(space: &Space, number: u32) -> Option<&Waiting> {
+    for waiting in space.state.waiting().as_slice() {
+        if space.number_at(waiting.held) == Some(number) {
+            return Some(waiting);
+        }
+    }
+    None
 }
 
 // `done in K steps, with L unknowns`.
@@ -140,11 +144,7 @@ fn answers_of(alloc: Global, space: &Space, number: u32) -> Result<Vec<String>, 
     if let Some(standing) = standing_of(space, number) {
         return choices(alloc, space, standing.answers.as_slice());
     }
-    let waiting = space.state.waiting().as_slice();
-    if let Some(waiting) = waiting
-        .iter()
-        .find(|waiting| is_held(space, waiting.held, number))
-    {
+    if let Some(waiting) = waiting_of(space, number) {
         return choices(alloc, space, waiting.answers.as_slice());
     }
     given(alloc, space, number)

@@ -1,7 +1,6 @@
 //! `questions`: what waits, and for which answer.
 
 use crate::question_told::{lines, objects};
-use crate::waiting::waiting_numbers;
 use base_types::Memory;
 use std::alloc::Global;
 use ws_fault::{Refusal, Status as Code};
@@ -137,7 +136,7 @@ fn wanted_numbers(
 ) -> Result<Vec<u32>, Refusal> {
     let mut numbers = match wanted.number {
         Some(number) => one_number(alloc, space, number)?,
-        None => waiting_numbers(alloc, space)?,
+        None => space.waiting_numbers(alloc)?,
     };
     if wanted.mine {
         numbers.retain(|number| space.curator_of(*number) == context.curator);

@@ -65,8 +65,8 @@ fn add_relations(
     counts: &Counts,
 ) {
     lines.made(first_line(alloc, space, context, counts));
-    for (relation, count) in space.relations.iter().zip(counts.rows.iter()) {
-        lines.made(relation_line(alloc, relation, *count));
+    for (place, relation) in space.relations.iter().enumerate() {
+        lines.made(relation_line(alloc, relation, counts.rows_at(place)));
     }
 }
 
@@ -185,7 +185,7 @@ fn last_line(alloc: Global, space: &Space) -> Result<String, Memory> {
 fn add_next(alloc: Global, lines: &mut Lines, counts: &Counts) {
     if !counts.waiting.is_empty() {
         lines.push_str("next: questions");
-    } else if counts.proposed.iter().any(|(_, count)| 0 < *count) {
+    } else if counts.has_violations() {
         lines.push_str("next: violations");
     }
 }

@@ -57,8 +57,8 @@ fn add_lists(alloc: Global, object: &mut Object, space: &Space, counts: &Counts)
 
 fn relation_items(alloc: Global, space: &Space, counts: &Counts) -> Items {
     let mut items = Items::new(alloc);
-    for (relation, count) in space.relations.iter().zip(counts.rows.iter()) {
-        items.object(relation_object(alloc, relation, *count));
+    for (place, relation) in space.relations.iter().enumerate() {
+        items.object(relation_object(alloc, relation, counts.rows_at(place)));
     }
     items
 }

@@ -3,7 +3,7 @@
 use base_types::Memory;
 use std::alloc::Global;
 use std::collections::BTreeMap;
-use ws_state::{State, Status};
+use ws_state::{Held, State, Status};
 
 /// How each update stands, by its number.
 #[derive(Drop)]
@@ -16,9 +16,9 @@ impl Statuses {
     pub(crate) fn of(alloc: Global, state: &State) -> Result<Statuses, Memory> {
         let places = by_places(alloc, state)?;
         let mut statuses = BTreeMap::new(alloc);
-        for (held, status) in state.held().iter().zip(places.iter()) {
-            if statuses.insert(held.update.number, *status).is_err() {
-                return Err(Memory);
+        for (place, held) in state.held().iter().enumerate() {
+            if let Some(status) = places.get(place) {
+                statuses.insert(held.update.number, *status)?;
             }
         }
         Ok(Statuses { statuses })
@@ -32,19 +32,25 @@ impl Statuses {
 
 // By the places of the updates among those that are held.
 fn by_places(alloc: Global, state: &State) -> Result<Vec<Status>, Memory> {
-    let mut places = Vec::new(alloc);
-    for held in state.held().iter() {
-        places.push(if held.is_undone {
-            Status::Undone
-        } else {
-            Status::GivenUp
-        })?;
-    }
+    let mut places = undone_or_given_up(alloc, state.held().as_slice())?;
     for standing in state.order().as_slice() {
         mark(&mut places, standing.held, Status::Stands);
     }
     for waiting in state.waiting().as_slice() {
         mark(&mut places, waiting.held, Status::Waits);
+    }
+    Ok(places)
+}
+
+// Each update as if it neither stood nor waited.
+fn undone_or_given_up(alloc: Global, updates: &[Held]) -> Result<Vec<Status>, Memory> {
+    let mut places = Vec::new(alloc);
+    for held in updates {
+        places.push(if held.is_undone {
+            Status::Undone
+        } else {
+            Status::GivenUp
+        })?;
     }
     Ok(places)
 }

@@ -183,8 +183,17 @@ fn new_fact_text(alloc: Global, space: &Space, fact: &NewFact) -> Result<String,
 }
 
 fn status_of(told: &[Told], clashes: &[Clashes]) -> Status {
-    if clashes.is_empty() && told.iter().all(|one| one.count == 0) {
+    if clashes.is_empty() && !one_is_violated(told) {
         return Status::Done;
     }
     Status::Violated
+}
+
+fn one_is_violated(told: &[Told]) -> bool {
+    for one in told {
+        if 0 < one.count {
+            return true;
+        }
+    }
+    false
 }

@@ -20,29 +20,45 @@ type States = BTreeMap<u32, &'static str>;
 
 /// Adds the log, which ends the page. It is refused only for want of memory.
 pub(crate) fn add_log(document: &mut Document, space: &Space) -> Result<(), Memory> {
-    document.say(HEADER)?;
+    document.say(HEADER);
     let states = states_of(document.alloc, space)?;
     let relations = space.relations.as_slice();
     for recorded in space.records.iter() {
         add_record(document, relations, &states, recorded)?;
     }
-    document.say("</table></div></body></html>")?;
+    document.say("</table></div></body></html>");
     Ok(())
 }
 
 fn states_of(alloc: Global, space: &Space) -> Result<States, AllocError> {
     let mut states = BTreeMap::new(alloc);
+    put_held(space, &mut states)?;
+    put_done(space, &mut states)?;
+    put_waiting(space, &mut states)?;
+    Ok(states)
+}
+
+// Each update as if it neither stood nor waited.
+fn put_held(space: &Space, states: &mut States) -> Result<(), AllocError> {
     for held in space.state.held() {
         let word = if held.is_undone { "undone" } else { "given up" };
         states.insert(held.update.number, word)?;
     }
+    Ok(())
+}
+
+fn put_done(space: &Space, states: &mut States) -> Result<(), AllocError> {
     for standing in space.state.order().as_slice() {
-        put_state(space, &mut states, standing.held, "done")?;
+        put_state(space, states, standing.held, "done")?;
     }
+    Ok(())
+}
+
+fn put_waiting(space: &Space, states: &mut States) -> Result<(), AllocError> {
     for waiting in space.state.waiting().as_slice() {
-        put_state(space, &mut states, waiting.held, "waits")?;
+        put_state(space, states, waiting.held, "waits")?;
     }
-    Ok(states)
+    Ok(())
 }
 
 fn put_state(
@@ -51,8 +67,8 @@ fn put_state(
     held: usize,
     word: &'static str,
 ) -> Result<(), AllocError> {
-    if let Some(held) = space.state.held().get(held) {
-        states.insert(held.update.number, word)?;
+    if let Some(number) = space.number_at(held) {
+        states.insert(number, word)?;
     }
     Ok(())
 }
@@ -67,8 +83,7 @@ fn add_record(
     for said in recorded.record.lines.iter() {
         let mut line = Text::from_str(document.alloc, begin.as_str());
         add_cells(document.alloc, &mut line, relations, states, &said.line)?;
-        let line = line.done()?;
-        document.add(line)?;
+        document.made(line.done());
     }
     Ok(())
 }

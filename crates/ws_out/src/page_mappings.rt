@@ -10,17 +10,17 @@ use ws_space::Space;
 
 /// Adds the mappings. It is refused only for want of memory.
 pub(crate) fn add_mappings(document: &mut Document, space: &Space) -> Result<(), Memory> {
-    document.say("<h2 id=\"mappings\">Mappings</h2>")?;
+    document.say("<h2 id=\"mappings\">Mappings</h2>");
     let mappings = mappings_of(document.alloc, space)?;
     if mappings.is_empty() {
-        document.say("<p>None.</p>")?;
+        document.say("<p>None.</p>");
         return Ok(());
     }
-    document.add(picture(document.alloc, space)?)?;
-    for mapping in mappings {
-        add_mapping(document, space, mapping)?;
+    document.made(picture(document.alloc, space));
+    for mapping in mappings.iter() {
+        add_mapping(document, space, *mapping)?;
     }
-    document.say("</ul>")?;
+    document.say("</ul>");
     Ok(())
 }
 
@@ -34,7 +34,7 @@ fn add_mapping(document: &mut Document, space: &Space, mapping: u16) -> Result<(
     let alloc = document.alloc;
     let code = document.code(rule_text(alloc, space, mapping)?.as_str())?;
     let state = state_text(alloc, space, mapping)?;
-    document.add(format!(in alloc; "<li>{code} {state}</li>")?)?;
+    document.made(format!(in alloc; "<li>{code} {state}</li>"));
     Ok(())
 }
 

@@ -13,14 +13,14 @@ const HEADER: &str =
 
 /// Adds each update that waits, and its question. It is refused only for want of memory.
 pub(crate) fn add_questions(document: &mut Document, space: &mut Space) -> Result<(), Memory> {
-    document.say("<h2 id=\"questions\">Questions</h2>")?;
-    let numbers = waiting_numbers(document.alloc, space)?;
+    document.say("<h2 id=\"questions\">Questions</h2>");
+    let numbers = space.waiting_numbers(document.alloc)?;
     for number in numbers.iter() {
         add_heading(document, space, *number)?;
         add_stop(document, space, *number)?;
     }
     if numbers.is_empty() {
-        document.say("<p>No questions.</p>")?;
+        document.say("<p>No questions.</p>");
     }
     Ok(())
 }
@@ -34,23 +34,11 @@ fn add_stop(document: &mut Document, space: &mut Space, number: u32) -> Result<(
     }
 }
 
-// The numbers of the updates that wait, rising.
-fn waiting_numbers(alloc: Global, space: &Space) -> Result<Vec<u32>, AllocError> {
-    let mut numbers = Vec::new(alloc);
-    for waiting in space.state.waiting().as_slice() {
-        if let Some(held) = space.state.held().get(waiting.held) {
-            numbers.push(held.update.number)?;
-        }
-    }
-    numbers.sort_unstable();
-    Ok(numbers)
-}
-
 fn add_heading(document: &mut Document, space: &Space, number: u32) -> Result<(), Memory> {
     let alloc = document.alloc;
     let curator = document.shown(space.curator_of(number))?;
     let update = document.code(space.update_text(alloc, number)?.as_str())?;
-    document.add(format!(in alloc; "<h3>{number} {curator}: {update}</h3>")?)?;
+    document.made(format!(in alloc; "<h3>{number} {curator}: {update}</h3>"));
     Ok(())
 }
 
@@ -62,7 +50,7 @@ fn add_reason(
     let alloc = document.alloc;
     let words = reason_words(alloc, space, reason.as_ref())?;
     let shown = document.shown(words.as_str())?;
-    document.add(format!(in alloc; "<p>{shown}</p>")?)?;
+    document.made(format!(in alloc; "<p>{shown}</p>"));
     Ok(())
 }
 
@@ -73,14 +61,14 @@ fn add_question(
     question: &Question,
 ) -> Result<(), Memory> {
     add_asked(document, space, question)?;
-    document.say(HEADER)?;
+    document.say(HEADER);
     for (place, candidate) in question.candidates.as_slice().iter().enumerate() {
         add_candidate(document, space, number, place, candidate)?;
     }
     if question.is_positive {
-        add_command(document, "none of them", number, "new", space.at())?;
+        add_command(document, "none of them", number, "new", space.at());
     }
-    document.say("</table>")?;
+    document.say("</table>");
     Ok(())
 }
 
@@ -92,7 +80,7 @@ fn add_asked(document: &mut Document, space: &Space, question: &Question) -> Res
     }
     let alloc = document.alloc;
     let words = "no longer holds for these. Which of them go?";
-    document.add(format!(in alloc; "<p>{rule} {words}</p>")?)?;
+    document.made(format!(in alloc; "<p>{rule} {words}</p>"));
     Ok(())
 }
 
@@ -104,9 +92,9 @@ fn add_wanted(
 ) -> Result<(), Memory> {
     let alloc = document.alloc;
     let wanted = codes(document, space, &question.asked.tuples)?;
-    document.add(format!(in alloc; "<p>{rule} wants {wanted}. Is it one of these?</p>")?)?;
+    document.made(format!(in alloc; "<p>{rule} wants {wanted}. Is it one of these?</p>"));
     let since = codes(document, space, &question.since)?;
-    document.add(format!(in alloc; "<p>Since {since}.</p>")?)?;
+    document.made(format!(in alloc; "<p>Since {since}.</p>"));
     Ok(())
 }
 
@@ -142,19 +130,17 @@ fn add_candidate(
     let code = document.code(text.as_str())?;
     let chosen = place.saturating_add(1);
     let word = format!(in alloc; "{chosen}")?;
-    add_command(document, code.as_str(), number, word.as_str(), space.at())?;
+    add_command(document, code.as_str(), number, word.as_str(), space.at());
     Ok(())
 }
 
 // A row with the command that answers so.
-fn add_command(
-    document: &mut Document,
-    shown: &str,
-    number: u32,
-    word: &str,
-    at: u32,
-) -> Result<(), AllocError> {
-    let alloc = document.alloc;
-    let command = format!(in alloc; "<code>answer {number} {word} --at {at}</code>")?;
-    document.add(format!(in alloc; "<tr><td>{shown}</td><td>{command}</td></tr>")?)
+fn add_command(document: &mut Document, shown: &str, number: u32, word: &str, at: u32) {
+    let mut line = Text::new(document.alloc);
+    write!(line, "<tr><td>{shown}</td><td>");
+    write!(
+        line,
+        "<code>answer {number} {word} --at {at}</code></td></tr>"
+    );
+    document.made(line.done());
 }

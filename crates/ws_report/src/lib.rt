@@ -16,4 +16,4 @@ pub use crate::replies::CANDIDATES;
 pub use crate::reports::{AgainTold, Counted, Report, Telling, no_effect};
 pub use crate::rows::{MANY, moved_row};
 pub use crate::spending::spent_fault;
-pub use crate::words::{facts_text, joined, ranges_text, said_text, value_text};
+pub use crate::words::{facts_text, joined, named_text, ranges_text, said_text};

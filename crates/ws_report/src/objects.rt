@@ -2,7 +2,8 @@
 
 use crate::replies::CANDIDATES;
 use crate::reports::{AgainTold, Report, Telling};
-use crate::words::value_text;
+use crate::words::named_text;
+use base_types::Value;
 use def_memory::Memory;
 use std::alloc::Global;
 use ws_json::{Items, Object};
@@ -38,7 +39,7 @@ impl Report {
         object.text("did", self.did);
         object.text("line", self.line.as_str());
         object.number("at", i64::from(at));
-        self.add_effect(alloc, space, object)?;
+        self.add_effect(alloc, space, object);
         self.add_said(alloc, space, object)?;
         self.add_lists(alloc, object)?;
         if !trying && !self.next.is_empty() {
@@ -47,15 +48,16 @@ impl Report {
         Ok(())
     }
 
-    fn add_effect(&self, alloc: Global, space: &Space, object: &mut Object) -> Result<(), Memory> {
+    fn add_effect(&self, alloc: Global, space: &Space, object: &mut Object) {
         let with_mapping = self.telling == Telling::Whole;
-        let came = moved_items(alloc, space, self.effect.came.as_slice(), with_mapping)?;
-        let went = moved_items(alloc, space, self.effect.went.as_slice(), with_mapping)?;
+        let came = moved_items(alloc, space, self.effect.came.as_slice(), with_mapping);
+        let went = moved_items(alloc, space, self.effect.went.as_slice(), with_mapping);
         object.items("came", came);
         object.items("went", went);
-        let filled = filled_items(alloc, space, self.effect.filled.as_slice())?;
-        object.items("filled", filled);
-        Ok(())
+        object.items(
+            "filled",
+            filled_items(alloc, space, self.effect.filled.as_slice()),
+        );
     }
 
     // The number, the question, and what else is said.
@@ -109,39 +111,42 @@ fn numbers(alloc: Global, numbers: &[u32]) -> Items {
     items
 }
 
-fn moved_items(
-    alloc: Global,
-    space: &Space,
-    moved: &[Moved],
-    with_mapping: bool,
-) -> Result<Items, Memory> {
+fn moved_items(alloc: Global, space: &Space, moved: &[Moved], with_mapping: bool) -> Items {
     let mut items = Items::new(alloc);
     for one in moved {
-        let mut object = Object::new(alloc);
-        let fact = fact_text(alloc, space, &one.tuple)?;
-        object.text("tuple", fact.as_str());
-        if let Some(number) = one.by {
-            if with_mapping {
-                object.text("by", space.mapping_name(number));
-            }
-        }
-        items.object(object);
+        items.object(moved_object(alloc, space, one, with_mapping));
     }
-    Ok(items)
+    items
 }
 
-fn filled_items(alloc: Global, space: &Space, filled: &[Filled]) -> Result<Items, Memory> {
+fn moved_object(alloc: Global, space: &Space, moved: &Moved, with_mapping: bool) -> Object {
+    let mut object = Object::new(alloc);
+    object.made("tuple", fact_text(alloc, space, &moved.tuple));
+    if let Some(number) = moved.by {
+        if with_mapping {
+            object.text("by", space.mapping_name(number));
+        }
+    }
+    object
+}
+
+fn filled_items(alloc: Global, space: &Space, filled: &[Filled]) -> Items {
     let mut items = Items::new(alloc);
     for one in filled {
-        let name = space.value(alloc, &base_types::Value::Null(one.name))?;
-        let value = space.value(alloc, &one.value)?;
-        let mut object = Object::new(alloc);
-        object.made("unknown", value_text(alloc, &name));
-        object.made("value", value_text(alloc, &value));
-        object.number("tuples", i64::from(one.tuples));
-        items.object(object);
+        items.object(filled_object(alloc, space, one));
     }
-    Ok(items)
+    items
+}
+
+fn filled_object(alloc: Global, space: &Space, filled: &Filled) -> Object {
+    let mut object = Object::new(alloc);
+    object.made(
+        "unknown",
+        named_text(alloc, space, &Value::Null(filled.name)),
+    );
+    object.made("value", named_text(alloc, space, &filled.value));
+    object.number("tuples", i64::from(filled.tuples));
+    object
 }
 
 fn again_items(alloc: Global, again: &[AgainTold]) -> Items {

@@ -44,11 +44,13 @@ pub fn spent_fault(
 // What each mapping made, by their names; those that made nothing are left out.
 fn counts_of(alloc: Global, space: &Space, made: &MadeList) -> Result<Vec<Count>, Memory> {
     let mut counts = Vec::new(alloc);
-    for one in made.as_slice().iter().filter(|one| one.tuples > 0) {
-        counts.push(Count {
-            name: space.source_name(alloc, one.source)?,
-            tuples: one.tuples,
-        })?;
+    for one in made.as_slice() {
+        if 0 < one.tuples {
+            counts.push(Count {
+                name: space.source_name(alloc, one.source)?,
+                tuples: one.tuples,
+            })?;
+        }
     }
     counts.sort_by(|one: &Count, other: &Count| one.name.as_str().cmp(other.name.as_str()))?;
     Ok(counts)

@@ -36,12 +36,21 @@ impl Changed {
     }
 
     fn add_step(&mut self, step: &Step) -> Result<(), Memory> {
-        for tuple in step.note.deleted.as_slice() {
+        self.add_deleted(step.note.deleted.as_slice())?;
+        self.add_put(step.note.puts.as_slice())
+    }
+
+    fn add_deleted(&mut self, tuples: &[Tuple]) -> Result<(), Memory> {
+        for tuple in tuples {
             if is_seen(tuple) {
                 self.writes.push(Write::Delete(tuple.share()?))?;
             }
         }
-        for tuple in step.note.puts.as_slice() {
+        Ok(())
+    }
+
+    fn add_put(&mut self, tuples: &[Tuple]) -> Result<(), Memory> {
+        for tuple in tuples {
             if is_seen(tuple) {
                 self.writes.push(Write::Insert(tuple.share()?))?;
             }
@@ -73,19 +82,33 @@ impl Changed {
     fn add_written(&self, alloc: Global, tables: &mut BTreeSet<u16>) -> Result<(), Memory> {
         let mut came = BTreeSet::new(alloc);
         let mut went = BTreeSet::new(alloc);
+        self.part(&mut came, &mut went)?;
+        add_apart(tables, &came, &went)?;
+        add_apart(tables, &went, &came)?;
+        self.add_others(alloc, tables, &came, &went)
+    }
+
+    // The relations of which tuples came, and those of which tuples went.
+    fn part(&self, came: &mut BTreeSet<u16>, went: &mut BTreeSet<u16>) -> Result<(), Memory> {
         for write in &self.writes {
             match write {
-                Write::Insert(tuple) => add(&mut came, tuple.relation)?,
-                Write::Delete(tuple) => add(&mut went, tuple.relation)?,
+                Write::Insert(tuple) => add(came, tuple.relation)?,
+                Write::Delete(tuple) => add(went, tuple.relation)?,
             }
         }
-        for relation in &came {
-            if !went.contains(relation) || self.is_other(alloc, *relation)? {
-                add(tables, *relation)?;
-            }
-        }
-        for relation in &went {
-            if !came.contains(relation) {
+        Ok(())
+    }
+
+    // Adds the relations in both sets whose tuples are others after the writes.
+    fn add_others(
+        &self,
+        alloc: Global,
+        tables: &mut BTreeSet<u16>,
+        came: &BTreeSet<u16>,
+        went: &BTreeSet<u16>,
+    ) -> Result<(), Memory> {
+        for relation in came {
+            if went.contains(relation) && self.is_other(alloc, *relation)? {
                 add(tables, *relation)?;
             }
         }
@@ -94,6 +117,18 @@ impl Changed {
 
     // Whether the relation's tuples are others after the writes.
     fn is_other(&self, alloc: Global, relation: u16) -> Result<bool, Memory> {
+        let writes = self.writes_of(alloc, relation)?;
+        let mut touched = Touched::new(alloc);
+        touched.made(writes.as_slice())?;
+        for (_, touch) in &touched.tuples {
+            if touch.was != touch.is {
+                return Ok(true);
+            }
+        }
+        Ok(false)
+    }
+
+    fn writes_of(&self, alloc: Global, relation: u16) -> Result<Vec<Write>, Memory> {
         let mut writes = Vec::new(alloc);
         for write in &self.writes {
             match write {
@@ -106,15 +141,22 @@ impl Changed {
                 _ => {}
             }
         }
-        let mut touched = Touched::new(alloc);
-        touched.made(writes.as_slice())?;
-        Ok(
-            touched
-                .tuples
-                .iter()
-                .any(|(_, touch)| touch.was != touch.is),
-        )
+        Ok(writes)
     }
+}
+
+// Adds the relations that are in the first set alone.
+fn add_apart(
+    tables: &mut BTreeSet<u16>,
+    ones: &BTreeSet<u16>,
+    others: &BTreeSet<u16>,
+) -> Result<(), Memory> {
+    for relation in ones {
+        if !others.contains(relation) {
+            add(tables, *relation)?;
+        }
+    }
+    Ok(())
 }
 
 // Whether the tuple is of a relation that is seen.

@@ -21,14 +21,16 @@ mod rules;
 mod saying;
 mod sources;
 mod spaces;
+mod speaking;
 mod spelling;
 mod texts;
 mod violating;
 mod waits;
 
-pub use crate::copies::{copy_fact, copy_rule, copy_value};
-pub use crate::naming::{null_of, unknown_of};
+pub use crate::copies::{copy_fact, copy_rule, copy_value, plain_fact};
+pub use crate::naming::{has_unknown, is_unknown, null_of, unknown_of};
 pub use crate::opening::Opening;
 pub use crate::points::Point;
 pub use crate::spaces::{Recorded, Space};
+pub use crate::speaking::speaks_of;
 pub use crate::violating::Violation;

@@ -76,6 +76,23 @@ impl Space {
         Ok(text.done()?)
     }
 
+    /// The number of the update that is held at this place.
+    pub fn number_at(&self, held: usize) -> Option<u32> {
+        Some(self.state.held().get(held)?.update.number)
+    }
+
+    /// The numbers of the updates that wait, rising. It is refused only for want of memory.
+    pub fn waiting_numbers(&self, alloc: Global) -> Result<Vec<u32>, Memory> {
+        let mut numbers = Vec::new(alloc);
+        for waiting in self.state.waiting().as_slice() {
+            if let Some(number) = self.number_at(waiting.held) {
+                numbers.push(number)?;
+            }
+        }
+        numbers.sort_unstable();
+        Ok(numbers)
+    }
+
     /// Who said an update; empty if it is not there.
     pub fn curator_of(&self, number: u32) -> &str {
         match self.state.update(number) {

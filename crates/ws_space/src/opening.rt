@@ -145,11 +145,14 @@ fn begun(alloc: Global, head: &Head) -> Result<(Vec<Rule>, State), Opening> {
 // The mappings of the head by number: those in force, and then those that are proposed.
 fn rules_of(alloc: Global, head: &Head) -> Result<Vec<Rule>, Memory> {
     let mut rules = Vec::new(alloc);
-    for rule in &head.in_force {
-        rules.push(apart(alloc, rule)?)?;
-    }
-    for rule in &head.proposed {
-        rules.push(apart(alloc, rule)?)?;
-    }
+    add_rules(alloc, &mut rules, head.in_force.as_slice())?;
+    add_rules(alloc, &mut rules, head.proposed.as_slice())?;
     Ok(rules)
+}
+
+fn add_rules(alloc: Global, rules: &mut Vec<Rule>, said: &[Rule]) -> Result<(), Memory> {
+    for rule in said {
+        rules.push(apart(alloc, rule)?)?;
+    }
+    Ok(())
 }

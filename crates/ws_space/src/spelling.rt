@@ -94,10 +94,12 @@ fn spelled(alloc: Global, fact: &NewFact, news: &mut NameList) -> Result<Spelled
 
 // The number of the new unknown that has this name.
 fn new_of(name: Name, news: &mut NameList) -> Result<u32, Memory> {
-    match news.as_slice().iter().position(|other| *other == name) {
-        Some(place) => Ok(u32::try_from(place.saturating_add(1)).unwrap_or(u32::MAX)),
-        None => another(name, news),
+    for (place, other) in news.as_slice().iter().enumerate() {
+        if *other == name {
+            return Ok(u32::try_from(place.saturating_add(1)).unwrap_or(u32::MAX));
+        }
     }
+    another(name, news)
 }
 
 // The number of one more new unknown.

@@ -120,10 +120,19 @@ fn one_fact(alloc: Global, space: &Space, pattern: &Pattern) -> Result<Fact, Ref
     refuse_with(alloc, words.as_str(), "", texts)
 }
 
+// Whether a `_` stands in it.
+fn keeps_some(new: &Replacement) -> bool {
+    for value in new.values.iter() {
+        if value.is_none() {
+            return true;
+        }
+    }
+    false
+}
+
 // The tuple that comes: `_` keeps what stands in the old one.
 fn replacement(alloc: Global, old: &Fact, new: &Replacement) -> Result<NewFact, Refusal> {
-    let keeps = new.values.iter().any(|value| value.is_none());
-    if keeps && old.relation != new.relation {
+    if old.relation != new.relation && keeps_some(new) {
         return refuse(alloc, "_ keeps a value of the same relation", "");
     }
     let mut values = Vec::new(alloc);

@@ -29,12 +29,19 @@ pub fn why_unknown(
     let mut name = Text::new(alloc);
     add_unknown(&mut name, unknown);
     let name = name.done()?;
+    let texts = texts_with(alloc, space, &value)?;
     let words = words_of(alloc, space, name.as_str(), unknown)?;
-    let mut texts = Vec::new(alloc);
-    for tuple in standing_in(alloc, space, &value)?.iter() {
-        texts.push(inner_text(alloc, space, tuple)?)?;
-    }
     Ok(reply(alloc, context, name.as_str(), words, texts.as_slice())?)
+}
+
+// The tuples that the value stands in, in order, as commands take them.
+fn texts_with(alloc: Global, space: &Space, value: &Value) -> Result<Vec<String>, Memory> {
+    let tuples = standing_in(alloc, space, value)?;
+    let mut texts = Lines::new(alloc);
+    for tuple in tuples.iter() {
+        texts.made(inner_text(alloc, space, tuple));
+    }
+    Ok(texts.done()?)
 }
 
 // The tuples that the value stands in, in order.
@@ -53,12 +60,7 @@ fn standing_in(alloc: Global, space: &Space, value: &Value) -> Result<BTreeSet<T
 fn words_of(alloc: Global, space: &Space, name: &str, unknown: Unknown) -> Result<String, Memory> {
     let number = unknown.update;
     let stands = space.state.status(number) == Some(Status::Stands);
-    let held = space
-        .state
-        .held()
-        .iter()
-        .find(|held| held.update.number == number);
-    let (Some(held), true) = (held, stands) else {
+    let (Some(held), true) = (held_of(space, number), stands) else {
         return Ok(format!(in alloc; "{name} is in the base")?);
     };
     let curator = space.curator_of(number);
@@ -68,13 +70,22 @@ fn words_of(alloc: Global, space: &Space, name: &str, unknown: Unknown) -> Resul
     }
 }
 
+fn held_of(space: &Space, number: u32) -> Option<&Held> {
+    for held in space.state.held() {
+        if held.update.number == number {
+            return Some(held);
+        }
+    }
+    None
+}
+
 fn cause_of(held: &Held, place: u32) -> Option<&Cause> {
-    let found = held
-        .places
-        .as_slice()
-        .iter()
-        .find(|other| other.number == place)?;
-    Some(&found.cause)
+    for other in held.places.as_slice() {
+        if other.number == place {
+            return Some(&other.cause);
+        }
+    }
+    None
 }
 
 // `?U.P is VARIABLE of MAPPING in N by C, since IMAGE`.
@@ -97,12 +108,16 @@ fn caused(
         "{name} is {variable} of {by} in {number} by {curator}"
     );
     if let Source::By(_) = cause.source {
-        for (place, tuple) in cause.image.as_slice().iter().enumerate() {
-            words.push_str(if place == 0 { ", since " } else { ", " });
-            words.made(fact_text(alloc, space, tuple));
-        }
+        add_image(alloc, space, &mut words, cause.image.as_slice());
     }
     Ok(words.done()?)
+}
+
+fn add_image(alloc: Global, space: &Space, words: &mut Text, image: &[Tuple]) {
+    for (place, tuple) in image.iter().enumerate() {
+        words.push_str(if place == 0 { ", since " } else { ", " });
+        words.made(fact_text(alloc, space, tuple));
+    }
 }
 
 // The name of the variable that the unknown was drawn for.
