@@ -57,8 +57,11 @@ impl Options {
     }
 }
 
-// The option of this name, among those that a verb takes.
+// The option of this name, among those that a verb takes. `--sqlite` is not among those that are told.
 fn option_named(verb: Verb, name: &str) -> Option<Opt> {
+    if verb == Verb::Export && name == Opt::Sqlite.name() {
+        return Some(Opt::Sqlite);
+    }
     verb.options().iter().copied().find(|o| o.name() == name)
 }
 
