@@ -138,6 +138,7 @@ impl<'a> Cursor<'a> {
             csv: options.has(Opt::Csv),
             sql: options.has(Opt::Sql),
             json: options.has(Opt::Json),
+            sqlite: options.take_word(Opt::Sqlite),
             to: options.take_word(Opt::To),
         }))
     }

@@ -71,7 +71,7 @@ impl Options {
     }
 }
 
-// The option of this name, among those that a verb takes.
+// The option of this name, among those that a verb takes. `--sqlite` is not among those that are told.
 fn option_named(verb: Verb, name: &str) -> Option<Opt> {
     for opt in verb.options() {
         if opt.name() == name {
