@@ -1,2 +1,3 @@
 pub mod Smallness
 pub mod Keeping
+pub mod Staying

@@ -1,4 +1,6 @@
 //! What is undone and done again: all lines that count are replayed.
+ghost use Rattle.std.specs.Prelude.{◌≡◌, None, OnOk, IfOk};
+ghost use Rattle.ws_state.specs.Stands.{FoldAsBefore};
 
 use crate::states::{Event, Said, State, Told};
 use crate::visible::{Visible, came_between, visible_of};
@@ -30,21 +32,33 @@ pub type AgainList = List<Again>;
 
 impl State {
     /// The lines of these updates and their answers do not count any more.
-    pub(crate) fn undo(&mut self, alloc: Global, numbers: &NumberList) -> Result<Told, Memory> {
+    #[tactic(auto, using(crate::proofs::Staying::fold_more))]
+    pub(crate) fn undo(&mut self, alloc: Global, numbers: &NumberList) -> Result<Told, Memory>
+        ensures fold { OnOk result (FoldAsBefore self.old self.new) }
+        ensures reason { IfOk result (λ told. told.reason ≡ None) }
+    {
         let before = self.before(alloc)?;
         self.set_undone(numbers, true);
         self.replay_and_tell(alloc, before, numbers)
     }
 
     /// They count again.
-    pub(crate) fn redo(&mut self, alloc: Global, numbers: &NumberList) -> Result<Told, Memory> {
+    #[tactic(auto, using(crate::proofs::Staying::fold_more))]
+    pub(crate) fn redo(&mut self, alloc: Global, numbers: &NumberList) -> Result<Told, Memory>
+        ensures fold { OnOk result (FoldAsBefore self.old self.new) }
+        ensures reason { IfOk result (λ told. told.reason ≡ None) }
+    {
         let before = self.before(alloc)?;
         self.set_undone(numbers, false);
         self.replay_and_tell(alloc, before, numbers)
     }
 
     /// The answers of these updates up to here do not count any more.
-    pub(crate) fn forget(&mut self, alloc: Global, numbers: &NumberList) -> Result<Told, Memory> {
+    #[tactic(auto, using(crate::proofs::Staying::fold_more))]
+    pub(crate) fn forget(&mut self, alloc: Global, numbers: &NumberList) -> Result<Told, Memory>
+        ensures fold { OnOk result (FoldAsBefore self.old self.new) }
+        ensures reason { IfOk result (λ told. told.reason ≡ None) }
+    {
         let before = self.before(alloc)?;
         for number in numbers.as_slice() {
             if let Some(place) = self.place_of(*number) {
@@ -54,7 +68,10 @@ impl State {
         self.replay_and_tell(alloc, before, numbers)
     }
 
-    fn set_undone(&mut self, numbers: &NumberList, is_undone: bool) {
+    #[tactic(auto, using(crate::proofs::Staying::fold_none))]
+    fn set_undone(&mut self, numbers: &NumberList, is_undone: bool)
+        ensures fold { FoldAsBefore self.old self.new }
+    {
         for number in numbers.as_slice() {
             if let Some(place) = self.place_of(*number) {
                 if let Some(held) = self.held.get_mut(place) {
@@ -64,7 +81,10 @@ impl State {
         }
     }
 
-    fn forget_answers(&mut self, alloc: Global, place: usize) {
+    #[tactic(auto, using(crate::proofs::Staying::fold_none))]
+    fn forget_answers(&mut self, alloc: Global, place: usize)
+        ensures fold { FoldAsBefore self.old self.new }
+    {
         for event in &mut self.events {
             if answers_to(&event.said, place) {
                 event.is_forgotten = true;
@@ -78,7 +98,10 @@ impl State {
     }
 
     // What is compared with what stands after the replay.
-    fn before(&mut self, alloc: Global) -> Result<Before, Memory> {
+    #[tactic(auto, using(crate::proofs::Staying::fold_none, crate::proofs::Staying::fold_ground))]
+    fn before(&mut self, alloc: Global) -> Result<Before, Memory>
+        ensures fold { FoldAsBefore self.old self.new }
+    {
         let statuses = self.statuses(alloc)?;
         let visible = visible_of(alloc, &self.world.ground)?;
         let order = mem::replace(&mut self.world.order, StandingList::new(alloc));
@@ -89,12 +112,16 @@ impl State {
         })
     }
 
+    #[tactic(auto, using(crate::proofs::Staying::fold_more))]
     fn replay_and_tell(
         &mut self,
         alloc: Global,
         before: Before,
         numbers: &NumberList,
-    ) -> Result<Told, Memory> {
+    ) -> Result<Told, Memory>
+        ensures fold { OnOk result (FoldAsBefore self.old self.new) }
+        ensures reason { IfOk result (λ told. told.reason ≡ None) }
+    {
         self.replay(alloc)?;
         let after = visible_of(alloc, &self.world.ground)?;
         let came = came_between(alloc, &before.visible, &after)?;
@@ -108,7 +135,10 @@ impl State {
     }
 
     /// All lines that count, anew from what stood at the last fold.
-    pub(crate) fn replay(&mut self, alloc: Global) -> Result<(), Memory> {
+    #[tactic(auto, using(crate::proofs::Staying::fold_more, crate::proofs::Staying::fold_none))]
+    pub(crate) fn replay(&mut self, alloc: Global) -> Result<(), Memory>
+        ensures fold { OnOk result (FoldAsBefore self.old self.new) }
+    {
         self.replays = self.replays.wrapping_add(1);
         self.restart(alloc)?;
         let events = mem::replace(&mut self.events, Vec::new(alloc));
@@ -119,7 +149,10 @@ impl State {
         Ok(())
     }
 
-    fn replay_one(&mut self, alloc: Global, event: &Event) -> Result<(), Memory> {
+    #[tactic(auto, using(crate::proofs::Staying::fold_more, crate::proofs::Staying::fold_none))]
+    fn replay_one(&mut self, alloc: Global, event: &Event) -> Result<(), Memory>
+        ensures fold { OnOk result (FoldAsBefore self.old self.new) }
+    {
         if event.is_forgotten || self.is_undone_at(place_in(&event.said)) {
             return Ok(());
         }
@@ -132,7 +165,10 @@ impl State {
     }
 
     // Back to what stood at the last fold, with what waited then.
-    fn restart(&mut self, alloc: Global) -> Result<(), Memory> {
+    #[tactic(auto, using(crate::proofs::Staying::fold_more, crate::proofs::Staying::fold_back, crate::proofs::Staying::fold_ground))]
+    fn restart(&mut self, alloc: Global) -> Result<(), Memory>
+        ensures fold { OnOk result (FoldAsBefore self.old self.new) }
+    {
         self.world.ground.back_to(ws_run::Mark {
             last: 0,
             names: self.first_names,
@@ -142,11 +178,15 @@ impl State {
         self.world.gone = List::new(alloc);
         self.world.order = StandingList::new(alloc);
         self.world.waiting = WaitingList::new(alloc);
-        self.wait_first(alloc)
+        self.wait_first(alloc)?;
+        Ok(())
     }
 
     // What waited at the last fold waits.
-    fn wait_first(&mut self, alloc: Global) -> Result<(), Memory> {
+    #[tactic(auto, using(crate::proofs::Staying::fold_more, crate::proofs::Staying::fold_none, crate::proofs::Staying::fold_ground))]
+    fn wait_first(&mut self, alloc: Global) -> Result<(), Memory>
+        ensures fold { FoldAsBefore self.old self.new }
+    {
         for (place, held) in self.held.iter().enumerate() {
             if held.is_undone {
                 continue;

@@ -1,4 +1,6 @@
 //! Runs of updates over what stands.
+ghost use Rattle.std.specs.Prelude.{◌≡◌, OnOk, IfOk, IfSome};
+ghost use Rattle.ws_state.specs.Stands.{StandsAsBefore, HasRun, IsTakenBack, FoldAsBefore};
 
 use crate::outcomes::{Ran, Tried, first_of};
 use crate::states::{HeldList, State};
@@ -13,12 +15,17 @@ use ws_run::{Mark, Reason};
 
 impl State {
     /// Runs the update at this place with these answers, and lets it stand or wait. It tells why it waits, if it does.
+    #[tactic(auto, using(crate::proofs::Staying::fold_more, crate::proofs::Staying::back_more, crate::proofs::Staying::run_taken_back))]
     pub(crate) fn run_again(
         &mut self,
         alloc: Global,
         place: usize,
         answers: GivenList,
-    ) -> Result<Option<Reason>, Memory> {
+    ) -> Result<Option<Reason>, Memory>
+        ensures fold { OnOk result (FoldAsBefore self.old self.new) }
+        ensures waits { IfOk result (λ reason. IfSome reason (λ _.
+            StandsAsBefore self.old.world self.new.world)) }
+    {
         let mark = self.world.ground.mark();
         let Tried { ran, places, .. } = self.run(alloc, place, &answers)?;
         self.keep_places(place, places);
@@ -39,7 +46,10 @@ impl State {
     }
 
     // It stands, with the mapping that it puts in force or takes away.
-    fn let_stand(&mut self, alloc: Global, standing: Standing) -> Result<(), Memory> {
+    #[tactic(auto, using(crate::proofs::Staying::fold_more, crate::proofs::Staying::fold_ground))]
+    fn let_stand(&mut self, alloc: Global, standing: Standing) -> Result<(), Memory>
+        ensures fold { OnOk result (FoldAsBefore self.old self.new) }
+    {
         self.enforce(alloc, standing.held)?;
         self.world.stand(alloc, standing)?;
         self.sweep(alloc);
@@ -47,26 +57,35 @@ impl State {
     }
 
     // It waits, and what it did is taken back.
+    #[tactic(auto, using(crate::proofs::Staying::fold_more, crate::proofs::Staying::fold_taken, crate::proofs::Staying::back_more))]
     fn let_wait(
         &mut self,
         alloc: Global,
         mark: Mark,
         place: usize,
         answers: GivenList,
-    ) -> Result<(), Memory> {
-        self.world.ground.back_to(mark)?;
-        self.world.wait(place, answers)?;
+    ) -> Result<(), Memory>
+        ensures back { OnOk result (IsTakenBack mark.trail self.old.world self.new.world) }
+        ensures fold { OnOk result (FoldAsBefore self.old self.new) }
+    {
+        self.world.leave(mark, place, answers)?;
         self.sweep(alloc);
         Ok(())
     }
 
     /// Runs it for a look: what stands stays as it is, and so does its table.
+    #[tactic(auto, using(crate::proofs::Staying::fold_more, crate::proofs::Staying::fold_back, crate::proofs::Staying::run_taken_back))]
     pub(crate) fn look(
         &mut self,
         alloc: Global,
         place: usize,
         answers: &GivenList,
-    ) -> Result<Tried, Memory> {
+    ) -> Result<Tried, Memory>
+        ensures stands { OnOk result (StandsAsBefore self.old.world self.new.world) }
+        ensures waits { OnOk result
+            (self.new.world.waiting.items ≡ self.old.world.waiting.items) }
+        ensures fold { OnOk result (FoldAsBefore self.old self.new) }
+    {
         let mark = self.world.ground.mark();
         let tried = self.run(alloc, place, answers)?;
         self.world.ground.back_to(mark)?;
@@ -74,12 +93,17 @@ impl State {
     }
 
     /// An update that waits takes the answer if it asks its question, in place of those that did not fit, and runs again.
+    #[tactic(auto, using(crate::proofs::Staying::fold_more, crate::proofs::Staying::fold_none, crate::proofs::Staying::waits_any, crate::proofs::Staying::waits_after))]
     pub(crate) fn take_answer(
         &mut self,
         alloc: Global,
         place: usize,
         given: &Given,
-    ) -> Result<Option<Reason>, Memory> {
+    ) -> Result<Option<Reason>, Memory>
+        ensures fold { OnOk result (FoldAsBefore self.old self.new) }
+        ensures waits { IfOk result (λ reason. IfSome reason (λ _.
+            StandsAsBefore self.old.world self.new.world)) }
+    {
         let Some(answers) = self.world.answers_of(alloc, place)? else {
             return Ok(None);
         };
@@ -99,14 +123,23 @@ impl State {
         place: usize,
         answers: GivenList,
         given: &Given,
-    ) -> Result<Option<Reason>, Memory> {
+    ) -> Result<Option<Reason>, Memory>
+        ensures fold { OnOk result (FoldAsBefore self.old self.new) }
+        ensures waits { IfOk result (λ reason. IfSome reason (λ _.
+            StandsAsBefore self.old.world self.new.world)) }
+    {
         let mut answers = answers;
         answers.push(given.copy(alloc)?)?;
         self.run_again(alloc, place, answers)
     }
 
     /// An update that waits runs again, with the answers that fit.
-    pub(crate) fn retry(&mut self, alloc: Global, place: usize) -> Result<Option<Reason>, Memory> {
+    #[tactic(auto, using(crate::proofs::Staying::fold_more, crate::proofs::Staying::fold_none, crate::proofs::Staying::waits_after))]
+    pub(crate) fn retry(&mut self, alloc: Global, place: usize) -> Result<Option<Reason>, Memory>
+        ensures fold { OnOk result (FoldAsBefore self.old self.new) }
+        ensures waits { IfOk result (λ reason. IfSome reason (λ _.
+            StandsAsBefore self.old.world self.new.world)) }
+    {
         let Some(answers) = self.world.answers_of(alloc, place)? else {
             return Ok(None);
         };
@@ -115,7 +148,10 @@ impl State {
     }
 
     // A mapping that the update puts in force or takes away.
-    fn enforce(&mut self, alloc: Global, place: usize) -> Result<(), Memory> {
+    #[tactic(auto, using(crate::proofs::Staying::fold_none, crate::proofs::Staying::fold_ground))]
+    fn enforce(&mut self, alloc: Global, place: usize) -> Result<(), Memory>
+        ensures fold { FoldAsBefore self.old self.new }
+    {
         let Some(held) = self.held.get(place) else {
             return Ok(());
         };
@@ -127,14 +163,21 @@ impl State {
     }
 
     // The table of the update at this place.
-    fn keep_places(&mut self, place: usize, places: Places) {
+    #[tactic(auto, using(crate::proofs::Staying::stays_none, crate::proofs::Staying::fold_none))]
+    fn keep_places(&mut self, place: usize, places: Places)
+        ensures stands { StandsAsBefore self.old.world self.new.world }
+        ensures fold { FoldAsBefore self.old self.new }
+    {
         if let Some(held) = self.held.get_mut(place) {
             drop(mem::replace(&mut held.places, places));
         }
     }
 
     // What waits for a mapping that is gone, or to put one in force that is in force, is given up.
-    fn sweep(&mut self, alloc: Global) {
+    fn sweep(&mut self, alloc: Global)
+        ensures stands { StandsAsBefore self.old.world self.new.world }
+        ensures fold { FoldAsBefore self.old self.new }
+    {
         let waiting = mem::replace(&mut self.world.waiting, WaitingList::new(alloc));
         let mut kept = waiting.into_vec();
         let world = &self.world;
@@ -144,7 +187,11 @@ impl State {
     }
 
     // Runs the update at this place over what stands.
-    fn run(&mut self, alloc: Global, place: usize, answers: &GivenList) -> Result<Tried, Memory> {
+    #[tactic(auto, using(crate::proofs::Staying::fold_run))]
+    fn run(&mut self, alloc: Global, place: usize, answers: &GivenList) -> Result<Tried, Memory>
+        ensures ran { HasRun self.old.world self.new.world }
+        ensures fold { FoldAsBefore self.old self.new }
+    {
         let Some(held) = self.held.get(place) else {
             return Err(Memory);
         };

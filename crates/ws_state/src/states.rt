@@ -1,4 +1,6 @@
 //! The state, and what is held of each update of the log.
+ghost use Rattle.std.specs.Prelude.{◌≡◌, None, OnOk, IfOk, IfSome};
+ghost use Rattle.ws_state.specs.Stands.{StandsAsBefore, FoldAsBefore};
 
 use crate::outcomes::Tried;
 use crate::replays::Replayed;
@@ -89,7 +91,12 @@ impl State {
     }
 
     /// Does what the line says, and tells of it. It is refused only for want of memory; the state is then of no use.
-    pub fn take(&mut self, alloc: Global, line: Line) -> Result<Told, Memory> {
+    #[tactic(auto, using(crate::proofs::Staying::none_waits))]
+    pub fn take(&mut self, alloc: Global, line: Line) -> Result<Told, Memory>
+        ensures fold { OnOk result (FoldAsBefore self.old self.new) }
+        ensures waits { IfOk result (λ told. IfSome told.reason (λ _.
+            StandsAsBefore self.old.world self.new.world)) }
+    {
         match line {
             Line::Update(update) => self.say(alloc, update),
             Line::Answer(number, given) => self.answer(alloc, number, given),
@@ -109,7 +116,12 @@ impl State {
     }
 
     // An update is said: it runs without answers.
-    fn say(&mut self, alloc: Global, update: Update) -> Result<Told, Memory> {
+    #[tactic(auto, using(crate::proofs::Staying::fold_more, crate::proofs::Staying::waits_after))]
+    fn say(&mut self, alloc: Global, update: Update) -> Result<Told, Memory>
+        ensures fold { OnOk result (FoldAsBefore self.old self.new) }
+        ensures waits { IfOk result (λ told. IfSome told.reason (λ _.
+            StandsAsBefore self.old.world self.new.world)) }
+    {
         let number = update.number;
         if self.last < number {
             self.last = number;
@@ -130,7 +142,12 @@ impl State {
     }
 
     // An update that waits is given an answer.
-    fn answer(&mut self, alloc: Global, number: u32, given: Given) -> Result<Told, Memory> {
+    #[tactic(auto, using(crate::proofs::Staying::fold_more, crate::proofs::Staying::fold_none, crate::proofs::Staying::waits_before))]
+    fn answer(&mut self, alloc: Global, number: u32, given: Given) -> Result<Told, Memory>
+        ensures fold { OnOk result (FoldAsBefore self.old self.new) }
+        ensures waits { IfOk result (λ told. IfSome told.reason (λ _.
+            StandsAsBefore self.old.world self.new.world)) }
+    {
         let Some(place) = self.place_of(number) else {
             return Ok(nothing_told());
         };
@@ -145,7 +162,12 @@ impl State {
     }
 
     // An update that waits is told to try again.
-    fn go(&mut self, alloc: Global, number: u32) -> Result<Told, Memory> {
+    #[tactic(auto, using(crate::proofs::Staying::fold_more, crate::proofs::Staying::fold_none, crate::proofs::Staying::waits_after))]
+    fn go(&mut self, alloc: Global, number: u32) -> Result<Told, Memory>
+        ensures fold { OnOk result (FoldAsBefore self.old self.new) }
+        ensures waits { IfOk result (λ told. IfSome told.reason (λ _.
+            StandsAsBefore self.old.world self.new.world)) }
+    {
         let Some(place) = self.place_of(number) else {
             return Ok(nothing_told());
         };
@@ -155,7 +177,11 @@ impl State {
     }
 
     // What was said runs again at a replay.
-    fn note(&mut self, said: Said) -> Result<(), Memory> {
+    #[tactic(auto, using(crate::proofs::Staying::fold_none, crate::proofs::Staying::stays_none))]
+    fn note(&mut self, said: Said) -> Result<(), Memory>
+        ensures fold { FoldAsBefore self.old self.new }
+        ensures stands { StandsAsBefore self.old.world self.new.world }
+    {
         self.events.push(Event {
             said,
             is_forgotten: false,
@@ -164,7 +190,9 @@ impl State {
     }
 
     // What is told of the update that is held at this place.
-    fn told(&self, place: usize, reason: Option<Reason>) -> Told {
+    fn told(&self, place: usize, reason: Option<Reason>) -> Told
+        ensures reason { result.reason ≡ reason.entry }
+    {
         Told {
             status: Some(self.status_at(place)),
             reason,
@@ -173,7 +201,10 @@ impl State {
     }
 
     // The relation is declared, anew if there is one of that name.
-    fn declare_table(&mut self, table: Table) -> Result<(), Memory> {
+    #[tactic(auto, using(crate::proofs::Staying::fold_none))]
+    fn declare_table(&mut self, table: Table) -> Result<(), Memory>
+        ensures fold { FoldAsBefore self.old self.new }
+    {
         match self.table_number(table.name.as_slice()) {
             Some(number) => put(&mut self.tables, number as usize, table),
             None => self.tables.push(table)?,
@@ -182,7 +213,10 @@ impl State {
     }
 
     // The mapping is declared, anew if there is one of that name.
-    fn declare_mapping(&mut self, mapping: Mapping) -> Result<(), Memory> {
+    #[tactic(auto, using(crate::proofs::Staying::fold_none))]
+    fn declare_mapping(&mut self, mapping: Mapping) -> Result<(), Memory>
+        ensures fold { FoldAsBefore self.old self.new }
+    {
         match self.mapping_number(mapping.name.as_slice()) {
             Some(number) => put(&mut self.mappings, number as usize, mapping),
             None => self.mappings.push(mapping)?,
@@ -192,7 +226,13 @@ impl State {
 
     /// Why the update of this number does not stand, if it waits, over what stands now; None if it does not wait or nothing is in
     /// its way. The state stays as it is. It is refused only for want of memory.
-    pub fn ask(&mut self, alloc: Global, number: u32) -> Result<Option<Reason>, Memory> {
+    #[tactic(auto, using(crate::proofs::Staying::fold_none, crate::proofs::Staying::stays_none))]
+    pub fn ask(&mut self, alloc: Global, number: u32) -> Result<Option<Reason>, Memory>
+        ensures stands { OnOk result (StandsAsBefore self.old.world self.new.world) }
+        ensures waits { OnOk result
+            (self.new.world.waiting.items ≡ self.old.world.waiting.items) }
+        ensures fold { OnOk result (FoldAsBefore self.old self.new) }
+    {
         let Some(place) = self.place_of(number) else {
             return Ok(None);
         };
@@ -254,7 +294,9 @@ pub(crate) fn put<T: Drop>(list: &mut List<T>, place: usize, item: T) {
 }
 
 /// Nothing is told.
-pub(crate) fn nothing_told() -> Told {
+pub(crate) fn nothing_told() -> Told
+    ensures reason { result.reason ≡ None }
+{
     Told {
         status: None,
         reason: None,

@@ -1,4 +1,6 @@
 //! One update run over what stands.
+ghost use Rattle.ws_ground.specs.Trails.{HasGrown};
+ghost use Rattle.ws_state.specs.Stands.{HasRun};
 
 use crate::active::{active_for, fixed_mapping, within};
 use crate::outcomes::{Tried, done_by, done_with, done_without_ops, halted, left};
@@ -22,13 +24,16 @@ pub(crate) struct Turn<'a> {
 }
 
 /// Runs the update over what stands. If it is not done, what its ops did has to be taken back. It is refused only for want of memory.
+#[tactic(auto, using(ws_ground::proofs::Trailing::none_made))]
 pub(crate) fn run_turn(
     alloc: Global,
     declared: &MappingList,
     world: &mut World,
     turn: Turn<'_>,
     places: Places,
-) -> Result<Tried, Memory> {
+) -> Result<Tried, Memory>
+    ensures ran { HasRun world.old world.new }
+{
     let deed = &turn.update.deed;
     if let Some(mapping) = world.gone_of(deed) {
         return Ok(left(Reason::Gone(mapping), places));
@@ -41,6 +46,7 @@ pub(crate) fn run_turn(
 }
 
 // A mapping comes into force if it has no violation, as an op of its own.
+#[tactic(auto, using(ws_ground::proofs::Trailing::none_made))]
 fn run_force(
     alloc: Global,
     declared: &MappingList,
@@ -48,7 +54,9 @@ fn run_force(
     turn: Turn<'_>,
     mapping: u16,
     places: Places,
-) -> Result<Tried, Memory> {
+) -> Result<Tried, Memory>
+    ensures ran { HasRun world.old world.new }
+{
     if world.is_in_force(mapping) {
         return Ok(done_without_ops(alloc, turn.place, places));
     }
@@ -83,13 +91,16 @@ fn enacted(
 }
 
 // Runs the ops of the update over what stands.
+#[tactic(auto, using(ws_ground::proofs::Trailing::none_made))]
 fn run_ops(
     alloc: Global,
     declared: &MappingList,
     world: &mut World,
     turn: Turn<'_>,
     places: Places,
-) -> Result<Tried, Memory> {
+) -> Result<Tried, Memory>
+    ensures ran { HasRun world.old world.new }
+{
     let deed = &turn.update.deed;
     let active = active_for(alloc, declared, world.in_force.as_slice(), deed)?;
     let Some(mappings) = within(&active.mappings) else {
@@ -119,13 +130,16 @@ fn budget_for(steps: u32) -> Budget {
 }
 
 // Runs the ops of the update over the ground.
+#[tactic(auto, using(ws_ground::proofs::Trailing::none_made))]
 fn run_over(
     alloc: Global,
     setting: &Setting<'_>,
     ground: &mut Ground,
     turn: Turn<'_>,
     places: Places,
-) -> Result<Tried, Memory> {
+) -> Result<Tried, Memory>
+    ensures grown { HasGrown ground.old ground.new }
+{
     let deed = &turn.update.deed;
     let image = image_of(alloc, setting, ground, deed)?;
     let mut thread = Thread::new(alloc, places);

@@ -1,12 +1,13 @@
 //! What stands: the tuples, the mappings in force, the updates that stand in their order, and those that wait.
-ghost use Rattle.std.specs.Prelude.{◌≡◌, IfOk};
+ghost use Rattle.std.specs.Prelude.{◌≡◌, IfOk, OnOk};
+ghost use Rattle.ws_state.specs.Stands.{StandsAsBefore, IsTakenBack};
 
 use crate::states::put;
 use base_types::{List, Memory, TryCopy, TupleList, WriteList};
 use std::alloc::Global;
 use std::mem;
 use ws_lines::{Deed, GivenList};
-use ws_run::{Ground, OpList, StepList};
+use ws_run::{Ground, Mark, OpList, StepList};
 
 /// How an update stands: it does, it waits, it is undone, or it was given up.
 #[derive(Clone, Copy, Debug, PartialEq, Eq)]
@@ -114,7 +115,9 @@ impl World {
     }
 
     /// Puts a mapping in force, after the others, unless it is. It is refused only for want of memory.
-    pub fn put_in_force(&mut self, mapping: u16) -> Result<(), Memory> {
+    pub fn put_in_force(&mut self, mapping: u16) -> Result<(), Memory>
+        ensures ground { self.new.ground ≡ self.old.ground }
+    {
         if !self.is_in_force(mapping) {
             self.in_force.push(mapping)?;
         }
@@ -122,7 +125,9 @@ impl World {
     }
 
     /// Takes a mapping away. It is refused only for want of memory.
-    pub fn drop_mapping(&mut self, alloc: Global, mapping: u16) -> Result<(), Memory> {
+    pub fn drop_mapping(&mut self, alloc: Global, mapping: u16) -> Result<(), Memory>
+        ensures ground { self.new.ground ≡ self.old.ground }
+    {
         self.gone.push(mapping)?;
         let mut kept = mem::replace(&mut self.in_force, List::new(alloc)).into_vec();
         kept.retain(|other| *other != mapping);
@@ -146,21 +151,38 @@ impl World {
     }
 
     /// The update stands, and waits no more. It is refused only for want of memory.
-    pub fn stand(&mut self, alloc: Global, standing: Standing) -> Result<(), Memory> {
+    pub fn stand(&mut self, alloc: Global, standing: Standing) -> Result<(), Memory>
+        ensures ground { self.new.ground ≡ self.old.ground }
+    {
         let held = standing.held;
         self.order.push(standing)?;
         self.wait_no_more(alloc, held);
         Ok(())
     }
 
-    fn wait_no_more(&mut self, alloc: Global, held: usize) {
+    fn wait_no_more(&mut self, alloc: Global, held: usize)
+        ensures ground { self.new.ground ≡ self.old.ground }
+    {
         let mut kept = mem::replace(&mut self.waiting, WaitingList::new(alloc)).into_vec();
         kept.retain(|waiting| waiting.held != held);
         self.waiting = WaitingList::from_vec(kept);
     }
 
+    /// What a run of the update wrote since the mark is taken back, and the update waits with these answers. It is refused only for
+    /// want of memory.
+    pub fn leave(&mut self, mark: Mark, held: usize, answers: GivenList) -> Result<(), Memory>
+        ensures back { OnOk result (IsTakenBack mark.trail self.old self.new) }
+    {
+        self.ground.back_to(mark)?;
+        self.wait(held, answers)?;
+        Ok(())
+    }
+
     /// The update waits with these answers: in its place if it waited, else as the last. It is refused only for want of memory.
-    pub fn wait(&mut self, held: usize, answers: GivenList) -> Result<(), Memory> {
+    pub fn wait(&mut self, held: usize, answers: GivenList) -> Result<(), Memory>
+        ensures ground { self.new.ground ≡ self.old.ground }
+        ensures stands { StandsAsBefore self.old self.new }
+    {
         let waiting = Waiting { held, answers };
         match self.waiting_place(held) {
             Some(place) => put(&mut self.waiting, place, waiting),
