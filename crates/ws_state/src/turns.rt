@@ -4,7 +4,7 @@ ghost use Rattle.ws_state.specs.Stands.{HasRun};
 
 use crate::active::{active_for, fixed_mapping, within};
 use crate::outcomes::{Tried, done_by, done_with, done_without_ops, halted, left};
-use crate::worlds::World;
+use crate::worlds::{World, gone_of};
 use base_limits::Budget;
 use base_types::{
     ChoiceList, MappingList, Memory, Operation, TryCopy, TupleList, Value, ValueList,
@@ -24,7 +24,7 @@ pub(crate) struct Turn<'a> {
 }
 
 /// Runs the update over what stands. If it is not done, what its ops did has to be taken back. It is refused only for want of memory.
-#[tactic(auto, using(ws_ground::proofs::Trailing::none_made))]
+#[tactic(auto, using(crate::proofs::Staying::none_run))]
 pub(crate) fn run_turn(
     alloc: Global,
     declared: &MappingList,
@@ -35,7 +35,7 @@ pub(crate) fn run_turn(
     ensures ran { HasRun world.old world.new }
 {
     let deed = &turn.update.deed;
-    if let Some(mapping) = world.gone_of(deed) {
+    if let Some(mapping) = gone_of(&world.gone, deed) {
         return Ok(left(Reason::Gone(mapping), places));
     }
     match deed {
@@ -46,7 +46,7 @@ pub(crate) fn run_turn(
 }
 
 // A mapping comes into force if it has no violation, as an op of its own.
-#[tactic(auto, using(ws_ground::proofs::Trailing::none_made))]
+#[tactic(auto, using(crate::proofs::Staying::none_run, ws_ground::proofs::Trailing::none_made))]
 fn run_force(
     alloc: Global,
     declared: &MappingList,
@@ -91,7 +91,7 @@ fn enacted(
 }
 
 // Runs the ops of the update over what stands.
-#[tactic(auto, using(ws_ground::proofs::Trailing::none_made))]
+#[tactic(auto, using(crate::proofs::Staying::none_run))]
 fn run_ops(
     alloc: Global,
     declared: &MappingList,
