@@ -23,7 +23,7 @@ mod worlds;
 pub use crate::effects::{Effect, Filled, FilledList, Moved, MovedList};
 pub use crate::heads::{Head, HeadWaiting, HeadWaitingList};
 pub use crate::opening::OpenFault;
-pub use crate::points::Point;
+pub use crate::points::{Point, runs_add_up};
 pub use crate::replays::{Again, AgainList, Replayed};
 pub use crate::states::{Held, HeldList, Mark, State, Told};
 pub use crate::worlds::{Standing, StandingList, Status, Waiting, WaitingList};

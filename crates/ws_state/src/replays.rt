@@ -1,12 +1,16 @@
 //! What is undone and done again: all lines that count are replayed.
+ghost use Rattle.std.specs.Prelude.{◌≡◌, None, OnOk, IfOk};
+ghost use Rattle.ws_state.specs.Stands.{what_stood, GoesOn};
 
-use crate::states::{Event, Said, State, Told};
+use crate::states::{Event, HeldList, Said, State, Told};
 use crate::visible::{Visible, came_between, visible_of};
-use crate::worlds::{StandingList, Status, WaitingList};
-use base_types::{List, Memory, NumberList, TryCopy, TupleList, Write, WriteList};
+use crate::worlds::{StandingList, Status, Waiting, WaitingList, World, renew};
+use base_types::{List, MappingList, Memory, NumberList, TryCopy, TupleList, Write, WriteList};
 use std::alloc::Global;
+use std::collections::BTreeMap;
 use std::mem;
 use ws_lines::GivenList;
+use ws_run::Reason;
 
 /// What a replay changed: the tuples that came and went, by names and in order, and each other update that stands otherwise than before
 /// or wrote something else.
@@ -30,55 +34,48 @@ pub type AgainList = List<Again>;
 
 impl State {
     /// The lines of these updates and their answers do not count any more.
-    pub(crate) fn undo(&mut self, alloc: Global, numbers: &NumberList) -> Result<Told, Memory> {
+    pub(crate) fn undo(&mut self, alloc: Global, numbers: &NumberList) -> Result<Told, Memory>
+        ensures fold { OnOk result (what_stood self.new ≡ what_stood self.old) }
+        ensures reason { IfOk result (λ told. told.reason ≡ None) }
+    {
         let before = self.before(alloc)?;
-        self.set_undone(numbers, true);
-        self.replay_and_tell(alloc, before, numbers)
+        set_undone(&self.places, &mut self.held, numbers, true);
+        let told = self.replay_and_tell(alloc, before, numbers)?;
+        Ok(told)
     }
 
     /// They count again.
-    pub(crate) fn redo(&mut self, alloc: Global, numbers: &NumberList) -> Result<Told, Memory> {
+    pub(crate) fn redo(&mut self, alloc: Global, numbers: &NumberList) -> Result<Told, Memory>
+        ensures fold { OnOk result (what_stood self.new ≡ what_stood self.old) }
+        ensures reason { IfOk result (λ told. told.reason ≡ None) }
+    {
         let before = self.before(alloc)?;
-        self.set_undone(numbers, false);
-        self.replay_and_tell(alloc, before, numbers)
+        set_undone(&self.places, &mut self.held, numbers, false);
+        let told = self.replay_and_tell(alloc, before, numbers)?;
+        Ok(told)
     }
 
     /// The answers of these updates up to here do not count any more.
-    pub(crate) fn forget(&mut self, alloc: Global, numbers: &NumberList) -> Result<Told, Memory> {
+    pub(crate) fn forget(&mut self, alloc: Global, numbers: &NumberList) -> Result<Told, Memory>
+        ensures fold { OnOk result (what_stood self.new ≡ what_stood self.old) }
+        ensures reason { IfOk result (λ told. told.reason ≡ None) }
+    {
         let before = self.before(alloc)?;
-        for number in numbers.as_slice() {
-            if let Some(place) = self.place_of(*number) {
-                self.forget_answers(alloc, place);
-            }
-        }
-        self.replay_and_tell(alloc, before, numbers)
-    }
-
-    fn set_undone(&mut self, numbers: &NumberList, is_undone: bool) {
-        for number in numbers.as_slice() {
-            if let Some(place) = self.place_of(*number) {
-                if let Some(held) = self.held.get_mut(place) {
-                    held.is_undone = is_undone;
-                }
-            }
-        }
-    }
-
-    fn forget_answers(&mut self, alloc: Global, place: usize) {
-        for event in &mut self.events {
-            if answers_to(&event.said, place) {
-                event.is_forgotten = true;
-            }
-        }
-        if let Some(held) = self.held.get_mut(place) {
-            if held.first.is_some() {
-                held.first = Some(GivenList::new(alloc));
-            }
-        }
+        forget_all(
+            alloc,
+            &self.places,
+            &mut self.events,
+            &mut self.held,
+            numbers,
+        );
+        let told = self.replay_and_tell(alloc, before, numbers)?;
+        Ok(told)
     }
 
     // What is compared with what stands after the replay.
-    fn before(&mut self, alloc: Global) -> Result<Before, Memory> {
+    fn before(&mut self, alloc: Global) -> Result<Before, Memory>
+        ensures fold { what_stood self.new ≡ what_stood self.old }
+    {
         let statuses = self.statuses(alloc)?;
         let visible = visible_of(alloc, &self.world.ground)?;
         let order = mem::replace(&mut self.world.order, StandingList::new(alloc));
@@ -94,7 +91,10 @@ impl State {
         alloc: Global,
         before: Before,
         numbers: &NumberList,
-    ) -> Result<Told, Memory> {
+    ) -> Result<Told, Memory>
+        ensures fold { OnOk result (what_stood self.new ≡ what_stood self.old) }
+        ensures reason { IfOk result (λ told. told.reason ≡ None) }
+    {
         self.replay(alloc)?;
         let after = visible_of(alloc, &self.world.ground)?;
         let came = came_between(alloc, &before.visible, &after)?;
@@ -108,7 +108,9 @@ impl State {
     }
 
     /// All lines that count, anew from what stood at the last fold.
-    pub(crate) fn replay(&mut self, alloc: Global) -> Result<(), Memory> {
+    pub(crate) fn replay(&mut self, alloc: Global) -> Result<(), Memory>
+        ensures fold { OnOk result (what_stood self.new ≡ what_stood self.old) }
+    {
         self.replays = self.replays.wrapping_add(1);
         self.restart(alloc)?;
         let events = mem::replace(&mut self.events, Vec::new(alloc));
@@ -119,20 +121,27 @@ impl State {
         Ok(())
     }
 
-    fn replay_one(&mut self, alloc: Global, event: &Event) -> Result<(), Memory> {
+    fn replay_one(&mut self, alloc: Global, event: &Event) -> Result<(), Memory>
+        ensures fold { OnOk result (what_stood self.new ≡ what_stood self.old) }
+    {
         if event.is_forgotten || self.is_undone_at(place_in(&event.said)) {
             return Ok(());
         }
-        match &event.said {
-            Said::Update(place) => self.run_again(alloc, *place, GivenList::new(alloc))?,
-            Said::Answer(place, given) => self.take_answer(alloc, *place, given)?,
-            Said::Go(place) => self.retry(alloc, *place)?,
-        };
+        do_again(
+            alloc,
+            &self.mappings,
+            &mut self.held,
+            &mut self.world,
+            &event.said,
+        )?;
         Ok(())
     }
 
     // Back to what stood at the last fold, with what waited then.
-    fn restart(&mut self, alloc: Global) -> Result<(), Memory> {
+    #[tactic(auto, using(crate::proofs::Staying::stood_at_start))]
+    fn restart(&mut self, alloc: Global) -> Result<(), Memory>
+        ensures fold { OnOk result (what_stood self.new ≡ what_stood self.old) }
+    {
         self.world.ground.back_to(ws_run::Mark {
             last: 0,
             names: self.first_names,
@@ -140,21 +149,9 @@ impl State {
         })?;
         self.world.in_force = self.first_in_force.copy(alloc)?;
         self.world.gone = List::new(alloc);
-        self.world.order = StandingList::new(alloc);
-        self.world.waiting = WaitingList::new(alloc);
-        self.wait_first(alloc)
-    }
-
-    // What waited at the last fold waits.
-    fn wait_first(&mut self, alloc: Global) -> Result<(), Memory> {
-        for (place, held) in self.held.iter().enumerate() {
-            if held.is_undone {
-                continue;
-            }
-            if let Some(first) = &held.first {
-                self.world.wait(place, first.copy(alloc)?)?;
-            }
-        }
+        renew(&mut self.world.order, StandingList::new(alloc));
+        let waiting = first_waiting(alloc, &self.held)?;
+        renew(&mut self.world.waiting, waiting);
         Ok(())
     }
 
@@ -205,6 +202,87 @@ impl State {
         }
         Ok(statuses)
     }
+}
+
+// Does what was said, over what stands now.
+fn do_again(
+    alloc: Global,
+    declared: &MappingList,
+    held: &mut HeldList,
+    world: &mut World,
+    said: &Said,
+) -> Result<Option<Reason>, Memory>
+    ensures goes_on { OnOk result (GoesOn world.old world.new) }
+{
+    match said {
+        Said::Update(place) => {
+            world.run_again(alloc, declared, held, *place, GivenList::new(alloc))
+        }
+        Said::Answer(place, given) => world.take_answer(alloc, declared, held, *place, given),
+        Said::Go(place) => world.retry(alloc, declared, held, *place),
+    }
+}
+
+// These updates are undone, or not any more.
+fn set_undone(
+    places: &BTreeMap<u32, usize>,
+    held: &mut HeldList,
+    numbers: &NumberList,
+    is_undone: bool,
+) {
+    for number in numbers.as_slice() {
+        if let Some(place) = places.get(number) {
+            if let Some(held) = held.get_mut(*place) {
+                held.is_undone = is_undone;
+            }
+        }
+    }
+}
+
+// The answers of these updates do not count any more.
+fn forget_all(
+    alloc: Global,
+    places: &BTreeMap<u32, usize>,
+    events: &mut Vec<Event>,
+    held: &mut HeldList,
+    numbers: &NumberList,
+) {
+    for number in numbers.as_slice() {
+        if let Some(place) = places.get(number) {
+            forget_answers(alloc, events, held, *place);
+        }
+    }
+}
+
+fn forget_answers(alloc: Global, events: &mut Vec<Event>, held: &mut HeldList, place: usize) {
+    for event in events.iter_mut() {
+        if answers_to(&event.said, place) {
+            event.is_forgotten = true;
+        }
+    }
+    if let Some(held) = held.get_mut(place) {
+        if held.first.is_some() {
+            held.first = Some(GivenList::new(alloc));
+        }
+    }
+}
+
+// What waited at the last fold, of the updates that are held.
+fn first_waiting(alloc: Global, held: &HeldList) -> Result<WaitingList, Memory> {
+    let mut waiting = WaitingList::new(alloc);
+    for (place, held) in held.iter().enumerate() {
+        if held.is_undone {
+            continue;
+        }
+        if let Some(first) = &held.first {
+            let answers = first.copy(alloc)?;
+            waiting.push(Waiting {
+                held: place,
+                answers,
+            })?;
+        }
+    }
+    Ok(waiting)
 }
 
 fn status_in(statuses: &[Status], place: usize) -> Status {
