@@ -6,7 +6,7 @@
    CALLS_DO=E        the call fails with the error of this number, and does nothing
    CALLS_DO=short    the call, a read or a write, moves one byte
    CALLS_DO=memory   requests of memory are counted instead, and the N-th is refused
-   CALLS_LASTING=1   the later calls of the same name fail too
+   CALLS_LASTING=1   the later calls of the same name fail too, or all later requests
    CALLS_TOLD=FILE   gets the name of the call */
 #define _GNU_SOURCE
 #include <dlfcn.h>
@@ -80,5 +80,5 @@ PLAIN(statx, (int folder, const char *restrict path, int flags, unsigned int mas
 
 extern void *__libc_malloc(size_t), *__libc_realloc(void *, size_t);
 
-void *malloc(size_t size) { return of_memory && is_meant("malloc") ? NULL : __libc_malloc(size); }
-void *realloc(void *place, size_t size) { return of_memory && is_meant("realloc") ? NULL : __libc_realloc(place, size); }
+void *malloc(size_t size) { return of_memory && is_meant("memory") ? NULL : __libc_malloc(size); }
+void *realloc(void *place, size_t size) { return of_memory && is_meant("memory") ? NULL : __libc_realloc(place, size); }

@@ -4,7 +4,7 @@
 A garbled script has commands that fit what stands, and between them such commands with tokens lost, doubled, exchanged, with odd characters,
 cut, or very long. A garbled file has odd cells, quotes, ends of lines, bytes that are no UTF-8, too many cells or too few, now and then a cell of a
 million bytes; it is loaded with random options. Statuses, both streams and what is shown at the end have to be those of the reference. What
-differs is kept, and its folder is told. The last line is 'N passed, M failed'.
+differs is kept, and its folder is told. JOBS processes in the environment. The last line is 'N passed, M failed'.
 """
 import json
 import os
@@ -12,12 +12,14 @@ import random
 import re
 import shutil
 import sys
+from concurrent.futures import ProcessPoolExecutor
 from pathlib import Path
 
 from workspace_garbled import garbled_file, garbled_line, load_lines
 from workspace_runs import LOOKS, Bench, Tally, Workspace, by_reference, random_script, yt
 
 CONTROLS = re.compile("[\x00-\x1f\x7f-\x9f\u061c\u200e\u200f\u2028-\u202e\u2066-\u2069]")
+PART = 20          # seeds of one task
 BEGIN = ['relation A(x*, y)', 'relation B(name, town, born)', 'insert A(1, ?), A("a", "Utrecht")', 'mapping m: B(n, t, b) -> A(n, u)']
 
 
@@ -88,19 +90,31 @@ def kept(bench, name, options, data, both):
     return folder
 
 
-def main():
-    program, what, first, count = sys.argv[1], sys.argv[2], int(sys.argv[3]), int(sys.argv[4])
-    tally = Tally()
+def attacked(program, what, seeds):
+    """How many of these agree, and what is told of each of the others."""
+    told = []
     with Bench(program) as bench:
-        for seed in range(first, first + count):
+        for seed in seeds:
             rng = random.Random(f"{what} {seed}")
             data = script_of(rng, bench, seed) if what == "scripts" else load_of(rng, bench)
             options = ["--keep-going"] + rng.choice([[], ["--json"]])
             both = difference(bench, options, data)
-            told = kept(bench, f"{what}-{seed}", options, data, both) if both else ""
-            tally.holds(f"{what} {seed}: {told}", not both)
+            if both:
+                told.append(f"{what} {seed}: {kept(bench, f'{what}-{seed}', options, data, both)}")
+    return len(seeds) - len(told), told
+
+
+def main(program, what, first, count):
+    tally, seeds = Tally(), range(int(first), int(first) + int(count))
+    with ProcessPoolExecutor(int(os.environ.get("JOBS", "2"))) as pool:
+        parts = [seeds[place:place + PART] for place in range(0, len(seeds), PART)]
+        for task in [pool.submit(attacked, program, what, part) for part in parts]:
+            passed, told = task.result()
+            tally.passed += passed
+            for name in told:
+                tally.holds(name, False)
     tally.end()
 
 
 if __name__ == "__main__":
-    main()
+    main(*sys.argv[1:])

@@ -3,12 +3,16 @@
 
 The commands of each script stand among LINES garbled ones (5,000), as a browser would send them. No command is lost: after every hundred lines a
 question of a number of its own is asked, and has its reply. Each reply has a status that such a command can have, the process ends by itself within
-two minutes, and its file is whole afterwards. Each line counts as one attack. The last line is 'N passed, M failed'.
+two minutes, and its file is whole afterwards. Each line counts as one attack. JOBS processes in the environment. The last line is 'N passed, M
+failed'.
 """
+import json
+import os
 import random
 import re
 import subprocess
 import sys
+from concurrent.futures import ProcessPoolExecutor
 from pathlib import Path
 
 from workspace_garbled import garbled_line
@@ -43,28 +47,30 @@ def wrong(lines, run):
         return f"ended by the signal {-run.returncode}"
     if [number for number in LOST.findall(run.stdout)] != asked:
         return "a line has no reply"
-    odd = set(STATUS.findall(run.stdout)) - CAN_BE
-    return f"statuses {odd}" if odd else ""
+    odd = [line for line in run.stdout.splitlines() if not CAN_BE.issuperset(STATUS.findall(line))]
+    # A mapping may have the name `status`.
+    statuses = {json.loads(line)["status"] for line in odd} - {int(status) for status in CAN_BE}
+    return f"statuses {statuses}" if statuses else ""
 
 
-def attacked(program, seed, bench, count):
+def attacked(program, seed, count):
     """How many lines were told, and what is wrong, if something is."""
-    lines, path = lines_of(seed, bench, count), bench.path("w.yt")
-    Path(path).unlink(missing_ok=True)
-    words = [program, "--json", "--no-files", "--keep-going", path]
-    try:
-        run = subprocess.run(words, input=b"\n".join(lines) + b"\n", capture_output=True, timeout=SECONDS)
-    except subprocess.TimeoutExpired:
-        return len(lines), f"it goes on after {SECONDS} seconds"
-    status = yt(program, [path, "status"])[0]
-    return len(lines), wrong(lines, run) or ("" if status == 0 else f"its file has status {status}")
+    with Bench(program) as bench:
+        lines, path = lines_of(seed, bench, count), bench.path("w.yt")
+        words = [program, "--json", "--no-files", "--keep-going", path]
+        try:
+            run = subprocess.run(words, input=b"\n".join(lines) + b"\n", capture_output=True, timeout=SECONDS)
+        except subprocess.TimeoutExpired:
+            return len(lines), f"it goes on after {SECONDS} seconds"
+        status = yt(program, [path, "status"])[0]
+        return len(lines), wrong(lines, run) or ("" if status == 0 else f"its file has status {status}")
 
 
 def main(program, first, count, lines="5000"):
-    tally = Tally()
-    for seed in range(int(first), int(first) + int(count)):
-        with Bench(program) as bench:
-            told, fault = attacked(program, seed, bench, int(lines))
+    tally, seeds = Tally(), range(int(first), int(first) + int(count))
+    with ProcessPoolExecutor(int(os.environ.get("JOBS", "2"))) as pool:
+        for seed, task in [(seed, pool.submit(attacked, program, seed, int(lines))) for seed in seeds]:
+            told, fault = task.result()
             tally.passed += 0 if fault else told - 1
             tally.holds(f"script {seed}: {fault}", not fault)
     tally.end()

@@ -16,6 +16,11 @@ from oracle.yt.workspace import Workspace          # noqa: E402
 os.environ.update(YT_TIME="2026-11-30T09:00:00Z", YT_CURATOR="ann", LC_ALL="C.UTF-8")
 LOOKS = b"show\nlog\nquestions\nviolations\nstatus\n"
 NEVER = "there is no file"
+# What yt is known not to stand counts only with STRICT in the environment: in `images` and `cuts` a torn record that is whole but for its closed
+# gate, which became an open one; in `cuts` a name that a killed process gave and no later one synced; in `verbs` want of memory between the name
+# of a new file and the sync of its folder, and while the lines of a script are read; in `places` a word that is not UTF-8; in `forged` a record
+# under a right seal that gives a number once more, which nobody but a forger writes.
+STRICT = "STRICT" in os.environ
 
 
 def yt(program, words, data=b"", **environment):
@@ -56,8 +61,9 @@ def ended(run, files):
 class Bench:
     """A folder for workspaces, and what the reference reads in them. It goes when the test ends."""
 
-    def __init__(self, program):
-        self.program, self.folder, self.read = program, tempfile.mkdtemp(prefix="workspace-"), {}
+    def __init__(self, program, *options):
+        self.program, self.options, self.read = program, ["--keep-going", *options], {}
+        self.folder = os.path.realpath(tempfile.mkdtemp(prefix="workspace-"))
 
     def __enter__(self):
         return self
@@ -76,7 +82,7 @@ class Bench:
         if data not in self.read:
             copy = self.path("copy.yt")
             Path(copy).write_bytes(data)
-            self.read[data] = by_reference(["--keep-going", copy], LOOKS)
+            self.read[data] = by_reference([*self.options, copy], LOOKS)
         return self.read[data]
 
     def states(self, lines):
