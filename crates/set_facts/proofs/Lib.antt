@@ -19,4 +19,5 @@ pub mod AtHand
 pub mod Behind
 pub mod Beside
 pub mod Sought
+pub mod Spanning
 mod Ahead

@@ -1,8 +1,9 @@
 -- The index of a set: for each relation and column, the tuples by their value in it.
 use Rattle.std.specs.HashMap.{HashMap}
 use Rattle.std.proofs.Common.{BuildHasherDefault}
+use Rattle.std.specs.List.{list_any}
 use Rattle.std.specs.Map.{lookup}
-use Rattle.std.specs.Prelude.{◌≡◌, ℕ, Bool, not, ◌&&◌, ◌||◌, List, [], unwrap_or, slice_get, Option, Some, None}
+use Rattle.std.specs.Prelude.{◌≡◌, ℕ, Bool, true, not, ◌&&◌, ◌||◌, List, [], unwrap_or, slice_get, Option, Some, None}
 use Rattle.def_chase.specs.Values.{Datum, Fact, same_datum, same_fact}
 use Rattle.def_chase.specs.Repository.{has}
 use Rattle.def_chase.specs.Cursors.{is_of, has_at}
@@ -20,13 +21,18 @@ Kept = HashMap Value (List Fact) (BuildHasherDefault Mixer)
 abbrev pub group_in : Kept → Datum → List Fact
 group_in m d = unwrap_or (lookup (λ k. same_datum d (datum_of k)) m.entries) []
 
+-- The tuples that a column keeps at value d; none where there is no column.
+abbrev pub group_of : Option Kept → Datum → List Fact
+group_of None d = []
+group_of (Some m) d = group_in m d
+
 -- The tuples that column c keeps at value d; none past the last column.
 abbrev pub group_at : List Kept → ℕ → Datum → List Fact
-group_at ms c d = at (slice_get ms c)
-  where
-    at : Option Kept → List Fact
-    at None = []
-    at (Some m) = group_in m d
+group_at ms c d = group_of (slice_get ms c) d
+
+-- Each value at which tuples are kept is among these.
+abbrev pub IsSpanned : List Datum → (Datum → List Fact) → Type 0
+IsSpanned ds kept = (d : Datum) (u : Fact) → has (kept d) u ≡ true → list_any (same_datum d) ds ≡ true
 
 -- The columns keep what they kept.
 abbrev pub AreSame : List Kept → List Kept → Type 0
@@ -54,13 +60,14 @@ DropsAll t ms ns = (c : ℕ) (d : Datum) (u : Fact) → has (group_at ns c d) u 
 
 -- ---- all relations
 
+-- The columns of a relation; none where there is no relation.
+abbrev pub columns_in : Option (Vec Kept Global) → List Kept
+columns_in None = []
+columns_in (Some v) = v.items
+
 -- The columns of relation r; none past the last relation.
 abbrev pub columns_of : List (Vec Kept Global) → ℕ → List Kept
-columns_of rs r = of (slice_get rs r)
-  where
-    of : Option (Vec Kept Global) → List Kept
-    of None = []
-    of (Some v) = v.items
+columns_of rs r = columns_in (slice_get rs r)
 
 -- The tuples that relation r keeps at value d of column c.
 abbrev pub kept_at : List (Vec Kept Global) → ℕ → ℕ → Datum → List Fact

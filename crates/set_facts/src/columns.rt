@@ -1,22 +1,16 @@
 //! The columns of one relation: for each, the tuples by their value in it, which is found by its hash. Each column holds its own
 //! copies.
-ghost use Rattle.std.specs.Map.{lookup};
-ghost use Rattle.std.specs.Prelude.{◌≡◌, ◌↔◌, ℕ, not, ◌&&◌, ◌||◌, ◌<◌, length, unwrap_or, [], Some, IsTrue, IfSome, OnOk, OnErr};
+ghost use Rattle.std.specs.Prelude.{◌≡◌, ℕ, not, ◌&&◌, ◌||◌, ◌<◌, length, map, unwrap_or, [], IfSome, OnOk, OnErr};
 ghost use Rattle.std.specs.Option.{option_copied};
 ghost use Rattle.def_chase.specs.Values.{Datum, Fact, same_datum, same_fact};
-ghost use Rattle.def_chase.specs.Repository.{has, change, Insert};
+ghost use Rattle.def_chase.specs.Repository.{has};
 ghost use Rattle.base_types.specs.Meanings.{fact_of, datum_of};
-ghost use Rattle.set_facts.specs.Indexes.{group_in, group_at, AreSame, AddsAtMost, Adds, AddsAll, Drops, DropsAll};
+ghost use Rattle.set_facts.specs.Indexes.{group_at, AreSame, AddsAtMost, AddsAll, DropsAll, IsSpanned};
 
+use crate::column::Groups;
 use crate::group::Group;
-use crate::mixing::Mixer;
-use base_types::{Facts, Memory, TryCopy, Tuple, Value};
+use base_types::{Memory, Tuple, Value};
 use std::alloc::Global;
-use std::collections::HashMap;
-use std::hash::BuildHasherDefault;
-
-/// The tuples by their value in one column.
-pub type Groups = HashMap<Value, Group, BuildHasherDefault<Mixer>>;
 
 /// The tuples that the column keeps at the value, if there is such a column and such a value in it.
 pub fn group<'a>(columns: &'a Vec<Groups>, column: usize, value: &Value) -> Option<&'a Group>
@@ -25,6 +19,17 @@ pub fn group<'a>(columns: &'a Vec<Groups>, column: usize, value: &Value) -> Opti
 {
     match columns.get(column) {
         Some(groups) => groups.get(value),
+        None => None,
+    }
+}
+
+/// The values that stand in the column, if there is such a column and they are few. There may be others among them.
+pub fn values_in(columns: &Vec<Groups>, column: usize) -> Option<&[Value]>
+    ensures all { IfSome result (λ values.
+        IsSpanned (map datum_of values.now) (group_at columns.now.items column)) }
+{
+    match columns.get(column) {
+        Some(groups) => groups.values(),
         None => None,
     }
 }
@@ -71,7 +76,7 @@ fn add_at(
     ensures err { OnErr result (AreSame columns.old.items columns.new.items) }
 {
     reach(columns, alloc, column)?;
-    add(&mut columns[column], alloc, value, tuple)
+    columns[column].add(alloc, value, tuple)
 }
 
 // Makes the columns up to this one, where they are not there yet.
@@ -80,28 +85,8 @@ fn reach(columns: &mut Vec<Groups>, alloc: Global, column: usize) -> Result<(), 
     ensures there { OnOk result (column < length columns.new.items) }
 {
     while columns.len() <= column {
-        columns.push(HashMap::with_hasher(alloc, BuildHasherDefault::new()))?;
+        columns.push(Groups::new(alloc))?;
     }
-    Ok(())
-}
-
-/// Keeps a copy of the tuple at the value. The value is copied even where it is there, so that it is looked for once.
-pub fn add(groups: &mut Groups, alloc: Global, value: &Value, tuple: &Tuple) -> Result<(), Memory>
-    ensures ok { OnOk result (Adds (datum_of value.now) (fact_of tuple.now) groups.old groups.new) }
-    ensures err { OnErr result ((d : Datum) → group_in groups.new d ≡ group_in groups.old d) }
-{
-    match groups.entry(value.copy(alloc)?) {
-        Ok(entry) => put(entry.or_insert(Group::new(alloc)), alloc, tuple),
-        Err(_) => Err(Memory),
-    }
-}
-
-// Puts a copy of the tuple into the group.
-fn put(group: &mut Group, alloc: Global, tuple: &Tuple) -> Result<(), Memory>
-    ensures ok { OnOk result (group.new ≡ change group.old (Insert (fact_of tuple.now))) }
-    ensures err { OnErr result (group.new ≡ group.old) }
-{
-    group.insert(tuple.copy(alloc)?)?;
     Ok(())
 }
 
@@ -114,33 +99,7 @@ fn sweep_at(columns: &mut Vec<Groups>, column: usize, value: &Value, tuple: &Tup
         group_at columns.old.items c d }
 {
     match columns.get_mut(column) {
-        Some(groups) => take_out(groups, value, tuple),
+        Some(groups) => groups.take_out(value, tuple),
         None => {}
-    }
-}
-
-/// Takes the tuple out of the group of the value, and the group away where it is then empty.
-pub fn take_out(groups: &mut Groups, value: &Value, tuple: &Tuple)
-    ensures dropped { Drops (datum_of value.now) (fact_of tuple.now) groups.old groups.new }
-    ensures vacant { IfSome (lookup (λ k. same_datum (datum_of value.now) (datum_of k))
-        groups.new.entries) (λ group. group ≡ [] → ⊥) }
-{
-    if empties(groups, value, tuple) {
-        groups.remove(value);
-    }
-}
-
-// Takes the tuple out of the group of the value, and tells whether there is then a group without a tuple.
-fn empties(groups: &mut Groups, value: &Value, tuple: &Tuple) -> bool
-    ensures dropped { Drops (datum_of value.now) (fact_of tuple.now) groups.old groups.new }
-    ensures vacant { IsTrue result ↔ (lookup (λ k. same_datum (datum_of value.now) (datum_of k))
-        groups.new.entries ≡ Some []) }
-{
-    match groups.get_mut(value) {
-        Some(group) => {
-            group.remove(tuple);
-            group.len() == 0
-        }
-        None => false,
     }
 }

@@ -9,16 +9,14 @@ ghost use Rattle.set_facts.specs.Indexes.{IsIndex, IsIndexBut, AddsOne, AddsAtMo
 ghost use Rattle.set_facts.specs.Places.{is_inside};
 ghost use Rattle.set_facts.specs.Runs.{run_of};
 
-use crate::columns::Groups;
+use crate::column::Groups;
 use crate::nulls::{drop_nulls, holders, index_nulls, keep_nulls};
 use crate::plain::PlainFacts;
-use crate::relations::{Columns, drop_out, keep, keeps, kept};
+use crate::relations::{Columns, drop_out, keep, keeps, kept, values};
 use crate::runs::Run;
 use base_types::{Candidates, Column, Facts, Memory, TryCopy, Tuple, TupleList, Value};
 use std::alloc::Global;
-use std::collections::HashMap;
 use std::collections::btree_set::Range;
-use std::hash::BuildHasherDefault;
 use std::marker::Model;
 
 /// A set of tuples with, for each relation, column and value, exactly its tuples that have the value there, found by the
@@ -57,7 +55,7 @@ impl IndexedFacts {
         IndexedFacts {
             all: PlainFacts::new(alloc),
             relations: Vec::new(alloc),
-            by_null: HashMap::with_hasher(alloc, BuildHasherDefault::new()),
+            by_null: Groups::new(alloc),
             alloc,
         }
     }
@@ -235,6 +233,10 @@ impl Facts for IndexedFacts {
             Some(group) => group.beyond(past),
             None => None,
         }
+    }
+
+    fn values(&self, relation: u16, column: u16) -> Option<&[Value]> {
+        values(&self.relations, relation, column)
     }
 }
 

@@ -3,6 +3,7 @@
 #![tactic(auto)]
 
 mod changed;
+mod column;
 mod columns;
 mod course;
 mod group;

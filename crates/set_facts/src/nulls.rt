@@ -6,13 +6,11 @@ ghost use Rattle.def_chase.specs.Repository.{IsRepository};
 ghost use Rattle.base_types.specs.Meanings.{fact_of, datum_of};
 ghost use Rattle.set_facts.specs.ByNull.{outer_null, holders_in, IsNullIndex, AddsHolder, AddsAtMostHolder, DropsHolder, AreSameHolders};
 
-use crate::columns::{Groups, add, take_out};
+use crate::column::Groups;
 use crate::group::Group;
 use crate::plain::PlainFacts;
 use base_types::{Memory, Null, Tuple, Value};
 use std::alloc::Global;
-use std::collections::HashMap;
-use std::hash::BuildHasherDefault;
 
 /// The tuples that are kept at the nulls which the update drew at the place, if there are any.
 pub fn holders(by_null: &Groups, update: u32, place: u32) -> Option<&Group>
@@ -26,7 +24,7 @@ pub fn index_nulls(alloc: Global, facts: &PlainFacts) -> Result<Groups, Memory>
     ensures index { IfOk result (λ by_null. IsNullIndex facts.now by_null) }
     ensures in_order { IsRepository facts.now }
 {
-    let mut by_null = HashMap::with_hasher(alloc, BuildHasherDefault::new());
+    let mut by_null = Groups::new(alloc);
     for tuple in facts.iter() {
         keep_nulls(&mut by_null, alloc, tuple)?;
     }
@@ -64,7 +62,7 @@ fn keep_at(by_null: &mut Groups, alloc: Global, value: &Value, tuple: &Tuple) ->
     ensures err { OnErr result (AreSameHolders by_null.old by_null.new) }
 {
     match value {
-        Value::Null(null) => add(by_null, alloc, &outer(null.update, null.place), tuple),
+        Value::Null(null) => by_null.add(alloc, &outer(null.update, null.place), tuple),
         Value::Int(_) => Ok(()),
         Value::Word(_) => Ok(()),
     }
@@ -76,7 +74,7 @@ fn drop_at(by_null: &mut Groups, value: &Value, tuple: &Tuple)
         (fact_of tuple.now) by_null.old by_null.new }
 {
     match value {
-        Value::Null(null) => take_out(by_null, &outer(null.update, null.place), tuple),
+        Value::Null(null) => by_null.take_out(&outer(null.update, null.place), tuple),
         Value::Int(_) => {}
         Value::Word(_) => {}
     }

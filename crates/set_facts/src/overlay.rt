@@ -168,6 +168,15 @@ impl<'a, F: Facts> Facts for Overlay<'a, F> {
             self.written(relation, column, past)
         }
     }
+
+    // Those of the set, if no tuple of the relation was added.
+    fn values(&self, relation: u16, column: u16) -> Option<&[Value]> {
+        if self.added.is_beside(relation) {
+            self.facts.values(relation, column)
+        } else {
+            None
+        }
+    }
 }
 
 impl<'a, F: Facts> Overlay<'a, F> {

@@ -1,11 +1,12 @@
 //! The index of a set: for each relation, its columns.
-ghost use Rattle.std.specs.Prelude.{◌≡◌, ℕ, ◌<◌, length, unwrap_or, [], OnOk, OnErr};
+ghost use Rattle.std.specs.Prelude.{◌≡◌, ℕ, ◌<◌, length, map, unwrap_or, [], IfSome, OnOk, OnErr};
 ghost use Rattle.std.specs.Option.{option_copied};
 ghost use Rattle.def_chase.specs.Repository.{has};
 ghost use Rattle.base_types.specs.Meanings.{fact_of, datum_of};
-ghost use Rattle.set_facts.specs.Indexes.{columns_of, kept_at, AddsAtMost, AddsAll, DropsAll, AddsAtMostOne, AddsOne, DropsOne};
+ghost use Rattle.set_facts.specs.Indexes.{columns_of, kept_at, AddsAtMost, AddsAll, DropsAll, AddsAtMostOne, AddsOne, DropsOne, IsSpanned};
 
-use crate::columns::{Groups, group, index, sweep};
+use crate::column::Groups;
+use crate::columns::{group, index, sweep, values_in};
 use crate::group::Group;
 use base_types::{Facts, Memory, Tuple, Value};
 use std::alloc::Global;
@@ -25,6 +26,17 @@ pub fn kept<'a>(
 {
     match relations.get(relation as usize) {
         Some(columns) => group(columns, column as usize, value),
+        None => None,
+    }
+}
+
+/// The values that stand in the column of the relation, if it has tuples and they are few. There may be others among them.
+pub fn values(relations: &Vec<Columns>, relation: u16, column: u16) -> Option<&[Value]>
+    ensures all { IfSome result (λ values.
+        IsSpanned (map datum_of values.now) (kept_at relations.now.items relation column)) }
+{
+    match relations.get(relation as usize) {
+        Some(columns) => values_in(columns, column as usize),
         None => None,
     }
 }

@@ -12,7 +12,7 @@ pub returns-in-Null : goal.returns-in-Null
 returns-in-Null c =
     let t = fact_of c.args.tuple.now in
     let l = c.args.by_null.now in
-    let m = c.take_out.new.groups in
+    let m = c.take_out.new.self in
     record {
       dropped = subst (λ (v : Value). DropsHolder (λ u k. is_named u k (datum_of v)) t l m) (sym c.in-Null.is) (drops_named (null_of c.in-Null.null) t l m (subst (λ (d : Datum). Drops d t l m) c.outer.ensures c.take_out.ensures.dropped));
     }

@@ -13,7 +13,7 @@ pub returns-in-Null-clause-ok : goal.returns-in-Null-clause-ok
 returns-in-Null-clause-ok c =
     let t = fact_of c.args.tuple.now in
     let l = c.args.by_null.now in
-    let m = c.add.new.groups in
+    let m = c.add.new.self in
     where_ok c.add.result
     (λ h. subst (λ (v : Value). AddsHolder (λ u k. is_named u k (datum_of v)) t l m) (sym c.in-Null.is) (adds_named (null_of c.in-Null.null) t l m (subst (λ (d : Datum). Adds d t l m) c.outer.ensures h)))
     c.add.ensures.ok

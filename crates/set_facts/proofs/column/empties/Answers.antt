@@ -4,7 +4,7 @@ use Rattle.def_chase.specs.Values.{same_datum}
 use Rattle.base_types.specs.Meanings.{fact_of, datum_of}
 use Rattle.set_facts.specs.Indexes.{Kept, Drops}
 use Rattle.set_facts.proofs.Groups.{group_drops, left_in_group, nothing_drops, is_emptied, not_emptied}
-use Rattle.set_facts.proofs.columns.empties.Goals as goal
+use Rattle.set_facts.proofs.column.empties.Goals as goal
 
 pub returns-in-Some : goal.returns-in-Some
 returns-in-Some c =

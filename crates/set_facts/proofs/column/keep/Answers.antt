@@ -1,15 +1,22 @@
-use Rattle.std.proofs.Common.{rules, ◌≡◌, ◌∙◌, subst}
+use Rattle.std.proofs.Common.{rules, ◌≡◌, ◌∙◌, ap, subst, length, List}
 use Rattle.std.specs.HashMap.Entry.{map_with_value}
-use Rattle.std.specs.Prelude.{unwrap_or, OnOk, OnErr}
-use Rattle.def_chase.specs.Values.{Datum}
+use Rattle.std.specs.Prelude.{◌==◌, unwrap_or, IfOk, OnOk, OnErr}
+use Rattle.def_chase.specs.Values.{Datum, Fact}
 use Rattle.base_types.specs.Meanings.{fact_of, datum_of}
 use Rattle.set_facts.specs.Indexes.{Adds, group_in}
 use Rattle.set_facts.proofs.Groups.{group_adds, group_stays, more_in_group, where_ok, where_err}
-use Rattle.set_facts.proofs.columns.add.Goals as goal
+use Rattle.set_facts.proofs.column.keep.Goals as goal
+
+pub returns-in-Ok-clause-first : goal.returns-in-Ok-clause-first
+returns-in-Ok-clause-first c =
+    let m = c.args.by_value.now in
+    let k = c.in_ok-copy.field-0 in
+    let here : c.or_insert.result.now ≡ group_in m (datum_of k) = c.or_insert.ensures.value ∙ (λ i. unwrap_or (c.in-Ok.ensures.value i) (c.new.ensures.empty i)) in
+    subst (λ (w : List Fact). IfOk c.put.result (λ is_first. is_first ≡ (length w == 0))) (here ∙ ap (group_in m) c.in_ok-copy.ensures.same) c.put.ensures.first
 
 pub returns-in-Ok-clause-ok : goal.returns-in-Ok-clause-ok
 returns-in-Ok-clause-ok c =
-    let m = c.args.groups.now in
+    let m = c.args.by_value.now in
     let k = c.in_ok-copy.field-0 in
     let w = c.put.new.group in
     let t = fact_of c.args.tuple.now in
@@ -23,7 +30,7 @@ returns-in-Ok-clause-ok c =
 
 pub returns-in-Ok-clause-err : goal.returns-in-Ok-clause-err
 returns-in-Ok-clause-err c =
-    let m = c.args.groups.now in
+    let m = c.args.by_value.now in
     let k = c.in_ok-copy.field-0 in
     let w = c.put.new.group in
     let x = map_with_value c.in-Ok.entry w in

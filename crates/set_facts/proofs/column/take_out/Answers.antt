@@ -1,7 +1,7 @@
 use Rattle.std.proofs.Common.{sym}
 use Rattle.base_types.specs.Meanings.{fact_of, datum_of}
 use Rattle.set_facts.proofs.Groups.{vacant_drops, drops_twice}
-use Rattle.set_facts.proofs.columns.take_out.Goals as goal
+use Rattle.set_facts.proofs.column.take_out.Goals as goal
 
 pub returns-then-empties-clause-dropped : goal.returns-then-empties-clause-dropped
 returns-then-empties-clause-dropped c =
