@@ -27,6 +27,8 @@ use Rattle.set_facts.specs.contracts.listed.ListedFacts.TheInside as listed_insi
 use Rattle.set_facts.specs.contracts.listed.Held as held
 use Rattle.set_facts.specs.contracts.group.Group as group
 use Rattle.set_facts.specs.contracts.group.Group.TheInside as group_inside
+use Rattle.set_facts.specs.contracts.column.Groups as column
+use Rattle.set_facts.specs.contracts.column.Groups.TheInside as column_inside
 use Rattle.set_facts.specs.contracts.indexed.IndexedFacts as base
 use Rattle.set_facts.specs.contracts.indexed.IndexedFacts.TheInside as base_inside
 
@@ -141,11 +143,23 @@ value_send = search (sendable, crosses) depth 40 fits 4000
 value_sync : IsSync values.the_row
 value_sync = search (sendable, crosses) depth 40 fits 4000
 
+column_inside_send : IsSend column_inside.the_row
+column_inside_send = search (sendable, crosses, maps.crosses, heap.send, value_send, group_send) depth 40 fits 4000
+
+column_inside_sync : IsSync column_inside.the_row
+column_inside_sync = search (sendable, crosses, maps.crosses, heap.sync, value_sync, group_sync) depth 40 fits 4000
+
+column_send : IsSend column.the_row
+column_send = view_send _ _ _ _ _ column_inside_send
+
+column_sync : IsSync column.the_row
+column_sync = view_sync _ _ _ _ _ column_inside_sync
+
 base_inside_send : IsSend base_inside.the_row
-base_inside_send = search (sendable, crosses, maps.crosses, heap.send, value_send, plain_send, group_send) depth 40 fits 4000
+base_inside_send = search (sendable, crosses, heap.send, plain_send, column_send) depth 40 fits 4000
 
 base_inside_sync : IsSync base_inside.the_row
-base_inside_sync = search (sendable, crosses, maps.crosses, heap.sync, value_sync, plain_sync, group_sync) depth 40 fits 4000
+base_inside_sync = search (sendable, crosses, heap.sync, plain_sync, column_sync) depth 40 fits 4000
 
 base_send : IsSend base.the_row
 base_send = view_send _ _ _ _ _ base_inside_send

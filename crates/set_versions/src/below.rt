@@ -69,4 +69,8 @@ impl<'v> Facts for Below<'v> {
     fn holding(&self, update: u32, place: u32, past: Option<&Tuple>) -> Option<&Tuple> {
         self.versions.holding(self.number, update, place, past)
     }
+
+    fn values(&self, relation: u16, column: u16) -> Option<&[Value]> {
+        self.versions.values(self.number, relation, column)
+    }
 }

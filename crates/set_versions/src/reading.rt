@@ -1,9 +1,9 @@
 //! What is read of versions by an update: what is left of the base, and what stands in the table.
-ghost use Rattle.std.specs.Prelude.{◌≡◌, [], None, Some, find, IfNone, IfSome, IsTrue};
+ghost use Rattle.std.specs.Prelude.{◌≡◌, [], None, Some, map, find, IfNone, IfSome, IsTrue};
 ghost use Rattle.std.specs.Option.{option_map, option_copied};
 ghost use Rattle.def_chase.specs.Cursors.{is_beyond, first_of, next_of, scan_of};
 ghost use Rattle.def_chase.specs.Repository.{has, IsRepository};
-ghost use Rattle.base_types.specs.Candidates.{column_of, further_candidates, is_holding, AreFirst, AreFurther, Begin};
+ghost use Rattle.base_types.specs.Candidates.{column_of, further_candidates, is_holding, AreAllInColumn, AreFirst, AreFurther, Begin};
 ghost use Rattle.base_types.specs.Meanings.{fact_of, datum_of};
 ghost use Rattle.set_facts.specs.Runs.{ahead_of, left_of, merged, run_of};
 ghost use Rattle.set_versions.specs.Marked.{put_first};
@@ -119,6 +119,18 @@ impl Versions {
             left,
             self.table().scan(number, relation, column, value, past),
         )
+    }
+
+    // The values that its tuples of the relation have in the column: those of the base, if it sees no tuple of the relation in the
+    // table. There may be others among them.
+    pub(crate) fn values(&self, number: u32, relation: u16, column: u16) -> Option<&[Value]>
+        ensures all { IfSome result (λ values.
+            AreAllInColumn (map datum_of values.now) (seen number self.now) relation column) }
+    {
+        if self.table().first(number, relation).is_some() {
+            return None;
+        }
+        self.base().values(relation, column)
     }
 
     // What it sees of the relation, with the column's value where a column is given, and above `past` where that is given, as far as
