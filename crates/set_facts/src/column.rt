@@ -135,7 +135,7 @@ fn put(group: &mut Group, alloc: Global, tuple: &Tuple) -> Result<bool, Memory>
 
 // What is listed with a copy of one more value behind it; none if there was no list, if it is full or if memory is wanting.
 fn longer(listed: Option<Vec<Value>>, alloc: Global, value: &Value) -> Option<Vec<Value>>
-    ensures more { IsListedWith (datum_of value.now) listed.entry result }
+    ensures more { IsListedWith (datum_of value.now) listed result }
 {
     let Some(values) = listed else {
         return None;
