@@ -73,6 +73,9 @@ impl Options {
 
 // The option of this name, among those that a verb takes. `--sqlite` is not among those that are told.
 fn option_named(verb: Verb, name: &str) -> Option<Opt> {
+    if verb == Verb::Export && name == Opt::Sqlite.name() {
+        return Some(Opt::Sqlite);
+    }
     for opt in verb.options() {
         if opt.name() == name {
             return Some(*opt);
