@@ -1,10 +1,10 @@
 #!/usr/bin/env python3
-"""workspace_crowd.py YT SECONDS: 16 processes write, read and fold one file at once, for so long.
+"""workspace_crowd.py YT SECONDS: 16 processes write, read and fold one file at once for SECONDS.
 
 Ten write: an insertion, which a mapping doubles, and the deletion of an older pair, each one command. Five read, one folds. Half of them stay, half
 are a process for each command. No reader sees half a command, a pair that was deleted, or fewer than were acknowledged before it asked; the
-records are numbered through, each curator's in its order, each number told once; no command is refused or waits in vain. Each reply counts.
-The lines before the last tell how many there were and the longest wait; the last line is 'N passed, M failed'.
+records are numbered through, each curator's in its order, each number told once; no command is refused or waits longer than `--wait` allows.
+Each reply counts. The lines before the last tell how many there were and the longest wait; the last line is 'N passed, M failed'.
 """
 import json
 import subprocess

@@ -18,7 +18,7 @@ from workspace_disks import Disk, entries, random_image, replies
 from workspace_images import OPTIONS, SHOWN, Judge, small_list
 from workspace_runs import NEVER, Bench, yt
 
-CALLS = 80         # it is killed at one of so many calls, if it comes to it
+CALLS = 80         # it is killed at one of its first CALLS calls, if it comes to that
 
 
 class Chain:

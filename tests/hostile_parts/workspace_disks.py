@@ -115,26 +115,37 @@ def ended(rng, synced, image):
 
 
 def all_images(rng, state, stride):
-    """Each subset of the writes that are not synced is there whole, and one more of them in part. None: there is no file. Of so many one is drawn."""
+    """Each subset of the writes that are not synced is there whole, and one more of them in part. None: there is no file. Of STRIDE one is drawn."""
     if state is None:
         return [None]
     synced, open_ = state
     return images_of(rng, synced, open_, stride) if open_ else [synced]
 
 
+def parted(writes):
+    """Each choice of some of the writes, and the others."""
+    for size in range(len(writes)):
+        for whole in itertools.combinations(writes, size):
+            yield whole, [write for write in writes if write not in whole]
+
+
+def torn_images(rng, synced, image, write, stride):
+    """The image with one write more, torn; of STRIDE that open no gate one is drawn."""
+    at, data = write
+    for part in torn(rng, image[at:at + len(data)], data):
+        of_all = opens_gate(part, data)
+        if STRICT or not of_all:
+            images = ended(rng, synced, over(image, at, part))
+            yield from (image for image in images if of_all or stride < 2 or rng.random() * stride < 1)
+
+
 def images_of(rng, synced, open_, stride):
-    for size in range(len(open_)):
-        for whole in itertools.combinations(open_, size):
-            image = synced
-            for at, data in whole:
-                image = over(image, at, data)
-            for at, data in open_:
-                if (at, data) not in whole:
-                    for part in torn(rng, image[at:at + len(data)], data):
-                        of_all = opens_gate(part, data)
-                        if STRICT or not of_all:
-                            images = ended(rng, synced, over(image, at, part))
-                            yield from (image for image in images if of_all or stride < 2 or rng.random() * stride < 1)
+    for whole, others in parted(open_):
+        image = synced
+        for at, data in whole:
+            image = over(image, at, data)
+        for write in others:
+            yield from torn_images(rng, synced, image, write, stride)
 
 
 # ---- images at random ----

@@ -130,7 +130,7 @@ class Attack:
                 self.compare(image, shown)
 
     def play(self, files):
-        """Every bit, if it is to be thorough, and so many files at random."""
+        """Every bit, if it is to be thorough, and files at random."""
         rng, texts = random.Random(f"forged {self.seed}"), texts_of(self.data)
         for place in range(len(self.data)) if files >= THOROUGH else []:
             for bit in range(8):

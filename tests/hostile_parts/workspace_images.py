@@ -2,7 +2,7 @@
 """workspace_images.py YT RECORD.SO all|random FIRST COUNT [IMAGES]: what a disk may hold after a crash at each moment of conversations.
 
 COUNT conversations with yt, whose writes, syncs, names and replies are recorded by workspace_record.c. After each call `all` makes every image
-that workspace_disks.py has, or one of so many, `random` draws them until IMAGES of a conversation are different. A yt that stays reads each of
+that workspace_disks.py has, or one in IMAGES, `random` draws them until IMAGES of a conversation are different. A yt that stays reads each of
 them, in the place of the one before; what it shows has to be what the reference shows after the commands that were replied to by then, or after
 one more. Each 64th is also read by a yt of its own, and this one is told the other commands then and ends as the conversation did. Equal images
 count once. JOBS processes in the environment. The last line is 'N passed, M failed'.
@@ -70,7 +70,7 @@ class Judge:
         os.replace(self.next, self.file)
 
     def shows(self, image):
-        """All that it replies, with its questions of LOOKS. It has so many seconds."""
+        """All that it replies, with its questions of LOOKS. It has SECONDS for it."""
         self.place(image)
         signal.alarm(SECONDS)
         self.run.stdin.write(LOOKS)
@@ -156,6 +156,21 @@ class Conversation:
         return len(self.told), len(self.failures), kept
 
 
+def check_all(rng, talk, choices, stride):
+    for replies, state in choices:
+        for image in all_images(rng, state, stride):
+            talk.check(replies, image)
+
+
+def check_random(rng, talk, choices, count):
+    for replies, state in choices:
+        talk.check(replies, state and state[0])
+    open_ = [choice for choice in choices if choice[1] and choice[1][1]]
+    while len(talk.told) < count and len(talk.failures) < 100:
+        replies, state = rng.choice(open_)
+        talk.check(replies, random_image(rng, state, talk.record))
+
+
 def attacked(program, library, what, seed, images):
     rng = random.Random(f"{what} {seed}")
     with Bench(program, "--json") as bench:
@@ -164,17 +179,7 @@ def attacked(program, library, what, seed, images):
             return 0, 1, [f"conversation {seed}: the record makes another file"]
         there = list(dict.fromkeys(moments(talk.path, talk.record)))
         choices = [(replies, state) for replies, states in there for state in states]
-        if what == "all":
-            for replies, state in choices:
-                for image in all_images(rng, state, images):
-                    talk.check(replies, image)
-        else:
-            for replies, state in choices:
-                talk.check(replies, state and state[0])
-            open_ = [choice for choice in choices if choice[1] and choice[1][1]]
-            while len(talk.told) < images and len(talk.failures) < 100:
-                replies, state = rng.choice(open_)
-                talk.check(replies, random_image(rng, state, talk.record))
+        (check_all if what == "all" else check_random)(rng, talk, choices, images)
         return talk.result(seed)
 
 

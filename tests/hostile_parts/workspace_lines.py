@@ -25,7 +25,7 @@ SECONDS = 120
 
 
 def lines_of(seed, bench, count):
-    """A random script whose commands stand among so many garbled ones, with a numbered question after every hundred lines."""
+    """A random script whose commands stand among COUNT garbled ones, with a numbered question after every hundred lines."""
     drawn, rng = bench.path("drawn.yt"), random.Random(seed)
     Path(drawn).unlink(missing_ok=True)
     script = [line for line in random_script(seed, Workspace(drawn, "ann")) if "quit" not in line and "--to" not in line]

@@ -69,21 +69,24 @@ class Room:
         return run.returncode == 0
 
     def limited(self):
-        """No file may grow beyond so many bytes; who tries gets an error, or is killed."""
+        """No file may grow beyond a limit; who tries gets an error, or is killed."""
         os.mkdir(self.bench.path("limited"))
-        path, size, killed = self.bench.path("limited/w.yt"), 0, False
+        for answer in (signal.SIG_IGN, signal.SIG_DFL):
+            for command in self.commands:
+                self.until_it_fits(self.bench.path("limited/w.yt"), command, answer)
+
+    def until_it_fits(self, path, command, answer):
+        """The command under a limit that grows until there is room for it."""
+        is_done, size = False, 0
 
         def limit():
-            signal.signal(signal.SIGXFSZ, signal.SIG_DFL if killed else signal.SIG_IGN)
+            signal.signal(signal.SIGXFSZ, answer)
             resource.setrlimit(resource.RLIMIT_FSIZE, (size, size))
-        for killed in (False, True):
-            for command in self.commands:
-                is_done, size = False, 0
-                while not is_done:
-                    if command[0]:
-                        shutil.copyfile(command[0], path)
-                    is_done = self.says(f"at most {size} bytes", path, command, limit)
-                    size += 1 + (297 if self.cheap else size // 500)
+        while not is_done:
+            if command[0]:
+                shutil.copyfile(command[0], path)
+            is_done = self.says(f"at most {size} bytes", path, command, limit)
+            size += 1 + (297 if self.cheap else size // 500)
 
     def full(self):
         """So many pages of the file system are left."""
@@ -104,7 +107,7 @@ class Room:
 
 
 def filled(path, pages):
-    """A file that takes all but so many pages."""
+    """A file that takes all pages but these."""
     size = 0
     with open(path, "wb", buffering=0) as file:
         try:

@@ -3,7 +3,7 @@
 
 Each command of one conversation, over the file before it, in text and with --json. Then: status 7, in words if only one request was refused, and
 the file as before; or what yt tells undisturbed. Also each call of the system fails with each error, as in workspace_calls.py. Cheap: some of the
-requests, in text alone. With a STRIDE the distance between two grows by one after so many. JOBS processes in the environment. The last line is
+requests, in text alone. With a STRIDE the distance between two grows by one after each FEW. JOBS processes in the environment. The last line is
 'N passed, M failed', with the numbers of each status before it.
 """
 import collections
@@ -15,7 +15,7 @@ from pathlib import Path
 from workspace_calls import WAYS, Failing
 from workspace_runs import Bench, Tally, yt
 
-EACH, FEW = 10 ** 9, 3         # after so many requests the next stride has one more
+EACH, FEW = 10 ** 9, 3         # after EACH or FEW requests the stride grows by one
 LINES = """relation Painting(title*, painter)
 relation Painter(name, country)
 relation Hangs(title, room)
