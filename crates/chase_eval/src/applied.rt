@@ -40,7 +40,9 @@ impl<'a, F: Facts> Model for AppliedView<'a, F> {
 
     ghost view = { λ v. record { below = F.tuples v.below.now; own = changes_of v.own.now } };
 
-    ghost invariant = { λ v. (F.tuples v.with.now ≡ apply (F.tuples v.below.now) (changes_of v.own.now)) × AreForceless v.enacts (changes_of v.own.now) };
+    ghost invariant = { λ v.
+        (F.tuples v.with.now ≡ apply (F.tuples v.below.now) (changes_of v.own.now))
+        × AreForceless v.enacts (changes_of v.own.now) };
 }
 
 impl<'a, F: Facts> AppliedView<'a, F> {

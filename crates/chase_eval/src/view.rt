@@ -39,7 +39,9 @@ impl<'a, F: Facts> Model for View<'a, F> {
 
     ghost view = { λ v. record { below = F.tuples v.below.now; own = map change_of v.own.items } };
 
-    ghost invariant = { λ v. (v.overlay ≡ apply (F.tuples v.below.now) (map change_of v.own.items)) × AreForceless v.enacts (map change_of v.own.items) };
+    ghost invariant = { λ v.
+        (v.overlay ≡ apply (F.tuples v.below.now) (map change_of v.own.items))
+        × AreForceless v.enacts (map change_of v.own.items) };
 }
 
 impl<'a, F: Facts> View<'a, F> {

@@ -36,9 +36,21 @@ impl<'a, F: Facts> Model for WatchedView<'a, F> {
 
     ghost Value = { Watched };
 
-    ghost view = { λ v. record { rules = map rule_of v.mappings.now.items; heading = heading_of v.direction; below = v.view.below; own = v.view.own } };
+    ghost view = { λ v. record {
+      rules = map rule_of v.mappings.now.items;
+      heading = heading_of v.direction;
+      below = v.view.below;
+      own = v.view.own;
+    } };
 
-    ghost invariant = { λ v. AreSettled (record { rules = map rule_of v.mappings.now.items; heading = heading_of v.direction; below = v.view.below; own = v.view.own }) v.settled × IsTouchingIf (map rule_of v.mappings.now.items) v.touching };
+    ghost invariant = { λ v.
+        AreSettled (record {
+          rules = map rule_of v.mappings.now.items;
+          heading = heading_of v.direction;
+          below = v.view.below;
+          own = v.view.own;
+        }) v.settled
+        × IsTouchingIf (map rule_of v.mappings.now.items) v.touching };
 }
 
 impl<'a, F: Facts> WatchedView<'a, F> {

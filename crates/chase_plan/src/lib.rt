@@ -5,6 +5,6 @@ mod plans;
 mod settling;
 mod touched;
 
-pub use crate::plans::{Plan, plan_step};
+pub use crate::plans::{Chase, Footing, Plan, plan_step};
 pub use crate::settling::{settled_by, since, stir_since, told_by};
 pub use crate::touched::TouchedMappings;

@@ -31,42 +31,54 @@ pub struct Plan {
     pub reads: ReadLog,
 }
 
-/// The next step of the attempt over what lies below it, with the answer where it is at a question. It is made on the branch, a
-/// copy of the attempt, which stays as it is. `with` is what lies below it with its own writes applied, and `settled` the
-/// mappings of which it is known that they have no violation that these caused; those of which it is known after the step are
-/// put in their place. It is refused only for want of memory.
+/// The chase that an attempt is a part of: its mappings, and how many steps an update may take.
+#[derive(Drop)]
+pub struct Chase<'a> {
+    pub mappings: &'a Mappings<'a>,
+    pub budget: Budget,
+}
+
+/// What an attempt stands on: what lies below it, and the same with its own writes made.
+#[derive(Drop)]
+pub struct Footing<'a, F: Facts> {
+    pub below: &'a F,
+    pub with: &'a F,
+}
+
+/// The next step of the attempt on its footing, with the answer where it is at a question. It is made on the branch, a copy of
+/// the attempt, which stays as it is. `settled` is the mappings of which it is known that they have no violation that the
+/// attempt's writes caused; those of which it is known after the step are put in their place. It is refused only for want of
+/// memory.
 pub fn plan_step<F: Facts>(
     alloc: Global,
     program: &Attempt,
     branch: Attempt,
     choice: Option<&Choice>,
-    mappings: &Mappings<'_>,
-    budget: Budget,
-    below: &F,
-    with: &F,
+    chase: &Chase<'_>,
+    footing: &Footing<'_, F>,
     settled: &mut Settled,
 ) -> Result<Plan, Memory>
     requires branch { branch ≡ program.now }
-    requires applied { F.tuples with.now ≡ apply (F.tuples below.now) program.now.attempt.own }
-    requires settled { HasSettled mappings.now (F.tuples below.now) program.now.attempt settled.old }
+    requires applied { F.tuples footing.now.with.now
+        ≡ apply (F.tuples footing.now.below.now) program.now.attempt.own }
+    requires settled { HasSettled chase.now.mappings.now (F.tuples footing.now.below.now)
+        program.now.attempt settled.old }
     requires wanted { WantsStep (wish program.now) (option_map choice_of (option_copied choice)) }
-    requires left { program.now.attempt.steps < budget }
+    requires left { program.now.attempt.steps < chase.now.budget }
     ensures program { IfOk result (λ plan.
         plan.program
         ≡ at_rest
-        (next_attempt mappings.now budget (F.tuples below.now) program.now.attempt
-        (option_map choice_of (option_copied choice.entry)))) }
+        (next_attempt chase.now.mappings.now chase.now.budget (F.tuples footing.now.below.now)
+        program.now.attempt (option_map choice_of (option_copied choice.entry)))) }
     ensures reads { IfOk result (λ plan.
         reads_in plan.reads.items
-        ≡ next_reads mappings.now (F.tuples below.now) program.now.attempt
+        ≡ next_reads chase.now.mappings.now (F.tuples footing.now.below.now) program.now.attempt
         (option_map choice_of (option_copied choice.entry))) }
-    ensures settled { OnOk result
-        (HasSettled mappings.now (F.tuples below.now) program.now.attempt settled.new) }
+    ensures settled { OnOk result (HasSettled chase.now.mappings.now
+        (F.tuples footing.now.below.now) program.now.attempt settled.new) }
 {
     let mut after = branch;
-    match take_step(
-        alloc, program, &mut after, choice, mappings, budget, below, with, settled,
-    ) {
+    match take_step(alloc, program, &mut after, choice, chase, footing, settled) {
         Ok(reads) => Ok(Plan {
             program: after,
             reads,
@@ -84,32 +96,33 @@ fn take_step<F: Facts>(
     program: &Attempt,
     after: &mut Attempt,
     choice: Option<&Choice>,
-    mappings: &Mappings<'_>,
-    budget: Budget,
-    below: &F,
-    with: &F,
+    chase: &Chase<'_>,
+    footing: &Footing<'_, F>,
     settled: &mut Settled,
 ) -> Result<ReadLog, Memory>
     requires same { after.old ≡ program.now }
-    requires applied { F.tuples with.now ≡ apply (F.tuples below.now) program.now.attempt.own }
-    requires settled { HasSettled mappings.now (F.tuples below.now) program.now.attempt settled.old }
+    requires applied { F.tuples footing.now.with.now
+        ≡ apply (F.tuples footing.now.below.now) program.now.attempt.own }
+    requires settled { HasSettled chase.now.mappings.now (F.tuples footing.now.below.now)
+        program.now.attempt settled.old }
     requires wanted { WantsStep (wish program.now) (option_map choice_of (option_copied choice)) }
-    requires left { program.now.attempt.steps < budget }
+    requires left { program.now.attempt.steps < chase.now.budget }
     ensures program { OnOk result (after.new ≡ at_rest
-        (next_attempt mappings.now budget (F.tuples below.now) program.now.attempt
-        (option_map choice_of (option_copied choice.entry)))) }
+        (next_attempt chase.now.mappings.now chase.now.budget (F.tuples footing.now.below.now)
+        program.now.attempt (option_map choice_of (option_copied choice.entry)))) }
     ensures reads { IfOk result (λ reads.
         reads_in reads.items
-        ≡ next_reads mappings.now (F.tuples below.now) program.now.attempt
+        ≡ next_reads chase.now.mappings.now (F.tuples footing.now.below.now) program.now.attempt
         (option_map choice_of (option_copied choice.entry))) }
-    ensures settled { OnOk result
-        (HasSettled mappings.now (F.tuples below.now) program.now.attempt settled.new) }
+    ensures settled { OnOk result (HasSettled chase.now.mappings.now
+        (F.tuples footing.now.below.now) program.now.attempt settled.new) }
 {
     // The set tells that it is in order.
-    below.is_in_order();
+    footing.below.is_in_order();
+    let mappings = chase.mappings;
     let own = program.own();
-    let view = AppliedView::new(below, with, own);
-    begin(alloc, after, choice, mappings, budget)?;
+    let view = AppliedView::new(footing.below, footing.with, own);
+    begin(alloc, after, choice, mappings, chase.budget)?;
     let made = own.len() as u64;
     let direction = program.direction();
     let reads = answer_all(alloc, after, &view, settled, mappings, direction, made)?;

@@ -1,6 +1,7 @@
 //! The mappings of a session, with what the writes of each relation touch.
 ghost use Rattle.std.specs.Prelude.{◌≡◌, map, IfOk};
 ghost use Rattle.base_types.specs.Meanings.{change_of, rule_of};
+ghost use Rattle.chase_eval.specs.Touching.{IsTouching};
 ghost use Rattle.chase_eval.specs.Watched.{LoseMarksTo};
 
 use base_limits::Mappings;
@@ -53,6 +54,13 @@ impl<'a> TouchedMappings<'a> {
         ensures rules { map rule_of result.now.items ≡ self.now }
     {
         self.all.list()
+    }
+
+    /// For each relation the mappings that a write of it may give a violation. It takes no memory.
+    pub fn touching(&self) -> &Touching
+        ensures touching { IsTouching self.now result.now }
+    {
+        &self.touching
     }
 
     /// Takes away the marks of the mappings to which one of the writes may give a violation. It takes no memory.

@@ -5,6 +5,7 @@ mod caused;
 mod first;
 mod remembered;
 mod scope;
+mod settled;
 mod unmet;
 
 pub use crate::first::{first_image, first_violation, holds};

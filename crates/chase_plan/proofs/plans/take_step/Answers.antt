@@ -12,16 +12,16 @@ use Rattle.chase_plan.proofs.plans.take_step.Goals as goal
 -- The step is one of the attempt, which it only adds writes to.
 pub share-requires : goal.share-requires
 share-requires g c =
-    let ms = c.args.mappings.now in
+    let ms = c.args.chase.now.mappings.now in
     let P = c.args.program.now.attempt in
     let seen = c.new-view.ensures.seen in
     let own = ap (λ (v : Seen). v.own) seen ∙ c.own-own.ensures.own in
-    let begun = c.in_ok-begin.ensures.step ∙ ap (λ (s : State). coming_to c.args.budget s.attempt (step ms s.attempt (option_map choice_of (option_copied c.args.choice)))) c.requires.same in
+    let begun = c.in_ok-begin.ensures.step ∙ ap (λ (s : State). coming_to c.args.chase.now.budget s.attempt (step ms s.attempt (option_map choice_of (option_copied c.args.choice)))) c.requires.same in
     record {
       first = (
         _,
         sym (ap (λ (s : State). s.attempt.own) (c.in_ok-reads.ensures.answered
-            ∙ ap at_rest (planned ms c.args.budget (g.F.Facts.tuples c.args.below.now) P (option_map choice_of (option_copied c.args.choice))
+            ∙ ap at_rest (planned ms c.args.chase.now.budget (g.F.Facts.tuples c.args.footing.now.below.now) P (option_map choice_of (option_copied c.args.choice))
             (course ms c.begin.new.program) c.new-view.result.below c.new-view.result.own (heading_of c.direction-direction.result)
             (ap (λ (v : Seen). v.below) seen) own c.direction-direction.ensures.heading begun))),
       );
@@ -29,26 +29,26 @@ share-requires g c =
 
 pub returns-clause-program : goal.returns-clause-program
 returns-clause-program g c =
-    let ms = c.args.mappings.now in
+    let ms = c.args.chase.now.mappings.now in
     let P = c.args.program.now.attempt in
     let seen = c.new-view.ensures.seen in
     let own = ap (λ (v : Seen). v.own) seen ∙ c.own-own.ensures.own in
-    let begun = c.in_ok-begin.ensures.step ∙ ap (λ (s : State). coming_to c.args.budget s.attempt (step ms s.attempt (option_map choice_of (option_copied c.args.choice)))) c.requires.same in
+    let begun = c.in_ok-begin.ensures.step ∙ ap (λ (s : State). coming_to c.args.chase.now.budget s.attempt (step ms s.attempt (option_map choice_of (option_copied c.args.choice)))) c.requires.same in
     c.share.ensures.same
     ∙ c.in_ok-reads.ensures.answered
-    ∙ ap at_rest (planned ms c.args.budget (g.F.Facts.tuples c.args.below.now) P (option_map choice_of (option_copied c.args.choice))
+    ∙ ap at_rest (planned ms c.args.chase.now.budget (g.F.Facts.tuples c.args.footing.now.below.now) P (option_map choice_of (option_copied c.args.choice))
     (course ms c.begin.new.program) c.new-view.result.below c.new-view.result.own (heading_of c.direction-direction.result)
     (ap (λ (v : Seen). v.below) seen) own c.direction-direction.ensures.heading begun)
 
 pub returns-clause-reads : goal.returns-clause-reads
 returns-clause-reads g c =
-    let ms = c.args.mappings.now in
+    let ms = c.args.chase.now.mappings.now in
     let P = c.args.program.now.attempt in
     let seen = c.new-view.ensures.seen in
     let own = ap (λ (v : Seen). v.own) seen ∙ c.own-own.ensures.own in
-    let begun = c.in_ok-begin.ensures.step ∙ ap (λ (s : State). coming_to c.args.budget s.attempt (step ms s.attempt (option_map choice_of (option_copied c.args.choice)))) c.requires.same in
+    let begun = c.in_ok-begin.ensures.step ∙ ap (λ (s : State). coming_to c.args.chase.now.budget s.attempt (step ms s.attempt (option_map choice_of (option_copied c.args.choice)))) c.requires.same in
     c.in_ok-reads.ensures.reads
-    ∙ planned_reads ms c.args.budget c.len-made.result (g.F.Facts.tuples c.args.below.now) P (option_map choice_of (option_copied c.args.choice))
+    ∙ planned_reads ms c.args.chase.now.budget c.len-made.result (g.F.Facts.tuples c.args.footing.now.below.now) P (option_map choice_of (option_copied c.args.choice))
     (course ms c.begin.new.program) c.new-view.result.below c.new-view.result.own (heading_of c.direction-direction.result)
     (ap (λ (v : Seen). v.below) seen) own c.direction-direction.ensures.heading begun
     (c.len-made.ensures.length ∙ made_so_far c.own-own.result.now.items P.own c.own-own.ensures.own)
@@ -59,5 +59,5 @@ returns-clause-settled g c =
     let below = ap (λ (v : Seen). v.below) seen in
     let own = ap (λ (v : Seen). v.own) seen ∙ c.own-own.ensures.own in
     subst (λ (w : Watched). AreSettled w c.answer_all.new.settled)
-    (λ i. record { rules = c.args.mappings.now; heading = c.direction-direction.ensures.heading i; below = below i; own = own i })
+    (λ i. record { rules = c.args.chase.now.mappings.now; heading = c.direction-direction.ensures.heading i; below = below i; own = own i })
     c.in_ok-reads.ensures.settled
