@@ -42,7 +42,7 @@ inserted_stays (s ∷ ts) t = by (same_fact t s) (inserted_stays ts t)
     by false e = e
 
 -- What was sought is still, where tuples are added.
-still : (D ts : List Fact) (t : Fact) → has D t ≡ true → has (apply D (map Insert ts)) t ≡ true
+pub still : (D ts : List Fact) (t : Fact) → has D t ≡ true → has (apply D (map Insert ts)) t ≡ true
 still D ts t e = has-apply D (map Insert ts) t ∙ ap (λ b. inserted_after b (map Insert ts) t) e ∙ inserted_stays ts t
 
 added_from : (b : Bool) (ts : List Fact) (t : Fact) → has ts t ≡ true → inserted_after b (map Insert ts) t ≡ true

@@ -15,8 +15,9 @@ ghost use Rattle.run_explain.specs.Turns.{HasNotedTurn, HasNotedAll, IsNotedRun,
 
 use crate::notes::{NoteList, add_all};
 use crate::wholes::{Taken, take_whole};
-use base_limits::{Budget, Mappings};
+use base_limits::Budget;
 use base_types::Memory;
+use chase_plan::Chase;
 use chase_update::{Attempt, FinishList, Outcome, SessionResult, Stop, Want};
 use def_provenance::laws::steps_agree_in_scopes;
 use def_steps::laws::serial_scopes_agree;
@@ -55,7 +56,11 @@ pub fn noted_serial(
     let updates = session.updates.as_slice();
     budget.is_within();
     let mappings = mappings_of(session);
-    run(alloc, base, updates, &mappings, budget)
+    let chase = Chase {
+        mappings: &mappings,
+        budget,
+    };
+    run(alloc, base, updates, &chase)
 }
 
 // The run of these updates over the base, the first of them number 1.
@@ -63,28 +68,21 @@ fn run(
     alloc: Global,
     base: IndexedFacts,
     updates: &[SessionUpdate],
-    mappings: &Mappings<'_>,
-    budget: Budget,
+    chase: &Chase<'_>,
 ) -> Result<NotedRun, Memory>
     requires sorted { IsRepository base }
     requires few { length updates.now ≤ 1000 }
     ensures told { IfOk result (λ run.
-        result_of run.result ≡ told_from mappings.now budget base 1 (requests_of updates.now)) }
+        result_of run.result ≡ told_from chase.now.mappings.now chase.now.budget base 1
+        (requests_of updates.now)) }
     ensures noted { IfOk result (λ run.
-        notes_in run.notes ≡ noted_from mappings.now budget base 1 (requests_of updates.now)) }
+        notes_in run.notes ≡ noted_from chase.now.mappings.now chase.now.budget base 1
+        (requests_of updates.now)) }
 {
     let mut finishes = FinishList::new(alloc);
     let mut notes = NoteList::new(alloc);
     let mut facts = base;
-    let stop = take_all(
-        alloc,
-        &mut finishes,
-        &mut notes,
-        &mut facts,
-        updates,
-        mappings,
-        budget,
-    )?;
+    let stop = take_all(alloc, &mut finishes, &mut notes, &mut facts, updates, chase)?;
     let repository = told(alloc, facts)?;
     Ok(NotedRun {
         result: SessionResult {
@@ -104,21 +102,18 @@ fn take_all(
     notes: &mut NoteList,
     facts: &mut IndexedFacts,
     updates: &[SessionUpdate],
-    mappings: &Mappings<'_>,
-    budget: Budget,
+    chase: &Chase<'_>,
 ) -> Result<Option<Stop>, Memory>
     requires sorted { IsRepository facts.old }
     requires few { length updates.now ≤ 1000 }
-    ensures told { IfOk result (HasTakenAll mappings.now budget updates.now
-        finishes.old facts.old finishes.new facts.new) }
-    ensures noted { OnOk result (HasNotedAll mappings.now budget updates.now
-        notes.old facts.old notes.new) }
+    ensures told { IfOk result (HasTakenAll chase.now.mappings.now chase.now.budget
+        updates.now finishes.old facts.old finishes.new facts.new) }
+    ensures noted { OnOk result (HasNotedAll chase.now.mappings.now chase.now.budget
+        updates.now notes.old facts.old notes.new) }
 {
     let mut number = 1;
     for update in updates {
-        let over = turn(
-            alloc, finishes, notes, facts, number, update, mappings, budget,
-        )?;
+        let over = turn(alloc, finishes, notes, facts, number, update, chase)?;
         if let Some(stop) = over {
             return Ok(Some(stop));
         }
@@ -136,17 +131,16 @@ fn turn(
     facts: &mut IndexedFacts,
     number: u32,
     update: &SessionUpdate,
-    mappings: &Mappings<'_>,
-    budget: Budget,
+    chase: &Chase<'_>,
 ) -> Result<Option<Stop>, Memory>
     requires sorted { IsRepository facts.old }
     ensures sorted { OnOk result (IsRepository facts.new) }
-    ensures told { IfOk result (HasTakenTurn mappings.now budget number update.now
-        finishes.old facts.old finishes.new facts.new) }
-    ensures noted { IfOk result (HasNotedTurn mappings.now budget number update.now
-        notes.old facts.old notes.new facts.new) }
+    ensures told { IfOk result (HasTakenTurn chase.now.mappings.now chase.now.budget number
+        update.now finishes.old facts.old finishes.new facts.new) }
+    ensures noted { IfOk result (HasNotedTurn chase.now.mappings.now chase.now.budget number
+        update.now notes.old facts.old notes.new facts.new) }
 {
-    let taken = take_whole(alloc, number, update, facts, mappings, budget)?;
+    let taken = take_whole(alloc, number, update, facts, chase)?;
     close(alloc, finishes, notes, facts, number, taken)
 }
 

@@ -11,6 +11,7 @@ use crate::stepping::step;
 use base_limits::{Budget, Mappings};
 use base_types::{ChoiceList, Memory};
 use chase_eval::WatchedView;
+use chase_plan::Chase;
 use chase_update::{Attempt, Lack};
 use lang_session::SessionUpdate;
 use run_step::{Next, what_next};
@@ -31,17 +32,18 @@ pub(crate) fn take_whole(
     number: u32,
     update: &SessionUpdate,
     facts: &IndexedFacts,
-    mappings: &Mappings<'_>,
-    budget: Budget,
+    chase: &Chase<'_>,
 ) -> Result<Taken, Memory>
     requires sorted { IsRepository facts.now }
-    ensures taken { IfOk result (HasTaken mappings.now budget facts.now number update.now) }
+    ensures taken { IfOk result (HasTaken chase.now.mappings.now chase.now.budget facts.now number
+        update.now) }
     ensures between { IfOk result (λ taken. taken.program.reading ≡ None) }
     ensures asked { IfOk result (λ t. is_some (question_in t.program.attempt.phase) ≡
         is_some t.lack) }
     ensures ended { IfOk result (λ t. is_some (outcome_in t.program.attempt.phase) ≡
         is_none t.lack) }
 {
+    let budget = chase.budget;
     budget.is_within();
     let mut program = Attempt::start(alloc, &update.update, number, 0)?;
     let mut notes = NoteList::new(alloc);
@@ -52,7 +54,7 @@ pub(crate) fn take_whole(
         &mut notes,
         answers,
         facts,
-        mappings,
+        chase.mappings,
         budget,
     ) {
         Ok(lack) => Ok(Taken {

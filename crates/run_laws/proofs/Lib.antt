@@ -19,3 +19,4 @@ mod Openings
 mod Writes
 mod Runs
 mod Recovering
+mod Numbered

@@ -1,5 +1,5 @@
 -- The serial machine's trails, turn by turn: what is logged of them, and what it makes of the base.
-use Rattle.std.specs.Prelude.{take, ◌-◌}
+use Rattle.std.specs.Prelude.{take}
 use Rattle.std.proofs.Common.{◌≡◌, ℕ, zero, suc, ◌+◌, ◌≤◌, ◌==◌, not, ap, refl, sym, ◌∙◌, subst, List, [], ◌∷◌, map, length, Bool, true, false, cond, arith}
 use Rattle.std.specs.Option.{option_map}
 use Rattle.std.specs.List.{list_all, AllByRecursion}

@@ -1,3 +1,4 @@
 pub mod Renamed
 pub mod Kept
 pub mod Logged
+pub mod Explained

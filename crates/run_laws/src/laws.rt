@@ -2,6 +2,8 @@
 ghost use Rattle.std.specs.Prelude.{◌≡◌, ◌≤◌, ℕ, List, None};
 ghost use Rattle.def_language.specs.Sessions.{SessionData};
 ghost use Rattle.def_language.specs.Validity.{IsSession};
+ghost use Rattle.run_laws.specs.Explained.{ExplainsTruly};
+ghost use Rattle.run_laws.specs.Logged.{IsRun};
 ghost use Rattle.run_laws.specs.Kept.{InForceHold, IsRunnable, left_by, saved_by, LeavesFacts, SavesSession, SavesSpelled};
 ghost use Rattle.run_laws.specs.Renamed.{IsRenamed};
 ghost use Rattle.def_chase.specs.Laws.{HasNoNull};
@@ -15,6 +17,7 @@ ghost use Rattle.lang_report.specs.Saved.{saved};
 ghost use Rattle.lang_session.specs.Base.{base_violation};
 
 use def_language::sessions_are_read_again;
+use def_provenance::laws::reasons_are_true;
 
 /// Every tuple that the serial machine leaves of a valid session is one of a relation of it: as many values as columns, each an
 /// integer of 64 bits, a text of at most 256 bytes of UTF-8, or a null of the base or of an update. They are in order.
@@ -60,6 +63,14 @@ pub fn names_keep_mappings()
         Holds m E }
     ensures in_order { (D E : List Fact) → IsRenamed D E → IsRepository D → IsRepository E }
 {}
+
+/// Each reason of an explanation of a tuple that a valid session's run leaves is true of the session's base and of the steps of
+/// the serial machine.
+pub fn explanations_are_true()
+    ensures { (budget : ℕ) (s : SessionData) → IsRun budget s → ExplainsTruly budget s }
+{
+    reasons_are_true();
+}
 
 /// The same session in format 2 is a session too, and the serial machine tells the same of it.
 pub fn upgrades_tell_the_same()

@@ -11,6 +11,7 @@ pub use crate::journals::{
     journals_recover_the_serial_run, openings_are_sessions, trails_are_logged,
 };
 pub use crate::laws::{
-    bases_are_renamed, bases_meet_their_mappings, names_keep_mappings, runs_leave_facts,
-    runs_meet_their_mappings, saved_sessions_are_sessions, upgrades_tell_the_same,
+    bases_are_renamed, bases_meet_their_mappings, explanations_are_true, names_keep_mappings,
+    runs_leave_facts, runs_meet_their_mappings, saved_sessions_are_sessions,
+    upgrades_tell_the_same,
 };

@@ -14,19 +14,19 @@ use Rattle.run_explain.proofs.runs.take_all.Goals as goal
 
 pub returns-clause-told : goal.returns-clause-told
 returns-clause-told c =
-    let ms = c.args.mappings.now in
+    let ms = c.args.chase.now.mappings.now in
     let fs = map finish_of c.loop-update.finishes.items in
     c.loop-update.invariant.together
-    ∙ (ap (λ (us : List SessionUpdate). behind fs (told_from ms c.args.budget c.loop-update.facts c.loop-update.number (map request_of (map update_of us))))
+    ∙ (ap (λ (us : List SessionUpdate). behind fs (told_from ms c.args.chase.now.budget c.loop-update.facts c.loop-update.number (map request_of (map update_of us))))
     (drop_of_length-le c.args.updates.now c.loop-update-test.false)
-    ∙ ends_here ms c.args.budget c.loop-update.facts c.loop-update.number fs)
+    ∙ ends_here ms c.args.chase.now.budget c.loop-update.facts c.loop-update.number fs)
 
 pub returns-clause-noted : goal.returns-clause-noted
 returns-clause-noted c =
-    let ms = c.args.mappings.now in
+    let ms = c.args.chase.now.mappings.now in
     let ns = map note_of c.loop-update.notes.items in
     c.loop-update.invariant.noted
-    ∙ ap (λ (us : List SessionUpdate). ns ++ noted_from ms c.args.budget c.loop-update.facts c.loop-update.number (map request_of (map update_of us)))
+    ∙ ap (λ (us : List SessionUpdate). ns ++ noted_from ms c.args.chase.now.budget c.loop-update.facts c.loop-update.number (map request_of (map update_of us)))
     (drop_of_length-le c.args.updates.now c.loop-update-test.false)
-    ∙ ap (λ (more : List Noted). ns ++ more) (noted_end ms c.args.budget c.loop-update.facts c.loop-update.number)
+    ∙ ap (λ (more : List Noted). ns ++ more) (noted_end ms c.args.chase.now.budget c.loop-update.facts c.loop-update.number)
     ∙ append-nil ns

@@ -13,9 +13,9 @@ invariant-loop-update l = record {
   sorted : IsRepository l.facts;
   number : l.number ≡ suc l.update-index;
   together :
-      behind (map finish_of l.fn.finishes.items) (told_from l.mappings l.budget l.fn.facts 1 (map request_of (map update_of l.updates)))
-      ≡ behind (map finish_of l.finishes.items) (told_from l.mappings l.budget l.facts l.number (map request_of (map update_of (drop l.update-index l.updates))));
+      behind (map finish_of l.fn.finishes.items) (told_from l.chase.mappings.now l.chase.budget l.fn.facts 1 (map request_of (map update_of l.updates)))
+      ≡ behind (map finish_of l.finishes.items) (told_from l.chase.mappings.now l.chase.budget l.facts l.number (map request_of (map update_of (drop l.update-index l.updates))));
   noted :
-      map note_of l.fn.notes.items ++ noted_from l.mappings l.budget l.fn.facts 1 (map request_of (map update_of l.updates))
-      ≡ map note_of l.notes.items ++ noted_from l.mappings l.budget l.facts l.number (map request_of (map update_of (drop l.update-index l.updates)));
+      map note_of l.fn.notes.items ++ noted_from l.chase.mappings.now l.chase.budget l.fn.facts 1 (map request_of (map update_of l.updates))
+      ≡ map note_of l.notes.items ++ noted_from l.chase.mappings.now l.chase.budget l.facts l.number (map request_of (map update_of (drop l.update-index l.updates)));
 }
