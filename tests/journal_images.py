@@ -1,25 +1,28 @@
 #!/usr/bin/env python3
-"""tests/journal_images.py [PROGRAM]: what a crash may leave at each moment of three appends, recovered by the program.
+"""tests/journal_images.py [PROGRAM [FIRST COUNT]]: what a crash may leave at each moment of appends, recovered by the program.
 
-The program writes a journal of three commits. From the journal without a commit on, each commit is then appended by the four
-calls of an append: the record behind the gate, a sync, the gate, a sync. After each call every image is made that a crash then
+The program writes a journal of three commits, or of COUNT random sessions, one each. From the journal without a commit on, each commit is then
+appended by the four calls of an append: the record behind the gate, a sync, the gate, a sync. After each call every image is made that a crash then
 may leave: nothing but what is synced where no write is open; else the file ends at each place from its old end on, and the open
 range holds zeros, ones, its old bytes, random bytes, or the new bytes up to any place and one of these from there on. The gate
 takes each of its 256 values. Once the file ends at the gate, and once stale bytes stand behind it, an old record among them.
 Each image has to be recovered to the commits before or to those with the new one, and after the last sync to the latter.
-The last line is 'N passed, M failed'.
+JOBS processes in the environment. The last line is 'N passed, M failed'.
 """
+import os
 import random
-import subprocess
 import sys
+from concurrent.futures import ProcessPoolExecutor
 from pathlib import Path
 
-sys.dont_write_bytecode = True
-sys.path.insert(0, str(Path(__file__).resolve().parent))
+sys.path.insert(0, str(Path(__file__).resolve().parent / "hostile_parts"))
 
-from oracle.commands import youtopia     # noqa: E402
+from running import TESTS, told_by                   # noqa: E402
+from oracle.commands import youtopia                 # noqa: E402
+from oracle.printing import session_text             # noqa: E402
+from oracle.sessions import random_session           # noqa: E402
 
-PROGRAM = Path(__file__).resolve().parent.parent / "crates" / "youtopia" / "out" / "youtopia"
+PROGRAM = TESTS.parent / "crates" / "youtopia" / "out" / "youtopia"
 SESSION = b"""youtopia 1
 relation A 1
 relation B 2
@@ -31,10 +34,6 @@ update b ann delete A(7)
 update c ann insert B(2, "x")
 end
 """
-
-
-def told_by(program, words, data):
-    return subprocess.run([program, *words], input=data, capture_output=True, timeout=60).stdout
 
 
 def frames_of(journal):
@@ -69,38 +68,57 @@ def images(rng, stable, place, new):
     return sorted(made)
 
 
-def main():
-    program = Path(sys.argv[1]).resolve() if len(sys.argv) > 1 else PROGRAM
-    rng = random.Random(1)
-    journal = told_by(program, ["journal"], SESSION)
-    first, *records = frames_of(journal)
-    known = [b"\1".join([first, *records[:count]]) + b"\0" for count in range(4)]
-    told = [youtopia(["recover"], data)[1] for data in known]
-    passed = failed = 0
+class Attack:
+    """The images of the journal of one session."""
 
-    def expect(image, allowed):
-        nonlocal passed, failed
-        if told_by(program, ["recover"], image) in allowed:
-            passed += 1
+    def __init__(self, program, session, seed):
+        self.program, self.rng, self.passed, self.failures = program, random.Random(seed), 0, []
+        self.first, *self.records = frames_of(told_by(program, ["journal"], session)[1])
+        known = (b"\1".join([self.first, *self.records[:count]]) + b"\0" for count in range(len(self.records) + 1))
+        self.told = [youtopia(["recover"], data)[1] for data in known]
+
+    def expect(self, image, allowed):
+        if told_by(self.program, ["recover"], image)[1] in allowed:
+            self.passed += 1
         else:
-            failed += 1
-            print(f"recovered to something else: {image.hex()}")
+            self.failures.append(f"recovered to something else: {image.hex()}")
 
-    stale = records[0] + b"\1" + records[1] + b"\1" + b"commit"
-    for disk in (known[0], known[0] + stale):
-        gate = len(first)
-        for count, record in enumerate(records):
-            before, either, after = told[count:count + 1], told[count:count + 2], told[count + 1:count + 2]
-            expect(disk, before)
+    def appends(self, disk):
+        """Each record is appended to what stands on the disk."""
+        gate = len(self.first)
+        for count, record in enumerate(self.records):
+            before, either, after = self.told[count:count + 1], self.told[count:count + 2], self.told[count + 1:count + 2]
+            self.expect(disk, before)
             for place, new in ((gate + 1, record + b"\0"), (gate, b"\1")):
-                for image in images(rng, disk, place, new):
-                    expect(image, either if place == gate else before)
+                for image in images(self.rng, disk, place, new):
+                    self.expect(image, either if place == gate else before)
                 disk = over(disk, place, new)
-                expect(disk, after if place == gate else before)
+                self.expect(disk, after if place == gate else before)
             gate += 1 + len(record)
+
+    def play(self):
+        self.appends(self.first + b"\0")
+        self.appends(self.first + b"\0" + b"\1".join([*self.records[:2], b"commit"]))
+        return self.passed, self.failures
+
+
+def attacked(program, seed):
+    """The session of this seed; without one the session above."""
+    session = session_text(random_session(random.Random(seed), 300).session) if seed else SESSION
+    return Attack(program, session, seed).play()
+
+
+def main(program=PROGRAM, first="0", count="1"):
+    passed = failed = 0
+    with ProcessPoolExecutor(int(os.environ.get("JOBS", "2"))) as pool:
+        seeds = range(int(first), int(first) + int(count))
+        for task in [pool.submit(attacked, os.path.realpath(program), seed) for seed in seeds]:
+            made, failures = task.result()
+            passed, failed = passed + made, failed + len(failures)
+            print("".join(failure + "\n" for failure in failures), end="", flush=True)
     print(f"{passed} passed, {failed} failed")
     sys.exit(failed > 0)
 
 
 if __name__ == "__main__":
-    main()
+    main(*sys.argv[1:])

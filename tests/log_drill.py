@@ -70,6 +70,12 @@ def frame_at(data, place):
     return (data[place + 4:end], end) if place + 4 <= len(data) and end <= len(data) else None
 
 
+def sealed_at(before, data, place):
+    """The mark of the payload at the place, and where it ends, if it is whole and has its mark."""
+    found = frame_at(data, place)
+    return (found[0][:16], found[1]) if found and text_in(before, found[0]) is not None else None
+
+
 def read(data):
     """The texts, or what is damaged, in the words of the program."""
     texts, mark, place = [], b"", 0
@@ -87,8 +93,8 @@ def read(data):
         if gate >= len(data):
             return "damaged at %d" % gate
         if data[gate] != 1:
-            hidden = frame_at(data, gate + 1)
-            if hidden and text_in(mark, hidden[0]) is not None and data[hidden[1]:hidden[1] + 1] == b"\1":
+            first = sealed_at(mark, data, gate + 1)
+            if first and data[first[1]:first[1] + 1] == b"\1" and sealed_at(first[0], data, first[1] + 1):
                 return "damaged at %d" % gate
             return texts
         place = gate + 1

@@ -6,3 +6,4 @@ mod SoFar
 mod Openings
 mod Heads
 mod Absent
+mod Either

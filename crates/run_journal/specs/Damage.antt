@@ -33,3 +33,7 @@ pub record BreaksAt (bytes : List ℕ) (gate : ℕ) : Type 0 where
 -- whole or no commit, or of the one that is missing.
 abbrev pub IsDamagedAt : List ℕ → ℕ → Type 0
 IsDamagedAt bytes place = ((place ≡ 0) × HasNoOpening bytes) ⊎ BreaksAt bytes place
+
+-- the bytes are damaged at some place
+abbrev pub IsDamaged : List ℕ → Type 0
+IsDamaged bytes = (place : ℕ) × IsDamagedAt bytes place

@@ -17,6 +17,10 @@ pub record BeginsWith (all : List ℕ) (s : SessionData) (those : List (List Cha
 abbrev pub IsJournal : SessionData → List (List Change) → List ℕ → Type 0
 IsJournal s commits bytes = (rest : List ℕ) × BeginsWith bytes s commits rest × IsClosed rest
 
+-- the bytes are a journal of some session with some commits
+abbrev pub IsWhole : List ℕ → Type 0
+IsWhole bytes = (s : SessionData) × (commits : List (List Change)) × IsJournal s commits bytes
+
 -- the place of its gate
 abbrev pub gate_of : SessionData → List (List Change) → ℕ
 gate_of s commits = length (front s commits)

@@ -1,13 +1,16 @@
 // Laws of journals, each as the contract of a function that does nothing.
-ghost use Rattle.std.specs.Prelude.{◌≡◌, ◌≤◌, ℕ, List};
+ghost use Rattle.std.specs.Prelude.{◌≡◌, ◌≤◌, ◌⊎◌, ℕ, List};
 ghost use Rattle.def_chase.specs.Repository.{Change};
 ghost use Rattle.def_language.specs.Sessions.{SessionData};
-ghost use Rattle.run_journal.specs.Journals.{IsJournal};
-ghost use Rattle.run_journal.specs.Damage.{IsDamagedAt};
+ghost use Rattle.run_journal.specs.Journals.{IsJournal, IsWhole};
+ghost use Rattle.run_journal.specs.Damage.{IsDamaged, IsDamagedAt};
 ghost use Rattle.base_roll.specs.Histories.{InHand, IsAtRest, IsHistory, IsKept, Turn, last_disk};
 
 use base_devices::Disk;
-use def_language::{every_input_has_one_answer, sessions_are_read_again, tuples_are_read_again};
+use def_language::{
+    every_input_has_one_answer, lines_say_tuples, sessions_are_read_again,
+    spelled_sessions_are_valid, tuples_are_read_again,
+};
 
 /// Bytes are a journal in one way at most.
 pub fn journals_have_one_reading()
@@ -29,6 +32,17 @@ pub fn damaged_bytes_are_no_journal()
     every_input_has_one_answer();
     sessions_are_read_again();
     tuples_are_read_again();
+}
+
+/// Each input is a journal, or damaged at some place.
+pub fn inputs_are_journals_or_damaged()
+    ensures { (bytes : List ℕ) → IsWhole bytes ⊎ IsDamaged bytes }
+{
+    every_input_has_one_answer();
+    sessions_are_read_again();
+    spelled_sessions_are_valid();
+    tuples_are_read_again();
+    lines_say_tuples();
 }
 
 /// Over any list of appends, each with any faults of the disk, and a crash at any moment of any of them: what is left is

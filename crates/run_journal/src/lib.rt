@@ -14,6 +14,7 @@ mod recovering;
 pub use crate::appending::{PAYLOAD_LIMIT, append, create};
 pub use crate::journals::{AppendFault, Commit, CreateFault, Journal, RecoverFault, Recovered};
 pub use crate::laws::{
-    crashes_keep_what_is_acknowledged, damaged_bytes_are_no_journal, journals_have_one_reading,
+    crashes_keep_what_is_acknowledged, damaged_bytes_are_no_journal,
+    inputs_are_journals_or_damaged, journals_have_one_reading,
 };
 pub use crate::recovering::recover;
