@@ -7,7 +7,7 @@ ghost use Rattle.core_cascade.specs.Walks.{HasFootprint, HasImpact, HasLostImpac
 use crate::cascades::Cascade;
 use crate::lost::Lost;
 use base_types::{Memory, Write};
-use core_conflict::{Changed, Impact, Trail, first_changed};
+use core_conflict::{Changed, Impact, Reader, Trail, first_changed};
 use core_entries::Cause;
 use core_queue::QueuedUpdate;
 use std::alloc::Global;
@@ -88,24 +88,18 @@ impl<'a> Cascade<'a> {
             (IsConflictFor (above_of self.now) (map change_of written.now) reader.now) }
     {
         let below = self.whole.below(reader.number());
-        let own = reader.program.own();
-        let mappings = self.mappings.list();
-        let direction = reader.program.direction();
+        let by = Reader {
+            mappings: self.mappings.list(),
+            direction: reader.program.direction(),
+            own: reader.program.own().as_slice(),
+            sense: self.sense,
+        };
         let trails = [Trail {
             update: self.update,
             writes: written,
             impact: *impact,
         }];
-        let changed = first_changed(
-            alloc,
-            &reader.log,
-            mappings,
-            &below,
-            own,
-            direction,
-            self.sense,
-            &trails,
-        )?;
+        let changed = first_changed(alloc, &by, &trails, &below, reader.log.as_slice())?;
         let cause = self.conflict_by(reader.number(), changed);
         Ok(cause)
     }

@@ -10,7 +10,7 @@ use crate::cascades::Cascade;
 use crate::lost::Lost;
 use base_types::Memory;
 use chase_query::LoggedRead;
-use core_conflict::{Sense, Trail, first_changed};
+use core_conflict::{Reader, Sense, Trail, first_changed};
 use core_queue::{Deps, QueuedUpdate};
 use set_versions::Versions;
 use std::alloc::Global;
@@ -75,19 +75,13 @@ impl<'a> Cascade<'a> {
             first_invalid_def self.now.mappings.now without.now trails.now reader.now) }
     {
         let below = without.below(reader.number());
-        let own = reader.program.own();
-        let mappings = self.mappings.list();
-        let direction = reader.program.direction();
-        let changed = first_changed(
-            alloc,
-            &reader.log,
-            mappings,
-            &below,
-            own,
-            direction,
-            Sense::Went,
-            trails,
-        )?;
+        let by = Reader {
+            mappings: self.mappings.list(),
+            direction: reader.program.direction(),
+            own: reader.program.own().as_slice(),
+            sense: Sense::Went,
+        };
+        let changed = first_changed(alloc, &by, trails, &below, reader.log.as_slice())?;
         match changed {
             Some(changed) => Ok(Some(Numbered {
                 number: changed.number,

@@ -7,13 +7,13 @@ ghost use Rattle.core_conflict.specs.Changes.{first_changed as first_changed_def
 ghost use Rattle.core_conflict.specs.Meanings.{changed_of};
 ghost use Rattle.core_conflict.specs.Looking.{SeesFirst, changed_from};
 ghost use Rattle.core_conflict.specs.Trails.{trails_of};
-ghost use Rattle.base_types.specs.Contents.{changes_of, rules_in};
+ghost use Rattle.base_types.specs.Contents.{rules_in};
 
-use crate::concerns::{Reader, Sense, Trail};
+use crate::concerns::{Reader, Trail};
 use crate::views::{EarlierView, see, standing_then};
-use base_types::{Direction, Facts, MappingList, Memory, TryCopy, WriteList};
+use base_types::{Facts, Memory, TryCopy};
 use chase_eval::View;
-use chase_query::{Logged, LoggedRead, Passage, ReadLog, Reply, finds_none};
+use chase_query::{Logged, LoggedRead, Passage, Reply, finds_none};
 use std::alloc::Global;
 
 /// A logged read that has another value now: its number in the log, from 1, the read with the answer that it had, and its
@@ -25,34 +25,10 @@ pub struct Changed {
     pub now: Reply,
 }
 
-/// The first read of the log that a write of these trails meets and that has another value now, by an attempt in this
-/// direction with these own writes, where the facts lie below it; the writes came since the reads were made, or went.
-/// It is refused only for want of memory.
+/// The first read of the log that a write of these trails meets and that has another value now, by the reader that logged
+/// it, where the facts lie below it; the writes came since the reads were made, or went. It is refused only for want of
+/// memory.
 pub fn first_changed<F: Facts>(
-    alloc: Global,
-    log: &ReadLog,
-    mappings: &MappingList,
-    below: &F,
-    own: &WriteList,
-    direction: Direction,
-    sense: Sense,
-    trails: &[Trail<'_>],
-) -> Result<Option<Changed>, Memory>
-    ensures first { IfOk result (λ found. option_map changed_of found ≡
-        first_changed_def (rules_in mappings.now) (heading_of direction) (F.tuples below.now)
-        (changes_of own.now) sense (trails_of trails.now) (reads_in log.now.items)) }
-{
-    let reader = Reader {
-        mappings,
-        direction,
-        own: own.as_slice(),
-        sense,
-    };
-    first_in(alloc, &reader, trails, below, log.as_slice())
-}
-
-// The same of a slice.
-fn first_in<F: Facts>(
     alloc: Global,
     reader: &Reader<'_>,
     trails: &[Trail<'_>],
@@ -60,7 +36,9 @@ fn first_in<F: Facts>(
     log: &[Logged],
 ) -> Result<Option<Changed>, Memory>
     ensures first { IfOk result (λ found. option_map changed_of found ≡
-        changed_from reader.now trails.now (F.tuples below.now) 1 (reads_in log.now)) }
+        first_changed_def (rules_in reader.now.mappings.now) (heading_of reader.now.direction)
+        (F.tuples below.now) (map change_of reader.now.own.now) reader.now.sense
+        (trails_of trails.now) (reads_in log.now)) }
 {
     if !reader.may_be_met(trails, log) {
         return Ok(None);

@@ -30,14 +30,14 @@ pub enum Sense {
     Went,
 }
 
-/// What the reads of an attempt are asked by: the mappings, the direction of the attempt, its own writes, and how the
-/// writes of the trails turned what lies below it.
+/// An attempt whose logged reads are looked at: the mappings, its direction, its own writes, and how the writes of the trails
+/// turned what lies below it.
 #[derive(Drop)]
-pub(crate) struct Reader<'r> {
-    pub(crate) mappings: &'r MappingList,
-    pub(crate) direction: Direction,
-    pub(crate) own: &'r [Write],
-    pub(crate) sense: Sense,
+pub struct Reader<'r> {
+    pub mappings: &'r MappingList,
+    pub direction: Direction,
+    pub own: &'r [Write],
+    pub sense: Sense,
 }
 
 impl<'r> Reader<'r> {

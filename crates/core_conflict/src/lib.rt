@@ -14,7 +14,7 @@ mod signatures;
 mod views;
 
 pub use crate::changes::{Changed, first_changed};
-pub use crate::concerns::{Sense, Trail};
+pub use crate::concerns::{Reader, Sense, Trail};
 pub use crate::footprints::Footprint;
 pub use crate::impacts::Impact;
 pub use crate::laws::{tuples_concern_queries, unmet_values_stay};

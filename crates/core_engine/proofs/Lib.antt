@@ -18,3 +18,4 @@ pub mod Resulting
 pub mod Committing
 pub mod Unread
 pub mod Marking
+pub mod Living

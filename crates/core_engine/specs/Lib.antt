@@ -16,3 +16,4 @@ pub mod LiveCalls
 pub mod Answered
 pub mod Withdrawals
 pub mod Admissions
+pub mod Lives

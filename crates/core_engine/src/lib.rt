@@ -15,6 +15,7 @@ mod cores;
 mod deliveries;
 mod draining;
 mod known;
+mod lives;
 mod plans;
 mod putting;
 mod refusals;
@@ -26,6 +27,7 @@ mod withdrawals;
 mod withdrawing;
 
 pub use crate::cores::Core;
+pub use crate::lives::live_cores_are_serial;
 pub use crate::plans::{Plan, Snapshot};
 pub use crate::refusals::{
     AdmitRefusal, AnswerRefusal, DeliverRefusal, StepRefusal, WithdrawRefusal,

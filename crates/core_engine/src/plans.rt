@@ -15,7 +15,7 @@ use crate::known::Known;
 use base_limits::{Budget, Mappings};
 use base_types::{Choice, Memory, TryCopy};
 use chase_eval::Settled;
-use chase_plan::{Plan as Planned, TouchedMappings, plan_step, settled_by};
+use chase_plan::{Chase, Footing, Plan as Planned, TouchedMappings, plan_step, settled_by};
 use chase_query::Logged;
 use chase_update::Attempt;
 use core_queue::QueuedUpdate;
@@ -97,8 +97,15 @@ impl<'s> Snapshot<'s> {
     {
         let below = self.versions.below(self.update);
         let with = self.versions.below(self.update + 1);
+        let footing = Footing {
+            below: &below,
+            with: &with,
+        };
+        let chase = Chase {
+            mappings: &self.mappings,
+            budget: self.budget,
+        };
         let answer = lent(&self.answer);
-        let mappings = &self.mappings;
         let mut settled = self.settled.copy(alloc)?;
         let branch = self.program.copy(alloc)?;
         let step = plan_step(
@@ -106,10 +113,8 @@ impl<'s> Snapshot<'s> {
             &self.program,
             branch,
             answer,
-            mappings,
-            self.budget,
-            &below,
-            &with,
+            &chase,
+            &footing,
             &mut settled,
         )?;
         Ok(Plan {
@@ -183,16 +188,22 @@ fn plan_of(
     let mut settled = known.take(alloc, mappings, item)?;
     let below = versions.below(update);
     let with = versions.below(update + 1);
+    let footing = Footing {
+        below: &below,
+        with: &with,
+    };
+    let chase = Chase {
+        mappings: mappings.all(),
+        budget,
+    };
     let answer = item.next_answer();
     let step = plan_step(
         alloc,
         program,
         branch,
         answer,
-        mappings.all(),
-        budget,
-        &below,
-        &with,
+        &chase,
+        &footing,
         &mut settled,
     )?;
     known.keep(update, program.own().len() as u64, settled);

@@ -14,6 +14,7 @@ use Rattle.def_chase.proofs.Maps.{length_map}
 use Rattle.def_steps.specs.Chase.{caused_chase}
 use Rattle.def_steps.specs.Serial.{Request, serial_result}
 use Rattle.def_steps.specs.Shifting.{is_of_base, IsBase}
+use Rattle.def_steps.specs.Timely.{ActInTime}
 use Rattle.def_language.specs.Sessions.{RelationSchema, SessionData}
 use Rattle.def_language.specs.Checks.{rules_of}
 use Rattle.def_language.specs.Validity.{IsValue, IsFact, IsSession}
@@ -23,7 +24,7 @@ use Rattle.lang_session.proofs.Suiting.{few_relations, no_force, mappings_no_nul
 use Rattle.lang_session.proofs.Meeting.{base_holds}
 use Rattle.def_history.specs.Admissible.{is_plain, IsAdmissible}
 use Rattle.def_history.specs.AnyOrder.{tells}
-use Rattle.def_history.specs.Histories.{submissions}
+use Rattle.def_history.specs.Histories.{submissions, session_of}
 use Rattle.def_history.proofs.Sessions.{sessions_are_admissible}
 use Rattle.def_history.proofs.Theorem.{any_order}
 use Rattle.core_laws.specs.Histories.{CheckedIsAdmissible, WholeIsSerial, MappingsHold, rules, history_session}
@@ -47,13 +48,18 @@ facts_pass : (p : Fact → Bool) (rs : List RelationSchema) → ((t : Fact) → 
 facts_pass p rs each [] h = refl
 facts_pass p rs each (t ∷ ts) h = both (p t) (list_all p ts) (each t h.0) (facts_pass p rs each ts h.1)
 
-pub checked_is_admissible : CheckedIsAdmissible
-checked_is_admissible budget s v meets some =
-    sessions_are_admissible.timely (rules s) budget s.base (requests_in s) some v.base_order (base_holds s v meets)
+-- The session with any updates that act in time.
+pub timely_is_admissible : (budget : ℕ) (s : SessionData) (rs : List Request) → IsSession s → base_violation s ≡ None → 1 ≤ budget → ActInTime (rules s) 1 rs
+    → IsAdmissible (rules s) budget (session_of (rules s) budget s.base rs [])
+timely_is_admissible budget s rs v meets some acts =
+    sessions_are_admissible.timely (rules s) budget s.base rs some v.base_order (base_holds s v meets)
     (facts_pass is_plain s.relations (λ t h. ap not (no_force s.relations t.relation (length t.values) (few_relations s v) h.0)) s.base v.base)
     (facts_pass (λ t. list_all is_of_base t.values) s.relations (λ t h. values_pass is_of_base value_of_base t.values h.1) s.base v.base)
     (facts_pass (are_by (λ u. 0)) s.relations (λ t h. values_pass (is_by (λ u. 0)) value_first t.values h.1) s.base v.base)
-    (mappings_no_null s.relations s.mappings v.mappings) (timely s v).mappings (timely s v).updates
+    (mappings_no_null s.relations s.mappings v.mappings) (timely s v).mappings acts
+
+pub checked_is_admissible : CheckedIsAdmissible
+checked_is_admissible budget s v meets some = timely_is_admissible budget s (requests_in s) v meets some (timely s v).updates
 
 pub mappings_hold : MappingsHold
 mappings_hold budget c s H us v meets some legal = (any_order (rules s) budget c (history_session budget s) H us (checked_is_admissible budget s v meets some) legal).hold

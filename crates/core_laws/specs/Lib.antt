@@ -1,3 +1,4 @@
 pub mod Turns
 pub mod Laws
 pub mod Histories
+pub mod Live

@@ -18,7 +18,7 @@ use Rattle.lang_reader.specs.declared.faults.ReadFailure.TheVariants as reading
 use Rattle.live_replies.specs.Turns.{Live, Turn}
 use Rattle.lang_session.specs.Base.{Violated, base_violation}
 use Rattle.lang_session.specs.Meanings.{session_of}
-use Rattle.yt_live.specs.Streams.{Ending, GoesOn, Quits, RefusesSession, Violates, Served, Parted, CutsLines, live, served, opened_with, parted, so_far, whole_lines}
+use Rattle.yt_live.specs.Streams.{AnyIsSerial, Ending, GoesOn, Quits, RefusesSession, Violates, Served, Parted, CutsLines, live, served, opened_with, parted, so_far, whole_lines}
 use Rattle.yt_live.specs.declared.ends.LiveEnd.{LiveEnd}
 use Rattle.yt_live.specs.declared.ends.LiveEnd.TheVariants as ends
 use Rattle.yt_live.specs.declared.openings.Opening.{Opening}
@@ -92,6 +92,11 @@ Ends due room ends.Memory source out = Gave room source (TookPrefix due source o
 -- A stream was served.
 abbrev pub Serves : ℕ → Settings → LiveEnd → Change → Change → Type 0
 Serves budget c e source out = Ends (of_stream budget c) INPUT_LIMIT e source out
+
+-- Take any front of the bytes that the source gave, with or without more to come: what it commits is serial.
+abbrev pub LeavesSerial : Due → Change → Type 0
+LeavesSerial due source =
+    (front rest : List ℕ) → Consumes source.bytes source.bytes_after (front ++ rest) → AnyIsSerial (due.at_end front).core × AnyIsSerial (due.so_far front).core
 
 -- the end of a call that answers Ok where the stream ended
 abbrev pub end_of : Result (Unit {0}) LiveEnd → LiveEnd

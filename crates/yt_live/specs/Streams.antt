@@ -2,6 +2,7 @@
 use Rattle.std.specs.Prelude.{◌≡◌, ◌-◌, ℕ, Bool, true, false, List, [], ◌∷◌, ◌++◌, codes, length, take, Option, Some, None, option_map, Result, Ok, Err, if◌then◌else◌}
 use Rattle.std.specs.Fmt.{decimal}
 use Rattle.core_engine.specs.States.{State, updates_at}
+use Rattle.core_laws.specs.Live.{IsOfSession, IsSerialOver}
 use Rattle.def_language.specs.Faults.{Wrong}
 use Rattle.def_language.specs.Lines.{lines_of, read}
 use Rattle.def_language.specs.Names.{same_name}
@@ -113,14 +114,18 @@ live budget c bytes = of_parts budget c bytes (parted (lines_of bytes))
 
 -- ---- the history
 
--- the entries of the core are a legal history over what it is over
-abbrev pub IsLegal : Option State → Type 0
-IsLegal None = Unit {0}
-IsLegal (Some core) = IsLegalOver core.over core.history
+-- A core over a session that passed its checks, whose base violates no mapping, and over updates that the session's own
+-- relations admitted later. Its entries are a legal history, and what it commits is serial.
+pub record IsSerialCore (core : State) : Type 0 where
+  pub session : SessionData
+  pub of : IsOfSession session core.over
+  pub legal : IsLegalOver core.over core.history
+  pub serial : IsSerialOver core.over core.history
 
--- Whatever the bytes are, the events that they lead to form one legal history.
-abbrev pub MakesLegalHistories : ℕ → Settings → Type 0
-MakesLegalHistories budget c = (bytes : List ℕ) → IsLegal (live budget c bytes).core
+-- It is one, if a core was opened.
+abbrev pub AnyIsSerial : Option State → Type 0
+AnyIsSerial None = Unit {0}
+AnyIsSerial (Some core) = IsSerialCore core
 
 -- ---- an input that is not at its end
 

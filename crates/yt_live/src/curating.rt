@@ -2,7 +2,7 @@
 ghost use Rattle.std.specs.Prelude.{[], map, string_bytes};
 ghost use Rattle.cmd_frame.specs.Devices.{change};
 ghost use Rattle.yt_live.specs.Curates.{Curates, default_settings};
-ghost use Rattle.yt_live.specs.Streams.{MakesLegalHistories};
+ghost use Rattle.yt_live.specs.Ends.{LeavesSerial, of_stream};
 
 use crate::serving::serve;
 use crate::telling::{refuse_words, tell};
@@ -10,10 +10,11 @@ use base_devices::{Sink, Source};
 use base_limits::Budget;
 use cmd_frame::Status;
 use core_queue::{Deps, Settings};
+use def_language::spelled_sessions_are_valid;
 use std::alloc::Global;
 
 /// Serves the stream by the default settings, where there is no word; a word is refused before the source is read. Whatever
-/// bytes the stream has, the events that they lead to form one legal history.
+/// bytes the stream has, what they commit is what the serial machine makes of the committed updates alone.
 pub fn curate<S: Source, O: Sink, E: Sink>(
     alloc: Global,
     words: &[String],
@@ -25,8 +26,10 @@ pub fn curate<S: Source, O: Sink, E: Sink>(
         (change S.left S.fault_count source.old source.new)
         (change O.taken O.fault_count out.old out.new)
         (change E.taken E.fault_count err.old err.new) }
-    ensures legal { MakesLegalHistories 100 default_settings }
+    ensures serial { LeavesSerial (of_stream 100 default_settings)
+        (change S.left S.fault_count source.old source.new) }
 {
+    spelled_sessions_are_valid();
     match words {
         [] => serve_default(alloc, source, out, err),
         [_, ..] => refuse_words(err),

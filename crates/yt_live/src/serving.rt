@@ -6,8 +6,8 @@ ghost use Rattle.def_language.specs.Lines.{read};
 ghost use Rattle.core_queue.specs.Settings.{settings_of};
 ghost use Rattle.live_replies.specs.Meanings.{live_of};
 ghost use Rattle.live_replies.specs.Turns.{line_turn};
-ghost use Rattle.yt_live.specs.Ends.{Ends, EndsAlone, FailsReply, HasReplied, Serves, end_of, of_lines};
-ghost use Rattle.yt_live.specs.Streams.{MakesLegalHistories, attended, opened_with, ready_line, served};
+ghost use Rattle.yt_live.specs.Ends.{Ends, EndsAlone, FailsReply, HasReplied, LeavesSerial, Serves, end_of, of_lines, of_stream};
+ghost use Rattle.yt_live.specs.Streams.{attended, opened_with, ready_line, served};
 
 use crate::ends::LiveEnd;
 use crate::openings::{read_opening, session_in};
@@ -15,6 +15,7 @@ use base_devices::{Lines, NextLine, Sink, Source, write_all};
 use base_limits::{Budget, MOST_BYTES};
 use base_types::Memory;
 use core_queue::Settings;
+use def_language::spelled_sessions_are_valid;
 use live_replies::Conversation;
 use std::alloc::Global;
 
@@ -191,7 +192,8 @@ fn serve_all<S: Source, O: Sink>(
 /// Serves a stream: a session, and then commands of curators, each replied before the next line is taken.
 ///
 /// With `Ended` the sink has taken exactly the replies to what the source held, and with any other end a prefix of them,
-/// however the bytes are cut. Whatever they are, the events that they lead to form one legal history.
+/// however the bytes are cut. Whatever they are, the events that they lead to form one legal history, and what it commits is
+/// what the serial machine makes of the committed updates alone, taken whole, in number order, with their answers.
 pub fn serve<S: Source, O: Sink>(
     alloc: Global,
     source: &mut S,
@@ -203,9 +205,11 @@ pub fn serve<S: Source, O: Sink>(
     ensures serves { Serves budget (settings_of settings) result
         (change S.left S.fault_count source.old source.new)
         (change O.taken O.fault_count sink.old sink.new) }
-    ensures legal { MakesLegalHistories budget (settings_of settings) }
+    ensures serial { LeavesSerial (of_stream budget (settings_of settings))
+        (change S.left S.fault_count source.old source.new) }
 {
     budget.is_within();
+    spelled_sessions_are_valid();
     match serve_all(alloc, source, sink, settings, budget) {
         Ok(()) => LiveEnd::Ended,
         Err(end) => end,

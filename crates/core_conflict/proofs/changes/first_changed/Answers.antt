@@ -5,7 +5,7 @@ use Rattle.base_types.specs.Meanings.{change_of, heading_of}
 use Rattle.chase_query.specs.Meanings.{reads_in}
 use Rattle.core_conflict.specs.Trails.{trails_of}
 use Rattle.core_conflict.proofs.Unmet.{none_changed}
-use Rattle.core_conflict.proofs.changes.first_in.Goals as goal
+use Rattle.core_conflict.proofs.changes.first_changed.Goals as goal
 
 pub returns-then-not-may_be_met : goal.returns-then-not-may_be_met
 returns-then-not-may_be_met g c =
