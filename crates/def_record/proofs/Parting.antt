@@ -1,5 +1,5 @@
 -- Each update has one ticket out at most, and each number is given once.
-use Rattle.std.proofs.Common.{◌≡◌, ℕ, suc, ◌+◌, ◌<◌, ◌≤◌, sym, refl, ap, subst, ◌∙◌, arith, List, [], ◌∷◌, ◌++◌, length, Option, Some, None, Bool, true, false, ◌&&◌, ◌==◌, eq-eqb, eqb-true, ne_eqb}
+use Rattle.std.proofs.Common.{◌≡◌, ℕ, suc, ◌+◌, ◌<◌, ◌≤◌, sym, refl, ap, subst, ◌∙◌, arith, List, [], ◌∷◌, ◌++◌, append-nil, append_assoc, length, Option, Some, None, Bool, true, false, ◌&&◌, ◌==◌, eq-eqb, eqb-true, ne_eqb}
 use Rattle.std.specs.Prelude.{if◌then◌else◌, option_map}
 use Rattle.std.proofs.lemmas.Bool.{both_ways, and_from, eqb-false}
 use Rattle.std.proofs.lemmas.Option.{none-some, same_Some}
@@ -10,7 +10,7 @@ use Rattle.def_record.specs.declared.item.Item.TheVariants.{Opened, Entered, Gav
 use Rattle.def_record.specs.Items.{ItemOf, Record}
 use Rattle.def_record.specs.Tickets.{Ticket, ticket_of, without, with_step, using, tickets_after}
 use Rattle.def_record.specs.Records.{Now, moved, after_items, opened_by, next_ticket, MayFollow, AllFollow}
-use Rattle.def_record.specs.Apart.{AreApart, AreGiven, ApartLaw}
+use Rattle.def_record.specs.Apart.{AreApart, AreGiven, ApartLaw, number_in, numbers_in, up_to}
 use Rattle.def_record.proofs.Calling.{free_is}
 
 none_without : (v n j : ℕ) (ts : List Ticket) → ticket_of v ts ≡ None → ticket_of v (without n j ts) ≡ None
@@ -144,6 +144,26 @@ module _ {M : Machine} where
   given_items n [] = omega arith
   given_items n (i ∷ is) = omega (arith, given_item n i.entry i.maker, given_items (moved n i.entry i.maker) is)
 
+  numbers_item : (n : Now M) (x : ItemOf M) (maker : Option ℕ) → MayFollow n x maker → up_to (moved n x maker).given ≡ up_to n.given ++ number_in x
+  numbers_item n (Opened w k) maker f = absurd f
+  numbers_item n (Entered e) None f = sym (append-nil (up_to n.given))
+  numbers_item n (Entered e) (Some j) f = sym (append-nil (up_to n.given))
+  numbers_item n (Gave t u) None f = absurd f
+  numbers_item n (Gave t u) (Some j) f = ap (λ k. up_to n.given ++ k ∷ []) (sym f.1)
+  numbers_item n (Returned t) None f = absurd f
+  numbers_item n (Returned t) (Some j) f = sym (append-nil (up_to n.given))
+
+  numbers_items : (n : Now M) (is : Record M) → AllFollow n is → up_to (after_items n is).given ≡ up_to n.given ++ numbers_in is
+  numbers_items n [] f = sym (append-nil (up_to n.given))
+  numbers_items n (i ∷ is) f =
+      numbers_items (moved n i.entry i.maker) is f.1 ∙ ap (λ l. l ++ numbers_in is) (numbers_item n i.entry i.maker f.0) ∙ append_assoc (up_to n.given) (number_in i.entry) (numbers_in is)
+
+  numbers_opened : (x : ItemOf M) (n : Now M) (is : Record M) → opened_by x ≡ Some n → number_in x ++ numbers_in is ≡ up_to n.given ++ numbers_in is
+  numbers_opened (Opened w k) n is e = ap (λ (m : Now M). up_to m.given ++ numbers_in is) (same_Some _ _ e)
+  numbers_opened (Entered d) n is e = absurd (none-some n e)
+  numbers_opened (Gave t u) n is e = absurd (none-some n e)
+  numbers_opened (Returned t) n is e = absurd (none-some n e)
+
   tidy_opened : (x : ItemOf M) (n : Now M) → opened_by x ≡ Some n → Tidy n × (n.given ≡ 0)
   tidy_opened (Opened w k) n e = subst (λ (m : Now M). Tidy m × (m.given ≡ 0)) (same_Some _ _ e) ((tt, tt), refl)
   tidy_opened (Entered d) n e = absurd (none-some n e)
@@ -158,4 +178,5 @@ apart_law M L (i ∷ is) n r e =
     let all = tidy_items L r.0 is r.3 start.0 in
     let few : n.given ≤ r.0.given + length is = subst (λ (m : Now M). m.given ≤ r.0.given + length is) left (given_items r.0 is) in
     let here = subst (λ (m : Now M). Tidy m) left all in
-    record { apart = here.0; given = here.1; few = omega (arith, few, start.1); back = λ t h. gone 0 t n.out here.0 h }
+    let once : numbers_in (i ∷ is) ≡ up_to n.given = numbers_opened i.entry r.0 is r.1 ∙ sym (numbers_items r.0 is r.3) ∙ ap (λ (m : Now M). up_to m.given) left in
+    record { apart = here.0; given = here.1; once = once; few = omega (arith, few, start.1); back = λ t h. gone 0 t n.out here.0 h }

@@ -3,15 +3,10 @@
 //! A desk hands tickets for updates to seats. Its record is a list of items: the opening, the entries of the core's history, the tickets given and returned. Each item has the seat that made it, or none. The definitions stand in `specs/`; each function here is a law, whose contract is the statement and whose body is empty.
 #![tactic(auto)]
 
-mod chase;
 mod item;
 mod laws;
 mod made;
 
-pub use crate::chase::{
-    calls_on_the_chase_may_follow, desks_of_the_chase_end_serially,
-    tickets_of_the_chase_tell_their_state,
-};
 pub use crate::item::{Item, Mark};
 pub use crate::laws::{
     calls_add_what_may_follow, desks_at_rest_end_serially, desks_open_on_their_core,

@@ -9,16 +9,18 @@ mod board;
 mod crew;
 mod desk;
 mod duty;
+mod meeting;
 mod worker;
 
 use crate::crew::run;
 use crate::duty::{Turns, Work};
+use crate::meeting::MeetGate;
 use std::alloc::Global;
 use std::io;
 use std::sync::Wait;
 use std::thread::Threads;
 use std::time::Clock;
-use work_loop::{MeetGate, Places};
+use work_loop::Places;
 
 // Works off the tickets, and tells what came of them.
 fn show<R: Threads + Wait + Clock + Print + Sync>(

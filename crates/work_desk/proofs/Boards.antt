@@ -192,18 +192,22 @@ module _ {S : Type 0} (holds : S → Ground → List PlainEntry → ℕ → Type
       (p.0, subst (λ (z : Shared). HasStepped {S = S} {E = E} j z.over t (Ok e) (items_of b') (items_of z)) view p.1)
 
 module _ {S E : Type 0} where
-  pub finish_stale : (question : List PlainEntry → Option ℕ) (b old : Shared) (ys : Items) (j : ℕ) (t : Ticket S) (e : ℕ) → IsShared b → b ≡ old → question b.history ≡ Some e → HasGivenBack j old.over t ys (items_of old)
-      → HasFinished {S = S} {E = E} question j old.over t (Ok (Stale e)) ys (items_of old)
-  finish_stale question b old ys j t e h view is back = record {
+  pub finish_stale : (question : List PlainEntry → Option ℕ) (planned : Ground → List PlainEntry → ℕ → Type 0) (b old : Shared) (ys : Items) (j : ℕ) (t : Ticket S) (e : ℕ) → IsShared b → b ≡ old → question b.history ≡ Some e → HasGivenBack j old.over t ys (items_of old)
+      → HasFinished {S = S} {E = E} question planned j old.over t (Ok (Stale e)) ys (items_of old)
+  finish_stale question planned b old ys j t e h view is back = record {
     now = back.now;
     adds = back.adds;
     answer = ap question (ap (λ (z : Shared). entries_in (items_of z)) (sym view) ∙ told_history b h) ∙ is;
+    valid = tt;
   }
 
-  pub finish_stepped : {F : Type 0} (question : List PlainEntry → Option ℕ) (b old : Shared) (ys : Items) (j : ℕ) (t : Ticket S) (e : ℕ) → IsShared b → b ≡ old → question b.history ≡ None → HasStepped {S = S} {E = F} j old.over t (Ok e) ys (items_of old)
-      → HasFinished {S = S} {E = E} question j old.over t (Ok (Stepped e)) ys (items_of old)
-  finish_stepped question b old ys j t e h view is step = record {
-    now = step.now;
-    adds = step.adds;
-    answer = (ap question (ap (λ (z : Shared). entries_in (items_of z)) (sym view) ∙ told_history b h) ∙ is, step.answer);
-  }
+  pub finish_stepped : {F : Type 0} (question : List PlainEntry → Option ℕ) (planned : Ground → List PlainEntry → ℕ → Type 0) (b old : Shared) (ys : Items) (j : ℕ) (t : Ticket S) (e : ℕ) → IsShared b → b ≡ old → question b.history ≡ None → planned b.over b.history t.update
+      → HasStepped {S = S} {E = F} j old.over t (Ok e) ys (items_of old) → HasFinished {S = S} {E = E} question planned j old.over t (Ok (Stepped e)) ys (items_of old)
+  finish_stepped question planned b old ys j t e h view is plan step =
+      let told : entries_in (items_of old) ≡ b.history = ap (λ (z : Shared). entries_in (items_of z)) (sym view) ∙ told_history b h in
+      record {
+        now = step.now;
+        adds = step.adds;
+        answer = (ap question told ∙ is, step.answer);
+        valid = subst (λ (y : Ground × List PlainEntry). planned y.0 y.1 t.update) (λ k. ((view k).over, sym told k)) plan;
+      }

@@ -136,9 +136,9 @@ module _ {S E : Type 0} where
       → sum_made_by gifts now after + sum_made_by returns j before ≡ sum_made_by gifts j before + sum_made_by returns now after + given_by q
   next_held j now g r q before after same is a = let c = next_turn j now g r q before after same is a in omega (arith, c.0, c.1)
 
-  pub finish_turn : (question : List PlainEntry → Option ℕ) (j now : ℕ) (g : Ground) (t : Ticket S) (r q : Result Finished E) (before after : Items) → now ≡ j → r ≡ q → AfterOthers j before (HasFinished question j g t r after)
+  pub finish_turn : (question : List PlainEntry → Option ℕ) (planned : Ground → List PlainEntry → ℕ → Type 0) (j now : ℕ) (g : Ground) (t : Ticket S) (r q : Result Finished E) (before after : Items) → now ≡ j → r ≡ q → AfterOthers j before (HasFinished question planned j g t r after)
       → (sum_made_by gifts now after ≡ sum_made_by gifts j before) × (sum_made_by returns now after ≡ sum_made_by returns j before + returned_by q)
-  finish_turn question j now g t r q before after same is a =
+  finish_turn question planned j now g t r q before after same is a =
       let h = a.then in
       let c = finish_gifts h.now j t r in
       let others : ((w : Item Ground PlainEntry → ℕ) → sum_made_by w j (before ++ a.others) ≡ sum_made_by w j before) = λ w. sum_made_by-follows w j before (before ++ a.others) (a.others, refl, a.unmade) in (

@@ -1,6 +1,6 @@
 -- Moves in one turn: each makes a longer record, in which no ticket more is out.
-use Rattle.std.proofs.Common.{◌≡◌, ◌∙◌, ap, sym, refl, subst, arith, ℕ, zero, suc, ◌+◌, add-one, add-zero, List, [], ◌∷◌, ◌++◌, append-nil, append_assoc, Some, None, Bool, true, false, not, ◌||◌, ◌==◌, eq-eqb, Result, Ok, Err}
-use Rattle.std.specs.Prelude.{if◌then◌else◌, ◌&&◌, IfOk}
+use Rattle.std.proofs.Common.{◌≡◌, ◌∙◌, ap, sym, refl, subst, arith, ℕ, zero, suc, ◌+◌, add-one, add-zero, List, [], ◌∷◌, ◌++◌, append-nil, append_assoc, Some, Bool, true, false, not, ◌||◌, ◌==◌, eq-eqb, Result}
+use Rattle.std.specs.Prelude.{if◌then◌else◌, ◌&&◌}
 use Rattle.std.proofs.lemmas.Bool.{both_ways, and_parts}
 use Rattle.std.proofs.lemmas.Option.{same_Some}
 use mathlib.Core.List.{IsPrefix}
@@ -14,7 +14,7 @@ use Rattle.work_lock.proofs.Histories.{sum_made_by-append, sum_made_by-follows}
 use Rattle.def_record.specs.declared.item.Item.{Item}
 use Rattle.def_record.specs.declared.item.Mark.{Mark}
 use Rattle.def_record.specs.declared.item.Mark.TheVariants.{Next, Giving, Returning}
-use Rattle.def_record.specs.Items.{ItemOf, Record, made}
+use Rattle.def_record.specs.Items.{Record, made}
 use Rattle.def_record.specs.Tickets.{Ticket}
 use Rattle.def_record.specs.Records.{Now, next_ticket, after_items}
 use Rattle.def_record.specs.Stays.{IsOut}

@@ -26,10 +26,11 @@ module _ {C S P : Type 0} (over : C → Ground) where
   abbrev pub Stretches : {E : Type 0} → Desk C S P → DeskSeat → DeskSeat → Result Stretch E → Type 0
   Stretches d s s' r = AfterOthers (number_of s) (seen_of s) (HasStretched (number_of s) (over (core_of d)) r (seen_of s'))
 
-  -- What `finish` does, where this tells the first entry past so many by which the plan is stale.
-  abbrev pub Finishes : {E : Type 0} → (Ground → List PlainEntry → ℕ → Option ℕ) → Desk C S P → DeskSeat → DeskSeat → Ticket S → Result Finished E → Type 0
-  Finishes question d s s' t r =
-      AfterOthers (number_of s) (seen_of s) (HasFinished (λ H. question (over (core_of d)) H t.stamp) (number_of s) (over (core_of d)) t r (seen_of s'))
+  -- What `finish` does. The question tells the first entry past so many by which the plan is stale, and this holds where the plan is the step.
+  abbrev pub Finishes : {E : Type 0} → (Ground → List PlainEntry → ℕ → Option ℕ) → (Ground → List PlainEntry → ℕ → Type 0)
+      → Desk C S P → DeskSeat → DeskSeat → Ticket S → Result Finished E → Type 0
+  Finishes question planned d s s' t r =
+      AfterOthers (number_of s) (seen_of s) (HasFinished (λ H. question (over (core_of d)) H t.stamp) planned (number_of s) (over (core_of d)) t r (seen_of s'))
 
   -- What `give_back` adds.
   abbrev pub TakesBack : Desk C S P → DeskSeat → DeskSeat → Ticket S → Type 0

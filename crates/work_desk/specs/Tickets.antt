@@ -24,6 +24,11 @@ abbrev pub IsFinish : Option ℕ → Items → Finished → Type 0
 IsFinish question ys (Stepped e) = (question ≡ None) × (e ≡ length (entries_in ys))
 IsFinish question ys (Stale e) = question ≡ Some e
 
+-- A fact, if the step was made.
+abbrev pub IfStepped : Type 0 → Finished → Type 0
+IfStepped P (Stepped e) = P
+IfStepped P (Stale e) = Unit {0}
+
 module _ {S : Type 0} where
   -- The ticket as the record has it, where it was given to the seat j and no step was made by it.
   abbrev pub ticket_for : ℕ → Ticket S → record_tickets.Ticket
@@ -76,11 +81,14 @@ module _ {S : Type 0} where
   finish_added j t n (Ok (Stale e)) = back_items (ticket_for j t)
   finish_added j t n (Err e) = []
 
-  -- `finish` of the seat j with the ticket, from these items to those, where this tells the first entry by which the plan is stale.
-  pub record HasFinished {E : Type 0} (question : List PlainEntry → Option ℕ) (j : ℕ) (g : Ground) (t : Ticket S) (r : Result Finished E) (ys xs : Items) : Type 0 where
+  -- `finish` of the seat j with the ticket, from these items to those. The question tells the first entry by which the plan is stale, and
+  -- this holds of the updates and states of which the plan is the step.
+  pub record HasFinished {E : Type 0} (question : List PlainEntry → Option ℕ) (planned : Ground → List PlainEntry → ℕ → Type 0) (j : ℕ) (g : Ground) (t : Ticket S) (r : Result Finished E) (ys xs : Items) : Type 0 where
     pub now : Now (machine g)
     pub adds : Adds j g xs ys now (finish_added j t now r)
     pub answer : IfOk r (IsFinish (question (entries_in xs)) ys)
+    -- a step goes in only if the plan is the step of the ticket's update here
+    pub valid : IfOk r (IfStepped (planned g (entries_in xs) t.update))
 
   -- What a step with the ticket adds.
   abbrev pub step_added : {E : Type 0} {M : Machine} → ℕ → Ticket S → Now M → Result ℕ E → Record M
@@ -116,8 +124,8 @@ module _ {S : Type 0} where
   abbrev pub StepOn : {E : Type 0} → ℕ → Shared → Shared → Ticket S → Result ℕ E → Type 0
   StepOn j b b' t r = HasStepped j b.over t r (items_of b') (items_of b)
 
-  abbrev pub FinishOn : {E : Type 0} → (Ground → List PlainEntry → ℕ → Option ℕ) → ℕ → Shared → Shared → Ticket S → Result Finished E → Type 0
-  FinishOn question j b b' t r = HasFinished (λ H. question b.over H t.stamp) j b.over t r (items_of b') (items_of b)
+  abbrev pub FinishOn : {E : Type 0} → (Ground → List PlainEntry → ℕ → Option ℕ) → (Ground → List PlainEntry → ℕ → Type 0) → ℕ → Shared → Shared → Ticket S → Result Finished E → Type 0
+  FinishOn question planned j b b' t r = HasFinished (λ H. question b.over H t.stamp) planned j b.over t r (items_of b') (items_of b)
 
   -- `give_back` of the seat j with the ticket.
   abbrev pub BackOn : ℕ → Shared → Shared → Ticket S → Type 0

@@ -247,7 +247,8 @@ impl<C: Core> Board<C> {
         requires out { IsOutOn C.is_snapshot self.old seat ticket }
         requires plan { IsPlanFor C.is_snapshot C.is_plan ticket plan }
         ensures over { self.new.over ≡ self.old.over }
-        ensures finish { FinishOn (C.stale_since plan) seat self.old self.new ticket result }
+        ensures finish { FinishOn (C.stale_since plan) (C.is_plan plan) seat self.old self.new
+            ticket result }
         ensures out { IfErr result (λ e. IsOutOn C.is_snapshot self.new seat e.0) }
         ensures same { IfErr result (λ e. e.0 ≡ ticket) }
     {

@@ -120,8 +120,8 @@ impl<C: Core> Desk<C> {
         requires plan { IsPlanFor C.is_snapshot C.is_plan ticket plan }
         ensures own { IsSeatOf C.over C.history self.now seat.new }
         ensures place { place_of seat.new ≡ place_of seat.old }
-        ensures finish { Finishes C.over (C.stale_since plan) self.now seat.old seat.new ticket
-            result }
+        ensures finish { Finishes C.over (C.stale_since plan) (C.is_plan plan) self.now
+            seat.old seat.new ticket result }
         ensures out { IfErr result (λ e. IsOutAt C.over C.is_snapshot self.now seat.new e.0) }
         ensures same { IfErr result (λ e. e.0 ≡ ticket) }
     {

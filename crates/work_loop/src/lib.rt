@@ -1,4 +1,4 @@
-//! The loop of a worker over any bench, and the gates that a test can hold it at.
+//! The loop of a worker over any bench, and the gates that can hold it.
 //!
 //! A bench hands out tickets; a worker, with a seat of its own, takes one, works out its plan without the bench, and hands the plan in. `Bench` says what such a bench promises, `work` is the loop of one worker, a `Gate` is passed before and after each ticket's work, and `Places` say how many workers are at work at once.
 #![tactic(auto)]
@@ -15,7 +15,7 @@ mod workers;
 
 pub use crate::bench::{Bench, Offer, Received};
 pub use crate::crews::work_all;
-pub use crate::gates::{Gate, MeetGate, OpenGate};
+pub use crate::gates::{Gate, OpenGate};
 pub use crate::places::Places;
 pub use crate::watch::Watch;
 pub use crate::worker::work;

@@ -1,4 +1,7 @@
 // How many pieces of small work a worker lets its bench do at once.
+ghost use Rattle.std.specs.Prelude.{◌≡◌, ◌≤◌, false};
+
+use std::marker::Model;
 
 // So many pieces in a row have to be small, at first, before the bench is let.
 const ROW: u64 = 2;
@@ -12,7 +15,7 @@ const FIRST: u64 = 4;
 // How many at most.
 const MOST: u64 = 64;
 
-/// What a worker has found of late. Where some pieces in a row were small the bench does them itself, ever more of them at once. Where
+/// What a worker has found of late; contracts see how many pieces the bench may do now. Where some pieces in a row were small the bench does them itself, ever more of them at once. Where
 /// it was let in vain a row of twice the length is wanted before it is let again, so that large pieces are hardly ever done by the bench.
 #[derive(Drop)]
 pub(crate) struct Pace {
@@ -22,8 +25,20 @@ pub(crate) struct Pace {
     reach: u64,
 }
 
+impl Model for Pace {
+    ghost use Rattle.std.specs.Prelude.{ℕ, ◌≤◌};
+
+    ghost Value = { ℕ };
+
+    ghost view = { λ p. p.most };
+
+    ghost invariant = { λ p. (p.most ≤ 64) × (p.reach ≤ 64) × (1 ≤ p.wanted) };
+}
+
 impl Pace {
-    pub(crate) fn new() -> Pace {
+    pub(crate) fn new() -> Pace
+        ensures none { result ≡ 0 }
+    {
         Pace {
             most: 0,
             row: 0,
@@ -33,12 +48,17 @@ impl Pace {
     }
 
     /// How many pieces the bench may do now.
-    pub(crate) fn most(&self) -> u64 {
+    pub(crate) fn most(&self) -> u64
+        ensures now { result ≡ self.now }
+        ensures few { result ≤ 64 }
+    {
         self.most
     }
 
     /// The worker has worked out a piece, and it was small, or not.
-    pub(crate) fn planned(&mut self, small: bool) {
+    pub(crate) fn planned(&mut self, small: bool)
+        ensures large { small ≡ false → self.new ≡ 0 }
+    {
         self.row = if small { self.row.saturating_add(1) } else { 0 };
         self.most = if self.row < self.wanted {
             0
@@ -48,7 +68,9 @@ impl Pace {
     }
 
     /// The bench has moved, and there may be more at once, or not.
-    pub(crate) fn moved(&mut self, more: bool) {
+    pub(crate) fn moved(&mut self, more: bool)
+        ensures last { more ≡ false → self.new ≡ 0 }
+    {
         if more && self.most > 0 {
             if self.reach == MOST {
                 self.wanted = 1;

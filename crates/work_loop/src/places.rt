@@ -1,5 +1,7 @@
 // How many workers are at work at once.
 
+ghost use Rattle.std.specs.Prelude.{◌≤◌};
+
 use std::sync::atomic::{AtomicU64, Ordering};
 use std::thread::{Threads, available_parallelism};
 
@@ -17,7 +19,9 @@ pub struct Places {
 
 impl Places {
     /// All places, each of them free.
-    pub fn new<R: Threads>(rt: &R) -> Places {
+    pub fn new<R: Threads>(rt: &R) -> Places
+        ensures two { 2 ≤ result.most }
+    {
         let most = match available_parallelism(rt) {
             Ok(processors) => FEWEST.max(processors.get() as u64),
             Err(_) => FEWEST,

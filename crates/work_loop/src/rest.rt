@@ -1,6 +1,8 @@
 // How a worker passes the time when it gains nothing by going on at once.
+ghost use Rattle.std.specs.Prelude.{◌≡◌, ◌≤◌, ◌+◌, min};
 
 use crossbeam_utils::Backoff;
+use std::marker::Model;
 use std::sync::Wait;
 use std::sync::atomic::AtomicU64;
 use std::time::Duration;
@@ -11,7 +13,7 @@ const NAP_MICROS: u64 = 16;
 // How often a nap is doubled at most.
 const DOUBLINGS: u32 = 6;
 
-/// What a worker has done in vain since it last did something of use. A plan that comes too late, or a look for work where there is none,
+/// What a worker has done in vain since it last did something of use; contracts see how often its next nap is doubled. A plan that comes too late, or a look for work where there is none,
 /// takes the lock from those who get on; so a worker that meets either again and again sleeps for ever longer, and lets them.
 #[derive(Drop)]
 pub(crate) struct Rest {
@@ -21,8 +23,20 @@ pub(crate) struct Rest {
     vain: u32,
 }
 
+impl Model for Rest {
+    ghost use Rattle.std.specs.Prelude.{ℕ, ◌≤◌};
+
+    ghost Value = { ℕ };
+
+    ghost view = { λ r. r.vain };
+
+    ghost invariant = { λ r. r.vain ≤ 6 };
+}
+
 impl Rest {
-    pub(crate) fn new() -> Rest {
+    pub(crate) fn new() -> Rest
+        ensures none { result ≡ 0 }
+    {
         Rest {
             backoff: Backoff::new(),
             bell: AtomicU64::new(0),
@@ -31,13 +45,17 @@ impl Rest {
     }
 
     /// Something was done, and there may be more to do at once.
-    pub(crate) fn end(&mut self) {
+    pub(crate) fn end(&mut self)
+        ensures none { self.new ≡ 0 }
+    {
         self.backoff.reset();
         self.vain = 0;
     }
 
     /// A plan came too late. The first in a row costs no nap: the next may well be in time.
-    pub(crate) fn behind<R: Wait>(&mut self, rt: &R) {
+    pub(crate) fn behind<R: Wait>(&mut self, rt: &R)
+        ensures longer { self.new ≡ min (self.old + 1) 6 }
+    {
         if self.vain > 0 {
             self.nap(rt);
         }
@@ -45,7 +63,9 @@ impl Rest {
     }
 
     /// There was nothing to do.
-    pub(crate) fn idle<R: Wait>(&mut self, rt: &R) {
+    pub(crate) fn idle<R: Wait>(&mut self, rt: &R)
+        ensures longer { self.old ≤ self.new }
+    {
         if self.backoff.is_completed() {
             self.nap(rt);
             self.count();
@@ -55,12 +75,16 @@ impl Rest {
     }
 
     /// There was no place to work at.
-    pub(crate) fn stand_by<R: Wait>(&mut self, rt: &R) {
+    pub(crate) fn stand_by<R: Wait>(&mut self, rt: &R)
+        ensures longer { self.new ≡ min (self.old + 1) 6 }
+    {
         self.nap(rt);
         self.count();
     }
 
-    fn count(&mut self) {
+    fn count(&mut self)
+        ensures longer { self.new ≡ min (self.old + 1) 6 }
+    {
         self.vain = self.vain.saturating_add(1).min(DOUBLINGS);
     }
 

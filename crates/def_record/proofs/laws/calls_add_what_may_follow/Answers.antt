@@ -1,7 +1,7 @@
-use Rattle.def_machine.specs.Small.{small}
-use Rattle.def_machine.proofs.SmallLaws.{small_laws}
+use Rattle.def_steps.specs.Chase.{caused, caused_chase}
+use Rattle.def_steps.proofs.ChaseLaws.{chase_laws}
 use Rattle.def_record.proofs.Calling.{call_law}
 use Rattle.def_record.proofs.laws.calls_add_what_may_follow.Goals as goal
 
 pub returns : goal.returns
-returns c = λ budget some. call_law (small budget) (small_laws budget some)
+returns c = λ ms budget some. call_law (caused_chase ms budget) (chase_laws caused ms budget some)

@@ -1,4 +1,4 @@
-use Rattle.std.proofs.Common.{◌≡◌, ◌∙◌, ap, sym, refl, subst, arith, [], ◌∷◌, ◌++◌, Some}
+use Rattle.std.proofs.Common.{◌≡◌, ◌∙◌, ap, sym, subst, arith, [], ◌∷◌, ◌++◌, Some}
 use Rattle.def_record.specs.declared.item.Mark.TheVariants.{Next}
 use Rattle.work_desk.specs.Shared.{Shared}
 use Rattle.work_desk.specs.Cores.{lowest_waiting}

@@ -1,8 +1,6 @@
-use Rattle.std.proofs.Common.{◌≡◌, ◌∙◌, ap, sym, subst, Option, Some, None}
-use Rattle.std.specs.Prelude.{IfSome}
+use Rattle.std.proofs.Common.{◌≡◌, ◌∙◌, ap, sym, subst, Some}
 use Rattle.work_desk.specs.Shared.{Shared}
 use Rattle.work_desk.specs.Cores.{lowest_idle, lowest_waiting}
-use Rattle.work_desk.specs.Stretches.{Delivering, Stepping}
 use Rattle.work_desk.proofs.board.Board.move_lowest.Goals as goal
 
 pub deliver_first-requires : goal.deliver_first-requires

@@ -27,6 +27,6 @@ returns-clause-finish g c =
     record {
       others = follows.0;
       unmade = follows.2;
-      then = subst (λ (y : ℕ × Ground × Items × Items). HasFinished (λ H. g.C.Core.stale_since c.args.plan y.1 H c.args.ticket.stamp) y.0 y.1 c.args.ticket c.finish-finished.result y.2 y.3)
+      then = subst (λ (y : ℕ × Ground × Items × Items). HasFinished (λ H. g.C.Core.stale_since c.args.plan y.1 H c.args.ticket.stamp) (g.C.Core.is_plan c.args.plan) y.0 y.1 c.args.ticket c.finish-finished.result y.2 y.3)
           (λ k. (number k, over k, sym c.close_turn.ensures.seen k, sym follows.1 k)) c.finish-finished.ensures.finish;
     }

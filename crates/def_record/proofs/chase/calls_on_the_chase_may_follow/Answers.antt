@@ -1,7 +1,0 @@
-use Rattle.def_steps.specs.Chase.{caused, caused_chase}
-use Rattle.def_steps.proofs.ChaseLaws.{chase_laws}
-use Rattle.def_record.proofs.Calling.{call_law}
-use Rattle.def_record.proofs.chase.calls_on_the_chase_may_follow.Goals as goal
-
-pub returns : goal.returns
-returns c = λ ms budget some. call_law (caused_chase ms budget) (chase_laws caused ms budget some)
