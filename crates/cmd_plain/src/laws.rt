@@ -13,7 +13,7 @@ ghost use Rattle.def_language.specs.Sessions.{SessionData};
 ghost use Rattle.run_laws.specs.Kept.{IsRunnable};
 
 use def_language::spelled_sessions_are_valid;
-use run_journal::damaged_bytes_are_no_journal;
+use run_journal::{damaged_bytes_are_no_journal, inputs_are_journals_or_damaged};
 use run_laws::runs_meet_their_mappings;
 
 /// Of a valid session whose base meets its mappings, `serial` writes a repository in which every mapping in force
@@ -37,7 +37,14 @@ pub fn performed_runs_write_what_holds()
     runs_meet_their_mappings();
 }
 
-/// An input is a journal or damaged and never both, so that `recover` has one status for it.
+/// Each input is a journal or damaged, so that `recover` has an output for it.
+pub fn each_input_is_recovered_or_refused()
+    ensures { (input : List ℕ) → (output : OutputView) × recovering input output }
+{
+    inputs_are_journals_or_damaged();
+}
+
+/// No input is both a journal and damaged, so that `recover` has one status for it.
 pub fn recovered_inputs_have_one_status()
     ensures { (input : List ℕ) (output other : OutputView) → recovering input output →
         recovering input other → status_of output ≡ status_of other }

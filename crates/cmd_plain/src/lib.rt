@@ -26,9 +26,10 @@ pub use crate::base::{Violated, base_refusal, base_violation};
 pub use crate::explaining::Explain;
 pub use crate::journaling::Journal;
 pub use crate::laws::{
-    performed_runs_write_what_holds, recovered_inputs_have_one_status, runs_write_what_holds,
+    each_input_is_recovered_or_refused, performed_runs_write_what_holds,
+    recovered_inputs_have_one_status, runs_write_what_holds,
 };
-pub use crate::reading::{OnSession, SessionCommand};
+pub use crate::reading::{OnSession, SessionCommand, fault_refusal};
 pub use crate::recovering::Recover;
 pub use crate::runs::{Save, Serial, ending_by};
 pub use crate::sessions::{Check, Format, Upgrade};

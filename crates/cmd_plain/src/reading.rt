@@ -4,7 +4,8 @@ ghost use Rattle.cmd_frame.specs.Outputs.{view_of};
 ghost use Rattle.def_language.specs.Faults.{wrong_text};
 ghost use Rattle.def_language.specs.Sessions.{SessionData};
 ghost use Rattle.def_language.specs.Validity.{IsSession};
-ghost use Rattle.cmd_frame.specs.Outputs.{OutputView};
+ghost use Rattle.cmd_frame.specs.Outputs.{OutputView, Refused};
+ghost use Rattle.cmd_frame.specs.declared.outputs.Refusal.TheVariants.{SessionRefused};
 ghost use Rattle.lang_reader.specs.Answers.{wrong_of};
 ghost use Rattle.lang_session.specs.Meanings.{session_of};
 ghost use Rattle.cmd_plain.specs.Commands.{fault_line, on_session_by};
@@ -43,16 +44,22 @@ fn fault_line(alloc: Global, fault: &SessionFault) -> Result<Vec<u8>, Memory>
     Ok(line)
 }
 
+/// The refusal of an input that spells no session: a line that tells its first fault.
+pub fn fault_refusal(alloc: Global, fault: &SessionFault) -> Result<Output, Memory>
+    ensures refused { IfOk result (λ output. view_of output ≡
+        Refused SessionRefused (fault_line (wrong_of fault.now))) }
+{
+    let line = fault_line(alloc, fault)?;
+    Ok(Output::Refused(Refusal::SessionRefused, line))
+}
+
 impl<C: SessionCommand> Command for OnSession<C> {
     ghost gives = { λ c. on_session_by (C.makes c.0) };
 
     fn run(&self, alloc: Global, input: &[u8]) -> Result<Output, Memory> {
         match read_session(alloc, input) {
             Ok(session) => self.0.make(alloc, session),
-            Err(ReadFailure::Fault(fault)) => Ok(Output::Refused(
-                Refusal::SessionRefused,
-                fault_line(alloc, &fault)?,
-            )),
+            Err(ReadFailure::Fault(fault)) => fault_refusal(alloc, &fault),
             Err(ReadFailure::Memory) => Err(Memory),
         }
     }

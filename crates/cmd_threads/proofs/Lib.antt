@@ -1,5 +1,6 @@
 mod Made
 mod Outputs
+mod Named
 mod Performed
 mod Delivered
 mod Told

@@ -18,6 +18,7 @@ use Rattle.lang_report.specs.Results.{serial_told}
 use Rattle.lang_session.specs.Base.{Violated, base_violation}
 use Rattle.cmd_threads.specs.Runs.{RunsTo, UnlessViolated, run_text, running}
 use Rattle.cmd_threads.specs.Written.{WroteRun}
+use Rattle.cmd_threads.proofs.Named.{names_nulls}
 
 no_text : (e : Ending) (t : List ℕ) (r : Refusal) (line : List ℕ) → Text e t ≡ Refused r line → ⊥
 no_text e t r line is = cc
@@ -63,6 +64,7 @@ ended valid leaves trace n c e source out err some most row =
       made = met.1.1;
       taken = subst (λ (t : List ℕ). Takes out t) text made.2;
       hold = leaves n s (record { session = valid all.0 s one.1; met = met.0; some = some; most = most });
+      nulls = names_nulls s (valid all.0 s one.1) met.0 n some c met.1.0 met.1.1;
     }
 
 pub written : Valid → Leaves → (trace : Bool) (n : ℕ) (c : Settings) (status : Status) (source out err : Change) → 1 ≤ n → n ≤ 1000001 → HasWritten status

@@ -8,11 +8,12 @@ use Rattle.def_history.specs.PlainEntries.{PlainEntry}
 use Rattle.run_laws.specs.Kept.{InForceHold}
 use Rattle.def_machine.specs.Updates.{Settings}
 use Rattle.lang_report.specs.Results.{serial_told}
+use Rattle.cmd_threads.specs.Nulls.{NamesNulls}
 use Rattle.cmd_threads.specs.Runs.{run_text}
 use Rattle.work_session.specs.Runs.{IsRunOf}
 
--- The source gave the whole text of a session, `out` took what is printed of a run of it, and in the repository that it tells
--- every mapping in force holds.
+-- The source gave the whole text of a session, `out` took what is printed of a run of it, in the repository that it tells
+-- every mapping in force holds, and each null there has a name of its own.
 pub record WroteRun (trace : Bool) (steps : ℕ) (c : Settings) (source out : Change) : Type 0 where
   pub input : List ℕ
   pub session : SessionData
@@ -23,3 +24,4 @@ pub record WroteRun (trace : Bool) (steps : ℕ) (c : Settings) (source out : Ch
   pub made : IsRunOf session steps c history
   pub taken : Takes out (run_text trace steps session history)
   pub hold : InForceHold session (serial_told steps session)
+  pub nulls : NamesNulls session steps c history

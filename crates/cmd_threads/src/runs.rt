@@ -18,8 +18,8 @@ use audit_trace::trace_text;
 use base_devices::{Sink, Source, read_all};
 use base_limits::Budget;
 use base_types::Memory;
-use cmd_frame::{Command, Failure, INPUT_LIMIT, Output, Status, deliver, fail};
-use cmd_plain::{Format, OnSession, base_refusal, base_violation, ending_by};
+use cmd_frame::{Failure, INPUT_LIMIT, Output, Status, deliver, fail};
+use cmd_plain::{base_refusal, base_violation, ending_by, fault_refusal};
 use core_entries::Entry;
 use lang_reader::{ReadFailure, read_session};
 use lang_report::result_text;
@@ -166,7 +166,7 @@ impl Run {
     {
         match read_session(alloc, input) {
             Ok(session) => Ok(self.make(rt, gate, alloc, &session)?),
-            Err(ReadFailure::Fault(_)) => Ok(OnSession(Format).run(alloc, input)?),
+            Err(ReadFailure::Fault(fault)) => Ok(fault_refusal(alloc, &fault)?),
             Err(ReadFailure::Memory) => Err(Memory),
         }
     }

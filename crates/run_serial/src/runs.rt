@@ -1,7 +1,6 @@
 //! The serial run of a session: its updates taken whole in turn, up to the first that stops.
 ghost use Rattle.std.specs.Prelude.{◌≡◌, ◌≤◌, ◌+◌, length, None, IfOk, OnOk};
 ghost use Rattle.def_language.specs.Checks.{rules_of};
-ghost use Rattle.chase_eval.specs.Touching.{IsTouching};
 ghost use Rattle.def_language.specs.Validity.{IsSession};
 ghost use Rattle.def_chase.specs.Repository.{IsRepository};
 ghost use Rattle.chase_update.specs.Results.{result_of};
@@ -15,7 +14,7 @@ use crate::repositories::told;
 use crate::wholes::take_whole;
 use base_limits::{Budget, Mappings};
 use base_types::Memory;
-use chase_eval::Touching;
+use chase_plan::TouchedMappings;
 use chase_update::{FinishList, SessionResult, Stop};
 use def_steps::laws::serial_scopes_agree;
 use lang_session::{Session, SessionUpdate, base_holds, sessions_suit_the_chase};
@@ -69,7 +68,7 @@ pub fn serial_over(
     let updates = session.updates.as_slice();
     budget.is_within();
     let mappings = mappings_of(session);
-    run(alloc, base, updates, &mappings, budget)
+    run(alloc, base, updates, mappings, budget)
 }
 
 // The run of these updates over the base, the first of them number 1.
@@ -77,26 +76,18 @@ fn run(
     alloc: Global,
     base: IndexedFacts,
     updates: &[SessionUpdate],
-    mappings: &Mappings<'_>,
+    mappings: Mappings<'_>,
     budget: Budget,
 ) -> Result<SessionResult, Memory>
     requires sorted { IsRepository base }
     requires few { length updates.now ≤ 1000 }
     ensures told { IfOk result (λ told.
-        result_of told ≡ told_from mappings.now budget base 1 (requests_of updates.now)) }
+        result_of told ≡ told_from mappings.entry budget base 1 (requests_of updates.now)) }
 {
     let mut finishes = FinishList::new(alloc);
     let mut facts = base;
-    let touching = Touching::of(alloc, mappings.list())?;
-    let stop = take_all(
-        alloc,
-        &mut finishes,
-        &mut facts,
-        updates,
-        mappings,
-        &touching,
-        budget,
-    )?;
+    let mappings = TouchedMappings::of(alloc, mappings)?;
+    let stop = take_all(alloc, &mut finishes, &mut facts, updates, &mappings, budget)?;
     let repository = told(alloc, facts)?;
     Ok(SessionResult {
         finishes,
@@ -112,21 +103,17 @@ fn take_all(
     finishes: &mut FinishList,
     facts: &mut IndexedFacts,
     updates: &[SessionUpdate],
-    mappings: &Mappings<'_>,
-    touching: &Touching,
+    mappings: &TouchedMappings<'_>,
     budget: Budget,
 ) -> Result<Option<Stop>, Memory>
     requires sorted { IsRepository facts.old }
-    requires touching { IsTouching mappings.now touching.now }
     requires few { length updates.now ≤ 1000 }
     ensures told { IfOk result (HasTakenAll mappings.now budget updates.now
         finishes.old facts.old finishes.new facts.new) }
 {
     let mut number = 1;
     for update in updates {
-        if let Some(stop) = turn(
-            alloc, finishes, facts, number, update, mappings, touching, budget,
-        )? {
+        if let Some(stop) = turn(alloc, finishes, facts, number, update, mappings, budget)? {
             return Ok(Some(stop));
         }
         number += 1;
@@ -142,17 +129,15 @@ fn turn(
     facts: &mut IndexedFacts,
     number: u32,
     update: &SessionUpdate,
-    mappings: &Mappings<'_>,
-    touching: &Touching,
+    mappings: &TouchedMappings<'_>,
     budget: Budget,
 ) -> Result<Option<Stop>, Memory>
     requires sorted { IsRepository facts.old }
-    requires touching { IsTouching mappings.now touching.now }
     ensures sorted { OnOk result (IsRepository facts.new) }
     ensures told { IfOk result (HasTaken mappings.now budget number update.now
         finishes.old facts.old finishes.new facts.new) }
 {
-    let rest = take_whole(alloc, number, update, facts, mappings, touching, budget)?;
+    let rest = take_whole(alloc, number, update, facts, mappings, budget)?;
     match rest.lack {
         Some(lack) => Ok(Some(stop(alloc, rest.program, number, lack)?)),
         None => {

@@ -1,7 +1,6 @@
 //! The trail of each update of the serial run: the writes that it leaves, in their order.
 ghost use Rattle.std.specs.Prelude.{◌≡◌, ◌≤◌, length, map, true, is_some, None, Some, IfOk, OnOk};
 ghost use Rattle.std.specs.Option.{option_map};
-ghost use Rattle.chase_eval.specs.Touching.{IsTouching};
 ghost use Rattle.def_language.specs.Validity.{IsSession};
 ghost use Rattle.def_chase.specs.Repository.{IsRepository};
 ghost use Rattle.lang_session.specs.Base.{base_violation};
@@ -16,7 +15,7 @@ use crate::runs::mappings_of;
 use crate::wholes::take_whole;
 use base_limits::{Budget, Mappings};
 use base_types::{List, Memory, TryCopy, WriteList};
-use chase_eval::Touching;
+use chase_plan::TouchedMappings;
 use chase_update::{Attempt, Outcome, Stop};
 use lang_session::{Session, SessionUpdate, base_holds, sessions_suit_the_chase};
 use set_facts::IndexedFacts;
@@ -51,7 +50,7 @@ pub fn trails(
     let updates = session.updates.as_slice();
     budget.is_within();
     let mappings = mappings_of(session);
-    run(alloc, base, updates, &mappings, budget)
+    run(alloc, base, updates, mappings, budget)
 }
 
 // What these updates leave over the base, the first of them number 1.
@@ -59,27 +58,19 @@ fn run(
     alloc: Global,
     base: IndexedFacts,
     updates: &[SessionUpdate],
-    mappings: &Mappings<'_>,
+    mappings: Mappings<'_>,
     budget: Budget,
 ) -> Result<Trailed, Memory>
     requires sorted { IsRepository base }
     requires few { length updates.now ≤ 1000 }
     ensures left { IfOk result (λ left.
-        trailed_of left ≡ trailed_from mappings.now budget base 1
+        trailed_of left ≡ trailed_from mappings.entry budget base 1
         (map request_of (map update_of updates.now))) }
 {
     let mut trails = TrailList::new(alloc);
     let mut facts = base;
-    let touching = Touching::of(alloc, mappings.list())?;
-    let stop = take_all(
-        alloc,
-        &mut trails,
-        &mut facts,
-        updates,
-        mappings,
-        &touching,
-        budget,
-    )?;
+    let mappings = TouchedMappings::of(alloc, mappings)?;
+    let stop = take_all(alloc, &mut trails, &mut facts, updates, &mappings, budget)?;
     Ok(Trailed { trails, stop })
 }
 
@@ -89,21 +80,17 @@ fn take_all(
     trails: &mut TrailList,
     facts: &mut IndexedFacts,
     updates: &[SessionUpdate],
-    mappings: &Mappings<'_>,
-    touching: &Touching,
+    mappings: &TouchedMappings<'_>,
     budget: Budget,
 ) -> Result<Option<Stop>, Memory>
     requires sorted { IsRepository facts.old }
-    requires touching { IsTouching mappings.now touching.now }
     requires few { length updates.now ≤ 1000 }
     ensures left { IfOk result (HasTrailedAll mappings.now budget updates.now
         trails.old facts.old trails.new) }
 {
     let mut number = 1;
     for update in updates {
-        if let Some(stop) = turn(
-            alloc, trails, facts, number, update, mappings, touching, budget,
-        )? {
+        if let Some(stop) = turn(alloc, trails, facts, number, update, mappings, budget)? {
             return Ok(Some(stop));
         }
         number += 1;
@@ -118,17 +105,15 @@ fn turn(
     facts: &mut IndexedFacts,
     number: u32,
     update: &SessionUpdate,
-    mappings: &Mappings<'_>,
-    touching: &Touching,
+    mappings: &TouchedMappings<'_>,
     budget: Budget,
 ) -> Result<Option<Stop>, Memory>
     requires sorted { IsRepository facts.old }
-    requires touching { IsTouching mappings.now touching.now }
     ensures sorted { OnOk result (IsRepository facts.new) }
     ensures left { IfOk result (HasTrailed mappings.now budget number update.now
         trails.old facts.old trails.new facts.new) }
 {
-    let rest = take_whole(alloc, number, update, facts, mappings, touching, budget)?;
+    let rest = take_whole(alloc, number, update, facts, mappings, budget)?;
     match rest.lack {
         Some(lack) => Ok(Some(stop(alloc, rest.program, number, lack)?)),
         None => {

@@ -1,7 +1,6 @@
 //! An update taken whole: steps up to its end, or to a question where something is lacking.
 ghost use Rattle.std.specs.Prelude.{◌≡◌, ◌<◌, [], IfOk, OnOk, None, is_some, is_none};
 ghost use Rattle.base_types.specs.Contents.{choices_of};
-ghost use Rattle.chase_eval.specs.Touching.{IsTouching};
 ghost use Rattle.def_chase.specs.Repository.{IsRepository};
 ghost use Rattle.def_steps.specs.Attempts.{question_in, outcome_in};
 ghost use Rattle.run_serial.specs.Meanings.{RestsFrom, RestsWhole};
@@ -9,7 +8,8 @@ ghost use Rattle.run_step.specs.Turns.{view_of};
 
 use base_limits::{Budget, Mappings};
 use base_types::{ChoiceList, Memory};
-use chase_eval::{Touching, WatchedView};
+use chase_eval::WatchedView;
+use chase_plan::TouchedMappings;
 use chase_update::{Attempt, Lack};
 use lang_session::SessionUpdate;
 use run_step::{Next, step, what_next};
@@ -29,12 +29,10 @@ pub(crate) fn take_whole(
     number: u32,
     update: &SessionUpdate,
     facts: &IndexedFacts,
-    mappings: &Mappings<'_>,
-    touching: &Touching,
+    mappings: &TouchedMappings<'_>,
     budget: Budget,
 ) -> Result<Rest, Memory>
     requires sorted { IsRepository facts.now }
-    requires touching { IsTouching mappings.now touching.now }
     ensures rest { IfOk result (RestsWhole mappings.now budget facts.now number update.now) }
     ensures between { IfOk result (λ rest. rest.program.reading ≡ None) }
     ensures asked { IfOk result (λ r. is_some (question_in r.program.attempt.phase) ≡
@@ -50,7 +48,6 @@ pub(crate) fn take_whole(
         &update.answers,
         facts,
         mappings,
-        touching,
         budget,
     ) {
         Ok(lack) => Ok(Rest { program, lack }),
@@ -68,12 +65,10 @@ fn go_on(
     program: &mut Attempt,
     answers: &ChoiceList,
     facts: &IndexedFacts,
-    mappings: &Mappings<'_>,
-    touching: &Touching,
+    mappings: &TouchedMappings<'_>,
     budget: Budget,
 ) -> Result<Option<Lack>, Memory>
     requires sorted { IsRepository facts.now }
-    requires touching { IsTouching mappings.now touching.now }
     requires between { program.old.reading ≡ None }
     requires fresh { program.old.attempt.own ≡ [] }
     requires left { program.old.attempt.steps < budget }
@@ -85,8 +80,9 @@ fn go_on(
     ensures ended { IfOk result (λ lack. is_some (outcome_in program.new.attempt.phase) ≡
         is_none lack) }
 {
+    let touching = mappings.touching();
     let mut view = WatchedView::with(alloc, facts, mappings.list(), program.direction(), touching)?;
-    go_with(alloc, program, &mut view, answers, mappings, budget)
+    go_with(alloc, program, &mut view, answers, mappings.all(), budget)
 }
 
 // The same with a view of the repository, which is of these mappings, in the update's direction, and sees its writes.

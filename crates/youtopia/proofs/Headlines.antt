@@ -14,6 +14,7 @@ use Rattle.def_language.specs.Lines.{Spells}
 use Rattle.def_language.specs.Sessions.{SessionData}
 use Rattle.run_laws.specs.Kept.{InForceHold}
 use Rattle.lang_report.specs.Results.{serial_told}
+use Rattle.cmd_threads.specs.Nulls.{NamesNulls}
 use Rattle.cmd_threads.specs.Runs.{run_text, running}
 use Rattle.cmd_threads.specs.Written.{WroteRun}
 use Rattle.work_session.specs.Runs.{IsRunOf}
@@ -77,7 +78,8 @@ told_of o source out input s status spelled fine ended wrote =
     let made = subst (λ (t : SessionData). IsRunOf t o.steps (settings_in o) wrote.history) one wrote.made in
     let taken = subst (λ (t : SessionData). Takes out (run_text o.trace o.steps t wrote.history)) one wrote.taken in
     let hold = subst (λ (t : SessionData). InForceHold t (serial_told o.steps t)) one wrote.hold in
-    record { history = wrote.history; made = made; taken = taken; ending = ended; hold = hold }
+    let nulls = subst (λ (t : SessionData). NamesNulls t o.steps (settings_in o) wrote.history) one wrote.nulls in
+    record { history = wrote.history; made = made; taken = taken; ending = ended; hold = hold; nulls = nulls }
 
 by_row : RunHeld → OneRun → (o : Options) (status : Status) (source out err : Change) (input : List ℕ) (s : SessionData) → 1 ≤ o.steps → o.steps ≤ 300
     → Spells input s → base_violation s ≡ None → NothingFails input source out → Row status (makes Run o) source out err

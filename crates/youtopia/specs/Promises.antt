@@ -18,6 +18,7 @@ use Rattle.def_language.specs.Statements.{WrittenFact}
 use Rattle.def_history.specs.PlainEntries.{PlainEntry}
 use Rattle.run_laws.specs.Kept.{InForceHold}
 use Rattle.lang_report.specs.Results.{result_text, serial_told}
+use Rattle.cmd_threads.specs.Nulls.{NamesNulls}
 use Rattle.cmd_threads.specs.Runs.{trace_part}
 use Rattle.cmd_threads.specs.Written.{WroteRun}
 use Rattle.work_session.specs.Runs.{IsRunOf}
@@ -128,6 +129,8 @@ pub record WritesSerially (options : Options) (s : SessionData) (status : Status
   pub ending : status ≡ status_of_ending (ending_by (serial_told options.steps s).stop)
   -- every mapping in force holds in the repository written
   pub hold : InForceHold s (serial_told options.steps s)
+  -- each null there has the number of its update and its place, nulls of the base keep theirs, and no two nulls of the run fall together
+  pub nulls : NamesNulls s options.steps (settings_in options) history
 
 -- The headline. Accepted words of `run`, an input that spells a session whose base meets its mappings, and nothing fails:
 -- whatever the schedule of the workers, that is written, or memory was wanting.
