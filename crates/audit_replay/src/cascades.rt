@@ -12,7 +12,7 @@ ghost use Rattle.audit_replay.specs.Places.{AreBetween};
 use crate::conflicts::{Scene, put};
 use crate::levels::Levels;
 use crate::losses::{Losses, Numbered};
-use audit_updates::{AuditedUpdate, Deps};
+use audit_updates::AuditedUpdate;
 use base_types::{MappingList, Memory};
 use core_entries::{Cause, CauseList};
 use std::alloc::Global;
@@ -25,18 +25,17 @@ pub(crate) fn dependences<'r>(
     levels: &mut Levels,
     upper: &'r [AuditedUpdate],
     scene: Scene<'_>,
-    deps: Deps,
     firsts: &CauseList,
     losses: Losses<'r>,
 ) -> Result<CauseList, Memory>
     requires between { AreBetween upper.now }
     ensures causes { IfOk result (λ causes. AreMetDependences (rules_in scene.entry.mappings.now)
-        (deps_of deps) scene.entry.committed (readers_in firsts.now.items) (top levels.old)
-        losses.entry upper.now causes.items) }
+        (deps_of scene.entry.deps) scene.entry.committed (readers_in firsts.now.items)
+        (top levels.old) losses.entry upper.now causes.items) }
     ensures levels { OnOk result (levels.new ≡ levels.old) }
 {
     let height = levels.height();
-    let causes = dependences_above(alloc, levels, upper, scene, deps, firsts, losses)?;
+    let causes = dependences_above(alloc, levels, upper, scene, firsts, losses)?;
     levels.sink_to(height)?;
     Ok(causes)
 }
@@ -47,19 +46,18 @@ fn dependences_above<'r>(
     levels: &mut Levels,
     upper: &'r [AuditedUpdate],
     scene: Scene<'_>,
-    deps: Deps,
     firsts: &CauseList,
     mut losses: Losses<'r>,
 ) -> Result<CauseList, Memory>
     requires between { AreBetween upper.now }
     ensures causes { IfOk result (λ causes. AreMetDependences (rules_in scene.entry.mappings.now)
-        (deps_of deps) scene.entry.committed (readers_in firsts.now.items) (top levels.old)
-        losses.entry upper.now causes.items) }
+        (deps_of scene.entry.deps) scene.entry.committed (readers_in firsts.now.items)
+        (top levels.old) losses.entry upper.now causes.items) }
     ensures levels { OnOk result (RisesFrom levels.old levels.new) }
 {
     let mut causes = CauseList::new(alloc);
     'updates: for audited in upper {
-        let found = join_of(alloc, levels, audited, scene, deps, firsts, &losses)?;
+        let found = join_of(alloc, levels, audited, scene, firsts, &losses)?;
         let named = is_named(firsts, audited.number());
         let goes = either(named, found.is_some());
         put(&mut causes, found)?;
@@ -81,12 +79,12 @@ fn join_of(
     levels: &Levels,
     audited: &AuditedUpdate,
     scene: Scene<'_>,
-    deps: Deps,
     firsts: &CauseList,
     losses: &Losses<'_>,
 ) -> Result<Option<Cause>, Memory>
-    ensures join { IfOk result (IsJoinOf (rules_in scene.entry.mappings.now) (deps_of deps)
-        scene.entry.committed (readers_in firsts.now.items) (top levels.now) losses.now audited.now) }
+    ensures join { IfOk result (IsJoinOf (rules_in scene.entry.mappings.now)
+        (deps_of scene.entry.deps) scene.entry.committed (readers_in firsts.now.items)
+        (top levels.now) losses.now audited.now) }
 {
     let reader = audited.number();
     if is_named(firsts, reader) {
@@ -95,7 +93,7 @@ fn join_of(
     if !audited.is_live(scene.committed, reader) {
         return Ok(None);
     }
-    let read = losses.first_dependent(alloc, levels, audited, scene.mappings, deps)?;
+    let read = losses.first_dependent(alloc, levels, audited, scene.mappings, scene.deps)?;
     let cause = dependence_by(reader, read, losses, scene.mappings);
     Ok(cause)
 }

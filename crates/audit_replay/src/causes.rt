@@ -12,7 +12,7 @@ use crate::conflicts::{Scene, conflicts};
 use crate::levels::Levels;
 use crate::losses::Losses;
 use crate::relations::relations_of;
-use audit_updates::{AuditedUpdate, Deps};
+use audit_updates::AuditedUpdate;
 use base_types::{Memory, Write};
 use core_entries::CauseList;
 use std::alloc::Global;
@@ -24,20 +24,19 @@ pub(crate) fn causes_of_loss(
     levels: &mut Levels,
     upper: &[AuditedUpdate],
     scene: Scene<'_>,
-    deps: Deps,
     number: u32,
     trail: &[Write],
 ) -> Result<CauseList, Memory>
     requires between { AreBetween upper.now }
     ensures causes { IfOk result (λ causes. AreOfLoss (rules_in scene.entry.mappings.now)
-        (deps_of deps) scene.entry.committed number (map change_of trail.now) (top levels.old)
-        upper.now causes.items) }
+        (deps_of scene.entry.deps) scene.entry.committed number (map change_of trail.now)
+        (top levels.old) upper.now causes.items) }
     ensures levels { OnOk result (levels.new ≡ levels.old) }
 {
     let none = CauseList::new(alloc);
     let mut losses = Losses::none(alloc);
     losses.lose(number, trail)?;
-    let causes = dependences(alloc, levels, upper, scene, deps, &none, losses)?;
+    let causes = dependences(alloc, levels, upper, scene, &none, losses)?;
     Ok(causes)
 }
 
@@ -49,14 +48,13 @@ pub(crate) fn causes_of_writes(
     levels: &mut Levels,
     upper: &[AuditedUpdate],
     scene: Scene<'_>,
-    deps: Deps,
     number: u32,
     trail: &[Write],
     writes: &[Write],
 ) -> Result<CauseList, Memory>
     requires between { AreBetween upper.now }
     ensures causes { IfOk result (λ causes. AreOfWrites (rules_in scene.entry.mappings.now)
-        (deps_of deps) scene.entry.committed number (map change_of trail.now)
+        (deps_of scene.entry.deps) scene.entry.committed number (map change_of trail.now)
         (map change_of writes.now) (top levels.old) upper.now causes.items) }
     ensures levels { OnOk result (levels.new ≡ levels.old) }
 {
@@ -68,7 +66,7 @@ pub(crate) fn causes_of_writes(
     let _height = levels.height();
     levels.rise(alloc, trail)?;
     let mut causes = conflicts(alloc, levels, upper, scene, number, relations.as_slice())?;
-    let more = dependences_on(alloc, levels, upper, scene, deps, &causes)?;
+    let more = dependences_on(alloc, levels, upper, scene, &causes)?;
     levels.sink()?;
     put_all(&mut causes, more)?;
     Ok(causes)
@@ -80,20 +78,19 @@ fn dependences_on(
     levels: &mut Levels,
     upper: &[AuditedUpdate],
     scene: Scene<'_>,
-    deps: Deps,
     firsts: &CauseList,
 ) -> Result<CauseList, Memory>
     requires between { AreBetween upper.now }
     ensures causes { IfOk result (λ causes. AreDependencesOn (rules_in scene.entry.mappings.now)
-        (deps_of deps) scene.entry.committed (readers_in firsts.now.items) (top levels.old)
-        upper.now causes.items) }
+        (deps_of scene.entry.deps) scene.entry.committed (readers_in firsts.now.items)
+        (top levels.old) upper.now causes.items) }
     ensures levels { OnOk result (levels.new ≡ levels.old) }
 {
     if firsts.is_empty() {
         return Ok(CauseList::new(alloc));
     }
     let losses = Losses::none(alloc);
-    let causes = dependences(alloc, levels, upper, scene, deps, firsts, losses)?;
+    let causes = dependences(alloc, levels, upper, scene, firsts, losses)?;
     Ok(causes)
 }
 

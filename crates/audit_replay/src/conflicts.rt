@@ -12,16 +12,17 @@ ghost use Rattle.audit_replay.specs.Places.{AreBetween};
 use crate::changes::{Change, changed_read};
 use crate::levels::Levels;
 use crate::relations::is_any_met;
-use audit_updates::AuditedUpdate;
+use audit_updates::{AuditedUpdate, Deps};
 use base_types::{MappingList, Memory};
 use chase_query::Logged;
 use core_entries::{Cause, CauseList};
 use std::alloc::Global;
 
-/// What an event finds: the mappings, and how many updates were committed when it began.
+/// What an event finds: the mappings, how dependences are tested, and how many updates were committed when it began.
 #[derive(Clone, Copy)]
 pub(crate) struct Scene<'a> {
     pub(crate) mappings: &'a MappingList,
+    pub(crate) deps: Deps,
     pub(crate) committed: u32,
 }
 

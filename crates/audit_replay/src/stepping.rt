@@ -21,10 +21,9 @@ use crate::places::{above, go_to, standing_at};
 use crate::replays::Replay;
 use crate::restarts::restart_named;
 use audit_updates::{AuditedUpdate, Deps, Settings, committed, has_spent, shown};
-use base_limits::{Budget, Mappings};
 use base_types::{Memory, TryCopy, Write, WriteList};
 use chase_eval::Settled;
-use chase_plan::{Plan, plan_step};
+use chase_plan::{Chase, Footing, Plan, plan_step};
 use core_entries::{CauseList, Entry};
 use set_facts::{IndexedFacts, Overlay};
 use std::alloc::Global;
@@ -59,15 +58,15 @@ impl<'s> Replay<'s> {
         ensures err { OnErr result (IsLeftOf self.old self.new) }
     {
         let settings = self.settings;
-        let mappings = &self.mappings;
-        let budget = self.budget;
+        let chase = Chase {
+            mappings: &self.mappings,
+            budget: self.budget,
+        };
         let updates = self.updates.as_slice();
         go_to(alloc, &mut self.levels, updates, place)?;
         let levels = &mut self.levels;
         let deps = settings.deps;
-        let prepared = prepare(
-            alloc, levels, updates, place, mappings, budget, deps, before,
-        )?;
+        let prepared = prepare(alloc, levels, updates, place, &chase, deps, before)?;
         let entry = install(
             alloc,
             self.updates.as_mut_slice(),
@@ -95,28 +94,28 @@ fn prepare(
     levels: &mut Levels,
     updates: &[AuditedUpdate],
     place: usize,
-    mappings: &Mappings<'_>,
-    budget: Budget,
+    chase: &Chase<'_>,
     deps: Deps,
     before: u32,
 ) -> Result<Prepared, Memory>
     requires within { place < length updates.now }
     requires numbers { AreFrom 1 updates.now }
     requires ready { AtPlace place updates.now IsReadySomewhere }
-    requires left { AtPlace place updates.now (λ r. r.program.attempt.steps < budget) }
+    requires left { AtPlace place updates.now (λ r. r.program.attempt.steps < chase.now.budget) }
     ensures prepared { IfOk result (λ prepared. AtPlace place updates.now (λ r. IsPreparedFor
-        mappings.now budget (deps_of deps) before r (top levels.old) (drop (suc place) updates.now)
-        prepared)) }
+        chase.now.mappings.now chase.now.budget (deps_of deps) before r (top levels.old)
+        (drop (suc place) updates.now) prepared)) }
     ensures levels { OnOk result (levels.new ≡ levels.old) }
 {
     let audited = &updates[place];
     let upper = above(updates, place);
-    let plan = planned(alloc, mappings, budget, levels.facts(), audited)?;
+    let plan = planned(alloc, chase, levels.facts(), audited)?;
     let scene = Scene {
-        mappings: mappings.list(),
+        mappings: chase.mappings.list(),
+        deps,
         committed: before,
     };
-    match told_of_step(alloc, levels, audited, upper, scene, deps, &plan) {
+    match told_of_step(alloc, levels, audited, upper, scene, &plan) {
         Ok((writes, causes)) => Ok(Prepared {
             plan,
             attempt: audited.program.attempt(),
@@ -138,7 +137,6 @@ fn told_of_step(
     audited: &AuditedUpdate,
     upper: &[AuditedUpdate],
     scene: Scene<'_>,
-    deps: Deps,
     plan: &Plan,
 ) -> Result<(WriteList, CauseList), Memory>
     requires between { IsBetween audited.now.program }
@@ -146,12 +144,12 @@ fn told_of_step(
     requires above { AreBetween upper.now }
     ensures writes { IfOk result (λ told. HasWritten audited.now plan.now told.0.items) }
     ensures causes { IfOk result (λ told. AreOfStep (rules_in scene.entry.mappings.now)
-        (deps_of deps) scene.entry.committed audited.now plan.now (top levels.old) upper.now
-        told.1.items) }
+        (deps_of scene.entry.deps) scene.entry.committed audited.now plan.now (top levels.old)
+        upper.now told.1.items) }
     ensures levels { OnOk result (levels.new ≡ levels.old) }
 {
     let writes = copies(alloc, audited.written(plan))?;
-    let causes = causes_of_step(alloc, levels, audited, upper, scene, deps, plan)?;
+    let causes = causes_of_step(alloc, levels, audited, upper, scene, plan)?;
     Ok((writes, causes))
 }
 
@@ -186,51 +184,53 @@ fn install(
 // The next step of the update, which is ready, over the facts below it. It is refused only for want of memory.
 fn planned(
     alloc: Global,
-    mappings: &Mappings<'_>,
-    budget: Budget,
+    chase: &Chase<'_>,
     facts: &IndexedFacts,
     audited: &AuditedUpdate,
 ) -> Result<Plan, Memory>
     requires between { IsBetween audited.now.program }
     requires ready { IsReadySomewhere audited.now }
-    requires left { audited.now.program.attempt.steps < budget }
-    ensures planned { IfOk result (IsPlanOf mappings.now budget facts.now audited.now) }
+    requires left { audited.now.program.attempt.steps < chase.now.budget }
+    ensures planned { IfOk result (IsPlanOf chase.now.mappings.now chase.now.budget facts.now
+        audited.now) }
 {
     let mut with = Overlay::new(alloc, facts);
-    planned_over(alloc, mappings, budget, facts, &mut with, audited)
+    planned_over(alloc, chase, facts, &mut with, audited)
 }
 
 // The next step of the update, which is ready, over the facts below it, where its own writes are made in an overlay of them. It
 // is refused only for want of memory; the overlay is then one to be let go.
 fn planned_over<'f>(
     alloc: Global,
-    mappings: &Mappings<'_>,
-    budget: Budget,
+    chase: &Chase<'_>,
     facts: &'f IndexedFacts,
     with: &mut Overlay<'f, IndexedFacts>,
     audited: &AuditedUpdate,
 ) -> Result<Plan, Memory>
     requires between { IsBetween audited.now.program }
     requires ready { IsReadySomewhere audited.now }
-    requires left { audited.now.program.attempt.steps < budget }
+    requires left { audited.now.program.attempt.steps < chase.now.budget }
     requires with { with.old ≡ facts.now }
-    ensures planned { IfOk result (IsPlanOf mappings.now budget facts.now audited.now) }
+    ensures planned { IfOk result (IsPlanOf chase.now.mappings.now chase.now.budget facts.now
+        audited.now) }
 {
     with.write_all(alloc, audited.program.own().as_slice())?;
-    let mut settled = Settled::none(alloc, mappings.list().len())?;
+    let mut settled = Settled::none(alloc, chase.mappings.list().len())?;
     let answer = audited.next_answer();
     let program = &audited.program;
     let below = Overlay::new(alloc, facts);
     let branch = program.copy(alloc)?;
+    let footing = Footing {
+        below: &below,
+        with: &*with,
+    };
     plan_step(
         alloc,
         program,
         branch,
         answer,
-        mappings,
-        budget,
-        &below,
-        with,
+        chase,
+        &footing,
         &mut settled,
     )
 }
@@ -243,26 +243,25 @@ fn causes_of_step(
     audited: &AuditedUpdate,
     upper: &[AuditedUpdate],
     scene: Scene<'_>,
-    deps: Deps,
     plan: &Plan,
 ) -> Result<CauseList, Memory>
     requires between { IsBetween audited.now.program }
     requires planned { IsBetween plan.now.program }
     requires above { AreBetween upper.now }
     ensures causes { IfOk result (λ causes. AreOfStep (rules_in scene.entry.mappings.now)
-        (deps_of deps) scene.entry.committed audited.now plan.now (top levels.old) upper.now
-        causes.items) }
+        (deps_of scene.entry.deps) scene.entry.committed audited.now plan.now (top levels.old)
+        upper.now causes.items) }
     ensures levels { OnOk result (levels.new ≡ levels.old) }
 {
     let number = audited.number();
     if has_spent(&plan.program) {
         let trail = audited.trail();
-        let causes = causes_of_loss(alloc, levels, upper, scene, deps, number, trail)?;
+        let causes = causes_of_loss(alloc, levels, upper, scene, number, trail)?;
         return Ok(causes);
     }
     let trail = shown(&plan.program);
     let writes = audited.written(plan);
-    let causes = causes_of_writes(alloc, levels, upper, scene, deps, number, trail, writes)?;
+    let causes = causes_of_writes(alloc, levels, upper, scene, number, trail, writes)?;
     Ok(causes)
 }
 

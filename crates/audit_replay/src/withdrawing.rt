@@ -85,11 +85,12 @@ fn prepare(
     let upper = above(updates, place);
     let scene = Scene {
         mappings,
+        deps,
         committed: before,
     };
     let number = audited.number();
     let trail = audited.trail();
-    let causes = causes_of_loss(alloc, levels, upper, scene, deps, number, trail)?;
+    let causes = causes_of_loss(alloc, levels, upper, scene, number, trail)?;
     Ok(causes)
 }
 

@@ -11,7 +11,7 @@ updates-init c = record {
   told = λ told. told;
   risen = risen_none _;
   between = c.requires.between;
-  left = λ B n told from. dependences_begin (map rule_of c.args.scene.mappings.now.items) (deps_of c.args.deps) c.args.scene.committed (readers_in c.args.firsts.now.items) B n _ _ c.args.upper.now _ c.new-causes.ensures.empty from;
+  left = λ B n told from. dependences_begin (map rule_of c.args.scene.mappings.now.items) (deps_of c.args.scene.deps) c.args.scene.committed (readers_in c.args.firsts.now.items) B n _ _ c.args.upper.now _ c.new-causes.ensures.empty from;
 }
 
 pub pass-requires : goal.pass-requires
@@ -30,7 +30,7 @@ updates-preserved c =
       risen = left_risen _ c.updates.levels c.pass.new.levels c.updates.invariant.risen c.in_ok-pass.ensures.rises;
       between = (first_between rs i r l c.audited-item.is c.updates.invariant.between).1;
       left =
-          λ B n told from. dependences_next (map rule_of c.args.scene.mappings.now.items) (deps_of c.args.deps) c.args.scene.committed (readers_in c.args.firsts.now.items) B _ c.updates.levels c.pass.new.levels c.updates.losses c.pass.new.self i rs r c.updates.causes.items c.put.new.causes.items c.in_ok-found.found c.either-goes.result
+          λ B n told from. dependences_next (map rule_of c.args.scene.mappings.now.items) (deps_of c.args.scene.deps) c.args.scene.committed (readers_in c.args.firsts.now.items) B _ c.updates.levels c.pass.new.levels c.updates.losses c.pass.new.self i rs r c.updates.causes.items c.put.new.causes.items c.in_ok-found.found c.either-goes.result
           l c.audited-item.is (c.updates.invariant.told told) c.in_ok-found.ensures.join c.in_ok-put.ensures.put
           (goes_is (readers_in c.args.firsts.now.items) r c.in_ok-found.found _ _ _ c.number.result c.number.ensures.number c.is_named-named.ensures.named c.is_some.ensures c.either-goes.ensures.either)
           c.in_ok-pass.ensures.left (c.updates.invariant.left B n told from);
@@ -38,6 +38,6 @@ updates-preserved c =
 
 pub returns : goal.returns
 returns c = record {
-  causes = λ B n told from. dependences_end (map rule_of c.args.scene.mappings.now.items) (deps_of c.args.deps) c.args.scene.committed (readers_in c.args.firsts.now.items) B _ _ c.updates.losses c.updates.audited-index c.args.upper.now c.updates.causes.items (omega arith) (c.updates.invariant.left B n told from);
+  causes = λ B n told from. dependences_end (map rule_of c.args.scene.mappings.now.items) (deps_of c.args.scene.deps) c.args.scene.committed (readers_in c.args.firsts.now.items) B _ _ c.updates.losses c.updates.audited-index c.args.upper.now c.updates.causes.items (omega arith) (c.updates.invariant.left B n told from);
   levels = c.updates.invariant.risen;
 }

@@ -15,7 +15,7 @@ invariant-updates l = record {
   risen : RisesFrom l.fn.levels l.levels;
   between : AreBetween (drop l.audited-index l.upper);
   left : (B n : ℕ) → AreTold l.fn.losses → AreFrom n l.upper
-      → DependencesLeft (map rule_of l.scene.mappings.now.items) (deps_of l.deps) l.scene.committed (readers_in l.firsts.items) B
-      (met_cascade (map rule_of l.scene.mappings.now.items) B (deps_of l.deps) l.scene.committed (readers_in l.firsts.items) (top l.fn.levels) (members_of (map rule_of l.scene.mappings.now.items) B l.fn.losses.members.items) n (updates_of (map rule_of l.scene.mappings.now.items) B l.upper))
+      → DependencesLeft (map rule_of l.scene.mappings.now.items) (deps_of l.scene.deps) l.scene.committed (readers_in l.firsts.items) B
+      (met_cascade (map rule_of l.scene.mappings.now.items) B (deps_of l.scene.deps) l.scene.committed (readers_in l.firsts.items) (top l.fn.levels) (members_of (map rule_of l.scene.mappings.now.items) B l.fn.losses.members.items) n (updates_of (map rule_of l.scene.mappings.now.items) B l.upper))
       (top l.levels) l.losses (drop l.audited-index l.upper) l.causes.items;
 }

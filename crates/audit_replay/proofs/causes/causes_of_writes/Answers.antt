@@ -13,7 +13,7 @@ pub returns-then-is_empty : goal.returns-then-is_empty
 returns-then-is_empty c =
     let none : length c.args.writes.now ≡ 0 = grind (arith, common_steps) in record {
       causes =
-          of_no_writes (map rule_of c.args.scene.mappings.now.items) (deps_of c.args.deps) c.args.scene.committed c.args.number (map change_of c.args.trail.now) (map change_of c.args.writes.now) (top c.args.levels.now) c.args.upper.now c.new.result.items
+          of_no_writes (map rule_of c.args.scene.mappings.now.items) (deps_of c.args.scene.deps) c.args.scene.committed c.args.number (map change_of c.args.trail.now) (map change_of c.args.writes.now) (top c.args.levels.now) c.args.upper.now c.new.result.items
           (ap (map change_of) (nil_from_length c.args.writes.now none)) c.new.ensures.empty;
       levels = search rules;
     }
@@ -27,7 +27,7 @@ sink-requires c =
 pub returns : goal.returns
 returns c = record {
   causes =
-      of_writes (map rule_of c.args.scene.mappings.now.items) (deps_of c.args.deps) c.args.scene.committed c.args.number (map change_of c.args.trail.now) (map change_of c.args.writes.now) c.args.levels.now c.rise.new.self c.conflicts.new.levels c.args.upper.now
+      of_writes (map rule_of c.args.scene.mappings.now.items) (deps_of c.args.scene.deps) c.args.scene.committed c.args.number (map change_of c.args.trail.now) (map change_of c.args.writes.now) c.args.levels.now c.rise.new.self c.conflicts.new.levels c.args.upper.now
       c.as_slice.result.now c.in_ok-causes.causes.items c.in_ok-more.more.items c.put_all.new.causes.items
       (subst (λ (ks : List ℕ). AreRelationsOf (map change_of c.args.writes.now) ks) (sym c.as_slice.ensures.value) c.in_ok-relations.ensures.same) c.in_ok-rise.ensures.raised c.in_ok-causes.ensures.levels c.in_ok-causes.ensures.causes
       c.in_ok-more.ensures.causes c.in_ok-put_all.ensures.all;

@@ -19,15 +19,15 @@ planned-requires c = record {
 pub told_of_step-requires : goal.told_of_step-requires
 told_of_step-requires c = record {
   between = (stands_placed c.args.updates.now c.args.place c.index-updates-place.result c.requires.numbers c.requires.within c.index-updates-place.is).between;
-  planned = plan_between c.args.mappings.now c.args.budget c.facts.result.now c.index-updates-place.result c.in_ok-plan.plan c.in_ok-plan.ensures.planned;
+  planned = plan_between c.args.chase.now.mappings.now c.args.chase.now.budget c.facts.result.now c.index-updates-place.result c.in_ok-plan.plan c.in_ok-plan.ensures.planned;
   above = above_between c.args.updates.now _ c.args.place c.index-updates-place.result c.requires.numbers c.requires.within c.index-updates-place.is c.above-upper.ensures.above;
 }
 
 pub returns-in-Ok : goal.returns-in-Ok
 returns-in-Ok c = record {
   prepared =
-      prepared_there c.args.mappings.now c.args.budget (deps_of c.args.deps) c.args.before c.args.updates.now c.above-upper.result.now c.args.place c.index-updates-place.result (top c.args.levels.now) c.in_ok-plan.plan c.in-Ok.causes c.in-Ok.writes c.attempt.result c.requires.within c.index-updates-place.is
-      c.above-upper.ensures.above (subst (λ (D : List Fact). IsPlanOf c.args.mappings.now c.args.budget D c.index-updates-place.result c.in_ok-plan.plan) c.facts.ensures.top c.in_ok-plan.ensures.planned)
+      prepared_there c.args.chase.now.mappings.now c.args.chase.now.budget (deps_of c.args.deps) c.args.before c.args.updates.now c.above-upper.result.now c.args.place c.index-updates-place.result (top c.args.levels.now) c.in_ok-plan.plan c.in-Ok.causes c.in-Ok.writes c.attempt.result c.requires.within c.index-updates-place.is
+      c.above-upper.ensures.above (subst (λ (D : List Fact). IsPlanOf c.args.chase.now.mappings.now c.args.chase.now.budget D c.index-updates-place.result c.in_ok-plan.plan) c.facts.ensures.top c.in_ok-plan.ensures.planned)
       (subst (λ (ms : List Rule). AreOfStep ms (deps_of c.args.deps) c.args.before c.index-updates-place.result c.in_ok-plan.plan (top c.args.levels.now) c.above-upper.result.now c.in-Ok.causes.items) c.list.ensures.rules c.in-Ok.ensures.causes) c.in-Ok.ensures.writes c.attempt.ensures.attempt;
   levels = c.in-Ok.ensures.levels;
 }
